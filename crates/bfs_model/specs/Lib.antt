@@ -1,0 +1,10 @@
+pub mod Items
+pub mod Tree
+pub mod Attributes
+pub mod Call
+pub mod Arguments
+pub mod Replies
+pub mod Steps
+pub mod Procedures
+pub mod Serial
+pub mod WellFormed

@@ -1,0 +1,2 @@
+//! The definitions that must be believed.
+#![tactic(auto)]
