@@ -1,0 +1,28 @@
+-- What the changes of a `BTreeMap` do to the finite map that it stands for.
+use Rattle.std.proofs.Common.{◌≡◌, ℕ, List, [], ◌∷◌, cond, Some, refl, ap, sym, ◌∙◌}
+use Rattle.std.specs.Ordering.{nat_cmp, eq_by_cmp}
+use Rattle.std.specs.Map.{lookup}
+use Rattle.std.specs.BTreeMap as tree
+use Rattle.std.specs.BTreeMap.{BTreeMap, is_at, IsEmpty, Updates}
+use Rattle.std.specs.FinMap.{find, get, insert, empty, from_entries, get-from_entries, get-insert, same_map, nat_cmp-IsAntisymmetric}
+use Rattle.std.proofs.lemmas.Cmp.{nat_cmp_total, eq_by_cmp_equiv}
+use Rattle.bfs_inode.specs.Maps.{map_of}
+
+find_as_lookup : {X : Type 0} (q : ℕ) (es : List (ℕ × X)) → find nat_cmp q es ≡ lookup (is_at (nat_cmp q)) es
+find_as_lookup q [] = refl
+find_as_lookup q (e ∷ es) = ap (cond (eq_by_cmp nat_cmp q e.0) (Some e.1)) (find_as_lookup q es)
+
+pub get-map_of : {X : Type 0} (m : BTreeMap ℕ X) (q : ℕ) → get (map_of m) q ≡ tree.get nat_cmp m q
+unfolding map_of
+get-map_of m q = get-from_entries nat_cmp_total m.entries q ∙ find_as_lookup q m.entries
+
+pub map_of-empty : {X : Type 0} (m : BTreeMap ℕ X) → IsEmpty m → map_of m ≡ empty
+unfolding map_of
+map_of-empty m none = ap from_entries none
+
+pub map_of-inserts : {X : Type 0} (m n : BTreeMap ℕ X) (k : ℕ) (v : X) → Updates nat_cmp m n k (Some v) → map_of n ≡ insert (map_of m) k v
+map_of-inserts m n k v updates = same_map nat_cmp_total nat_cmp-IsAntisymmetric _ _ (λ q.
+    get-map_of n q ∙ updates.0 q
+    ∙ ap (λ b. cond b (Some v) (tree.get nat_cmp m q)) ((eq_by_cmp_equiv nat_cmp_total).symm k q)
+    ∙ ap (cond (eq_by_cmp nat_cmp q k) (Some v)) (sym (get-map_of m q))
+    ∙ sym (get-insert nat_cmp_total (map_of m) k v q))

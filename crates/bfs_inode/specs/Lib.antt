@@ -1,0 +1,4 @@
+pub mod Inodes
+pub mod Seen
+pub mod Reach
+pub mod Maps

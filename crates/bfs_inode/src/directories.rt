@@ -1,0 +1,99 @@
+ghost use Rattle.std.specs.Prelude.{◌≡◌, ◌≤◌, ◌↔◌, [], length, IsTrue};
+
+use crate::bounded::Name;
+use bfs_types::FileId;
+use std::alloc::Global;
+use std::marker::Model;
+
+/// A name in a directory, the cookie that finds its place among the others, and the inode that it names
+/// (RFC 1094 section 2.2.17).
+#[derive(Debug, Drop)]
+pub struct Entry {
+    cookie: u32,
+    name: Name,
+    child: FileId,
+}
+
+impl Model for Entry {
+    ghost use Rattle.bfs_model.specs.Tree as model;
+
+    ghost Value = { model.Entry };
+
+    ghost view = { λ entry. record { cookie = entry.cookie; name = entry.name; child = entry.child } };
+}
+
+impl Entry {
+    /// The number that rises from entry to entry of a directory.
+    pub fn cookie(&self) -> u32
+        ensures { result ≡ self.now.cookie }
+    {
+        self.cookie
+    }
+
+    /// The name, without the directories above.
+    pub fn name(&self) -> &[u8]
+        ensures value { result.now ≡ self.now.name }
+        ensures within { length result.now ≤ 255 }
+    {
+        self.name.as_slice()
+    }
+
+    /// The inode that it names.
+    pub fn child(&self) -> FileId
+        ensures { result ≡ self.now.child }
+    {
+        self.child
+    }
+}
+
+/// The directory above, and at most 65,536 entries by rising cookie. `.` and `..` are no entries.
+#[derive(Debug, Drop)]
+pub struct Directory {
+    parent: FileId,
+    entries: Vec<Entry>,
+}
+
+impl Model for Directory {
+    ghost use Rattle.std.specs.Prelude.{◌≤◌, length};
+    ghost use Rattle.bfs_model.specs.Tree as model;
+
+    ghost Value = { model.Listing };
+
+    ghost view = { λ directory. record { parent = directory.parent; entries = directory.entries.items } };
+
+    ghost invariant = { λ directory. length directory.entries.items ≤ 65536 };
+}
+
+impl Directory {
+    /// A directory with no entries below that one.
+    pub fn new(alloc: Global, parent: FileId) -> Directory
+        ensures { result ≡ record { parent = parent; entries = [] } }
+    {
+        Directory {
+            parent,
+            entries: Vec::new(alloc),
+        }
+    }
+
+    /// The directory above; of the root it is the root.
+    pub fn parent(&self) -> FileId
+        ensures { result ≡ self.now.parent }
+    {
+        self.parent
+    }
+
+    /// How many entries there are.
+    pub fn len(&self) -> usize
+        ensures value { result ≡ length self.now.entries }
+        ensures within { result ≤ 65536 }
+    {
+        self.entries.len()
+    }
+
+    /// Whether there are no entries.
+    pub fn is_empty(&self) -> bool
+        ensures { IsTrue result ↔ (self.now.entries ≡ []) }
+    {
+        self.entries.is_empty()
+    }
+}

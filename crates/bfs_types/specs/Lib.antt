@@ -1,0 +1,2 @@
+-- What the contracts of bfs_types and of the crates above it cite of its types.
+pub mod Attributes
