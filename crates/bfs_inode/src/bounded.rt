@@ -1,6 +1,5 @@
-ghost use Rattle.std.specs.Prelude.{◌≡◌, ◌≤◌, ◌↔◌, [], length, IsTrue};
+ghost use Rattle.std.specs.Prelude.{◌≡◌, ◌≤◌, length};
 
-use std::alloc::Global;
 use std::marker::Model;
 
 /// Bytes that an inode holds, at most `MOST` of them.
@@ -29,35 +28,11 @@ impl<const MOST: usize> Model for Bytes<MOST> {
 }
 
 impl<const MOST: usize> Bytes<MOST> {
-    /// No bytes.
-    pub fn new(alloc: Global) -> Bytes<MOST>
-        ensures { result ≡ [] }
-    {
-        Bytes {
-            bytes: Vec::new(alloc),
-        }
-    }
-
     /// How many bytes there are.
-    pub fn len(&self) -> usize
+    pub(crate) fn len(&self) -> usize
         ensures value { result ≡ length self.now }
         ensures within { result ≤ MOST }
     {
         self.bytes.len()
-    }
-
-    /// Whether there are none.
-    pub fn is_empty(&self) -> bool
-        ensures { IsTrue result ↔ (self.now ≡ []) }
-    {
-        self.bytes.is_empty()
-    }
-
-    /// The bytes.
-    pub fn as_slice(&self) -> &[u8]
-        ensures value { result.now ≡ self.now }
-        ensures within { length result.now ≤ MOST }
-    {
-        self.bytes.as_slice()
     }
 }

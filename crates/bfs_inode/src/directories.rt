@@ -5,13 +5,15 @@ use bfs_types::FileId;
 use std::alloc::Global;
 use std::marker::Model;
 
-/// A name in a directory, the cookie that finds its place among the others, and the inode that it names
-/// (RFC 1094 section 2.2.17).
+/// A name in a directory (RFC 1094 section 2.2.17).
 #[derive(Debug, Drop)]
 pub struct Entry {
-    cookie: u32,
-    name: Name,
-    child: FileId,
+    /// It rises from entry to entry of a directory, and no other entry of the file system has or had it.
+    pub cookie: u32,
+    /// The name, without the directories above.
+    pub name: Name,
+    /// The inode that it names.
+    pub child: FileId,
 }
 
 impl Model for Entry {
@@ -20,30 +22,6 @@ impl Model for Entry {
     ghost Value = { model.Entry };
 
     ghost view = { λ entry. record { cookie = entry.cookie; name = entry.name; child = entry.child } };
-}
-
-impl Entry {
-    /// The number that rises from entry to entry of a directory.
-    pub fn cookie(&self) -> u32
-        ensures { result ≡ self.now.cookie }
-    {
-        self.cookie
-    }
-
-    /// The name, without the directories above.
-    pub fn name(&self) -> &[u8]
-        ensures value { result.now ≡ self.now.name }
-        ensures within { length result.now ≤ 255 }
-    {
-        self.name.as_slice()
-    }
-
-    /// The inode that it names.
-    pub fn child(&self) -> FileId
-        ensures { result ≡ self.now.child }
-    {
-        self.child
-    }
 }
 
 /// The directory above, and at most 65,536 entries by rising cookie. `.` and `..` are no entries.

@@ -19,7 +19,7 @@ attributes_got_keeps : (m : Inodes) (file : Option ℕ) → (attributes_got m fi
 attributes_got_keeps m None = refl
 attributes_got_keeps m (Some id) = elim (get m id) as (λ o. (or_stale m o (λ inode. (m, attributes (attributes_of id inode)))).0 ≡ m) [ None ↦ refl | Some inode ↦ refl ]
 
-procedure_keeps : (m : Inodes) (o : ℕ) (t : Time) (credential : Credential) (call : Call) → (procedure m o t credential call).0 ≡ m
+pub procedure_keeps : (m : Inodes) (o : ℕ) (t : Time) (credential : Credential) (call : Call) → (procedure m o t credential call).0 ≡ m
 procedure_keeps m o t credential null = refl
 procedure_keeps m o t credential (get_attributes file) = attributes_got_keeps m file
 procedure_keeps m o t credential root = refl

@@ -1,2 +1,5 @@
 pub mod Rows
 pub mod Kept
+pub mod Laws
+pub mod Handles
+pub mod ReplyLengths

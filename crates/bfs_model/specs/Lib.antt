@@ -8,3 +8,6 @@ pub mod Steps
 pub mod Procedures
 pub mod Serial
 pub mod WellFormed
+pub mod Touched
+pub mod Laws
+pub mod ReplyLengths
