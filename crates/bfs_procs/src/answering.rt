@@ -1,0 +1,65 @@
+ghost use Rattle.std.specs.Prelude.{◌≡◌, IfOk, IsTrue};
+ghost use Rattle.std.specs.List.{AllByRecursion};
+ghost use Rattle.bfs_model.specs.Call as model;
+ghost use Rattle.bfs_model.specs.Replies.{results, success};
+ghost use Rattle.bfs_model.specs.Serial.{answer, answer_call};
+ghost use Rattle.bfs_model.specs.Touched.{ids_read_by, ids_read_by_call};
+ghost use Rattle.bfs_rpc.specs.Calls.{request_of};
+ghost use Rattle.bfs_wire.specs.Replies.{reply_of};
+
+use crate::running::run;
+use bfs_inode::{Store, Time};
+use bfs_rpc::{Call, parse_call, put_success, write_garbage, write_reject};
+use bfs_types::{Memory, Ordinal};
+use bfs_wire::{NfsReply, parse_args, put_reply};
+use std::alloc::Global;
+
+/// Answers the request that the bytes spell, under its ordinal and at the time of its batch: the bytes of the reply,
+/// none where the request can't be answered (RFC 5531 section 9). After want of memory it is not said what the store
+/// holds; which fileids it knows stays.
+#[tactic(auto, unfolding(bfs_model::specs::Serial::answer))]
+pub fn answer<S: Store>(
+    alloc: Global,
+    store: &mut S,
+    ordinal: Ordinal,
+    time: Time,
+    request: &[u8],
+) -> Result<Vec<u8>, Memory>
+    requires { AllByRecursion (λ id. IsTrue ((S.reach store.old).known id)) (ids_read_by request.now) }
+    ensures done { IfOk result (λ reply. (S.inodes store.new, reply.items) ≡ answer (S.inodes store.old) ordinal time request.now) }
+    ensures reach { S.reach store.new ≡ S.reach store.old }
+{
+    match parse_call(request) {
+        Ok(call) => answer_call(alloc, store, ordinal, time, &call),
+        Err(reject) => write_reject(alloc, &reject),
+    }
+}
+
+fn answer_call<S: Store>(
+    alloc: Global,
+    store: &mut S,
+    ordinal: Ordinal,
+    time: Time,
+    call: &Call,
+) -> Result<Vec<u8>, Memory>
+    requires { AllByRecursion (λ id. IsTrue ((S.reach store.old).known id)) (ids_read_by_call (Ok (request_of call.now))) }
+    ensures done { IfOk result (λ reply. (S.inodes store.new, reply.items) ≡ answer_call (S.inodes store.old) ordinal time (Ok (request_of call.now))) }
+    ensures reach { S.reach store.new ≡ S.reach store.old }
+{
+    let Ok(arguments) = parse_args(call.proc, call.args) else {
+        return write_garbage(alloc, call.xid);
+    };
+    let reply = run(alloc, store, ordinal, time, &call.cred, &arguments)?;
+    success_of(alloc, call.xid, &reply)
+}
+
+// the reply's results behind the header of a success, in one vector
+#[tactic(auto, unfolding(bfs_model::specs::Replies::success))]
+fn success_of(alloc: Global, xid: u32, reply: &NfsReply) -> Result<Vec<u8>, Memory>
+    ensures { IfOk result (λ bytes. bytes.items ≡ success xid (results (reply_of reply.now))) }
+{
+    let mut bytes = Vec::new(alloc);
+    put_success(&mut bytes, xid)?;
+    put_reply(&mut bytes, reply)?;
+    Ok(bytes)
+}

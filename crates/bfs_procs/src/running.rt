@@ -1,0 +1,33 @@
+ghost use Rattle.std.specs.Prelude.{◌≡◌, IfOk, IsTrue};
+ghost use Rattle.std.specs.List.{AllByRecursion};
+ghost use Rattle.bfs_model.specs.Procedures.{procedure};
+ghost use Rattle.bfs_model.specs.Touched.{ids_read};
+ghost use Rattle.bfs_wire.specs.Calls.{call_of};
+ghost use Rattle.bfs_wire.specs.Replies.{reply_of};
+
+use crate::attributes::get_attributes;
+use bfs_inode::{Store, Time};
+use bfs_rpc::Cred;
+use bfs_types::{Memory, Ordinal};
+use bfs_wire::{NfsCall, NfsReply};
+use std::alloc::Global;
+
+/// Carries out a call under its ordinal, at the time of its batch, for the caller of that credential. After want of
+/// memory it is not said what the store holds; which fileids it knows stays.
+pub fn run<S: Store>(
+    alloc: Global,
+    store: &mut S,
+    ordinal: Ordinal,
+    time: Time,
+    cred: &Cred,
+    call: &NfsCall,
+) -> Result<NfsReply, Memory>
+    requires { AllByRecursion (λ id. IsTrue ((S.reach store.old).known id)) (ids_read (call_of call.now)) }
+    ensures done { IfOk result (λ reply. (S.inodes store.new, reply_of reply) ≡ procedure (S.inodes store.old) ordinal time cred.now (call_of call.now)) }
+    ensures reach { S.reach store.new ≡ S.reach store.old }
+{
+    Ok(match *call {
+        NfsCall::Null | NfsCall::Root | NfsCall::WriteCache => NfsReply::Void,
+        NfsCall::GetAttr { file } => get_attributes(store, file),
+    })
+}

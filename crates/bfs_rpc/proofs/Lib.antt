@@ -1,0 +1,2 @@
+-- Lemmas of bfs_rpc.
+pub mod Words

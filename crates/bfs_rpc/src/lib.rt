@@ -1,0 +1,13 @@
+//! ONC RPC version 2 (RFC 5531) as a server of NFS version 2 speaks it: the call that a message spells, or why it is refused,
+//! and the heads of replies.
+#![tactic(auto)]
+
+mod call;
+mod cred;
+mod reject;
+mod reply;
+
+pub use call::{Call, parse_call};
+pub use cred::Cred;
+pub use reject::Reject;
+pub use reply::{put_success, write_garbage, write_reject, write_success};

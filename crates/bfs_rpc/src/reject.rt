@@ -1,0 +1,44 @@
+ghost use Rattle.std.specs.Prelude.{◌≡◌};
+ghost use Rattle.bfs_rpc.specs.Calls.{code_of};
+
+use thiserror::Error;
+
+/// Why a message is not carried out as a call (RFC 5531 section 9). All but the first can be answered, under the call's xid,
+/// which they hold.
+#[derive(Clone, Copy, Debug, PartialEq, Eq, Error)]
+pub enum Reject {
+    /// Not even the header can be read, or the message is no call: it gets no reply.
+    #[error("the message is not a call")]
+    Silent,
+    /// RPC_MISMATCH: the version of RPC is not 2.
+    #[error("call {0}: the version of RPC is not 2")]
+    RpcMismatch(u32),
+    /// AUTH_BADCRED: the credential is neither AUTH_NONE nor a well-formed AUTH_SYS.
+    #[error("call {0}: the credential can't be read")]
+    BadCred(u32),
+    /// PROG_UNAVAIL: the program is not NFS, 100003.
+    #[error("call {0}: the program is not NFS")]
+    ProgUnavail(u32),
+    /// PROG_MISMATCH: the version of NFS is not 2.
+    #[error("call {0}: the version of NFS is not 2")]
+    ProgMismatch(u32),
+    /// PROC_UNAVAIL: the procedure is not served.
+    #[error("call {0}: the procedure is not served")]
+    ProcUnavail(u32),
+}
+
+impl Reject {
+    /// The number of this refusal, apart from those of every other.
+    pub fn code(self) -> u32
+        ensures { result ≡ code_of self }
+    {
+        match self {
+            Reject::Silent => 5,
+            Reject::RpcMismatch(_) => 6,
+            Reject::BadCred(_) => 7,
+            Reject::ProgUnavail(_) => 8,
+            Reject::ProgMismatch(_) => 9,
+            Reject::ProcUnavail(_) => 10,
+        }
+    }
+}

@@ -1,0 +1,117 @@
+ghost use Rattle.std.specs.Prelude.{◌≡◌, ◌↔◌, IsTrue, IfOk, IsErrOf, Some, None};
+ghost use Rattle.bfs_model.specs.Serial as model;
+ghost use Rattle.bfs_model.specs.Serial.{execute, inodes_after, replies_to};
+ghost use Rattle.bfs_serial.specs.Errors.{exec_code_of};
+ghost use Rattle.bfs_serial.specs.Executed.{Executed};
+
+use crate::batches::{Batch, Request};
+use crate::files::{FileSystem, Live};
+use crate::replies::Replies;
+use bfs_inode::{Store, Time};
+use bfs_procs::answer;
+use bfs_types::{Memory, Ordinal};
+use std::alloc::Global;
+use thiserror::Error;
+
+/// Why a batch was not executed.
+#[derive(Clone, Copy, Debug, PartialEq, Eq, Error)]
+pub enum ExecError {
+    /// The file system had failed before; nothing was executed.
+    #[error("the file system has failed")]
+    Failed,
+    /// Memory ran out in the midst of it, and the file system has failed.
+    #[error("out of memory")]
+    Memory,
+}
+
+impl ExecError {
+    /// The number of the refusal.
+    pub fn code(self) -> u32
+        ensures { result ≡ exec_code_of self }
+    {
+        match self {
+            ExecError::Failed => 41,
+            ExecError::Memory => 40,
+        }
+    }
+}
+
+/// Executes the batch's requests one after another, at the batch's effective time, and gives their replies.
+pub fn execute_serial(
+    alloc: Global,
+    files: &mut FileSystem,
+    batch: &Batch,
+) -> Result<Replies, ExecError>
+    ensures done { IfOk result (λ replies. Executed files.old batch.now files.new replies) }
+    ensures failed { IsErrOf result ExecError.Failed ↔ (files.old ≡ None) }
+    ensures fails { IsErrOf result ExecError.Memory → files.new ≡ None }
+    ensures stays_failed { files.old ≡ None → files.new ≡ None }
+{
+    let Some(live) = files.take() else {
+        return Err(ExecError::Failed);
+    };
+    match execute_live(alloc, live, batch) {
+        Ok((live, replies)) => {
+            files.revive(live);
+            Ok(replies)
+        }
+        Err(Memory) => Err(ExecError::Memory),
+    }
+}
+
+fn execute_live(alloc: Global, live: Live, batch: &Batch) -> Result<(Live, Replies), Memory>
+    ensures { IfOk result (λ done. (done.0, done.1) ≡ execute live batch.now) }
+{
+    let Live {
+        mut tree,
+        next_ordinal,
+        last_time,
+    } = live;
+    let time = batch.time().effective_after(last_time);
+    let replies = answer_each(alloc, &mut tree, next_ordinal, time, batch.requests())?;
+    let next_ordinal = next_ordinal.after(batch.len() as u64);
+    let live = Live {
+        tree,
+        next_ordinal,
+        last_time: time,
+    };
+    Ok((live, replies))
+}
+
+// the replies to the requests, the first of which has that ordinal
+fn answer_each<S: Store>(
+    alloc: Global,
+    store: &mut S,
+    first: Ordinal,
+    time: Time,
+    requests: &[Request],
+) -> Result<Replies, Memory>
+    requires { IsTrue ((S.reach store.old).whole) }
+    ensures inodes { IfOk result (λ _. S.inodes store.new ≡ inodes_after (S.inodes store.old) first time requests.now) }
+    ensures replies { IfOk result (λ replies. replies ≡ replies_to (S.inodes store.old) first time requests.now) }
+{
+    let mut ordinal = first;
+    let mut replies = Replies::new(alloc);
+    for request in requests {
+        let reply = answer_whole(alloc, store, ordinal, time, request.as_slice())?;
+        replies.push(reply)?;
+        ordinal = ordinal.next();
+    }
+    Ok(replies)
+}
+
+// a store that is whole knows what any request reads
+#[tactic(auto, using(crate::proofs::Whole::all_of))]
+fn answer_whole<S: Store>(
+    alloc: Global,
+    store: &mut S,
+    ordinal: Ordinal,
+    time: Time,
+    request: &[u8],
+) -> Result<Vec<u8>, Memory>
+    requires { IsTrue ((S.reach store.old).whole) }
+    ensures done { IfOk result (λ reply. (S.inodes store.new, reply.items) ≡ model.answer (S.inodes store.old) ordinal time request.now) }
+    ensures reach { S.reach store.new ≡ S.reach store.old }
+{
+    answer(alloc, store, ordinal, time, request)
+}

@@ -1,0 +1,143 @@
+ghost use Rattle.std.specs.Prelude.{◌≡◌, ◌↔◌, IsTrue, IfOk, Some, None, is_some};
+ghost use Rattle.std.specs.Option.{option_map, option_copied};
+ghost use Rattle.bfs_model.specs.Tree.{new_file_system};
+
+use bfs_inode::Tree;
+use bfs_types::{Memory, Ordinal, Time};
+use std::alloc::Global;
+use std::marker::Model;
+
+/// What a file system holds as long as it has not failed: a whole tree, the ordinal of the next request, and the time of
+/// the last batch.
+#[derive(Debug, Drop)]
+pub(crate) struct Live {
+    pub(crate) tree: Tree,
+    pub(crate) next_ordinal: Ordinal,
+    pub(crate) last_time: Time,
+}
+
+impl Model for Live {
+    ghost use Rattle.bfs_model.specs.Tree as model;
+    ghost use Rattle.std.specs.Coded.{codes};
+    ghost use Rattle.bfs_inode.specs.contracts.trees.Tree as kept;
+
+    ghost Value = { model.FileSystem };
+
+    ghost coded = { Prim.hlevel (codes, kept.the_row.coded) };
+
+    ghost use Rattle.bfs_model.specs.WellFormed.{IsWellFormed};
+
+    ghost view = { λ live. record { tree = live.tree; next_ordinal = live.next_ordinal; last_time = live.last_time } };
+
+    ghost invariant = { λ live. IsWellFormed (record { tree = live.tree; next_ordinal = live.next_ordinal; last_time = live.last_time }) };
+}
+
+/// A file system, which is live until it fails for want of memory. A live one is well formed.
+#[derive(Debug, Drop)]
+pub struct FileSystem {
+    live: Option<Live>,
+}
+
+impl Model for FileSystem {
+    ghost use Rattle.std.specs.Prelude.{Option};
+    ghost use Rattle.bfs_model.specs.Tree as model;
+    ghost use Rattle.std.specs.Coded.{codes};
+    ghost use Rattle.bfs_inode.specs.contracts.trees.Tree as kept;
+
+    ghost Value = { Option model.FileSystem };
+
+    ghost coded = { Prim.hlevel (codes, kept.the_row.coded) };
+
+    ghost view = { λ files. files.live };
+}
+
+impl FileSystem {
+    /// A file system with the root alone.
+    pub fn new(alloc: Global) -> Result<FileSystem, Memory>
+        ensures { IfOk result (λ files. files ≡ Some new_file_system) }
+    {
+        let live = Live::new(alloc)?;
+        Ok(FileSystem { live: Some(live) })
+    }
+
+    /// Whether it has not failed.
+    pub fn is_live(&self) -> bool
+        ensures { result ≡ is_some self.now }
+    {
+        self.live.is_some()
+    }
+
+    /// The ordinal of the next request, from 3 to 4,294,967,296, or `None` where it has failed.
+    pub fn next_ordinal(&self) -> Option<u64>
+        ensures { result ≡ option_map (λ files. files.next_ordinal) self.now }
+    {
+        match &self.live {
+            Some(live) => Some(live.next_ordinal()),
+            None => None,
+        }
+    }
+
+    /// The time of the last batch, or `None` where it has failed.
+    pub fn last_time(&self) -> Option<Time>
+        ensures { result ≡ option_map (λ files. files.last_time) self.now }
+    {
+        match &self.live {
+            Some(live) => Some(live.last_time()),
+            None => None,
+        }
+    }
+
+    /// The inodes, or `None` where it has failed.
+    pub fn tree(&self) -> Option<&Tree>
+        ensures { option_copied result ≡ option_map (λ files. files.tree) self.now }
+    {
+        match &self.live {
+            Some(live) => Some(live.tree()),
+            None => None,
+        }
+    }
+
+    // what it holds, which is then put back by `revive`, or it has failed
+    pub(crate) fn take(&mut self) -> Option<Live>
+        ensures value { result ≡ self.old }
+        ensures failed { self.new ≡ None }
+    {
+        self.live.take()
+    }
+
+    pub(crate) fn revive(&mut self, live: Live)
+        ensures { self.new ≡ Some live }
+    {
+        self.live = Some(live);
+    }
+}
+
+impl Live {
+    fn new(alloc: Global) -> Result<Live, Memory>
+        ensures { IfOk result (λ live. live ≡ new_file_system) }
+    {
+        Ok(Live {
+            tree: Tree::new(alloc)?,
+            next_ordinal: Ordinal::first(),
+            last_time: Time::epoch(),
+        })
+    }
+
+    fn next_ordinal(&self) -> u64
+        ensures { result ≡ self.now.next_ordinal }
+    {
+        self.next_ordinal.number()
+    }
+
+    fn last_time(&self) -> Time
+        ensures { result ≡ self.now.last_time }
+    {
+        self.last_time
+    }
+
+    fn tree(&self) -> &Tree
+        ensures { result.now ≡ self.now.tree }
+    {
+        &self.tree
+    }
+}

@@ -1,0 +1,12 @@
+//! The file system, and batches of requests executed on it one after another.
+#![tactic(auto)]
+
+mod batches;
+mod executing;
+mod files;
+mod replies;
+
+pub use batches::{Batch, PushError};
+pub use executing::{ExecError, execute_serial};
+pub use files::FileSystem;
+pub use replies::Replies;

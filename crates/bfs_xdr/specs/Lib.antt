@@ -1,0 +1,3 @@
+-- What the contracts of bfs_xdr and of the crates above it cite.
+pub mod Faults
+pub mod Reading

@@ -1,0 +1,11 @@
+//! The items of XDR (RFC 4506): a reader over bytes, and the one way in which each item is written.
+#![tactic(auto)]
+
+mod error;
+mod items;
+mod reader;
+mod writer;
+
+pub use error::XdrError;
+pub use reader::Reader;
+pub use writer::{put_bool, put_fixed, put_opaque, put_u32, put_u64, put_words};
