@@ -1,0 +1,15 @@
+//! The calls of NFS version 2 and what is answered to them (RFC 1094), read from bytes and written as bytes.
+#![tactic(auto)]
+
+mod call;
+mod file_type;
+mod garbage;
+mod handle;
+mod reply;
+mod status;
+
+pub use call::{NfsCall, parse_args};
+pub use garbage::GarbageArgs;
+pub use handle::{handle_bytes, handle_id};
+pub use reply::{NfsReply, put_reply, write_reply};
+pub use status::Status;

@@ -1,0 +1,45 @@
+ghost use Rattle.std.specs.Prelude.{◌≡◌};
+ghost use Rattle.bfs_model.specs.Replies.{status_number};
+ghost use Rattle.bfs_wire.specs.Replies.{status_of};
+
+/// Why a procedure is not done (RFC 1094 section 2.3.1, stat).
+#[derive(Clone, Copy, Debug, PartialEq, Eq)]
+pub enum Status {
+    /// The caller may not do this.
+    Perm,
+    /// There is no such file or directory.
+    NoEnt,
+    /// The name is taken.
+    Exist,
+    /// What should be a directory is none.
+    NotDir,
+    /// What should be no directory is one.
+    IsDir,
+    /// The file would be too large.
+    FBig,
+    /// Nothing more can be stored.
+    NoSpc,
+    /// The directory has entries.
+    NotEmpty,
+    /// The handle leads to nothing: what it named is gone, or it is not one of ours.
+    Stale,
+}
+
+impl Status {
+    /// The number that spells it (RFC 1094 section 2.3.1).
+    pub fn number(self) -> u32
+        ensures { result ≡ status_number (status_of self) }
+    {
+        match self {
+            Status::Perm => 1,
+            Status::NoEnt => 2,
+            Status::Exist => 17,
+            Status::NotDir => 20,
+            Status::IsDir => 21,
+            Status::FBig => 27,
+            Status::NoSpc => 28,
+            Status::NotEmpty => 66,
+            Status::Stale => 70,
+        }
+    }
+}
