@@ -1,0 +1,8 @@
+-- What the contracts of bfs_replay cite.
+pub mod Words
+pub mod Request
+pub mod Trace
+pub mod Blocks
+pub mod CommandLine
+pub mod Reading
+pub mod Codes
