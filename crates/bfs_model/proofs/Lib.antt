@@ -3,3 +3,4 @@ pub mod Kept
 pub mod Laws
 pub mod Handles
 pub mod ReplyLengths
+pub mod Counts

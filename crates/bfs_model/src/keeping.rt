@@ -29,3 +29,9 @@ pub fn reading_changes_nothing()
 pub fn a_reply_is_not_long()
     ensures { (inodes : Inodes) (ordinal : ℕ) (time : Time) (request : List ℕ) → length (answer inodes ordinal time request).1 ≤ longest_reply }
 {}
+
+/// Each request of a batch gets one reply.
+#[tactic(auto, using(crate::proofs::Counts::replies_counted))]
+pub fn each_request_gets_one_reply()
+    ensures { (files : FileSystem) (batch : Batch) → length (execute files batch).1 ≡ length batch.requests }
+{}

@@ -48,7 +48,7 @@ read_in_blocks lines texts all =
 -- The blocks of lines that stand in blocks -------------------------------------------------------------------------
 
 -- where a request has room, the lines behind it have what is left of the room
-behind_request : (request : Request) (room : ℕ) (lines : List Line) → in_blocks room (line.Request request ∷ lines) ≡ true
+pub behind_request : (request : Request) (room : ℕ) (lines : List Line) → in_blocks room (line.Request request ∷ lines) ≡ true
     → (room ≢ 0) × (in_blocks (room - 1) lines ≡ true)
 unfolding in_blocks
 behind_request request room lines = go (room == 0) refl

@@ -6,3 +6,5 @@ pub mod TooMany
 pub mod Front
 pub mod InBlocks
 pub mod Usages
+pub mod Halves
+pub mod RunningLemmas

@@ -6,3 +6,5 @@ pub mod Blocks
 pub mod CommandLine
 pub mod Reading
 pub mod Codes
+pub mod Output
+pub mod Running

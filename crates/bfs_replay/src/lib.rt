@@ -1,11 +1,13 @@
-//! What `replay` is asked to do: its command line, and the trace of requests that it replays.
+//! What `replay` is asked to do and does: its command line, the trace of requests, and the run of it.
 #![tactic(auto)]
 
+mod block;
 mod command_line;
 mod laws;
 mod line;
 mod numbers;
 mod parse;
+mod run;
 mod trace;
 mod usage;
 mod words;
@@ -14,5 +16,6 @@ pub use command_line::options;
 pub use laws::blocks_hold_all_requests;
 pub use line::{Line, Request};
 pub use parse::parse_trace;
+pub use run::{Outcome, ReplayError, run_trace};
 pub use trace::{Trace, TraceError};
 pub use usage::{Options, UsageError};

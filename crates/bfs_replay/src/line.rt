@@ -1,4 +1,4 @@
-ghost use Rattle.std.specs.Prelude.{◌≡◌};
+ghost use Rattle.std.specs.Prelude.{◌≡◌, ◌≤◌, length};
 
 use bfs_types::Time;
 use std::marker::Model;
@@ -12,16 +12,20 @@ pub struct Request {
 }
 
 impl Model for Request {
+    ghost use Rattle.std.specs.Prelude.{◌≤◌, length};
     ghost use Rattle.bfs_replay.specs.Request as model;
 
     ghost Value = { model.Request };
 
     ghost view = { λ request. record { client = request.client; timestamp = request.timestamp; call = request.call.items } };
+
+    ghost invariant = { λ request. length request.call.items ≤ 16384 };
 }
 
 impl Request {
-    /// The request of that client, with the bytes of a call message (RFC 5531 section 9).
+    /// The request of that client, with the at most 16,384 bytes of a call message (RFC 5531 section 9).
     pub fn new(client: u32, timestamp: u64, call: Vec<u8>) -> Request
+        requires { length call.items ≤ 16384 }
         ensures { result ≡ record { client = client; timestamp = timestamp; call = call.items } }
     {
         Request {
@@ -47,7 +51,8 @@ impl Request {
 
     /// The bytes of the call message (RFC 5531 section 9).
     pub fn call(&self) -> &[u8]
-        ensures { result.now ≡ self.now.call }
+        ensures value { result.now ≡ self.now.call }
+        ensures within { length result.now ≤ 16384 }
     {
         self.call.as_slice()
     }

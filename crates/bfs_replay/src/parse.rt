@@ -1,4 +1,4 @@
-ghost use Rattle.std.specs.Prelude.{◌≡◌};
+ghost use Rattle.std.specs.Prelude.{◌≡◌, ◌≤◌, length, IfOk};
 ghost use Rattle.bfs_replay.specs.Reading.{Reads, ReadsTrace};
 ghost use Rattle.bfs_replay.specs.Trace.{time_of, call_of, batch_of, request_of, line_of, is_bare, trace_of};
 ghost use Rattle.bfs_replay.specs.Blocks.{room_after};
@@ -40,9 +40,10 @@ fn parse_time(word: &[u8]) -> Option<Time>
 }
 
 /// Reads the bytes of a call from their hexadecimal digits.
-#[tactic(auto, unfolding(crate::specs::Trace::call_of))]
+#[tactic(auto, unfolding(crate::specs::Trace::call_of), using(crate::proofs::Halves::half))]
 fn parse_call(alloc: Global, word: &[u8]) -> Result<Vec<u8>, Fault>
-    ensures { Reads (λ bytes. bytes.items) result (call_of word.now) }
+    ensures value { Reads (λ bytes. bytes.items) result (call_of word.now) }
+    ensures within { IfOk result (λ bytes. length bytes.items ≤ 16384) }
 {
     if word.is_empty() || word.len() > MOST_DIGITS {
         return Err(Fault::Bad);

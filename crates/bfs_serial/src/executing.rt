@@ -1,4 +1,4 @@
-ghost use Rattle.std.specs.Prelude.{◌≡◌, ◌↔◌, IsTrue, IfOk, IsErrOf, Some, None};
+ghost use Rattle.std.specs.Prelude.{◌≡◌, ◌↔◌, length, IsTrue, IfOk, IsErrOf, Some, None};
 ghost use Rattle.bfs_model.specs.Serial as model;
 ghost use Rattle.bfs_model.specs.Serial.{execute, inodes_after, replies_to};
 ghost use Rattle.bfs_serial.specs.Errors.{exec_code_of};
@@ -37,12 +37,14 @@ impl ExecError {
 }
 
 /// Executes the batch's requests one after another, at the batch's effective time, and gives their replies.
+#[tactic(auto, using(bfs_model::proofs::Counts::replies_counted))]
 pub fn execute_serial(
     alloc: Global,
     files: &mut FileSystem,
     batch: &Batch,
 ) -> Result<Replies, ExecError>
     ensures done { IfOk result (λ replies. Executed files.old batch.now files.new replies) }
+    ensures count { IfOk result (λ replies. length replies ≡ length batch.now.requests) }
     ensures failed { IsErrOf result ExecError.Failed ↔ (files.old ≡ None) }
     ensures fails { IsErrOf result ExecError.Memory → files.new ≡ None }
     ensures stays_failed { files.old ≡ None → files.new ≡ None }
