@@ -8,3 +8,4 @@ pub mod InBlocks
 pub mod Usages
 pub mod Halves
 pub mod RunningLemmas
+pub mod AllTaken

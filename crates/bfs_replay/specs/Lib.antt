@@ -8,3 +8,4 @@ pub mod Reading
 pub mod Codes
 pub mod Output
 pub mod Running
+pub mod Failures

@@ -3,6 +3,8 @@
 
 mod block;
 mod command_line;
+mod failure;
+mod input;
 mod laws;
 mod line;
 mod numbers;
@@ -13,6 +15,8 @@ mod usage;
 mod words;
 
 pub use command_line::options;
+pub use failure::Failure;
+pub use input::read_input;
 pub use laws::blocks_hold_all_requests;
 pub use line::{Line, Request};
 pub use parse::parse_trace;

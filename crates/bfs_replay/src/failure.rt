@@ -1,0 +1,73 @@
+ghost use Rattle.std.specs.Prelude.{◌≡◌};
+ghost use Rattle.bfs_replay.specs.Failures.{failure_of_options, failure_of_run, failure_of_trace, status_of};
+
+use crate::run::ReplayError;
+use crate::trace::TraceError;
+use crate::usage::UsageError;
+use thiserror::Error;
+
+/// Why the program ends without its work done. What is printed of it is what follows `replay: ` on standard error.
+#[derive(Clone, Copy, Debug, PartialEq, Eq, Error)]
+pub enum Failure {
+    /// The words of the command line are no usage of the program.
+    #[error("usage")]
+    Usage,
+    /// The trace can't be read, or is too long.
+    #[error("cannot read input")]
+    Input,
+    /// Standard output refused what was written.
+    #[error("cannot write output")]
+    Output,
+    /// The first line of the trace that breaks the grammar, counted from 1.
+    #[error("trace line {0}")]
+    Line(usize),
+    /// Memory ran out.
+    #[error("out of memory")]
+    Memory,
+}
+
+impl Failure {
+    /// The status that the program ends with.
+    pub fn status(self) -> u8
+        ensures { result ≡ status_of self }
+    {
+        match self {
+            Failure::Usage | Failure::Input | Failure::Output => 2,
+            Failure::Line(_) => 3,
+            Failure::Memory => 4,
+        }
+    }
+}
+
+impl From<UsageError> for Failure {
+    ghost from_gives = { λ error failure. failure ≡ failure_of_options error };
+
+    fn from(error: UsageError) -> Failure {
+        match error {
+            UsageError::Usage => Failure::Usage,
+            UsageError::Memory => Failure::Memory,
+        }
+    }
+}
+
+impl From<TraceError> for Failure {
+    ghost from_gives = { λ error failure. failure ≡ failure_of_trace error };
+
+    fn from(error: TraceError) -> Failure {
+        match error {
+            TraceError::BadLine(number) => Failure::Line(number),
+            TraceError::Memory => Failure::Memory,
+        }
+    }
+}
+
+impl From<ReplayError> for Failure {
+    ghost from_gives = { λ error failure. failure ≡ failure_of_run error };
+
+    fn from(error: ReplayError) -> Failure {
+        match error {
+            ReplayError::WriteFault => Failure::Output,
+            ReplayError::Memory | ReplayError::Failed => Failure::Memory,
+        }
+    }
+}

@@ -1,0 +1,48 @@
+//! Replays a trace of NFS calls: `replay [--engine serial] TRACE`. docs/TRACE.md says what a trace is and what is printed.
+#![tactic(auto)]
+
+use bfs_replay::{Failure, Outcome, options, parse_trace, read_input, run_trace};
+use std::fs::File;
+use std::io;
+use std::io::{BufWriter, ErrorKind, Write};
+use std::process::ExitCode;
+
+fn main(rt: HostRuntime) -> ExitCode {
+    match replay(&rt) {
+        Ok(Outcome::Agree) => ExitCode::SUCCESS,
+        Err(failure) => {
+            // where standard error refuses too, the status alone tells
+            let _ = eprintln!(rt; "replay: {failure}");
+            ExitCode::from(failure.status())
+        }
+    }
+}
+
+/// Faults come in this order: the words, reading the trace, its lines, and the run with its output.
+fn replay(rt: &HostRuntime) -> Result<Outcome, Failure> {
+    let alloc = rt.alloc();
+    let words: Vec<String> = std::env::args(rt)
+        .map_err(|error| memory_or(error, Failure::Usage))?
+        .collect(alloc)
+        .map_err(|_| Failure::Memory)?;
+    let options = options(alloc, words.as_slice())?;
+    let file =
+        File::open(rt, options.trace).map_err(|error| memory_or(error, Failure::Input))?;
+    let text = read_input(alloc, file)?;
+    let trace = parse_trace(alloc, text.as_slice())?;
+    let mut out =
+        BufWriter::new(alloc, rt.stdout()).map_err(|error| memory_or(error, Failure::Output))?;
+    let outcome = run_trace(rt, &trace, &mut out)?;
+    out.flush()
+        .map_err(|error| memory_or(error, Failure::Output))?;
+    Ok(outcome)
+}
+
+/// Want of memory comes as an error of input and output too.
+fn memory_or(error: io::Error, failure: Failure) -> Failure {
+    if error.kind() == ErrorKind::OutOfMemory {
+        Failure::Memory
+    } else {
+        failure
+    }
+}
