@@ -1,0 +1,126 @@
+//! Traces: what is read, what is printed, and what is refused.
+use bfs_replay::{
+    Failure, Line, Outcome, ReplayError, TraceError, UsageError, options, parse_trace, read_input,
+    run_trace,
+};
+use std::io;
+use std::io::{ErrorKind, Write};
+use std::test::Fail;
+
+const ROOT_TRACE: &[u8] =
+    b"batch 1.000000\n0 1 raw 000000010000000000000002000186a30000000200000001000000000000000000000000000000004246533200000001000000020000000000000000000000000000000000000000\n";
+
+const ROOT_LINE: &[u8] =
+    b"c0 t1 0000000100000001000000000000000000000000000000000000000000000002000041ed000000020000000000000000000000400000100000000000000000010000000100000002000000000000000000000000000000000000000000000000\n";
+
+#[test]
+fn prints_a_line_for_each_request(rt: HostRuntime) -> Result<(), Fail> {
+    let trace = parse_trace(rt.alloc(), ROOT_TRACE)?;
+    let mut out = Vec::new(rt.alloc());
+    assert_eq!(rt; run_trace(&rt, &trace, &mut out)?, Outcome::Agree);
+    assert!(rt; out.as_slice() == ROOT_LINE);
+    let silent = parse_trace(
+        rt.alloc(),
+        b"# no call\n\nbatch 0.000000\n15 018446744073709551615 raw aB",
+    )?;
+    let mut out = Vec::new(rt.alloc());
+    run_trace(&rt, &silent, &mut out)?;
+    assert!(rt; out.as_slice() == b"c15 t18446744073709551615 -\n".as_slice());
+    Ok(())
+}
+
+#[test]
+fn tells_the_line_at_fault(rt: HostRuntime) -> Result<(), Fail> {
+    let alloc = rt.alloc();
+    match parse_trace(alloc, b"batch 1.000000\n0 1 row 00\n") {
+        Err(error) => {
+            assert_eq!(rt; error, TraceError::BadLine(2));
+            assert_eq!(rt; error.code(), 37);
+            assert_eq!(rt;
+                format!(in alloc; "{}", Failure::from(error))?.as_str(),
+                "trace line 2"
+            );
+        }
+        Ok(_) => assert!(rt; false, "`row` is no verb"),
+    }
+    let trace = parse_trace(alloc, b"batch 4294967295.999999\n0 5 raw 00")?;
+    assert_eq!(rt; trace.lines().len(), 2);
+    for line in trace.lines() {
+        match line {
+            Line::Batch(time) => assert_eq!(rt; time.seconds(), 4_294_967_295),
+            Line::Request(request) => {
+                assert_eq!(rt; (request.client(), request.timestamp()), (0, 5));
+                assert_eq!(rt; request.call().len(), 1);
+            }
+        }
+    }
+    Ok(())
+}
+
+#[test]
+fn reads_the_command_line(rt: HostRuntime) -> Result<(), Fail> {
+    let alloc = rt.alloc();
+    let words = ["replay", "--engine", "serial", "a.trace"];
+    assert_eq!(rt; options(alloc, &words)?.trace, "a.trace");
+    let lone = ["replay", "a.trace"];
+    assert_eq!(rt; options(alloc, &lone)?.trace, "a.trace");
+    let none = ["replay"];
+    assert!(rt; matches!(options(alloc, &none), Err(UsageError::Usage)));
+    let help = ["replay", "--help"];
+    assert!(rt; matches!(options(alloc, &help), Err(UsageError::Usage)));
+    let engine = ["replay", "--engine", "runs", "a.trace"];
+    assert!(rt; matches!(options(alloc, &engine), Err(UsageError::Usage)));
+    assert_eq!(rt; UsageError::Usage.code(), 42);
+    assert_eq!(rt; Failure::from(UsageError::Usage).status(), 2);
+    Ok(())
+}
+
+#[test]
+fn reads_input(rt: HostRuntime) -> Result<(), Fail> {
+    let text = read_input(rt.alloc(), ROOT_TRACE)?;
+    assert!(rt; text.as_slice() == ROOT_TRACE);
+    Ok(())
+}
+
+/// A writer that takes so many bytes and refuses from then on.
+#[derive(Drop)]
+struct Refusing {
+    room: usize,
+    taken: Vec<u8>,
+}
+
+impl Write for Refusing {
+    fn write(&mut self, bytes: &[u8]) -> io::Result<usize> {
+        let count = bytes.len().min(self.room);
+        if count == 0 && !bytes.is_empty() {
+            return Err(io::Error::from(ErrorKind::StorageFull));
+        }
+        self.taken.extend_from_slice(&bytes[..count])?;
+        self.room -= count;
+        Ok(count)
+    }
+
+    fn flush(&mut self) -> io::Result<()> {
+        Ok(())
+    }
+}
+
+#[test]
+fn stops_where_the_writer_refuses(rt: HostRuntime) -> Result<(), Fail> {
+    let trace = parse_trace(rt.alloc(), ROOT_TRACE)?;
+    for room in 0..ROOT_LINE.len() {
+        let mut writer = Refusing {
+            room,
+            taken: Vec::new(rt.alloc()),
+        };
+        match run_trace(&rt, &trace, &mut writer) {
+            Err(error) => {
+                assert_eq!(rt; error, ReplayError::WriteFault);
+                assert_eq!(rt; error.code(), 39);
+            }
+            Ok(_) => assert!(rt; false, "the writer has no room"),
+        }
+        assert!(rt; writer.taken.as_slice() == &ROOT_LINE[..room], "at {room}");
+    }
+    Ok(())
+}
