@@ -1,10 +1,10 @@
 -- What requests keep of a file system.
-use Rattle.std.proofs.Common.{◌≡◌, ℕ, ◌<◌, ◌≤◌, ◌+◌, min, Bool, true, false, cond, IsTrue, List, [], ◌∷◌, length, Option, Some, None, is_some, Result, Ok, Err, refl, ap, sym, subst, ◌∙◌, arith, lit≤, lit<}
+use Rattle.std.proofs.Common.{◌≡◌, ℕ, ◌<◌, ◌≤◌, Bool, true, false, cond, IsTrue, List, [], ◌∷◌, Option, Some, None, is_some, Result, Ok, Err, refl, ap, subst, ◌∙◌, arith, lit≤, lit<}
 use Rattle.std.specs.Ordering.{nat_cmp, eq_by_cmp}
 use Rattle.std.specs.Cmp.{nat_cmp_total}
-use Rattle.std.specs.FinMap.{get, empty, insert, get-insert, get-empty, nat_cmp-IsAntisymmetric}
+use Rattle.std.specs.FinMap.{get, empty, get-insert, get-empty, nat_cmp-IsAntisymmetric}
 use Rattle.std.proofs.lemmas.Map.Views.{tells_apart}
-use Rattle.bfs_model.specs.Tree.{Time, Inode, Inodes, FileSystem, epoch, root_id, first_ordinal, spent_ordinal, new_root, new_tree, new_file_system}
+use Rattle.bfs_model.specs.Tree.{Time, Inodes, FileSystem, root_id, first_ordinal, spent_ordinal, new_root, new_tree, new_file_system}
 use Rattle.bfs_model.specs.Call.{Credential, Request, Refusal, call_of}
 use Rattle.bfs_model.specs.Arguments.{Call, null, get_attributes, root, write_cache, arguments_of}
 use Rattle.bfs_model.specs.Attributes.{attributes_of}

@@ -1,13 +1,11 @@
 -- How long a reply is at most.
-use Rattle.std.proofs.Common.{◌≡◌, ℕ, ◌≤◌, List, length, Option, None, Some, Result, Ok, Err, subst, sym, ap, lit≤}
+use Rattle.std.proofs.Common.{ℕ, ◌≤◌, List, length, Option, None, Some, Result, Ok, Err, lit≤}
 use Rattle.bfs_model.specs.Items.{word}
-use Rattle.bfs_model.specs.Tree.{Time, Inode, Inodes}
-use Rattle.bfs_model.specs.Attributes.{attributes_of}
+use Rattle.bfs_model.specs.Tree.{Time, Inodes}
 use Rattle.bfs_model.specs.Call.{Refusal, silent, rpc_mismatch, bad_credential, program_unavailable, program_mismatch, procedure_unavailable, Request, call_of}
-use Rattle.bfs_model.specs.Arguments.{Call, null, get_attributes, root, write_cache, arguments_of}
+use Rattle.bfs_model.specs.Arguments.{Call, arguments_of}
 use Rattle.bfs_model.specs.Replies.{Reply, void, refused, attributes, results, success, garbage, refusal}
-use Rattle.bfs_model.specs.Steps.{or_stale}
-use Rattle.bfs_model.specs.Procedures.{procedure, attributes_got}
+use Rattle.bfs_model.specs.Procedures.{procedure}
 use Rattle.bfs_model.specs.Serial.{answer, answer_call, answer_arguments}
 use Rattle.bfs_model.specs.ReplyLengths.{longest_reply}
 

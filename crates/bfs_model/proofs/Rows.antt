@@ -1,16 +1,15 @@
 -- Worked examples of the definitions, each with values from outside.
-use Rattle.std.proofs.Common.{◌≡◌, ℕ, List, [], ◌∷◌, ◌++◌, take, Ok, Err, Some, None, true, false, refl, ap, sym, ◌∙◌}
-use Rattle.std.specs.Ordering.{nat_cmp}
+use Rattle.std.proofs.Common.{◌≡◌, ℕ, List, [], ◌∷◌, ◌++◌, take, Ok, Err, Some, true, false, refl, ap}
 use Rattle.std.specs.Cmp.{nat_cmp_total}
-use Rattle.std.specs.FinMap.{get, empty, insert, get-insert}
-use Rattle.bfs_model.specs.Items.{Fault, short, too_long, bad_boolean, bad_padding, word_at, hyper_at, boolean_at, bytes_at, fixed_at, opaque_at, word, words}
-use Rattle.bfs_model.specs.Tree.{Time, Inode, Inodes, FileSystem, epoch, root_id, new_root, new_tree, new_file_system}
+use Rattle.std.specs.FinMap.{get, empty, get-insert}
+use Rattle.bfs_model.specs.Items.{short, too_long, bad_boolean, bad_padding, word_at, boolean_at, bytes_at, fixed_at, opaque_at, word, words}
+use Rattle.bfs_model.specs.Tree.{Time, Inodes, FileSystem, root_id, new_root, new_tree, new_file_system}
 use Rattle.bfs_model.specs.Attributes.{attributes_of}
-use Rattle.bfs_model.specs.Call.{Refusal, silent, call_of, header_of, opaque_auth_at, credential_of, system_credential_of, after_words, nobody}
-use Rattle.bfs_model.specs.Arguments.{handle, handle_id, handle_at, file_at, fields_at, arguments_of, get_attributes}
+use Rattle.bfs_model.specs.Call.{call_of, header_of, opaque_auth_at, credential_of, nobody}
+use Rattle.bfs_model.specs.Arguments.{handle, handle_id, handle_at, file_at, fields_at, arguments_of}
 use Rattle.bfs_model.specs.Replies.{attributes, results, success, garbage, refusal}
 use Rattle.bfs_model.specs.Procedures.{procedure, attributes_got}
-use Rattle.bfs_model.specs.Serial.{answer, execute, inodes_after, replies_to, ordinal_after}
+use Rattle.bfs_model.specs.Serial.{answer, execute}
 
 -- Items ---------------------------------------------------------------------------------------------------------
 

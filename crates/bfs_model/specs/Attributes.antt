@@ -1,6 +1,6 @@
 -- The attributes of an inode (RFC 1094 section 2.3.5, fattr) and how large it is.
 use Rattle.std.specs.Prelude.{ℕ, ◌+◌, ◌*◌, ◌/◌, length}
-use Rattle.bfs_model.specs.Tree.{Time, Body, file, directory, link, Inode, Entry, Listing}
+use Rattle.bfs_model.specs.Tree.{Time, Body, file, directory, link, Inode}
 
 -- the types of inodes that there are (RFC 1094 section 2.3.2, ftype)
 pub data FileType : Type 0 where

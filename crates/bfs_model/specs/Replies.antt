@@ -1,6 +1,6 @@
 -- What is answered, and the one spelling of it: the words of RFC 5531 section 9 and the results of RFC 1094 section 2.2.
 use Rattle.std.specs.Prelude.{ℕ, ◌+◌, List, [], ◌∷◌, ◌++◌}
-use Rattle.bfs_model.specs.Items.{word, words}
+use Rattle.bfs_model.specs.Items.{words}
 use Rattle.bfs_model.specs.Tree.{Time}
 use Rattle.bfs_model.specs.Attributes.{FileType, regular, directory_type, symbolic_link, Attributes, block_size, blocks_of}
 use Rattle.bfs_model.specs.Call.{Refusal, silent, rpc_mismatch, bad_credential, program_unavailable, program_mismatch, procedure_unavailable}

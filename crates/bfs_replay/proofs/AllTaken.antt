@@ -1,5 +1,5 @@
 -- What was taken and is shorter than it might have been is all that there was.
-use Rattle.std.proofs.Common.{◌≡◌, ℕ, ◌<◌, ◌≤◌, List, [], ◌++◌, length, take, min, Option, Some, None, IfSome, option_map, refl, sym, ap, subst, ◌∙◌, arith, length-take}
+use Rattle.std.proofs.Common.{◌≡◌, ℕ, ◌<◌, List, [], ◌++◌, length, take, Option, Some, None, IfSome, option_map, ap, subst, ◌∙◌, arith, length-take}
 use Rattle.std.proofs.lemmas.List.{take_all}
 
 pub all_taken : (had : Option (List ℕ)) (most : ℕ) (bytes before : List ℕ) → IfSome (option_map (take most) had) (λ taken. bytes ≡ before ++ taken) → before ≡ [] → length bytes < most → IfSome had (λ all. bytes ≡ all)

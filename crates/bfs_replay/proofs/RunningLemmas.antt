@@ -1,5 +1,5 @@
 -- A line and what is behind it print what both print together.
-use Rattle.std.proofs.Common.{◌≡◌, ℕ, ◌-◌, List, [], ◌∷◌, ◌++◌, true, refl}
+use Rattle.std.proofs.Common.{◌≡◌, ℕ, ◌-◌, List, ◌∷◌, ◌++◌, true, refl}
 use Rattle.bfs_model.specs.Tree.{FileSystem}
 use Rattle.bfs_replay.specs.Blocks.{block_limit, blocks, in_blocks}
 use Rattle.bfs_replay.specs.Output.{output_from}

@@ -1,5 +1,5 @@
 -- What the run of a trace prints.
-use Rattle.std.specs.Prelude.{◌≡◌, ℕ, ◌++◌, List, [], ◌∷◌, map}
+use Rattle.std.specs.Prelude.{ℕ, ◌++◌, List, [], ◌∷◌, map}
 use Rattle.bfs_model.specs.Tree.{FileSystem, new_file_system}
 use Rattle.bfs_model.specs.Serial.{Batch, execute}
 use Rattle.bfs_replay.specs.Request.{Request}

@@ -61,6 +61,7 @@ pub fn execute_serial(
     }
 }
 
+#[tactic(auto, unfolding(bfs_model::specs::Serial::execute))]
 fn execute_live(alloc: Global, live: Live, batch: &Batch) -> Result<(Live, Replies), Memory>
     ensures { IfOk result (λ done. (done.0, done.1) ≡ execute live batch.now) }
 {

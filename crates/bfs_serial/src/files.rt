@@ -113,6 +113,7 @@ impl FileSystem {
 }
 
 impl Live {
+    #[tactic(auto, using(bfs_model::proofs::Kept::new_is_well_formed))]
     fn new(alloc: Global) -> Result<Live, Memory>
         ensures { IfOk result (λ live. live ≡ new_file_system) }
     {

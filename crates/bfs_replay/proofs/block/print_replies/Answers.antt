@@ -1,5 +1,5 @@
 -- The line of a request and its reply comes before those of the requests behind it.
-use Rattle.std.proofs.Common.{◌≡◌, ◌+◌, ◌<◌, ◌∷◌, List, ℕ, length, drop, ap, sym, ◌∙◌, refl, arith}
+use Rattle.std.proofs.Common.{◌≡◌, ◌+◌, ◌<◌, ◌∷◌, length, drop, ap, ◌∙◌, arith}
 use Rattle.std.proofs.lemmas.List.{at_drop_more}
 use Rattle.std.proofs.lemmas.Option.{get_or_from_slice_get}
 use Rattle.std.proofs.KnownBytes.{Appends-trans, Appends-nil}
@@ -18,7 +18,8 @@ loop-request-preserved g c =
     at_drop_more (λ rest. rest) c.args.replies.now c.loop-request.index c.get.result.now within
     ∙ ap (λ reply. reply ∷ drop (c.loop-request.index + 1) c.args.replies.now) (get_or_from_slice_get c.args.replies.now c.loop-request.index c.get.result.now c.get.result.now c.get.ensures) in (
       omega (arith, longer, counted),
-      λ end behind. c.loop-request.invariant.1 end (rw (leads, here) (Appends-trans _ _ _ _ _ c.in_ok-print_reply.ensures.written behind)))
+      λ end behind. c.loop-request.invariant.1 end (rw (leads, here) (Appends-trans _ _ _ _ _ c.in_ok-print_reply.ensures.written behind)),
+    )
 
 pub returns-clause-written : goal.returns-clause-written
 unfolding reply_lines

@@ -1,5 +1,5 @@
 -- There are as many replies as requests.
-use Rattle.std.proofs.Common.{◌≡◌, ◌∙◌, length, ap}
+use Rattle.std.proofs.Common.{◌∙◌, length, ap}
 use Rattle.std.proofs.lemmas.List.{length-map}
 use Rattle.bfs_replay.proofs.block.run_block.Goals as goal
 

@@ -1,5 +1,5 @@
 -- Fewer bytes were read than were asked for, so these are all.
-use Rattle.std.proofs.Common.{arith, rules, ◌<◌, ◌≤◌, ◌≡◌, length}
+use Rattle.std.proofs.Common.{arith, rules, ◌≤◌, ◌≡◌, length}
 use Rattle.bfs_replay.proofs.AllTaken.{all_taken}
 use Rattle.bfs_replay.proofs.input.read_input.Goals as goal
 
@@ -9,4 +9,4 @@ returns-clause-all g c =
     let few : length c.read_to_end.new.buf.items ≤ 67108864 = search rules in
     rw (← c.take-limited.ensures.inner)
     (all_taken (g.R.Read.remaining c.take-limited.result.inner) c.take-limited.result.limit c.read_to_end.new.buf.items c.new-bytes.result.items
-      c.in_default.ensures.bytes c.new-bytes.ensures.items (omega (arith, few, limit)))
+    c.in_default.ensures.bytes c.new-bytes.ensures.items (omega (arith, few, limit)))

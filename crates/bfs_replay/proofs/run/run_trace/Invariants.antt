@@ -10,7 +10,7 @@ use Rattle.bfs_replay.proofs.run.run_trace.Given as goal
 abbrev pub invariant-loop-line : goal.invariant-loop-line
 invariant-loop-line g l =
     (live : FileSystem) × ((room : ℕ) × ((l.files ≡ Some live) × (in_blocks room l.rest ≡ true)
-      × ((end : Option (List ℕ)) → Appends (g.W.Write.contents l.writer) end (output_from live (blocks l.rest)) → Appends (g.W.Write.contents l.fn.writer) end (output_of l.trace))))
+    × ((end : Option (List ℕ)) → Appends (g.W.Write.contents l.writer) end (output_from live (blocks l.rest)) → Appends (g.W.Write.contents l.fn.writer) end (output_of l.trace))))
 
 abbrev pub decreases-loop-line : goal.decreases-loop-line
 decreases-loop-line g l = length l.rest
