@@ -26,16 +26,17 @@ fn replay(rt: &HostRuntime) -> Result<Outcome, Failure> {
         .collect(alloc)
         .map_err(|_| Failure::Memory)?;
     let options = options(alloc, words.as_slice())?;
-    let file =
-        File::open(rt, options.trace).map_err(|error| memory_or(error, Failure::Input))?;
+    let file = File::open(rt, options.trace).map_err(|error| memory_or(error, Failure::Input))?;
     let text = read_input(alloc, file)?;
     let trace = parse_trace(alloc, text.as_slice())?;
-    let mut out =
-        BufWriter::new(alloc, rt.stdout()).map_err(|error| memory_or(error, Failure::Output))?;
+    let mut out = BufWriter::new(alloc, rt.stdout()).map_err(not_written)?;
     let outcome = run_trace(rt, &trace, &mut out)?;
-    out.flush()
-        .map_err(|error| memory_or(error, Failure::Output))?;
+    out.flush().map_err(not_written)?;
     Ok(outcome)
+}
+
+fn not_written(error: io::Error) -> Failure {
+    memory_or(error, Failure::Output)
 }
 
 /// Want of memory comes as an error of input and output too.
