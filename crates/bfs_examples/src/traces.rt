@@ -32,7 +32,7 @@ fn prints_a_line_for_each_request(rt: HostRuntime) -> Result<(), Fail> {
 #[test]
 fn tells_the_line_at_fault(rt: HostRuntime) -> Result<(), Fail> {
     let alloc = rt.alloc();
-    match parse_trace(alloc, b"batch 1.000000\n0 1 row 00\n") {
+    match parse_trace(alloc, b"batch 1.000000\n0 1 Raw 00\n") {
         Err(error) => {
             assert_eq!(rt; error, TraceError::BadLine(2));
             assert_eq!(rt; error.code(), 37);
@@ -41,7 +41,7 @@ fn tells_the_line_at_fault(rt: HostRuntime) -> Result<(), Fail> {
                 "trace line 2"
             );
         }
-        Ok(_) => assert!(rt; false, "`row` is no verb"),
+        Ok(_) => assert!(rt; false, "verbs are in lower case"),
     }
     let trace = parse_trace(alloc, b"batch 4294967295.999999\n0 5 raw 00")?;
     assert_eq!(rt; trace.lines().len(), 2);

@@ -41,10 +41,6 @@ pub inodes_after_keeps : (m : Inodes) (o : ℕ) (t : Time) (requests : List (Lis
 inodes_after_keeps m o t [] = refl
 inodes_after_keeps m o t (request ∷ requests) = ap (λ n. inodes_after n (ordinal_after o 1) t requests) (answer_keeps m o t request) ∙ inodes_after_keeps m (ordinal_after o 1) t requests
 
-pub execute_keeps_tree : (files : FileSystem) (batch : Batch) → (execute files batch).0.tree ≡ files.tree
-unfolding execute
-execute_keeps_tree files batch = inodes_after_keeps _ _ _ batch.requests
-
 -- every file system that was well formed is so after a batch
 pub execute_keeps : (files : FileSystem) (batch : Batch) → IsWellFormed files → IsWellFormed (execute files batch).0
 unfolding execute
