@@ -1,6 +1,15 @@
 pub mod Rows
-pub mod Kept
 pub mod Laws
 pub mod Handles
-pub mod ReplyLengths
 pub mod Counts
+pub mod Maps
+pub mod Runs
+pub mod ServerFiles
+pub mod ServerDirectories
+pub mod ServerNames
+pub mod ServerListings
+pub mod ServerLimits
+pub mod ServerMoves
+pub mod ServerSettings
+pub mod ServerRefusals
+pub mod Kept

@@ -43,3 +43,13 @@ block_size = 4096
 -- the blocks that so many bytes take, rounded up
 abbrev pub blocks_of : ℕ → ℕ
 blocks_of size = (size + 4095) / 4096
+
+-- Of the file system (RFC 1094 section 2.2.18) -----------------------------------------------------------------------
+
+-- the bytes that a READ or WRITE moves at best
+abbrev pub transfer_size : ℕ
+transfer_size = 8192
+
+-- the blocks that there are, in all
+abbrev pub total_blocks : ℕ
+total_blocks = 262144

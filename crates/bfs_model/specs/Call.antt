@@ -1,5 +1,5 @@
 -- The call that bytes spell, or the first reason to refuse it (RFC 5531 section 9). Padding is not looked at.
-use Rattle.std.specs.Prelude.{ℕ, zero, suc, Bool, true, false, ◌||◌, List, length, Option, Some, None, option_and_then, Result, Ok, Err, nat_lt, ◌==◌, if◌then◌else◌}
+use Rattle.std.specs.Prelude.{ℕ, zero, suc, Bool, true, false, ◌||◌, List, length, Option, Some, None, option_and_then, Result, Ok, Err, nat_lt, ◌==◌, if◌then◌else◌, nat_le}
 use Rattle.std.specs.Option.{ok_or}
 use Rattle.std.specs.Result.{result_ok}
 use Rattle.bfs_model.specs.Items.{word_at, opaque_at}
@@ -104,16 +104,21 @@ abbrev pub only_if : Bool → Refusal → Result (Unit {0}) Refusal
 only_if true refusal = Ok tt
 only_if false refusal = Err refusal
 
--- the procedures that are served by now (RFC 1094 section 2.2): NULL, GETATTR, ROOT and WRITECACHE
+-- the procedures of the protocol (RFC 1094 section 2.2)
+abbrev pub is_procedure : ℕ → Bool
+is_procedure procedure = nat_le procedure 17
+
+-- those that the code serves by now: NULL, GETATTR, ROOT and WRITECACHE
 abbrev pub is_served : ℕ → Bool
 is_served procedure = procedure == 0 || procedure == 1 || procedure == 3 || procedure == 7
 
-unfoldable pub call_of : List ℕ → Result Request Refusal
-call_of bytes =
+-- of a server that serves some of the procedures
+unfoldable pub call_of : (served : ℕ → Bool) → List ℕ → Result Request Refusal
+call_of served bytes =
     ok_or (header_of bytes) silent >> λ header.
     only_if (header.rpc_version == 2) (rpc_mismatch header.xid) >> λ _.
     ok_or (credential_of header.flavor header.body) (bad_credential header.xid) >> λ credential.
     only_if (header.program == 100003) (program_unavailable header.xid) >> λ _.
     only_if (header.program_version == 2) (program_mismatch header.xid) >> λ _.
-    only_if (is_served header.procedure) (procedure_unavailable header.xid) >> λ _.
+    only_if (served header.procedure) (procedure_unavailable header.xid) >> λ _.
     Ok (record { xid = header.xid; procedure = header.procedure; credential = credential; arguments = header.arguments })

@@ -1,13 +1,16 @@
 pub mod Items
+pub mod Limits
 pub mod Tree
 pub mod Attributes
 pub mod Call
 pub mod Arguments
 pub mod Replies
+pub mod Directories
+pub mod Bytes
+pub mod Changes
 pub mod Steps
 pub mod Procedures
 pub mod Serial
 pub mod WellFormed
 pub mod Touched
 pub mod Laws
-pub mod ReplyLengths

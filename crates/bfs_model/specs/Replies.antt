@@ -1,8 +1,10 @@
 -- What is answered, and the one spelling of it: the words of RFC 5531 section 9 and the results of RFC 1094 section 2.2.
-use Rattle.std.specs.Prelude.{ℕ, ◌+◌, List, [], ◌∷◌, ◌++◌}
-use Rattle.bfs_model.specs.Items.{words}
-use Rattle.bfs_model.specs.Tree.{Time}
-use Rattle.bfs_model.specs.Attributes.{FileType, regular, directory_type, symbolic_link, Attributes, block_size, blocks_of}
+use Rattle.std.specs.Prelude.{ℕ, Bool, true, false, ◌+◌, List, [], ◌∷◌, ◌++◌}
+use Rattle.bfs_model.specs.Items.{word, words, boolean, counted}
+use Rattle.bfs_model.specs.Tree.{Time, Entry}
+use Rattle.bfs_model.specs.Attributes.{FileType, regular, directory_type, symbolic_link, Attributes, block_size, blocks_of, transfer_size, total_blocks}
+use Rattle.bfs_model.specs.Arguments.{handle}
+use Rattle.std.specs.List.{flat_map}
 use Rattle.bfs_model.specs.Call.{Refusal, silent, rpc_mismatch, bad_credential, program_unavailable, program_mismatch, procedure_unavailable}
 
 -- Statuses (RFC 1094 section 2.3.1, stat) --------------------------------------------------------------------------
@@ -37,7 +39,20 @@ pub data Reply : Type 0 where
   -- of NULL, ROOT and WRITECACHE: no status and nothing else
   void : Reply
   refused : (status : Status) → Reply
+  -- status 0 and nothing else
+  done : Reply
+  -- an attrstat (RFC 1094 section 2.3.6)
   attributes : (of : Attributes) → Reply
+  -- a diropres (RFC 1094 section 2.3.12): the handle of an inode, and its attributes
+  found : (file : ℕ) (of : Attributes) → Reply
+  -- of READLINK
+  path : (bytes : List ℕ) → Reply
+  -- of READ: the file's attributes and some of its bytes
+  contents : (of : Attributes) (bytes : List ℕ) → Reply
+  -- of READDIR: some entries, and whether none is left after them
+  listed : (entries : List Entry) (all : Bool) → Reply
+  -- of STATFS: the blocks that are free
+  free_blocks : (free : ℕ) → Reply
 
 -- RFC 1094 section 2.3.2
 abbrev pub type_number : FileType → ℕ
@@ -60,10 +75,20 @@ attribute_words a =
     (type_number a.file_type ∷ (type_bits a.file_type + a.permissions) ∷ a.links ∷ a.uid ∷ a.gid ∷ a.size ∷ block_size ∷ 0 ∷ blocks_of a.size ∷ 1 ∷ a.fileid ∷ [])
     ++ time_words a.atime ++ time_words a.mtime ++ time_words a.ctime
 
+-- an entry of READDIR's list, behind the word that says that there is one (RFC 1094 section 2.2.17)
+abbrev pub entry_item : Entry → List ℕ
+entry_item entry = boolean true ++ word entry.child ++ counted entry.name ++ word entry.cookie
+
 unfoldable pub results : Reply → List ℕ
 results void = []
 results (refused status) = words (status_number status ∷ [])
+results done = words (0 ∷ [])
 results (attributes of) = words (0 ∷ []) ++ words (attribute_words of)
+results (found file of) = words (0 ∷ []) ++ handle file ++ words (attribute_words of)
+results (path bytes) = words (0 ∷ []) ++ counted bytes
+results (contents of bytes) = words (0 ∷ []) ++ words (attribute_words of) ++ counted bytes
+results (listed entries all) = words (0 ∷ []) ++ flat_map entry_item entries ++ boolean false ++ boolean all
+results (free_blocks free) = words (0 ∷ transfer_size ∷ block_size ∷ total_blocks ∷ free ∷ free ∷ [])
 
 -- Messages (RFC 5531 section 9) ------------------------------------------------------------------------------------
 

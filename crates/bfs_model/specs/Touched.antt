@@ -1,27 +1,89 @@
--- The fileids that a request reads, which a store must know to answer it.
-use Rattle.std.specs.Prelude.{ℕ, List, [], ◌∷◌, Option, Some, None, Result, Ok, Err}
+-- The fileids that a call reads and those that it writes, found on the inodes before it; what is written may be read.
+use Rattle.std.specs.Prelude.{◌≡◌, ℕ, ◌<◌, Bool, true, false, not, ◌&&◌, ◌==◌, IsTrue, List, [], ◌∷◌, ◌++◌, ◌⊎◌, All, Option, Some, None, option_map, option_and_then, Result, Ok, Err, nat_le, if◌then◌else◌}
+use Rattle.std.specs.Option.{option_map_or}
+use Rattle.std.specs.List.{AllByRecursion}
+use Rattle.std.specs.FinMap.{get}
+use Rattle.bfs_model.specs.Tree.{Inodes, spent_ordinal, is_directory, listing_at, entries_at}
+use Rattle.bfs_model.specs.Directories.{entry_named}
 use Rattle.bfs_model.specs.Call.{Request, Refusal, call_of}
-use Rattle.bfs_model.specs.Arguments.{Call, null, get_attributes, root, write_cache, arguments_of}
+use Rattle.bfs_model.specs.Arguments.{Call, null, get_attributes, set_attributes, root, look_up, read_link, read, write_cache, write, create, remove, rename, make_link, make_symbolic_link, make_directory, remove_directory, read_directory, file_system_status, arguments_served}
+use Rattle.bfs_model.specs.Procedures.OfFiles.{child_named}
+
+pub data Footprint : Type 0 where
+  known : (reads writes : List ℕ) → Footprint
+  -- all fileids are read and written
+  whole : Footprint
 
 -- a handle that is not one of ours leads to no inode
 abbrev pub ids_in : Option ℕ → List ℕ
 ids_in None = []
 ids_in (Some id) = id ∷ []
 
-abbrev pub ids_read : Call → List ℕ
-ids_read null = []
-ids_read (get_attributes file) = ids_in file
-ids_read root = []
-ids_read write_cache = []
+-- the fileid of an ordinal, unless it is spent
+abbrev pub new_ids : (ordinal : ℕ) → List ℕ
+new_ids ordinal = if nat_le spent_ordinal ordinal then [] else ordinal ∷ []
 
-abbrev pub ids_read_by_arguments : Option Call → List ℕ
-ids_read_by_arguments None = []
-ids_read_by_arguments (Some call) = ids_read call
+-- what has that name in a directory
+abbrev pub child_at : Inodes → (dir : Option ℕ) → (name : List ℕ) → Option ℕ
+child_at inodes None name = None
+child_at inodes (Some dir) name = option_map (λ entry. entry.child) (entry_named name (entries_at (get inodes dir)))
 
-abbrev pub ids_read_by_call : Result Request Refusal → List ℕ
-ids_read_by_call (Err refusal) = []
-ids_read_by_call (Ok request) = ids_read_by_arguments (arguments_of request.procedure request.arguments)
+-- what LOOKUP finds: that of the name, for `.` the directory, for `..` its parent
+abbrev pub child_found : Inodes → (dir : Option ℕ) → (name : List ℕ) → Option ℕ
+child_found inodes None name = None
+child_found inodes (Some dir) name = option_and_then (λ listing. child_named dir listing name) (listing_at (get inodes dir))
 
--- those that the request of these bytes reads
-abbrev pub ids_read_by : List ℕ → List ℕ
-ids_read_by bytes = ids_read_by_call (call_of bytes)
+-- whether a directory is renamed out of the directory that holds it, so that what lies above matters
+abbrev pub moves_a_directory : Inodes → (from : Option ℕ) → (from_name : List ℕ) → (to : Option ℕ) → Bool
+moves_a_directory inodes None from_name to = false
+moves_a_directory inodes (Some from) from_name to = is_directory (option_and_then (get inodes) (child_at inodes (Some from) from_name)) && option_map_or (λ other. not (other == from)) to true
+
+abbrev pub footprint : Inodes → (ordinal : ℕ) → Call → Footprint
+footprint inodes ordinal null = known [] []
+footprint inodes ordinal (get_attributes file) = known (ids_in file) []
+footprint inodes ordinal (set_attributes file settings) = known [] (ids_in file)
+footprint inodes ordinal root = known [] []
+footprint inodes ordinal (look_up dir name) = known (ids_in dir ++ ids_in (child_found inodes dir name)) []
+footprint inodes ordinal (read_link file) = known (ids_in file) []
+footprint inodes ordinal (read file offset count) = known (ids_in file) []
+footprint inodes ordinal write_cache = known [] []
+footprint inodes ordinal (write file offset bytes) = known [] (ids_in file)
+footprint inodes ordinal (create dir name settings) = known [] (ids_in dir ++ new_ids ordinal)
+footprint inodes ordinal (remove dir name) = known [] (ids_in dir ++ ids_in (child_at inodes dir name))
+footprint inodes ordinal (rename from from_name to to_name) =
+    if moves_a_directory inodes from from_name to then whole
+    else known [] (ids_in from ++ ids_in to ++ ids_in (child_at inodes from from_name) ++ ids_in (child_at inodes to to_name))
+footprint inodes ordinal (make_link file dir name) = known [] (ids_in file ++ ids_in dir)
+footprint inodes ordinal (make_symbolic_link dir name path settings) = known [] (ids_in dir ++ new_ids ordinal)
+footprint inodes ordinal (make_directory dir name settings) = known [] (ids_in dir ++ new_ids ordinal)
+footprint inodes ordinal (remove_directory dir name) = known [] (ids_in dir ++ ids_in (child_at inodes dir name))
+footprint inodes ordinal (read_directory dir cookie count) = known (ids_in dir) []
+footprint inodes ordinal (file_system_status file) = whole
+
+-- Of a request -------------------------------------------------------------------------------------------------------
+
+abbrev pub footprint_of_arguments : Inodes → (ordinal : ℕ) → Option Call → Footprint
+footprint_of_arguments inodes ordinal None = known [] []
+footprint_of_arguments inodes ordinal (Some call) = footprint inodes ordinal call
+
+abbrev pub footprint_of_call : (served : ℕ → Bool) → Inodes → (ordinal : ℕ) → Result Request Refusal → Footprint
+footprint_of_call served inodes ordinal (Err refusal) = known [] []
+footprint_of_call served inodes ordinal (Ok request) = footprint_of_arguments inodes ordinal (arguments_served served request.procedure request.arguments)
+
+-- that of the request of these bytes; a refused one touches nothing
+abbrev pub footprint_of : (served : ℕ → Bool) → Inodes → (ordinal : ℕ) → List ℕ → Footprint
+footprint_of served inodes ordinal bytes = footprint_of_call served inodes ordinal (call_of served bytes)
+
+-- Fresh ordinals -----------------------------------------------------------------------------------------------------
+
+-- an ordinal is new where a call writes: no inode has it as its fileid, and the cookies of a directory are below it
+abbrev pub IsNewAt : Inodes → (ordinal id : ℕ) → Type 0
+IsNewAt inodes ordinal id = (id ≡ ordinal → get inodes id ≡ None) × All (λ entry. entry.cookie < ordinal) (entries_at (get inodes id))
+
+abbrev pub IsNewIn : Inodes → (ordinal : ℕ) → Footprint → Type 0
+IsNewIn inodes ordinal (known reads writes) = AllByRecursion (IsNewAt inodes ordinal) writes
+IsNewIn inodes ordinal whole = (id : ℕ) → IsNewAt inodes ordinal id
+
+-- a call's ordinal is fresh: spent, so that nothing is made under it, or new where the call writes
+abbrev pub IsFresh : Inodes → (ordinal : ℕ) → Call → Type 0
+IsFresh inodes ordinal call = IsTrue (nat_le spent_ordinal ordinal) ⊎ IsNewIn inodes ordinal (footprint inodes ordinal call)

@@ -1,7 +1,7 @@
 -- What a file system is (RFC 1094 section 2.3): inodes by their fileid, the next ordinal and the last time.
-use Rattle.std.specs.Prelude.{ℕ, List, []}
+use Rattle.std.specs.Prelude.{ℕ, Bool, true, false, ◌==◌, List, [], Option, Some, None, if◌then◌else◌}
 use Rattle.std.specs.Ordering.{nat_cmp}
-use Rattle.std.specs.FinMap.{FinMap, empty, insert}
+use Rattle.std.specs.FinMap.{FinMap, empty, insert, get}
 
 -- seconds and microseconds since the beginning of 1970 (RFC 1094 section 2.3.4, timeval)
 pub record Time : Type 0 where
@@ -69,6 +69,48 @@ first_ordinal = 3
 
 abbrev pub new_file_system : FileSystem
 new_file_system = record { tree = new_tree; next_ordinal = first_ordinal; last_time = epoch }
+
+-- Directories ---------------------------------------------------------------------------------------------------
+
+abbrev pub is_directory_body : Body → Bool
+is_directory_body (file bytes) = false
+is_directory_body (directory listing) = true
+is_directory_body (link path) = false
+
+abbrev pub is_directory : Option Inode → Bool
+is_directory None = false
+is_directory (Some inode) = is_directory_body inode.body
+
+abbrev pub listing_in : Body → Option Listing
+listing_in (file bytes) = None
+listing_in (directory listing) = Some listing
+listing_in (link path) = None
+
+abbrev pub listing_at : Option Inode → Option Listing
+listing_at None = None
+listing_at (Some inode) = listing_in inode.body
+
+abbrev pub entries_in : Body → List Entry
+entries_in (file bytes) = []
+entries_in (directory listing) = listing.entries
+entries_in (link path) = []
+
+abbrev pub entries_at : Option Inode → List Entry
+entries_at None = []
+entries_at (Some inode) = entries_in inode.body
+
+abbrev pub parent_in : Body → Option ℕ
+parent_in (file bytes) = None
+parent_in (directory listing) = Some listing.parent
+parent_in (link path) = None
+
+abbrev pub parent_at : Option Inode → Option ℕ
+parent_at None = None
+parent_at (Some inode) = parent_in inode.body
+
+-- the directory above a directory, if it is not the root
+abbrev pub parent_of : Inodes → (id : ℕ) → Option ℕ
+parent_of inodes id = if id == root_id then None else parent_at (get inodes id)
 
 -- Ordinals -----------------------------------------------------------------------------------------------------
 
