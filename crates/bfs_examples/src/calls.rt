@@ -58,7 +58,7 @@ const REFUSED: [(&str, &str, &str); 7] = [
 ];
 
 // a whole store knows what any request reads
-#[tactic(auto, using(bfs_serial::proofs::Whole::all_of))]
+#[tactic(auto, using(bfs_serial::proofs::Whole::knows_all_touched))]
 fn answer_whole<S: Store>(alloc: Global, store: &mut S, request: &[u8]) -> Result<Vec<u8>, Memory>
     requires { IsTrue ((S.reach store.old).whole) }
     ensures { S.reach store.new ≡ S.reach store.old }

@@ -1,5 +1,7 @@
 -- Which fileids a store knows.
-use Rattle.std.specs.Prelude.{ℕ, Bool, true}
+use Rattle.std.specs.Prelude.{ℕ, Bool, true, IsTrue}
+use Rattle.std.specs.List.{AllByRecursion}
+use Rattle.bfs_model.specs.Touched as model
 
 pub record Reach : Type 0 where
   -- those that it answers for
@@ -9,3 +11,8 @@ pub record Reach : Type 0 where
 
 abbrev pub everywhere : Reach
 everywhere = record { known = λ _. true; whole = true }
+
+-- the store answers for all that a call touches
+abbrev pub Knows : Reach → model.Footprint → Type 0
+Knows reach (model.known reads writes) = AllByRecursion (λ id. IsTrue (reach.known id)) reads × AllByRecursion (λ id. IsTrue (reach.known id)) writes
+Knows reach model.whole = IsTrue reach.whole

@@ -1,7 +1,7 @@
 -- What the procedures that are served by now keep of a file system.
-use Rattle.std.proofs.Common.{◌≡◌, ℕ, Bool, true, false, cond, ◌||◌, List, [], ◌∷◌, length, Option, Some, None, option_and_then, Result, Ok, Err, refl, ap, ◌∙◌, eqb, eqb-true}
+use Rattle.std.proofs.Common.{◌≡◌, ◌+◌, ◌<◌, ◌≤◌, ℕ, Bool, true, false, cond, ◌||◌, List, [], ◌∷◌, length, Option, Some, None, option_and_then, Result, Ok, Err, refl, arith,  ap, ◌∙◌, eqb, eqb-true}
 use Rattle.std.specs.FinMap.{get}
-use Rattle.bfs_model.specs.Tree.{Time, Inodes}
+use Rattle.bfs_model.specs.Tree.{Time, Entry, Body, file, directory, link, Inode, Inodes, FileSystem, first_ordinal, spent_ordinal}
 use Rattle.bfs_model.specs.Call.{Request, Refusal, is_served, call_of}
 use Rattle.bfs_model.specs.Arguments.{Call, null, get_attributes, root, write_cache, handle_at, file_at, fields_at, arguments_of}
 use Rattle.bfs_model.specs.Attributes.{attributes_of}
@@ -9,7 +9,8 @@ use Rattle.bfs_model.specs.Replies.{attributes}
 use Rattle.bfs_model.specs.Steps.{or_stale}
 use Rattle.bfs_model.specs.Procedures.{procedure}
 use Rattle.bfs_model.specs.Procedures.OfAttributes.{attributes_got}
-use Rattle.bfs_model.specs.Serial.{answer_arguments, answer_call, answer, inodes_after, ordinal_after}
+use Rattle.bfs_model.specs.WellFormed.{IsRising, BodyIsWithin, IsWithin, IsWellFormed}
+use Rattle.bfs_model.specs.Serial.{Batch, effective_time, execute, answer_arguments, answer_call, answer, inodes_after, ordinal_after}
 
 module _ (m : Inodes) (o : ℕ) (t : Time) where
 
@@ -48,3 +49,30 @@ module _ (m : Inodes) (o : ℕ) (t : Time) where
 pub inodes_after_keeps : (m : Inodes) (o : ℕ) (t : Time) (requests : List (List ℕ)) → inodes_after is_served m o t requests ≡ m
 inodes_after_keeps m o t [] = refl
 inodes_after_keeps m o t (request ∷ requests) = ap (λ n. inodes_after is_served n (ordinal_after o 1) t requests) (answer_keeps m o t request) ∙ inodes_after_keeps m (ordinal_after o 1) t requests
+
+-- What is within the limits stays so as ordinals rise ------------------------------------------------------------------
+
+rising_below : (least : ℕ) (entries : List Entry) (n more : ℕ) → n ≤ more → IsRising least entries n → IsRising least entries more
+rising_below least [] n more le r = tt
+rising_below least (entry ∷ entries) n more le r = let low : entry.cookie < n = r.1 in (r.0, omega arith, rising_below (entry.cookie + 1) entries n more le r.2)
+
+body_below : (n more id links : ℕ) (body : Body) → n ≤ more → BodyIsWithin n id links body → BodyIsWithin more id links body
+body_below n more id links (file bytes) le w = w
+body_below n more id links (directory listing) le w = (w.0, rising_below first_ordinal listing.entries n more le w.1, w.2, w.3)
+body_below n more id links (link path) le w = w
+
+pub within_below : (n more id : ℕ) (inode : Inode) → n ≤ more → IsWithin n id inode → IsWithin more id inode
+within_below n more id inode le w = record {
+  fileid = let low : id < n = w.fileid.1 in (w.fileid.0, omega arith);
+  links = w.links;
+  body = body_below n more id inode.links inode.body le w.body;
+}
+
+-- every file system that was well formed is so after a batch
+pub execute_keeps : (files : FileSystem) (batch : Batch) → IsWellFormed files → IsWellFormed (execute is_served files batch).0
+unfolding execute
+execute_keeps files batch h = rw (inodes_after_keeps files.tree files.next_ordinal (effective_time files.last_time batch.time) batch.requests) (record {
+  tree = h.tree;
+  within = λ id inode there. within_below files.next_ordinal _ id inode (let most : files.next_ordinal ≤ spent_ordinal = h.ordinal.1 in omega arith) (h.within id inode there);
+  ordinal = let least : first_ordinal ≤ files.next_ordinal = h.ordinal.0 in (omega arith, omega arith);
+})

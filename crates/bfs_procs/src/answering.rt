@@ -1,9 +1,10 @@
-ghost use Rattle.std.specs.Prelude.{◌≡◌, IfOk, IsTrue};
-ghost use Rattle.std.specs.List.{AllByRecursion};
+ghost use Rattle.std.specs.Prelude.{◌≡◌, IfOk};
 ghost use Rattle.bfs_model.specs.Call as model;
+ghost use Rattle.bfs_model.specs.Call.{is_served};
 ghost use Rattle.bfs_model.specs.Replies.{results, success};
 ghost use Rattle.bfs_model.specs.Serial.{answer, answer_call};
-ghost use Rattle.bfs_model.specs.Touched.{ids_read_by, ids_read_by_call};
+ghost use Rattle.bfs_model.specs.Touched.{footprint_of, footprint_of_call};
+ghost use Rattle.bfs_inode.specs.Reach.{Knows};
 ghost use Rattle.bfs_rpc.specs.Calls.{request_of};
 ghost use Rattle.bfs_wire.specs.Replies.{reply_of};
 
@@ -25,8 +26,8 @@ pub fn answer<S: Store>(
     time: Time,
     request: &[u8],
 ) -> Result<Vec<u8>, Memory>
-    requires { AllByRecursion (λ id. IsTrue ((S.reach store.old).known id)) (ids_read_by request.now) }
-    ensures done { IfOk result (λ reply. (S.inodes store.new, reply.items) ≡ answer (S.inodes store.old) ordinal time request.now) }
+    requires { Knows (S.reach store.old) (footprint_of is_served (S.inodes store.old) ordinal request.now) }
+    ensures done { IfOk result (λ reply. (S.inodes store.new, reply.items) ≡ answer is_served (S.inodes store.old) ordinal time request.now) }
     ensures reach { S.reach store.new ≡ S.reach store.old }
 {
     match parse_call(request) {
@@ -42,8 +43,8 @@ fn answer_call<S: Store>(
     time: Time,
     call: &Call,
 ) -> Result<Vec<u8>, Memory>
-    requires { AllByRecursion (λ id. IsTrue ((S.reach store.old).known id)) (ids_read_by_call (Ok (request_of call.now))) }
-    ensures done { IfOk result (λ reply. (S.inodes store.new, reply.items) ≡ answer_call (S.inodes store.old) ordinal time (Ok (request_of call.now))) }
+    requires { Knows (S.reach store.old) (footprint_of_call is_served (S.inodes store.old) ordinal (Ok (request_of call.now))) }
+    ensures done { IfOk result (λ reply. (S.inodes store.new, reply.items) ≡ answer_call is_served (S.inodes store.old) ordinal time (Ok (request_of call.now))) }
     ensures reach { S.reach store.new ≡ S.reach store.old }
 {
     let Ok(arguments) = parse_args(call.proc, call.args) else {

@@ -1,6 +1,6 @@
 ghost use Rattle.std.specs.Prelude.{◌≡◌, IsTrue};
 ghost use Rattle.std.specs.Option.{ForSome};
-ghost use Rattle.bfs_model.specs.Procedures.{attributes_got};
+ghost use Rattle.bfs_model.specs.Procedures.OfAttributes.{attributes_got};
 ghost use Rattle.bfs_wire.specs.Replies.{reply_of};
 
 use bfs_inode::{FileId, Store};

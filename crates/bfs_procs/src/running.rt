@@ -1,7 +1,7 @@
-ghost use Rattle.std.specs.Prelude.{◌≡◌, IfOk, IsTrue};
-ghost use Rattle.std.specs.List.{AllByRecursion};
+ghost use Rattle.std.specs.Prelude.{◌≡◌, IfOk};
 ghost use Rattle.bfs_model.specs.Procedures.{procedure};
-ghost use Rattle.bfs_model.specs.Touched.{ids_read};
+ghost use Rattle.bfs_model.specs.Touched.{footprint};
+ghost use Rattle.bfs_inode.specs.Reach.{Knows};
 ghost use Rattle.bfs_wire.specs.Calls.{call_of};
 ghost use Rattle.bfs_wire.specs.Replies.{reply_of};
 
@@ -22,7 +22,7 @@ pub fn run<S: Store>(
     cred: &Cred,
     call: &NfsCall,
 ) -> Result<NfsReply, Memory>
-    requires { AllByRecursion (λ id. IsTrue ((S.reach store.old).known id)) (ids_read (call_of call.now)) }
+    requires { Knows (S.reach store.old) (footprint (S.inodes store.old) ordinal (call_of call.now)) }
     ensures done { IfOk result (λ reply. (S.inodes store.new, reply_of reply) ≡ procedure (S.inodes store.old) ordinal time cred.now (call_of call.now)) }
     ensures reach { S.reach store.new ≡ S.reach store.old }
 {

@@ -4,8 +4,9 @@ ghost use Rattle.bfs_model.specs.Call as model;
 ghost use Rattle.bfs_xdr.specs.Reading.{Gives};
 ghost use Rattle.bfs_rpc.specs.Calls.{header_seen, request_of, refusal_of};
 
-use crate::cred::{Cred, cred_of};
+use crate::cred::cred_of;
 use crate::reject::Reject;
+use bfs_types::Cred;
 use bfs_xdr::Reader;
 
 /// A call that is not refused: which procedure of NFS version 2 it wants, for whom, and the bytes of its arguments.
@@ -45,7 +46,7 @@ const MAX_AUTH_BYTES: u32 = 400;
 /// `Reject`; padding is not looked at.
 #[tactic(auto, unfolding(bfs_model::specs::Call::call_of))]
 pub fn parse_call(bytes: &[u8]) -> Result<Call<'_>, Reject>
-    ensures { Gives request_of refusal_of result (model.call_of bytes.now) }
+    ensures { Gives request_of refusal_of result (model.call_of model.is_served bytes.now) }
 {
     let header = header_at(bytes).ok_or(Reject::Silent)?;
     let xid = header.xid;

@@ -2,25 +2,8 @@ ghost use Rattle.std.specs.Prelude.{◌≡◌};
 ghost use Rattle.std.specs.Option.{option_map};
 ghost use Rattle.bfs_model.specs.Call as model;
 
+use bfs_types::Cred;
 use bfs_xdr::Reader;
-use std::marker::Model;
-
-/// For whom a call is made: the numbers of a user and of the user's group.
-#[derive(Clone, Copy, Debug, PartialEq, Eq)]
-pub struct Cred {
-    pub uid: u32,
-    pub gid: u32,
-}
-
-impl Model for Cred {
-    ghost use Rattle.bfs_model.specs.Call.{Credential};
-
-    ghost Value = { Credential };
-
-    ghost view = { λ cred. record { uid = cred.uid; gid = cred.gid } };
-
-    ghost inverse = { λ credential. record { uid = credential.uid; gid = credential.gid } };
-}
 
 const AUTH_NONE: u32 = 0;
 

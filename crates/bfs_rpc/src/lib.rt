@@ -7,7 +7,7 @@ mod cred;
 mod reject;
 mod reply;
 
+pub use bfs_types::Cred;
 pub use call::{Call, parse_call};
-pub use cred::Cred;
 pub use reject::Reject;
 pub use reply::{put_success, write_garbage, write_reject, write_success};

@@ -1,7 +1,13 @@
--- What holds of each number holds of each number of a list.
+-- A store that is whole answers for all that any call touches.
 use Rattle.std.proofs.Common.{◌≡◌, ℕ, Bool, true, IsTrue, List, [], ◌∷◌}
 use Rattle.std.specs.List.{AllByRecursion}
+use Rattle.bfs_model.specs.Touched.{Footprint, known, whole}
+use Rattle.bfs_inode.specs.Reach.{Reach, Knows}
 
-pub all_of : (p : ℕ → Bool) (xs : List ℕ) → ((q : ℕ) → p q ≡ true) → AllByRecursion (λ q. IsTrue (p q)) xs
+all_of : (p : ℕ → Bool) (xs : List ℕ) → ((q : ℕ) → p q ≡ true) → AllByRecursion (λ q. IsTrue (p q)) xs
 all_of p [] each = tt
 all_of p (x ∷ xs) each = (each x, all_of p xs each)
+
+pub knows_all_touched : (reach : Reach) (footprint : Footprint) → reach.whole ≡ true → ((id : ℕ) → reach.known id ≡ true) → Knows reach footprint
+knows_all_touched reach (known reads writes) is-whole each = (all_of reach.known reads each, all_of reach.known writes each)
+knows_all_touched reach whole is-whole each = is-whole

@@ -1,6 +1,7 @@
-ghost use Rattle.std.specs.Prelude.{◌≡◌, false, IfSome};
+ghost use Rattle.std.specs.Prelude.{◌≡◌, false, None, IfSome, if◌then◌else◌};
 ghost use Rattle.std.specs.Option.{option_map};
 ghost use Rattle.std.specs.Result.{result_ok};
+ghost use Rattle.bfs_model.specs.Call.{is_served};
 ghost use Rattle.bfs_model.specs.Arguments as model;
 ghost use Rattle.bfs_wire.specs.Calls.{call_of};
 
@@ -30,7 +31,7 @@ const HANDLE_BYTES: u32 = 32;
 /// them. Padding is not looked at.
 #[tactic(auto, unfolding(bfs_model::specs::Arguments::arguments_of))]
 pub fn parse_args(procedure: u32, args: &[u8]) -> Result<NfsCall, GarbageArgs>
-    ensures { option_map call_of (result_ok result) ≡ model.arguments_of procedure args.now }
+    ensures { option_map call_of (result_ok result) ≡ model.arguments_served is_served procedure args.now }
 {
     let mut reader = Reader::new(args);
     let Some(call) = fields(procedure, &mut reader) else {
@@ -46,7 +47,7 @@ pub fn parse_args(procedure: u32, args: &[u8]) -> Result<NfsCall, GarbageArgs>
 #[tactic(auto, unfolding(bfs_model::specs::Arguments::fields_at, bfs_model::specs::Arguments::file_at))]
 fn fields(procedure: u32, reader: &mut Reader) -> Option<NfsCall>
     requires { reader.old.strict ≡ false }
-    ensures value { option_map (λ call. (call_of call, reader.new.left)) result ≡ model.fields_at procedure reader.old.left }
+    ensures value { option_map (λ call. (call_of call, reader.new.left)) result ≡ (if is_served procedure then model.fields_at procedure reader.old.left else None) }
     ensures lenient { IfSome result (λ call. reader.new.strict ≡ false) }
 {
     match procedure {
