@@ -1,7 +1,11 @@
 -- What the procedures that are served by now keep of a file system.
-use Rattle.std.proofs.Common.{◌≡◌, ◌+◌, ◌<◌, ◌≤◌, ℕ, Bool, true, false, cond, ◌||◌, List, [], ◌∷◌, length, Option, Some, None, option_and_then, Result, Ok, Err, refl, arith,  ap, ◌∙◌, eqb, eqb-true}
-use Rattle.std.specs.FinMap.{get}
-use Rattle.bfs_model.specs.Tree.{Time, Entry, Body, file, directory, link, Inode, Inodes, FileSystem, first_ordinal, spent_ordinal}
+use Rattle.std.proofs.Common.{sym, subst, lit≤, lit<, ◌≡◌, ◌+◌, ◌<◌, ◌≤◌, ℕ, Bool, true, false, cond, ◌||◌, List, [], ◌∷◌, length, Option, Some, None, option_and_then, Result, Ok, Err, refl, arith,  ap, ◌∙◌, eqb, eqb-true}
+use Rattle.std.specs.FinMap.{get, empty, get-insert, get-empty, nat_cmp-IsAntisymmetric}
+use Rattle.std.specs.Ordering.{nat_cmp, eq_by_cmp}
+use Rattle.std.specs.Cmp.{nat_cmp_total}
+use Rattle.std.proofs.lemmas.Map.Views.{tells_apart}
+use Rattle.bfs_model.proofs.WellFormed.Words.{new_tree_formed}
+use Rattle.bfs_model.specs.Tree.{Time, Entry, Body, file, directory, link, Inode, Inodes, FileSystem, first_ordinal, spent_ordinal, root_id, new_root, new_file_system}
 use Rattle.bfs_model.specs.Call.{Request, Refusal, is_served, call_of}
 use Rattle.bfs_model.specs.Arguments.{Call, null, get_attributes, root, write_cache, handle_at, file_at, fields_at, arguments_of}
 use Rattle.bfs_model.specs.Attributes.{attributes_of}
@@ -76,3 +80,21 @@ execute_keeps files batch h = rw (inodes_after_keeps files.tree files.next_ordin
   within = λ id inode there. within_below files.next_ordinal _ id inode (let most : files.next_ordinal ≤ spent_ordinal = h.ordinal.1 in omega arith) (h.within id inode there);
   ordinal = let least : first_ordinal ≤ files.next_ordinal = h.ordinal.0 in (omega arith, omega arith);
 })
+
+-- A new file system ------------------------------------------------------------------------------------------------------
+
+root_is_within : IsWithin first_ordinal root_id new_root
+root_is_within = record { fileid = (lit≤ tt, lit< tt); links = lit≤ tt; body = (lit≤ tt, tt, tt, λ _. refl) }
+
+-- only the root is there
+within_at : (b : Bool) (id : ℕ) (inode : Inode) → eq_by_cmp nat_cmp id root_id ≡ b → cond b (Some new_root) None ≡ Some inode → IsWithin first_ordinal id inode
+within_at true id inode is there = subst (λ x. IsWithin first_ordinal id x) (cc there) (subst (λ k. IsWithin first_ordinal k new_root) (sym (tells_apart nat_cmp-IsAntisymmetric id root_id is)) root_is_within)
+within_at false id inode is there = absurd cc
+
+pub new_is_well_formed : IsWellFormed new_file_system
+new_is_well_formed = record {
+  tree = new_tree_formed;
+  within = λ id inode there. within_at (eq_by_cmp nat_cmp id root_id) id inode refl
+      (sym (get-insert nat_cmp_total empty root_id new_root id ∙ ap (cond (eq_by_cmp nat_cmp id root_id) (Some new_root)) (get-empty nat_cmp id)) ∙ there);
+  ordinal = (lit≤ tt, lit≤ tt);
+}

@@ -3,6 +3,7 @@ pub mod Laws
 pub mod Handles
 pub mod Counts
 pub mod Maps
+pub mod WellFormed
 pub mod Runs
 pub mod ServerFiles
 pub mod ServerDirectories
@@ -12,4 +13,5 @@ pub mod ServerLimits
 pub mod ServerMoves
 pub mod ServerSettings
 pub mod ServerRefusals
+pub mod ServerPlaces
 pub mod Kept

@@ -1,0 +1,4 @@
+-- That the tree stays one.
+pub mod Sums
+pub mod Walks
+pub mod Words
