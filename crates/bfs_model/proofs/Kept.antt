@@ -1,5 +1,5 @@
 -- What the procedures that are served by now keep of a file system.
-use Rattle.std.proofs.Common.{sym, subst, lit≤, lit<, ◌≡◌, ◌+◌, ◌<◌, ◌≤◌, ℕ, Bool, true, false, cond, ◌||◌, List, [], ◌∷◌, length, Option, Some, None, option_and_then, Result, Ok, Err, refl, arith,  ap, ◌∙◌, eqb, eqb-true}
+use Rattle.std.proofs.Common.{sym, subst, lit≤, lit<, ◌≡◌, ◌+◌, ◌<◌, ◌≤◌, ℕ, Bool, true, false, cond, ◌||◌, List, [], ◌∷◌, length, Option, Some, None, option_and_then, Result, Ok, Err, refl, arith, ap, ◌∙◌, eqb, eqb-true}
 use Rattle.std.specs.FinMap.{get, empty, get-insert, get-empty, nat_cmp-IsAntisymmetric}
 use Rattle.std.specs.Ordering.{nat_cmp, eq_by_cmp}
 use Rattle.std.specs.Cmp.{nat_cmp_total}
@@ -17,7 +17,6 @@ use Rattle.bfs_model.specs.WellFormed.{IsRising, BodyIsWithin, IsWithin, IsWellF
 use Rattle.bfs_model.specs.Serial.{Batch, effective_time, execute, answer_arguments, answer_call, answer, inodes_after, ordinal_after}
 
 module _ (m : Inodes) (o : ℕ) (t : Time) where
-
   -- GETATTR changes nothing, whatever its handle leads to
   attributes_got_keeps : (file : Option ℕ) → (attributes_got m file).0 ≡ m
   attributes_got_keeps None = refl

@@ -14,4 +14,10 @@ pub mod ServerMoves
 pub mod ServerSettings
 pub mod ServerRefusals
 pub mod ServerPlaces
+pub mod Outcomes
+pub mod ProcedureOutcomes
+pub mod Unchanged
+pub mod Follows
+pub mod Added
+pub mod ReplyLengths
 pub mod Kept

@@ -14,3 +14,5 @@ pub mod Serial
 pub mod WellFormed
 pub mod Touched
 pub mod Laws
+pub mod ProcedureLaws
+pub mod ReplyLengths

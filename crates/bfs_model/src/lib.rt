@@ -2,4 +2,6 @@
 #![tactic(auto)]
 
 pub mod keeping;
+pub mod procedures;
+pub mod replies;
 pub mod spelling;

@@ -1,0 +1,50 @@
+-- What holds of every call on every finite map of inodes, well formed or not.
+use Rattle.std.specs.Prelude.{◌≡◌, ℕ, Bool, true, false, IsTrue, Some, None, is_some}
+use Rattle.std.specs.FinMap.{get}
+use Rattle.bfs_model.specs.Tree.{Time, Inode, Inodes}
+use Rattle.bfs_model.specs.Attributes.{type_of}
+use Rattle.bfs_model.specs.Call.{Credential}
+use Rattle.bfs_model.specs.Arguments.{Call, null, get_attributes, set_attributes, root, look_up, read_link, read, write_cache, write, create, remove, rename, make_link, make_symbolic_link, make_directory, remove_directory, read_directory, file_system_status}
+use Rattle.bfs_model.specs.Replies.{Status, refused}
+use Rattle.bfs_model.specs.Procedures.{procedure}
+use Rattle.bfs_model.specs.Touched.{IsFresh}
+
+-- a fileid that leads to no inode before a call and to one after it is the call's ordinal
+abbrev pub NoOtherInodeIsAdded : Type 0
+NoOtherInodeIsAdded = (inodes : Inodes) (ordinal : ℕ) (now : Time) (caller : Credential) (call : Call) (id : ℕ)
+    → get inodes id ≡ None → IsTrue (is_some (get (procedure inodes ordinal now caller call).0 id)) → id ≡ ordinal
+
+-- where a call's ordinal is fresh, an inode that stays is of the type that it was of
+abbrev pub TypesStay : Type 0
+TypesStay = (inodes : Inodes) (ordinal : ℕ) (now : Time) (caller : Credential) (call : Call) → IsFresh inodes ordinal call
+    → (id : ℕ) (before after : Inode) → get inodes id ≡ Some before → get (procedure inodes ordinal now caller call).0 id ≡ Some after
+    → type_of after.body ≡ type_of before.body
+
+abbrev pub ARefusedCallChangesNothing : Type 0
+ARefusedCallChangesNothing = (inodes : Inodes) (ordinal : ℕ) (now : Time) (caller : Credential) (call : Call) (status : Status)
+    → (procedure inodes ordinal now caller call).1 ≡ refused status → (procedure inodes ordinal now caller call).0 ≡ inodes
+
+-- NULL, GETATTR, ROOT, LOOKUP, READLINK, READ, WRITECACHE, READDIR and STATFS
+abbrev pub only_reads : Call → Bool
+only_reads null = true
+only_reads (get_attributes file) = true
+only_reads (set_attributes file settings) = false
+only_reads root = true
+only_reads (look_up dir name) = true
+only_reads (read_link file) = true
+only_reads (read file offset count) = true
+only_reads write_cache = true
+only_reads (write file offset bytes) = false
+only_reads (create dir name settings) = false
+only_reads (remove dir name) = false
+only_reads (rename from from_name to to_name) = false
+only_reads (make_link file dir name) = false
+only_reads (make_symbolic_link dir name path settings) = false
+only_reads (make_directory dir name settings) = false
+only_reads (remove_directory dir name) = false
+only_reads (read_directory dir cookie count) = true
+only_reads (file_system_status file) = true
+
+abbrev pub ReadingChangesNothing : Type 0
+ReadingChangesNothing = (inodes : Inodes) (ordinal : ℕ) (now : Time) (caller : Credential) (call : Call)
+    → IsTrue (only_reads call) → (procedure inodes ordinal now caller call).0 ≡ inodes
