@@ -17,6 +17,8 @@ pub mod ServerPlaces
 pub mod Outcomes
 pub mod ProcedureOutcomes
 pub mod Unchanged
+pub mod Tables
+pub mod Short
 pub mod Follows
 pub mod Added
 pub mod ReplyLengths

@@ -1,4 +1,11 @@
--- That the tree stays one.
+-- What is well formed stays so: the tree by two equations for every fileid, and the limits inode by inode.
 pub mod Sums
 pub mod Walks
 pub mod Words
+pub mod Entries
+pub mod Each
+pub mod Named
+pub mod Limits
+pub mod LimitsKept
+pub mod RenamingLimits
+pub mod ProceduresKeepLimits

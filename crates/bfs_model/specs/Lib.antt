@@ -16,3 +16,4 @@ pub mod Touched
 pub mod Laws
 pub mod ProcedureLaws
 pub mod ReplyLengths
+pub mod Short
