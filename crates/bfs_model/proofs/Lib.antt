@@ -22,4 +22,9 @@ pub mod Short
 pub mod Follows
 pub mod Added
 pub mod ReplyLengths
+pub mod ReplyForms
+pub mod ResultsAgain
+pub mod RepliesAgain
+pub mod ReadingRows
+pub mod Pages
 pub mod Kept

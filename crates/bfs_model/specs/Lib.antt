@@ -17,3 +17,5 @@ pub mod Laws
 pub mod ProcedureLaws
 pub mod ReplyLengths
 pub mod Short
+pub mod ReplyReading
+pub mod Paging

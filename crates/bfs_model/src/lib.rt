@@ -2,6 +2,8 @@
 #![tactic(auto)]
 
 pub mod keeping;
+pub mod paging;
 pub mod procedures;
 pub mod replies;
+pub mod replies_read;
 pub mod spelling;
