@@ -2,6 +2,12 @@
 pub mod Sums
 pub mod Walks
 pub mod Words
+pub mod Changes
+pub mod Steps
+pub mod Facts
+pub mod Effects
+pub mod Renames
+pub mod Trees
 pub mod Entries
 pub mod Each
 pub mod Named

@@ -8,6 +8,7 @@ use Rattle.bfs_model.specs.Arguments.{Call, null, get_attributes, set_attributes
 use Rattle.bfs_model.specs.Replies.{Status, refused}
 use Rattle.bfs_model.specs.Procedures.{procedure}
 use Rattle.bfs_model.specs.Touched.{IsFresh}
+use Rattle.bfs_model.specs.WellFormed.{IsTree}
 
 -- a fileid that leads to no inode before a call and to one after it is the call's ordinal
 abbrev pub NoOtherInodeIsAdded : Type 0
@@ -19,6 +20,10 @@ abbrev pub TypesStay : Type 0
 TypesStay = (inodes : Inodes) (ordinal : ℕ) (now : Time) (caller : Credential) (call : Call) → IsFresh inodes ordinal call
     → (id : ℕ) (before after : Inode) → get inodes id ≡ Some before → get (procedure inodes ordinal now caller call).0 id ≡ Some after
     → type_of after.body ≡ type_of before.body
+
+-- and what was a tree stays one
+abbrev pub TreesStay : Type 0
+TreesStay = (inodes : Inodes) (ordinal : ℕ) (now : Time) (caller : Credential) (call : Call) → IsFresh inodes ordinal call → IsTree inodes → IsTree (procedure inodes ordinal now caller call).0
 
 abbrev pub ARefusedCallChangesNothing : Type 0
 ARefusedCallChangesNothing = (inodes : Inodes) (ordinal : ℕ) (now : Time) (caller : Credential) (call : Call) (status : Status)

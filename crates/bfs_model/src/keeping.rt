@@ -1,6 +1,5 @@
 ghost use Rattle.std.specs.Prelude.{◌≡◌, ℕ, Bool, length};
 ghost use Rattle.bfs_model.specs.Tree.{FileSystem, new_file_system};
-ghost use Rattle.bfs_model.specs.Call.{is_served};
 ghost use Rattle.bfs_model.specs.Serial.{Batch, execute};
 ghost use Rattle.bfs_model.specs.WellFormed.{IsWellFormed};
 
@@ -10,10 +9,10 @@ pub fn a_new_file_system_is_well_formed()
     ensures { IsWellFormed new_file_system }
 {}
 
-/// A batch leaves a well-formed file system well formed.
+/// A batch of any requests leaves a well-formed file system well formed, whichever procedures are served.
 #[tactic(auto, using(crate::proofs::Kept::execute_keeps))]
 pub fn a_batch_keeps_files_well_formed()
-    ensures { (files : FileSystem) (batch : Batch) → IsWellFormed files → IsWellFormed (execute is_served files batch).0 }
+    ensures { (served : ℕ → Bool) (files : FileSystem) (batch : Batch) → IsWellFormed files → IsWellFormed (execute served files batch).0 }
 {}
 
 /// Each request of a batch gets one reply.

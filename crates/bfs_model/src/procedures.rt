@@ -1,4 +1,4 @@
-ghost use Rattle.bfs_model.specs.ProcedureLaws.{NoOtherInodeIsAdded, TypesStay, ARefusedCallChangesNothing, ReadingChangesNothing};
+ghost use Rattle.bfs_model.specs.ProcedureLaws.{NoOtherInodeIsAdded, TypesStay, TreesStay, ARefusedCallChangesNothing, ReadingChangesNothing};
 
 /// Whatever the inodes, a call adds none but that of its ordinal: a fileid that led nowhere before it and leads somewhere after
 /// it is the ordinal.
@@ -11,6 +11,12 @@ pub fn no_other_inode_is_added()
 /// a directory a directory, and a symbolic link a symbolic link.
 pub fn types_stay()
     ensures { TypesStay }
+{}
+
+/// Where a call's ordinal is fresh, it leaves a tree of directories, files and symbolic links one: links are counted, each
+/// directory but the root has one name, in its parent, and all lead to the root.
+pub fn trees_stay()
+    ensures { TreesStay }
 {}
 
 /// Whatever the inodes, a call that is refused leaves them as they were.
