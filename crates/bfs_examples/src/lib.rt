@@ -7,6 +7,10 @@ mod batches;
 #[cfg(test)]
 mod calls;
 #[cfg(test)]
+mod files;
+#[cfg(test)]
 mod items;
 #[cfg(test)]
 mod traces;
+#[cfg(test)]
+mod words;

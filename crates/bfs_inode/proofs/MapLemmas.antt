@@ -1,10 +1,10 @@
 -- What the changes of a `BTreeMap` do to the finite map that it stands for.
-use Rattle.std.proofs.Common.{◌≡◌, ℕ, List, [], ◌∷◌, cond, Some, refl, ap, sym, ◌∙◌}
+use Rattle.std.proofs.Common.{◌≡◌, ℕ, List, [], ◌∷◌, cond, Some, None, refl, ap, sym, ◌∙◌}
 use Rattle.std.specs.Ordering.{nat_cmp, eq_by_cmp}
 use Rattle.std.specs.Map.{lookup}
 use Rattle.std.specs.BTreeMap as tree
-use Rattle.std.specs.BTreeMap.{BTreeMap, is_at, IsEmpty, Updates}
-use Rattle.std.specs.FinMap.{find, get, insert, empty, from_entries, get-from_entries, get-insert, same_map, nat_cmp-IsAntisymmetric}
+use Rattle.std.specs.BTreeMap.{BTreeMap, is_at, IsEmpty, IsUnchanged, Updates}
+use Rattle.std.specs.FinMap.{find, get, insert, remove, empty, from_entries, get-from_entries, get-insert, get-remove, same_map, nat_cmp-IsAntisymmetric}
 use Rattle.std.proofs.lemmas.Cmp.{nat_cmp_total, eq_by_cmp_equiv}
 use Rattle.bfs_inode.specs.Maps.{map_of}
 
@@ -26,3 +26,14 @@ map_of-inserts m n k v updates = same_map nat_cmp_total nat_cmp-IsAntisymmetric 
     ∙ ap (λ b. cond b (Some v) (tree.get nat_cmp m q)) ((eq_by_cmp_equiv nat_cmp_total).symm k q)
     ∙ ap (cond (eq_by_cmp nat_cmp q k) (Some v)) (sym (get-map_of m q))
     ∙ sym (get-insert nat_cmp_total (map_of m) k v q))
+
+pub map_of-removes : {X : Type 0} (m n : BTreeMap ℕ X) (k : ℕ) → Updates nat_cmp m n k None → map_of n ≡ remove (map_of m) k
+map_of-removes m n k updates = same_map nat_cmp_total nat_cmp-IsAntisymmetric _ _ (λ q.
+    get-map_of n q ∙ updates.0 q
+    ∙ ap (λ b. cond b None (tree.get nat_cmp m q)) ((eq_by_cmp_equiv nat_cmp_total).symm k q)
+    ∙ ap (cond (eq_by_cmp nat_cmp q k) None) (sym (get-map_of m q))
+    ∙ sym (get-remove nat_cmp_total (map_of m) k q))
+
+pub map_of-unchanged : {X : Type 0} (m n : BTreeMap ℕ X) → IsUnchanged m n → map_of n ≡ map_of m
+unfolding map_of
+map_of-unchanged m n same = ap from_entries same

@@ -1,4 +1,5 @@
 pub mod Inodes
 pub mod Seen
 pub mod Reach
+pub mod Lending
 pub mod Maps

@@ -1,4 +1,4 @@
--- Which fileids a store knows.
+-- Which fileids a store knows, and which it may change.
 use Rattle.std.specs.Prelude.{ℕ, Bool, true, IsTrue}
 use Rattle.std.specs.List.{AllByRecursion}
 use Rattle.bfs_model.specs.Touched as model
@@ -6,13 +6,15 @@ use Rattle.bfs_model.specs.Touched as model
 pub record Reach : Type 0 where
   -- those that it answers for
   pub known : ℕ → Bool
+  -- those of them that it may change
+  pub owned : ℕ → Bool
   -- whether these are all
   pub whole : Bool
 
 abbrev pub everywhere : Reach
-everywhere = record { known = λ _. true; whole = true }
+everywhere = record { known = λ _. true; owned = λ _. true; whole = true }
 
--- the store answers for all that a call touches
+-- the store answers for all that a call reads, and may change all that it writes
 abbrev pub Knows : Reach → model.Footprint → Type 0
-Knows reach (model.known reads writes) = AllByRecursion (λ id. IsTrue (reach.known id)) reads × AllByRecursion (λ id. IsTrue (reach.known id)) writes
+Knows reach (model.known reads writes) = AllByRecursion (λ id. IsTrue (reach.known id)) reads × AllByRecursion (λ id. IsTrue (reach.owned id)) writes
 Knows reach model.whole = IsTrue reach.whole

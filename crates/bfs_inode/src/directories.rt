@@ -1,4 +1,8 @@
-ghost use Rattle.std.specs.Prelude.{◌≡◌, ◌≤◌, ◌↔◌, [], length, IsTrue};
+ghost use Rattle.std.specs.Prelude.{◌≡◌, ◌≤◌, ◌↔◌, [], length, slice_get, IsTrue};
+ghost use Rattle.std.specs.Option.{option_copied};
+ghost use Rattle.bfs_model.specs.Directories.{entry_named};
+
+mod changes;
 
 use crate::bounded::Name;
 use bfs_types::FileId;
@@ -73,5 +77,21 @@ impl Directory {
         ensures { IsTrue result ↔ (self.now.entries ≡ []) }
     {
         self.entries.is_empty()
+    }
+
+    /// The entry of that name.
+    pub fn entry(&self, name: &[u8]) -> Option<&Entry>
+        ensures { option_copied result ≡ entry_named name.now self.now.entries }
+    {
+        self.entries
+            .iter()
+            .find(|entry| entry.name.as_slice() == name)
+    }
+
+    /// The entry at a place, of which that with the lowest cookie is 0.
+    pub fn at(&self, place: usize) -> Option<&Entry>
+        ensures { option_copied result ≡ slice_get self.now.entries place }
+    {
+        self.entries.get(place)
     }
 }

@@ -1,49 +1,20 @@
-ghost use Rattle.std.specs.Prelude.{◌≡◌};
-ghost use Rattle.std.specs.Option.{option_copied};
-ghost use Rattle.bfs_model.specs.Tree.{new_root};
-ghost use Rattle.bfs_model.specs.Attributes.{attributes_of, size_of, type_of};
-ghost use Rattle.bfs_types.specs.Attributes.{file_type_of};
-ghost use Rattle.bfs_inode.specs.Inodes.{body_of, listing_of};
+ghost use Rattle.std.specs.Prelude.{◌≡◌, ◌<◌, ◌≤◌, unwrap_or, is_some, option_map, IfOk};
+ghost use Rattle.std.specs.Option.{option_copied, option_map_or};
+ghost use Rattle.bfs_model.specs.Tree.{new_root, is_directory_body, listing_in};
+ghost use Rattle.bfs_model.specs.Attributes.{attributes_of};
+ghost use Rattle.bfs_model.specs.Limits.{most_bytes, most_links};
+ghost use Rattle.bfs_model.specs.Changes.{new_inode, permission_bits, time_or};
+ghost use Rattle.bfs_model.specs.Procedures.OfFiles.{new_file};
+ghost use Rattle.bfs_inode.specs.Inodes.{body_of, file_in, path_in};
 
-use crate::bounded::{FileData, LinkPath};
+mod changes;
+
+use crate::bodies::Body;
+use crate::bounded::FileData;
 use crate::directories::Directory;
-use bfs_types::{Attributes, FileId, FileType, Time};
+use bfs_types::{Attributes, Cred, FileId, Memory, SetTime, Settings, Time};
 use std::alloc::Global;
 use std::marker::Model;
-
-/// What an inode holds.
-#[derive(Debug, Drop)]
-pub enum Body {
-    /// A regular file and its bytes.
-    File(FileData),
-    /// A directory and its entries.
-    Directory(Directory),
-    /// A symbolic link and the path that it holds.
-    Link(LinkPath),
-}
-
-impl Body {
-    fn file_type(&self) -> FileType
-        ensures { file_type_of result ≡ type_of (body_of self.now) }
-    {
-        match self {
-            Body::File(_) => FileType::Regular,
-            Body::Directory(_) => FileType::Directory,
-            Body::Link(_) => FileType::SymbolicLink,
-        }
-    }
-
-    /// In bytes; a directory counts 32 for each entry, `.` and `..` among them.
-    fn size(&self) -> u32
-        ensures { result ≡ size_of (body_of self.now) }
-    {
-        match self {
-            Body::File(data) => data.len() as u32,
-            Body::Directory(directory) => 32 * (directory.len() as u32 + 2),
-            Body::Link(path) => path.len() as u32,
-        }
-    }
-}
 
 /// A file, a directory or a symbolic link, with what is known of it (RFC 1094 section 2.3.5).
 #[derive(Debug, Drop)]
@@ -87,9 +58,91 @@ impl Inode {
         }
     }
 
+    /// A new file, of zeros up to the size that is set, with one link and, where no mode is set, mode 0644. It is the caller's
+    /// where no owner is set. `Memory` where there is no room for the zeros.
+    pub fn new_file(
+        alloc: Global,
+        now: Time,
+        caller: Cred,
+        settings: &Settings,
+    ) -> Result<Inode, Memory>
+        requires { unwrap_or settings.now.size 0 ≤ most_bytes }
+        ensures { IfOk result (λ inode. inode ≡ new_file now caller settings.now) }
+    {
+        let bytes = FileData::zeros(alloc, settings.size.unwrap_or(0) as usize)?;
+        let permissions = permissions_set(settings.mode, 0o644);
+        Ok(Inode::made(now, caller, settings, permissions, 1, Body::File(bytes)))
+    }
+
+    fn made(
+        now: Time,
+        caller: Cred,
+        settings: &Settings,
+        permissions: u32,
+        links: u32,
+        body: Body,
+    ) -> Inode
+        requires bits { permissions < 4096 }
+        requires few { links ≤ most_links }
+        ensures { result ≡ new_inode now caller settings.now permissions links (body_of body) }
+    {
+        Inode {
+            permissions,
+            links,
+            uid: settings.uid.unwrap_or(caller.uid),
+            gid: settings.gid.unwrap_or(caller.gid),
+            atime: time_set(now, settings.atime, now),
+            mtime: time_set(now, settings.mtime, now),
+            ctime: now,
+            body,
+        }
+    }
+
+    /// Whether it is a directory.
+    pub fn is_directory(&self) -> bool
+        ensures { result ≡ is_directory_body self.now.body }
+    {
+        matches!(self.body, Body::Directory(_))
+    }
+
+    /// Whether it is a symbolic link.
+    pub fn is_link(&self) -> bool
+        ensures { result ≡ is_some (path_in self.now.body) }
+    {
+        matches!(self.body, Body::Link(_))
+    }
+
+    /// How many names it has; of a directory, two and one more for each directory in it.
+    pub fn links(&self) -> u32
+        ensures value { result ≡ self.now.links }
+        ensures within { result ≤ most_links }
+    {
+        self.links
+    }
+
+    /// The bytes, where it is a file.
+    pub fn file(&self) -> Option<&[u8]>
+        ensures { option_map (λ bytes. bytes.now) result ≡ file_in self.now.body }
+    {
+        match &self.body {
+            Body::File(data) => Some(data.as_slice()),
+            _ => None,
+        }
+    }
+
+    /// The path, where it is a symbolic link.
+    pub fn link(&self) -> Option<&[u8]>
+        ensures { option_map (λ path. path.now) result ≡ path_in self.now.body }
+    {
+        match &self.body {
+            Body::Link(path) => Some(path.as_slice()),
+            _ => None,
+        }
+    }
+
     /// The parent and the entries, where it is a directory.
     pub fn directory(&self) -> Option<&Directory>
-        ensures { option_copied result ≡ listing_of self.now.body }
+        ensures { option_copied result ≡ listing_in self.now.body }
     {
         match &self.body {
             Body::Directory(directory) => Some(directory),
@@ -113,5 +166,27 @@ impl Inode {
             mtime: self.mtime,
             ctime: self.ctime,
         }
+    }
+}
+
+// the permissions of a mode that is set
+fn permissions_set(mode: Option<u32>, otherwise: u32) -> u32
+    requires { otherwise < 4096 }
+    ensures value { result ≡ option_map_or permission_bits mode otherwise }
+    ensures within { result < 4096 }
+{
+    match mode {
+        Some(mode) => mode % 4096,
+        None => otherwise,
+    }
+}
+
+// a time that is set
+fn time_set(now: Time, time: Option<SetTime>, otherwise: Time) -> Time
+    ensures { result ≡ time_or now time otherwise }
+{
+    match time {
+        Some(time) => time.given(now),
+        None => otherwise,
     }
 }

@@ -1,6 +1,7 @@
 //! Inodes, directories, and the tree of them: what RFC 1094 section 2.3 calls the file system, in memory.
 #![tactic(auto)]
 
+mod bodies;
 mod bounded;
 mod directories;
 mod inodes;
@@ -8,8 +9,9 @@ mod store;
 mod trees;
 
 pub use bfs_types::{FileId, Time};
+pub use bodies::Body;
 pub use bounded::{FileData, LinkPath, Name};
 pub use directories::{Directory, Entry};
-pub use inodes::{Body, Inode};
+pub use inodes::Inode;
 pub use store::Store;
 pub use trees::Tree;

@@ -48,7 +48,11 @@ impl Store for Tree {
 
     ghost reach = { λ _. everywhere };
 
+    ghost knows_owned = { λ _ _ _. refl };
+
     ghost knows_all = { λ _ _ _. refl };
+
+    ghost owns_all = { λ _ _ _. refl };
 
     fn is_whole(&self) -> bool {
         true
@@ -60,5 +64,20 @@ impl Store for Tree {
 
     fn get(&self, id: FileId) -> Option<&Inode> {
         self.inodes.get(&id.number())
+    }
+
+    fn get_mut(&mut self, id: FileId) -> Option<&mut Inode> {
+        self.inodes.get_mut(&id.number())
+    }
+
+    fn insert(&mut self, id: FileId, inode: Inode) -> Result<(), Inode> {
+        match self.inodes.insert(id.number(), inode) {
+            Ok(_) => Ok(()),
+            Err(refused) => Err(refused.value.1),
+        }
+    }
+
+    fn remove(&mut self, id: FileId) -> Option<Inode> {
+        self.inodes.remove(&id.number())
     }
 }

@@ -1,5 +1,5 @@
 -- The call that bytes spell, or the first reason to refuse it (RFC 5531 section 9). Padding is not looked at.
-use Rattle.std.specs.Prelude.{ℕ, zero, suc, Bool, true, false, ◌||◌, List, length, Option, Some, None, option_and_then, Result, Ok, Err, nat_lt, ◌==◌, if◌then◌else◌, nat_le}
+use Rattle.std.specs.Prelude.{ℕ, zero, suc, Bool, true, false, ◌&&◌, ◌||◌, List, length, Option, Some, None, option_and_then, Result, Ok, Err, nat_lt, ◌==◌, if◌then◌else◌, nat_le}
 use Rattle.std.specs.Option.{ok_or}
 use Rattle.std.specs.Result.{result_ok}
 use Rattle.bfs_model.specs.Items.{word_at, opaque_at}
@@ -108,9 +108,9 @@ only_if false refusal = Err refusal
 abbrev pub is_procedure : ℕ → Bool
 is_procedure procedure = nat_le procedure 17
 
--- those that the code serves by now: NULL, GETATTR, ROOT and WRITECACHE
+-- those that the code serves by now: all up to CREATE but READLINK
 abbrev pub is_served : ℕ → Bool
-is_served procedure = procedure == 0 || procedure == 1 || procedure == 3 || procedure == 7
+is_served procedure = nat_le procedure 4 || nat_le 6 procedure && nat_le procedure 9
 
 -- of a server that serves some of the procedures
 unfoldable pub call_of : (served : ℕ → Bool) → List ℕ → Result Request Refusal

@@ -3,6 +3,11 @@
 
 mod answering;
 mod attributes;
+mod context;
+mod directories;
+mod files;
+mod limits;
+mod names;
 mod running;
 
 pub use answering::answer;

@@ -4,8 +4,12 @@ ghost use Rattle.bfs_model.specs.Touched.{footprint};
 ghost use Rattle.bfs_inode.specs.Reach.{Knows};
 ghost use Rattle.bfs_wire.specs.Calls.{call_of};
 ghost use Rattle.bfs_wire.specs.Replies.{reply_of};
+ghost use Rattle.bfs_model.specs.Short.{IsShort};
 
-use crate::attributes::get_attributes;
+use crate::attributes::{get_attributes, set_attributes};
+use crate::context::Context;
+use crate::directories::{create, look_up};
+use crate::files::{read, write};
 use bfs_inode::{Store, Time};
 use bfs_rpc::Cred;
 use bfs_types::{Memory, Ordinal};
@@ -22,12 +26,35 @@ pub fn run<S: Store>(
     cred: &Cred,
     call: &NfsCall,
 ) -> Result<NfsReply, Memory>
-    requires { Knows (S.reach store.old) (footprint (S.inodes store.old) ordinal (call_of call.now)) }
+    requires known { Knows (S.reach store.old) (footprint (S.inodes store.old) ordinal (call_of call.now)) }
+    requires short { IsShort (call_of call.now) }
     ensures done { IfOk result (λ reply. (S.inodes store.new, reply_of reply) ≡ procedure (S.inodes store.old) ordinal time cred.now (call_of call.now)) }
     ensures reach { S.reach store.new ≡ S.reach store.old }
 {
-    Ok(match *call {
-        NfsCall::Null | NfsCall::Root | NfsCall::WriteCache => NfsReply::Void,
-        NfsCall::GetAttr { file } => get_attributes(store, file),
-    })
+    let context = Context {
+        ordinal,
+        time,
+        caller: *cred,
+    };
+    match *call {
+        NfsCall::Null | NfsCall::Root | NfsCall::WriteCache => Ok(NfsReply::Void),
+        NfsCall::GetAttr { file } => Ok(get_attributes(store, file)),
+        NfsCall::SetAttr { file, settings } => set_attributes(store, time, file, &settings),
+        NfsCall::LookUp { dir, name } => Ok(look_up(store, dir, name)),
+        NfsCall::Read {
+            file,
+            offset,
+            count,
+        } => read(alloc, store, file, offset, count),
+        NfsCall::Write {
+            file,
+            offset,
+            bytes,
+        } => write(store, time, file, offset, bytes),
+        NfsCall::Create {
+            dir,
+            name,
+            settings,
+        } => create(alloc, store, context, dir, name, &settings),
+    }
 }

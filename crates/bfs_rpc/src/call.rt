@@ -74,7 +74,7 @@ pub fn parse_call(bytes: &[u8]) -> Result<Call<'_>, Reject>
 fn is_served(procedure: u32) -> bool
     ensures { result ≡ model.is_served procedure }
 {
-    matches!(procedure, 0 | 1 | 3 | 7)
+    matches!(procedure, 0..=4 | 6..=9)
 }
 
 #[tactic(auto, unfolding(bfs_model::specs::Call::header_of))]

@@ -3,7 +3,7 @@ use Rattle.bfs_model.specs.Replies as model
 use Rattle.bfs_wire.specs.declared.status.Status.{Status}
 use Rattle.bfs_wire.specs.declared.status.Status.TheVariants.{Perm, NoEnt, Exist, NotDir, IsDir, FBig, NoSpc, NotEmpty, Stale}
 use Rattle.bfs_wire.specs.declared.reply.NfsReply.{NfsReply}
-use Rattle.bfs_wire.specs.declared.reply.NfsReply.TheVariants.{Void, Refused, Attributes}
+use Rattle.bfs_wire.specs.declared.reply.NfsReply.TheVariants.{Void, Refused, Attributes, Found, Contents}
 
 abbrev pub status_of : Status → model.Status
 status_of Perm = model.perm
@@ -20,3 +20,5 @@ abbrev pub reply_of : NfsReply → model.Reply
 reply_of Void = model.void
 reply_of (Refused status) = model.refused (status_of status)
 reply_of (Attributes attributes) = model.attributes attributes
+reply_of (Found file attributes) = model.found file attributes
+reply_of (Contents attributes bytes) = model.contents attributes bytes

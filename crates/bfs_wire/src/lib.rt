@@ -1,13 +1,17 @@
 //! The calls of NFS version 2 and what is answered to them (RFC 1094), read from bytes and written as bytes.
 #![tactic(auto)]
 
+mod bytes;
 mod call;
 mod file_type;
+mod forms;
 mod garbage;
 mod handle;
+mod parts;
 mod reply;
 mod status;
 
+pub use bytes::{FileBytes, ReplyBytes};
 pub use call::{NfsCall, parse_args};
 pub use garbage::GarbageArgs;
 pub use handle::{handle_bytes, handle_id};

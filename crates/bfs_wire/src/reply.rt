@@ -1,16 +1,18 @@
-ghost use Rattle.std.specs.Prelude.{◌≡◌, ◌++◌, OnOk, OnErr, IfOk};
+ghost use Rattle.std.specs.Prelude.{◌≡◌, ◌++◌, take, length, OnOk, OnErr, IfOk};
 ghost use Rattle.bfs_model.specs.Attributes.{blocks_of as model_blocks_of};
 ghost use Rattle.bfs_model.specs.Replies as model;
 ghost use Rattle.bfs_wire.specs.Replies.{reply_of};
 
+use crate::bytes::FileBytes;
 use crate::file_type::{type_bits, type_number};
+use crate::handle::handle_bytes;
 use crate::status::Status;
-use bfs_types::{Attributes, Memory};
-use bfs_xdr::put_words;
+use bfs_types::{Attributes, FileId, Memory};
+use bfs_xdr::{put_opaque, put_words};
 use std::alloc::Global;
 
 /// What a procedure gives (RFC 1094 section 2.2).
-#[derive(Clone, Copy, Debug, PartialEq, Eq)]
+#[derive(Debug, Drop)]
 pub enum NfsReply {
     /// Of NULL, ROOT and WRITECACHE: no status and nothing else.
     Void,
@@ -18,6 +20,16 @@ pub enum NfsReply {
     Refused(Status),
     /// The attributes of the file.
     Attributes(Attributes),
+    /// The file that was found or made, and its attributes.
+    Found {
+        file: FileId,
+        attributes: Attributes,
+    },
+    /// The file's attributes, and the bytes that were read of it.
+    Contents {
+        attributes: Attributes,
+        bytes: FileBytes,
+    },
 }
 
 // the status of a procedure that was done (RFC 1094 section 2.3.1, NFS_OK)
@@ -31,16 +43,16 @@ const FSID: u32 = 1;
 
 /// Appends the results of a procedure (RFC 1094 section 2.2), so that a reply can be built behind its header. `Memory` where
 /// the bytes can't grow.
-#[tactic(auto, unfolding(bfs_model::specs::Replies::results))]
 pub fn put_reply(out: &mut Vec<u8>, reply: &NfsReply) -> Result<(), Memory>
     ensures ok { OnOk result (out.new.items ≡ out.old.items ++ model.results (reply_of reply.now)) }
     ensures err { OnErr result (out.new.items ≡ out.old.items) }
 {
-    match reply {
-        NfsReply::Void => Ok(()),
-        NfsReply::Refused(status) => put_words(out, &[status.number()]),
-        NfsReply::Attributes(attributes) => put_attributes(out, attributes),
+    let before = out.len();
+    if put_results(out, reply).is_err() {
+        out.truncate(before);
+        return Err(Memory);
     }
+    Ok(())
 }
 
 /// The results of a procedure (RFC 1094 section 2.2) in bytes of their own. `Memory` where there is none for them.
@@ -52,19 +64,51 @@ pub fn write_reply(alloc: Global, reply: &NfsReply) -> Result<Vec<u8>, Memory>
     Ok(bytes)
 }
 
+// the results, or some of them behind what was there
+#[tactic(auto, unfolding(bfs_model::specs::Replies::results))]
+fn put_results(out: &mut Vec<u8>, reply: &NfsReply) -> Result<(), Memory>
+    ensures ok { OnOk result (out.new.items ≡ out.old.items ++ model.results (reply_of reply.now)) }
+    ensures err { OnErr result (take (length out.old.items) out.new.items ≡ out.old.items) }
+{
+    match reply {
+        NfsReply::Void => Ok(()),
+        NfsReply::Refused(status) => put_words(out, &[status.number()]),
+        NfsReply::Attributes(attributes) => put_attributes(out, attributes),
+        NfsReply::Found { file, attributes } => put_found(out, *file, attributes),
+        NfsReply::Contents { attributes, bytes } => put_contents(out, attributes, bytes),
+    }
+}
+
 // attrstat where the attributes were found (RFC 1094 section 2.3.6)
 #[tactic(auto, using(std::proofs::lemmas::List::append_assoc), unfolding(bfs_model::specs::Replies::results))]
 fn put_attributes(out: &mut Vec<u8>, attributes: &Attributes) -> Result<(), Memory>
     ensures ok { OnOk result (out.new.items ≡ out.old.items ++ model.results (model.attributes attributes.now)) }
-    ensures err { OnErr result (out.new.items ≡ out.old.items) }
+    ensures err { OnErr result (take (length out.old.items) out.new.items ≡ out.old.items) }
 {
-    let before = out.len();
     put_words(out, &[DONE])?;
-    if put_words(out, &attribute_words(attributes)).is_err() {
-        out.truncate(before);
-        return Err(Memory);
-    }
-    Ok(())
+    put_words(out, &attribute_words(attributes))
+}
+
+// diropres where the file was found (RFC 1094 section 2.3.12)
+#[tactic(auto, using(std::proofs::lemmas::List::append_assoc), unfolding(bfs_model::specs::Replies::results))]
+fn put_found(out: &mut Vec<u8>, file: FileId, attributes: &Attributes) -> Result<(), Memory>
+    ensures ok { OnOk result (out.new.items ≡ out.old.items ++ model.results (model.found file attributes.now)) }
+    ensures err { OnErr result (take (length out.old.items) out.new.items ≡ out.old.items) }
+{
+    put_words(out, &[DONE])?;
+    out.extend_from_slice(&handle_bytes(file))?;
+    put_words(out, &attribute_words(attributes))
+}
+
+// readres where bytes were read (RFC 1094 section 2.2.7)
+#[tactic(auto, using(std::proofs::lemmas::List::append_assoc), unfolding(bfs_model::specs::Replies::results))]
+fn put_contents(out: &mut Vec<u8>, attributes: &Attributes, bytes: &FileBytes) -> Result<(), Memory>
+    ensures ok { OnOk result (out.new.items ≡ out.old.items ++ model.results (model.contents attributes.now bytes.now)) }
+    ensures err { OnErr result (take (length out.old.items) out.new.items ≡ out.old.items) }
+{
+    put_words(out, &[DONE])?;
+    put_words(out, &attribute_words(attributes))?;
+    put_opaque(out, bytes.as_slice())
 }
 
 // the words of an fattr (RFC 1094 section 2.3.5)

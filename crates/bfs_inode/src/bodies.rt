@@ -1,0 +1,88 @@
+ghost use Rattle.std.specs.Prelude.{◌≡◌, ◌+◌, ◌<◌, ◌≤◌, [], ◌∷◌, ◌++◌, length, IsSome, OnOk, OnErr};
+ghost use Rattle.std.specs.Option.{ForSome};
+ghost use Rattle.bfs_model.specs.Tree.{listing_in};
+ghost use Rattle.bfs_model.specs.Attributes.{size_of, type_of};
+ghost use Rattle.bfs_model.specs.Limits.{longest_name, most_bytes, most_entries};
+ghost use Rattle.bfs_model.specs.Changes.{overwritten_body, resized_body, with_listing};
+ghost use Rattle.bfs_types.specs.Attributes.{file_type_of};
+ghost use Rattle.bfs_inode.specs.Inodes.{body_of, file_in};
+
+use crate::bounded::{FileData, LinkPath};
+use crate::directories::Directory;
+use bfs_types::{FileId, FileType, Memory};
+
+/// What an inode holds.
+#[derive(Debug, Drop)]
+pub enum Body {
+    /// A regular file and its bytes.
+    File(FileData),
+    /// A directory and its entries.
+    Directory(Directory),
+    /// A symbolic link and the path that it holds.
+    Link(LinkPath),
+}
+
+impl Body {
+    pub(crate) fn file_type(&self) -> FileType
+        ensures { file_type_of result ≡ type_of (body_of self.now) }
+    {
+        match self {
+            Body::File(_) => FileType::Regular,
+            Body::Directory(_) => FileType::Directory,
+            Body::Link(_) => FileType::SymbolicLink,
+        }
+    }
+
+    /// In bytes; a directory counts 32 for each entry, `.` and `..` among them.
+    pub(crate) fn size(&self) -> u32
+        ensures { result ≡ size_of (body_of self.now) }
+    {
+        match self {
+            Body::File(data) => data.len() as u32,
+            Body::Directory(directory) => 32 * (directory.len() as u32 + 2),
+            Body::Link(path) => path.len() as u32,
+        }
+    }
+
+    /// Of a file; what is no file stays.
+    pub(crate) fn resize(&mut self, size: u32) -> Result<(), Memory>
+        requires { IsSome (file_in (body_of self.old)) → size ≤ most_bytes }
+        ensures ok { OnOk result (body_of self.new ≡ resized_body size (body_of self.old)) }
+        ensures err { OnErr result (body_of self.new ≡ body_of self.old) }
+    {
+        match self {
+            Body::File(data) => data.resize(size as usize),
+            _ => Ok(()),
+        }
+    }
+
+    /// Into a file; what is no file stays.
+    pub(crate) fn write(&mut self, offset: u32, written: &[u8]) -> Result<(), Memory>
+        requires { offset + length written.now ≤ most_bytes }
+        ensures ok { OnOk result (body_of self.new ≡ overwritten_body offset written.now (body_of self.old)) }
+        ensures err { OnErr result (body_of self.new ≡ body_of self.old) }
+    {
+        match self {
+            Body::File(data) => data.write(offset as usize, written),
+            _ => Ok(()),
+        }
+    }
+
+    /// To a directory; what is no directory stays.
+    pub(crate) fn add_entry(
+        &mut self,
+        cookie: u32,
+        name: &[u8],
+        child: FileId,
+    ) -> Result<(), Memory>
+        requires room { ForSome (listing_in (body_of self.old)) (λ listing. length listing.entries < most_entries) }
+        requires short { length name.now ≤ longest_name }
+        ensures ok { OnOk result (body_of self.new ≡ with_listing (λ listing. record listing { entries = listing.entries ++ (record { cookie = cookie; name = name.now; child = child }) ∷ [] }) (body_of self.old)) }
+        ensures err { OnErr result (body_of self.new ≡ body_of self.old) }
+    {
+        match self {
+            Body::Directory(directory) => directory.add(cookie, name, child),
+            _ => Ok(()),
+        }
+    }
+}

@@ -1,0 +1,73 @@
+ghost use Rattle.std.specs.Prelude.{◌≡◌, ◌+◌, ◌<◌, ◌≤◌, length, OnOk, OnErr, IsSome};
+ghost use Rattle.std.specs.Option.{ForSome};
+ghost use Rattle.bfs_model.specs.Tree.{listing_in};
+ghost use Rattle.bfs_model.specs.Limits.{longest_name, most_bytes, most_entries, most_links};
+ghost use Rattle.bfs_model.specs.Changes.{with_bytes, with_entry, with_link, with_settings};
+ghost use Rattle.bfs_inode.specs.Inodes.{file_in};
+
+use crate::inodes::{Inode, permissions_set, time_set};
+use bfs_types::{FileId, Memory, Settings, Time};
+
+impl Inode {
+    /// Sets what SETATTR sets (RFC 1094 section 2.2.3). `Memory`, and nothing changes, where there is no room for a file's
+    /// new size.
+    pub fn set_attributes(&mut self, now: Time, settings: &Settings) -> Result<(), Memory>
+        requires { ForSome settings.now.size (λ size. IsSome (file_in self.old.body) → size ≤ most_bytes) }
+        ensures ok { OnOk result (self.new ≡ with_settings now settings.now self.old) }
+        ensures err { OnErr result (self.new ≡ self.old) }
+    {
+        if let Some(size) = settings.size {
+            self.body.resize(size)?;
+            self.mtime = now;
+        }
+        self.permissions = permissions_set(settings.mode, self.permissions);
+        self.uid = settings.uid.unwrap_or(self.uid);
+        self.gid = settings.gid.unwrap_or(self.gid);
+        self.atime = time_set(now, settings.atime, self.atime);
+        self.mtime = time_set(now, settings.mtime, self.mtime);
+        self.ctime = now;
+        Ok(())
+    }
+
+    /// Writes into a file from an offset on, as WRITE does (RFC 1094 section 2.2.9); the times change of any inode. `Memory`,
+    /// and nothing changes, where there is no room to grow.
+    pub fn write(&mut self, now: Time, offset: u32, bytes: &[u8]) -> Result<(), Memory>
+        requires { offset + length bytes.now ≤ most_bytes }
+        ensures ok { OnOk result (self.new ≡ with_bytes now offset bytes.now self.old) }
+        ensures err { OnErr result (self.new ≡ self.old) }
+    {
+        self.body.write(offset, bytes)?;
+        self.mtime = now;
+        self.ctime = now;
+        Ok(())
+    }
+
+    /// Puts an entry behind the others of a directory; the times change of any inode. `Memory`, and nothing changes, where
+    /// there is no room for it.
+    pub fn add_entry(
+        &mut self,
+        now: Time,
+        cookie: u32,
+        name: &[u8],
+        child: FileId,
+    ) -> Result<(), Memory>
+        requires room { ForSome (listing_in self.old.body) (λ listing. length listing.entries < most_entries) }
+        requires short { length name.now ≤ longest_name }
+        ensures ok { OnOk result (self.new ≡ with_entry now (record { cookie = cookie; name = name.now; child = child }) self.old) }
+        ensures err { OnErr result (self.new ≡ self.old) }
+    {
+        self.body.add_entry(cookie, name, child)?;
+        self.mtime = now;
+        self.ctime = now;
+        Ok(())
+    }
+
+    /// Counts a name more.
+    pub fn add_link(&mut self, now: Time)
+        requires { self.old.links < most_links }
+        ensures { self.new ≡ with_link now self.old }
+    {
+        self.links += 1;
+        self.ctime = now;
+    }
+}
