@@ -4,7 +4,7 @@ ghost use Rattle.std.specs.Prelude.{◌≡◌, IsTrue};
 use bfs_inode::{Directory, FileId, Inode, Store, Tree};
 use bfs_procs::{answer, run};
 use bfs_rpc::{Cred, Reject, parse_call, put_success, write_garbage, write_reject, write_success};
-use bfs_types::{FileType, Memory, Ordinal, Time};
+use bfs_types::{FileType, Memory, Ordinal, SetTime, Settings, Time};
 use bfs_wire::{
     GarbageArgs, NfsCall, NfsReply, Status, handle_bytes, handle_id, parse_args, put_reply,
     write_reply,
@@ -103,15 +103,13 @@ fn runs_calls(rt: HostRuntime) -> Result<(), Fail> {
         uid: 1000,
         gid: 100,
     };
-    for call in [NfsCall::Null, NfsCall::Root, NfsCall::WriteCache] {
-        assert_eq!(rt;
-            run(alloc, &mut tree, ordinal, time, &cred, &call)?,
-            NfsReply::Void
-        );
+    for call in &[NfsCall::Null, NfsCall::Root, NfsCall::WriteCache] {
+        let reply = run(alloc, &mut tree, ordinal, time, &cred, call)?;
+        assert!(rt; matches!(reply, NfsReply::Void));
     }
     let other = NfsCall::GetAttr { file: None };
-    let stale = NfsReply::Refused(Status::Stale);
-    assert_eq!(rt; run(alloc, &mut tree, ordinal, time, &cred, &other)?, stale);
+    let reply = run(alloc, &mut tree, ordinal, time, &cred, &other)?;
+    assert!(rt; matches!(reply, NfsReply::Refused(Status::Stale)));
     let root = NfsCall::GetAttr {
         file: Some(FileId::root()),
     };
@@ -210,6 +208,72 @@ fn keeps_inodes(rt: HostRuntime) -> Result<(), Fail> {
     let root = Inode::root(alloc);
     assert_eq!(rt; root.attributes(FileId::root()).fileid.number(), 2);
     assert!(rt; root.directory().is_some());
+    Ok(())
+}
+
+const UNSET: Settings = Settings {
+    mode: None,
+    uid: None,
+    gid: None,
+    size: None,
+    atime: None,
+    mtime: None,
+};
+
+#[test]
+fn changes_inodes(rt: HostRuntime) -> Result<(), Fail> {
+    let alloc = rt.alloc();
+    let now = Time::new(1, 0).ok_or("a time")?;
+    let caller = Cred {
+        uid: 1000,
+        gid: 100,
+    };
+    let mut file = Inode::new_file(alloc, now, caller, &UNSET)?;
+    assert!(rt; !file.is_directory());
+    assert!(rt; !file.is_link());
+    assert!(rt; file.link().is_none());
+    assert_eq!(rt; file.links(), 1);
+    file.add_link(now);
+    assert_eq!(rt; file.links(), 2);
+    file.write(now, 1, b"ab")?;
+    assert!(rt; file.file().unwrap_or(&[]) == b"\0ab".as_slice());
+    let cut = Settings {
+        size: Some(2),
+        atime: Some(SetTime {
+            seconds: 7,
+            useconds: 5,
+        }),
+        ..UNSET
+    };
+    file.set_attributes(now, &cut)?;
+    assert!(rt; file.file().unwrap_or(&[]) == b"\0a".as_slice());
+    assert_eq!(rt; file.attributes(FileId::new(3)).atime.seconds(), 7);
+    Ok(())
+}
+
+#[test]
+fn changes_directories_and_stores(rt: HostRuntime) -> Result<(), Fail> {
+    let alloc = rt.alloc();
+    let now = Time::epoch();
+    let caller = Cred { uid: 0, gid: 0 };
+    let mut root = Inode::root(alloc);
+    root.add_entry(now, 3, b"a", FileId::new(3))?;
+    let entry = root.directory().and_then(|listing| listing.entry(b"a"));
+    assert!(rt; entry.map(|entry| entry.child) == Some(FileId::new(3)));
+    let first = root.directory().and_then(|listing| listing.at(0));
+    assert!(rt; first.map(|entry| entry.cookie) == Some(3));
+    let mut directory = Directory::new(alloc, FileId::root());
+    directory.add(4, b"b", FileId::new(4))?;
+    assert_eq!(rt; directory.len(), 1);
+    let mut tree = Tree::new(alloc)?;
+    let file = Inode::new_file(alloc, now, caller, &UNSET)?;
+    assert!(rt; tree.insert(FileId::new(3), file).is_ok());
+    if let Some(inode) = tree.get_mut(FileId::new(3)) {
+        inode.add_link(now);
+    }
+    assert!(rt; tree.get(FileId::new(3)).map(|inode| inode.links()) == Some(2));
+    assert!(rt; tree.remove(FileId::new(3)).is_some());
+    assert!(rt; tree.get(FileId::new(3)).is_none());
     Ok(())
 }
 

@@ -199,9 +199,7 @@ fn looks_up_and_sets_attributes(rt: HostRuntime) -> Result<(), Fail> {
             procedure: 2,
             arguments: &[
                 THIRD,
-                &[
-                    0x41ff, 7, 0xffffffff, 3, 5, 1000000, 0xffffffff, 0,
-                ],
+                &[0x41ff, 7, 0xffffffff, 3, 5, 1000000, 0xffffffff, 0],
             ],
             results: &[
                 &[0],

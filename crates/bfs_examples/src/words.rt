@@ -77,18 +77,16 @@ pub fn executes(
     compares(rt, alloc, &replies, steps)
 }
 
-fn compares(
-    rt: &impl Abort,
-    alloc: Global,
-    replies: &Replies,
-    steps: &[Step],
-) -> Result<(), Fail> {
+fn compares(rt: &impl Abort, alloc: Global, replies: &Replies, steps: &[Step]) -> Result<(), Fail> {
     assert_eq!(rt; replies.len(), steps.len());
     let mut xid = 1;
     for index in 0..replies.len() {
         let step = steps.get(index).ok_or("a step for each reply")?;
         let wanted = reply(alloc, xid, step)?;
-        assert_eq!(rt; hex::encode(alloc, replies.get(index))?.as_str(), hex::encode(alloc, wanted.as_slice())?.as_str());
+        assert_eq!(rt;
+            hex::encode(alloc, replies.get(index))?.as_str(),
+            hex::encode(alloc, wanted.as_slice())?.as_str()
+        );
         xid = xid.saturating_add(1);
     }
     Ok(())

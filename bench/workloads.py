@@ -1,0 +1,104 @@
+#!/usr/bin/env python3
+"""Writes a workload as a trace: `workloads.py NAME`, to standard output. `workloads.py --list` names them."""
+import struct
+import sys
+
+MOST_BYTES = 67_108_864  # of a trace
+BATCH = 1_024  # requests of a block
+
+
+def words(*numbers):
+    return struct.pack(f">{len(numbers)}I", *numbers)
+
+
+def call(xid, procedure, arguments):
+    """A call of NFS version 2 with no credential and no verifier (RFC 5531 section 9)."""
+    return words(xid, 0, 2, 100003, 2, procedure, 0, 0, 0, 0) + arguments
+
+
+def handle(fileid):
+    return b"BFS2" + words(1, fileid, 0, 0, 0, 0, 0)
+
+
+def opaque(data):
+    return words(len(data)) + data + bytes(-len(data) % 4)
+
+
+UNSET = words(*[0xFFFFFFFF] * 8)
+
+FIRST = 3  # the ordinal of the first request
+
+
+class Trace:
+    """Requests in blocks, as many as a trace may hold."""
+
+    def __init__(self):
+        self.calls = 0
+        self.bytes = 0
+        self.seconds = 0
+
+    def block(self, requests):
+        self.seconds += 1
+        lines = [f"batch {self.seconds}.000000\n"]
+        for procedure, arguments in requests:
+            self.calls += 1
+            lines.append(f"0 {self.calls} raw {call(self.calls, procedure, arguments).hex()}\n")
+        text = "".join(lines)
+        self.bytes += len(text)
+        if self.bytes > MOST_BYTES:
+            return False
+        sys.stdout.write(text)
+        return True
+
+    def blocks(self, requests):
+        requests = list(requests)
+        return all(self.block(requests[i : i + BATCH]) for i in range(0, len(requests), BATCH))
+
+
+def getattr(trace):
+    """400,000 GETATTRs of the root."""
+    trace.blocks([(1, handle(2))] * 400_000)
+
+
+def write(trace):
+    """1,024 files, then batches of 1,024 WRITEs of 8,192 bytes, one to each, as many as a trace holds."""
+    trace.blocks((9, handle(2) + opaque(b"f%d" % i) + UNSET) for i in range(BATCH))
+    data = bytes(i % 251 for i in range(8_192))
+    offset = 0
+    while trace.block((8, handle(FIRST + i) + words(0, offset, 0) + opaque(data)) for i in range(BATCH)):
+        offset += 8_192
+
+
+def read(trace):
+    """A file of 1,048,576 bytes, then 200,000 READs of 64 bytes all over it."""
+    trace.blocks([(9, handle(2) + opaque(b"f") + UNSET), (8, handle(FIRST) + words(0, 1_048_575, 0) + opaque(b"x"))])
+    trace.blocks((6, handle(FIRST) + words(i * 8_191 % 1_048_512, 64, 0)) for i in range(200_000))
+
+
+def create(trace):
+    """500 directories, then 50,000 CREATEs spread over them."""
+    trace.blocks((14, handle(2) + opaque(b"d%d" % i) + UNSET) for i in range(500))
+    trace.blocks((9, handle(FIRST + i % 500) + opaque(b"f%d" % i) + UNSET) for i in range(50_000))
+
+
+def rename(trace):
+    """100 directories with 100 files each, then 50,000 RENAMEs of files between them."""
+    trace.blocks((14, handle(2) + opaque(b"d%d" % i) + UNSET) for i in range(100))
+    trace.blocks((9, handle(FIRST + i % 100) + opaque(b"f%d" % (i // 100)) + UNSET) for i in range(10_000))
+    trace.blocks(
+        (11, handle(FIRST + (i // 10_000 + i) % 100) + opaque(b"f%d" % (i // 100 % 100)) + handle(FIRST + (i // 10_000 + i + 1) % 100) + opaque(b"f%d" % (i // 100 % 100)))
+        for i in range(50_000)
+    )
+
+
+WORKLOADS = {"getattr": getattr, "write": write, "read": read, "create": create, "rename": rename}
+
+if __name__ == "__main__":
+    if sys.argv[1:] == ["--list"]:
+        for name, make in WORKLOADS.items():
+            print(f"{name}: {make.__doc__}")
+    elif len(sys.argv) == 2 and sys.argv[1] in WORKLOADS:
+        trace = Trace()
+        WORKLOADS[sys.argv[1]](trace)
+    else:
+        sys.exit("usage: workloads.py NAME | --list")
