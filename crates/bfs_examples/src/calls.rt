@@ -268,8 +268,9 @@ fn changes_directories_and_stores(rt: HostRuntime) -> Result<(), Fail> {
     let mut tree = Tree::new(alloc)?;
     let file = Inode::new_file(alloc, now, caller, &UNSET)?;
     assert!(rt; tree.insert(FileId::new(3), file).is_ok());
-    if let Some(inode) = tree.get_mut(FileId::new(3)) {
-        inode.add_link(now);
+    match tree.get_mut(FileId::new(3)) {
+        Some(inode) if inode.links() == 1 => inode.add_link(now),
+        _ => assert!(rt; false, "the file is there, with one link"),
     }
     assert!(rt; tree.get(FileId::new(3)).map(|inode| inode.links()) == Some(2));
     assert!(rt; tree.remove(FileId::new(3)).is_some());
