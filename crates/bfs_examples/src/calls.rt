@@ -1,5 +1,7 @@
 //! Calls and their replies, one at a time (RFC 5531 section 9, RFC 1094 section 2.2).
 ghost use Rattle.std.specs.Prelude.{◌≡◌, IsTrue};
+ghost use Rattle.bfs_model.specs.Short.{IsShort};
+ghost use Rattle.bfs_wire.specs.Calls.{call_of};
 
 use bfs_inode::{Directory, FileId, Inode, Store, Tree};
 use bfs_procs::{answer, run};
@@ -208,6 +210,47 @@ fn keeps_inodes(rt: HostRuntime) -> Result<(), Fail> {
     let root = Inode::root(alloc);
     assert_eq!(rt; root.attributes(FileId::root()).fileid.number(), 2);
     assert!(rt; root.directory().is_some());
+    Ok(())
+}
+
+// a whole store knows what any call reads, and owns what it writes
+#[tactic(auto, using(bfs_serial::proofs::Whole::knows_all_touched))]
+fn run_whole<S: Store>(
+    alloc: Global,
+    store: &mut S,
+    ordinal: Ordinal,
+    call: &NfsCall,
+) -> Result<NfsReply, Memory>
+    requires whole { IsTrue ((S.reach store.old).whole) }
+    requires short { IsShort (call_of call.now) }
+    ensures { S.reach store.new ≡ S.reach store.old }
+{
+    let caller = Cred { uid: 0, gid: 0 };
+    run(alloc, store, ordinal, Time::epoch(), &caller, call)
+}
+
+#[test]
+fn makes_no_file_at_a_spent_ordinal_or_above_the_limit(rt: HostRuntime) -> Result<(), Fail> {
+    let alloc = rt.alloc();
+    let mut tree = Tree::new(alloc)?;
+    let spent = Ordinal::new(4_294_967_296).ok_or("an ordinal")?;
+    let unset = NfsCall::Create {
+        dir: Some(FileId::root()),
+        name: b"a",
+        settings: UNSET,
+    };
+    let reply = run_whole(alloc, &mut tree, spent, &unset)?;
+    assert!(rt; matches!(reply, NfsReply::Refused(Status::NoSpc)));
+    let too_large = NfsCall::Create {
+        dir: Some(FileId::root()),
+        name: b"a",
+        settings: Settings {
+            size: Some(1_048_577),
+            ..UNSET
+        },
+    };
+    let reply = run_whole(alloc, &mut tree, Ordinal::first(), &too_large)?;
+    assert!(rt; matches!(reply, NfsReply::Refused(Status::FBig)));
     Ok(())
 }
 

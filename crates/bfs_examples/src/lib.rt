@@ -11,6 +11,8 @@ mod files;
 #[cfg(test)]
 mod items;
 #[cfg(test)]
+mod many;
+#[cfg(test)]
 mod traces;
 #[cfg(test)]
 mod words;

@@ -25,7 +25,8 @@ pub const THIRD: &[u32] = &[0x42465332, 1, 3, 0, 0, 0, 0, 0];
 
 pub const FOURTH: &[u32] = &[0x42465332, 1, 4, 0, 0, 0, 0, 0];
 
-fn put_words(bytes: &mut Vec<u8>, words: &[u32]) -> Result<(), Memory> {
+/// Appends words.
+pub fn put_words(bytes: &mut Vec<u8>, words: &[u32]) -> Result<(), Memory> {
     for word in words {
         put_u32(bytes, *word)?;
     }
@@ -39,13 +40,15 @@ fn put_parts(bytes: &mut Vec<u8>, parts: &[&[u32]]) -> Result<(), Memory> {
     Ok(())
 }
 
-// a call of RPC version 2 with no credential and no verifier
-fn request(alloc: Global, xid: u32, step: &Step) -> Result<Vec<u8>, Memory> {
+/// The head of a call of RPC version 2 with no credential and no verifier.
+pub fn call(alloc: Global, xid: u32, procedure: u32) -> Result<Vec<u8>, Memory> {
     let mut bytes = Vec::new(alloc);
-    put_words(
-        &mut bytes,
-        &[xid, 0, 2, 100003, 2, step.procedure, 0, 0, 0, 0],
-    )?;
+    put_words(&mut bytes, &[xid, 0, 2, 100003, 2, procedure, 0, 0, 0, 0])?;
+    Ok(bytes)
+}
+
+fn request(alloc: Global, xid: u32, step: &Step) -> Result<Vec<u8>, Memory> {
+    let mut bytes = call(alloc, xid, step.procedure)?;
     put_parts(&mut bytes, step.arguments)?;
     Ok(bytes)
 }
