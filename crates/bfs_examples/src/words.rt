@@ -7,26 +7,26 @@ use std::process::Abort;
 use std::test::Fail;
 
 /// A call with its number, the words of its arguments and those of the results that it is to get.
-pub struct Step {
-    pub procedure: u32,
-    pub arguments: &'static [&'static [u32]],
-    pub results: &'static [&'static [u32]],
+pub(crate) struct Step {
+    pub(crate) procedure: u32,
+    pub(crate) arguments: &'static [&'static [u32]],
+    pub(crate) results: &'static [&'static [u32]],
 }
 
 /// The words of settings that set nothing.
-pub const UNSET: &[u32] = &[
+pub(crate) const UNSET: &[u32] = &[
     0xffffffff, 0xffffffff, 0xffffffff, 0xffffffff, 0xffffffff, 0xffffffff, 0xffffffff, 0xffffffff,
 ];
 
 /// The words of the root's file handle, and of those of the first files that are made.
-pub const ROOT: &[u32] = &[0x42465332, 1, 2, 0, 0, 0, 0, 0];
+pub(crate) const ROOT: &[u32] = &[0x42465332, 1, 2, 0, 0, 0, 0, 0];
 
-pub const THIRD: &[u32] = &[0x42465332, 1, 3, 0, 0, 0, 0, 0];
+pub(crate) const THIRD: &[u32] = &[0x42465332, 1, 3, 0, 0, 0, 0, 0];
 
-pub const FOURTH: &[u32] = &[0x42465332, 1, 4, 0, 0, 0, 0, 0];
+pub(crate) const FOURTH: &[u32] = &[0x42465332, 1, 4, 0, 0, 0, 0, 0];
 
 /// Appends words.
-pub fn put_words(bytes: &mut Vec<u8>, words: &[u32]) -> Result<(), Memory> {
+pub(crate) fn put_words(bytes: &mut Vec<u8>, words: &[u32]) -> Result<(), Memory> {
     for word in words {
         put_u32(bytes, *word)?;
     }
@@ -41,7 +41,7 @@ fn put_parts(bytes: &mut Vec<u8>, parts: &[&[u32]]) -> Result<(), Memory> {
 }
 
 /// The head of a call of RPC version 2 with no credential and no verifier.
-pub fn call(alloc: Global, xid: u32, procedure: u32) -> Result<Vec<u8>, Memory> {
+pub(crate) fn call(alloc: Global, xid: u32, procedure: u32) -> Result<Vec<u8>, Memory> {
     let mut bytes = Vec::new(alloc);
     put_words(&mut bytes, &[xid, 0, 2, 100003, 2, procedure, 0, 0, 0, 0])?;
     Ok(bytes)
@@ -62,7 +62,7 @@ fn reply(alloc: Global, xid: u32, step: &Step) -> Result<Vec<u8>, Memory> {
 }
 
 /// Executes the calls as one batch at that second, with the xids 1, 2 and so on, and compares each reply.
-pub fn executes(
+pub(crate) fn executes(
     rt: &impl Abort,
     alloc: Global,
     files: &mut FileSystem,
