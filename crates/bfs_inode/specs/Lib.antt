@@ -3,3 +3,4 @@ pub mod Seen
 pub mod Reach
 pub mod Lending
 pub mod Maps
+pub mod Pages

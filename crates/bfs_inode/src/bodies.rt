@@ -4,6 +4,7 @@ ghost use Rattle.bfs_model.specs.Tree.{listing_in};
 ghost use Rattle.bfs_model.specs.Attributes.{size_of, type_of};
 ghost use Rattle.bfs_model.specs.Limits.{longest_name, most_bytes, most_entries};
 ghost use Rattle.bfs_model.specs.Changes.{overwritten_body, resized_body, with_listing};
+ghost use Rattle.bfs_model.specs.Directories.{without_name};
 ghost use Rattle.bfs_types.specs.Attributes.{file_type_of};
 ghost use Rattle.bfs_inode.specs.Inodes.{body_of, file_in};
 
@@ -35,7 +36,8 @@ impl Body {
 
     /// In bytes; a directory counts 32 for each entry, `.` and `..` among them.
     pub(crate) fn size(&self) -> u32
-        ensures { result ≡ size_of (body_of self.now) }
+        ensures value { result ≡ size_of (body_of self.now) }
+        ensures within { result ≤ 2097216 }
     {
         match self {
             Body::File(data) => data.len() as u32,
@@ -83,6 +85,24 @@ impl Body {
         match self {
             Body::Directory(directory) => directory.add(cookie, name, child),
             _ => Ok(()),
+        }
+    }
+
+    /// From a directory; what is no directory stays.
+    pub(crate) fn drop_entry(&mut self, name: &[u8])
+        ensures { body_of self.new ≡ with_listing (λ listing. record listing { entries = without_name name.now listing.entries }) (body_of self.old) }
+    {
+        if let Body::Directory(directory) = self {
+            directory.drop_entry(name);
+        }
+    }
+
+    /// Of a directory; what is no directory stays.
+    pub(crate) fn set_parent(&mut self, parent: FileId)
+        ensures { body_of self.new ≡ with_listing (λ listing. record listing { parent = parent }) (body_of self.old) }
+    {
+        if let Body::Directory(directory) = self {
+            directory.set_parent(parent);
         }
     }
 }

@@ -61,7 +61,8 @@ impl<const MOST: usize> Bytes<MOST> {
 
     /// The bytes.
     pub fn as_slice(&self) -> &[u8]
-        ensures { result.now ≡ self.now }
+        ensures value { result.now ≡ self.now }
+        ensures within { length result.now ≤ MOST }
     {
         self.bytes.as_slice()
     }

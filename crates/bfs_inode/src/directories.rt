@@ -3,9 +3,11 @@ ghost use Rattle.std.specs.Option.{option_copied};
 ghost use Rattle.bfs_model.specs.Directories.{entry_named};
 
 mod changes;
+mod pages;
 
 use crate::bounded::Name;
 use bfs_types::FileId;
+pub use pages::{Listed, Page};
 use std::alloc::Global;
 use std::marker::Model;
 

@@ -1,16 +1,18 @@
-ghost use Rattle.std.specs.Prelude.{◌≡◌, ◌<◌, ◌≤◌, unwrap_or, is_some, option_map, IfOk};
+ghost use Rattle.std.specs.Prelude.{◌≡◌, ◌<◌, ◌≤◌, length, unwrap_or, is_some, option_map, IfOk, IfSome};
 ghost use Rattle.std.specs.Option.{option_copied, option_map_or};
 ghost use Rattle.bfs_model.specs.Tree.{new_root, is_directory_body, listing_in};
-ghost use Rattle.bfs_model.specs.Attributes.{attributes_of};
-ghost use Rattle.bfs_model.specs.Limits.{most_bytes, most_links};
+ghost use Rattle.bfs_model.specs.Attributes.{attributes_of, blocks_of, size_of};
+ghost use Rattle.bfs_model.specs.Limits.{longest_path, most_bytes, most_links};
 ghost use Rattle.bfs_model.specs.Changes.{new_inode, permission_bits, time_or};
 ghost use Rattle.bfs_model.specs.Procedures.OfFiles.{new_file};
+ghost use Rattle.bfs_model.specs.Procedures.OfDirectories.{new_directory};
+ghost use Rattle.bfs_model.specs.Procedures.OfLinks.{new_symbolic_link};
 ghost use Rattle.bfs_inode.specs.Inodes.{body_of, file_in, path_in};
 
 mod changes;
 
 use crate::bodies::Body;
-use crate::bounded::FileData;
+use crate::bounded::{FileData, LinkPath};
 use crate::directories::Directory;
 use bfs_types::{Attributes, Cred, FileId, Memory, SetTime, Settings, Time};
 use std::alloc::Global;
@@ -74,6 +76,38 @@ impl Inode {
         Ok(Inode::made(now, caller, settings, permissions, 1, Body::File(bytes)))
     }
 
+    /// A new directory with no entries below that one, with two links and, where no mode is set, mode 0755. It is the caller's
+    /// where no owner is set.
+    pub fn new_directory(
+        alloc: Global,
+        now: Time,
+        caller: Cred,
+        settings: &Settings,
+        parent: FileId,
+    ) -> Inode
+        ensures { result ≡ new_directory now caller settings.now parent }
+    {
+        let permissions = permissions_set(settings.mode, 0o755);
+        let body = Body::Directory(Directory::new(alloc, parent));
+        Inode::made(now, caller, settings, permissions, 2, body)
+    }
+
+    /// A new symbolic link that holds that path, with one link and mode 0777. It is the caller's where no owner is set.
+    /// `Memory` where there is no room for the path.
+    pub fn new_symbolic_link(
+        alloc: Global,
+        now: Time,
+        caller: Cred,
+        settings: &Settings,
+        target: &[u8],
+    ) -> Result<Inode, Memory>
+        requires { length target.now ≤ longest_path }
+        ensures { IfOk result (λ inode. inode ≡ new_symbolic_link now caller settings.now target.now) }
+    {
+        let body = Body::Link(LinkPath::new(alloc, target)?);
+        Ok(Inode::made(now, caller, settings, 0o777, 1, body))
+    }
+
     fn made(
         now: Time,
         caller: Cred,
@@ -120,9 +154,18 @@ impl Inode {
         self.links
     }
 
+    /// How many blocks it takes, of 4,096 bytes each.
+    pub fn blocks(&self) -> u32
+        ensures value { result ≡ blocks_of (size_of self.now.body) }
+        ensures within { result ≤ 513 }
+    {
+        self.body.size().div_ceil(4096)
+    }
+
     /// The bytes, where it is a file.
     pub fn file(&self) -> Option<&[u8]>
-        ensures { option_map (λ bytes. bytes.now) result ≡ file_in self.now.body }
+        ensures value { option_map (λ bytes. bytes.now) result ≡ file_in self.now.body }
+        ensures within { IfSome result (λ bytes. length bytes.now ≤ most_bytes) }
     {
         match &self.body {
             Body::File(data) => Some(data.as_slice()),
@@ -132,7 +175,8 @@ impl Inode {
 
     /// The path, where it is a symbolic link.
     pub fn link(&self) -> Option<&[u8]>
-        ensures { option_map (λ path. path.now) result ≡ path_in self.now.body }
+        ensures value { option_map (λ path. path.now) result ≡ path_in self.now.body }
+        ensures within { IfSome result (λ path. length path.now ≤ longest_path) }
     {
         match &self.body {
             Body::Link(path) => Some(path.as_slice()),

@@ -11,7 +11,7 @@ mod trees;
 pub use bfs_types::{FileId, Time};
 pub use bodies::Body;
 pub use bounded::{FileData, LinkPath, Name};
-pub use directories::{Directory, Entry};
+pub use directories::{Directory, Entry, Listed, Page};
 pub use inodes::Inode;
 pub use store::Store;
 pub use trees::Tree;

@@ -1,8 +1,9 @@
 ghost use Rattle.std.specs.Prelude.{◌≡◌, ℕ, Bool, true, IsTrue, OnOk, OnErr, IfErr};
 ghost use Rattle.std.specs.Option.{option_copied, option_copied_mut};
 ghost use Rattle.std.specs.Borrow.{sem};
-ghost use Rattle.std.specs.FinMap.{get, insert, remove};
+ghost use Rattle.std.specs.FinMap.{get, insert, len, remove};
 ghost use Rattle.bfs_model.specs.Tree.{Inodes};
+ghost use Rattle.bfs_model.specs.Procedures.OfStatus.{used_blocks};
 ghost use Rattle.bfs_inode.specs.Reach.{Reach};
 ghost use Rattle.bfs_inode.specs.Lending.{LendsInode};
 
@@ -21,6 +22,16 @@ pub trait Store {
     /// Whether it knows and owns every fileid.
     fn is_whole(&self) -> bool
         ensures { result ≡ (reach self.now).whole };
+
+    /// How many inodes there are; of a store that is whole.
+    fn count(&self) -> usize
+        requires { IsTrue ((reach self.now).whole) }
+        ensures { result ≡ len (inodes self.now) };
+
+    /// How many blocks of 4,096 bytes all inodes take; of a store that is whole.
+    fn used_blocks(&self) -> u64
+        requires { IsTrue ((reach self.now).whole) }
+        ensures { result ≡ used_blocks (inodes self.now) };
 
     /// Whether it knows what has the fileid, if only that nothing has.
     fn knows(&self, id: FileId) -> bool

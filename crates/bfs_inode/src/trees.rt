@@ -1,7 +1,10 @@
 ghost use Rattle.std.specs.Prelude.{◌≡◌, IfOk, true, refl};
 ghost use Rattle.std.specs.Option.{option_copied};
-ghost use Rattle.std.specs.FinMap.{get};
+ghost use Rattle.std.specs.FinMap.{get, keys};
+ghost use Rattle.std.specs.List.Sorted.{IsStrictlyIncreasing};
 ghost use Rattle.bfs_model.specs.Tree.{Inodes, new_tree};
+ghost use Rattle.bfs_model.specs.Procedures.OfStatus.{used_blocks};
+ghost use Rattle.bfs_inode.specs.Maps.{map_of};
 ghost use Rattle.bfs_inode.specs.Reach.{Reach, everywhere};
 
 use crate::inodes::Inode;
@@ -9,6 +12,7 @@ use crate::store::Store;
 use bfs_types::{FileId, Memory};
 use std::alloc::Global;
 use std::collections::BTreeMap;
+use std::collections::btree_map::Keys;
 use std::marker::Model;
 
 /// All inodes of a file system by their fileids.
@@ -41,6 +45,14 @@ impl Tree {
         inodes.insert(FileId::root().number(), Inode::root(alloc))?;
         Ok(Tree { inodes })
     }
+
+    /// The numbers of the fileids that have an inode; they rise.
+    pub fn ids(&self) -> Keys<'_, u32, Inode>
+        ensures value { result ≡ keys self.now }
+        ensures rising { IsStrictlyIncreasing result }
+    {
+        self.inodes.keys()
+    }
 }
 
 impl Store for Tree {
@@ -56,6 +68,14 @@ impl Store for Tree {
 
     fn is_whole(&self) -> bool {
         true
+    }
+
+    fn count(&self) -> usize {
+        self.inodes.len()
+    }
+
+    fn used_blocks(&self) -> u64 {
+        blocks_in_all(&self.inodes)
     }
 
     fn knows(&self, _id: FileId) -> bool {
@@ -80,4 +100,16 @@ impl Store for Tree {
     fn remove(&mut self, id: FileId) -> Option<Inode> {
         self.inodes.remove(&id.number())
     }
+}
+
+fn blocks_in_all(inodes: &BTreeMap<u32, Inode>) -> u64
+    ensures { result ≡ used_blocks (map_of inodes.now) }
+{
+    let mut blocks = 0;
+    for (id, inode) in inodes.iter() {
+        // there are no more inodes before this one than fileids below its own
+        prove!(blocks <= 513 * *id as u64);
+        blocks += inode.blocks() as u64;
+    }
+    blocks
 }

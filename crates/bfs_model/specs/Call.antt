@@ -108,9 +108,9 @@ only_if false refusal = Err refusal
 abbrev pub is_procedure : ℕ → Bool
 is_procedure procedure = nat_le procedure 17
 
--- those that the code serves by now: all up to CREATE but READLINK
+-- those that the code serves: all of them
 abbrev pub is_served : ℕ → Bool
-is_served procedure = nat_le procedure 4 || nat_le 6 procedure && nat_le procedure 9
+is_served procedure = is_procedure procedure
 
 -- of a server that serves some of the procedures
 unfoldable pub call_of : (served : ℕ → Bool) → List ℕ → Result Request Refusal

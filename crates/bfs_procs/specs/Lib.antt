@@ -1,1 +1,4 @@
 pub mod Files
+pub mod Renaming
+pub mod Moves
+pub mod Plans

@@ -84,7 +84,8 @@ pub(crate) fn create<S: Store>(
     }
 }
 
-fn found(id: FileId, inode: &Inode) -> NfsReply
+/// What is answered with the inode of that fileid.
+pub(crate) fn found(id: FileId, inode: &Inode) -> NfsReply
     ensures { reply_of result ≡ replies.found id (attributes_of id inode.now) }
 {
     NfsReply::Found {
@@ -126,8 +127,12 @@ fn new_file_id(
     Ok(id)
 }
 
-// the fileid for a new name in a directory, or why there is none
-fn new_name(ordinal: Ordinal, directory: &Directory, name: &[u8]) -> Result<FileId, Status>
+/// The fileid for a new name in a directory, or why there is none.
+pub(crate) fn new_name(
+    ordinal: Ordinal,
+    directory: &Directory,
+    name: &[u8],
+) -> Result<FileId, Status>
     ensures refused { option_map status_of (result_err result) ≡ first_of (new_name_refusals ordinal directory.now name.now) }
     ensures value { IfOk result (λ id. id ≡ ordinal) }
     ensures new { IfOk result (λ id. id < spent_ordinal) }

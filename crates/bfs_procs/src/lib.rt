@@ -5,10 +5,17 @@ mod answering;
 mod attributes;
 mod context;
 mod directories;
+mod file_system;
 mod files;
 mod limits;
+mod links;
+mod listing;
+mod making;
 mod names;
+mod removing;
+mod renaming;
 mod running;
+mod steps;
 
 pub use answering::answer;
 pub use running::run;

@@ -9,7 +9,13 @@ ghost use Rattle.bfs_model.specs.Short.{IsShort};
 use crate::attributes::{get_attributes, set_attributes};
 use crate::context::Context;
 use crate::directories::{create, look_up};
+use crate::file_system::file_system_status;
 use crate::files::{read, write};
+use crate::links::{link, make_symbolic_link, read_link};
+use crate::listing::read_directory;
+use crate::making::make_directory;
+use crate::removing::{remove, remove_directory};
+use crate::renaming::rename;
 use bfs_inode::{Store, Time};
 use bfs_rpc::Cred;
 use bfs_types::{Memory, Ordinal};
@@ -41,6 +47,7 @@ pub fn run<S: Store>(
         NfsCall::GetAttr { file } => Ok(get_attributes(store, file)),
         NfsCall::SetAttr { file, settings } => set_attributes(store, time, file, &settings),
         NfsCall::LookUp { dir, name } => Ok(look_up(store, dir, name)),
+        NfsCall::ReadLink { file } => read_link(alloc, store, file),
         NfsCall::Read {
             file,
             offset,
@@ -56,5 +63,29 @@ pub fn run<S: Store>(
             name,
             settings,
         } => create(alloc, store, context, dir, name, &settings),
+        NfsCall::Remove { dir, name } => Ok(remove(store, time, dir, name)),
+        NfsCall::Rename {
+            from,
+            from_name,
+            to,
+            to_name,
+        } => rename(store, context, from, from_name, to, to_name),
+        NfsCall::Link { file, dir, name } => link(store, context, file, dir, name),
+        NfsCall::SymbolicLink {
+            dir,
+            name,
+            path,
+            settings,
+        } => make_symbolic_link(alloc, store, context, dir, name, path, &settings),
+        NfsCall::MakeDirectory {
+            dir,
+            name,
+            settings,
+        } => make_directory(alloc, store, context, dir, name, &settings),
+        NfsCall::RemoveDirectory { dir, name } => Ok(remove_directory(store, time, dir, name)),
+        NfsCall::ReadDirectory { dir, cookie, count } => {
+            read_directory(alloc, store, dir, cookie, count)
+        }
+        NfsCall::FileSystemStatus { file } => Ok(file_system_status(store, file)),
     }
 }

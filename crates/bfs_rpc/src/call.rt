@@ -39,6 +39,9 @@ const NFS_PROGRAM: u32 = 100_003;
 
 const NFS_VERSION: u32 = 2;
 
+// STATFS (RFC 1094 section 2.2.18)
+const LAST_PROCEDURE: u32 = 17;
+
 // the most bytes of a credential's or a verifier's body (RFC 5531 section 8.2, opaque_auth)
 const MAX_AUTH_BYTES: u32 = 400;
 
@@ -74,7 +77,7 @@ pub fn parse_call(bytes: &[u8]) -> Result<Call<'_>, Reject>
 fn is_served(procedure: u32) -> bool
     ensures { result ≡ model.is_served procedure }
 {
-    matches!(procedure, 0..=4 | 6..=9)
+    procedure <= LAST_PROCEDURE
 }
 
 #[tactic(auto, unfolding(bfs_model::specs::Call::header_of))]

@@ -13,6 +13,12 @@ pub struct ReplyBytes<const MOST: usize> {
 /// Bytes of a file that READ gives: at most 8,192 (RFC 1094 section 2.3.11, nfsdata).
 pub type FileBytes = ReplyBytes<8192>;
 
+/// The path that READLINK gives: at most 1,024 bytes (RFC 1094 section 2.3.10, path).
+pub type PathBytes = ReplyBytes<1024>;
+
+/// A name that READDIR lists: at most 255 bytes (RFC 1094 section 2.3.9, filename).
+pub type NameBytes = ReplyBytes<255>;
+
 impl<const MOST: usize> Model for ReplyBytes<MOST> {
     ghost use Rattle.std.specs.Prelude.{ℕ, List, ◌≤◌, length};
 

@@ -6,13 +6,17 @@ ghost use Rattle.bfs_model.specs.Arguments as model;
 ghost use Rattle.bfs_wire.specs.Calls.{call_of};
 ghost use Rattle.bfs_model.specs.Short.{IsShort};
 
-use crate::forms::{create, get_attributes, look_up, read, set_attributes, write};
+use crate::forms::{
+    create, file_system_status, get_attributes, link, look_up, make_directory, read,
+    read_directory, read_link, remove, remove_directory, rename, set_attributes, symbolic_link,
+    write,
+};
 use crate::garbage::GarbageArgs;
 use bfs_types::{FileId, Settings};
 use bfs_xdr::Reader;
 
 /// A procedure with its arguments (RFC 1094 section 2.2). A file handle is the file that it leads to, or `None` where it is
-/// not one of ours. Names and file bytes are those of the request.
+/// not one of ours. Names, paths and file bytes are those of the request.
 #[derive(Clone, Copy, Debug, PartialEq, Eq)]
 pub enum NfsCall<'a> {
     /// Do nothing.
@@ -33,6 +37,10 @@ pub enum NfsCall<'a> {
         dir: Option<FileId>,
         name: &'a [u8],
     },
+    /// The path of a symbolic link.
+    ReadLink {
+        file: Option<FileId>,
+    },
     /// At most `count` bytes of a file, from an offset on.
     Read {
         file: Option<FileId>,
@@ -52,6 +60,52 @@ pub enum NfsCall<'a> {
         dir: Option<FileId>,
         name: &'a [u8],
         settings: Settings,
+    },
+    /// Remove a name, which is no directory's.
+    Remove {
+        dir: Option<FileId>,
+        name: &'a [u8],
+    },
+    /// Give a file another name, in that directory or in another.
+    Rename {
+        from: Option<FileId>,
+        from_name: &'a [u8],
+        to: Option<FileId>,
+        to_name: &'a [u8],
+    },
+    /// Give a file one more name.
+    Link {
+        file: Option<FileId>,
+        dir: Option<FileId>,
+        name: &'a [u8],
+    },
+    /// Make a symbolic link that holds a path.
+    SymbolicLink {
+        dir: Option<FileId>,
+        name: &'a [u8],
+        path: &'a [u8],
+        settings: Settings,
+    },
+    /// Make a directory.
+    MakeDirectory {
+        dir: Option<FileId>,
+        name: &'a [u8],
+        settings: Settings,
+    },
+    /// Remove an empty directory.
+    RemoveDirectory {
+        dir: Option<FileId>,
+        name: &'a [u8],
+    },
+    /// The entries of a directory behind a cookie, as many as `count` bytes hold.
+    ReadDirectory {
+        dir: Option<FileId>,
+        cookie: u32,
+        count: u32,
+    },
+    /// How much room the file system has.
+    FileSystemStatus {
+        file: Option<FileId>,
     },
 }
 
@@ -86,10 +140,19 @@ fn fields<'a>(procedure: u32, reader: &mut Reader<'a>) -> Option<NfsCall<'a>>
         2 => set_attributes(reader),
         3 => Some(NfsCall::Root),
         4 => look_up(reader),
+        5 => read_link(reader),
         6 => read(reader),
         7 => Some(NfsCall::WriteCache),
         8 => write(reader),
         9 => create(reader),
+        10 => remove(reader),
+        11 => rename(reader),
+        12 => link(reader),
+        13 => symbolic_link(reader),
+        14 => make_directory(reader),
+        15 => remove_directory(reader),
+        16 => read_directory(reader),
+        17 => file_system_status(reader),
         _ => None,
     }
 }

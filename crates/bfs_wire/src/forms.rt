@@ -6,7 +6,7 @@ ghost use Rattle.bfs_wire.specs.Calls.{call_of};
 ghost use Rattle.bfs_model.specs.Short.{IsShort};
 
 use crate::call::NfsCall;
-use crate::parts::{data, file, name, settings, word};
+use crate::parts::{data, file, name, path, settings, word};
 use bfs_xdr::Reader;
 
 // GETATTR (RFC 1094 section 2.2.2)
@@ -47,6 +47,19 @@ pub(crate) fn look_up<'a>(reader: &mut Reader<'a>) -> Option<NfsCall<'a>>
     Some(NfsCall::LookUp {
         dir: file(reader)?,
         name: name(reader)?,
+    })
+}
+
+// READLINK (RFC 1094 section 2.2.6)
+#[tactic(auto, unfolding(bfs_model::specs::Arguments::file_at))]
+pub(crate) fn read_link<'a>(reader: &mut Reader<'a>) -> Option<NfsCall<'a>>
+    requires { reader.old.strict ≡ false }
+    ensures value { option_map (λ call. (call_of call, reader.new.left)) result ≡ model.file_at model.read_link reader.old.left }
+    ensures lenient { IfSome result (λ call. reader.new.strict ≡ false) }
+    ensures short { IfSome result (λ call. IsShort (call_of call)) }
+{
+    Some(NfsCall::ReadLink {
+        file: file(reader)?,
     })
 }
 
@@ -101,5 +114,123 @@ pub(crate) fn create<'a>(reader: &mut Reader<'a>) -> Option<NfsCall<'a>>
         dir: file(reader)?,
         name: name(reader)?,
         settings: settings(reader)?,
+    })
+}
+
+// REMOVE (RFC 1094 section 2.2.11)
+#[tactic(auto, unfolding(bfs_model::specs::Arguments::named_at))]
+pub(crate) fn remove<'a>(reader: &mut Reader<'a>) -> Option<NfsCall<'a>>
+    requires { reader.old.strict ≡ false }
+    ensures value { option_map (λ call. (call_of call, reader.new.left)) result ≡ model.named_at model.remove reader.old.left }
+    ensures lenient { IfSome result (λ call. reader.new.strict ≡ false) }
+    ensures short { IfSome result (λ call. IsShort (call_of call)) }
+{
+    Some(NfsCall::Remove {
+        dir: file(reader)?,
+        name: name(reader)?,
+    })
+}
+
+// RENAME (RFC 1094 section 2.2.12)
+#[tactic(auto, unfolding(bfs_model::specs::Arguments::rename_at))]
+pub(crate) fn rename<'a>(reader: &mut Reader<'a>) -> Option<NfsCall<'a>>
+    requires { reader.old.strict ≡ false }
+    ensures value { option_map (λ call. (call_of call, reader.new.left)) result ≡ model.rename_at reader.old.left }
+    ensures lenient { IfSome result (λ call. reader.new.strict ≡ false) }
+    ensures short { IfSome result (λ call. IsShort (call_of call)) }
+{
+    Some(NfsCall::Rename {
+        from: file(reader)?,
+        from_name: name(reader)?,
+        to: file(reader)?,
+        to_name: name(reader)?,
+    })
+}
+
+// LINK (RFC 1094 section 2.2.13)
+#[tactic(auto, unfolding(bfs_model::specs::Arguments::link_at))]
+pub(crate) fn link<'a>(reader: &mut Reader<'a>) -> Option<NfsCall<'a>>
+    requires { reader.old.strict ≡ false }
+    ensures value { option_map (λ call. (call_of call, reader.new.left)) result ≡ model.link_at reader.old.left }
+    ensures lenient { IfSome result (λ call. reader.new.strict ≡ false) }
+    ensures short { IfSome result (λ call. IsShort (call_of call)) }
+{
+    Some(NfsCall::Link {
+        file: file(reader)?,
+        dir: file(reader)?,
+        name: name(reader)?,
+    })
+}
+
+// SYMLINK (RFC 1094 section 2.2.14)
+#[tactic(auto, unfolding(bfs_model::specs::Arguments::symbolic_link_at))]
+pub(crate) fn symbolic_link<'a>(reader: &mut Reader<'a>) -> Option<NfsCall<'a>>
+    requires { reader.old.strict ≡ false }
+    ensures value { option_map (λ call. (call_of call, reader.new.left)) result ≡ model.symbolic_link_at reader.old.left }
+    ensures lenient { IfSome result (λ call. reader.new.strict ≡ false) }
+    ensures short { IfSome result (λ call. IsShort (call_of call)) }
+{
+    Some(NfsCall::SymbolicLink {
+        dir: file(reader)?,
+        name: name(reader)?,
+        path: path(reader)?,
+        settings: settings(reader)?,
+    })
+}
+
+// MKDIR (RFC 1094 section 2.2.15)
+#[tactic(auto, unfolding(bfs_model::specs::Arguments::named_with_settings_at))]
+pub(crate) fn make_directory<'a>(reader: &mut Reader<'a>) -> Option<NfsCall<'a>>
+    requires { reader.old.strict ≡ false }
+    ensures value { option_map (λ call. (call_of call, reader.new.left)) result ≡ model.named_with_settings_at model.make_directory reader.old.left }
+    ensures lenient { IfSome result (λ call. reader.new.strict ≡ false) }
+    ensures short { IfSome result (λ call. IsShort (call_of call)) }
+{
+    Some(NfsCall::MakeDirectory {
+        dir: file(reader)?,
+        name: name(reader)?,
+        settings: settings(reader)?,
+    })
+}
+
+// RMDIR (RFC 1094 section 2.2.16)
+#[tactic(auto, unfolding(bfs_model::specs::Arguments::named_at))]
+pub(crate) fn remove_directory<'a>(reader: &mut Reader<'a>) -> Option<NfsCall<'a>>
+    requires { reader.old.strict ≡ false }
+    ensures value { option_map (λ call. (call_of call, reader.new.left)) result ≡ model.named_at model.remove_directory reader.old.left }
+    ensures lenient { IfSome result (λ call. reader.new.strict ≡ false) }
+    ensures short { IfSome result (λ call. IsShort (call_of call)) }
+{
+    Some(NfsCall::RemoveDirectory {
+        dir: file(reader)?,
+        name: name(reader)?,
+    })
+}
+
+// READDIR (RFC 1094 section 2.2.17)
+#[tactic(auto, unfolding(bfs_model::specs::Arguments::read_directory_at))]
+pub(crate) fn read_directory<'a>(reader: &mut Reader<'a>) -> Option<NfsCall<'a>>
+    requires { reader.old.strict ≡ false }
+    ensures value { option_map (λ call. (call_of call, reader.new.left)) result ≡ model.read_directory_at reader.old.left }
+    ensures lenient { IfSome result (λ call. reader.new.strict ≡ false) }
+    ensures short { IfSome result (λ call. IsShort (call_of call)) }
+{
+    Some(NfsCall::ReadDirectory {
+        dir: file(reader)?,
+        cookie: word(reader)?,
+        count: word(reader)?,
+    })
+}
+
+// STATFS (RFC 1094 section 2.2.18)
+#[tactic(auto, unfolding(bfs_model::specs::Arguments::file_at))]
+pub(crate) fn file_system_status<'a>(reader: &mut Reader<'a>) -> Option<NfsCall<'a>>
+    requires { reader.old.strict ≡ false }
+    ensures value { option_map (λ call. (call_of call, reader.new.left)) result ≡ model.file_at model.file_system_status reader.old.left }
+    ensures lenient { IfSome result (λ call. reader.new.strict ≡ false) }
+    ensures short { IfSome result (λ call. IsShort (call_of call)) }
+{
+    Some(NfsCall::FileSystemStatus {
+        file: file(reader)?,
     })
 }

@@ -7,13 +7,15 @@ mod file_type;
 mod forms;
 mod garbage;
 mod handle;
+mod listing;
 mod parts;
 mod reply;
 mod status;
 
-pub use bytes::{FileBytes, ReplyBytes};
+pub use bytes::{FileBytes, NameBytes, PathBytes, ReplyBytes};
 pub use call::{NfsCall, parse_args};
 pub use garbage::GarbageArgs;
 pub use handle::{handle_bytes, handle_id};
+pub use listing::{ListedEntries, ListedEntry};
 pub use reply::{NfsReply, put_reply, write_reply};
 pub use status::Status;

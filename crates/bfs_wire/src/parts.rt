@@ -16,6 +16,9 @@ const HANDLE_BYTES: u32 = 32;
 // the most bytes of a name (RFC 1094 section 2.3.1, MAXNAMLEN)
 const MAX_NAME: u32 = 255;
 
+// the most bytes of a symbolic link's path (RFC 1094 section 2.3.1, MAXPATHLEN)
+const MAX_PATH: u32 = 1024;
+
 // the most bytes that one WRITE brings (RFC 1094 section 2.3.1, MAXDATA)
 const MAX_DATA: u32 = 8192;
 
@@ -52,6 +55,18 @@ pub(crate) fn name<'a>(reader: &mut Reader<'a>) -> Option<&'a [u8]>
 {
     let name = reader.opaque(MAX_NAME).ok()?;
     Some(name)
+}
+
+// a path (RFC 1094 section 2.3.10)
+#[tactic(auto, using(crate::proofs::Lengths::opaque_within))]
+pub(crate) fn path<'a>(reader: &mut Reader<'a>) -> Option<&'a [u8]>
+    requires { reader.old.strict ≡ false }
+    ensures value { option_map (λ path. (path.now, reader.new.left)) result ≡ model.path_at reader.old.left }
+    ensures lenient { IfSome result (λ path. reader.new.strict ≡ false) }
+    ensures short { IfSome result (λ path. length path.now ≤ longest_path) }
+{
+    let path = reader.opaque(MAX_PATH).ok()?;
+    Some(path)
 }
 
 // a file's bytes (RFC 1094 section 2.3.11)

@@ -3,12 +3,13 @@ ghost use Rattle.bfs_model.specs.Attributes.{blocks_of as model_blocks_of};
 ghost use Rattle.bfs_model.specs.Replies as model;
 ghost use Rattle.bfs_wire.specs.Replies.{reply_of};
 
-use crate::bytes::FileBytes;
+use crate::bytes::{FileBytes, PathBytes};
 use crate::file_type::{type_bits, type_number};
 use crate::handle::handle_bytes;
+use crate::listing::{ListedEntries, put_entries};
 use crate::status::Status;
 use bfs_types::{Attributes, FileId, Memory};
-use bfs_xdr::{put_opaque, put_words};
+use bfs_xdr::{put_bool, put_opaque, put_words};
 use std::alloc::Global;
 
 /// What a procedure gives (RFC 1094 section 2.2).
@@ -18,6 +19,8 @@ pub enum NfsReply {
     Void,
     /// The procedure was not done, for this reason.
     Refused(Status),
+    /// The procedure was done, and gives nothing else.
+    Done,
     /// The attributes of the file.
     Attributes(Attributes),
     /// The file that was found or made, and its attributes.
@@ -30,6 +33,15 @@ pub enum NfsReply {
         attributes: Attributes,
         bytes: FileBytes,
     },
+    /// The path that a symbolic link holds.
+    Path(PathBytes),
+    /// Entries of a directory, and whether none is left behind them.
+    Listed {
+        entries: ListedEntries,
+        all: bool,
+    },
+    /// How many blocks are free.
+    FreeBlocks(u32),
 }
 
 // the status of a procedure that was done (RFC 1094 section 2.3.1, NFS_OK)
@@ -40,6 +52,12 @@ const BLOCK_SIZE: u32 = 4096;
 
 // of the only file system that there is
 const FSID: u32 = 1;
+
+// the bytes that a READ or WRITE moves at best
+const TRANSFER_SIZE: u32 = 8192;
+
+// of the file system, free or not
+const TOTAL_BLOCKS: u32 = 262_144;
 
 /// Appends the results of a procedure (RFC 1094 section 2.2), so that a reply can be built behind its header. `Memory` where
 /// the bytes can't grow.
@@ -73,9 +91,13 @@ fn put_results(out: &mut Vec<u8>, reply: &NfsReply) -> Result<(), Memory>
     match reply {
         NfsReply::Void => Ok(()),
         NfsReply::Refused(status) => put_words(out, &[status.number()]),
+        NfsReply::Done => put_words(out, &[DONE]),
         NfsReply::Attributes(attributes) => put_attributes(out, attributes),
         NfsReply::Found { file, attributes } => put_found(out, *file, attributes),
         NfsReply::Contents { attributes, bytes } => put_contents(out, attributes, bytes),
+        NfsReply::Path(path) => put_path(out, path),
+        NfsReply::Listed { entries, all } => put_listed(out, entries, *all),
+        NfsReply::FreeBlocks(free) => put_free_blocks(out, *free),
     }
 }
 
@@ -109,6 +131,41 @@ fn put_contents(out: &mut Vec<u8>, attributes: &Attributes, bytes: &FileBytes) -
     put_words(out, &[DONE])?;
     put_words(out, &attribute_words(attributes))?;
     put_opaque(out, bytes.as_slice())
+}
+
+// readlinkres where the path was read (RFC 1094 section 2.2.6)
+#[tactic(auto, using(std::proofs::lemmas::List::append_assoc), unfolding(bfs_model::specs::Replies::results))]
+fn put_path(out: &mut Vec<u8>, path: &PathBytes) -> Result<(), Memory>
+    ensures ok { OnOk result (out.new.items ≡ out.old.items ++ model.results (model.path path.now)) }
+    ensures err { OnErr result (take (length out.old.items) out.new.items ≡ out.old.items) }
+{
+    put_words(out, &[DONE])?;
+    put_opaque(out, path.as_slice())
+}
+
+// readdirres where entries were listed (RFC 1094 section 2.2.17): the entries, the word that says that there is no
+// further one, and whether they are all
+#[tactic(auto, using(std::proofs::lemmas::List::append_assoc), unfolding(bfs_model::specs::Replies::results))]
+fn put_listed(out: &mut Vec<u8>, entries: &ListedEntries, all: bool) -> Result<(), Memory>
+    ensures ok { OnOk result (out.new.items ≡ out.old.items ++ model.results (model.listed entries.now all)) }
+    ensures err { OnErr result (take (length out.old.items) out.new.items ≡ out.old.items) }
+{
+    put_words(out, &[DONE])?;
+    put_entries(out, entries)?;
+    put_bool(out, false)?;
+    put_bool(out, all)
+}
+
+// statfsres where the room was told (RFC 1094 section 2.2.18)
+#[tactic(auto, unfolding(bfs_model::specs::Replies::results))]
+fn put_free_blocks(out: &mut Vec<u8>, free: u32) -> Result<(), Memory>
+    ensures ok { OnOk result (out.new.items ≡ out.old.items ++ model.results (model.free_blocks free)) }
+    ensures err { OnErr result (out.new.items ≡ out.old.items) }
+{
+    put_words(
+        out,
+        &[DONE, TRANSFER_SIZE, BLOCK_SIZE, TOTAL_BLOCKS, free, free],
+    )
 }
 
 // the words of an fattr (RFC 1094 section 2.3.5)

@@ -1,5 +1,6 @@
-ghost use Rattle.std.specs.Prelude.{◌≡◌, ◌<◌, ◌≤◌, [], ◌∷◌, ◌++◌, length, OnOk, OnErr};
+ghost use Rattle.std.specs.Prelude.{◌≡◌, ◌<◌, ◌≤◌, [], ◌∷◌, ◌++◌, length, position, bytes_eq, OnOk, OnErr};
 ghost use Rattle.bfs_model.specs.Limits.{longest_name, most_entries};
+ghost use Rattle.bfs_model.specs.Directories.{entry_named, without_name};
 
 use crate::bounded::Name;
 use crate::directories::{Directory, Entry};
@@ -22,4 +23,37 @@ impl Directory {
         })?;
         Ok(())
     }
+
+    /// Takes out the entry of that name. The others keep their order.
+    pub fn drop_entry(&mut self, name: &[u8]) -> Option<Entry>
+        ensures value { result ≡ entry_named name.now self.old.entries }
+        ensures dropped { self.new ≡ record self.old { entries = without_name name.now self.old.entries } }
+    {
+        drop_entry(&mut self.entries, name)
+    }
+
+    /// Puts it below another directory.
+    pub fn set_parent(&mut self, parent: FileId)
+        ensures { self.new ≡ record self.old { parent = parent } }
+    {
+        self.parent = parent;
+    }
+}
+
+fn drop_entry(entries: &mut Vec<Entry>, name: &[u8]) -> Option<Entry>
+    ensures value { result ≡ entry_named name.now entries.old.items }
+    ensures dropped { entries.new.items ≡ without_name name.now entries.old.items }
+{
+    match place_of(entries, name) {
+        Some(place) => Some(entries.remove(place)),
+        None => None,
+    }
+}
+
+fn place_of(entries: &[Entry], name: &[u8]) -> Option<usize>
+    ensures { result ≡ position (λ entry. bytes_eq entry.name name.now) entries.now }
+{
+    entries
+        .iter()
+        .position(|entry| entry.name.as_slice() == name)
 }

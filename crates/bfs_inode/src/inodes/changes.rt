@@ -2,7 +2,7 @@ ghost use Rattle.std.specs.Prelude.{◌≡◌, ◌+◌, ◌<◌, ◌≤◌, leng
 ghost use Rattle.std.specs.Option.{ForSome};
 ghost use Rattle.bfs_model.specs.Tree.{listing_in};
 ghost use Rattle.bfs_model.specs.Limits.{longest_name, most_bytes, most_entries, most_links};
-ghost use Rattle.bfs_model.specs.Changes.{with_bytes, with_entry, with_link, with_settings};
+ghost use Rattle.bfs_model.specs.Changes.{touched, with_bytes, with_ctime, with_entry, with_link, with_link_less, with_parent, with_settings, without_entry};
 ghost use Rattle.bfs_inode.specs.Inodes.{file_in};
 
 use crate::inodes::{Inode, permissions_set, time_set};
@@ -25,7 +25,7 @@ impl Inode {
         self.gid = settings.gid.unwrap_or(self.gid);
         self.atime = time_set(now, settings.atime, self.atime);
         self.mtime = time_set(now, settings.mtime, self.mtime);
-        self.ctime = now;
+        self.set_ctime(now);
         Ok(())
     }
 
@@ -37,8 +37,7 @@ impl Inode {
         ensures err { OnErr result (self.new ≡ self.old) }
     {
         self.body.write(offset, bytes)?;
-        self.mtime = now;
-        self.ctime = now;
+        self.touch(now);
         Ok(())
     }
 
@@ -57,8 +56,7 @@ impl Inode {
         ensures err { OnErr result (self.new ≡ self.old) }
     {
         self.body.add_entry(cookie, name, child)?;
-        self.mtime = now;
-        self.ctime = now;
+        self.touch(now);
         Ok(())
     }
 
@@ -68,6 +66,44 @@ impl Inode {
         ensures { self.new ≡ with_link now self.old }
     {
         self.links += 1;
+        self.set_ctime(now);
+    }
+
+    /// Takes the entry of that name out of a directory; the times change of any inode.
+    pub fn drop_entry(&mut self, now: Time, name: &[u8])
+        ensures { self.new ≡ without_entry now name.now self.old }
+    {
+        self.body.drop_entry(name);
+        self.touch(now);
+    }
+
+    /// Puts a directory below another one; what is no directory stays.
+    pub fn set_parent(&mut self, parent: FileId)
+        ensures { self.new ≡ with_parent parent self.old }
+    {
+        self.body.set_parent(parent);
+    }
+
+    /// Counts a name less.
+    pub fn lose_link(&mut self, now: Time)
+        ensures { self.new ≡ with_link_less now self.old }
+    {
+        self.links = self.links.saturating_sub(1);
+        self.set_ctime(now);
+    }
+
+    /// Says that the inode changed now.
+    pub fn set_ctime(&mut self, now: Time)
+        ensures { self.new ≡ with_ctime now self.old }
+    {
         self.ctime = now;
+    }
+
+    // what it holds changed, and so did the inode
+    fn touch(&mut self, now: Time)
+        ensures { self.new ≡ touched now self.old }
+    {
+        self.mtime = now;
+        self.set_ctime(now);
     }
 }

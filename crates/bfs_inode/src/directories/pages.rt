@@ -1,0 +1,151 @@
+ghost use Rattle.std.specs.Prelude.{◌≡◌, ◌+◌, ◌<◌, ◌≤◌, ◌==◌, [], ◌∷◌, length, drop, slice_get, MatchOption, IfSome};
+ghost use Rattle.bfs_model.specs.Tree as model;
+ghost use Rattle.bfs_model.specs.Limits.{longest_name, most_entries};
+ghost use Rattle.bfs_model.specs.Directories.{all_listed, listed_behind, listed_size, page_of};
+ghost use Rattle.bfs_inode.specs.Pages.{listed_of};
+
+use crate::directories::{Directory, Entry};
+use bfs_types::FileId;
+use std::marker::Model;
+
+/// An entry of a directory as READDIR lists it, or `.` or `..` (RFC 1094 section 2.2.17).
+#[derive(Clone, Copy, Debug)]
+pub struct Listed<'a> {
+    /// What a further READDIR goes on behind.
+    pub cookie: u32,
+    /// The name, without the directories above.
+    pub name: &'a [u8],
+    /// The inode that it names.
+    pub child: FileId,
+}
+
+/// What a page of READDIR has yet to list of a directory: of `.`, `..` and the entries those behind a cookie, as many as
+/// fit into a number of bytes (RFC 1094 section 2.2.17).
+#[derive(Debug, Drop)]
+pub struct Page<'a> {
+    directory: &'a Directory,
+    // of the directory itself
+    id: FileId,
+    cookie: u32,
+    // among all that is listed of the directory
+    place: usize,
+    // the bytes that are left
+    room: u32,
+}
+
+impl<'a> Model for Page<'a> {
+    ghost use Rattle.bfs_inode.specs.Pages as pages;
+
+    ghost Value = { pages.Page };
+
+    ghost use Rattle.bfs_inode.specs.Pages.{seen};
+
+    ghost view = { seen };
+}
+
+// the bytes of a page that are no entry's: its status, the end of its list, and whether it is the last
+const AROUND_ENTRIES: u32 = 12;
+
+// the bytes of a page at most (RFC 1094 section 2.3.1, MAXDATA)
+const LONGEST_PAGE: u32 = 8192;
+
+impl Directory {
+    /// The page of at most that many bytes behind that cookie, of the directory of that fileid. It is 0 for the first page,
+    /// and else the cookie of the last entry of the page before.
+    pub fn page(&self, id: FileId, cookie: u32, count: u32) -> Page<'_>
+        ensures listed { result.listed ≡ page_of count (listed_behind cookie (all_listed id self.now)) }
+        ensures all { result.all ≡ (length (page_of count (listed_behind cookie (all_listed id self.now))) == length (listed_behind cookie (all_listed id self.now))) }
+    {
+        Page {
+            directory: self,
+            id,
+            cookie,
+            place: 0,
+            room: count.min(LONGEST_PAGE).saturating_sub(AROUND_ENTRIES),
+        }
+    }
+}
+
+impl<'a> Page<'a> {
+    /// The next entry of the page.
+    pub fn next_entry(&mut self) -> Option<Listed<'a>>
+        ensures taken { MatchOption result ((self.old.listed ≡ []) × (self.new.listed ≡ [])) (λ listed. self.old.listed ≡ listed_of listed ∷ self.new.listed) }
+        ensures all { self.new.all ≡ self.old.all }
+        ensures short { IfSome result (λ listed. length listed.name.now ≤ longest_name) }
+    {
+        let place = first_behind(self.directory, self.id, self.cookie, self.place)?;
+        let listed = listed_at(self.directory, self.id, place);
+        let size = size_listed(&listed);
+        if size > self.room {
+            return None;
+        }
+        self.place = place + 1;
+        self.room -= size;
+        Some(listed)
+    }
+
+    /// Whether no entry of the directory is left behind the page, once all entries of the page were taken.
+    pub fn is_last(&self) -> bool
+        requires { self.now.listed ≡ [] }
+        ensures { result ≡ self.now.all }
+    {
+        first_behind(self.directory, self.id, self.cookie, self.place).is_none()
+    }
+}
+
+// the bytes that it takes in a reply
+fn size_listed(listed: &Listed) -> u32
+    requires { length listed.now.name.now ≤ longest_name }
+    ensures { result ≡ listed_size (listed_of listed.now) }
+{
+    let length = listed.name.len() as u32;
+    16 + length + (4 - length % 4) % 4
+}
+
+// what is listed at a place: `.`, `..`, and then the entries
+fn listed_at(directory: &Directory, id: FileId, place: usize) -> Listed<'_>
+    requires { place < length (all_listed id directory.now) }
+    ensures value { slice_get (all_listed id directory.now) place ≡ Some (listed_of result) }
+    ensures short { length result.name.now ≤ longest_name }
+{
+    match place {
+        0 => Listed {
+            cookie: 1,
+            name: b".".as_slice(),
+            child: id,
+        },
+        1 => Listed {
+            cookie: 2,
+            name: b"..".as_slice(),
+            child: directory.parent(),
+        },
+        _ => listed_entry(&directory.entries[place - 2]),
+    }
+}
+
+fn listed_entry(entry: &Entry) -> Listed<'_>
+    ensures value { listed_of result ≡ entry.now }
+    ensures short { length result.name.now ≤ longest_name }
+{
+    Listed {
+        cookie: entry.cookie,
+        name: entry.name.as_slice(),
+        child: entry.child,
+    }
+}
+
+// the first place from that one on at which an entry behind the cookie is listed
+fn first_behind(directory: &Directory, id: FileId, cookie: u32, place: usize) -> Option<usize>
+    ensures within { IfSome result (λ at. at < length (all_listed id directory.now)) }
+    ensures small { IfSome result (λ at. at < most_entries + 2) }
+    ensures behind { MatchOption result
+        (listed_behind cookie (drop place (all_listed id directory.now)) ≡ [])
+        (λ at. (entry : model.Entry) → slice_get (all_listed id directory.now) at ≡ Some entry → listed_behind cookie (drop place (all_listed id directory.now)) ≡ entry ∷ listed_behind cookie (drop (at + 1) (all_listed id directory.now))) }
+{
+    for at in place..directory.len() + 2 {
+        if listed_at(directory, id, at).cookie > cookie {
+            return Some(at);
+        }
+    }
+    None
+}

@@ -1,0 +1,4 @@
+pub mod LinkLemmas
+pub mod Below
+pub mod Moves
+pub mod Plans

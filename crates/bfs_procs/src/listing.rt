@@ -1,0 +1,59 @@
+ghost use Rattle.std.specs.Prelude.{◌≡◌, ◌≤◌, length, IfOk, IsTrue};
+ghost use Rattle.std.specs.Option.{ForSome};
+ghost use Rattle.bfs_model.specs.Limits.{longest_name};
+ghost use Rattle.bfs_model.specs.Replies as replies;
+ghost use Rattle.bfs_model.specs.Procedures.OfListing.{directory_read};
+ghost use Rattle.bfs_inode.specs.Pages.{listed_of};
+ghost use Rattle.bfs_wire.specs.Replies.{reply_of};
+
+use bfs_inode::{FileId, Listed, Page, Store};
+use bfs_types::Memory;
+use bfs_wire::{ListedEntries, ListedEntry, NameBytes, NfsReply, Status};
+use std::alloc::Global;
+
+/// READDIR (RFC 1094 section 2.2.17). `Memory` where there is no room for the entries.
+pub(crate) fn read_directory<S: Store>(
+    alloc: Global,
+    store: &S,
+    dir: Option<FileId>,
+    cookie: u32,
+    count: u32,
+) -> Result<NfsReply, Memory>
+    requires { ForSome dir (λ id. IsTrue ((S.reach store.now).known id)) }
+    ensures { IfOk result (λ reply. (S.inodes store.now, reply_of reply) ≡ directory_read (S.inodes store.now) dir cookie count) }
+{
+    let Some(id) = dir else {
+        return Ok(NfsReply::Refused(Status::Stale));
+    };
+    let Some(inode) = store.get(id) else {
+        return Ok(NfsReply::Refused(Status::Stale));
+    };
+    match inode.directory() {
+        None => Ok(NfsReply::Refused(Status::NotDir)),
+        Some(directory) => list(alloc, directory.page(id, cookie, count)),
+    }
+}
+
+fn list(alloc: Global, mut page: Page) -> Result<NfsReply, Memory>
+    ensures { IfOk result (λ reply. reply_of reply ≡ replies.listed page.entry.listed page.entry.all) }
+{
+    let mut entries = ListedEntries::new(alloc);
+    while let Some(listed) = page.next_entry() {
+        entries.push(entry_of(alloc, &listed)?)?;
+    }
+    Ok(NfsReply::Listed {
+        entries,
+        all: page.is_last(),
+    })
+}
+
+fn entry_of(alloc: Global, listed: &Listed) -> Result<ListedEntry, Memory>
+    requires { length listed.now.name.now ≤ longest_name }
+    ensures { IfOk result (λ entry. entry ≡ listed_of listed.now) }
+{
+    Ok(ListedEntry {
+        cookie: listed.cookie,
+        name: NameBytes::copied(alloc, listed.name)?,
+        child: listed.child,
+    })
+}

@@ -1,0 +1,111 @@
+ghost use Rattle.std.specs.Prelude.{◌≡◌, ◌<◌, ◌≤◌, length, IsTrue, IfOk};
+ghost use Rattle.std.specs.FinMap.{get};
+ghost use Rattle.std.specs.Option.{ForSome};
+ghost use Rattle.bfs_model.specs.Changes as model;
+ghost use Rattle.bfs_model.specs.Changes.{changed, with_ctime, with_entry, with_link, with_link_less, with_parent, without_entry};
+ghost use Rattle.bfs_model.specs.Limits.{longest_name, most_entries, most_links};
+ghost use Rattle.bfs_model.specs.Procedures.OfFiles.{entry_made};
+ghost use Rattle.bfs_model.specs.Tree.{entries_at};
+
+use bfs_inode::{FileId, Store, Time};
+use bfs_types::Memory;
+
+// the entry of that name goes out of a directory
+#[tactic(auto, unfolding(bfs_model::specs::Changes::changed))]
+pub(super) fn drop_entry<S: Store>(store: &mut S, now: Time, dir: FileId, name: &[u8])
+    requires { IsTrue ((S.reach store.old).owned dir) }
+    ensures done { S.inodes store.new ≡ changed (S.inodes store.old) dir (without_entry now name.now) }
+    ensures reach { S.reach store.new ≡ S.reach store.old }
+{
+    if let Some(inode) = store.get_mut(dir) {
+        inode.drop_entry(now, name);
+    }
+}
+
+// an entry more is in a directory. `Memory` where there is no room for it
+#[tactic(auto, unfolding(bfs_model::specs::Changes::changed))]
+pub(super) fn add_entry<S: Store>(
+    store: &mut S,
+    now: Time,
+    dir: FileId,
+    cookie: u32,
+    name: &[u8],
+    child: FileId,
+) -> Result<(), Memory>
+    requires owned { IsTrue ((S.reach store.old).owned dir) }
+    requires room { length (entries_at (get (S.inodes store.old) dir)) < most_entries }
+    requires short { length name.now ≤ longest_name }
+    ensures done { IfOk result (λ _. S.inodes store.new ≡ changed (S.inodes store.old) dir (with_entry now (entry_made cookie name.now child))) }
+    ensures reach { S.reach store.new ≡ S.reach store.old }
+{
+    if let Some(inode) = store.get_mut(dir) {
+        inode.add_entry(now, cookie, name, child)?;
+    }
+    Ok(())
+}
+
+// a directory is below another one
+#[tactic(auto, unfolding(bfs_model::specs::Changes::changed))]
+pub(super) fn set_parent<S: Store>(store: &mut S, parent: FileId, dir: FileId)
+    requires { IsTrue ((S.reach store.old).owned dir) }
+    ensures done { S.inodes store.new ≡ changed (S.inodes store.old) dir (with_parent parent) }
+    ensures reach { S.reach store.new ≡ S.reach store.old }
+{
+    if let Some(inode) = store.get_mut(dir) {
+        inode.set_parent(parent);
+    }
+}
+
+// an inode has a link more
+#[tactic(auto, unfolding(bfs_model::specs::Changes::changed))]
+pub(super) fn add_link<S: Store>(store: &mut S, now: Time, id: FileId)
+    requires owned { IsTrue ((S.reach store.old).owned id) }
+    requires few { ForSome (get (S.inodes store.old) id) (λ inode. inode.links < most_links) }
+    ensures done { S.inodes store.new ≡ changed (S.inodes store.old) id (with_link now) }
+    ensures reach { S.reach store.new ≡ S.reach store.old }
+{
+    if let Some(inode) = store.get_mut(id) {
+        inode.add_link(now);
+    }
+}
+
+// an inode has a link less
+#[tactic(auto, unfolding(bfs_model::specs::Changes::changed))]
+pub(super) fn drop_link<S: Store>(store: &mut S, now: Time, id: FileId)
+    requires { IsTrue ((S.reach store.old).owned id) }
+    ensures done { S.inodes store.new ≡ changed (S.inodes store.old) id (with_link_less now) }
+    ensures reach { S.reach store.new ≡ S.reach store.old }
+{
+    if let Some(inode) = store.get_mut(id) {
+        inode.lose_link(now);
+    }
+}
+
+// an inode changed now
+#[tactic(auto, unfolding(bfs_model::specs::Changes::changed))]
+pub(super) fn set_ctime<S: Store>(store: &mut S, now: Time, id: FileId)
+    requires { IsTrue ((S.reach store.old).owned id) }
+    ensures done { S.inodes store.new ≡ changed (S.inodes store.old) id (with_ctime now) }
+    ensures reach { S.reach store.new ≡ S.reach store.old }
+{
+    if let Some(inode) = store.get_mut(id) {
+        inode.set_ctime(now);
+    }
+}
+
+// a file or a symbolic link has a link less, and goes with its last
+#[tactic(auto, using(bfs_inode::proofs::Laws::insert_same), unfolding(bfs_model::specs::Changes::link_lost))]
+pub(super) fn lose_link<S: Store>(store: &mut S, now: Time, id: FileId)
+    requires { IsTrue ((S.reach store.old).owned id) }
+    ensures done { S.inodes store.new ≡ model.link_lost (S.inodes store.old) now id }
+    ensures reach { S.reach store.new ≡ S.reach store.old }
+{
+    let Some(inode) = store.get_mut(id) else {
+        return;
+    };
+    if inode.links() > 1 {
+        inode.lose_link(now);
+    } else {
+        store.remove(id);
+    }
+}

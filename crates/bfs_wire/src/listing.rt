@@ -1,0 +1,101 @@
+// What READDIR lists (RFC 1094 section 2.2.17).
+ghost use Rattle.std.specs.Prelude.{◌≡◌, [], ◌∷◌, ◌++◌, take, length, OnOk, OnErr};
+ghost use Rattle.std.specs.List.{flat_map};
+ghost use Rattle.bfs_model.specs.Replies.{entry_item};
+
+use crate::bytes::NameBytes;
+use bfs_types::{FileId, Memory};
+use bfs_xdr::{put_bool, put_opaque, put_u32};
+use std::alloc::Global;
+use std::marker::Model;
+
+/// An entry of a directory, as READDIR lists it (RFC 1094 section 2.2.17, entry).
+#[derive(Debug, Drop)]
+pub struct ListedEntry {
+    /// What a further READDIR goes on behind.
+    pub cookie: u32,
+    /// The name, without the directories above; or `.` or `..`.
+    pub name: NameBytes,
+    /// The inode that it names.
+    pub child: FileId,
+}
+
+impl Model for ListedEntry {
+    ghost use Rattle.bfs_model.specs.Tree as model;
+
+    ghost Value = { model.Entry };
+
+    ghost view = { λ entry. record { cookie = entry.cookie; name = entry.name; child = entry.child } };
+}
+
+/// Entries of a directory, in the order in which they are listed.
+#[derive(Debug, Drop)]
+pub struct ListedEntries {
+    entries: Vec<ListedEntry>,
+}
+
+impl Model for ListedEntries {
+    ghost use Rattle.std.specs.Prelude.{List};
+    ghost use Rattle.bfs_model.specs.Tree as model;
+
+    ghost Value = { List model.Entry };
+
+    ghost view = { λ listed. listed.entries.items };
+}
+
+impl ListedEntries {
+    /// No entries.
+    pub fn new(alloc: Global) -> ListedEntries
+        ensures { result ≡ [] }
+    {
+        ListedEntries {
+            entries: Vec::new(alloc),
+        }
+    }
+
+    /// Lists one more entry, behind those before. `Memory` where there is none for it.
+    pub fn push(&mut self, entry: ListedEntry) -> Result<(), Memory>
+        ensures ok { OnOk result (self.new ≡ self.old ++ entry ∷ []) }
+        ensures err { OnErr result (self.new ≡ self.old) }
+    {
+        self.entries.push(entry)?;
+        Ok(())
+    }
+
+    fn as_slice(&self) -> &[ListedEntry]
+        ensures { result.now ≡ self.now }
+    {
+        self.entries.as_slice()
+    }
+}
+
+// the entries one after another, or some of them behind what was there
+pub(crate) fn put_entries(out: &mut Vec<u8>, entries: &ListedEntries) -> Result<(), Memory>
+    ensures ok { OnOk result (out.new.items ≡ out.old.items ++ flat_map entry_item entries.now) }
+    ensures err { OnErr result (take (length out.old.items) out.new.items ≡ out.old.items) }
+{
+    put_each(out, entries.as_slice())
+}
+
+#[tactic(auto, using(crate::proofs::Fronts::still_in_front))]
+fn put_each(out: &mut Vec<u8>, entries: &[ListedEntry]) -> Result<(), Memory>
+    ensures ok { OnOk result (out.new.items ≡ out.old.items ++ flat_map entry_item entries.now) }
+    ensures err { OnErr result (take (length out.old.items) out.new.items ≡ out.old.items) }
+{
+    for entry in entries {
+        put_entry(out, entry)?;
+    }
+    Ok(())
+}
+
+// an entry behind the word that says that there is one
+#[tactic(auto, using(std::proofs::lemmas::List::append_assoc))]
+fn put_entry(out: &mut Vec<u8>, entry: &ListedEntry) -> Result<(), Memory>
+    ensures ok { OnOk result (out.new.items ≡ out.old.items ++ entry_item entry.now) }
+    ensures err { OnErr result (take (length out.old.items) out.new.items ≡ out.old.items) }
+{
+    put_bool(out, true)?;
+    put_u32(out, entry.child.number())?;
+    put_opaque(out, entry.name.as_slice())?;
+    put_u32(out, entry.cookie)
+}
