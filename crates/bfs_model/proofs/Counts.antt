@@ -3,10 +3,10 @@ use Rattle.std.proofs.Common.{◌≡◌, ℕ, suc, Bool, List, [], ◌∷◌, le
 use Rattle.bfs_model.specs.Tree.{Time, Inodes, FileSystem}
 use Rattle.bfs_model.specs.Serial.{Batch, answer, execute, effective_time, ordinal_after, replies_to}
 
-length-replies_to : (served : ℕ → Bool) (m : Inodes) (o : ℕ) (t : Time) (requests : List (List ℕ)) → length (replies_to served m o t requests) ≡ length requests
-length-replies_to served m o t [] = refl
-length-replies_to served m o t (request ∷ requests) = ap suc (length-replies_to served (answer served m o t request).0 (ordinal_after o 1) t requests)
+length-replies_to : (m : Inodes) (o : ℕ) (t : Time) (requests : List (List ℕ)) → length (replies_to m o t requests) ≡ length requests
+length-replies_to m o t [] = refl
+length-replies_to m o t (request ∷ requests) = ap suc (length-replies_to (answer m o t request).0 (ordinal_after o 1) t requests)
 
-pub replies_counted : (served : ℕ → Bool) (files : FileSystem) (batch : Batch) → length (execute served files batch).1 ≡ length batch.requests
+pub replies_counted : (files : FileSystem) (batch : Batch) → length (execute files batch).1 ≡ length batch.requests
 unfolding execute
-replies_counted served files batch = length-replies_to served files.tree files.next_ordinal (effective_time files.last_time batch.time) batch.requests
+replies_counted files batch = length-replies_to files.tree files.next_ordinal (effective_time files.last_time batch.time) batch.requests

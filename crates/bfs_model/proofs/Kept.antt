@@ -44,38 +44,34 @@ call_keeps m o t caller call short good = let first : first_ordinal ≤ o = good
   most = omega arith;
 }
 
-module _ (served : ℕ → Bool) (m : Inodes) (o : ℕ) (t : Time) (good : AreGood m o) where
+module _ (m : Inodes) (o : ℕ) (t : Time) (good : AreGood m o) where
   arguments_keep : (request : Request) (call : Option Call) → arguments_of request.procedure request.arguments ≡ call → AreGood (answer_arguments m o t request call).0 (ordinal_after o 1)
   arguments_keep request None is = later m o good
   arguments_keep request (Some call) is = call_keeps m o t request.credential call (arguments_are_short request.procedure request.arguments call is) good
 
-  served_keep : (b : Bool) (request : Request) → AreGood (answer_arguments m o t request (cond b (arguments_of request.procedure request.arguments) None)).0 (ordinal_after o 1)
-  served_keep true request = arguments_keep request (arguments_of request.procedure request.arguments) refl
-  served_keep false request = later m o good
-
-  answer_call_keeps : (call : Result Request Refusal) → AreGood (answer_call served m o t call).0 (ordinal_after o 1)
-  answer_call_keeps (Ok request) = served_keep (served request.procedure) request
+  answer_call_keeps : (call : Result Request Refusal) → AreGood (answer_call m o t call).0 (ordinal_after o 1)
+  answer_call_keeps (Ok request) = arguments_keep request (arguments_of request.procedure request.arguments) refl
   answer_call_keeps (Err refusal) = later m o good
 
-  answer_keeps : (bytes : List ℕ) → AreGood (answer served m o t bytes).0 (ordinal_after o 1)
+  answer_keeps : (bytes : List ℕ) → AreGood (answer m o t bytes).0 (ordinal_after o 1)
   unfolding answer
-  answer_keeps bytes = answer_call_keeps (call_of served bytes)
+  answer_keeps bytes = answer_call_keeps (call_of bytes)
 
 -- the ordinals of one request after another
 ordinals : (o n : ℕ) → ordinal_after (ordinal_after o 1) n ≡ ordinal_after o (suc n)
 ordinals o n = omega arith
 
-requests_keep : (served : ℕ → Bool) (m : Inodes) (o : ℕ) (t : Time) (requests : List (List ℕ)) → AreGood m o → AreGood (inodes_after served m o t requests) (ordinal_after o (length requests))
-requests_keep served m o t [] good = let most : o ≤ spent_ordinal = good.most in subst (AreGood m) (omega arith) good
-requests_keep served m o t (request ∷ requests) good =
-    subst (AreGood (inodes_after served (answer served m o t request).0 (ordinal_after o 1) t requests)) (ordinals o (length requests))
-    (requests_keep served (answer served m o t request).0 (ordinal_after o 1) t requests (answer_keeps served m o t good request))
+requests_keep : (m : Inodes) (o : ℕ) (t : Time) (requests : List (List ℕ)) → AreGood m o → AreGood (inodes_after m o t requests) (ordinal_after o (length requests))
+requests_keep m o t [] good = let most : o ≤ spent_ordinal = good.most in subst (AreGood m) (omega arith) good
+requests_keep m o t (request ∷ requests) good =
+    subst (AreGood (inodes_after (answer m o t request).0 (ordinal_after o 1) t requests)) (ordinals o (length requests))
+    (requests_keep (answer m o t request).0 (ordinal_after o 1) t requests (answer_keeps m o t good request))
 
 -- every file system that was well formed is so after a batch
-pub execute_keeps : (served : ℕ → Bool) (files : FileSystem) (batch : Batch) → IsWellFormed files → IsWellFormed (execute served files batch).0
+pub execute_keeps : (files : FileSystem) (batch : Batch) → IsWellFormed files → IsWellFormed (execute files batch).0
 unfolding execute
-execute_keeps served files batch formed =
-    let good = requests_keep served files.tree files.next_ordinal (effective_time files.last_time batch.time) batch.requests (record { tree = formed.tree; within = formed.within; first = formed.ordinal.0; most = formed.ordinal.1 }) in
+execute_keeps files batch formed =
+    let good = requests_keep files.tree files.next_ordinal (effective_time files.last_time batch.time) batch.requests (record { tree = formed.tree; within = formed.within; first = formed.ordinal.0; most = formed.ordinal.1 }) in
     record { tree = good.tree; within = good.within; ordinal = (good.first, good.most) }
 
 pub new_is_well_formed : IsWellFormed new_file_system

@@ -11,7 +11,7 @@ use Rattle.bfs_model.specs.Attributes.{Attributes}
 use Rattle.bfs_model.specs.Bytes.{bytes_from}
 use Rattle.bfs_model.specs.Directories.{listed_size, held_by}
 use Rattle.bfs_model.specs.Call.{Credential, Refusal, silent, rpc_mismatch, bad_credential, program_unavailable, program_mismatch, procedure_unavailable, Request, call_of}
-use Rattle.bfs_model.specs.Arguments.{Call, null, get_attributes, set_attributes, root, look_up, read_link, read, write_cache, write, create, remove, rename, make_link, make_symbolic_link, make_directory, remove_directory, read_directory, file_system_status, handle, arguments_served}
+use Rattle.bfs_model.specs.Arguments.{Call, null, get_attributes, set_attributes, root, look_up, read_link, read, write_cache, write, create, remove, rename, make_link, make_symbolic_link, make_directory, remove_directory, read_directory, file_system_status, handle, arguments_of}
 use Rattle.bfs_model.specs.Replies.{Status, Reply, void, refused, done, attributes, found, path, contents, listed, free_blocks, entry_item, results, success, garbage, refusal}
 use Rattle.bfs_model.specs.Steps.{Outcome}
 use Rattle.bfs_model.specs.Procedures.{procedure}
@@ -159,18 +159,18 @@ arguments_answer : (m : Inodes) (o : ℕ) (now : Time) (request : Request) (call
 arguments_answer m o now request None paths = garbage_is_short request.xid
 arguments_answer m o now request (Some call) paths = success_is_short request.xid _ (procedure_is_short m o now request.credential call paths)
 
-call_answer : (served : ℕ → Bool) (m : Inodes) (o : ℕ) (now : Time) (call : Result Request Refusal) → HasShortPaths m → length (answer_call served m o now call).1 ≤ longest_reply
-call_answer served m o now (Ok request) paths = arguments_answer m o now request (arguments_served served request.procedure request.arguments) paths
-call_answer served m o now (Err reason) paths = refusal_is_short reason
+call_answer : (m : Inodes) (o : ℕ) (now : Time) (call : Result Request Refusal) → HasShortPaths m → length (answer_call m o now call).1 ≤ longest_reply
+call_answer m o now (Ok request) paths = arguments_answer m o now request (arguments_of request.procedure request.arguments) paths
+call_answer m o now (Err reason) paths = refusal_is_short reason
 
 -- only the paths matter: what else is in a reply is of limited length on any map
-pub short_answer : (served : ℕ → Bool) (m : Inodes) (o : ℕ) (now : Time) (request : List ℕ) → HasShortPaths m → length (answer served m o now request).1 ≤ longest_reply
+pub short_answer : (m : Inodes) (o : ℕ) (now : Time) (request : List ℕ) → HasShortPaths m → length (answer m o now request).1 ≤ longest_reply
 unfolding answer
-short_answer served m o now request paths = call_answer served m o now (call_of served request) paths
+short_answer m o now request paths = call_answer m o now (call_of request) paths
 
 short_path : (limit id links : ℕ) (body : Body) (target : List ℕ) → BodyIsWithin limit id links body → body ≡ link target → length target ≤ longest_path
 short_path limit id links body target within is = (subst (BodyIsWithin limit id links) is within).1
 
 pub short_replies : RepliesAreShort
-short_replies served m limit o now request within =
-    short_answer served m o now request (λ id inode target there is. short_path limit id inode.links inode.body target (within id inode there).body is)
+short_replies m limit o now request within =
+    short_answer m o now request (λ id inode target there is. short_path limit id inode.links inode.body target (within id inode there).body is)

@@ -5,7 +5,7 @@ use Rattle.std.specs.FinMap.{get, empty, get-insert}
 use Rattle.bfs_model.specs.Items.{short, too_long, bad_boolean, bad_padding, word_at, boolean_at, bytes_at, fixed_at, opaque_at, word, words}
 use Rattle.bfs_model.specs.Tree.{Time, Inodes, FileSystem, root_id, new_root, new_tree, new_file_system}
 use Rattle.bfs_model.specs.Attributes.{attributes_of}
-use Rattle.bfs_model.specs.Call.{call_of, header_of, opaque_auth_at, credential_of, nobody, is_procedure}
+use Rattle.bfs_model.specs.Call.{call_of, header_of, opaque_auth_at, credential_of, nobody}
 use Rattle.bfs_model.specs.Arguments.{handle, handle_id, handle_at, file_at, fields_at, arguments_of}
 use Rattle.bfs_model.specs.Replies.{attributes, results, success, garbage, refusal}
 use Rattle.bfs_model.specs.Procedures.{procedure}
@@ -49,19 +49,19 @@ root_reply = words (1 ∷ 1 ∷ 0 ∷ 0 ∷ 0 ∷ 0 ∷ 0 ∷ 2 ∷ 0x41ed ∷ 2
 root_found : get new_tree root_id ≡ Some new_root
 root_found = get-insert nat_cmp_total empty root_id new_root root_id
 
-root_spelled : call_of is_procedure root_request ≡ Ok (record { xid = 1; procedure = 1; credential = nobody; arguments = handle 2 })
+root_spelled : call_of root_request ≡ Ok (record { xid = 1; procedure = 1; credential = nobody; arguments = handle 2 })
 unfolding call_of header_of opaque_auth_at credential_of opaque_at fixed_at bytes_at word_at word handle
 root_spelled = refl
 
 root_attributes_got : attributes_got new_tree (Some 2) ≡ (new_tree, attributes (attributes_of 2 new_root))
 root_attributes_got = rw root_found refl
 
-root_answered : (ordinal : ℕ) (time : Time) → answer is_procedure new_tree ordinal time root_request ≡ (new_tree, root_reply)
+root_answered : (ordinal : ℕ) (time : Time) → answer new_tree ordinal time root_request ≡ (new_tree, root_reply)
 unfolding answer call_of header_of opaque_auth_at credential_of opaque_at fixed_at bytes_at word_at word handle arguments_of fields_at file_at handle_at handle_id success results
 root_answered ordinal time = rw root_found refl
 
 -- a batch with this request alone, at a second, on a new file system
-root_executed : execute is_procedure new_file_system (record { time = record { seconds = 1; useconds = 0 }; requests = root_request ∷ [] }) ≡ (record new_file_system { next_ordinal = 4; last_time = record { seconds = 1; useconds = 0 } }, root_reply ∷ [])
+root_executed : execute new_file_system (record { time = record { seconds = 1; useconds = 0 }; requests = root_request ∷ [] }) ≡ (record new_file_system { next_ordinal = 4; last_time = record { seconds = 1; useconds = 0 } }, root_reply ∷ [])
 unfolding execute
 root_executed = ap (λ (done : Inodes × List ℕ). (record new_file_system { tree = done.0; next_ordinal = 4; last_time = record { seconds = 1; useconds = 0 } }, done.1 ∷ [])) (root_answered 3 (record { seconds = 1; useconds = 0 }))
 
@@ -70,14 +70,14 @@ root_executed = ap (λ (done : Inodes × List ℕ). (record new_file_system { tr
 abbrev pub silent_requests : List (List ℕ)
 silent_requests = [] ∷ take 3 root_request ∷ take 39 root_request ∷ (words (1 ∷ 1 ∷ []) ++ root_asked) ∷ []
 
-silently_executed : execute is_procedure new_file_system (record { time = record { seconds = 1; useconds = 0 }; requests = silent_requests }) ≡ (record new_file_system { next_ordinal = 7; last_time = record { seconds = 1; useconds = 0 } }, [] ∷ [] ∷ [] ∷ [] ∷ [])
+silently_executed : execute new_file_system (record { time = record { seconds = 1; useconds = 0 }; requests = silent_requests }) ≡ (record new_file_system { next_ordinal = 7; last_time = record { seconds = 1; useconds = 0 } }, [] ∷ [] ∷ [] ∷ [] ∷ [])
 unfolding execute answer call_of header_of opaque_auth_at opaque_at fixed_at bytes_at word_at word refusal
 silently_executed = refl
 
 -- An empty batch proposed before the last time moves the time alone ----------------------------------------------------
 
 empty_batch_executed : (files : FileSystem) → files.last_time ≡ record { seconds = 5; useconds = 0 } → files.next_ordinal ≡ 3
-    → execute is_procedure files (record { time = record { seconds = 3; useconds = 0 }; requests = [] }) ≡ (record files { last_time = record { seconds = 5; useconds = 1 } }, [])
+    → execute files (record { time = record { seconds = 3; useconds = 0 }; requests = [] }) ≡ (record files { last_time = record { seconds = 5; useconds = 1 } }, [])
 unfolding execute
 empty_batch_executed files at_five at_first = rw (at_five, at_first) refl
 
@@ -87,30 +87,30 @@ empty_batch_executed files at_five at_first = rw (at_five, at_first) refl
 abbrev pub asked : (rpc_version program program_version procedure flavor : ℕ) (after : List ℕ) → List ℕ
 asked rpc_version program program_version procedure flavor after = words (9 ∷ 0 ∷ rpc_version ∷ program ∷ program_version ∷ procedure ∷ flavor ∷ 0 ∷ 0 ∷ 0 ∷ 0x42465332 ∷ 1 ∷ 2 ∷ 0 ∷ 0 ∷ 0 ∷ 0 ∷ 0 ∷ []) ++ after
 
-third_rpc_version : (m : Inodes) (o : ℕ) (t : Time) → answer is_procedure m o t (asked 3 100003 2 1 0 []) ≡ (m, words (9 ∷ 1 ∷ 1 ∷ 0 ∷ 2 ∷ 2 ∷ []))
+third_rpc_version : (m : Inodes) (o : ℕ) (t : Time) → answer m o t (asked 3 100003 2 1 0 []) ≡ (m, words (9 ∷ 1 ∷ 1 ∷ 0 ∷ 2 ∷ 2 ∷ []))
 unfolding answer call_of header_of opaque_auth_at credential_of opaque_at fixed_at bytes_at word_at word refusal
 third_rpc_version m o t = refl
 
-sixth_flavor : (m : Inodes) (o : ℕ) (t : Time) → answer is_procedure m o t (asked 2 100003 2 1 6 []) ≡ (m, words (9 ∷ 1 ∷ 1 ∷ 1 ∷ 1 ∷ []))
+sixth_flavor : (m : Inodes) (o : ℕ) (t : Time) → answer m o t (asked 2 100003 2 1 6 []) ≡ (m, words (9 ∷ 1 ∷ 1 ∷ 1 ∷ 1 ∷ []))
 unfolding answer call_of header_of opaque_auth_at credential_of opaque_at fixed_at bytes_at word_at word refusal
 sixth_flavor m o t = refl
 
-other_program : (m : Inodes) (o : ℕ) (t : Time) → answer is_procedure m o t (asked 2 100004 2 1 0 []) ≡ (m, words (9 ∷ 1 ∷ 0 ∷ 0 ∷ 0 ∷ 1 ∷ []))
+other_program : (m : Inodes) (o : ℕ) (t : Time) → answer m o t (asked 2 100004 2 1 0 []) ≡ (m, words (9 ∷ 1 ∷ 0 ∷ 0 ∷ 0 ∷ 1 ∷ []))
 unfolding answer call_of header_of opaque_auth_at credential_of opaque_at fixed_at bytes_at word_at word refusal
 other_program m o t = refl
 
-third_version : (m : Inodes) (o : ℕ) (t : Time) → answer is_procedure m o t (asked 2 100003 3 1 0 []) ≡ (m, words (9 ∷ 1 ∷ 0 ∷ 0 ∷ 0 ∷ 2 ∷ 2 ∷ 2 ∷ []))
+third_version : (m : Inodes) (o : ℕ) (t : Time) → answer m o t (asked 2 100003 3 1 0 []) ≡ (m, words (9 ∷ 1 ∷ 0 ∷ 0 ∷ 0 ∷ 2 ∷ 2 ∷ 2 ∷ []))
 unfolding answer call_of header_of opaque_auth_at credential_of opaque_at fixed_at bytes_at word_at word refusal
 third_version m o t = refl
 
-eighteenth_procedure : (m : Inodes) (o : ℕ) (t : Time) → answer is_procedure m o t (asked 2 100003 2 18 0 []) ≡ (m, words (9 ∷ 1 ∷ 0 ∷ 0 ∷ 0 ∷ 3 ∷ []))
+eighteenth_procedure : (m : Inodes) (o : ℕ) (t : Time) → answer m o t (asked 2 100003 2 18 0 []) ≡ (m, words (9 ∷ 1 ∷ 0 ∷ 0 ∷ 0 ∷ 3 ∷ []))
 unfolding answer call_of header_of opaque_auth_at credential_of opaque_at fixed_at bytes_at word_at word refusal
 eighteenth_procedure m o t = refl
 
-byte_after_the_handle : (m : Inodes) (o : ℕ) (t : Time) → answer is_procedure m o t (asked 2 100003 2 1 0 (0 ∷ [])) ≡ (m, words (9 ∷ 1 ∷ 0 ∷ 0 ∷ 0 ∷ 4 ∷ []))
+byte_after_the_handle : (m : Inodes) (o : ℕ) (t : Time) → answer m o t (asked 2 100003 2 1 0 (0 ∷ [])) ≡ (m, words (9 ∷ 1 ∷ 0 ∷ 0 ∷ 0 ∷ 4 ∷ []))
 unfolding answer call_of header_of opaque_auth_at credential_of opaque_at fixed_at bytes_at word_at word arguments_of fields_at file_at handle_at handle_id handle garbage
 byte_after_the_handle m o t = refl
 
-all_six_at_once : (m : Inodes) (o : ℕ) (t : Time) → answer is_procedure m o t (asked 3 100004 3 18 6 (0 ∷ [])) ≡ (m, words (9 ∷ 1 ∷ 1 ∷ 0 ∷ 2 ∷ 2 ∷ []))
+all_six_at_once : (m : Inodes) (o : ℕ) (t : Time) → answer m o t (asked 3 100004 3 18 6 (0 ∷ [])) ≡ (m, words (9 ∷ 1 ∷ 1 ∷ 0 ∷ 2 ∷ 2 ∷ []))
 unfolding answer call_of header_of opaque_auth_at credential_of opaque_at fixed_at bytes_at word_at word refusal
 all_six_at_once m o t = refl

@@ -3,8 +3,8 @@ use Rattle.std.proofs.Common.{◌≡◌, ℕ, List, [], ◌∷◌, ◌++◌, len
 use Rattle.std.specs.FinMap.{from_entries}
 use Rattle.bfs_model.specs.Items.{words}
 use Rattle.bfs_model.specs.Tree.{Time, Entry, Inode, Inodes, FileSystem, file, directory}
-use Rattle.bfs_model.specs.Call.{Credential, call_of, is_procedure}
-use Rattle.bfs_model.specs.Arguments.{Settings, Call, arguments_served}
+use Rattle.bfs_model.specs.Call.{Credential, call_of}
+use Rattle.bfs_model.specs.Arguments.{Settings, Call, arguments_of}
 use Rattle.bfs_model.specs.Replies.{Reply, results, success}
 use Rattle.bfs_model.specs.Steps.{Outcome}
 use Rattle.bfs_model.specs.Procedures.{procedure}
@@ -61,14 +61,14 @@ entry cookie name child = record { cookie = cookie; name = name; child = child }
 
 -- requests one after another lead from inodes to inodes, with these replies
 pub record Runs (m : Inodes) (o : ℕ) (t : Time) (requests : List (List ℕ)) (after : Inodes) (replies : List (List ℕ)) : Type 0 where
-  pub leads : inodes_after is_procedure m o t requests ≡ after
-  pub replied : replies_to is_procedure m o t requests ≡ replies
+  pub leads : inodes_after m o t requests ≡ after
+  pub replied : replies_to m o t requests ≡ replies
 
 pub ends : (m : Inodes) (o : ℕ) (t : Time) → Runs m o t [] m []
 ends m o t = record { leads = refl; replied = refl }
 
 followed : {m n after : Inodes} {o : ℕ} {t : Time} {request reply : List ℕ} {requests replies : List (List ℕ)}
-    → answer is_procedure m o t request ≡ (n, reply) → Runs n (ordinal_after o 1) t requests after replies → Runs m o t (request ∷ requests) after (reply ∷ replies)
+    → answer m o t request ≡ (n, reply) → Runs n (ordinal_after o 1) t requests after replies → Runs m o t (request ∷ requests) after (reply ∷ replies)
 followed {o = o} {t = t} {requests = requests} e r = record {
   leads = rw e r.leads;
   replied = rw (e, r.replied) refl;
@@ -76,8 +76,8 @@ followed {o = o} {t = t} {requests = requests} e r = record {
 
 -- a request that spells a call is answered as its procedure says
 pub next : {m n after : Inodes} {o : ℕ} {t : Time} {request arguments : List ℕ} {requests replies : List (List ℕ)} {xid number : ℕ} {credential : Credential} {call : Call} {reply : Reply}
-    → call_of is_procedure request ≡ Ok (record { xid = xid; procedure = number; credential = credential; arguments = arguments })
-    → arguments_served is_procedure number arguments ≡ Some call
+    → call_of request ≡ Ok (record { xid = xid; procedure = number; credential = credential; arguments = arguments })
+    → arguments_of number arguments ≡ Some call
     → ◌≡◌ {A = Outcome} (procedure m o t credential call) (n, reply)
     → Runs n (ordinal_after o 1) t requests after replies
     → Runs m o t (request ∷ requests) after (success xid (results reply) ∷ replies)
@@ -86,7 +86,7 @@ next spelled wanted done rest = followed (rw (spelled, wanted, done) refl) rest
 
 pub executed : (files : FileSystem) (batch : Batch) {after : Inodes} {replies : List (List ℕ)}
     → Runs files.tree files.next_ordinal (effective_time files.last_time batch.time) batch.requests after replies
-    → execute is_procedure files batch ≡ (record { tree = after; next_ordinal = ordinal_after files.next_ordinal (length batch.requests); last_time = effective_time files.last_time batch.time }, replies)
+    → execute files batch ≡ (record { tree = after; next_ordinal = ordinal_after files.next_ordinal (length batch.requests); last_time = effective_time files.last_time batch.time }, replies)
 unfolding execute
 executed files batch r = rw (r.leads, r.replied) refl
 

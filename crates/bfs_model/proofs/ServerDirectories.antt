@@ -2,7 +2,7 @@
 use Rattle.std.proofs.Common.{◌≡◌, [], ◌∷◌, ◌++◌, Some, refl, codes}
 use Rattle.bfs_model.specs.Items.{word, word_at, bytes_at, fixed_at, opaque_at}
 use Rattle.bfs_model.specs.Tree.{Inode, Inodes, new_tree, new_file_system}
-use Rattle.bfs_model.specs.Call.{nobody, call_of, header_of, opaque_auth_at, credential_of, is_procedure}
+use Rattle.bfs_model.specs.Call.{nobody, call_of, header_of, opaque_auth_at, credential_of}
 use Rattle.bfs_model.specs.Arguments.{create, write, rename, make_directory, handle, handle_id, handle_at, write_at, rename_at, settings_at, named_with_settings_at, fields_at, arguments_of}
 use Rattle.bfs_model.specs.Replies.{found, attributes, refused, perm, results, success}
 use Rattle.bfs_model.specs.Attributes.{attributes_of}
@@ -51,7 +51,7 @@ b_made : procedure (holding ((2, root_with_d_a) ∷ (3, d_with_e) ∷ (4, e) ∷
     ≡ (d_e_and_files (a_file 1 1 1 1 []) (a_file 1 1 1 1 []), found 6 (attributes_of 6 (a_file 1 1 1 1 [])))
 b_made = simp inode_gets (same (simp inode_entries) refl)
 
-nested_made : execute is_procedure new_file_system (record { time = at 1; requests = names_unset 1 14 2 0x64000000 ∷ names_unset 2 14 3 0x65000000 ∷ names_unset 3 9 2 0x61000000 ∷ names_unset 4 9 2 0x62000000 ∷ [] })
+nested_made : execute new_file_system (record { time = at 1; requests = names_unset 1 14 2 0x64000000 ∷ names_unset 2 14 3 0x65000000 ∷ names_unset 3 9 2 0x61000000 ∷ names_unset 4 9 2 0x62000000 ∷ [] })
     ≡ (
       record { tree = d_e_and_files (a_file 1 1 1 1 []) (a_file 1 1 1 1 []); next_ordinal = 7; last_time = at 1 },
       succeeds 1 (0 ∷ of_file 3 ++ told 2 0x41ed 2 65534 65534 64 1 3 1 1 1)
@@ -76,7 +76,7 @@ b_written : procedure (d_e_and_files (a_file 1 1 2 2 (codes "x")) (a_file 1 1 1 
     ≡ (d_e_and_files (a_file 1 1 2 2 (codes "x")) (a_file 1 1 2 2 (codes "y")), attributes (attributes_of 6 (a_file 1 1 2 2 (codes "y"))))
 b_written = simp inode_gets (same (simp inode_entries) refl)
 
-not_moved_below_itself : execute is_procedure (record { tree = d_e_and_files (a_file 1 1 1 1 []) (a_file 1 1 1 1 []); next_ordinal = 7; last_time = at 1 })
+not_moved_below_itself : execute (record { tree = d_e_and_files (a_file 1 1 1 1 []) (a_file 1 1 1 1 []); next_ordinal = 7; last_time = at 1 })
     (record { time = at 2; requests = writes 1 5 0 1 0x78000000 ∷ renames 2 2 0x64000000 4 0x78000000 ∷ writes 3 6 0 1 0x79000000 ∷ [] })
     ≡ (
       record { tree = d_e_and_files (a_file 1 1 2 2 (codes "x")) (a_file 1 1 2 2 (codes "y")); next_ordinal = 10; last_time = at 2 },

@@ -3,7 +3,7 @@ use Rattle.std.proofs.Common.{◌≡◌, ℕ, List, [], ◌∷◌, ◌++◌, Som
 use Rattle.std.specs.FinMap.{empty, insert}
 use Rattle.bfs_model.specs.Items.{words, word, word_at, bytes_at, fixed_at, opaque_at, fixed, counted}
 use Rattle.bfs_model.specs.Tree.{Inode, Inodes, new_tree, new_file_system}
-use Rattle.bfs_model.specs.Call.{Credential, nobody, call_of, header_of, opaque_auth_at, credential_of, system_credential_of, after_words, is_procedure}
+use Rattle.bfs_model.specs.Call.{Credential, nobody, call_of, header_of, opaque_auth_at, credential_of, system_credential_of, after_words}
 use Rattle.bfs_model.specs.Arguments.{create, get_attributes, look_up, read, write, remove, handle, handle_id, handle_at, file_at, named_at, read_at, write_at, settings_at, named_with_settings_at, fields_at, arguments_of}
 use Rattle.bfs_model.specs.Replies.{found, attributes, contents, done, refused, stale, results, success}
 use Rattle.bfs_model.specs.Attributes.{attributes_of}
@@ -44,7 +44,7 @@ a_created = simp inode_gets (same (simp inode_entries) refl)
 a_told : procedure (with_a 3 1 (a_file 1 1 1 1 [])) 4 (at 1) nobody (get_attributes (Some 3)) ≡ (with_a 3 1 (a_file 1 1 1 1 []), attributes (attributes_of 3 (a_file 1 1 1 1 [])))
 a_told = simp inode_gets
 
-created_and_told : execute is_procedure new_file_system (record { time = at 1; requests = create_a 1 ∷ get_attributes_of 2 3 ∷ [] })
+created_and_told : execute new_file_system (record { time = at 1; requests = create_a 1 ∷ get_attributes_of 2 3 ∷ [] })
     ≡ (
       record { tree = with_a 3 1 (a_file 1 1 1 1 []); next_ordinal = 5; last_time = at 1 },
       succeeds 1 (0 ∷ of_file 3 ++ told 1 0x81a4 1 65534 65534 0 0 3 1 1 1) ∷ succeeds 2 (0 ∷ told 1 0x81a4 1 65534 65534 0 0 3 1 1 1) ∷ [],
@@ -60,7 +60,7 @@ nothing_told = simp inode_gets
 a_created_second : procedure new_tree 4 (at 1) nobody (create (Some 2) (codes "a") unset) ≡ (with_a 4 1 (a_file 1 1 1 1 []), found 4 (attributes_of 4 (a_file 1 1 1 1 [])))
 a_created_second = simp inode_gets (same (simp inode_entries) refl)
 
-asked_for_and_then_created : execute is_procedure new_file_system (record { time = at 1; requests = get_attributes_of 1 4 ∷ create_a 2 ∷ [] })
+asked_for_and_then_created : execute new_file_system (record { time = at 1; requests = get_attributes_of 1 4 ∷ create_a 2 ∷ [] })
     ≡ (
       record { tree = with_a 4 1 (a_file 1 1 1 1 []); next_ordinal = 5; last_time = at 1 },
       succeeds 1 (70 ∷ []) ∷ succeeds 2 (0 ∷ of_file 4 ++ told 1 0x81a4 1 65534 65534 0 0 4 1 1 1) ∷ [],
@@ -74,7 +74,7 @@ old_written : procedure (with_a 3 1 (a_file 1 1 1 1 [])) 4 (at 1) nobody (write 
     ≡ (with_a 3 1 (a_file 1 1 1 1 (codes "old")), attributes (attributes_of 3 (a_file 1 1 1 1 (codes "old"))))
 old_written = simp inode_gets (same (simp inode_entries) refl)
 
-created_and_written : execute is_procedure new_file_system (record { time = at 1; requests = create_a 1 ∷ write_of 2 3 0 3 0x6f6c6400 ∷ [] })
+created_and_written : execute new_file_system (record { time = at 1; requests = create_a 1 ∷ write_of 2 3 0 3 0x6f6c6400 ∷ [] })
     ≡ (
       record { tree = with_a 3 1 (a_file 1 1 1 1 (codes "old")); next_ordinal = 5; last_time = at 1 },
       succeeds 1 (0 ∷ of_file 3 ++ told 1 0x81a4 1 65534 65534 0 0 3 1 1 1) ∷ succeeds 2 (0 ∷ told 1 0x81a4 1 65534 65534 3 1 3 1 1 1) ∷ [],
@@ -94,7 +94,7 @@ new_read : procedure (with_a 3 1 (a_file 1 1 2 2 (codes "new"))) 7 (at 2) nobody
     ≡ (with_a 3 1 (a_file 1 1 2 2 (codes "new")), contents (attributes_of 3 (a_file 1 1 2 2 (codes "new"))) (codes "new"))
 new_read = simp inode_gets
 
-read_written_and_read_again : execute is_procedure (record { tree = with_a 3 1 (a_file 1 1 1 1 (codes "old")); next_ordinal = 5; last_time = at 1 }) (record { time = at 2; requests = read_of 1 3 0 8 ∷ write_of 2 3 0 3 0x6e657700 ∷ read_of 3 3 0 8 ∷ [] })
+read_written_and_read_again : execute (record { tree = with_a 3 1 (a_file 1 1 1 1 (codes "old")); next_ordinal = 5; last_time = at 1 }) (record { time = at 2; requests = read_of 1 3 0 8 ∷ write_of 2 3 0 3 0x6e657700 ∷ read_of 3 3 0 8 ∷ [] })
     ≡ (
       record { tree = with_a 3 1 (a_file 1 1 2 2 (codes "new")); next_ordinal = 8; last_time = at 2 },
       succeeds 1 (0 ∷ told 1 0x81a4 1 65534 65534 3 1 3 1 1 1 ++ 3 ∷ 0x6f6c6400 ∷ [])
@@ -107,7 +107,7 @@ read_written_and_read_again = executed _ _ (next refl refl old_read (next refl r
 
 -- A name that is used again names another inode -------------------------------------------------------------------------
 
-a_made : execute is_procedure new_file_system (record { time = at 1; requests = create_a 1 ∷ [] })
+a_made : execute new_file_system (record { time = at 1; requests = create_a 1 ∷ [] })
     ≡ (record { tree = with_a 3 1 (a_file 1 1 1 1 []); next_ordinal = 4; last_time = at 1 }, succeeds 1 (0 ∷ of_file 3 ++ told 1 0x81a4 1 65534 65534 0 0 3 1 1 1) ∷ [])
 unfolding call_of header_of opaque_auth_at credential_of opaque_at fixed_at bytes_at word_at word handle arguments_of fields_at named_with_settings_at settings_at handle_at handle_id success results
 a_made = executed new_file_system _ (next refl refl a_created (ends _ _ _))
@@ -122,7 +122,7 @@ a_created_again = simp inode_gets (same (simp inode_entries) refl)
 a_found : procedure (with_a 5 2 (a_file 1 2 2 2 [])) 6 (at 2) nobody (look_up (Some 2) (codes "a")) ≡ (with_a 5 2 (a_file 1 2 2 2 []), found 5 (attributes_of 5 (a_file 1 2 2 2 [])))
 a_found = simp inode_gets
 
-removed_and_created_again : execute is_procedure (record { tree = with_a 3 1 (a_file 1 1 1 1 []); next_ordinal = 4; last_time = at 1 }) (record { time = at 2; requests = remove_a 1 ∷ create_a 2 ∷ look_up_a 3 ∷ [] })
+removed_and_created_again : execute (record { tree = with_a 3 1 (a_file 1 1 1 1 []); next_ordinal = 4; last_time = at 1 }) (record { time = at 2; requests = remove_a 1 ∷ create_a 2 ∷ look_up_a 3 ∷ [] })
     ≡ (
       record { tree = with_a 5 2 (a_file 1 2 2 2 []); next_ordinal = 7; last_time = at 2 },
       succeeds 1 (0 ∷ [])
@@ -146,7 +146,7 @@ callers_file_made : procedure new_tree 3 (at 1) caller (create (Some 2) (codes "
 callers_file_made = simp inode_gets (same (simp inode_entries) refl)
 
 -- CREATE with a credential of AUTH_SYS: a stamp, a machine of no name, uid, gid, and two further gids
-created_by_a_caller : execute is_procedure new_file_system (record { time = at 1; requests = words ((5 ∷ 0 ∷ 2 ∷ 100003 ∷ 2 ∷ 9 ∷ 1 ∷ 28 ∷ 77 ∷ 0 ∷ 1000 ∷ 100 ∷ 2 ∷ 11 ∷ 12 ∷ 0 ∷ 0 ∷ []) ++ of_file 2 ++ (1 ∷ 0x61000000 ∷ []) ++ unset_words) ∷ [] })
+created_by_a_caller : execute new_file_system (record { time = at 1; requests = words ((5 ∷ 0 ∷ 2 ∷ 100003 ∷ 2 ∷ 9 ∷ 1 ∷ 28 ∷ 77 ∷ 0 ∷ 1000 ∷ 100 ∷ 2 ∷ 11 ∷ 12 ∷ 0 ∷ 0 ∷ []) ++ of_file 2 ++ (1 ∷ 0x61000000 ∷ []) ++ unset_words) ∷ [] })
     ≡ (record { tree = with_a 3 1 callers_file; next_ordinal = 4; last_time = at 1 }, succeeds 5 (0 ∷ of_file 3 ++ told 1 0x81a4 1 1000 100 0 0 3 1 1 1) ∷ [])
 unfolding call_of header_of opaque_auth_at credential_of system_credential_of after_words opaque_at fixed_at bytes_at word_at word handle arguments_of fields_at named_with_settings_at settings_at handle_at handle_id success results
 created_by_a_caller = executed new_file_system _ (next refl refl callers_file_made (ends _ _ _))

@@ -3,7 +3,7 @@ use Rattle.std.proofs.Common.{◌≡◌, ℕ, zero, suc, ◌+◌, ◌-◌, true,
 use Rattle.std.proofs.lemmas.List.{length-append, length-replicate}
 use Rattle.bfs_model.specs.Items.{word, word_at, bytes_at, fixed_at, opaque_at, fixed, counted}
 use Rattle.bfs_model.specs.Tree.{Inode, Inodes, new_tree, new_file_system}
-use Rattle.bfs_model.specs.Call.{nobody, call_of, header_of, opaque_auth_at, credential_of, is_procedure}
+use Rattle.bfs_model.specs.Call.{nobody, call_of, header_of, opaque_auth_at, credential_of}
 use Rattle.bfs_model.specs.Arguments.{create, get_attributes, read, write, handle, handle_id, handle_at, file_at, read_at, write_at, settings_at, named_with_settings_at, fields_at, arguments_of}
 use Rattle.bfs_model.specs.Replies.{found, attributes, contents, refused, nospc, fbig, results, success}
 use Rattle.bfs_model.specs.Attributes.{Attributes, attributes_of}
@@ -28,7 +28,7 @@ none_made = simp inode_gets
 root_told : procedure with_last 4294967296 (at 7) nobody (get_attributes (Some 2)) ≡ (with_last, attributes (attributes_of 2 (the_root 2 7 7 (entry 4294967295 (codes "a") 4294967295 ∷ []))))
 root_told = simp inode_gets
 
-ordinals_spent : execute is_procedure (record new_file_system { next_ordinal = 4294967295 }) (record { time = at 7; requests = names_unset 1 9 2 0x61000000 ∷ names_unset 2 9 2 0x62000000 ∷ calls 3 1 (of_file 2) ∷ [] })
+ordinals_spent : execute (record new_file_system { next_ordinal = 4294967295 }) (record { time = at 7; requests = names_unset 1 9 2 0x61000000 ∷ names_unset 2 9 2 0x62000000 ∷ calls 3 1 (of_file 2) ∷ [] })
     ≡ (
       record { tree = with_last; next_ordinal = 4294967296; last_time = at 7 },
       succeeds 1 (0 ∷ of_file 4294967295 ++ told 1 0x81a4 1 65534 65534 0 0 4294967295 7 7 7) ∷ succeeds 2 (28 ∷ []) ∷ succeeds 3 (0 ∷ told 2 0x41ed 2 0 0 96 1 2 0 7 7) ∷ [],
@@ -94,7 +94,7 @@ long_enough offset is =
 end_read : (n : ℕ) → suc n ≡ 1048575 → procedure (with_a (a_file 1 1 2 2 (zeros_and_a (suc n)))) 6 (at 2) nobody (read (Some 3) n 8) ≡ (with_a (a_file 1 1 2 2 (zeros_and_a (suc n))), contents of_longest (0 ∷ 0x61 ∷ []))
 end_read n is = simp (inode_gets, drop-zeros_and_a, longest_told (suc n) is)
 
-file_of_the_limit : execute is_procedure (record { tree = with_a (a_file 1 1 1 1 []); next_ordinal = 4; last_time = at 1 }) (record { time = at 2; requests = writes 1 3 1048575 2 0x61610000 ∷ writes 2 3 1048575 1 0x61000000 ∷ calls 3 6 (of_file 3 ++ 1048574 ∷ 8 ∷ 0 ∷ []) ∷ [] })
+file_of_the_limit : execute (record { tree = with_a (a_file 1 1 1 1 []); next_ordinal = 4; last_time = at 1 }) (record { time = at 2; requests = writes 1 3 1048575 2 0x61610000 ∷ writes 2 3 1048575 1 0x61000000 ∷ calls 3 6 (of_file 3 ++ 1048574 ∷ 8 ∷ 0 ∷ []) ∷ [] })
     ≡ (
       record { tree = with_a (a_file 1 1 2 2 (zeros_and_a 1048575)); next_ordinal = 7; last_time = at 2 },
       succeeds 1 (27 ∷ [])

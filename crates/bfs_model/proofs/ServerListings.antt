@@ -2,7 +2,7 @@
 use Rattle.std.proofs.Common.{◌≡◌, List, [], ◌∷◌, ◌++◌, Some, true, false, refl, codes}
 use Rattle.bfs_model.specs.Items.{word, word_at, bytes_at, fixed_at, opaque_at, fixed, counted, boolean}
 use Rattle.bfs_model.specs.Tree.{Inode, Inodes, Entry, new_tree, new_file_system}
-use Rattle.bfs_model.specs.Call.{nobody, call_of, header_of, opaque_auth_at, credential_of, is_procedure}
+use Rattle.bfs_model.specs.Call.{nobody, call_of, header_of, opaque_auth_at, credential_of}
 use Rattle.bfs_model.specs.Arguments.{create, look_up, remove, rename, make_link, make_directory, read_directory, file_system_status, handle, handle_id, handle_at, file_at, named_at, rename_at, link_at, read_directory_at, settings_at, named_with_settings_at, fields_at, arguments_of}
 use Rattle.bfs_model.specs.Replies.{found, done, refused, perm, isdir, notdir, listed, free_blocks, results, success}
 use Rattle.bfs_model.specs.Attributes.{attributes_of}
@@ -40,7 +40,7 @@ b_made = simp inode_gets (same (simp inode_entries) refl)
 c_made : procedure (holding ((2, the_root 2 1 1 a_b) ∷ (3, new) ∷ (4, new) ∷ [])) 5 (at 1) nobody (create (Some 2) (codes "c") unset) ≡ (three, found 5 (attributes_of 5 new))
 c_made = simp inode_gets (same (simp inode_entries) refl)
 
-three_made : execute is_procedure new_file_system (record { time = at 1; requests = names_unset 1 9 2 0x61000000 ∷ names_unset 2 9 2 0x62000000 ∷ names_unset 3 9 2 0x63000000 ∷ [] })
+three_made : execute new_file_system (record { time = at 1; requests = names_unset 1 9 2 0x61000000 ∷ names_unset 2 9 2 0x62000000 ∷ names_unset 3 9 2 0x63000000 ∷ [] })
     ≡ (
       record { tree = three; next_ordinal = 6; last_time = at 1 },
       succeeds 1 (0 ∷ of_file 3 ++ told 1 0x81a4 1 65534 65534 0 0 3 1 1 1) ∷ succeeds 2 (0 ∷ of_file 4 ++ told 1 0x81a4 1 65534 65534 0 0 4 1 1 1) ∷ succeeds 3 (0 ∷ of_file 5 ++ told 1 0x81a4 1 65534 65534 0 0 5 1 1 1) ∷ [],
@@ -61,7 +61,7 @@ a_removed = simp inode_gets (same (simp inode_entries) refl)
 last_listed : procedure two 9 (at 2) nobody (read_directory (Some 2) 3 8192) ≡ (two, listed (entry 4 (codes "b") 4 ∷ entry 5 (codes "c") 5 ∷ []) true)
 last_listed = simp inode_gets
 
-listed_by_pages : execute is_procedure (record { tree = three; next_ordinal = 6; last_time = at 1 }) (record { time = at 2; requests = lists 1 2 0 12 ∷ lists 2 2 0 72 ∷ names 3 10 2 0x61000000 ∷ lists 4 2 3 8192 ∷ [] })
+listed_by_pages : execute (record { tree = three; next_ordinal = 6; last_time = at 1 }) (record { time = at 2; requests = lists 1 2 0 12 ∷ lists 2 2 0 72 ∷ names 3 10 2 0x61000000 ∷ lists 4 2 3 8192 ∷ [] })
     ≡ (
       record { tree = two; next_ordinal = 10; last_time = at 2 },
       succeeds 1 (0 ∷ 0 ∷ 0 ∷ [])
@@ -94,7 +94,7 @@ behind_all = simp inode_gets
 root_counted : procedure new_tree 3 (at 1) nobody (file_system_status (Some 2)) ≡ (new_tree, free_blocks 262143)
 root_counted = simp (inode_gets, inode_entries)
 
-blocks_told : execute is_procedure new_file_system (record { time = at 1; requests = calls 1 17 (of_file 2) ∷ [] })
+blocks_told : execute new_file_system (record { time = at 1; requests = calls 1 17 (of_file 2) ∷ [] })
     ≡ (record new_file_system { next_ordinal = 4; last_time = at 1 }, succeeds 1 (0 ∷ 8192 ∷ 4096 ∷ 262144 ∷ 262143 ∷ 262143 ∷ []) ∷ [])
 unfolding call_of header_of opaque_auth_at credential_of opaque_at fixed_at bytes_at word_at word handle arguments_of fields_at file_at handle_at handle_id success results
 blocks_told = executed new_file_system _ (next refl refl root_counted (ends _ _ _))
@@ -142,7 +142,7 @@ above_not_removed = simp inode_gets
 above_found : procedure with_d_a_b 11 (at 2) nobody (look_up (Some 2) (codes "..")) ≡ (with_d_a_b, found 2 (attributes_of 2 (the_root 3 2 2 (entry 4 (codes "d") 4 ∷ entry 5 (codes "a") 5 ∷ entry 6 (codes "b") 5 ∷ []))))
 above_found = simp inode_gets
 
-names_there_already : execute is_procedure (record new_file_system { next_ordinal = 4; last_time = at 1 }) (record {
+names_there_already : execute (record new_file_system { next_ordinal = 4; last_time = at 1 }) (record {
   time = at 2;
   requests =
       names_unset 1 14 2 0x64000000

@@ -2,7 +2,7 @@
 use Rattle.std.proofs.Common.{◌≡◌, List, [], ◌∷◌, ◌++◌, Some, refl, codes}
 use Rattle.bfs_model.specs.Items.{word, word_at, bytes_at, fixed_at, opaque_at}
 use Rattle.bfs_model.specs.Tree.{Entry, Inode, Inodes, new_tree, new_file_system}
-use Rattle.bfs_model.specs.Call.{nobody, call_of, header_of, opaque_auth_at, credential_of, is_procedure}
+use Rattle.bfs_model.specs.Call.{nobody, call_of, header_of, opaque_auth_at, credential_of}
 use Rattle.bfs_model.specs.Arguments.{create, look_up, rename, make_directory, remove_directory, handle, handle_id, handle_at, named_at, rename_at, settings_at, named_with_settings_at, fields_at, arguments_of}
 use Rattle.bfs_model.specs.Replies.{found, done, refused, notempty, results, success}
 use Rattle.bfs_model.specs.Attributes.{attributes_of}
@@ -36,7 +36,7 @@ f_made : procedure (holding ((2, the_root 4 1 1 d_e) ∷ (3, empty_directory) �
     ≡ (beginning, found 5 (attributes_of 5 (a_file 1 1 1 1 [])))
 f_made = simp inode_gets (same (simp inode_entries) refl)
 
-directories_made : execute is_procedure new_file_system (record { time = at 1; requests = names_unset 1 14 2 0x64000000 ∷ names_unset 2 14 2 0x65000000 ∷ names_unset 3 9 3 0x66000000 ∷ [] })
+directories_made : execute new_file_system (record { time = at 1; requests = names_unset 1 14 2 0x64000000 ∷ names_unset 2 14 2 0x65000000 ∷ names_unset 3 9 3 0x66000000 ∷ [] })
     ≡ (
       record { tree = beginning; next_ordinal = 6; last_time = at 1 },
       succeeds 1 (0 ∷ of_file 3 ++ told 2 0x41ed 2 65534 65534 64 1 3 1 1 1)
@@ -91,7 +91,7 @@ x_removed = simp inode_gets (same (simp inode_entries) refl)
 g_found : procedure x_gone 12 (at 2) nobody (look_up (Some 2) (codes "g")) ≡ (x_gone, found 5 (attributes_of 5 (a_file 1 1 1 2 [])))
 g_found = simp inode_gets
 
-moved_replaced_and_removed : execute is_procedure (record { tree = beginning; next_ordinal = 6; last_time = at 1 }) (record {
+moved_replaced_and_removed : execute (record { tree = beginning; next_ordinal = 6; last_time = at 1 }) (record {
   time = at 2;
   requests =
       renames 1 2 0x64000000 4 0x78000000

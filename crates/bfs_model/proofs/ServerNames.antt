@@ -2,7 +2,7 @@
 use Rattle.std.proofs.Common.{◌≡◌, [], ◌∷◌, ◌++◌, Some, refl, codes}
 use Rattle.bfs_model.specs.Items.{word, word_at, bytes_at, fixed_at, opaque_at, fixed, counted}
 use Rattle.bfs_model.specs.Tree.{Inodes, link, new_tree, new_file_system}
-use Rattle.bfs_model.specs.Call.{nobody, call_of, header_of, opaque_auth_at, credential_of, is_procedure}
+use Rattle.bfs_model.specs.Call.{nobody, call_of, header_of, opaque_auth_at, credential_of}
 use Rattle.bfs_model.specs.Arguments.{create, get_attributes, set_attributes, remove, read_link, make_link, make_symbolic_link, make_directory, remove_directory, handle, handle_id, handle_at, file_at, named_at, set_attributes_at, link_at, symbolic_link_at, settings_at, named_with_settings_at, fields_at, arguments_of}
 use Rattle.bfs_model.specs.Replies.{found, done, path, refused, stale, perm, notdir, results, success}
 use Rattle.bfs_model.specs.Attributes.{attributes_of}
@@ -36,7 +36,7 @@ b_linked : procedure (holding ((2, the_root 3 1 1 (entry 3 (codes "d") 3 ∷ ent
 unfolding changed
 b_linked = simp inode_gets (same (simp inode_entries) refl)
 
-made_and_linked : execute is_procedure new_file_system (record { time = at 1; requests = names_unset 1 14 2 0x64000000 ∷ names_unset 2 9 2 0x61000000 ∷ calls 3 12 (of_file 4 ++ of_file 3 ++ 1 ∷ 0x62000000 ∷ []) ∷ [] })
+made_and_linked : execute new_file_system (record { time = at 1; requests = names_unset 1 14 2 0x64000000 ∷ names_unset 2 9 2 0x61000000 ∷ calls 3 12 (of_file 4 ++ of_file 3 ++ 1 ∷ 0x62000000 ∷ []) ∷ [] })
     ≡ (
       record { tree = linked; next_ordinal = 6; last_time = at 1 },
       succeeds 1 (0 ∷ of_file 3 ++ told 2 0x41ed 2 65534 65534 64 1 3 1 1 1) ∷ succeeds 2 (0 ∷ of_file 4 ++ told 1 0x81a4 1 65534 65534 0 0 4 1 1 1) ∷ succeeds 3 (0 ∷ []) ∷ [],
@@ -55,7 +55,7 @@ b_removed = simp inode_gets (same (simp inode_entries) refl)
 gone : procedure unnamed 8 (at 2) nobody (get_attributes (Some 4)) ≡ (unnamed, refused stale)
 gone = simp inode_gets
 
-unlinked_and_gone : execute is_procedure (record { tree = linked; next_ordinal = 6; last_time = at 1 }) (record { time = at 2; requests = names 1 10 2 0x61000000 ∷ names 2 10 3 0x62000000 ∷ calls 3 1 (of_file 4) ∷ [] })
+unlinked_and_gone : execute (record { tree = linked; next_ordinal = 6; last_time = at 1 }) (record { time = at 2; requests = names 1 10 2 0x61000000 ∷ names 2 10 3 0x62000000 ∷ calls 3 1 (of_file 4) ∷ [] })
     ≡ (record { tree = unnamed; next_ordinal = 9; last_time = at 2 }, succeeds 1 (0 ∷ []) ∷ succeeds 2 (0 ∷ []) ∷ succeeds 3 (70 ∷ []) ∷ [])
 unfolding call_of header_of opaque_auth_at credential_of opaque_at fixed_at bytes_at word_at word handle arguments_of fields_at named_at file_at handle_at handle_id success results
 unlinked_and_gone = executed _ _ (next refl refl a_removed (next refl refl b_removed (next refl refl gone (ends _ _ _))))
@@ -77,7 +77,7 @@ l_not_cut = simp inode_gets
 l_no_directory : procedure with_l 6 (at 1) nobody (remove_directory (Some 2) (codes "l")) ≡ (with_l, refused notdir)
 l_no_directory = simp inode_gets
 
-symbolically_linked : execute is_procedure new_file_system (record {
+symbolically_linked : execute new_file_system (record {
   time = at 1;
   requests =
       calls 1 13 (of_file 2 ++ (1 ∷ 0x6c000000 ∷ 3 ∷ 0x612f6200 ∷ []) ++ unset_words)

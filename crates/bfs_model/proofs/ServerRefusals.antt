@@ -2,7 +2,7 @@
 use Rattle.std.proofs.Common.{◌≡◌, [], ◌∷◌, ◌++◌, Some, refl, codes}
 use Rattle.bfs_model.specs.Items.{word, word_at, bytes_at, fixed_at, opaque_at}
 use Rattle.bfs_model.specs.Tree.{Inodes}
-use Rattle.bfs_model.specs.Call.{nobody, call_of, header_of, opaque_auth_at, credential_of, is_procedure}
+use Rattle.bfs_model.specs.Call.{nobody, call_of, header_of, opaque_auth_at, credential_of}
 use Rattle.bfs_model.specs.Arguments.{create, look_up, read, read_link, rename, handle, handle_id, handle_at, file_at, named_at, read_at, rename_at, settings_at, named_with_settings_at, fields_at, arguments_of}
 use Rattle.bfs_model.specs.Replies.{found, done, refused, exist, notdir, isdir, noent, perm, results, success}
 use Rattle.bfs_model.specs.Attributes.{attributes_of}
@@ -52,7 +52,7 @@ a_renamed : procedure before 12 (at 2) nobody (rename (Some 2) (codes "a") (Some
 unfolding is_within changed
 a_renamed = simp inode_gets (same (simp inode_entries) refl)
 
-refused_and_renamed : execute is_procedure (record { tree = before; next_ordinal = 6; last_time = at 1 }) (record {
+refused_and_renamed : execute (record { tree = before; next_ordinal = 6; last_time = at 1 }) (record {
   time = at 2;
   requests =
       names_unset 1 9 2 0x61000000 ∷ names_unset 2 9 3 0x62000000 ∷ calls 3 6 (of_file 4 ++ 0 ∷ 8 ∷ 0 ∷ []) ∷ calls 4 5 (of_file 3) ∷ names 5 4 2 0x62000000 ∷ names 6 4 4 0x2e000000 ∷ renames 7 2 0x61000000 2 0x62000000 ∷ [];

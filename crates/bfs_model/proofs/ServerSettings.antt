@@ -2,7 +2,7 @@
 use Rattle.std.proofs.Common.{◌≡◌, ℕ, List, [], ◌∷◌, ◌++◌, Some, refl, codes}
 use Rattle.bfs_model.specs.Items.{word, word_at, bytes_at, fixed_at, opaque_at, fixed, counted}
 use Rattle.bfs_model.specs.Tree.{Time, Inode, Inodes, file, new_tree, new_file_system}
-use Rattle.bfs_model.specs.Call.{nobody, call_of, header_of, opaque_auth_at, credential_of, is_procedure}
+use Rattle.bfs_model.specs.Call.{nobody, call_of, header_of, opaque_auth_at, credential_of}
 use Rattle.bfs_model.specs.Arguments.{Settings, create, set_attributes, read, handle, handle_id, handle_at, set_attributes_at, read_at, settings_at, named_with_settings_at, fields_at, arguments_of}
 use Rattle.bfs_model.specs.Replies.{found, attributes, contents, refused, isdir, results, success}
 use Rattle.bfs_model.specs.Attributes.{attributes_of}
@@ -58,12 +58,12 @@ filled_read = simp inode_gets
 abbrev not_set : ℕ
 not_set = 0xffffffff
 
-file_made_as_set : execute is_procedure new_file_system (record { time = at 9; requests = calls 1 9 (of_file 2 ++ 1 ∷ 0x61000000 ∷ 0x8180 ∷ 7 ∷ 8 ∷ 5 ∷ 100 ∷ 5 ∷ 0 ∷ 1000000 ∷ []) ∷ [] })
+file_made_as_set : execute new_file_system (record { time = at 9; requests = calls 1 9 (of_file 2 ++ 1 ∷ 0x61000000 ∷ 0x8180 ∷ 7 ∷ 8 ∷ 5 ∷ 100 ∷ 5 ∷ 0 ∷ 1000000 ∷ []) ∷ [] })
     ≡ (record { tree = with_a of_five; next_ordinal = 4; last_time = at 9 }, succeeds 1 (0 ∷ of_file 3 ++ 1 ∷ 0x8180 ∷ 1 ∷ 7 ∷ 8 ∷ 5 ∷ 4096 ∷ 0 ∷ 1 ∷ 1 ∷ 3 ∷ 100 ∷ 5 ∷ 9 ∷ 0 ∷ 9 ∷ 0 ∷ []) ∷ [])
 unfolding call_of header_of opaque_auth_at credential_of opaque_at fixed_at bytes_at word_at word handle arguments_of fields_at named_with_settings_at settings_at handle_at handle_id success results
 file_made_as_set = executed _ _ (next refl refl made_as_set (ends _ _ _))
 
-attributes_set_one_by_one : execute is_procedure (record { tree = with_a of_five; next_ordinal = 4; last_time = at 9 }) (record {
+attributes_set_one_by_one : execute (record { tree = with_a of_five; next_ordinal = 4; last_time = at 9 }) (record {
   time = at 10;
   requests =
       calls 1 2 (of_file 3 ++ not_set ∷ not_set ∷ not_set ∷ 2 ∷ not_set ∷ not_set ∷ not_set ∷ not_set ∷ [])

@@ -201,7 +201,3 @@ unfoldable pub arguments_of : ℕ → List ℕ → Option Call
 arguments_of procedure bytes = do
   fields ← fields_at procedure bytes
   if length fields.1 == 0 then Some fields.0 else None
-
--- those of a server that serves some of the procedures
-abbrev pub arguments_served : (served : ℕ → Bool) → ℕ → List ℕ → Option Call
-arguments_served served procedure bytes = if served procedure then arguments_of procedure bytes else None

@@ -108,17 +108,13 @@ only_if false refusal = Err refusal
 abbrev pub is_procedure : ℕ → Bool
 is_procedure procedure = nat_le procedure 17
 
--- those that the code serves: all of them
-abbrev pub is_served : ℕ → Bool
-is_served procedure = is_procedure procedure
-
--- of a server that serves some of the procedures
-unfoldable pub call_of : (served : ℕ → Bool) → List ℕ → Result Request Refusal
-call_of served bytes =
+-- the request that bytes spell, or the first reason to refuse it
+unfoldable pub call_of : List ℕ → Result Request Refusal
+call_of bytes =
     ok_or (header_of bytes) silent >> λ header.
     only_if (header.rpc_version == 2) (rpc_mismatch header.xid) >> λ _.
     ok_or (credential_of header.flavor header.body) (bad_credential header.xid) >> λ credential.
     only_if (header.program == 100003) (program_unavailable header.xid) >> λ _.
     only_if (header.program_version == 2) (program_mismatch header.xid) >> λ _.
-    only_if (served header.procedure) (procedure_unavailable header.xid) >> λ _.
+    only_if (is_procedure header.procedure) (procedure_unavailable header.xid) >> λ _.
     Ok (record { xid = header.xid; procedure = header.procedure; credential = credential; arguments = header.arguments })

@@ -8,6 +8,6 @@ use Rattle.bfs_model.specs.WellFormed.{IsWithin}
 
 -- whatever the bytes of a request, where each inode is within the limits
 abbrev pub RepliesAreShort : Type 0
-RepliesAreShort = (served : ℕ → Bool) (inodes : Inodes) (limit ordinal : ℕ) (now : Time) (request : List ℕ)
+RepliesAreShort = (inodes : Inodes) (limit ordinal : ℕ) (now : Time) (request : List ℕ)
     → ((id : ℕ) (inode : Inode) → get inodes id ≡ Some inode → IsWithin limit id inode)
-    → length (answer served inodes ordinal now request).1 ≤ longest_reply
+    → length (answer inodes ordinal now request).1 ≤ longest_reply

@@ -2,7 +2,7 @@
 use Rattle.std.specs.Prelude.{ℕ, ◌+◌, Bool, ◌&&◌, ◌||◌, min, List, [], ◌∷◌, length, Option, Some, None, Result, Ok, Err, nat_lt, ◌==◌, if◌then◌else◌}
 use Rattle.bfs_model.specs.Tree.{Time, Inodes, FileSystem, spent_ordinal}
 use Rattle.bfs_model.specs.Call.{Request, Refusal, call_of}
-use Rattle.bfs_model.specs.Arguments.{Call, arguments_served}
+use Rattle.bfs_model.specs.Arguments.{Call, arguments_of}
 use Rattle.bfs_model.specs.Replies.{results, success, garbage, refusal}
 use Rattle.bfs_model.specs.Steps.{Outcome}
 use Rattle.bfs_model.specs.Procedures.{procedure}
@@ -35,13 +35,13 @@ abbrev pub answer_arguments : Inodes → ℕ → Time → Request → Option Cal
 answer_arguments inodes ordinal time request None = (inodes, garbage request.xid)
 answer_arguments inodes ordinal time request (Some call) = in_success request.xid (procedure inodes ordinal time request.credential call)
 
-abbrev pub answer_call : (served : ℕ → Bool) → Inodes → ℕ → Time → Result Request Refusal → Inodes × List ℕ
-answer_call served inodes ordinal time (Err reason) = (inodes, refusal reason)
-answer_call served inodes ordinal time (Ok request) = answer_arguments inodes ordinal time request (arguments_served served request.procedure request.arguments)
+abbrev pub answer_call : Inodes → ℕ → Time → Result Request Refusal → Inodes × List ℕ
+answer_call inodes ordinal time (Err reason) = (inodes, refusal reason)
+answer_call inodes ordinal time (Ok request) = answer_arguments inodes ordinal time request (arguments_of request.procedure request.arguments)
 
 -- the inodes after the request that bytes spell, and the bytes of its reply
-unfoldable pub answer : (served : ℕ → Bool) → Inodes → ℕ → Time → List ℕ → Inodes × List ℕ
-answer served inodes ordinal time bytes = answer_call served inodes ordinal time (call_of served bytes)
+unfoldable pub answer : Inodes → ℕ → Time → List ℕ → Inodes × List ℕ
+answer inodes ordinal time bytes = answer_call inodes ordinal time (call_of bytes)
 
 -- A batch ----------------------------------------------------------------------------------------------------------
 
@@ -50,19 +50,19 @@ pub record Batch : Type 0 where
   pub time : Time
   pub requests : List (List ℕ)
 
-abbrev pub inodes_after : (served : ℕ → Bool) → Inodes → ℕ → Time → List (List ℕ) → Inodes
-inodes_after served inodes ordinal time [] = inodes
-inodes_after served inodes ordinal time (request ∷ requests) = inodes_after served (answer served inodes ordinal time request).0 (ordinal_after ordinal 1) time requests
+abbrev pub inodes_after : Inodes → ℕ → Time → List (List ℕ) → Inodes
+inodes_after inodes ordinal time [] = inodes
+inodes_after inodes ordinal time (request ∷ requests) = inodes_after (answer inodes ordinal time request).0 (ordinal_after ordinal 1) time requests
 
-abbrev pub replies_to : (served : ℕ → Bool) → Inodes → ℕ → Time → List (List ℕ) → List (List ℕ)
-replies_to served inodes ordinal time [] = []
-replies_to served inodes ordinal time (request ∷ requests) =
-    (answer served inodes ordinal time request).1 ∷ replies_to served (answer served inodes ordinal time request).0 (ordinal_after ordinal 1) time requests
+abbrev pub replies_to : Inodes → ℕ → Time → List (List ℕ) → List (List ℕ)
+replies_to inodes ordinal time [] = []
+replies_to inodes ordinal time (request ∷ requests) =
+    (answer inodes ordinal time request).1 ∷ replies_to (answer inodes ordinal time request).0 (ordinal_after ordinal 1) time requests
 
 -- the file system after a batch, and the replies in its order
-unfoldable pub execute : (served : ℕ → Bool) → FileSystem → Batch → FileSystem × List (List ℕ)
-execute served files batch =
+unfoldable pub execute : FileSystem → Batch → FileSystem × List (List ℕ)
+execute files batch =
     let time = effective_time files.last_time batch.time in (
-      record { tree = inodes_after served files.tree files.next_ordinal time batch.requests; next_ordinal = ordinal_after files.next_ordinal (length batch.requests); last_time = time },
-      replies_to served files.tree files.next_ordinal time batch.requests,
+      record { tree = inodes_after files.tree files.next_ordinal time batch.requests; next_ordinal = ordinal_after files.next_ordinal (length batch.requests); last_time = time },
+      replies_to files.tree files.next_ordinal time batch.requests,
     )

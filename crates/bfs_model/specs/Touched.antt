@@ -6,7 +6,7 @@ use Rattle.std.specs.FinMap.{get}
 use Rattle.bfs_model.specs.Tree.{Inodes, spent_ordinal, is_directory, listing_at, entries_at}
 use Rattle.bfs_model.specs.Directories.{entry_named}
 use Rattle.bfs_model.specs.Call.{Request, Refusal, call_of}
-use Rattle.bfs_model.specs.Arguments.{Call, null, get_attributes, set_attributes, root, look_up, read_link, read, write_cache, write, create, remove, rename, make_link, make_symbolic_link, make_directory, remove_directory, read_directory, file_system_status, arguments_served}
+use Rattle.bfs_model.specs.Arguments.{Call, null, get_attributes, set_attributes, root, look_up, read_link, read, write_cache, write, create, remove, rename, make_link, make_symbolic_link, make_directory, remove_directory, read_directory, file_system_status, arguments_of}
 use Rattle.bfs_model.specs.Procedures.OfFiles.{child_named}
 
 pub data Footprint : Type 0 where
@@ -66,13 +66,13 @@ abbrev pub footprint_of_arguments : Inodes → (ordinal : ℕ) → Option Call �
 footprint_of_arguments inodes ordinal None = known [] []
 footprint_of_arguments inodes ordinal (Some call) = footprint inodes ordinal call
 
-abbrev pub footprint_of_call : (served : ℕ → Bool) → Inodes → (ordinal : ℕ) → Result Request Refusal → Footprint
-footprint_of_call served inodes ordinal (Err refusal) = known [] []
-footprint_of_call served inodes ordinal (Ok request) = footprint_of_arguments inodes ordinal (arguments_served served request.procedure request.arguments)
+abbrev pub footprint_of_call : Inodes → (ordinal : ℕ) → Result Request Refusal → Footprint
+footprint_of_call inodes ordinal (Err refusal) = known [] []
+footprint_of_call inodes ordinal (Ok request) = footprint_of_arguments inodes ordinal (arguments_of request.procedure request.arguments)
 
 -- that of the request of these bytes; a refused one touches nothing
-abbrev pub footprint_of : (served : ℕ → Bool) → Inodes → (ordinal : ℕ) → List ℕ → Footprint
-footprint_of served inodes ordinal bytes = footprint_of_call served inodes ordinal (call_of served bytes)
+abbrev pub footprint_of : Inodes → (ordinal : ℕ) → List ℕ → Footprint
+footprint_of inodes ordinal bytes = footprint_of_call inodes ordinal (call_of bytes)
 
 -- Fresh ordinals -----------------------------------------------------------------------------------------------------
 

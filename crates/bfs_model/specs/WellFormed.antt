@@ -65,6 +65,20 @@ pub record IsWithin (ordinal id : ℕ) (inode : Inode) : Type 0 where
   pub links : inode.links ≤ most_links
   pub body : BodyIsWithin ordinal id inode.links inode.body
 
+-- The limits that a tree has by itself, whatever the ordinals of its file system: cookies rise, and are ordinals
+abbrev pub BodyIsLimited : (links : ℕ) → Body → Type 0
+BodyIsLimited links (file bytes) = (1 ≤ links) × (length bytes ≤ most_bytes)
+BodyIsLimited links (directory listing) = (length listing.entries ≤ most_entries) × IsRising 0 listing.entries spent_ordinal × HasNames listing.entries
+BodyIsLimited links (link path) = (1 ≤ links) × (length path ≤ longest_path)
+
+pub record IsLimited (inode : Inode) : Type 0 where
+  pub links : inode.links ≤ most_links
+  pub body : BodyIsLimited inode.links inode.body
+
+pub record IsWellFormedTree (inodes : Inodes) : Type 0 where
+  pub tree : IsTree inodes
+  pub limited : (id : ℕ) (inode : Inode) → get inodes id ≡ Some inode → IsLimited inode
+
 -- The file system ----------------------------------------------------------------------------------------------------
 
 pub record IsWellFormed (files : FileSystem) : Type 0 where

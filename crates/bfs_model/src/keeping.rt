@@ -9,14 +9,14 @@ pub fn a_new_file_system_is_well_formed()
     ensures { IsWellFormed new_file_system }
 {}
 
-/// A batch of any requests leaves a well-formed file system well formed, whichever procedures are served.
+/// A batch of any requests leaves a well-formed file system well formed.
 #[tactic(auto, using(crate::proofs::Kept::execute_keeps))]
 pub fn a_batch_keeps_files_well_formed()
-    ensures { (served : ℕ → Bool) (files : FileSystem) (batch : Batch) → IsWellFormed files → IsWellFormed (execute served files batch).0 }
+    ensures { (files : FileSystem) (batch : Batch) → IsWellFormed files → IsWellFormed (execute files batch).0 }
 {}
 
 /// Each request of a batch gets one reply.
 #[tactic(auto, using(crate::proofs::Counts::replies_counted))]
 pub fn each_request_gets_one_reply()
-    ensures { (served : ℕ → Bool) (files : FileSystem) (batch : Batch) → length (execute served files batch).1 ≡ length batch.requests }
+    ensures { (files : FileSystem) (batch : Batch) → length (execute files batch).1 ≡ length batch.requests }
 {}

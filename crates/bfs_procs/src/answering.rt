@@ -1,6 +1,5 @@
 ghost use Rattle.std.specs.Prelude.{◌≡◌, IfOk};
 ghost use Rattle.bfs_model.specs.Call as model;
-ghost use Rattle.bfs_model.specs.Call.{is_served};
 ghost use Rattle.bfs_model.specs.Replies.{results, success};
 ghost use Rattle.bfs_model.specs.Serial.{answer, answer_call};
 ghost use Rattle.bfs_model.specs.Touched.{footprint_of, footprint_of_call};
@@ -26,8 +25,8 @@ pub fn answer<S: Store>(
     time: Time,
     request: &[u8],
 ) -> Result<Vec<u8>, Memory>
-    requires { Knows (S.reach store.old) (footprint_of is_served (S.inodes store.old) ordinal request.now) }
-    ensures done { IfOk result (λ reply. (S.inodes store.new, reply.items) ≡ answer is_served (S.inodes store.old) ordinal time request.now) }
+    requires { Knows (S.reach store.old) (footprint_of (S.inodes store.old) ordinal request.now) }
+    ensures done { IfOk result (λ reply. (S.inodes store.new, reply.items) ≡ answer (S.inodes store.old) ordinal time request.now) }
     ensures reach { S.reach store.new ≡ S.reach store.old }
 {
     match parse_call(request) {
@@ -43,8 +42,8 @@ fn answer_call<S: Store>(
     time: Time,
     call: &Call,
 ) -> Result<Vec<u8>, Memory>
-    requires { Knows (S.reach store.old) (footprint_of_call is_served (S.inodes store.old) ordinal (Ok (request_of call.now))) }
-    ensures done { IfOk result (λ reply. (S.inodes store.new, reply.items) ≡ answer_call is_served (S.inodes store.old) ordinal time (Ok (request_of call.now))) }
+    requires { Knows (S.reach store.old) (footprint_of_call (S.inodes store.old) ordinal (Ok (request_of call.now))) }
+    ensures done { IfOk result (λ reply. (S.inodes store.new, reply.items) ≡ answer_call (S.inodes store.old) ordinal time (Ok (request_of call.now))) }
     ensures reach { S.reach store.new ≡ S.reach store.old }
 {
     let Ok(arguments) = parse_args(call.proc, call.args) else {

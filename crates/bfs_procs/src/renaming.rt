@@ -10,7 +10,6 @@ mod below;
 mod moves;
 mod plans;
 mod refusals;
-mod steps;
 
 use crate::context::Context;
 use bfs_inode::{FileId, Store};

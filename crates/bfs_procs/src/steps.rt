@@ -1,11 +1,14 @@
 // What procedures do to the inode of one fileid, where it is there.
-ghost use Rattle.std.specs.Prelude.{◌≡◌, ◌<◌, IsTrue};
+ghost use Rattle.std.specs.Prelude.{◌≡◌, ◌<◌, ◌≤◌, length, IsTrue, IfOk};
 ghost use Rattle.std.specs.Option.{ForSome};
 ghost use Rattle.std.specs.FinMap.{get};
-ghost use Rattle.bfs_model.specs.Limits.{most_links};
-ghost use Rattle.bfs_model.specs.Changes.{changed, link_lost, with_link, with_link_less, without_entry};
+ghost use Rattle.bfs_model.specs.Limits.{longest_name, most_entries, most_links};
+ghost use Rattle.bfs_model.specs.Changes.{changed, link_lost, with_ctime, with_entry, with_link, with_link_less, with_parent, without_entry};
+ghost use Rattle.bfs_model.specs.Procedures.OfFiles.{entry_made};
+ghost use Rattle.bfs_model.specs.Tree.{entries_at};
 
 use bfs_inode::{FileId, Store, Time};
+use bfs_types::Memory;
 
 /// Takes the entry of that name out of a directory.
 #[tactic(auto, unfolding(bfs_model::specs::Changes::changed))]
@@ -16,6 +19,40 @@ pub(crate) fn drop_entry<S: Store>(store: &mut S, now: Time, dir: FileId, name: 
 {
     if let Some(inode) = store.get_mut(dir) {
         inode.drop_entry(now, name);
+    }
+}
+
+/// Puts an entry more in a directory. `Memory` where there is no room for it.
+#[tactic(auto, unfolding(bfs_model::specs::Changes::changed))]
+pub(crate) fn add_entry<S: Store>(
+    store: &mut S,
+    now: Time,
+    dir: FileId,
+    cookie: u32,
+    name: &[u8],
+    child: FileId,
+) -> Result<(), Memory>
+    requires owned { IsTrue ((S.reach store.old).owned dir) }
+    requires room { length (entries_at (get (S.inodes store.old) dir)) < most_entries }
+    requires short { length name.now ≤ longest_name }
+    ensures done { IfOk result (λ _. S.inodes store.new ≡ changed (S.inodes store.old) dir (with_entry now (entry_made cookie name.now child))) }
+    ensures reach { S.reach store.new ≡ S.reach store.old }
+{
+    if let Some(inode) = store.get_mut(dir) {
+        inode.add_entry(now, cookie, name, child)?;
+    }
+    Ok(())
+}
+
+/// Puts a directory below another one.
+#[tactic(auto, unfolding(bfs_model::specs::Changes::changed))]
+pub(crate) fn set_parent<S: Store>(store: &mut S, parent: FileId, dir: FileId)
+    requires { IsTrue ((S.reach store.old).owned dir) }
+    ensures done { S.inodes store.new ≡ changed (S.inodes store.old) dir (with_parent parent) }
+    ensures reach { S.reach store.new ≡ S.reach store.old }
+{
+    if let Some(inode) = store.get_mut(dir) {
+        inode.set_parent(parent);
     }
 }
 
@@ -41,6 +78,18 @@ pub(crate) fn lose_link<S: Store>(store: &mut S, now: Time, id: FileId)
 {
     if let Some(inode) = store.get_mut(id) {
         inode.lose_link(now);
+    }
+}
+
+/// Says that an inode has changed now.
+#[tactic(auto, unfolding(bfs_model::specs::Changes::changed))]
+pub(crate) fn set_ctime<S: Store>(store: &mut S, now: Time, id: FileId)
+    requires { IsTrue ((S.reach store.old).owned id) }
+    ensures done { S.inodes store.new ≡ changed (S.inodes store.old) id (with_ctime now) }
+    ensures reach { S.reach store.new ≡ S.reach store.old }
+{
+    if let Some(inode) = store.get_mut(id) {
+        inode.set_ctime(now);
     }
 }
 

@@ -1,7 +1,6 @@
 -- What a line of a trace does, before the lines behind it.
 use Rattle.std.specs.Prelude.{ℕ, ◌≤◌, ⊤, List, [], length}
 use Rattle.bfs_model.specs.Tree.{FileSystem}
-use Rattle.bfs_model.specs.Call.{is_served}
 use Rattle.bfs_model.specs.Serial.{execute}
 use Rattle.bfs_replay.specs.Blocks.{block_limit, leading}
 use Rattle.bfs_replay.specs.Output.{batch_of, block_output}
@@ -20,5 +19,5 @@ line_output files (line.Request request) behind = []
 
 -- the file system after a block that it begins
 abbrev pub files_after : FileSystem → Line → List Line → FileSystem
-files_after files (line.Batch time) behind = (execute is_served files (batch_of (record { time = time; requests = leading behind }))).0
+files_after files (line.Batch time) behind = (execute files (batch_of (record { time = time; requests = leading behind }))).0
 files_after files (line.Request request) behind = files

@@ -1,7 +1,6 @@
 ghost use Rattle.std.specs.Prelude.{◌≡◌, ◌≢◌, ◌<◌, ◌≤◌, [], ◌∷◌, length, Some, IsSome, IfSome, IfNone, OnOk, IfOk, IfErr};
 ghost use Rattle.std.specs.Option.{ForSome};
 ghost use Rattle.std.specs.Io.KnownBytes.{Appends};
-ghost use Rattle.bfs_model.specs.Call.{is_served};
 ghost use Rattle.bfs_model.specs.Serial.{execute};
 ghost use Rattle.bfs_replay.specs.Blocks.{block_limit, leading, line_of};
 ghost use Rattle.bfs_replay.specs.Output.{batch_of, block_output, calls_of, reply_lines};
@@ -25,7 +24,7 @@ pub(crate) fn run_block<W: Write>(
     requires live { IsSome files.old }
     requires room { length (leading lines.now) ≤ block_limit }
     ensures written { OnOk result (ForSome files.old (λ live. Appends (W.contents writer.old) (W.contents writer.new) (block_output live (record { time = time; requests = leading lines.now })))) }
-    ensures files { OnOk result (ForSome files.old (λ live. files.new ≡ Some (execute is_served live (batch_of (record { time = time; requests = leading lines.now }))).0)) }
+    ensures files { OnOk result (ForSome files.old (λ live. files.new ≡ Some (execute live (batch_of (record { time = time; requests = leading lines.now }))).0)) }
     ensures fails { IfErr result (λ e. e ≢ ReplayError.Failed) }
 {
     let batch = make_batch(alloc, time, lines)?;

@@ -49,7 +49,7 @@ const MAX_AUTH_BYTES: u32 = 400;
 /// `Reject`; padding is not looked at.
 #[tactic(auto, unfolding(bfs_model::specs::Call::call_of))]
 pub fn parse_call(bytes: &[u8]) -> Result<Call<'_>, Reject>
-    ensures { Gives request_of refusal_of result (model.call_of model.is_served bytes.now) }
+    ensures { Gives request_of refusal_of result (model.call_of bytes.now) }
 {
     let header = header_at(bytes).ok_or(Reject::Silent)?;
     let xid = header.xid;
@@ -63,7 +63,7 @@ pub fn parse_call(bytes: &[u8]) -> Result<Call<'_>, Reject>
     if header.program_version != NFS_VERSION {
         return Err(Reject::ProgMismatch(xid));
     }
-    if !is_served(header.procedure) {
+    if !is_procedure(header.procedure) {
         return Err(Reject::ProcUnavail(xid));
     }
     Ok(Call {
@@ -74,8 +74,8 @@ pub fn parse_call(bytes: &[u8]) -> Result<Call<'_>, Reject>
     })
 }
 
-fn is_served(procedure: u32) -> bool
-    ensures { result ≡ model.is_served procedure }
+fn is_procedure(procedure: u32) -> bool
+    ensures { result ≡ model.is_procedure procedure }
 {
     procedure <= LAST_PROCEDURE
 }

@@ -1,10 +1,9 @@
 -- What an executor does to a file system that may have failed.
 use Rattle.std.specs.Prelude.{◌≡◌, ℕ, List, Option, Some, None}
 use Rattle.bfs_model.specs.Tree.{FileSystem}
-use Rattle.bfs_model.specs.Call.{is_served}
 use Rattle.bfs_model.specs.Serial.{Batch, execute}
 
 -- a live file system went over to the one after the batch, and these are the batch's replies
 abbrev pub Executed : Option FileSystem → Batch → Option FileSystem → List (List ℕ) → Type 0
 Executed None batch new replies = ⊥
-Executed (Some live) batch new replies = (new ≡ Some (execute is_served live batch).0) × (replies ≡ (execute is_served live batch).1)
+Executed (Some live) batch new replies = (new ≡ Some (execute live batch).0) × (replies ≡ (execute live batch).1)

@@ -1,5 +1,4 @@
 ghost use Rattle.std.specs.Prelude.{◌≡◌, ◌↔◌, length, IsTrue, IfOk, IsErrOf, Some, None};
-ghost use Rattle.bfs_model.specs.Call.{is_served};
 ghost use Rattle.bfs_model.specs.Serial as model;
 ghost use Rattle.bfs_model.specs.Serial.{execute, inodes_after, replies_to};
 ghost use Rattle.bfs_serial.specs.Errors.{exec_code_of};
@@ -64,7 +63,7 @@ pub fn execute_serial(
 
 #[tactic(auto, unfolding(bfs_model::specs::Serial::execute))]
 fn execute_live(alloc: Global, live: Live, batch: &Batch) -> Result<(Live, Replies), Memory>
-    ensures { IfOk result (λ done. (done.0, done.1) ≡ execute is_served live batch.now) }
+    ensures { IfOk result (λ done. (done.0, done.1) ≡ execute live batch.now) }
 {
     let Live {
         mut tree,
@@ -91,8 +90,8 @@ fn answer_each<S: Store>(
     requests: &[Request],
 ) -> Result<Replies, Memory>
     requires { IsTrue ((S.reach store.old).whole) }
-    ensures inodes { IfOk result (λ _. S.inodes store.new ≡ inodes_after is_served (S.inodes store.old) first time requests.now) }
-    ensures replies { IfOk result (λ replies. replies ≡ replies_to is_served (S.inodes store.old) first time requests.now) }
+    ensures inodes { IfOk result (λ _. S.inodes store.new ≡ inodes_after (S.inodes store.old) first time requests.now) }
+    ensures replies { IfOk result (λ replies. replies ≡ replies_to (S.inodes store.old) first time requests.now) }
 {
     let mut ordinal = first;
     let mut replies = Replies::new(alloc);
@@ -114,7 +113,7 @@ fn answer_whole<S: Store>(
     request: &[u8],
 ) -> Result<Vec<u8>, Memory>
     requires { IsTrue ((S.reach store.old).whole) }
-    ensures done { IfOk result (λ reply. (S.inodes store.new, reply.items) ≡ model.answer is_served (S.inodes store.old) ordinal time request.now) }
+    ensures done { IfOk result (λ reply. (S.inodes store.new, reply.items) ≡ model.answer (S.inodes store.old) ordinal time request.now) }
     ensures reach { S.reach store.new ≡ S.reach store.old }
 {
     answer(alloc, store, ordinal, time, request)

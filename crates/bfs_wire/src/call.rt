@@ -1,7 +1,6 @@
 ghost use Rattle.std.specs.Prelude.{◌≡◌, false, None, IfOk, IfSome, if◌then◌else◌};
 ghost use Rattle.std.specs.Option.{option_map};
 ghost use Rattle.std.specs.Result.{result_ok};
-ghost use Rattle.bfs_model.specs.Call.{is_served};
 ghost use Rattle.bfs_model.specs.Arguments as model;
 ghost use Rattle.bfs_wire.specs.Calls.{call_of};
 ghost use Rattle.bfs_model.specs.Short.{IsShort};
@@ -113,7 +112,7 @@ pub enum NfsCall<'a> {
 /// them. Padding is not looked at.
 #[tactic(auto, unfolding(bfs_model::specs::Arguments::arguments_of))]
 pub fn parse_args(procedure: u32, args: &[u8]) -> Result<NfsCall<'_>, GarbageArgs>
-    ensures value { option_map call_of (result_ok result) ≡ model.arguments_served is_served procedure args.now }
+    ensures value { option_map call_of (result_ok result) ≡ model.arguments_of procedure args.now }
     ensures short { IfOk result (λ call. IsShort (call_of call)) }
 {
     let mut reader = Reader::new(args);
@@ -130,7 +129,7 @@ pub fn parse_args(procedure: u32, args: &[u8]) -> Result<NfsCall<'_>, GarbageArg
 #[tactic(auto, unfolding(bfs_model::specs::Arguments::fields_at))]
 fn fields<'a>(procedure: u32, reader: &mut Reader<'a>) -> Option<NfsCall<'a>>
     requires { reader.old.strict ≡ false }
-    ensures value { option_map (λ call. (call_of call, reader.new.left)) result ≡ (if is_served procedure then model.fields_at procedure reader.old.left else None) }
+    ensures value { option_map (λ call. (call_of call, reader.new.left)) result ≡ model.fields_at procedure reader.old.left }
     ensures lenient { IfSome result (λ call. reader.new.strict ≡ false) }
     ensures short { IfSome result (λ call. IsShort (call_of call)) }
 {

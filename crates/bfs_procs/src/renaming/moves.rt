@@ -8,8 +8,8 @@ ghost use Rattle.bfs_model.specs.Tree as tree;
 ghost use Rattle.bfs_model.specs.Tree.{entries_at, spent_ordinal};
 ghost use Rattle.bfs_procs.specs.Moves.{Owns, cleared, moved_by, with_parent_set, without_names};
 
-use crate::renaming::steps::{
-    add_entry, add_link, drop_entry, drop_link, lose_link, set_ctime, set_parent,
+use crate::steps::{
+    add_entry, add_link, drop_entry, lose_link, lose_name, set_ctime, set_parent,
 };
 use bfs_inode::{FileId, Store, Time};
 use bfs_types::{Memory, Ordinal};
@@ -77,10 +77,10 @@ fn clear_name<S: Store>(
     if is_directory(store, id) {
         drop_entry(store, now, to, to_name);
         store.remove(id);
-        drop_link(store, now, to);
+        lose_link(store, now, to);
     } else {
         drop_entry(store, now, to, to_name);
-        lose_link(store, now, id);
+        lose_name(store, now, id);
     }
 }
 
@@ -113,6 +113,6 @@ fn move_below<S: Store>(
     if moves_directory {
         set_parent(store, to, moved);
         add_link(store, now, to);
-        drop_link(store, now, from);
+        lose_link(store, now, from);
     }
 }

@@ -1,11 +1,10 @@
 -- What the requests that are left give is what all of them give, after the replies so far.
 use Rattle.std.proofs.Common.{◌≡◌, ◌++◌, true, drop}
-use Rattle.bfs_model.specs.Call.{is_served}
 use Rattle.bfs_model.specs.Serial.{inodes_after, replies_to}
 use Rattle.bfs_serial.proofs.executing.answer_each.Given as goal
 
 abbrev pub invariant-loop-request : goal.invariant-loop-request
 invariant-loop-request g l =
     ((g.S.Store.reach l.store).whole ≡ true)
-    × (inodes_after is_served (g.S.Store.inodes l.store) l.ordinal l.time (drop l.request-index l.requests) ≡ inodes_after is_served (g.S.Store.inodes l.fn.store) l.fn.first l.fn.time l.fn.requests)
-    × (l.replies ++ replies_to is_served (g.S.Store.inodes l.store) l.ordinal l.time (drop l.request-index l.requests) ≡ replies_to is_served (g.S.Store.inodes l.fn.store) l.fn.first l.fn.time l.fn.requests)
+    × (inodes_after (g.S.Store.inodes l.store) l.ordinal l.time (drop l.request-index l.requests) ≡ inodes_after (g.S.Store.inodes l.fn.store) l.fn.first l.fn.time l.fn.requests)
+    × (l.replies ++ replies_to (g.S.Store.inodes l.store) l.ordinal l.time (drop l.request-index l.requests) ≡ replies_to (g.S.Store.inodes l.fn.store) l.fn.first l.fn.time l.fn.requests)
