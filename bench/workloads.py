@@ -82,13 +82,14 @@ def create(trace):
 
 
 def rename(trace):
-    """100 directories with 100 files each, then 50,000 RENAMEs of files between them."""
+    """100 directories with 100 files each, then 50,000 RENAMEs: five times each file goes on to the next directory."""
     trace.blocks((14, handle(2) + opaque(b"d%d" % i) + UNSET) for i in range(100))
-    trace.blocks((9, handle(FIRST + i % 100) + opaque(b"f%d" % (i // 100)) + UNSET) for i in range(10_000))
-    trace.blocks(
-        (11, handle(FIRST + (i // 10_000 + i) % 100) + opaque(b"f%d" % (i // 100 % 100)) + handle(FIRST + (i // 10_000 + i + 1) % 100) + opaque(b"f%d" % (i // 100 % 100)))
-        for i in range(50_000)
-    )
+    trace.blocks((9, handle(FIRST + i % 100) + opaque(b"f%d" % i) + UNSET) for i in range(10_000))
+
+    def place(i, round):
+        return handle(FIRST + (i + round) % 100) + opaque(b"f%d" % i)
+
+    trace.blocks((11, place(i, round) + place(i, round + 1)) for round in range(5) for i in range(10_000))
 
 
 WORKLOADS = {"getattr": getattr, "write": write, "read": read, "create": create, "rename": rename}
