@@ -1,5 +1,5 @@
 -- Each request of a batch gets one reply.
-use Rattle.std.proofs.Common.{◌≡◌, ℕ, suc, Bool, List, [], ◌∷◌, length, refl, ap}
+use Rattle.std.proofs.Common.{◌≡◌, ℕ, suc, List, [], ◌∷◌, length, refl, ap}
 use Rattle.bfs_model.specs.Tree.{Time, Inodes, FileSystem}
 use Rattle.bfs_model.specs.Serial.{Batch, answer, execute, effective_time, ordinal_after, replies_to}
 

@@ -1,5 +1,5 @@
 -- What requests keep of a file system.
-use Rattle.std.proofs.Common.{◌≡◌, ℕ, suc, ◌<◌, ◌≤◌, Bool, true, false, cond, inl, List, [], ◌∷◌, length, Option, Some, None, Result, Ok, Err, refl, subst, arith, lit≤}
+use Rattle.std.proofs.Common.{◌≡◌, ℕ, suc, ◌<◌, ◌≤◌, inl, List, [], ◌∷◌, length, Option, Some, None, Result, Ok, Err, refl, subst, arith, lit≤}
 use Rattle.std.specs.FinMap.{get}
 use Rattle.bfs_model.specs.Tree.{Time, Inode, Inodes, FileSystem, first_ordinal, spent_ordinal, new_file_system}
 use Rattle.bfs_model.specs.Call.{Credential, Request, Refusal, call_of}
@@ -8,7 +8,7 @@ use Rattle.bfs_model.specs.Procedures.{procedure}
 use Rattle.bfs_model.specs.Serial.{Batch, effective_time, execute, answer_arguments, answer_call, answer, inodes_after, ordinal_after}
 use Rattle.bfs_model.specs.Short.{IsShort}
 use Rattle.bfs_model.specs.WellFormed.{IsTree, IsWellFormed}
-use Rattle.bfs_model.specs.ProcedureLaws.{TreesStay}
+use Rattle.bfs_model.specs.ProcedureLaws.{TreesStay, CallsKeepFilesWellFormed}
 use Rattle.bfs_model.proofs.Short.{arguments_are_short}
 use Rattle.bfs_model.proofs.WellFormed.Limits.{AreWithin, all_older}
 use Rattle.bfs_model.proofs.WellFormed.Words.{formed_from, words_from, new_tree_formed}
@@ -66,6 +66,12 @@ requests_keep m o t [] good = let most : o ≤ spent_ordinal = good.most in subs
 requests_keep m o t (request ∷ requests) good =
     subst (AreGood (inodes_after (answer m o t request).0 (ordinal_after o 1) t requests)) (ordinals o (length requests))
     (requests_keep (answer m o t request).0 (ordinal_after o 1) t requests (answer_keeps m o t good request))
+
+-- .. after a call
+pub a_call_keeps : CallsKeepFilesWellFormed
+a_call_keeps files t caller call short formed =
+    let good = call_keeps files.tree files.next_ordinal t caller call short (record { tree = formed.tree; within = formed.within; first = formed.ordinal.0; most = formed.ordinal.1 }) in
+    record { tree = good.tree; within = good.within; ordinal = (good.first, good.most) }
 
 -- every file system that was well formed is so after a batch
 pub execute_keeps : (files : FileSystem) (batch : Batch) → IsWellFormed files → IsWellFormed (execute files batch).0

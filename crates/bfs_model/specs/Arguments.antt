@@ -1,5 +1,5 @@
 -- The arguments of each procedure (RFC 1094 section 2.2) and the bytes that spell them. Padding is not looked at.
-use Rattle.std.specs.Prelude.{ℕ, Bool, false, List, ◌++◌, length, take, drop, replicate, Option, Some, None, codes, ◌==◌, ◌||◌, if◌then◌else◌}
+use Rattle.std.specs.Prelude.{ℕ, false, List, ◌++◌, length, take, drop, replicate, Option, Some, None, codes, ◌==◌, ◌||◌, if◌then◌else◌}
 use Rattle.std.specs.Result.{result_ok}
 use Rattle.std.specs.Str.{bytes_eq}
 use Rattle.std.specs.Int.{w32, from_be_bytes}

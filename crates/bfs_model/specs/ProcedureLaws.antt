@@ -1,14 +1,16 @@
 -- What holds of every call on every finite map of inodes, well formed or not.
 use Rattle.std.specs.Prelude.{◌≡◌, ℕ, Bool, true, false, IsTrue, Some, None, is_some}
 use Rattle.std.specs.FinMap.{get}
-use Rattle.bfs_model.specs.Tree.{Time, Inode, Inodes}
+use Rattle.bfs_model.specs.Tree.{Time, Inode, Inodes, FileSystem}
 use Rattle.bfs_model.specs.Attributes.{type_of}
 use Rattle.bfs_model.specs.Call.{Credential}
 use Rattle.bfs_model.specs.Arguments.{Call, null, get_attributes, set_attributes, root, look_up, read_link, read, write_cache, write, create, remove, rename, make_link, make_symbolic_link, make_directory, remove_directory, read_directory, file_system_status}
 use Rattle.bfs_model.specs.Replies.{Status, refused}
 use Rattle.bfs_model.specs.Procedures.{procedure}
 use Rattle.bfs_model.specs.Touched.{IsFresh}
-use Rattle.bfs_model.specs.WellFormed.{IsTree}
+use Rattle.bfs_model.specs.Serial.{ordinal_after}
+use Rattle.bfs_model.specs.Short.{IsShort}
+use Rattle.bfs_model.specs.WellFormed.{IsTree, IsWellFormed}
 
 -- a fileid that leads to no inode before a call and to one after it is the call's ordinal
 abbrev pub NoOtherInodeIsAdded : Type 0
@@ -24,6 +26,11 @@ TypesStay = (inodes : Inodes) (ordinal : ℕ) (now : Time) (caller : Credential)
 -- and what was a tree stays one
 abbrev pub TreesStay : Type 0
 TreesStay = (inodes : Inodes) (ordinal : ℕ) (now : Time) (caller : Credential) (call : Call) → IsFresh inodes ordinal call → IsTree inodes → IsTree (procedure inodes ordinal now caller call).0
+
+-- a call that is short, under the next ordinal, leaves a well-formed file system well formed
+abbrev pub CallsKeepFilesWellFormed : Type 0
+CallsKeepFilesWellFormed = (files : FileSystem) (now : Time) (caller : Credential) (call : Call) → IsShort call → IsWellFormed files
+    → IsWellFormed (record files { tree = (procedure files.tree files.next_ordinal now caller call).0; next_ordinal = ordinal_after files.next_ordinal 1 })
 
 abbrev pub ARefusedCallChangesNothing : Type 0
 ARefusedCallChangesNothing = (inodes : Inodes) (ordinal : ℕ) (now : Time) (caller : Credential) (call : Call) (status : Status)

@@ -1,5 +1,5 @@
 -- How long a reply is at most.
-use Rattle.std.specs.Prelude.{◌≡◌, ℕ, ◌≤◌, Bool, List, length, Some}
+use Rattle.std.specs.Prelude.{◌≡◌, ℕ, ◌≤◌, List, length, Some}
 use Rattle.std.specs.FinMap.{get}
 use Rattle.bfs_model.specs.Limits.{longest_reply}
 use Rattle.bfs_model.specs.Tree.{Time, Inode, Inodes}

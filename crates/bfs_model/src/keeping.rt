@@ -1,12 +1,19 @@
 ghost use Rattle.std.specs.Prelude.{◌≡◌, ℕ, Bool, length};
 ghost use Rattle.bfs_model.specs.Tree.{FileSystem, new_file_system};
 ghost use Rattle.bfs_model.specs.Serial.{Batch, execute};
+ghost use Rattle.bfs_model.specs.ProcedureLaws.{CallsKeepFilesWellFormed};
 ghost use Rattle.bfs_model.specs.WellFormed.{IsWellFormed};
 
 /// A new file system is well formed.
 #[tactic(auto, using(crate::proofs::Kept::new_is_well_formed))]
 pub fn a_new_file_system_is_well_formed()
     ensures { IsWellFormed new_file_system }
+{}
+
+/// A call leaves a well-formed file system well formed, one ordinal on.
+#[tactic(auto, using(crate::proofs::Kept::a_call_keeps))]
+pub fn a_call_keeps_files_well_formed()
+    ensures { CallsKeepFilesWellFormed }
 {}
 
 /// A batch of any requests leaves a well-formed file system well formed.
