@@ -4,3 +4,4 @@ pub mod BytesLemmas
 pub mod EntryLemmas
 pub mod BlockLemmas
 pub mod PageLemmas
+pub mod WellFormed

@@ -4,3 +4,4 @@ pub mod Reach
 pub mod Lending
 pub mod Maps
 pub mod Pages
+pub mod WellFormed

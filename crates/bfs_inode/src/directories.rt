@@ -81,6 +81,14 @@ impl Directory {
         self.entries.is_empty()
     }
 
+    /// The entries by rising cookie.
+    pub(crate) fn entries(&self) -> &[Entry]
+        ensures value { result.now ≡ self.now.entries }
+        ensures within { length result.now ≤ 65536 }
+    {
+        self.entries.as_slice()
+    }
+
     /// The entry of that name.
     pub fn entry(&self, name: &[u8]) -> Option<&Entry>
         ensures { option_copied result ≡ entry_named name.now self.now.entries }

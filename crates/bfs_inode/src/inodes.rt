@@ -162,6 +162,13 @@ impl Inode {
         self.body.size().div_ceil(4096)
     }
 
+    /// What it holds.
+    pub(crate) fn body(&self) -> &Body
+        ensures { body_of result.now ≡ self.now.body }
+    {
+        &self.body
+    }
+
     /// The bytes, where it is a file.
     pub fn file(&self) -> Option<&[u8]>
         ensures value { option_map (λ bytes. bytes.now) result ≡ file_in self.now.body }

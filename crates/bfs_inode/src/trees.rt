@@ -1,6 +1,6 @@
 ghost use Rattle.std.specs.Prelude.{◌≡◌, IfOk, true, refl};
 ghost use Rattle.std.specs.Option.{option_copied};
-ghost use Rattle.std.specs.FinMap.{get, keys};
+ghost use Rattle.std.specs.FinMap.{entries, get, keys};
 ghost use Rattle.std.specs.List.Sorted.{IsStrictlyIncreasing};
 ghost use Rattle.bfs_model.specs.Tree.{Inodes, new_tree};
 ghost use Rattle.bfs_model.specs.Procedures.OfStatus.{used_blocks};
@@ -12,7 +12,7 @@ use crate::store::Store;
 use bfs_types::{FileId, Memory};
 use std::alloc::Global;
 use std::collections::BTreeMap;
-use std::collections::btree_map::Keys;
+use std::collections::btree_map::{Iter, Keys};
 use std::marker::Model;
 
 /// All inodes of a file system by their fileids.
@@ -52,6 +52,13 @@ impl Tree {
         ensures rising { IsStrictlyIncreasing result }
     {
         self.inodes.keys()
+    }
+
+    /// The inodes by the numbers of their fileids, which rise.
+    pub(crate) fn iter(&self) -> Iter<'_, u32, Inode>
+        ensures { result ≡ entries self.now }
+    {
+        self.inodes.iter()
     }
 }
 

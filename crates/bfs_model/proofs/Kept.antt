@@ -1,16 +1,16 @@
 -- What requests keep of a file system.
 use Rattle.std.proofs.Common.{◌≡◌, ℕ, suc, ◌<◌, ◌≤◌, inl, List, [], ◌∷◌, length, Option, Some, None, Result, Ok, Err, refl, subst, arith, lit≤}
 use Rattle.std.specs.FinMap.{get}
-use Rattle.bfs_model.specs.Tree.{Time, Inode, Inodes, FileSystem, first_ordinal, spent_ordinal, new_file_system}
+use Rattle.bfs_model.specs.Tree.{Time, Inode, Inodes, FileSystem, first_ordinal, spent_ordinal, new_tree, new_file_system}
 use Rattle.bfs_model.specs.Call.{Credential, Request, Refusal, call_of}
 use Rattle.bfs_model.specs.Arguments.{Call, arguments_of}
 use Rattle.bfs_model.specs.Procedures.{procedure}
 use Rattle.bfs_model.specs.Serial.{Batch, effective_time, execute, answer_arguments, answer_call, answer, inodes_after, ordinal_after}
 use Rattle.bfs_model.specs.Short.{IsShort}
-use Rattle.bfs_model.specs.WellFormed.{IsTree, IsWellFormed}
+use Rattle.bfs_model.specs.WellFormed.{IsTree, IsWellFormed, IsWellFormedTree}
 use Rattle.bfs_model.specs.ProcedureLaws.{TreesStay, CallsKeepFilesWellFormed}
 use Rattle.bfs_model.proofs.Short.{arguments_are_short}
-use Rattle.bfs_model.proofs.WellFormed.Limits.{AreWithin, all_older}
+use Rattle.bfs_model.proofs.WellFormed.Limits.{AreWithin, all_older, limited}
 use Rattle.bfs_model.proofs.WellFormed.Words.{formed_from, words_from, new_tree_formed}
 use Rattle.bfs_model.proofs.WellFormed.Walks.{not_below}
 use Rattle.bfs_model.proofs.WellFormed.Trees.{procedures_keep_the_tree, fresh_calls_keep_the_tree}
@@ -82,3 +82,10 @@ execute_keeps files batch formed =
 
 pub new_is_well_formed : IsWellFormed new_file_system
 new_is_well_formed = record { tree = new_tree_formed; within = new_is_within; ordinal = (lit≤ tt, lit≤ tt) }
+
+-- the tree of a well-formed file system
+pub its_tree : (files : FileSystem) → IsWellFormed files → IsWellFormedTree files.tree
+its_tree files formed = record { tree = formed.tree; limited = λ id inode there. limited files.next_ordinal id inode formed.ordinal.1 (formed.within id inode there) }
+
+pub new_tree_is_well_formed : IsWellFormedTree new_tree
+new_tree_is_well_formed = its_tree new_file_system new_is_well_formed

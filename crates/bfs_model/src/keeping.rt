@@ -1,13 +1,25 @@
 ghost use Rattle.std.specs.Prelude.{◌≡◌, ℕ, Bool, length};
-ghost use Rattle.bfs_model.specs.Tree.{FileSystem, new_file_system};
+ghost use Rattle.bfs_model.specs.Tree.{FileSystem, new_file_system, new_tree};
 ghost use Rattle.bfs_model.specs.Serial.{Batch, execute};
 ghost use Rattle.bfs_model.specs.ProcedureLaws.{CallsKeepFilesWellFormed};
-ghost use Rattle.bfs_model.specs.WellFormed.{IsWellFormed};
+ghost use Rattle.bfs_model.specs.WellFormed.{IsWellFormed, IsWellFormedTree};
 
 /// A new file system is well formed.
 #[tactic(auto, using(crate::proofs::Kept::new_is_well_formed))]
 pub fn a_new_file_system_is_well_formed()
     ensures { IsWellFormed new_file_system }
+{}
+
+/// A new tree is well formed.
+#[tactic(auto, using(crate::proofs::Kept::new_tree_is_well_formed))]
+pub fn a_new_tree_is_well_formed()
+    ensures { IsWellFormedTree new_tree }
+{}
+
+/// The tree of a well-formed file system is well formed.
+#[tactic(auto, using(crate::proofs::Kept::its_tree))]
+pub fn a_well_formed_file_system_has_a_well_formed_tree()
+    ensures { (files : FileSystem) → IsWellFormed files → IsWellFormedTree files.tree }
 {}
 
 /// A call leaves a well-formed file system well formed, one ordinal on.

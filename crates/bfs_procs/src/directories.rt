@@ -15,8 +15,7 @@ ghost use Rattle.bfs_wire.specs.Replies.{reply_of, status_of};
 
 use crate::context::Context;
 use crate::limits::{MOST_BYTES, MOST_ENTRIES};
-use crate::names::{is_bad_name, is_no_name};
-use bfs_inode::{Directory, FileId, Inode, Store};
+use bfs_inode::{Directory, FileId, Inode, Store, is_bad_name, is_no_name};
 use bfs_types::{Memory, Ordinal, Settings};
 use bfs_wire::{NfsReply, Status};
 use std::alloc::Global;

@@ -11,7 +11,6 @@ mod limits;
 mod links;
 mod listing;
 mod making;
-mod names;
 mod removing;
 mod renaming;
 mod running;

@@ -9,9 +9,8 @@ ghost use Rattle.bfs_model.specs.Procedures.OfFiles.{file_removed};
 ghost use Rattle.bfs_model.specs.Procedures.OfDirectories.{directory_removed, has_entries};
 ghost use Rattle.bfs_wire.specs.Replies.{reply_of, status_of};
 
-use crate::names::is_bad_name;
 use crate::steps::{drop_entry, lose_link, lose_name};
-use bfs_inode::{FileId, Inode, Store, Time};
+use bfs_inode::{FileId, Inode, Store, Time, is_bad_name};
 use bfs_wire::{NfsReply, Status};
 
 /// REMOVE (RFC 1094 section 2.2.11).

@@ -15,7 +15,8 @@ pub rising_older : (least : ℕ) (entries : List Entry) (o n : ℕ) → o ≤ n 
 rising_older least [] o n le h = tt
 rising_older least (entry ∷ entries) o n le h = let below : entry.cookie < o = h.1 in (h.0, omega arith, rising_older (entry.cookie + 1) entries o n le h.2)
 
-rising_from : (least lower : ℕ) (entries : List Entry) (o : ℕ) → lower ≤ least → IsRising least entries o → IsRising lower entries o
+-- where they rise from one number on, they do from a lower one
+pub rising_from : (least lower : ℕ) (entries : List Entry) (o : ℕ) → lower ≤ least → IsRising least entries o → IsRising lower entries o
 rising_from least lower [] o le h = tt
 rising_from least lower (entry ∷ entries) o le h = let low : least ≤ entry.cookie = h.0 in (omega arith, h.1, h.2)
 

@@ -1,11 +1,11 @@
 -- The limits of one inode, and how they go through what procedures do to it.
-use Rattle.std.proofs.Common.{◌≡◌, ℕ, ◌+◌, ◌-◌, ◌<◌, ◌≤◌, Bool, true, false, cond, IsFalse, List, [], ◌∷◌, ◌++◌, length, take, drop, replicate, Option, Some, None, refl, arith}
+use Rattle.std.proofs.Common.{◌≡◌, ℕ, ◌+◌, ◌-◌, ◌<◌, ◌≤◌, Bool, true, false, cond, IsFalse, List, [], ◌∷◌, ◌++◌, length, take, drop, replicate, Option, Some, None, refl, arith, lit≤}
 use Rattle.std.specs.Prelude.{◌==◌}
 use Rattle.std.specs.FinMap.{get}
 use Rattle.std.proofs.lemmas.Bool.{ltb-false}
 use Rattle.std.proofs.lemmas.List.{length-append, length-take, length-drop}
 use Rattle.bfs_model.specs.Limits.{most_bytes, longest_name, most_entries, most_links}
-use Rattle.bfs_model.specs.Tree.{Time, Body, file, directory, link, Inode, Inodes, root_id, first_ordinal, is_directory_body, entries_in}
+use Rattle.bfs_model.specs.Tree.{Time, Body, file, directory, link, Inode, Inodes, root_id, first_ordinal, spent_ordinal, is_directory_body, entries_in}
 use Rattle.bfs_model.specs.Arguments.{Settings}
 use Rattle.bfs_model.specs.Call.{Credential}
 use Rattle.bfs_model.specs.Bytes.{filled_to, resized, overwritten}
@@ -13,8 +13,8 @@ use Rattle.bfs_model.specs.Directories.{is_bad_name, entry_named, without_name}
 use Rattle.bfs_model.specs.Changes.{with_settings, with_bytes, with_size, resized_body, overwritten_body, with_listing, with_entry, without_entry, with_parent, with_link, with_link_less, with_ctime, new_inode}
 use Rattle.bfs_model.specs.Procedures.OfFiles.{entry_made}
 use Rattle.bfs_model.specs.Procedures.OfAttributes.{size_refusals}
-use Rattle.bfs_model.specs.WellFormed.{BodyIsWithin, IsWithin}
-use Rattle.bfs_model.proofs.WellFormed.Entries.{rising_older, rising_pushed, rising_without, names_pushed, names_without, no_longer}
+use Rattle.bfs_model.specs.WellFormed.{BodyIsWithin, IsWithin, BodyIsLimited, IsLimited}
+use Rattle.bfs_model.proofs.WellFormed.Entries.{rising_older, rising_from, rising_pushed, rising_without, names_pushed, names_without, no_longer}
 use Rattle.bfs_model.proofs.Tables.{AllPassed}
 
 -- each inode is
@@ -37,6 +37,17 @@ older o n id x le h = let below : id < o = h.fileid.1 in record {
 
 pub all_older : (m : Inodes) (o n : ℕ) → o ≤ n → AreWithin m o → AreWithin m n
 all_older m o n le within id x there = older o n id x le (within id x there)
+
+-- By itself ------------------------------------------------------------------------------------------------------------
+
+limited_body : (o id links : ℕ) (body : Body) → o ≤ spent_ordinal → BodyIsWithin o id links body → BodyIsLimited links body
+limited_body o id links (file bytes) le h = h
+limited_body o id links (directory listing) le h = (h.0, rising_from first_ordinal 0 listing.entries spent_ordinal (lit≤ tt) (rising_older first_ordinal listing.entries o spent_ordinal le h.1), h.2)
+limited_body o id links (link path) le h = h
+
+-- what is within the limits of a file system is within those of its tree
+pub limited : (o id : ℕ) (x : Inode) → o ≤ spent_ordinal → IsWithin o id x → IsLimited x
+limited o id x le h = record { links = h.links; body = limited_body o id x.links x.body le h.body }
 
 -- Entries ------------------------------------------------------------------------------------------------------------------
 

@@ -49,7 +49,8 @@ less_is Less h = refl
 less_is Equal h = absurd h
 less_is Greater h = absurd h
 
-split : (a b : Bool) → T (a && b) → T a × T b
+-- both of two tests
+pub split : (a b : Bool) → T (a && b) → T a × T b
 split true b h = (tt, h)
 split false b h = absurd h
 
@@ -76,10 +77,12 @@ total-put f k v (e ∷ es) h =
       | Greater ↦ λ p. omega arith
     ] refl
 
-itself : (k : ℕ) → eq_by_cmp nat_cmp k k ≡ true
+-- a key ties with itself
+pub itself : (k : ℕ) → eq_by_cmp nat_cmp k k ≡ true
 itself k = (eq_by_cmp_equiv nat_cmp_total).refl k
 
-apart : {X : Type 0} (k q : ℕ) (es : List (ℕ × X)) (x : X) → T (below_all k es) → find nat_cmp q es ≡ Some x → (b : Bool) → eq_by_cmp nat_cmp q k ≡ b → b ≡ false
+-- what is found among keys above one is at another
+pub apart : {X : Type 0} (k q : ℕ) (es : List (ℕ × X)) (x : X) → T (below_all k es) → find nat_cmp q es ≡ Some x → (b : Bool) → eq_by_cmp nat_cmp q k ≡ b → b ≡ false
 apart k q es x below is true tied =
     let none : find nat_cmp k es ≡ None = find_below k es below in
     let same : find nat_cmp k es ≡ Some x = subst (λ j. find nat_cmp j es ≡ Some x) (tells_apart nat_cmp-IsAntisymmetric q k tied) is in

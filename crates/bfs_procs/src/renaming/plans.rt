@@ -9,10 +9,9 @@ ghost use Rattle.bfs_model.specs.Steps.{first_of};
 ghost use Rattle.bfs_procs.specs.Plans.{IsPlan, IsSeen, IsUnlessRefused, move_by};
 ghost use Rattle.bfs_procs.specs.Renaming.{moves_directory, refusals};
 
-use crate::names::is_bad_name;
 use crate::renaming::moves::Move;
 use crate::renaming::refusals::{Renaming, Replaced};
-use bfs_inode::{Directory, FileId, Store};
+use bfs_inode::{Directory, FileId, Store, is_bad_name};
 use bfs_types::Ordinal;
 use bfs_wire::Status;
 
