@@ -192,10 +192,6 @@ length_of_word : (n : ℕ) → length (word n) ≡ 4
 unfolding word
 length_of_word n = refl
 
-length_of_true : length (boolean true) ≡ 4
-unfolding boolean
-length_of_true = length_of_word 1
-
 length_of_false : length (boolean false) ≡ 4
 unfolding boolean
 length_of_false = length_of_word 0

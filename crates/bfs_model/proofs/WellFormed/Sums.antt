@@ -247,13 +247,6 @@ at-set F m k o c = subst (λ g. F c g + only k (F k (get m k)) c ≡ F c (get m 
     by_key true is = subst (λ q. F q o + F k (get m k) ≡ F q (get m q) + F k o) (eqb-true k c is) (omega arith)
     by_key false is = refl
 
-pub up-set : (m : Inodes) (k : ℕ) (o : Option Inode) (c : ℕ) → parent_of (set_at m k o) c ≡ cond (eqb k c) (above k o) (parent_of m c)
-up-set m k o c = subst (λ g. above c g ≡ cond (eqb k c) (above k o) (parent_of m c)) (sym (get-set_at m k o c)) (by_key (eqb k c) refl)
-  where
-    by_key : (b : Bool) → eqb k c ≡ b → above c (cond b o (get m c)) ≡ cond b (above k o) (above c (get m c))
-    by_key true is = subst (λ q. above q o ≡ above k o) (eqb-true k c is) refl
-    by_key false is = refl
-
 -- Ways up ---------------------------------------------------------------------------------------------------------------
 
 -- what is above, with the way up from one id cut off

@@ -8,9 +8,7 @@ ghost use Rattle.bfs_model.specs.Tree as tree;
 ghost use Rattle.bfs_model.specs.Tree.{entries_at, spent_ordinal};
 ghost use Rattle.bfs_procs.specs.Moves.{Owns, cleared, moved_by, with_parent_set, without_names};
 
-use crate::steps::{
-    add_entry, add_link, drop_entry, lose_link, lose_name, set_ctime, set_parent,
-};
+use crate::steps::{add_entry, add_link, drop_entry, lose_link, lose_name, set_ctime, set_parent};
 use bfs_inode::{FileId, Store, Time};
 use bfs_types::{Memory, Ordinal};
 
