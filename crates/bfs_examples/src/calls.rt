@@ -1,12 +1,11 @@
 //! Calls and their replies, one at a time (RFC 5531 section 9, RFC 1094 section 2.2).
 ghost use Rattle.std.specs.Prelude.{◌≡◌, IsTrue};
-ghost use Rattle.bfs_model.specs.Short.{IsShort};
-ghost use Rattle.bfs_wire.specs.Calls.{call_of};
 
-use bfs_inode::{Directory, FileId, Inode, Store, Tree};
+use crate::words::spelled;
+use bfs_inode::{FileId, Store, Tree};
 use bfs_procs::{answer, run};
 use bfs_rpc::{Cred, Reject, parse_call, put_success, write_garbage, write_reject, write_success};
-use bfs_types::{FileType, Memory, Ordinal, SetTime, Settings, Time};
+use bfs_types::{FileType, Memory, Ordinal, SetTime, Time};
 use bfs_wire::{
     GarbageArgs, NfsCall, NfsReply, Status, handle_bytes, handle_id, parse_args, put_reply,
     write_reply,
@@ -169,6 +168,24 @@ fn reads_calls_and_arguments(rt: HostRuntime) -> Result<(), Fail> {
     Ok(())
 }
 
+// a GETATTR without its handle, for uid 1000 and gid 100 on the machine `replay`
+const SYSTEM_CALL: &[u32] = &[
+    1, 0, 2, 100003, 2, 1, 1, 28, 0, 6, 0x7265706c, 0x61790000, 1000, 100, 0, 0, 0,
+];
+
+#[test]
+fn reads_a_credential(rt: HostRuntime) -> Result<(), Fail> {
+    let bytes = spelled(rt.alloc(), &[SYSTEM_CALL])?;
+    match parse_call(bytes.as_slice()) {
+        Ok(call) => {
+            assert_eq!(rt; (call.cred.uid, call.cred.gid), (1000, 100));
+            assert_eq!(rt; call.args.len(), 0);
+        }
+        Err(_) => assert!(rt; false, "the call is good"),
+    }
+    Ok(())
+}
+
 #[test]
 fn writes_replies(rt: HostRuntime) -> Result<(), Fail> {
     let alloc = rt.alloc();
@@ -201,127 +218,6 @@ fn writes_replies(rt: HostRuntime) -> Result<(), Fail> {
 }
 
 #[test]
-fn keeps_inodes(rt: HostRuntime) -> Result<(), Fail> {
-    let alloc = rt.alloc();
-    let directory = Directory::new(alloc, FileId::new(7));
-    assert_eq!(rt; directory.parent(), FileId::new(7));
-    assert_eq!(rt; directory.len(), 0);
-    assert!(rt; directory.is_empty());
-    let root = Inode::root(alloc);
-    assert_eq!(rt; root.attributes(FileId::root()).fileid.number(), 2);
-    assert!(rt; root.directory().is_some());
-    Ok(())
-}
-
-// a whole store knows what any call reads, and owns what it writes
-#[tactic(auto, using(bfs_serial::proofs::Whole::knows_all_touched))]
-fn run_whole<S: Store>(
-    alloc: Global,
-    store: &mut S,
-    ordinal: Ordinal,
-    call: &NfsCall,
-) -> Result<NfsReply, Memory>
-    requires whole { IsTrue ((S.reach store.old).whole) }
-    requires short { IsShort (call_of call.now) }
-    ensures { S.reach store.new ≡ S.reach store.old }
-{
-    let caller = Cred { uid: 0, gid: 0 };
-    run(alloc, store, ordinal, Time::epoch(), &caller, call)
-}
-
-#[test]
-fn makes_no_file_at_a_spent_ordinal_or_above_the_limit(rt: HostRuntime) -> Result<(), Fail> {
-    let alloc = rt.alloc();
-    let mut tree = Tree::new(alloc)?;
-    let spent = Ordinal::new(4_294_967_296).ok_or("an ordinal")?;
-    let unset = NfsCall::Create {
-        dir: Some(FileId::root()),
-        name: b"a",
-        settings: UNSET,
-    };
-    let reply = run_whole(alloc, &mut tree, spent, &unset)?;
-    assert!(rt; matches!(reply, NfsReply::Refused(Status::NoSpc)));
-    let too_large = NfsCall::Create {
-        dir: Some(FileId::root()),
-        name: b"a",
-        settings: Settings {
-            size: Some(1_048_577),
-            ..UNSET
-        },
-    };
-    let reply = run_whole(alloc, &mut tree, Ordinal::first(), &too_large)?;
-    assert!(rt; matches!(reply, NfsReply::Refused(Status::FBig)));
-    Ok(())
-}
-
-const UNSET: Settings = Settings {
-    mode: None,
-    uid: None,
-    gid: None,
-    size: None,
-    atime: None,
-    mtime: None,
-};
-
-#[test]
-fn changes_inodes(rt: HostRuntime) -> Result<(), Fail> {
-    let alloc = rt.alloc();
-    let now = Time::new(1, 0).ok_or("a time")?;
-    let caller = Cred {
-        uid: 1000,
-        gid: 100,
-    };
-    let mut file = Inode::new_file(alloc, now, caller, &UNSET)?;
-    assert!(rt; !file.is_directory());
-    assert!(rt; !file.is_link());
-    assert!(rt; file.link().is_none());
-    assert_eq!(rt; file.links(), 1);
-    file.add_link(now);
-    assert_eq!(rt; file.links(), 2);
-    file.write(now, 1, b"ab")?;
-    assert!(rt; file.file().unwrap_or(&[]) == b"\0ab".as_slice());
-    let cut = Settings {
-        size: Some(2),
-        atime: Some(SetTime {
-            seconds: 7,
-            useconds: 5,
-        }),
-        ..UNSET
-    };
-    file.set_attributes(now, &cut)?;
-    assert!(rt; file.file().unwrap_or(&[]) == b"\0a".as_slice());
-    assert_eq!(rt; file.attributes(FileId::new(3)).atime.seconds(), 7);
-    Ok(())
-}
-
-#[test]
-fn changes_directories_and_stores(rt: HostRuntime) -> Result<(), Fail> {
-    let alloc = rt.alloc();
-    let now = Time::epoch();
-    let caller = Cred { uid: 0, gid: 0 };
-    let mut root = Inode::root(alloc);
-    root.add_entry(now, 3, b"a", FileId::new(3))?;
-    let entry = root.directory().and_then(|listing| listing.entry(b"a"));
-    assert!(rt; entry.map(|entry| entry.child) == Some(FileId::new(3)));
-    let first = root.directory().and_then(|listing| listing.at(0));
-    assert!(rt; first.map(|entry| entry.cookie) == Some(3));
-    let mut directory = Directory::new(alloc, FileId::root());
-    directory.add(4, b"b", FileId::new(4))?;
-    assert_eq!(rt; directory.len(), 1);
-    let mut tree = Tree::new(alloc)?;
-    let file = Inode::new_file(alloc, now, caller, &UNSET)?;
-    assert!(rt; tree.insert(FileId::new(3), file).is_ok());
-    match tree.get_mut(FileId::new(3)) {
-        Some(inode) if inode.links() == 1 => inode.add_link(now),
-        _ => assert!(rt; false, "the file is there, with one link"),
-    }
-    assert!(rt; tree.get(FileId::new(3)).map(|inode| inode.links()) == Some(2));
-    assert!(rt; tree.remove(FileId::new(3)).is_some());
-    assert!(rt; tree.get(FileId::new(3)).is_none());
-    Ok(())
-}
-
-#[test]
 fn counts_times_and_ordinals(rt: HostRuntime) {
     let last = Time::new(5, 0).unwrap_or(Time::epoch());
     let proposed = Time::new(3, 0).unwrap_or(Time::epoch());
@@ -331,6 +227,19 @@ fn counts_times_and_ordinals(rt: HostRuntime) {
     assert!(rt; Time::new(0, 1_000_000).is_none());
     let end = Time::new(u32::MAX, 999_999).unwrap_or(Time::epoch());
     assert_eq!(rt; proposed.effective_after(end), end);
+    let set = SetTime {
+        seconds: 9,
+        useconds: 999_999,
+    };
+    assert_eq!(rt;
+        (set.given(last).seconds(), set.given(last).useconds()),
+        (9, 999_999)
+    );
+    let unset = SetTime {
+        seconds: 9,
+        useconds: 1_000_000,
+    };
+    assert_eq!(rt; unset.given(last), last);
     assert_eq!(rt; Ordinal::first().next().number(), 4);
     assert_eq!(rt; Ordinal::first().file_id(), Some(FileId::new(3)));
     let spent = Ordinal::first().after(u64::MAX);

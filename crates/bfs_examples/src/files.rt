@@ -1,212 +1,119 @@
 //! Files: made, told of, written and read.
-use crate::words::{FOURTH, ROOT, Step, THIRD, UNSET, executes};
-use bfs_serial::FileSystem;
+use crate::numbers::{CREATE, FBIG, GETATTR, LOOKUP, NOENT, OK, READ, SETATTR, STALE, WRITE};
+use crate::steps::{Step, executes};
+use crate::words::{A, B, FOURTH, ROOT, THIRD, UNSET, attributes};
 use std::test::Fail;
 
-// the name `a`
-const A: &[u32] = &[1, 0x61000000];
-
-const CREATED_THIRD: &[u32] = &[
-    1, 0x81a4, 1, 65534, 65534, 0, 4096, 0, 0, 1, 3, 1, 0, 1, 0, 1, 0,
-];
+const MADE: &[u32] = attributes!(file 3, links 1, size 0, blocks 0, times 1 1 1);
 
 #[test]
 fn makes_a_file_and_tells_of_it(rt: HostRuntime) -> Result<(), Fail> {
-    let alloc = rt.alloc();
-    let mut files = FileSystem::new(alloc)?;
     executes(
         &rt,
-        alloc,
-        &mut files,
-        1,
-        &[
-            Step {
-                procedure: 9,
-                arguments: &[ROOT, A, UNSET],
-                results: &[&[0], THIRD, CREATED_THIRD],
-            },
-            Step {
-                procedure: 1,
-                arguments: &[THIRD],
-                results: &[&[0], CREATED_THIRD],
-            },
-        ],
-    )
+        rt.alloc(),
+        &[&[
+            Step(CREATE, &[ROOT, A, UNSET], &[OK, THIRD, MADE]),
+            Step(GETATTR, &[THIRD], &[OK, MADE]),
+        ]],
+    )?;
+    Ok(())
 }
+
+const MADE_FOURTH: &[u32] = attributes!(file 4, links 1, size 0, blocks 0, times 1 1 1);
 
 #[test]
 fn makes_a_file_whose_handle_was_asked_for_before(rt: HostRuntime) -> Result<(), Fail> {
-    let alloc = rt.alloc();
-    let mut files = FileSystem::new(alloc)?;
     executes(
         &rt,
-        alloc,
-        &mut files,
-        1,
-        &[
-            Step {
-                procedure: 1,
-                arguments: &[FOURTH],
-                results: &[&[70]],
-            },
-            Step {
-                procedure: 9,
-                arguments: &[ROOT, A, UNSET],
-                results: &[
-                    &[0],
-                    FOURTH,
-                    &[
-                        1, 0x81a4, 1, 65534, 65534, 0, 4096, 0, 0, 1, 4, 1, 0, 1, 0, 1, 0,
-                    ],
-                ],
-            },
-        ],
-    )
+        rt.alloc(),
+        &[&[
+            Step(GETATTR, &[FOURTH], &[STALE]),
+            Step(CREATE, &[ROOT, A, UNSET], &[OK, FOURTH, MADE_FOURTH]),
+        ]],
+    )?;
+    Ok(())
 }
 
-const OLD: &[u32] = &[
-    1, 0x81a4, 1, 65534, 65534, 3, 4096, 0, 1, 1, 3, 1, 0, 1, 0, 1, 0,
-];
+const OLD: &[u32] = attributes!(file 3, links 1, size 3, blocks 1, times 1 1 1);
 
-const NEW: &[u32] = &[
-    1, 0x81a4, 1, 65534, 65534, 3, 4096, 0, 1, 1, 3, 1, 0, 2, 0, 2, 0,
-];
+const NEW: &[u32] = attributes!(file 3, links 1, size 3, blocks 1, times 1 2 2);
+
+// the bytes `old` and `new`
+const OLD_BYTES: &[u32] = &[3, 0x6f6c6400];
+
+const NEW_BYTES: &[u32] = &[3, 0x6e657700];
+
+// from offset 0 on
+const WRITE_FROM_FIRST: &[u32] = &[0, 0, 0];
+
+const READ_FROM_FIRST: &[u32] = &[0, 8, 0];
 
 #[test]
 fn reads_what_was_written(rt: HostRuntime) -> Result<(), Fail> {
-    let alloc = rt.alloc();
-    let mut files = FileSystem::new(alloc)?;
     executes(
         &rt,
-        alloc,
-        &mut files,
-        1,
+        rt.alloc(),
         &[
-            Step {
-                procedure: 9,
-                arguments: &[ROOT, A, UNSET],
-                results: &[&[0], THIRD, CREATED_THIRD],
-            },
-            Step {
-                procedure: 8,
-                arguments: &[THIRD, &[0, 0, 0, 3, 0x6f6c6400]],
-                results: &[&[0], OLD],
-            },
+            &[
+                Step(CREATE, &[ROOT, A, UNSET], &[OK, THIRD, MADE]),
+                Step(WRITE, &[THIRD, WRITE_FROM_FIRST, OLD_BYTES], &[OK, OLD]),
+            ],
+            &[
+                Step(READ, &[THIRD, READ_FROM_FIRST], &[OK, OLD, OLD_BYTES]),
+                Step(WRITE, &[THIRD, WRITE_FROM_FIRST, NEW_BYTES], &[OK, NEW]),
+                Step(READ, &[THIRD, READ_FROM_FIRST], &[OK, NEW, NEW_BYTES]),
+            ],
         ],
     )?;
-    executes(
-        &rt,
-        alloc,
-        &mut files,
-        2,
-        &[
-            Step {
-                procedure: 6,
-                arguments: &[THIRD, &[0, 8, 0]],
-                results: &[&[0], OLD, &[3, 0x6f6c6400]],
-            },
-            Step {
-                procedure: 8,
-                arguments: &[THIRD, &[0, 0, 0, 3, 0x6e657700]],
-                results: &[&[0], NEW],
-            },
-            Step {
-                procedure: 6,
-                arguments: &[THIRD, &[0, 8, 0]],
-                results: &[&[0], NEW, &[3, 0x6e657700]],
-            },
-        ],
-    )
+    Ok(())
 }
 
-const LONGEST: &[u32] = &[
-    1, 0x81a4, 1, 65534, 65534, 1048576, 4096, 0, 256, 1, 3, 1, 0, 2, 0, 2, 0,
-];
+const LONGEST: &[u32] = attributes!(file 3, links 1, size 1048576, blocks 256, times 1 2 2);
 
 #[test]
 fn fills_a_file_up_to_its_limit(rt: HostRuntime) -> Result<(), Fail> {
-    let alloc = rt.alloc();
-    let mut files = FileSystem::new(alloc)?;
     executes(
         &rt,
-        alloc,
-        &mut files,
-        1,
-        &[Step {
-            procedure: 9,
-            arguments: &[ROOT, A, UNSET],
-            results: &[&[0], THIRD, CREATED_THIRD],
-        }],
-    )?;
-    executes(
-        &rt,
-        alloc,
-        &mut files,
-        2,
+        rt.alloc(),
         &[
-            Step {
-                procedure: 8,
-                arguments: &[THIRD, &[0, 1048575, 0, 2, 0x61610000]],
-                results: &[&[27]],
-            },
-            Step {
-                procedure: 8,
-                arguments: &[THIRD, &[0, 1048575, 0, 1, 0x61000000]],
-                results: &[&[0], LONGEST],
-            },
-            Step {
-                procedure: 6,
-                arguments: &[THIRD, &[1048574, 8, 0]],
-                results: &[&[0], LONGEST, &[2, 0x00610000]],
-            },
+            &[Step(CREATE, &[ROOT, A, UNSET], &[OK, THIRD, MADE])],
+            &[
+                Step(WRITE, &[THIRD, &[0, 1048575, 0, 2, 0x61610000]], &[FBIG]),
+                Step(
+                    WRITE,
+                    &[THIRD, &[0, 1048575, 0, 1, 0x61000000]],
+                    &[OK, LONGEST],
+                ),
+                Step(
+                    READ,
+                    &[THIRD, &[1048574, 8, 0]],
+                    &[OK, LONGEST, &[2, 0x00610000]],
+                ),
+            ],
         ],
-    )
+    )?;
+    Ok(())
 }
+
+const SETTINGS: &[u32] = &[0x41ff, 7, 0xffffffff, 3, 5, 1000000, 0xffffffff, 0];
+
+const SET: &[u32] = &[
+    1, 0x81ff, 1, 7, 65534, 3, 4096, 0, 1, 1, 3, 2, 0, 2, 0, 2, 0,
+];
 
 #[test]
 fn looks_up_and_sets_attributes(rt: HostRuntime) -> Result<(), Fail> {
-    let alloc = rt.alloc();
-    let mut files = FileSystem::new(alloc)?;
     executes(
         &rt,
-        alloc,
-        &mut files,
-        1,
+        rt.alloc(),
         &[
-            Step {
-                procedure: 9,
-                arguments: &[ROOT, A, UNSET],
-                results: &[&[0], THIRD, CREATED_THIRD],
-            },
-            Step {
-                procedure: 4,
-                arguments: &[ROOT, A],
-                results: &[&[0], THIRD, CREATED_THIRD],
-            },
-            Step {
-                procedure: 4,
-                arguments: &[ROOT, &[1, 0x62000000]],
-                results: &[&[2]],
-            },
+            &[
+                Step(CREATE, &[ROOT, A, UNSET], &[OK, THIRD, MADE]),
+                Step(LOOKUP, &[ROOT, A], &[OK, THIRD, MADE]),
+                Step(LOOKUP, &[ROOT, B], &[NOENT]),
+            ],
+            &[Step(SETATTR, &[THIRD, SETTINGS], &[OK, SET])],
         ],
     )?;
-    executes(
-        &rt,
-        alloc,
-        &mut files,
-        2,
-        &[Step {
-            procedure: 2,
-            arguments: &[
-                THIRD,
-                &[0x41ff, 7, 0xffffffff, 3, 5, 1000000, 0xffffffff, 0],
-            ],
-            results: &[
-                &[0],
-                &[
-                    1, 0x81ff, 1, 7, 65534, 3, 4096, 0, 1, 1, 3, 2, 0, 2, 0, 2, 0,
-                ],
-            ],
-        }],
-    )
+    Ok(())
 }

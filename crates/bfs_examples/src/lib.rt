@@ -3,16 +3,42 @@
 #![tactic(auto)]
 
 #[cfg(test)]
+mod arguments;
+#[cfg(test)]
 mod batches;
 #[cfg(test)]
 mod calls;
 #[cfg(test)]
+mod directories;
+#[cfg(test)]
 mod files;
+#[cfg(test)]
+mod inodes;
 #[cfg(test)]
 mod items;
 #[cfg(test)]
+mod limits;
+#[cfg(test)]
+mod links;
+#[cfg(test)]
+mod listings;
+#[cfg(test)]
 mod many;
 #[cfg(test)]
+mod numbers;
+#[cfg(test)]
+mod pages;
+#[cfg(test)]
+mod refusals;
+#[cfg(test)]
+mod results;
+#[cfg(test)]
+mod session;
+#[cfg(test)]
+mod steps;
+#[cfg(test)]
 mod traces;
+#[cfg(test)]
+mod trees;
 #[cfg(test)]
 mod words;

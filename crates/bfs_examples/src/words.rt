@@ -1,17 +1,9 @@
 //! Requests and replies as the words that they are spelled in.
-use bfs_serial::{Batch, FileSystem, Replies, execute_serial};
-use bfs_types::{Memory, Time};
+use bfs_types::Memory;
 use bfs_xdr::put_u32;
 use std::alloc::Global;
 use std::process::Abort;
 use std::test::Fail;
-
-/// A call with its number, the words of its arguments and those of the results that it is to get.
-pub(crate) struct Step {
-    pub(crate) procedure: u32,
-    pub(crate) arguments: &'static [&'static [u32]],
-    pub(crate) results: &'static [&'static [u32]],
-}
 
 /// The words of settings that set nothing.
 pub(crate) const UNSET: &[u32] = &[
@@ -25,6 +17,60 @@ pub(crate) const THIRD: &[u32] = &[0x42465332, 1, 3, 0, 0, 0, 0, 0];
 
 pub(crate) const FOURTH: &[u32] = &[0x42465332, 1, 4, 0, 0, 0, 0, 0];
 
+pub(crate) const FIFTH: &[u32] = &[0x42465332, 1, 5, 0, 0, 0, 0, 0];
+
+pub(crate) const SIXTH: &[u32] = &[0x42465332, 1, 6, 0, 0, 0, 0, 0];
+
+pub(crate) const SEVENTH: &[u32] = &[0x42465332, 1, 7, 0, 0, 0, 0, 0];
+
+pub(crate) const EIGHTH: &[u32] = &[0x42465332, 1, 8, 0, 0, 0, 0, 0];
+
+pub(crate) const NINTH: &[u32] = &[0x42465332, 1, 9, 0, 0, 0, 0, 0];
+
+/// The words of names of a letter, and of those that aren't for files.
+pub(crate) const A: &[u32] = &[1, 0x61000000];
+
+pub(crate) const B: &[u32] = &[1, 0x62000000];
+
+pub(crate) const C: &[u32] = &[1, 0x63000000];
+
+pub(crate) const D: &[u32] = &[1, 0x64000000];
+
+pub(crate) const E: &[u32] = &[1, 0x65000000];
+
+pub(crate) const F: &[u32] = &[1, 0x66000000];
+
+pub(crate) const G: &[u32] = &[1, 0x67000000];
+
+pub(crate) const H: &[u32] = &[1, 0x68000000];
+
+pub(crate) const L: &[u32] = &[1, 0x6c000000];
+
+pub(crate) const DOT: &[u32] = &[1, 0x2e000000];
+
+pub(crate) const DOT_DOT: &[u32] = &[2, 0x2e2e0000];
+
+pub(crate) const NO_NAME: &[u32] = &[0];
+
+/// The words of the attributes of what was made with no settings by a caller without a credential. The seconds of its three
+/// times are those of the last access, of the last change of what it holds, and of the last change of the inode.
+macro_rules! attributes {
+    (file $id:literal, links $links:literal, size $size:literal, blocks $blocks:literal, times $atime:literal $mtime:literal $ctime:literal) => {
+        &[
+            1, 0x81a4, $links, 65534, 65534, $size, 4096, 0, $blocks, 1, $id, $atime, 0, $mtime, 0,
+            $ctime, 0,
+        ]
+    };
+    (directory $id:literal, links $links:literal, size $size:literal, times $atime:literal $mtime:literal $ctime:literal) => {
+        &[
+            2, 0x41ed, $links, 65534, 65534, $size, 4096, 0, 1, 1, $id, $atime, 0, $mtime, 0,
+            $ctime, 0,
+        ]
+    };
+}
+
+pub(crate) use attributes;
+
 /// Appends words.
 pub(crate) fn put_words(bytes: &mut Vec<u8>, words: &[u32]) -> Result<(), Memory> {
     for word in words {
@@ -33,64 +79,50 @@ pub(crate) fn put_words(bytes: &mut Vec<u8>, words: &[u32]) -> Result<(), Memory
     Ok(())
 }
 
-fn put_parts(bytes: &mut Vec<u8>, parts: &[&[u32]]) -> Result<(), Memory> {
+/// Appends words that stand in parts.
+pub(crate) fn put_parts(bytes: &mut Vec<u8>, parts: &[&[u32]]) -> Result<(), Memory> {
     for part in parts {
         put_words(bytes, part)?;
     }
     Ok(())
 }
 
+/// The bytes of words that stand in parts.
+pub(crate) fn spelled(alloc: Global, parts: &[&[u32]]) -> Result<Vec<u8>, Memory> {
+    let mut bytes = Vec::new(alloc);
+    put_parts(&mut bytes, parts)?;
+    Ok(bytes)
+}
+
 /// The head of a call of RPC version 2 with no credential and no verifier.
 pub(crate) fn call(alloc: Global, xid: u32, procedure: u32) -> Result<Vec<u8>, Memory> {
-    let mut bytes = Vec::new(alloc);
-    put_words(&mut bytes, &[xid, 0, 2, 100003, 2, procedure, 0, 0, 0, 0])?;
-    Ok(bytes)
+    spelled(alloc, &[&[xid, 0, 2, 100003, 2, procedure, 0, 0, 0, 0]])
 }
 
-fn request(alloc: Global, xid: u32, step: &Step) -> Result<Vec<u8>, Memory> {
-    let mut bytes = call(alloc, xid, step.procedure)?;
-    put_parts(&mut bytes, step.arguments)?;
-    Ok(bytes)
-}
-
-// the reply to a call that succeeds
-fn reply(alloc: Global, xid: u32, step: &Step) -> Result<Vec<u8>, Memory> {
-    let mut bytes = Vec::new(alloc);
-    put_words(&mut bytes, &[xid, 1, 0, 0, 0, 0])?;
-    put_parts(&mut bytes, step.results)?;
-    Ok(bytes)
-}
-
-/// Executes the calls as one batch at that second, with the xids 1, 2 and so on, and compares each reply.
-pub(crate) fn executes(
+/// Compares bytes.
+pub(crate) fn same_bytes(
     rt: &impl Abort,
     alloc: Global,
-    files: &mut FileSystem,
-    second: u32,
-    steps: &[Step],
+    given: &[u8],
+    wanted: &[u8],
 ) -> Result<(), Fail> {
-    let mut batch = Batch::new(alloc);
-    batch.set_time(Time::new(second, 0).ok_or("a time")?);
-    let mut xid = 1;
-    for step in steps {
-        batch.push(request(alloc, xid, step)?.as_slice())?;
-        xid = xid.saturating_add(1);
-    }
-    let replies = execute_serial(alloc, files, &batch)?;
-    compares(rt, alloc, &replies, steps)
+    assert_eq!(rt;
+        hex::encode(alloc, given)?.as_str(),
+        hex::encode(alloc, wanted)?.as_str()
+    );
+    Ok(())
 }
 
-fn compares(rt: &impl Abort, alloc: Global, replies: &Replies, steps: &[Step]) -> Result<(), Fail> {
-    assert_eq!(rt; replies.len(), steps.len());
-    let mut xid = 1;
-    for index in 0..replies.len() {
-        let step = steps.get(index).ok_or("a step for each reply")?;
-        let wanted = reply(alloc, xid, step)?;
-        assert_eq!(rt;
-            hex::encode(alloc, replies.get(index))?.as_str(),
-            hex::encode(alloc, wanted.as_slice())?.as_str()
-        );
-        xid = xid.saturating_add(1);
-    }
-    Ok(())
+/// Four letters by a number's digits: `aaaa`, `aaab` and so on, `pppp` for 65,535.
+pub(crate) fn letters(number: u32) -> [u8; 4] {
+    [
+        letter(number / 4096),
+        letter(number / 256),
+        letter(number / 16),
+        letter(number),
+    ]
+}
+
+fn letter(digit: u32) -> u8 {
+    b'a' + (digit % 16) as u8
 }

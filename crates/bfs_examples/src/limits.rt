@@ -1,0 +1,184 @@
+//! What is refused where ordinals, links or entries are at their end.
+ghost use Rattle.std.specs.Prelude.{◌<◌, length, IsTrue};
+ghost use Rattle.std.specs.Option.{ForSome};
+ghost use Rattle.bfs_model.specs.Limits.{most_entries};
+ghost use Rattle.bfs_model.specs.Tree.{listing_in};
+
+use crate::numbers::{
+    CREATE, FBIG, GETATTR, LINK, LOOKUP, MKDIR, NOENT, NOSPC, OK, READDIR, REMOVE, RENAME, RMDIR,
+    SYMLINK,
+};
+use crate::steps::{Step, runs};
+use crate::words::{A, B, C, D, E, FIFTH, FOURTH, NINTH, ROOT, THIRD, UNSET, attributes, letters};
+use bfs_inode::{FileId, Inode, Store, Tree};
+use bfs_types::{Memory, Ordinal, Time};
+use std::test::Fail;
+
+// the file `a` and the directories `d` and `d/e`
+const MADE: &[Step] = &[
+    Step(CREATE, &[ROOT, A, UNSET], &[OK, THIRD, A_MADE]),
+    Step(MKDIR, &[ROOT, D, UNSET], &[OK, FOURTH, D_MADE]),
+    Step(MKDIR, &[FOURTH, E, UNSET], &[OK, FIFTH, E_MADE]),
+];
+
+const A_MADE: &[u32] = attributes!(file 3, links 1, size 0, blocks 0, times 1 1 1);
+
+const D_MADE: &[u32] = attributes!(directory 4, links 2, size 64, times 1 1 1);
+
+const E_MADE: &[u32] = attributes!(directory 5, links 2, size 64, times 1 1 1);
+
+// the path `b`
+const PATH: &[u32] = &[1, 0x62000000];
+
+#[test]
+fn makes_nothing_at_a_spent_ordinal(rt: HostRuntime) -> Result<(), Fail> {
+    let alloc = rt.alloc();
+    let mut tree = Tree::new(alloc)?;
+    runs(&rt, alloc, &mut tree, Ordinal::first(), MADE)?;
+    let spent = Ordinal::new(4_294_967_296).ok_or("an ordinal")?;
+    runs(
+        &rt,
+        alloc,
+        &mut tree,
+        spent,
+        &[
+            Step(CREATE, &[ROOT, B, UNSET], &[NOSPC]),
+            Step(MKDIR, &[ROOT, B, UNSET], &[NOSPC]),
+            Step(SYMLINK, &[ROOT, B, PATH, UNSET], &[NOSPC]),
+            Step(LINK, &[THIRD, ROOT, B], &[NOSPC]),
+            Step(RENAME, &[ROOT, A, ROOT, B], &[NOSPC]),
+            Step(RENAME, &[ROOT, A, ROOT, A], &[OK]),
+            Step(REMOVE, &[ROOT, A], &[OK]),
+            Step(RMDIR, &[FOURTH, E], &[OK]),
+            Step(RMDIR, &[ROOT, D], &[OK]),
+        ],
+    )
+}
+
+const TOO_LARGE: &[u32] = &[
+    0xffffffff, 0xffffffff, 0xffffffff, 1048577, 0xffffffff, 0xffffffff, 0xffffffff, 0xffffffff,
+];
+
+#[test]
+fn makes_no_file_above_the_limit(rt: HostRuntime) -> Result<(), Fail> {
+    let alloc = rt.alloc();
+    let mut tree = Tree::new(alloc)?;
+    runs(
+        &rt,
+        alloc,
+        &mut tree,
+        Ordinal::first(),
+        &[Step(CREATE, &[ROOT, A, TOO_LARGE], &[FBIG])],
+    )
+}
+
+/// Counts a link more, where there may be one.
+pub(crate) fn add_link(inode: &mut Inode) {
+    if inode.links() < 32_767 {
+        inode.add_link(Time::epoch());
+    }
+}
+
+// as many links as an inode may have
+fn add_all_links(inode: &mut Inode) {
+    for _link in 0..32_767 {
+        add_link(inode);
+    }
+}
+
+const NINTH_MADE: &[u32] = attributes!(directory 9, links 2, size 64, times 1 1 1);
+
+#[test]
+fn makes_no_link_beyond_the_last(rt: HostRuntime) -> Result<(), Fail> {
+    let alloc = rt.alloc();
+    let mut tree = Tree::new(alloc)?;
+    runs(&rt, alloc, &mut tree, Ordinal::first(), MADE)?;
+    for id in [FileId::root(), FileId::new(3)] {
+        let inode = tree.get_mut(id).ok_or("an inode")?;
+        add_all_links(inode);
+        assert_eq!(rt; inode.links(), 32_767);
+    }
+    let next = Ordinal::new(6).ok_or("an ordinal")?;
+    runs(
+        &rt,
+        alloc,
+        &mut tree,
+        next,
+        &[
+            Step(MKDIR, &[ROOT, B, UNSET], &[NOSPC]),
+            Step(LINK, &[THIRD, FOURTH, B], &[NOSPC]),
+            Step(RENAME, &[FOURTH, E, ROOT, B], &[NOSPC]),
+            Step(MKDIR, &[FOURTH, B, UNSET], &[OK, NINTH, NINTH_MADE]),
+            Step(RENAME, &[ROOT, D, ROOT, B], &[OK]),
+            Step(SYMLINK, &[ROOT, D, PATH, UNSET], &[OK]),
+        ],
+    )
+}
+
+// as many entries as a directory may have, all of them names of a file
+fn add_all_entries(directory: &mut Inode, file: FileId) -> Result<(), Memory> {
+    for index in 0..65_536 {
+        if has_room(directory) {
+            directory.add_entry(Time::epoch(), 4 + index, &letters(index), file)?;
+        }
+    }
+    Ok(())
+}
+
+/// Whether it is a directory with room for an entry.
+pub(crate) fn has_room(inode: &Inode) -> bool
+    ensures { IsTrue result → ForSome (listing_in inode.now.body) (λ listing. length listing.entries < most_entries) }
+{
+    match inode.directory() {
+        Some(directory) => directory.len() < 65_536,
+        None => false,
+    }
+}
+
+const FULL: &[u32] = &[
+    2, 0x41ed, 2, 65534, 65534, 2097216, 4096, 0, 513, 1, 5, 1, 0, 0, 0, 0, 0,
+];
+
+// `aaaa`, the first of the names, and `pppp`, the last
+const FIRST_NAME: &[u32] = &[4, 0x61616161];
+
+const LAST_NAME: &[u32] = &[4, 0x70707070];
+
+// the name `b`, at the end of a page that is the last
+const ENTRY_B: &[u32] = &[1, 3, 1, 0x62000000, 70006, 0, 1];
+
+const LATE: &[u32] = &[0x42465332, 1, 70010, 0, 0, 0, 0, 0];
+
+const LATE_MADE: &[u32] = attributes!(file 70010, links 1, size 0, blocks 0, times 1 1 1);
+
+#[test]
+fn makes_no_entry_in_a_full_directory(rt: HostRuntime) -> Result<(), Fail> {
+    let alloc = rt.alloc();
+    let mut tree = Tree::new(alloc)?;
+    runs(&rt, alloc, &mut tree, Ordinal::first(), MADE)?;
+    let directory = tree.get_mut(FileId::new(5)).ok_or("a directory")?;
+    add_all_entries(directory, FileId::new(3))?;
+    let next = Ordinal::new(70_000).ok_or("an ordinal")?;
+    runs(
+        &rt,
+        alloc,
+        &mut tree,
+        next,
+        &[
+            Step(GETATTR, &[FIFTH], &[OK, FULL]),
+            Step(CREATE, &[FIFTH, B, UNSET], &[NOSPC]),
+            Step(MKDIR, &[FIFTH, B, UNSET], &[NOSPC]),
+            Step(SYMLINK, &[FIFTH, B, PATH, UNSET], &[NOSPC]),
+            Step(LINK, &[THIRD, FIFTH, B], &[NOSPC]),
+            Step(RENAME, &[ROOT, A, FIFTH, B], &[NOSPC]),
+            // but an entry that goes leaves its place to another one
+            Step(RENAME, &[FIFTH, LAST_NAME, FIFTH, B], &[OK]),
+            Step(LOOKUP, &[FIFTH, B], &[OK, THIRD, A_MADE]),
+            Step(LOOKUP, &[FIFTH, LAST_NAME], &[NOENT]),
+            Step(READDIR, &[FIFTH, &[65538, 8192]], &[OK, ENTRY_B]),
+            Step(CREATE, &[ROOT, C, UNSET], &[OK, LATE, LATE_MADE]),
+            Step(RENAME, &[ROOT, C, FIFTH, FIRST_NAME], &[OK]),
+            Step(LOOKUP, &[FIFTH, FIRST_NAME], &[OK, LATE, LATE_MADE]),
+        ],
+    )
+}

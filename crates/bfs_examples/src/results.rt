@@ -1,0 +1,133 @@
+//! The words of results (RFC 1094 sections 2.2 and 2.3).
+use crate::words::{THIRD, same_bytes, spelled};
+use bfs_types::{Attributes, FileId, FileType, Time};
+use bfs_wire::{
+    FileBytes, ListedEntries, ListedEntry, NameBytes, NfsReply, PathBytes, Status, put_reply,
+    write_reply,
+};
+use std::alloc::Global;
+use std::process::Abort;
+use std::test::Fail;
+
+// in bytes of their own, and behind others
+fn writes(rt: &impl Abort, alloc: Global, reply: NfsReply, words: &[&[u32]]) -> Result<(), Fail> {
+    let wanted = spelled(alloc, words)?;
+    let written = write_reply(alloc, &reply)?;
+    same_bytes(rt, alloc, written.as_slice(), wanted.as_slice())?;
+    let mut wanted = spelled(alloc, &[&[7]])?;
+    let mut out = spelled(alloc, &[&[7]])?;
+    wanted.extend_from_slice(written.as_slice())?;
+    put_reply(&mut out, &reply)?;
+    same_bytes(rt, alloc, out.as_slice(), wanted.as_slice())
+}
+
+// of an inode of fileid 3
+fn attributes_of(file_type: FileType, permissions: u32, size: u32) -> Result<Attributes, Fail> {
+    Ok(Attributes {
+        file_type,
+        permissions: permissions % 4096,
+        links: 2,
+        uid: 1000,
+        gid: 100,
+        size,
+        fileid: FileId::new(3),
+        atime: Time::new(1, 2).ok_or("a time")?,
+        mtime: Time::new(3, 4).ok_or("a time")?,
+        ctime: Time::new(5, 999_999).ok_or("a time")?,
+    })
+}
+
+const FILE: &[u32] = &[
+    1, 0o100644, 2, 1000, 100, 4097, 4096, 0, 2, 1, 3, 1, 2, 3, 4, 5, 999999,
+];
+
+const DIRECTORY: &[u32] = &[
+    2, 0o047777, 2, 1000, 100, 64, 4096, 0, 1, 1, 3, 1, 2, 3, 4, 5, 999999,
+];
+
+const LINK: &[u32] = &[
+    5, 0o120777, 2, 1000, 100, 0, 4096, 0, 0, 1, 3, 1, 2, 3, 4, 5, 999999,
+];
+
+#[test]
+fn writes_attributes(rt: HostRuntime) -> Result<(), Fail> {
+    let alloc = rt.alloc();
+    let file = attributes_of(FileType::Regular, 0o644, 4097)?;
+    writes(&rt, alloc, NfsReply::Attributes(file), &[&[0], FILE])?;
+    let directory = attributes_of(FileType::Directory, 0o7777, 64)?;
+    writes(
+        &rt,
+        alloc,
+        NfsReply::Attributes(directory),
+        &[&[0], DIRECTORY],
+    )?;
+    let link = attributes_of(FileType::SymbolicLink, 0o777, 0)?;
+    let found = NfsReply::Found {
+        file: FileId::new(3),
+        attributes: link,
+    };
+    writes(&rt, alloc, found, &[&[0], THIRD, LINK])?;
+    let contents = NfsReply::Contents {
+        attributes: file,
+        bytes: FileBytes::copied(alloc, b"abcde")?,
+    };
+    writes(
+        &rt,
+        alloc,
+        contents,
+        &[&[0], FILE, &[5, 0x61626364, 0x65000000]],
+    )
+}
+
+#[test]
+fn writes_statuses(rt: HostRuntime) -> Result<(), Fail> {
+    let alloc = rt.alloc();
+    writes(&rt, alloc, NfsReply::Void, &[])?;
+    writes(&rt, alloc, NfsReply::Done, &[&[0]])?;
+    for (status, number) in &[
+        (Status::Perm, 1),
+        (Status::NoEnt, 2),
+        (Status::Exist, 17),
+        (Status::NotDir, 20),
+        (Status::IsDir, 21),
+        (Status::FBig, 27),
+        (Status::NoSpc, 28),
+        (Status::NotEmpty, 66),
+        (Status::Stale, 70),
+    ] {
+        assert_eq!(rt; status.number(), *number);
+        writes(&rt, alloc, NfsReply::Refused(*status), &[&[*number]])?;
+    }
+    Ok(())
+}
+
+#[test]
+fn writes_paths_listings_and_the_room(rt: HostRuntime) -> Result<(), Fail> {
+    let alloc = rt.alloc();
+    let path = PathBytes::copied(alloc, b"a/b")?;
+    assert!(rt; path.as_slice() == b"a/b".as_slice());
+    writes(&rt, alloc, NfsReply::Path(path), &[&[0, 3, 0x612f6200]])?;
+    writes(
+        &rt,
+        alloc,
+        NfsReply::FreeBlocks(7),
+        &[&[0, 8192, 4096, 262144, 7, 7]],
+    )?;
+    let nothing = NfsReply::Listed {
+        entries: ListedEntries::new(alloc),
+        all: false,
+    };
+    writes(&rt, alloc, nothing, &[&[0, 0, 0]])?;
+    let mut entries = ListedEntries::new(alloc);
+    for (cookie, name, child) in [(1, b".".as_slice(), 2), (9, b"abcde".as_slice(), 8)] {
+        entries.push(ListedEntry {
+            cookie,
+            name: NameBytes::copied(alloc, name)?,
+            child: FileId::new(child),
+        })?;
+    }
+    let listed = NfsReply::Listed { entries, all: true };
+    let first = &[1, 2, 1, 0x2e000000, 1];
+    let second = &[1, 8, 5, 0x61626364, 0x65000000, 9];
+    writes(&rt, alloc, listed, &[&[0], first, second, &[0, 1]])
+}
