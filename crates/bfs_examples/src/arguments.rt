@@ -1,12 +1,14 @@
 //! The arguments of each procedure, from their words (RFC 1094 sections 2.2 and 2.3).
+use crate::asserts::{holds, same};
 use crate::numbers;
 use crate::numbers::{
     CREATE, GETATTR, LINK, LOOKUP, MKDIR, NULL, READ, READDIR, READLINK, REMOVE, RENAME, RMDIR,
     SETATTR, STATFS, SYMLINK, WRITE, WRITECACHE,
 };
 use crate::words::{ROOT, THIRD, spelled};
-use bfs_types::{FileId, SetTime, Settings};
+use bfs_types::{FileId, Memory, SetTime, Settings};
 use bfs_wire::{GarbageArgs, NfsCall, parse_args};
+use std::alloc::Global;
 use std::test::Fail;
 
 // the names `abc` and `de`, the first with another padding than zeros
@@ -40,107 +42,111 @@ fn third() -> Option<FileId> {
     Some(FileId::new(3))
 }
 
+// whether that call has those words as its arguments
+fn is_read(
+    alloc: Global,
+    procedure: u32,
+    words: &[&[u32]],
+    call: &NfsCall,
+) -> Result<bool, Memory> {
+    let bytes = spelled(alloc, words)?;
+    match parse_args(procedure, bytes.as_slice()) {
+        Ok(given) => Ok(given == *call),
+        Err(_) => Ok(false),
+    }
+}
+
 #[test]
 fn reads_arguments_of_files(rt: HostRuntime) -> Result<(), Fail> {
     let alloc = rt.alloc();
-    let bytes = spelled(alloc, &[THIRD])?;
-    let get = NfsCall::GetAttr { file: third() };
-    assert!(rt; parse_args(GETATTR, bytes.as_slice()) == Ok(get));
-    let read_link = NfsCall::ReadLink { file: third() };
-    assert!(rt; parse_args(READLINK, bytes.as_slice()) == Ok(read_link));
-    let status = NfsCall::FileSystemStatus { file: third() };
-    assert!(rt; parse_args(STATFS, bytes.as_slice()) == Ok(status));
-    let bytes = spelled(alloc, &[THIRD, SET])?;
-    let set = NfsCall::SetAttr {
+    let call = NfsCall::GetAttr { file: third() };
+    holds!(rt; is_read(alloc, GETATTR, &[THIRD], &call)?);
+    let call = NfsCall::ReadLink { file: third() };
+    holds!(rt; is_read(alloc, READLINK, &[THIRD], &call)?);
+    let call = NfsCall::FileSystemStatus { file: third() };
+    holds!(rt; is_read(alloc, STATFS, &[THIRD], &call)?);
+    let call = NfsCall::SetAttr {
         file: third(),
         settings: SETTINGS,
     };
-    assert!(rt; parse_args(SETATTR, bytes.as_slice()) == Ok(set));
-    let bytes = spelled(alloc, &[THIRD, &[1, 2, 3]])?;
-    let read = NfsCall::Read {
+    holds!(rt; is_read(alloc, SETATTR, &[THIRD, SET], &call)?);
+    let call = NfsCall::Read {
         file: third(),
         offset: 1,
         count: 2,
     };
-    assert!(rt; parse_args(READ, bytes.as_slice()) == Ok(read));
-    let bytes = spelled(alloc, &[THIRD, &[1, 2, 3], DE])?;
-    let write = NfsCall::Write {
+    holds!(rt; is_read(alloc, READ, &[THIRD, &[1, 2, 3]], &call)?);
+    let call = NfsCall::Write {
         file: third(),
         offset: 2,
         bytes: b"de",
     };
-    assert!(rt; parse_args(WRITE, bytes.as_slice()) == Ok(write));
+    holds!(rt; is_read(alloc, WRITE, &[THIRD, &[1, 2, 3], DE], &call)?);
     Ok(())
 }
 
 #[test]
 fn reads_arguments_of_directories(rt: HostRuntime) -> Result<(), Fail> {
     let alloc = rt.alloc();
-    let bytes = spelled(alloc, &[ROOT, ABC])?;
-    let look_up = NfsCall::LookUp {
+    let call = NfsCall::LookUp {
         dir: root(),
         name: b"abc",
     };
-    assert!(rt; parse_args(LOOKUP, bytes.as_slice()) == Ok(look_up));
-    let remove = NfsCall::Remove {
+    holds!(rt; is_read(alloc, LOOKUP, &[ROOT, ABC], &call)?);
+    let call = NfsCall::Remove {
         dir: root(),
         name: b"abc",
     };
-    assert!(rt; parse_args(REMOVE, bytes.as_slice()) == Ok(remove));
-    let remove_directory = NfsCall::RemoveDirectory {
+    holds!(rt; is_read(alloc, REMOVE, &[ROOT, ABC], &call)?);
+    let call = NfsCall::RemoveDirectory {
         dir: root(),
         name: b"abc",
     };
-    assert!(rt; parse_args(RMDIR, bytes.as_slice()) == Ok(remove_directory));
-    let bytes = spelled(alloc, &[ROOT, ABC, SET])?;
-    let create = NfsCall::Create {
-        dir: root(),
-        name: b"abc",
-        settings: SETTINGS,
-    };
-    assert!(rt; parse_args(CREATE, bytes.as_slice()) == Ok(create));
-    let make_directory = NfsCall::MakeDirectory {
+    holds!(rt; is_read(alloc, RMDIR, &[ROOT, ABC], &call)?);
+    let call = NfsCall::Create {
         dir: root(),
         name: b"abc",
         settings: SETTINGS,
     };
-    assert!(rt; parse_args(MKDIR, bytes.as_slice()) == Ok(make_directory));
-    let bytes = spelled(alloc, &[ROOT, &[1, 2]])?;
-    let read_directory = NfsCall::ReadDirectory {
+    holds!(rt; is_read(alloc, CREATE, &[ROOT, ABC, SET], &call)?);
+    let call = NfsCall::MakeDirectory {
+        dir: root(),
+        name: b"abc",
+        settings: SETTINGS,
+    };
+    holds!(rt; is_read(alloc, MKDIR, &[ROOT, ABC, SET], &call)?);
+    let call = NfsCall::ReadDirectory {
         dir: root(),
         cookie: 1,
         count: 2,
     };
-    assert!(rt; parse_args(READDIR, bytes.as_slice()) == Ok(read_directory));
+    holds!(rt; is_read(alloc, READDIR, &[ROOT, &[1, 2]], &call)?);
     Ok(())
 }
 
 #[test]
 fn reads_arguments_of_links(rt: HostRuntime) -> Result<(), Fail> {
     let alloc = rt.alloc();
-    let bytes = spelled(alloc, &[ROOT, ABC, THIRD, DE])?;
-    let rename = NfsCall::Rename {
+    let call = NfsCall::Rename {
         from: root(),
         from_name: b"abc",
         to: third(),
         to_name: b"de",
     };
-    assert!(rt; parse_args(RENAME, bytes.as_slice()) == Ok(rename));
-    let bytes = spelled(alloc, &[THIRD, ROOT, DE])?;
-    let link = NfsCall::Link {
+    holds!(rt; is_read(alloc, RENAME, &[ROOT, ABC, THIRD, DE], &call)?);
+    let call = NfsCall::Link {
         file: third(),
         dir: root(),
         name: b"de",
     };
-    assert!(rt; parse_args(LINK, bytes.as_slice()) == Ok(link));
-    let bytes = spelled(alloc, &[ROOT, ABC, DE, SET])?;
-    let symbolic_link = NfsCall::SymbolicLink {
+    holds!(rt; is_read(alloc, LINK, &[THIRD, ROOT, DE], &call)?);
+    let call = NfsCall::SymbolicLink {
         dir: root(),
         name: b"abc",
         path: b"de",
         settings: SETTINGS,
     };
-    assert!(rt; parse_args(SYMLINK, bytes.as_slice()) == Ok(symbolic_link));
+    holds!(rt; is_read(alloc, SYMLINK, &[ROOT, ABC, DE, SET], &call)?);
     Ok(())
 }
 
@@ -166,27 +172,23 @@ const GOOD: [(u32, &[&[u32]]); 18] = [
     (STATFS, &[THIRD]),
 ];
 
+fn is_garbage(procedure: u32, bytes: &[u8]) -> bool {
+    parse_args(procedure, bytes) == Err(GarbageArgs)
+}
+
 #[test]
 fn reads_no_arguments_with_bytes_missing_or_left(rt: HostRuntime) -> Result<(), Fail> {
     for (procedure, words) in GOOD {
         let mut bytes = spelled(rt.alloc(), words)?;
-        assert!(rt;
-            parse_args(procedure, bytes.as_slice()).is_ok(),
-            "procedure {procedure}"
-        );
+        let whole = parse_args(procedure, bytes.as_slice()).is_ok();
+        same!(rt; (procedure, whole), (procedure, true));
         for length in 0..bytes.len() {
-            let cut = parse_args(procedure, &bytes[..length]);
-            assert!(rt;
-                cut == Err(GarbageArgs),
-                "{length} bytes for procedure {procedure}"
-            );
+            let cut = is_garbage(procedure, &bytes[..length]);
+            same!(rt; (procedure, length, cut), (procedure, length, true));
         }
         bytes.push(0)?;
-        let longer = parse_args(procedure, bytes.as_slice());
-        assert!(rt;
-            longer == Err(GarbageArgs),
-            "a byte more for procedure {procedure}"
-        );
+        let longer = is_garbage(procedure, bytes.as_slice());
+        same!(rt; (procedure, longer), (procedure, true));
     }
     Ok(())
 }

@@ -1,6 +1,9 @@
 //! Batches on a file system.
+use crate::asserts::{holds, same};
 use bfs_serial::{Batch, ExecError, FileSystem, PushError, execute_serial};
 use bfs_types::Time;
+use std::alloc::Global;
+use std::process::Abort;
 use std::test::Fail;
 
 const ROOT_REQUEST: &str =
@@ -22,11 +25,11 @@ fn executes_one_request(rt: HostRuntime) -> Result<(), Fail> {
     batch.push(hex::decode(alloc, ROOT_REQUEST)?.as_slice())?;
     let replies = execute_serial(alloc, &mut files, &batch)?;
     assert_eq!(rt; replies.len(), 1);
-    assert_eq!(rt; hex::encode(alloc, replies.get(0))?.as_str(), ROOT_REPLY);
-    assert!(rt; files.is_live());
-    assert_eq!(rt; files.next_ordinal(), Some(4));
-    assert_eq!(rt; files.last_time(), Time::new(1, 0));
-    assert!(rt; files.tree().is_some());
+    same!(rt; hex::encode(alloc, replies.get(0))?.as_str(), ROOT_REPLY);
+    holds!(rt; files.is_live());
+    same!(rt; files.next_ordinal(), Some(4));
+    same!(rt; files.last_time(), Time::new(1, 0));
+    holds!(rt; files.tree().is_some());
     Ok(())
 }
 
@@ -38,77 +41,125 @@ fn front(bytes: &[u8], count: usize) -> &[u8] {
     }
 }
 
-#[test]
-fn leaves_messages_without_a_header_unanswered(rt: HostRuntime) -> Result<(), Fail> {
-    let alloc = rt.alloc();
-    let mut files = FileSystem::new(alloc)?;
-    assert_eq!(rt; files.next_ordinal(), Some(3));
+// the beginnings of a request, and a message that is no call
+fn without_a_header(rt: &impl Abort, alloc: Global) -> Result<Batch, Fail> {
     let mut batch = Batch::new(alloc);
     let good = hex::decode(alloc, ROOT_REQUEST)?;
-    assert_eq!(rt; good.len(), 72);
+    same!(rt; good.len(), 72);
     for count in [0, 3, 39] {
         batch.push(front(good.as_slice(), count))?;
     }
     batch.push(hex::decode(alloc, NO_CALL)?.as_slice())?;
+    Ok(batch)
+}
+
+#[test]
+fn leaves_messages_without_a_header_unanswered(rt: HostRuntime) -> Result<(), Fail> {
+    let alloc = rt.alloc();
+    let mut files = FileSystem::new(alloc)?;
+    same!(rt; files.next_ordinal(), Some(3));
+    let batch = without_a_header(&rt, alloc)?;
     let replies = execute_serial(alloc, &mut files, &batch)?;
     assert_eq!(rt; replies.len(), 4);
-    assert!(rt; !replies.is_empty());
+    holds!(rt; !replies.is_empty());
     for index in 0..4 {
-        assert_eq!(rt; replies.get(index).len(), 0);
+        same!(rt; replies.get(index).len(), 0);
     }
-    assert_eq!(rt; files.next_ordinal(), Some(7));
+    same!(rt; files.next_ordinal(), Some(7));
     Ok(())
 }
 
 #[test]
 fn moves_time_alone_for_an_empty_batch(rt: HostRuntime) -> Result<(), Fail> {
-    let alloc = rt.alloc();
-    let mut files = FileSystem::new(alloc)?;
-    for (proposed, last) in [((5, 0), (5, 0)), ((3, 0), (5, 1))] {
-        let mut batch = Batch::new(alloc);
-        assert!(rt; batch.is_empty());
-        assert_eq!(rt; batch.time(), Time::epoch());
-        batch.set_time(Time::new(proposed.0, proposed.1).ok_or("a time")?);
-        let replies = execute_serial(alloc, &mut files, &batch)?;
-        assert_eq!(rt; replies.len(), 0);
-        assert_eq!(rt; files.last_time(), Time::new(last.0, last.1));
-        assert_eq!(rt; files.next_ordinal(), Some(3));
+    let mut files = FileSystem::new(rt.alloc())?;
+    moves_time(
+        &rt,
+        rt.alloc(),
+        &mut files,
+        Time::new(5, 0),
+        Time::new(5, 0),
+    )?;
+    moves_time(
+        &rt,
+        rt.alloc(),
+        &mut files,
+        Time::new(3, 0),
+        Time::new(5, 1),
+    )
+}
+
+fn moves_time(
+    rt: &impl Abort,
+    alloc: Global,
+    files: &mut FileSystem,
+    proposed: Option<Time>,
+    last: Option<Time>,
+) -> Result<(), Fail> {
+    let batch = empty_batch(rt, alloc, proposed.ok_or("a time")?);
+    let replies = execute_serial(alloc, files, &batch)?;
+    same!(rt; replies.len(), 0);
+    same!(rt; files.last_time(), last);
+    same!(rt; files.next_ordinal(), Some(3));
+    Ok(())
+}
+
+fn empty_batch(rt: &impl Abort, alloc: Global, time: Time) -> Batch {
+    let mut batch = Batch::new(alloc);
+    holds!(rt; batch.is_empty());
+    same!(rt; batch.time(), Time::epoch());
+    batch.set_time(time);
+    batch
+}
+
+// a request of the longest size, and 1,023 of a byte
+fn full_batch(alloc: Global) -> Result<Batch, Fail> {
+    let mut batch = Batch::new(alloc);
+    let longest = vec![in alloc; 0u8; 16_384]?;
+    batch.push(longest.as_slice())?;
+    for _ in 1..1024 {
+        batch.push(&[7])?;
     }
+    Ok(batch)
+}
+
+#[test]
+fn fills_a_batch(rt: HostRuntime) -> Result<(), Fail> {
+    let batch = full_batch(rt.alloc())?;
+    assert_eq!(rt; batch.len(), 1024);
+    same!(rt; batch.request(1023).len(), 1);
+    same!(rt; batch.requests().len(), 1024);
     Ok(())
 }
 
 #[test]
 fn refuses_what_a_batch_can_not_take(rt: HostRuntime) -> Result<(), Fail> {
-    let alloc = rt.alloc();
-    let mut batch = Batch::new(alloc);
-    let longest = vec![in alloc; 0u8; 16_384]?;
-    let longer = vec![in alloc; 0u8; 16_385]?;
-    assert_eq!(rt;
-        batch.push(longer.as_slice()),
-        Err(PushError::RequestTooLong)
-    );
-    batch.push(longest.as_slice())?;
-    for _ in 1..1024 {
-        batch.push(&[7])?;
+    let longer = vec![in rt.alloc(); 0u8; 16_385]?;
+    for mut batch in [Batch::new(rt.alloc()), full_batch(rt.alloc())?] {
+        same!(rt;
+            batch.push(longer.as_slice()),
+            Err(PushError::RequestTooLong)
+        );
     }
-    assert_eq!(rt; batch.len(), 1024);
-    assert_eq!(rt; batch.push(&[7]), Err(PushError::BatchFull));
-    assert_eq!(rt;
-        batch.push(longer.as_slice()),
-        Err(PushError::RequestTooLong)
-    );
-    assert_eq!(rt; batch.request(1023).len(), 1);
-    assert_eq!(rt; batch.requests().len(), 1024);
+    Ok(())
+}
+
+#[test]
+fn refuses_more_than_a_batch_holds(rt: HostRuntime) -> Result<(), Fail> {
+    let mut batch = full_batch(rt.alloc())?;
+    same!(rt; batch.push(&[7]), Err(PushError::BatchFull));
+    Ok(())
+}
+
+#[test]
+fn numbers_errors(rt: HostRuntime) {
     for (error, code) in [
         (PushError::RequestTooLong, 12),
         (PushError::BatchFull, 13),
         (PushError::Memory, 40),
     ] {
-        assert_eq!(rt; error.code(), code);
+        same!(rt; error.code(), code);
     }
-    assert_eq!(rt;
-        (ExecError::Failed.code(), ExecError::Memory.code()),
-        (41, 40)
-    );
-    Ok(())
+    for (error, code) in [(ExecError::Failed, 41), (ExecError::Memory, 40)] {
+        same!(rt; error.code(), code);
+    }
 }

@@ -1,11 +1,16 @@
 //! Calls and their replies, one at a time (RFC 5531 section 9, RFC 1094 section 2.2).
 ghost use Rattle.std.specs.Prelude.{◌≡◌, IsTrue};
+ghost use Rattle.bfs_model.specs.Short.{IsShort};
+ghost use Rattle.bfs_wire.specs.Calls.{call_of};
 
-use crate::words::spelled;
-use bfs_inode::{FileId, Store, Tree};
-use bfs_procs::{answer, run};
+use crate::asserts::{holds, same};
+use crate::steps::run_whole;
+use crate::words::{spelled, spells};
+use bfs_inode::FileId;
+use bfs_procs::answer;
 use bfs_rpc::{Cred, Reject, parse_call, put_success, write_garbage, write_reject, write_success};
-use bfs_types::{FileType, Memory, Ordinal, SetTime, Time};
+use bfs_tree::{Store, Tree};
+use bfs_types::{Attributes, FileType, Memory, Ordinal, SetTime, Time};
 use bfs_wire::{
     GarbageArgs, NfsCall, NfsReply, Status, handle_bytes, handle_id, parse_args, put_reply,
     write_reply,
@@ -73,8 +78,7 @@ fn answers_the_attributes_of_the_root(rt: HostRuntime) -> Result<(), Fail> {
     let mut tree = Tree::new(alloc)?;
     let request = hex::decode(alloc, ROOT_REQUEST)?;
     let reply = answer_whole(alloc, &mut tree, request.as_slice())?;
-    assert_eq!(rt; hex::encode(alloc, reply.as_slice())?.as_str(), ROOT_REPLY);
-    Ok(())
+    spells(&rt, alloc, reply.as_slice(), ROOT_REPLY)
 }
 
 #[test]
@@ -94,65 +98,101 @@ fn refuses_calls_in_order(rt: HostRuntime) -> Result<(), Fail> {
 }
 
 #[test]
-fn runs_calls(rt: HostRuntime) -> Result<(), Fail> {
-    let alloc = rt.alloc();
+fn knows_each_fileid_of_a_whole_tree(rt: HostRuntime) -> Result<(), Fail> {
+    let tree = Tree::new(rt.alloc())?;
+    holds!(rt; tree.is_whole());
+    holds!(rt; tree.knows(FileId::new(7)));
+    Ok(())
+}
+
+const SOMEBODY: Cred = Cred {
+    uid: 1000,
+    gid: 100,
+};
+
+// of a new tree
+fn reply_to(alloc: Global, call: &NfsCall) -> Result<NfsReply, Memory>
+    requires { IsShort (call_of call.now) }
+{
     let mut tree = Tree::new(alloc)?;
-    assert!(rt; tree.is_whole());
-    assert!(rt; tree.knows(FileId::new(7)));
-    let (ordinal, time) = (Ordinal::first(), Time::epoch());
-    let cred = Cred {
-        uid: 1000,
-        gid: 100,
-    };
-    for call in &[NfsCall::Null, NfsCall::Root, NfsCall::WriteCache] {
-        let reply = run(alloc, &mut tree, ordinal, time, &cred, call)?;
-        assert!(rt; matches!(reply, NfsReply::Void));
-    }
-    let other = NfsCall::GetAttr { file: None };
-    let reply = run(alloc, &mut tree, ordinal, time, &cred, &other)?;
-    assert!(rt; matches!(reply, NfsReply::Refused(Status::Stale)));
-    let root = NfsCall::GetAttr {
-        file: Some(FileId::root()),
-    };
-    match run(alloc, &mut tree, ordinal, time, &cred, &root)? {
-        NfsReply::Attributes(attributes) => {
-            assert_eq!(rt; attributes.file_type, FileType::Directory);
-            assert_eq!(rt; attributes.permissions, 0o755);
-            assert_eq!(rt; attributes.size, 64);
-        }
-        _ => assert!(rt; false, "the root has attributes"),
-    }
+    run_whole(
+        alloc,
+        &mut tree,
+        Ordinal::first(),
+        Time::epoch(),
+        &SOMEBODY,
+        call,
+    )
+}
+
+fn is_void(alloc: Global, call: &NfsCall) -> Result<bool, Memory>
+    requires { IsShort (call_of call.now) }
+{
+    Ok(matches!(reply_to(alloc, call)?, NfsReply::Void))
+}
+
+#[test]
+fn replies_nothing_to_calls_without_results(rt: HostRuntime) -> Result<(), Fail> {
+    holds!(rt; is_void(rt.alloc(), &NfsCall::Null)?);
+    holds!(rt; is_void(rt.alloc(), &NfsCall::Root)?);
+    holds!(rt; is_void(rt.alloc(), &NfsCall::WriteCache)?);
     Ok(())
 }
 
 #[test]
-fn reads_calls_and_arguments(rt: HostRuntime) -> Result<(), Fail> {
+fn refuses_a_stale_handle(rt: HostRuntime) -> Result<(), Fail> {
+    let reply = reply_to(rt.alloc(), &NfsCall::GetAttr { file: None })?;
+    holds!(rt; matches!(reply, NfsReply::Refused(Status::Stale)));
+    Ok(())
+}
+
+fn attributes_of_root(alloc: Global) -> Result<Option<Attributes>, Memory> {
+    let file = Some(FileId::root());
+    match reply_to(alloc, &NfsCall::GetAttr { file })? {
+        NfsReply::Attributes(attributes) => Ok(Some(attributes)),
+        _ => Ok(None),
+    }
+}
+
+#[test]
+fn replies_the_attributes_of_the_root(rt: HostRuntime) -> Result<(), Fail> {
+    let attributes = attributes_of_root(rt.alloc())?.ok_or("attributes")?;
+    same!(rt; attributes.file_type, FileType::Directory);
+    same!(rt; attributes.permissions, 0o755);
+    same!(rt; attributes.size, 64);
+    Ok(())
+}
+
+#[test]
+fn reads_a_call(rt: HostRuntime) -> Result<(), Fail> {
     let request = hex::decode(rt.alloc(), ROOT_REQUEST)?;
     match parse_call(request.as_slice()) {
         Ok(call) => {
-            assert_eq!(rt; call.xid, 1);
-            assert_eq!(rt; call.proc, 1);
-            assert_eq!(rt;
-                call.cred,
-                Cred {
-                    uid: 65534,
-                    gid: 65534
-                }
-            );
-            let root = NfsCall::GetAttr {
-                file: Some(FileId::root()),
-            };
-            assert!(rt; parse_args(call.proc, call.args) == Ok(root));
-            assert!(rt; parse_args(1, &[]) == Err(GarbageArgs));
-            assert!(rt; handle_id(call.args) == Some(FileId::root()));
+            same!(rt; (call.xid, call.proc), (1, 1));
+            same!(rt; (call.cred.uid, call.cred.gid), (65534, 65534));
+            holds!(rt; is_getattr_of_root(call.proc, call.args));
+            same!(rt; handle_id(call.args), Some(FileId::root()));
         }
         Err(_) => assert!(rt; false, "the call is good"),
     }
-    assert_eq!(rt;
-        handle_id(handle_bytes(FileId::new(3)).as_slice()),
-        Some(FileId::new(3))
-    );
-    assert!(rt; matches!(parse_call(&[]), Err(Reject::Silent)));
+    Ok(())
+}
+
+fn is_getattr_of_root(procedure: u32, arguments: &[u8]) -> bool {
+    let file = Some(FileId::root());
+    parse_args(procedure, arguments) == Ok(NfsCall::GetAttr { file })
+}
+
+#[test]
+fn reads_handles(rt: HostRuntime) {
+    let third = FileId::new(3);
+    same!(rt; handle_id(handle_bytes(third).as_slice()), Some(third));
+    holds!(rt; parse_args(1, &[]) == Err(GarbageArgs));
+    holds!(rt; matches!(parse_call(&[]), Err(Reject::Silent)));
+}
+
+#[test]
+fn tells_why_by_codes(rt: HostRuntime) {
     for (reject, code) in [
         (Reject::Silent, 5),
         (Reject::RpcMismatch(1), 6),
@@ -161,11 +201,11 @@ fn reads_calls_and_arguments(rt: HostRuntime) -> Result<(), Fail> {
         (Reject::ProgMismatch(1), 9),
         (Reject::ProcUnavail(1), 10),
     ] {
-        assert_eq!(rt; reject.code(), code);
+        same!(rt; reject.code(), code);
     }
-    assert_eq!(rt; GarbageArgs.code(), 11);
-    assert_eq!(rt; Memory.code(), 40);
-    Ok(())
+    same!(rt; GarbageArgs.code(), 11);
+    same!(rt; Memory.code(), 40);
+    same!(rt; Status::NoSpc.number(), 28);
 }
 
 // a GETATTR without its handle, for uid 1000 and gid 100 on the machine `replay`
@@ -178,8 +218,8 @@ fn reads_a_credential(rt: HostRuntime) -> Result<(), Fail> {
     let bytes = spelled(rt.alloc(), &[SYSTEM_CALL])?;
     match parse_call(bytes.as_slice()) {
         Ok(call) => {
-            assert_eq!(rt; (call.cred.uid, call.cred.gid), (1000, 100));
-            assert_eq!(rt; call.args.len(), 0);
+            same!(rt; (call.cred.uid, call.cred.gid), (1000, 100));
+            same!(rt; call.args.len(), 0);
         }
         Err(_) => assert!(rt; false, "the call is good"),
     }
@@ -187,66 +227,49 @@ fn reads_a_credential(rt: HostRuntime) -> Result<(), Fail> {
 }
 
 #[test]
-fn writes_replies(rt: HostRuntime) -> Result<(), Fail> {
+fn writes_refusals(rt: HostRuntime) -> Result<(), Fail> {
     let alloc = rt.alloc();
-    let garbage = write_garbage(alloc, 9)?;
-    assert_eq!(rt;
-        hex::encode(alloc, garbage.as_slice())?.as_str(),
-        "000000090000000100000000000000000000000000000004"
-    );
-    let reject = write_reject(alloc, &Reject::BadCred(9))?;
-    assert_eq!(rt;
-        hex::encode(alloc, reject.as_slice())?.as_str(),
-        "0000000900000001000000010000000100000001"
-    );
-    let success = write_success(alloc, 9, &[1, 2, 3, 4])?;
-    assert_eq!(rt;
-        hex::encode(alloc, success.as_slice())?.as_str(),
-        "00000009000000010000000000000000000000000000000001020304"
-    );
-    let mut out = Vec::new(alloc);
-    put_success(&mut out, 9)?;
-    put_reply(&mut out, &NfsReply::Refused(Status::Stale))?;
-    assert_eq!(rt;
-        hex::encode(alloc, out.as_slice())?.as_str(),
-        "00000009000000010000000000000000000000000000000000000046"
-    );
-    let stale = write_reply(alloc, &NfsReply::Refused(Status::Stale))?;
-    assert_eq!(rt; hex::encode(alloc, stale.as_slice())?.as_str(), "00000046");
-    assert_eq!(rt; Status::NoSpc.number(), 28);
-    Ok(())
+    spells(
+        &rt,
+        alloc,
+        write_garbage(alloc, 9)?.as_slice(),
+        "000000090000000100000000000000000000000000000004",
+    )?;
+    spells(
+        &rt,
+        alloc,
+        write_reject(alloc, &Reject::BadCred(9))?.as_slice(),
+        "0000000900000001000000010000000100000001",
+    )
 }
 
 #[test]
-fn counts_times_and_ordinals(rt: HostRuntime) {
-    let last = Time::new(5, 0).unwrap_or(Time::epoch());
-    let proposed = Time::new(3, 0).unwrap_or(Time::epoch());
-    let next = proposed.effective_after(last);
-    assert_eq!(rt; (next.seconds(), next.useconds()), (5, 1));
-    assert!(rt; last.is_after(proposed));
-    assert!(rt; Time::new(0, 1_000_000).is_none());
-    let end = Time::new(u32::MAX, 999_999).unwrap_or(Time::epoch());
-    assert_eq!(rt; proposed.effective_after(end), end);
-    let set = SetTime {
-        seconds: 9,
-        useconds: 999_999,
-    };
-    assert_eq!(rt;
-        (set.given(last).seconds(), set.given(last).useconds()),
-        (9, 999_999)
-    );
-    let unset = SetTime {
-        seconds: 9,
-        useconds: 1_000_000,
-    };
-    assert_eq!(rt; unset.given(last), last);
-    assert_eq!(rt; Ordinal::first().next().number(), 4);
-    assert_eq!(rt; Ordinal::first().file_id(), Some(FileId::new(3)));
-    let spent = Ordinal::first().after(u64::MAX);
-    assert!(rt; spent.is_spent());
-    assert_eq!(rt;
-        spent,
-        Ordinal::new(4_294_967_296).unwrap_or(Ordinal::first())
-    );
-    assert_eq!(rt; spent.file_id(), None);
+fn writes_successes(rt: HostRuntime) -> Result<(), Fail> {
+    let alloc = rt.alloc();
+    spells(
+        &rt,
+        alloc,
+        write_success(alloc, 9, &[1, 2, 3, 4])?.as_slice(),
+        "00000009000000010000000000000000000000000000000001020304",
+    )
+}
+
+fn success(alloc: Global) -> Result<Vec<u8>, Memory> {
+    let mut out = Vec::new(alloc);
+    put_success(&mut out, 9)?;
+    put_reply(&mut out, &NfsReply::Refused(Status::Stale))?;
+    Ok(out)
+}
+
+#[test]
+fn writes_a_status(rt: HostRuntime) -> Result<(), Fail> {
+    let alloc = rt.alloc();
+    spells(
+        &rt,
+        alloc,
+        success(alloc)?.as_slice(),
+        "00000009000000010000000000000000000000000000000000000046",
+    )?;
+    let stale = write_reply(alloc, &NfsReply::Refused(Status::Stale))?;
+    spells(&rt, alloc, stale.as_slice(), "00000046")
 }

@@ -1,22 +1,12 @@
 //! Inodes, directories and stores, one call at a time.
-ghost use Rattle.std.specs.Prelude.{IsTrue};
-
-use bfs_inode::{Directory, FileData, FileId, Inode, LinkPath, Name, Store, Tree};
-use bfs_types::{Cred, FileType, SetTime, Settings, Time};
+use crate::asserts::{holds, same};
+use crate::limits::add_link;
+use crate::steps::same_ids;
+use bfs_inode::{Directory, FileData, FileId, Inode};
+use bfs_tree::{Store, Tree};
+use bfs_types::{Cred, FileType, LinkPath, Memory, Name, SetTime, Settings, Time};
+use std::alloc::Global;
 use std::test::Fail;
-
-#[test]
-fn keeps_inodes(rt: HostRuntime) -> Result<(), Fail> {
-    let alloc = rt.alloc();
-    let directory = Directory::new(alloc, FileId::new(7));
-    assert_eq!(rt; directory.parent(), FileId::new(7));
-    assert_eq!(rt; directory.len(), 0);
-    assert!(rt; directory.is_empty());
-    let root = Inode::root(alloc);
-    assert_eq!(rt; root.attributes(FileId::root()).fileid.number(), 2);
-    assert!(rt; root.directory().is_some());
-    Ok(())
-}
 
 pub(crate) const UNSET: Settings = Settings {
     mode: None,
@@ -27,159 +17,259 @@ pub(crate) const UNSET: Settings = Settings {
     mtime: None,
 };
 
+const CALLER: Cred = Cred {
+    uid: 1000,
+    gid: 100,
+};
+
+fn first_second() -> Time {
+    Time::new(1, 0).unwrap_or(Time::epoch())
+}
+
+fn child_of(inode: &Inode, name: &[u8]) -> Option<FileId> {
+    Some(inode.directory()?.entry(name)?.child)
+}
+
 #[test]
-fn changes_inodes(rt: HostRuntime) -> Result<(), Fail> {
-    let alloc = rt.alloc();
-    let now = Time::new(1, 0).ok_or("a time")?;
-    let caller = Cred {
-        uid: 1000,
-        gid: 100,
-    };
-    let mut file = Inode::new_file(alloc, now, caller, &UNSET)?;
-    assert!(rt; !file.is_directory());
-    assert!(rt; !file.is_link());
-    assert!(rt; file.link().is_none());
-    assert_eq!(rt; file.links(), 1);
-    file.add_link(now);
-    assert_eq!(rt; file.links(), 2);
+fn makes_directories_without_entries(rt: HostRuntime) {
+    let directory = Directory::new(rt.alloc(), FileId::new(7));
+    same!(rt; directory.parent(), FileId::new(7));
+    same!(rt; directory.len(), 0);
+    holds!(rt; directory.is_empty());
+}
+
+#[test]
+fn makes_the_root(rt: HostRuntime) {
+    let root = Inode::root(rt.alloc());
+    same!(rt; root.attributes(FileId::root()).fileid.number(), 2);
+    holds!(rt; root.directory().is_some());
+}
+
+fn file(alloc: Global) -> Result<Inode, Memory> {
+    Inode::new_file(alloc, first_second(), CALLER, &UNSET)
+}
+
+#[test]
+fn makes_files(rt: HostRuntime) -> Result<(), Fail> {
+    let mut file = file(rt.alloc())?;
+    holds!(rt; !file.is_directory());
+    holds!(rt; !file.is_link());
+    holds!(rt; file.link().is_none());
+    same!(rt; file.links(), 1);
+    add_link(&mut file);
+    same!(rt; file.links(), 2);
+    Ok(())
+}
+
+// two bytes, and 7.000005 as the time of the last access
+const CUT: Settings = Settings {
+    size: Some(2),
+    atime: Some(SetTime {
+        seconds: 7,
+        useconds: 5,
+    }),
+    ..UNSET
+};
+
+#[test]
+fn writes_and_cuts_files(rt: HostRuntime) -> Result<(), Fail> {
+    let now = first_second();
+    let mut file = file(rt.alloc())?;
     file.write(now, 1, b"ab")?;
-    assert!(rt; file.file().unwrap_or(&[]) == b"\0ab".as_slice());
-    let cut = Settings {
-        size: Some(2),
-        atime: Some(SetTime {
-            seconds: 7,
-            useconds: 5,
-        }),
-        ..UNSET
-    };
-    file.set_attributes(now, &cut)?;
-    assert!(rt; file.file().unwrap_or(&[]) == b"\0a".as_slice());
-    assert_eq!(rt; file.attributes(FileId::new(3)).atime.seconds(), 7);
+    holds!(rt; file.file() == Some(b"\0ab".as_slice()));
+    file.set_attributes(now, &CUT)?;
+    holds!(rt; file.file() == Some(b"\0a".as_slice()));
+    same!(rt; file.attributes(FileId::new(3)).atime.seconds(), 7);
     Ok(())
 }
 
-#[test]
-fn changes_directories_and_stores(rt: HostRuntime) -> Result<(), Fail> {
-    let alloc = rt.alloc();
-    let now = Time::epoch();
-    let caller = Cred { uid: 0, gid: 0 };
+fn root_with_entry(alloc: Global) -> Result<Inode, Memory> {
     let mut root = Inode::root(alloc);
-    root.add_entry(now, 3, b"a", FileId::new(3))?;
-    let entry = root.directory().and_then(|listing| listing.entry(b"a"));
-    assert!(rt; entry.map(|entry| entry.child) == Some(FileId::new(3)));
-    let first = root.directory().and_then(|listing| listing.at(0));
-    assert!(rt; first.map(|entry| entry.cookie) == Some(3));
-    let mut directory = Directory::new(alloc, FileId::root());
-    directory.add(4, b"b", FileId::new(4))?;
-    assert_eq!(rt; directory.len(), 1);
-    let mut tree = Tree::new(alloc)?;
-    let file = Inode::new_file(alloc, now, caller, &UNSET)?;
-    assert!(rt; tree.insert(FileId::new(3), file).is_ok());
-    match tree.get_mut(FileId::new(3)) {
-        Some(inode) if inode.links() == 1 => inode.add_link(now),
-        _ => assert!(rt; false, "the file is there, with one link"),
-    }
-    assert!(rt; tree.get(FileId::new(3)).map(|inode| inode.links()) == Some(2));
-    assert!(rt; tree.remove(FileId::new(3)).is_some());
-    assert!(rt; tree.get(FileId::new(3)).is_none());
-    Ok(())
+    root.add_entry(Time::epoch(), 3, b"a", FileId::new(3))?;
+    Ok(root)
 }
 
 #[test]
-fn makes_directories_and_symbolic_links(rt: HostRuntime) -> Result<(), Fail> {
-    let alloc = rt.alloc();
-    let now = Time::new(1, 0).ok_or("a time")?;
-    let caller = Cred {
-        uid: 1000,
-        gid: 100,
-    };
-    let mut directory = Inode::new_directory(alloc, now, caller, &UNSET, FileId::new(7));
-    assert!(rt; directory.is_directory());
-    assert_eq!(rt; (directory.links(), directory.blocks()), (2, 1));
-    let attributes = directory.attributes(FileId::new(3));
-    assert_eq!(rt; (attributes.permissions, attributes.size), (0o755, 64));
-    assert_eq!(rt; (attributes.uid, attributes.gid), (1000, 100));
-    directory.set_parent(FileId::new(8));
-    let parent = directory.directory().map(|listing| listing.parent());
-    assert_eq!(rt; parent, Some(FileId::new(8)));
-    let link = Inode::new_symbolic_link(alloc, now, caller, &UNSET, b"a/b")?;
-    assert!(rt; link.is_link());
-    assert!(rt; link.link().unwrap_or(&[]) == b"a/b".as_slice());
-    let attributes = link.attributes(FileId::new(3));
-    assert_eq!(rt; attributes.file_type, FileType::SymbolicLink);
-    assert_eq!(rt; (attributes.permissions, attributes.size), (0o777, 3));
+fn adds_entries(rt: HostRuntime) -> Result<(), Fail> {
+    let root = root_with_entry(rt.alloc())?;
+    holds!(rt; child_of(&root, b"a") == Some(FileId::new(3)));
+    holds!(rt; first_cookie(&root) == Some(3));
     Ok(())
 }
 
+fn first_cookie(inode: &Inode) -> Option<u32> {
+    Some(inode.directory()?.at(0)?.cookie)
+}
+
 #[test]
-fn takes_back_links_and_entries(rt: HostRuntime) -> Result<(), Fail> {
-    let alloc = rt.alloc();
-    let (now, later) = (Time::epoch(), Time::new(1, 0).ok_or("a time")?);
-    let mut root = Inode::root(alloc);
-    root.add_entry(now, 3, b"a", FileId::new(3))?;
+fn drops_entries(rt: HostRuntime) -> Result<(), Fail> {
+    let later = first_second();
+    let mut root = root_with_entry(rt.alloc())?;
     root.drop_entry(later, b"a");
-    assert!(rt;
-        root.directory()
-            .and_then(|listing| listing.entry(b"a"))
-            .is_none()
-    );
-    assert_eq!(rt; root.attributes(FileId::root()).mtime, later);
-    root.lose_link(now);
-    assert_eq!(rt; root.links(), 1);
-    root.set_ctime(later);
-    assert_eq!(rt; root.attributes(FileId::root()).ctime, later);
-    let mut directory = Directory::new(alloc, FileId::root());
-    directory.add(4, b"b", FileId::new(5))?;
-    let entry = directory.drop_entry(b"b").ok_or("an entry")?;
-    assert_eq!(rt; (entry.cookie, entry.child), (4, FileId::new(5)));
-    assert!(rt; entry.name.as_slice() == b"b".as_slice());
-    assert!(rt; directory.drop_entry(b"b").is_none());
-    directory.set_parent(FileId::new(6));
-    assert_eq!(rt; directory.parent(), FileId::new(6));
+    holds!(rt; child_of(&root, b"a").is_none());
+    same!(rt; root.attributes(FileId::root()).mtime, later);
     Ok(())
 }
 
-// through the trait
-fn count_and_used_blocks<S: Store>(store: &S) -> (usize, u64)
-    requires { IsTrue ((S.reach store.now).whole) }
-{
-    (store.count(), store.used_blocks())
+#[test]
+fn counts_a_link_less(rt: HostRuntime) {
+    let later = first_second();
+    let mut root = Inode::root(rt.alloc());
+    root.lose_link(Time::epoch());
+    same!(rt; root.links(), 1);
+    root.set_ctime(later);
+    same!(rt; root.attributes(FileId::root()).ctime, later);
 }
+
+#[test]
+fn counts_entries(rt: HostRuntime) -> Result<(), Fail> {
+    let mut directory = Directory::new(rt.alloc(), FileId::root());
+    directory.add(4, b"b", FileId::new(4))?;
+    same!(rt; directory.len(), 1);
+    Ok(())
+}
+
+// the cookie of what was dropped, what it named, and whether its name was that one
+fn drop_entry(directory: &mut Directory, name: &[u8]) -> Option<(u32, FileId, bool)> {
+    let entry = directory.drop_entry(name)?;
+    Some((entry.cookie, entry.child, entry.name.as_slice() == name))
+}
+
+#[test]
+fn takes_back_entries(rt: HostRuntime) -> Result<(), Fail> {
+    let mut directory = Directory::new(rt.alloc(), FileId::root());
+    directory.add(4, b"b", FileId::new(5))?;
+    same!(rt; drop_entry(&mut directory, b"b"), Some((4, FileId::new(5), true)));
+    same!(rt; drop_entry(&mut directory, b"b"), None);
+    Ok(())
+}
+
+#[test]
+fn moves_directories(rt: HostRuntime) {
+    let mut directory = Directory::new(rt.alloc(), FileId::root());
+    directory.set_parent(FileId::new(6));
+    same!(rt; directory.parent(), FileId::new(6));
+    let mut below = directory_below(rt.alloc(), FileId::new(7));
+    below.set_parent(FileId::new(8));
+    same!(rt; parent_of(&below), Some(FileId::new(8)));
+}
+
+fn parent_of(inode: &Inode) -> Option<FileId> {
+    Some(inode.directory()?.parent())
+}
+
+fn directory_below(alloc: Global, parent: FileId) -> Inode {
+    Inode::new_directory(alloc, first_second(), CALLER, &UNSET, parent)
+}
+
+#[test]
+fn makes_directories(rt: HostRuntime) {
+    let directory = directory_below(rt.alloc(), FileId::new(7));
+    holds!(rt; directory.is_directory());
+    same!(rt; (directory.links(), directory.blocks()), (2, 1));
+    let attributes = directory.attributes(FileId::new(3));
+    same!(rt; (attributes.permissions, attributes.size), (0o755, 64));
+    same!(rt; (attributes.uid, attributes.gid), (1000, 100));
+}
+
+#[test]
+fn makes_symbolic_links(rt: HostRuntime) -> Result<(), Fail> {
+    let now = first_second();
+    let link = Inode::new_symbolic_link(rt.alloc(), now, CALLER, &UNSET, b"a/b")?;
+    holds!(rt; link.is_link());
+    holds!(rt; link.link() == Some(b"a/b".as_slice()));
+    let attributes = link.attributes(FileId::new(3));
+    same!(rt; attributes.file_type, FileType::SymbolicLink);
+    same!(rt; (attributes.permissions, attributes.size), (0o777, 3));
+    Ok(())
+}
+
+fn add_second_link(tree: &mut Tree, id: FileId) -> bool {
+    match tree.get_mut(id) {
+        Some(inode) if inode.links() == 1 => {
+            inode.add_link(Time::epoch());
+            true
+        }
+        _ => false,
+    }
+}
+
+fn put_file(alloc: Global, tree: &mut Tree, id: FileId) -> Result<bool, Memory> {
+    let file = Inode::new_file(alloc, Time::epoch(), SUPERUSER, &UNSET)?;
+    Ok(tree.insert(id, file).is_ok())
+}
+
+#[test]
+fn keeps_inodes_by_their_fileids(rt: HostRuntime) -> Result<(), Fail> {
+    let id = FileId::new(3);
+    let mut tree = Tree::new(rt.alloc())?;
+    holds!(rt; put_file(rt.alloc(), &mut tree, id)?);
+    holds!(rt; add_second_link(&mut tree, id));
+    same!(rt; links_at(&tree, id), Some(2));
+    holds!(rt; tree.remove(id).is_some());
+    holds!(rt; tree.get(id).is_none());
+    Ok(())
+}
+
+const SUPERUSER: Cred = Cred { uid: 0, gid: 0 };
+
+// through the trait, of a store that is whole
+fn count_and_used_blocks<S: Store>(store: &S) -> Option<(usize, u64)> {
+    if store.is_whole() {
+        Some((store.count(), store.used_blocks()))
+    } else {
+        None
+    }
+}
+
+fn links_at(tree: &Tree, id: FileId) -> Option<u32> {
+    Some(tree.get(id)?.links())
+}
+
+const TWO_BLOCKS: Settings = Settings {
+    size: Some(4097),
+    ..UNSET
+};
 
 #[test]
 fn counts_inodes_and_blocks(rt: HostRuntime) -> Result<(), Fail> {
     let alloc = rt.alloc();
-    let caller = Cred { uid: 0, gid: 0 };
     let mut tree = Tree::new(alloc)?;
-    assert_eq!(rt; count_and_used_blocks(&tree), (1, 1));
-    let two_blocks = Settings {
-        size: Some(4097),
-        ..UNSET
-    };
-    let file = Inode::new_file(alloc, Time::epoch(), caller, &two_blocks)?;
-    assert_eq!(rt; file.blocks(), 2);
+    same!(rt; count_and_used_blocks(&tree), Some((1, 1)));
+    let file = Inode::new_file(alloc, Time::epoch(), SUPERUSER, &TWO_BLOCKS)?;
+    same!(rt; file.blocks(), 2);
     tree.insert(FileId::new(9), file)?;
-    assert_eq!(rt; count_and_used_blocks(&tree), (2, 3));
-    let mut ids = tree.ids();
-    assert_eq!(rt; ids.next().copied(), Some(2));
-    assert_eq!(rt; ids.next().copied(), Some(9));
-    assert_eq!(rt; ids.next().copied(), None);
+    same!(rt; count_and_used_blocks(&tree), Some((2, 3)));
+    same_ids(&rt, &tree, &[2, 9]);
     Ok(())
 }
 
 #[test]
 fn holds_bytes(rt: HostRuntime) -> Result<(), Fail> {
-    let alloc = rt.alloc();
+    let mut data = written_zeros(rt.alloc())?;
+    same!(rt; data.len(), 4);
+    same!(rt; data.as_slice(), b"\0abc".as_slice());
+    cut_and_lengthen(&mut data)?;
+    same!(rt; data.as_slice(), b"\0ab\0\0".as_slice());
+    Ok(())
+}
+
+fn written_zeros(alloc: Global) -> Result<FileData, Memory> {
     let mut data = FileData::zeros(alloc, 2)?;
     data.write(1, b"abc")?;
-    assert_eq!(rt; data.len(), 4);
-    assert!(rt; data.as_slice() == b"\0abc".as_slice());
+    Ok(data)
+}
+
+fn cut_and_lengthen(data: &mut FileData) -> Result<(), Memory> {
     data.resize(3)?;
-    data.resize(5)?;
-    assert!(rt; data.as_slice() == b"\0ab\0\0".as_slice());
-    let path = LinkPath::new(alloc, b"a/b")?;
-    assert!(rt; path.as_slice() == b"a/b".as_slice());
-    let name = Name::new(alloc, b"a")?;
-    assert!(rt; name.as_slice() == b"a".as_slice());
+    data.resize(5)
+}
+
+#[test]
+fn holds_paths_and_names(rt: HostRuntime) -> Result<(), Fail> {
+    let path = LinkPath::new(rt.alloc(), b"a/b")?;
+    holds!(rt; path.as_slice() == b"a/b".as_slice());
+    let name = Name::new(rt.alloc(), b"a")?;
+    holds!(rt; name.as_slice() == b"a".as_slice());
     Ok(())
 }

@@ -5,6 +5,8 @@
 #[cfg(test)]
 mod arguments;
 #[cfg(test)]
+mod asserts;
+#[cfg(test)]
 mod batches;
 #[cfg(test)]
 mod calls;
@@ -36,6 +38,8 @@ mod results;
 mod session;
 #[cfg(test)]
 mod steps;
+#[cfg(test)]
+mod times;
 #[cfg(test)]
 mod traces;
 #[cfg(test)]

@@ -4,14 +4,18 @@ ghost use Rattle.std.specs.Option.{ForSome};
 ghost use Rattle.bfs_model.specs.Limits.{most_entries};
 ghost use Rattle.bfs_model.specs.Tree.{listing_in};
 
+use crate::asserts::same;
 use crate::numbers::{
     CREATE, FBIG, GETATTR, LINK, LOOKUP, MKDIR, NOENT, NOSPC, OK, READDIR, REMOVE, RENAME, RMDIR,
     SYMLINK,
 };
 use crate::steps::{Step, runs};
 use crate::words::{A, B, C, D, E, FIFTH, FOURTH, NINTH, ROOT, THIRD, UNSET, attributes, letters};
-use bfs_inode::{FileId, Inode, Store, Tree};
+use bfs_inode::{FileId, Inode};
+use bfs_tree::{Store, Tree};
 use bfs_types::{Memory, Ordinal, Time};
+use std::alloc::Global;
+use std::process::Abort;
 use std::test::Fail;
 
 // the file `a` and the directories `d` and `d/e`
@@ -30,46 +34,53 @@ const E_MADE: &[u32] = attributes!(directory 5, links 2, size 64, times 1 1 1);
 // the path `b`
 const PATH: &[u32] = &[1, 0x62000000];
 
+fn made(rt: &impl Abort, alloc: Global) -> Result<Tree, Fail> {
+    let mut tree = Tree::new(alloc)?;
+    runs(rt, alloc, &mut tree, Ordinal::first(), MADE)?;
+    Ok(tree)
+}
+
+// under that ordinal and those behind it
+fn runs_on(
+    rt: &impl Abort,
+    alloc: Global,
+    tree: &mut Tree,
+    ordinal: u64,
+    steps: &[Step],
+) -> Result<(), Fail> {
+    let first = Ordinal::new(ordinal).ok_or("an ordinal")?;
+    runs(rt, alloc, tree, first, steps)
+}
+
+const AT_THE_END: &[Step] = &[
+    Step(CREATE, &[ROOT, B, UNSET], &[NOSPC]),
+    Step(MKDIR, &[ROOT, B, UNSET], &[NOSPC]),
+    Step(SYMLINK, &[ROOT, B, PATH, UNSET], &[NOSPC]),
+    Step(LINK, &[THIRD, ROOT, B], &[NOSPC]),
+    Step(RENAME, &[ROOT, A, ROOT, B], &[NOSPC]),
+    Step(RENAME, &[ROOT, A, ROOT, A], &[OK]),
+    Step(REMOVE, &[ROOT, A], &[OK]),
+    Step(RMDIR, &[FOURTH, E], &[OK]),
+    Step(RMDIR, &[ROOT, D], &[OK]),
+];
+
 #[test]
 fn makes_nothing_at_a_spent_ordinal(rt: HostRuntime) -> Result<(), Fail> {
-    let alloc = rt.alloc();
-    let mut tree = Tree::new(alloc)?;
-    runs(&rt, alloc, &mut tree, Ordinal::first(), MADE)?;
-    let spent = Ordinal::new(4_294_967_296).ok_or("an ordinal")?;
-    runs(
-        &rt,
-        alloc,
-        &mut tree,
-        spent,
-        &[
-            Step(CREATE, &[ROOT, B, UNSET], &[NOSPC]),
-            Step(MKDIR, &[ROOT, B, UNSET], &[NOSPC]),
-            Step(SYMLINK, &[ROOT, B, PATH, UNSET], &[NOSPC]),
-            Step(LINK, &[THIRD, ROOT, B], &[NOSPC]),
-            Step(RENAME, &[ROOT, A, ROOT, B], &[NOSPC]),
-            Step(RENAME, &[ROOT, A, ROOT, A], &[OK]),
-            Step(REMOVE, &[ROOT, A], &[OK]),
-            Step(RMDIR, &[FOURTH, E], &[OK]),
-            Step(RMDIR, &[ROOT, D], &[OK]),
-        ],
-    )
+    let mut tree = made(&rt, rt.alloc())?;
+    runs_on(&rt, rt.alloc(), &mut tree, 4_294_967_296, AT_THE_END)
 }
 
 const TOO_LARGE: &[u32] = &[
     0xffffffff, 0xffffffff, 0xffffffff, 1048577, 0xffffffff, 0xffffffff, 0xffffffff, 0xffffffff,
 ];
 
+const ABOVE_THE_LIMIT: &[Step] = &[Step(CREATE, &[ROOT, A, TOO_LARGE], &[FBIG])];
+
 #[test]
 fn makes_no_file_above_the_limit(rt: HostRuntime) -> Result<(), Fail> {
     let alloc = rt.alloc();
     let mut tree = Tree::new(alloc)?;
-    runs(
-        &rt,
-        alloc,
-        &mut tree,
-        Ordinal::first(),
-        &[Step(CREATE, &[ROOT, A, TOO_LARGE], &[FBIG])],
-    )
+    runs(&rt, alloc, &mut tree, Ordinal::first(), ABOVE_THE_LIMIT)
 }
 
 /// Counts a link more, where there may be one.
@@ -79,54 +90,60 @@ pub(crate) fn add_link(inode: &mut Inode) {
     }
 }
 
-// as many links as an inode may have
-fn add_all_links(inode: &mut Inode) {
+// gives an inode as many links as it may have, and counts them
+fn add_all_links(tree: &mut Tree, id: FileId) -> Result<u32, Fail> {
+    let inode = tree.get_mut(id).ok_or("an inode")?;
     for _link in 0..32_767 {
         add_link(inode);
     }
+    Ok(inode.links())
 }
 
 const NINTH_MADE: &[u32] = attributes!(directory 9, links 2, size 64, times 1 1 1);
 
+const BEYOND_THE_LAST: &[Step] = &[
+    Step(MKDIR, &[ROOT, B, UNSET], &[NOSPC]),
+    Step(LINK, &[THIRD, FOURTH, B], &[NOSPC]),
+    Step(RENAME, &[FOURTH, E, ROOT, B], &[NOSPC]),
+    Step(MKDIR, &[FOURTH, B, UNSET], &[OK, NINTH, NINTH_MADE]),
+    Step(RENAME, &[ROOT, D, ROOT, B], &[OK]),
+    Step(SYMLINK, &[ROOT, D, PATH, UNSET], &[OK]),
+];
+
 #[test]
 fn makes_no_link_beyond_the_last(rt: HostRuntime) -> Result<(), Fail> {
-    let alloc = rt.alloc();
-    let mut tree = Tree::new(alloc)?;
-    runs(&rt, alloc, &mut tree, Ordinal::first(), MADE)?;
+    let mut tree = made(&rt, rt.alloc())?;
     for id in [FileId::root(), FileId::new(3)] {
-        let inode = tree.get_mut(id).ok_or("an inode")?;
-        add_all_links(inode);
-        assert_eq!(rt; inode.links(), 32_767);
+        same!(rt; add_all_links(&mut tree, id)?, 32_767);
     }
-    let next = Ordinal::new(6).ok_or("an ordinal")?;
-    runs(
-        &rt,
-        alloc,
-        &mut tree,
-        next,
-        &[
-            Step(MKDIR, &[ROOT, B, UNSET], &[NOSPC]),
-            Step(LINK, &[THIRD, FOURTH, B], &[NOSPC]),
-            Step(RENAME, &[FOURTH, E, ROOT, B], &[NOSPC]),
-            Step(MKDIR, &[FOURTH, B, UNSET], &[OK, NINTH, NINTH_MADE]),
-            Step(RENAME, &[ROOT, D, ROOT, B], &[OK]),
-            Step(SYMLINK, &[ROOT, D, PATH, UNSET], &[OK]),
-        ],
-    )
+    runs_on(&rt, rt.alloc(), &mut tree, 6, BEYOND_THE_LAST)
 }
 
-// as many entries as a directory may have, all of them names of a file
-fn add_all_entries(directory: &mut Inode, file: FileId) -> Result<(), Memory> {
+// gives a directory as many entries as it may have, all of them names of a file
+fn add_all_entries(tree: &mut Tree, directory: FileId, file: FileId) -> Result<(), Fail> {
+    let directory = tree.get_mut(directory).ok_or("a directory")?;
     for index in 0..65_536 {
-        if has_room(directory) {
-            directory.add_entry(Time::epoch(), 4 + index, &letters(index), file)?;
-        }
+        add_entry(directory, 4 + index, &letters(index), file)?;
     }
     Ok(())
 }
 
-/// Whether it is a directory with room for an entry.
-pub(crate) fn has_room(inode: &Inode) -> bool
+/// Puts an entry into a directory that has room for it.
+pub(crate) fn add_entry(
+    directory: &mut Inode,
+    cookie: u32,
+    name: &[u8],
+    child: FileId,
+) -> Result<(), Fail> {
+    if name.len() > 255 || !has_room(directory) {
+        return Err(Fail::new("no room for the entry"));
+    }
+    directory.add_entry(Time::epoch(), cookie, name, child)?;
+    Ok(())
+}
+
+// whether it is a directory with room for an entry
+fn has_room(inode: &Inode) -> bool
     ensures { IsTrue result → ForSome (listing_in inode.now.body) (λ listing. length listing.entries < most_entries) }
 {
     match inode.directory() {
@@ -151,34 +168,26 @@ const LATE: &[u32] = &[0x42465332, 1, 70010, 0, 0, 0, 0, 0];
 
 const LATE_MADE: &[u32] = attributes!(file 70010, links 1, size 0, blocks 0, times 1 1 1);
 
+const IN_A_FULL_DIRECTORY: &[Step] = &[
+    Step(GETATTR, &[FIFTH], &[OK, FULL]),
+    Step(CREATE, &[FIFTH, B, UNSET], &[NOSPC]),
+    Step(MKDIR, &[FIFTH, B, UNSET], &[NOSPC]),
+    Step(SYMLINK, &[FIFTH, B, PATH, UNSET], &[NOSPC]),
+    Step(LINK, &[THIRD, FIFTH, B], &[NOSPC]),
+    Step(RENAME, &[ROOT, A, FIFTH, B], &[NOSPC]),
+    // but an entry that goes leaves its place to another one
+    Step(RENAME, &[FIFTH, LAST_NAME, FIFTH, B], &[OK]),
+    Step(LOOKUP, &[FIFTH, B], &[OK, THIRD, A_MADE]),
+    Step(LOOKUP, &[FIFTH, LAST_NAME], &[NOENT]),
+    Step(READDIR, &[FIFTH, &[65538, 8192]], &[OK, ENTRY_B]),
+    Step(CREATE, &[ROOT, C, UNSET], &[OK, LATE, LATE_MADE]),
+    Step(RENAME, &[ROOT, C, FIFTH, FIRST_NAME], &[OK]),
+    Step(LOOKUP, &[FIFTH, FIRST_NAME], &[OK, LATE, LATE_MADE]),
+];
+
 #[test]
 fn makes_no_entry_in_a_full_directory(rt: HostRuntime) -> Result<(), Fail> {
-    let alloc = rt.alloc();
-    let mut tree = Tree::new(alloc)?;
-    runs(&rt, alloc, &mut tree, Ordinal::first(), MADE)?;
-    let directory = tree.get_mut(FileId::new(5)).ok_or("a directory")?;
-    add_all_entries(directory, FileId::new(3))?;
-    let next = Ordinal::new(70_000).ok_or("an ordinal")?;
-    runs(
-        &rt,
-        alloc,
-        &mut tree,
-        next,
-        &[
-            Step(GETATTR, &[FIFTH], &[OK, FULL]),
-            Step(CREATE, &[FIFTH, B, UNSET], &[NOSPC]),
-            Step(MKDIR, &[FIFTH, B, UNSET], &[NOSPC]),
-            Step(SYMLINK, &[FIFTH, B, PATH, UNSET], &[NOSPC]),
-            Step(LINK, &[THIRD, FIFTH, B], &[NOSPC]),
-            Step(RENAME, &[ROOT, A, FIFTH, B], &[NOSPC]),
-            // but an entry that goes leaves its place to another one
-            Step(RENAME, &[FIFTH, LAST_NAME, FIFTH, B], &[OK]),
-            Step(LOOKUP, &[FIFTH, B], &[OK, THIRD, A_MADE]),
-            Step(LOOKUP, &[FIFTH, LAST_NAME], &[NOENT]),
-            Step(READDIR, &[FIFTH, &[65538, 8192]], &[OK, ENTRY_B]),
-            Step(CREATE, &[ROOT, C, UNSET], &[OK, LATE, LATE_MADE]),
-            Step(RENAME, &[ROOT, C, FIFTH, FIRST_NAME], &[OK]),
-            Step(LOOKUP, &[FIFTH, FIRST_NAME], &[OK, LATE, LATE_MADE]),
-        ],
-    )
+    let mut tree = made(&rt, rt.alloc())?;
+    add_all_entries(&mut tree, FileId::new(5), FileId::new(3))?;
+    runs_on(&rt, rt.alloc(), &mut tree, 70_000, IN_A_FULL_DIRECTORY)
 }

@@ -1,9 +1,10 @@
 //! Names of a file, one or more, and symbolic links.
+use crate::asserts::same;
 use crate::numbers::{
     CREATE, GETATTR, LINK, LOOKUP, MKDIR, NOTDIR, OK, PERM, READLINK, REMOVE, RMDIR, SETATTR,
     STALE, SYMLINK,
 };
-use crate::steps::{Step, executes};
+use crate::steps::{Step, executes, same_ids, serves};
 use crate::words::{A, B, D, FIFTH, FOURTH, L, ROOT, THIRD, UNSET, attributes};
 use bfs_types::Time;
 use std::test::Fail;
@@ -12,46 +13,40 @@ const THIRD_MADE: &[u32] = attributes!(file 3, links 1, size 0, blocks 0, times 
 
 const FIFTH_MADE: &[u32] = attributes!(file 5, links 1, size 0, blocks 0, times 2 2 2);
 
+const NAMED_AGAIN: &[&[Step]] = &[
+    &[Step(CREATE, &[ROOT, A, UNSET], &[OK, THIRD, THIRD_MADE])],
+    &[
+        Step(REMOVE, &[ROOT, A], &[OK]),
+        Step(CREATE, &[ROOT, A, UNSET], &[OK, FIFTH, FIFTH_MADE]),
+        Step(LOOKUP, &[ROOT, A], &[OK, FIFTH, FIFTH_MADE]),
+    ],
+];
+
 #[test]
 fn gives_a_removed_name_to_another_file(rt: HostRuntime) -> Result<(), Fail> {
-    executes(
-        &rt,
-        rt.alloc(),
-        &[
-            &[Step(CREATE, &[ROOT, A, UNSET], &[OK, THIRD, THIRD_MADE])],
-            &[
-                Step(REMOVE, &[ROOT, A], &[OK]),
-                Step(CREATE, &[ROOT, A, UNSET], &[OK, FIFTH, FIFTH_MADE]),
-                Step(LOOKUP, &[ROOT, A], &[OK, FIFTH, FIFTH_MADE]),
-            ],
-        ],
-    )?;
-    Ok(())
+    serves(&rt, rt.alloc(), NAMED_AGAIN)
 }
 
 const DIRECTORY: &[u32] = attributes!(directory 3, links 2, size 64, times 1 1 1);
 
 const FILE: &[u32] = attributes!(file 4, links 1, size 0, blocks 0, times 1 1 1);
 
+const UNNAMED: &[&[Step]] = &[
+    &[
+        Step(MKDIR, &[ROOT, D, UNSET], &[OK, THIRD, DIRECTORY]),
+        Step(CREATE, &[ROOT, A, UNSET], &[OK, FOURTH, FILE]),
+        Step(LINK, &[FOURTH, THIRD, B], &[OK]),
+    ],
+    &[
+        Step(REMOVE, &[ROOT, A], &[OK]),
+        Step(REMOVE, &[THIRD, B], &[OK]),
+        Step(GETATTR, &[FOURTH], &[STALE]),
+    ],
+];
+
 #[test]
 fn keeps_a_file_while_it_has_a_name(rt: HostRuntime) -> Result<(), Fail> {
-    executes(
-        &rt,
-        rt.alloc(),
-        &[
-            &[
-                Step(MKDIR, &[ROOT, D, UNSET], &[OK, THIRD, DIRECTORY]),
-                Step(CREATE, &[ROOT, A, UNSET], &[OK, FOURTH, FILE]),
-                Step(LINK, &[FOURTH, THIRD, B], &[OK]),
-            ],
-            &[
-                Step(REMOVE, &[ROOT, A], &[OK]),
-                Step(REMOVE, &[THIRD, B], &[OK]),
-                Step(GETATTR, &[FOURTH], &[STALE]),
-            ],
-        ],
-    )?;
-    Ok(())
+    serves(&rt, rt.alloc(), UNNAMED)
 }
 
 // the path `a/b`
@@ -61,23 +56,18 @@ const NO_BYTES: &[u32] = &[
     0xffffffff, 0xffffffff, 0xffffffff, 0, 0xffffffff, 0xffffffff, 0xffffffff, 0xffffffff,
 ];
 
+const PATH_HELD: &[&[Step]] = &[&[
+    Step(SYMLINK, &[ROOT, L, PATH, UNSET], &[OK]),
+    Step(READLINK, &[THIRD], &[OK, PATH]),
+    Step(SETATTR, &[THIRD, NO_BYTES], &[PERM]),
+    Step(RMDIR, &[ROOT, L], &[NOTDIR]),
+]];
+
 #[test]
 fn holds_a_path_in_a_symbolic_link(rt: HostRuntime) -> Result<(), Fail> {
-    let files = executes(
-        &rt,
-        rt.alloc(),
-        &[&[
-            Step(SYMLINK, &[ROOT, L, PATH, UNSET], &[OK]),
-            Step(READLINK, &[THIRD], &[OK, PATH]),
-            Step(SETATTR, &[THIRD, NO_BYTES], &[PERM]),
-            Step(RMDIR, &[ROOT, L], &[NOTDIR]),
-        ]],
-    )?;
-    let mut ids = files.tree().ok_or("a live file system")?.ids();
-    assert_eq!(rt; ids.next().copied(), Some(2));
-    assert_eq!(rt; ids.next().copied(), Some(3));
-    assert_eq!(rt; ids.next().copied(), None);
-    assert_eq!(rt; files.last_time(), Time::new(1, 0));
+    let files = executes(&rt, rt.alloc(), PATH_HELD)?;
+    same_ids(&rt, files.tree().ok_or("a live file system")?, &[2, 3]);
+    same!(rt; files.last_time(), Time::new(1, 0));
     Ok(())
 }
 
@@ -93,19 +83,16 @@ const MODE: &[u32] = &[
     0o2600, 0xffffffff, 0xffffffff, 0xffffffff, 0xffffffff, 0xffffffff, 0xffffffff, 0xffffffff,
 ];
 
+const FOLLOWED: &[&[Step]] = &[
+    &[
+        Step(SYMLINK, &[ROOT, L, &[0], SETTINGS], &[OK]),
+        Step(READLINK, &[THIRD], &[OK, &[0]]),
+        Step(LOOKUP, &[ROOT, L], &[OK, THIRD, SET]),
+    ],
+    &[Step(SETATTR, &[THIRD, MODE], &[OK, MODE_SET])],
+];
+
 #[test]
 fn makes_symbolic_links_for_all_to_follow(rt: HostRuntime) -> Result<(), Fail> {
-    executes(
-        &rt,
-        rt.alloc(),
-        &[
-            &[
-                Step(SYMLINK, &[ROOT, L, &[0], SETTINGS], &[OK]),
-                Step(READLINK, &[THIRD], &[OK, &[0]]),
-                Step(LOOKUP, &[ROOT, L], &[OK, THIRD, SET]),
-            ],
-            &[Step(SETATTR, &[THIRD, MODE], &[OK, MODE_SET])],
-        ],
-    )?;
-    Ok(())
+    serves(&rt, rt.alloc(), FOLLOWED)
 }

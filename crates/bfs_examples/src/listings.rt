@@ -1,6 +1,6 @@
 //! What is listed of directories, page by page.
 use crate::numbers::{CREATE, MKDIR, OK, READDIR, REMOVE};
-use crate::steps::{Step, executes};
+use crate::steps::{Step, serves};
 use crate::words::{A, B, C, D, FIFTH, FOURTH, ROOT, THIRD, UNSET, attributes};
 use std::test::Fail;
 
@@ -26,26 +26,23 @@ const LAST: &[u32] = &[0, 1];
 
 const NOT_LAST: &[u32] = &[0, 0];
 
+const PAGES: &[&[Step]] = &[&[
+    Step(CREATE, &[ROOT, A, UNSET], &[OK, THIRD, THIRD_MADE]),
+    Step(CREATE, &[ROOT, B, UNSET], &[OK, FOURTH, FOURTH_MADE]),
+    Step(CREATE, &[ROOT, C, UNSET], &[OK, FIFTH, FIFTH_MADE]),
+    Step(READDIR, &[ROOT, &[0, 12]], &[OK, NOT_LAST]),
+    Step(
+        READDIR,
+        &[ROOT, &[0, 72]],
+        &[OK, ROOT_ITSELF, ABOVE_ROOT, ENTRY_A, NOT_LAST],
+    ),
+    Step(REMOVE, &[ROOT, A], &[OK]),
+    Step(READDIR, &[ROOT, &[3, 8192]], &[OK, ENTRY_B, ENTRY_C, LAST]),
+]];
+
 #[test]
 fn lists_what_a_page_holds(rt: HostRuntime) -> Result<(), Fail> {
-    executes(
-        &rt,
-        rt.alloc(),
-        &[&[
-            Step(CREATE, &[ROOT, A, UNSET], &[OK, THIRD, THIRD_MADE]),
-            Step(CREATE, &[ROOT, B, UNSET], &[OK, FOURTH, FOURTH_MADE]),
-            Step(CREATE, &[ROOT, C, UNSET], &[OK, FIFTH, FIFTH_MADE]),
-            Step(READDIR, &[ROOT, &[0, 12]], &[OK, NOT_LAST]),
-            Step(
-                READDIR,
-                &[ROOT, &[0, 72]],
-                &[OK, ROOT_ITSELF, ABOVE_ROOT, ENTRY_A, NOT_LAST],
-            ),
-            Step(REMOVE, &[ROOT, A], &[OK]),
-            Step(READDIR, &[ROOT, &[3, 8192]], &[OK, ENTRY_B, ENTRY_C, LAST]),
-        ]],
-    )?;
-    Ok(())
+    serves(&rt, rt.alloc(), PAGES)
 }
 
 const DIRECTORY: &[u32] = attributes!(directory 3, links 2, size 64, times 1 1 1);
@@ -57,27 +54,24 @@ const ITSELF: &[u32] = &[1, 3, 1, 0x2e000000, 1];
 
 const ENTRY_LONG: &[u32] = &[1, 4, 5, 0x61626364, 0x65000000, 4];
 
+const FULL_PAGES: &[&[Step]] = &[&[
+    Step(MKDIR, &[ROOT, D, UNSET], &[OK, THIRD, DIRECTORY]),
+    Step(CREATE, &[THIRD, LONG, UNSET], &[OK, FOURTH, FOURTH_MADE]),
+    Step(READDIR, &[THIRD, &[0, 51]], &[OK, ITSELF, NOT_LAST]),
+    Step(READDIR, &[THIRD, &[1, 52]], &[OK, ABOVE_ROOT, NOT_LAST]),
+    Step(
+        READDIR,
+        &[THIRD, &[1, 56]],
+        &[OK, ABOVE_ROOT, ENTRY_LONG, LAST],
+    ),
+    Step(READDIR, &[THIRD, &[2, 0xffffffff]], &[OK, ENTRY_LONG, LAST]),
+    Step(READDIR, &[THIRD, &[3, 36]], &[OK, ENTRY_LONG, LAST]),
+    Step(READDIR, &[THIRD, &[3, 35]], &[OK, NOT_LAST]),
+    Step(READDIR, &[THIRD, &[4, 0]], &[OK, LAST]),
+    Step(READDIR, &[THIRD, &[0xffffffff, 8192]], &[OK, LAST]),
+]];
+
 #[test]
 fn ends_pages_where_they_are_full(rt: HostRuntime) -> Result<(), Fail> {
-    executes(
-        &rt,
-        rt.alloc(),
-        &[&[
-            Step(MKDIR, &[ROOT, D, UNSET], &[OK, THIRD, DIRECTORY]),
-            Step(CREATE, &[THIRD, LONG, UNSET], &[OK, FOURTH, FOURTH_MADE]),
-            Step(READDIR, &[THIRD, &[0, 51]], &[OK, ITSELF, NOT_LAST]),
-            Step(READDIR, &[THIRD, &[1, 52]], &[OK, ABOVE_ROOT, NOT_LAST]),
-            Step(
-                READDIR,
-                &[THIRD, &[1, 56]],
-                &[OK, ABOVE_ROOT, ENTRY_LONG, LAST],
-            ),
-            Step(READDIR, &[THIRD, &[2, 0xffffffff]], &[OK, ENTRY_LONG, LAST]),
-            Step(READDIR, &[THIRD, &[3, 36]], &[OK, ENTRY_LONG, LAST]),
-            Step(READDIR, &[THIRD, &[3, 35]], &[OK, NOT_LAST]),
-            Step(READDIR, &[THIRD, &[4, 0]], &[OK, LAST]),
-            Step(READDIR, &[THIRD, &[0xffffffff, 8192]], &[OK, LAST]),
-        ]],
-    )?;
-    Ok(())
+    serves(&rt, rt.alloc(), FULL_PAGES)
 }

@@ -1,10 +1,8 @@
 //! The words of results (RFC 1094 sections 2.2 and 2.3).
+use crate::asserts::{holds, same};
 use crate::words::{THIRD, same_bytes, spelled};
-use bfs_types::{Attributes, FileId, FileType, Time};
-use bfs_wire::{
-    FileBytes, ListedEntries, ListedEntry, NameBytes, NfsReply, PathBytes, Status, put_reply,
-    write_reply,
-};
+use bfs_types::{Attributes, FileId, FileType, LinkPath, Name, Time};
+use bfs_wire::{FileBytes, ListedEntries, ListedEntry, NfsReply, Status, put_reply, write_reply};
 use std::alloc::Global;
 use std::process::Abort;
 use std::test::Fail;
@@ -69,7 +67,7 @@ fn writes_attributes(rt: HostRuntime) -> Result<(), Fail> {
     writes(&rt, alloc, found, &[&[0], THIRD, LINK])?;
     let contents = NfsReply::Contents {
         attributes: file,
-        bytes: FileBytes::copied(alloc, b"abcde")?,
+        bytes: FileBytes::new(alloc, b"abcde")?,
     };
     writes(
         &rt,
@@ -95,7 +93,7 @@ fn writes_statuses(rt: HostRuntime) -> Result<(), Fail> {
         (Status::NotEmpty, 66),
         (Status::Stale, 70),
     ] {
-        assert_eq!(rt; status.number(), *number);
+        same!(rt; status.number(), *number);
         writes(&rt, alloc, NfsReply::Refused(*status), &[&[*number]])?;
     }
     Ok(())
@@ -104,8 +102,8 @@ fn writes_statuses(rt: HostRuntime) -> Result<(), Fail> {
 #[test]
 fn writes_paths_listings_and_the_room(rt: HostRuntime) -> Result<(), Fail> {
     let alloc = rt.alloc();
-    let path = PathBytes::copied(alloc, b"a/b")?;
-    assert!(rt; path.as_slice() == b"a/b".as_slice());
+    let path = LinkPath::new(alloc, b"a/b")?;
+    holds!(rt; path.as_slice() == b"a/b".as_slice());
     writes(&rt, alloc, NfsReply::Path(path), &[&[0, 3, 0x612f6200]])?;
     writes(
         &rt,
@@ -122,7 +120,7 @@ fn writes_paths_listings_and_the_room(rt: HostRuntime) -> Result<(), Fail> {
     for (cookie, name, child) in [(1, b".".as_slice(), 2), (9, b"abcde".as_slice(), 8)] {
         entries.push(ListedEntry {
             cookie,
-            name: NameBytes::copied(alloc, name)?,
+            name: Name::new(alloc, name)?,
             child: FileId::new(child),
         })?;
     }

@@ -1,15 +1,16 @@
 //! A whole session: all procedures on one file system.
+use crate::asserts::same;
 use crate::numbers;
 use crate::numbers::{
     CREATE, GETATTR, LINK, LOOKUP, MKDIR, NOTEMPTY, NULL, OK, PERM, READ, READDIR, READLINK,
     REMOVE, RENAME, RMDIR, SETATTR, STALE, STATFS, SYMLINK, WRITE, WRITECACHE,
 };
-use crate::steps::{Step, executes, runs};
+use crate::steps::{Step, executes, runs, same_ids};
 use crate::words::{
     A, B, C, D, DOT_DOT, E, EIGHTH, F, FIFTH, FOURTH, G, H, L, ROOT, SEVENTH, SIXTH, UNSET,
     attributes,
 };
-use bfs_inode::Tree;
+use bfs_tree::Tree;
 use bfs_types::Ordinal;
 use std::test::Fail;
 
@@ -138,10 +139,8 @@ const ROOM_LESS_ONE: &[u32] = &[8192, 4096, 262144, 262143, 262143];
 #[test]
 fn serves_a_session(rt: HostRuntime) -> Result<(), Fail> {
     let files = executes(&rt, rt.alloc(), &[MAKING, MOVING, REMOVING])?;
-    assert_eq!(rt; files.next_ordinal(), Some(49));
-    let mut ids = files.tree().ok_or("a live file system")?.ids();
-    assert_eq!(rt; ids.next().copied(), Some(2));
-    assert_eq!(rt; ids.next().copied(), None);
+    same!(rt; files.next_ordinal(), Some(49));
+    same_ids(&rt, files.tree().ok_or("a live file system")?, &[2]);
     Ok(())
 }
 

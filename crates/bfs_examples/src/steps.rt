@@ -3,11 +3,12 @@ ghost use Rattle.std.specs.Prelude.{◌≡◌, IsTrue};
 ghost use Rattle.bfs_model.specs.Short.{IsShort};
 ghost use Rattle.bfs_wire.specs.Calls.{call_of};
 
+use crate::asserts::{holds, same};
 use crate::words::{call, put_parts, same_bytes, spelled};
-use bfs_inode::{Store, Tree};
 use bfs_procs::run;
 use bfs_rpc::Cred;
 use bfs_serial::{Batch, FileSystem, Replies, execute_serial};
+use bfs_tree::{Store, Tree};
 use bfs_types::{Memory, Ordinal, Time};
 use bfs_wire::{NfsCall, NfsReply, parse_args, write_reply};
 use std::alloc::Global;
@@ -37,6 +38,12 @@ pub(crate) fn executes(
     Ok(files)
 }
 
+/// As `executes`, where nothing is asked of the file system afterwards.
+pub(crate) fn serves(rt: &impl Abort, alloc: Global, batches: &[&[Step]]) -> Result<(), Fail> {
+    executes(rt, alloc, batches)?;
+    Ok(())
+}
+
 fn execute(
     rt: &impl Abort,
     alloc: Global,
@@ -44,6 +51,12 @@ fn execute(
     second: u32,
     steps: &[Step],
 ) -> Result<(), Fail> {
+    let batch = batch_of(alloc, second, steps)?;
+    let replies = execute_serial(alloc, files, &batch)?;
+    compares(rt, alloc, &replies, steps)
+}
+
+fn batch_of(alloc: Global, second: u32, steps: &[Step]) -> Result<Batch, Fail> {
     let mut batch = Batch::new(alloc);
     batch.set_time(Time::new(second, 0).ok_or("a time")?);
     let mut xid = 1;
@@ -51,8 +64,7 @@ fn execute(
         batch.push(request(alloc, xid, step)?.as_slice())?;
         xid = xid.saturating_add(1);
     }
-    let replies = execute_serial(alloc, files, &batch)?;
-    compares(rt, alloc, &replies, steps)
+    Ok(batch)
 }
 
 fn request(alloc: Global, xid: u32, step: &Step) -> Result<Vec<u8>, Memory> {
@@ -63,7 +75,7 @@ fn request(alloc: Global, xid: u32, step: &Step) -> Result<Vec<u8>, Memory> {
 }
 
 fn compares(rt: &impl Abort, alloc: Global, replies: &Replies, steps: &[Step]) -> Result<(), Fail> {
-    assert_eq!(rt; replies.len(), steps.len());
+    same!(rt; replies.len(), steps.len());
     let mut xid = 1;
     for index in 0..replies.len() {
         let step = steps.get(index).ok_or("a step for each reply")?;
@@ -99,6 +111,11 @@ pub(crate) fn runs(
     Ok(())
 }
 
+const NOBODY: Cred = Cred {
+    uid: 65534,
+    gid: 65534,
+};
+
 fn runs_one(
     rt: &impl Abort,
     alloc: Global,
@@ -110,7 +127,8 @@ fn runs_one(
     let arguments = spelled(alloc, arguments)?;
     match parse_args(*procedure, arguments.as_slice()) {
         Ok(call) => {
-            let reply = run_whole(alloc, tree, ordinal, &call)?;
+            let time = Time::new(1, 0).unwrap_or(Time::epoch());
+            let reply = run_whole(alloc, tree, ordinal, time, &NOBODY, &call)?;
             let given = write_reply(alloc, &reply)?;
             let wanted = spelled(alloc, results)?;
             same_bytes(rt, alloc, given.as_slice(), wanted.as_slice())?;
@@ -120,22 +138,28 @@ fn runs_one(
     Ok(())
 }
 
-// a whole store knows what any call reads, and owns what it writes
+/// Carries out a call on a whole store, which knows what any call reads and owns what it writes.
 #[tactic(auto, using(bfs_serial::proofs::Whole::knows_all_touched))]
-fn run_whole<S: Store>(
+pub(crate) fn run_whole<S: Store>(
     alloc: Global,
     store: &mut S,
     ordinal: Ordinal,
+    time: Time,
+    caller: &Cred,
     call: &NfsCall,
 ) -> Result<NfsReply, Memory>
     requires whole { IsTrue ((S.reach store.old).whole) }
     requires short { IsShort (call_of call.now) }
     ensures { S.reach store.new ≡ S.reach store.old }
 {
-    let caller = Cred {
-        uid: 65534,
-        gid: 65534,
-    };
-    let now = Time::new(1, 0).unwrap_or(Time::epoch());
-    run(alloc, store, ordinal, now, &caller, call)
+    run(alloc, store, ordinal, time, caller, call)
+}
+
+/// Compares the fileids of a tree's inodes.
+pub(crate) fn same_ids(rt: &impl Abort, tree: &Tree, wanted: &[u32]) {
+    let mut ids = tree.ids();
+    for id in wanted {
+        same!(rt; ids.next(), Some(id));
+    }
+    holds!(rt; ids.next().is_none());
 }

@@ -1,4 +1,5 @@
 //! Traces: what is read, what is printed, and what is refused.
+use crate::asserts::{holds, same};
 use bfs_replay::{
     Failure, Line, Outcome, ReplayError, TraceError, UsageError, options, parse_trace, read_input,
     run_trace,
@@ -17,15 +18,20 @@ const ROOT_LINE: &[u8] =
 fn prints_a_line_for_each_request(rt: HostRuntime) -> Result<(), Fail> {
     let trace = parse_trace(rt.alloc(), ROOT_TRACE)?;
     let mut out = Vec::new(rt.alloc());
-    assert_eq!(rt; run_trace(&rt, &trace, &mut out)?, Outcome::Agree);
-    assert!(rt; out.as_slice() == ROOT_LINE);
+    same!(rt; run_trace(&rt, &trace, &mut out)?, Outcome::Agree);
+    holds!(rt; out.as_slice() == ROOT_LINE);
+    Ok(())
+}
+
+#[test]
+fn prints_a_dash_for_what_is_no_call(rt: HostRuntime) -> Result<(), Fail> {
     let silent = parse_trace(
         rt.alloc(),
         b"# no call\n\nbatch 0.000000\n15 018446744073709551615 raw aB",
     )?;
     let mut out = Vec::new(rt.alloc());
     run_trace(&rt, &silent, &mut out)?;
-    assert!(rt; out.as_slice() == b"c15 t18446744073709551615 -\n".as_slice());
+    holds!(rt; out.as_slice() == b"c15 t18446744073709551615 -\n".as_slice());
     Ok(())
 }
 
@@ -34,23 +40,28 @@ fn tells_the_line_at_fault(rt: HostRuntime) -> Result<(), Fail> {
     let alloc = rt.alloc();
     match parse_trace(alloc, b"batch 1.000000\n0 1 Raw 00\n") {
         Err(error) => {
-            assert_eq!(rt; error, TraceError::BadLine(2));
-            assert_eq!(rt; error.code(), 37);
-            assert_eq!(rt;
+            same!(rt; error, TraceError::BadLine(2));
+            same!(rt; error.code(), 37);
+            same!(rt;
                 format!(in alloc; "{}", Failure::from(error))?.as_str(),
                 "trace line 2"
             );
         }
         Ok(_) => assert!(rt; false, "verbs are in lower case"),
     }
-    let trace = parse_trace(alloc, b"batch 4294967295.999999\n0 5 raw 00")?;
-    assert_eq!(rt; trace.lines().len(), 2);
+    Ok(())
+}
+
+#[test]
+fn reads_batches_and_requests(rt: HostRuntime) -> Result<(), Fail> {
+    let trace = parse_trace(rt.alloc(), b"batch 4294967295.999999\n0 5 raw 00")?;
+    same!(rt; trace.lines().len(), 2);
     for line in trace.lines() {
         match line {
-            Line::Batch(time) => assert_eq!(rt; time.seconds(), 4_294_967_295),
+            Line::Batch(time) => same!(rt; time.seconds(), 4_294_967_295),
             Line::Request(request) => {
-                assert_eq!(rt; (request.client(), request.timestamp()), (0, 5));
-                assert_eq!(rt; request.call().len(), 1);
+                same!(rt; (request.client(), request.timestamp()), (0, 5));
+                same!(rt; request.call().len(), 1);
             }
         }
     }
@@ -61,24 +72,24 @@ fn tells_the_line_at_fault(rt: HostRuntime) -> Result<(), Fail> {
 fn reads_the_command_line(rt: HostRuntime) -> Result<(), Fail> {
     let alloc = rt.alloc();
     let words = ["replay", "--engine", "serial", "a.trace"];
-    assert_eq!(rt; options(alloc, &words)?.trace, "a.trace");
+    same!(rt; options(alloc, &words)?.trace, "a.trace");
     let lone = ["replay", "a.trace"];
-    assert_eq!(rt; options(alloc, &lone)?.trace, "a.trace");
+    same!(rt; options(alloc, &lone)?.trace, "a.trace");
     let none = ["replay"];
-    assert!(rt; matches!(options(alloc, &none), Err(UsageError::Usage)));
+    holds!(rt; matches!(options(alloc, &none), Err(UsageError::Usage)));
     let help = ["replay", "--help"];
-    assert!(rt; matches!(options(alloc, &help), Err(UsageError::Usage)));
+    holds!(rt; matches!(options(alloc, &help), Err(UsageError::Usage)));
     let engine = ["replay", "--engine", "runs", "a.trace"];
-    assert!(rt; matches!(options(alloc, &engine), Err(UsageError::Usage)));
-    assert_eq!(rt; UsageError::Usage.code(), 42);
-    assert_eq!(rt; Failure::from(UsageError::Usage).status(), 2);
+    holds!(rt; matches!(options(alloc, &engine), Err(UsageError::Usage)));
+    same!(rt; UsageError::Usage.code(), 42);
+    same!(rt; Failure::from(UsageError::Usage).status(), 2);
     Ok(())
 }
 
 #[test]
 fn reads_input(rt: HostRuntime) -> Result<(), Fail> {
     let text = read_input(rt.alloc(), ROOT_TRACE)?;
-    assert!(rt; text.as_slice() == ROOT_TRACE);
+    holds!(rt; text.as_slice() == ROOT_TRACE);
     Ok(())
 }
 
@@ -115,8 +126,8 @@ fn stops_where_the_writer_refuses(rt: HostRuntime) -> Result<(), Fail> {
         };
         match run_trace(&rt, &trace, &mut writer) {
             Err(error) => {
-                assert_eq!(rt; error, ReplayError::WriteFault);
-                assert_eq!(rt; error.code(), 39);
+                same!(rt; error, ReplayError::WriteFault);
+                same!(rt; error.code(), 39);
             }
             Ok(_) => assert!(rt; false, "the writer has no room"),
         }

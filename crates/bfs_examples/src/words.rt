@@ -1,4 +1,5 @@
 //! Requests and replies as the words that they are spelled in.
+use crate::asserts::same;
 use bfs_types::Memory;
 use bfs_xdr::put_u32;
 use std::alloc::Global;
@@ -106,10 +107,17 @@ pub(crate) fn same_bytes(
     given: &[u8],
     wanted: &[u8],
 ) -> Result<(), Fail> {
-    assert_eq!(rt;
-        hex::encode(alloc, given)?.as_str(),
-        hex::encode(alloc, wanted)?.as_str()
-    );
+    spells(rt, alloc, given, hex::encode(alloc, wanted)?.as_str())
+}
+
+/// Compares bytes with a text in hexadecimal.
+pub(crate) fn spells(
+    rt: &impl Abort,
+    alloc: Global,
+    given: &[u8],
+    wanted: &str,
+) -> Result<(), Fail> {
+    same!(rt; hex::encode(alloc, given)?.as_str(), wanted);
     Ok(())
 }
 

@@ -8,9 +8,11 @@ ghost use Rattle.bfs_model.specs.Directories.{without_name};
 ghost use Rattle.bfs_types.specs.Attributes.{file_type_of};
 ghost use Rattle.bfs_inode.specs.Inodes.{body_of, file_in};
 
-use crate::bounded::{FileData, LinkPath};
 use crate::directories::Directory;
-use bfs_types::{FileId, FileType, Memory};
+use bfs_types::{Bytes, FileId, FileType, LinkPath, Memory};
+
+/// The bytes of a file: at most 1,048,576.
+pub type FileData = Bytes<1_048_576>;
 
 /// What an inode holds.
 #[derive(Debug, Drop)]

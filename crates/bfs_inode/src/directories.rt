@@ -5,8 +5,7 @@ ghost use Rattle.bfs_model.specs.Directories.{entry_named};
 mod changes;
 mod pages;
 
-use crate::bounded::Name;
-use bfs_types::FileId;
+use bfs_types::{FileId, Name};
 pub use pages::{Listed, Page};
 use std::alloc::Global;
 use std::marker::Model;
@@ -82,7 +81,7 @@ impl Directory {
     }
 
     /// The entries by rising cookie.
-    pub(crate) fn entries(&self) -> &[Entry]
+    pub fn entries(&self) -> &[Entry]
         ensures value { result.now ≡ self.now.entries }
         ensures within { length result.now ≤ 65536 }
     {

@@ -11,10 +11,9 @@ ghost use Rattle.bfs_inode.specs.Inodes.{body_of, file_in, path_in};
 
 mod changes;
 
-use crate::bodies::Body;
-use crate::bounded::{FileData, LinkPath};
+use crate::bodies::{Body, FileData};
 use crate::directories::Directory;
-use bfs_types::{Attributes, Cred, FileId, Memory, SetTime, Settings, Time};
+use bfs_types::{Attributes, Cred, FileId, LinkPath, Memory, SetTime, Settings, Time};
 use std::alloc::Global;
 use std::marker::Model;
 
@@ -163,7 +162,7 @@ impl Inode {
     }
 
     /// What it holds.
-    pub(crate) fn body(&self) -> &Body
+    pub fn body(&self) -> &Body
         ensures { body_of result.now ≡ self.now.body }
     {
         &self.body

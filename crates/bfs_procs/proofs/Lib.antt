@@ -1,4 +1,3 @@
 pub mod LinkLemmas
-pub mod Below
 pub mod Moves
 pub mod Plans

@@ -3,7 +3,7 @@ use Rattle.std.proofs.Common.{◌≡◌, ℕ, ◌<◌, ◌≤◌, Bool, true, fa
 use Rattle.std.specs.Prelude.{◌==◌, option_map, if◌then◌else◌}
 use Rattle.std.specs.FinMap.{get}
 use Rattle.std.proofs.lemmas.Bool.{leb-false, not-false, and_parts}
-use Rattle.bfs_inode.specs.Reach.{Reach}
+use Rattle.bfs_tree.specs.Reach.{Reach}
 use Rattle.bfs_model.specs.Changes.{changed, without_entry, with_entry, with_ctime}
 use Rattle.bfs_model.specs.Directories.{is_bad_name, entry_named}
 use Rattle.bfs_model.specs.Limits.{most_entries, most_links}

@@ -2,7 +2,7 @@
 use Rattle.std.specs.Prelude.{ℕ, List, Option, Some, None, IsTrue}
 use Rattle.std.specs.FinMap.{get}
 use Rattle.std.specs.Option.{ForSome}
-use Rattle.bfs_inode.specs.Reach.{Reach}
+use Rattle.bfs_tree.specs.Reach.{Reach}
 use Rattle.bfs_model.specs.Changes.{changed, with_ctime, with_entry, with_parent, without_entry}
 use Rattle.bfs_model.specs.Procedures.OfFiles.{entry_made}
 use Rattle.bfs_model.specs.Procedures.Renaming.{moved_below, replaced_by_kind}

@@ -2,7 +2,7 @@
 use Rattle.std.specs.Prelude.{◌≡◌, ℕ, ◌<◌, ◌≤◌, IsTrue, List, length, Option, Some, None, is_some}
 use Rattle.std.specs.FinMap.{get}
 use Rattle.std.specs.Option.{ForSome}
-use Rattle.bfs_inode.specs.Reach.{Reach}
+use Rattle.bfs_tree.specs.Reach.{Reach}
 use Rattle.bfs_model.specs.Directories.{entry_named}
 use Rattle.bfs_model.specs.Limits.{most_entries, most_links}
 use Rattle.bfs_model.specs.Procedures.Renaming as model

@@ -3,13 +3,14 @@ ghost use Rattle.bfs_model.specs.Call as model;
 ghost use Rattle.bfs_model.specs.Replies.{results, success};
 ghost use Rattle.bfs_model.specs.Serial.{answer, answer_call};
 ghost use Rattle.bfs_model.specs.Touched.{footprint_of, footprint_of_call};
-ghost use Rattle.bfs_inode.specs.Reach.{Knows};
+ghost use Rattle.bfs_tree.specs.Reach.{Knows};
 ghost use Rattle.bfs_rpc.specs.Calls.{request_of};
 ghost use Rattle.bfs_wire.specs.Replies.{reply_of};
 
 use crate::running::run;
-use bfs_inode::{Store, Time};
+use bfs_inode::Time;
 use bfs_rpc::{Call, parse_call, put_success, write_garbage, write_reject};
+use bfs_tree::Store;
 use bfs_types::{Memory, Ordinal};
 use bfs_wire::{NfsReply, parse_args, put_reply};
 use std::alloc::Global;

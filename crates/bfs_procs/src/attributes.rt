@@ -5,7 +5,8 @@ ghost use Rattle.bfs_model.specs.Procedures.OfAttributes.{attributes_got, attrib
 ghost use Rattle.bfs_wire.specs.Replies.{reply_of, status_of};
 
 use crate::limits::MOST_BYTES;
-use bfs_inode::{FileId, Inode, Store, Time};
+use bfs_inode::{FileId, Inode, Time};
+use bfs_tree::Store;
 use bfs_types::{Memory, Settings};
 use bfs_wire::{NfsReply, Status};
 
@@ -24,7 +25,7 @@ pub(crate) fn get_attributes<S: Store>(store: &S, file: Option<FileId>) -> NfsRe
 }
 
 /// SETATTR (RFC 1094 section 2.2.3). `Memory` where there is no room for a file's new size.
-#[tactic(auto, using(bfs_inode::proofs::Laws::insert_same))]
+#[tactic(auto, using(bfs_tree::proofs::Laws::insert_same))]
 pub(crate) fn set_attributes<S: Store>(
     store: &mut S,
     now: Time,

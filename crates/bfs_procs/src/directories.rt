@@ -15,7 +15,8 @@ ghost use Rattle.bfs_wire.specs.Replies.{reply_of, status_of};
 
 use crate::context::Context;
 use crate::limits::{MOST_BYTES, MOST_ENTRIES};
-use bfs_inode::{Directory, FileId, Inode, Store, is_bad_name, is_no_name};
+use bfs_inode::{Directory, FileId, Inode, is_bad_name, is_no_name};
+use bfs_tree::Store;
 use bfs_types::{Memory, Ordinal, Settings};
 use bfs_wire::{NfsReply, Status};
 use std::alloc::Global;
@@ -47,7 +48,7 @@ pub(crate) fn look_up<S: Store>(store: &S, dir: Option<FileId>, name: &[u8]) -> 
 }
 
 /// CREATE (RFC 1094 section 2.2.10). `Memory` where there is no room for the file or for its entry.
-#[tactic(auto, using(bfs_inode::proofs::Laws::insert_same))]
+#[tactic(auto, using(bfs_tree::proofs::Laws::insert_same))]
 pub(crate) fn create<S: Store>(
     alloc: Global,
     store: &mut S,

@@ -3,7 +3,8 @@ ghost use Rattle.bfs_model.specs.Attributes.{total_blocks};
 ghost use Rattle.bfs_model.specs.Procedures.OfStatus.{status_got, used_blocks};
 ghost use Rattle.bfs_wire.specs.Replies.{reply_of};
 
-use bfs_inode::{FileId, Store};
+use bfs_inode::FileId;
+use bfs_tree::Store;
 use bfs_wire::{NfsReply, Status};
 
 // the blocks that there are, used or free

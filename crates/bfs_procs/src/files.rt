@@ -8,7 +8,8 @@ ghost use Rattle.bfs_wire.specs.Replies.{reply_of, status_of};
 ghost use Rattle.bfs_procs.specs.Files.{file_bytes};
 
 use crate::limits::MOST_BYTES;
-use bfs_inode::{FileId, Inode, Store, Time};
+use bfs_inode::{FileId, Inode, Time};
+use bfs_tree::Store;
 use bfs_types::Memory;
 use bfs_wire::{FileBytes, NfsReply, Status};
 use std::alloc::Global;
@@ -37,13 +38,13 @@ pub(crate) fn read<S: Store>(
         Err(status) => Ok(NfsReply::Refused(status)),
         Ok(bytes) => Ok(NfsReply::Contents {
             attributes: inode.attributes(id),
-            bytes: FileBytes::copied(alloc, bytes_from(bytes, offset, count))?,
+            bytes: FileBytes::new(alloc, bytes_from(bytes, offset, count))?,
         }),
     }
 }
 
 /// WRITE (RFC 1094 section 2.2.9). `Memory` where there is no room for the file to grow.
-#[tactic(auto, using(bfs_inode::proofs::Laws::insert_same))]
+#[tactic(auto, using(bfs_tree::proofs::Laws::insert_same))]
 pub(crate) fn write<S: Store>(
     store: &mut S,
     now: Time,

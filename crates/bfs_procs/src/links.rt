@@ -15,9 +15,10 @@ use crate::context::Context;
 use crate::directories::new_name;
 use crate::limits::MOST_LINKS;
 use crate::steps::add_link;
-use bfs_inode::{Directory, FileId, Inode, Store};
-use bfs_types::{Memory, Ordinal, Settings};
-use bfs_wire::{NfsReply, PathBytes, Status};
+use bfs_inode::{Directory, FileId, Inode};
+use bfs_tree::Store;
+use bfs_types::{LinkPath, Memory, Ordinal, Settings};
+use bfs_wire::{NfsReply, Status};
 use std::alloc::Global;
 
 /// READLINK (RFC 1094 section 2.2.6). `Memory` where there is no room for the path.
@@ -37,12 +38,12 @@ pub(crate) fn read_link<S: Store>(
     };
     match inode.link() {
         None => Ok(NfsReply::Refused(Status::Perm)),
-        Some(path) => Ok(NfsReply::Path(PathBytes::copied(alloc, path)?)),
+        Some(path) => Ok(NfsReply::Path(LinkPath::new(alloc, path)?)),
     }
 }
 
 /// LINK (RFC 1094 section 2.2.13). `Memory` where there is no room for the entry.
-#[tactic(auto, using(bfs_inode::proofs::Laws::insert_same, crate::proofs::LinkLemmas::few_links))]
+#[tactic(auto, using(bfs_tree::proofs::Laws::insert_same, crate::proofs::LinkLemmas::few_links))]
 pub(crate) fn link<S: Store>(
     store: &mut S,
     context: Context,
@@ -84,7 +85,7 @@ pub(crate) fn link<S: Store>(
 }
 
 /// SYMLINK (RFC 1094 section 2.2.14). `Memory` where there is no room for the path or for the entry.
-#[tactic(auto, using(bfs_inode::proofs::Laws::insert_same))]
+#[tactic(auto, using(bfs_tree::proofs::Laws::insert_same))]
 pub(crate) fn make_symbolic_link<S: Store>(
     alloc: Global,
     store: &mut S,

@@ -6,9 +6,10 @@ ghost use Rattle.bfs_model.specs.Procedures.OfListing.{directory_read};
 ghost use Rattle.bfs_inode.specs.Pages.{listed_of};
 ghost use Rattle.bfs_wire.specs.Replies.{reply_of};
 
-use bfs_inode::{FileId, Listed, Page, Store};
-use bfs_types::Memory;
-use bfs_wire::{ListedEntries, ListedEntry, NameBytes, NfsReply, Status};
+use bfs_inode::{FileId, Listed, Page};
+use bfs_tree::Store;
+use bfs_types::{Memory, Name};
+use bfs_wire::{ListedEntries, ListedEntry, NfsReply, Status};
 use std::alloc::Global;
 
 /// READDIR (RFC 1094 section 2.2.17). `Memory` where there is no room for the entries.
@@ -53,7 +54,7 @@ fn entry_of(alloc: Global, listed: &Listed) -> Result<ListedEntry, Memory>
 {
     Ok(ListedEntry {
         cookie: listed.cookie,
-        name: NameBytes::copied(alloc, listed.name)?,
+        name: Name::new(alloc, listed.name)?,
         child: listed.child,
     })
 }

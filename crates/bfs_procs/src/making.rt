@@ -8,13 +8,14 @@ ghost use Rattle.bfs_wire.specs.Replies.{reply_of};
 use crate::context::Context;
 use crate::directories::found;
 use crate::links::new_name_of_links;
-use bfs_inode::{FileId, Inode, Store};
+use bfs_inode::{FileId, Inode};
+use bfs_tree::Store;
 use bfs_types::{Memory, Settings};
 use bfs_wire::{NfsReply, Status};
 use std::alloc::Global;
 
 /// MKDIR (RFC 1094 section 2.2.15). `Memory` where there is no room for the directory or for its entry.
-#[tactic(auto, using(bfs_inode::proofs::Laws::insert_same))]
+#[tactic(auto, using(bfs_tree::proofs::Laws::insert_same))]
 pub(crate) fn make_directory<S: Store>(
     alloc: Global,
     store: &mut S,

@@ -10,7 +10,8 @@ ghost use Rattle.bfs_model.specs.Procedures.OfDirectories.{directory_removed, ha
 ghost use Rattle.bfs_wire.specs.Replies.{reply_of, status_of};
 
 use crate::steps::{drop_entry, lose_link, lose_name};
-use bfs_inode::{FileId, Inode, Store, Time, is_bad_name};
+use bfs_inode::{FileId, Inode, Time, is_bad_name};
+use bfs_tree::Store;
 use bfs_wire::{NfsReply, Status};
 
 /// REMOVE (RFC 1094 section 2.2.11).

@@ -3,16 +3,16 @@ ghost use Rattle.bfs_model.specs.Arguments as model;
 ghost use Rattle.bfs_model.specs.Limits.{longest_name};
 ghost use Rattle.bfs_model.specs.Procedures.Renaming.{entry_renamed};
 ghost use Rattle.bfs_model.specs.Touched.{footprint};
-ghost use Rattle.bfs_inode.specs.Reach.{Knows};
+ghost use Rattle.bfs_tree.specs.Reach.{Knows};
 ghost use Rattle.bfs_wire.specs.Replies.{reply_of};
 
-mod below;
 mod moves;
 mod plans;
 mod refusals;
 
 use crate::context::Context;
-use bfs_inode::{FileId, Store};
+use bfs_inode::FileId;
+use bfs_tree::Store;
 use bfs_types::Memory;
 use bfs_wire::NfsReply;
 use moves::carry_out;

@@ -7,7 +7,8 @@ ghost use Rattle.bfs_model.specs.Changes.{changed, link_lost, with_ctime, with_e
 ghost use Rattle.bfs_model.specs.Procedures.OfFiles.{entry_made};
 ghost use Rattle.bfs_model.specs.Tree.{entries_at};
 
-use bfs_inode::{FileId, Store, Time};
+use bfs_inode::{FileId, Time};
+use bfs_tree::Store;
 use bfs_types::Memory;
 
 /// Takes the entry of that name out of a directory.

@@ -22,8 +22,8 @@ pub enum Reject {
     /// PROG_MISMATCH: the version of NFS is not 2.
     #[error("call {0}: the version of NFS is not 2")]
     ProgMismatch(u32),
-    /// PROC_UNAVAIL: the procedure is not served.
-    #[error("call {0}: the procedure is not served")]
+    /// PROC_UNAVAIL: there is no such procedure.
+    #[error("call {0}: there is no such procedure")]
     ProcUnavail(u32),
 }
 

@@ -2,7 +2,7 @@
 use Rattle.std.proofs.Common.{◌≡◌, ℕ, Bool, true, IsTrue, List, [], ◌∷◌}
 use Rattle.std.specs.List.{AllByRecursion}
 use Rattle.bfs_model.specs.Touched.{Footprint, known, whole}
-use Rattle.bfs_inode.specs.Reach.{Reach, Knows}
+use Rattle.bfs_tree.specs.Reach.{Reach, Knows}
 
 all_of : (p : ℕ → Bool) (xs : List ℕ) → ((q : ℕ) → p q ≡ true) → AllByRecursion (λ q. IsTrue (p q)) xs
 all_of p [] each = tt

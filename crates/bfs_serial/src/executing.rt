@@ -7,9 +7,9 @@ ghost use Rattle.bfs_serial.specs.Executed.{Executed};
 use crate::batches::{Batch, Request};
 use crate::files::{FileSystem, Live};
 use crate::replies::Replies;
-use bfs_inode::{Store, Time};
 use bfs_procs::answer;
-use bfs_types::{Memory, Ordinal};
+use bfs_tree::Store;
+use bfs_types::{Memory, Ordinal, Time};
 use std::alloc::Global;
 use thiserror::Error;
 

@@ -2,7 +2,7 @@ ghost use Rattle.std.specs.Prelude.{◌≡◌, ◌↔◌, IsTrue, IfOk, Some, No
 ghost use Rattle.std.specs.Option.{option_map, option_copied};
 ghost use Rattle.bfs_model.specs.Tree.{new_file_system};
 
-use bfs_inode::Tree;
+use bfs_tree::Tree;
 use bfs_types::{Memory, Ordinal, Time};
 use std::alloc::Global;
 use std::marker::Model;
@@ -19,7 +19,7 @@ pub(crate) struct Live {
 impl Model for Live {
     ghost use Rattle.bfs_model.specs.Tree as model;
     ghost use Rattle.std.specs.Coded.{codes};
-    ghost use Rattle.bfs_inode.specs.contracts.trees.Tree as kept;
+    ghost use Rattle.bfs_tree.specs.contracts.trees.Tree as kept;
 
     ghost Value = { model.FileSystem };
 
@@ -42,7 +42,7 @@ impl Model for FileSystem {
     ghost use Rattle.std.specs.Prelude.{Option};
     ghost use Rattle.bfs_model.specs.Tree as model;
     ghost use Rattle.std.specs.Coded.{codes};
-    ghost use Rattle.bfs_inode.specs.contracts.trees.Tree as kept;
+    ghost use Rattle.bfs_tree.specs.contracts.trees.Tree as kept;
 
     ghost Value = { Option model.FileSystem };
 

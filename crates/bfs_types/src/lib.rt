@@ -1,7 +1,9 @@
-//! The vocabulary that every crate above shares: fileids, times, ordinals, attributes, credentials, settings, and the want of memory.
+//! The vocabulary that every crate above shares: bytes, fileids, times, ordinals, attributes, credentials, settings, and the
+//! want of memory.
 #![tactic(auto)]
 
 mod attributes;
+mod bytes;
 mod cred;
 mod file_id;
 mod memory;
@@ -10,6 +12,7 @@ mod settings;
 mod time;
 
 pub use attributes::{Attributes, FileType};
+pub use bytes::{Bytes, LinkPath, Name};
 pub use cred::Cred;
 pub use file_id::FileId;
 pub use memory::Memory;

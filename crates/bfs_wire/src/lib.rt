@@ -1,7 +1,6 @@
 //! The calls of NFS version 2 and what is answered to them (RFC 1094), read from bytes and written as bytes.
 #![tactic(auto)]
 
-mod bytes;
 mod call;
 mod file_type;
 mod forms;
@@ -12,10 +11,9 @@ mod parts;
 mod reply;
 mod status;
 
-pub use bytes::{FileBytes, NameBytes, PathBytes, ReplyBytes};
 pub use call::{NfsCall, parse_args};
 pub use garbage::GarbageArgs;
 pub use handle::{handle_bytes, handle_id};
 pub use listing::{ListedEntries, ListedEntry};
-pub use reply::{NfsReply, put_reply, write_reply};
+pub use reply::{FileBytes, NfsReply, put_reply, write_reply};
 pub use status::Status;

@@ -3,8 +3,7 @@ ghost use Rattle.std.specs.Prelude.{◌≡◌, [], ◌∷◌, ◌++◌, take, le
 ghost use Rattle.std.specs.List.{flat_map};
 ghost use Rattle.bfs_model.specs.Replies.{entry_item};
 
-use crate::bytes::NameBytes;
-use bfs_types::{FileId, Memory};
+use bfs_types::{FileId, Memory, Name};
 use bfs_xdr::{put_bool, put_opaque, put_u32};
 use std::alloc::Global;
 use std::marker::Model;
@@ -15,7 +14,7 @@ pub struct ListedEntry {
     /// What a further READDIR goes on behind.
     pub cookie: u32,
     /// The name, without the directories above; or `.` or `..`.
-    pub name: NameBytes,
+    pub name: Name,
     /// The inode that it names.
     pub child: FileId,
 }

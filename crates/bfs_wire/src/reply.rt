@@ -3,14 +3,16 @@ ghost use Rattle.bfs_model.specs.Attributes.{blocks_of as model_blocks_of};
 ghost use Rattle.bfs_model.specs.Replies as model;
 ghost use Rattle.bfs_wire.specs.Replies.{reply_of};
 
-use crate::bytes::{FileBytes, PathBytes};
 use crate::file_type::{type_bits, type_number};
 use crate::handle::handle_bytes;
 use crate::listing::{ListedEntries, put_entries};
 use crate::status::Status;
-use bfs_types::{Attributes, FileId, Memory};
+use bfs_types::{Attributes, Bytes, FileId, LinkPath, Memory};
 use bfs_xdr::{put_bool, put_opaque, put_words};
 use std::alloc::Global;
+
+/// Bytes of a file that READ gives: at most 8,192 (RFC 1094 section 2.3.11, nfsdata).
+pub type FileBytes = Bytes<8192>;
 
 /// What a procedure gives (RFC 1094 section 2.2).
 #[derive(Debug, Drop)]
@@ -34,7 +36,7 @@ pub enum NfsReply {
         bytes: FileBytes,
     },
     /// The path that a symbolic link holds.
-    Path(PathBytes),
+    Path(LinkPath),
     /// Entries of a directory, and whether none is left behind them.
     Listed {
         entries: ListedEntries,
@@ -135,7 +137,7 @@ fn put_contents(out: &mut Vec<u8>, attributes: &Attributes, bytes: &FileBytes) -
 
 // readlinkres where the path was read (RFC 1094 section 2.2.6)
 #[tactic(auto, using(std::proofs::lemmas::List::append_assoc), unfolding(bfs_model::specs::Replies::results))]
-fn put_path(out: &mut Vec<u8>, path: &PathBytes) -> Result<(), Memory>
+fn put_path(out: &mut Vec<u8>, path: &LinkPath) -> Result<(), Memory>
     ensures ok { OnOk result (out.new.items ≡ out.old.items ++ model.results (model.path path.now)) }
     ensures err { OnErr result (take (length out.old.items) out.new.items ≡ out.old.items) }
 {

@@ -2,9 +2,8 @@ ghost use Rattle.std.specs.Prelude.{◌≡◌, ◌<◌, ◌≤◌, [], ◌∷◌
 ghost use Rattle.bfs_model.specs.Limits.{longest_name, most_entries};
 ghost use Rattle.bfs_model.specs.Directories.{entry_named, without_name};
 
-use crate::bounded::Name;
 use crate::directories::{Directory, Entry};
-use bfs_types::{FileId, Memory};
+use bfs_types::{FileId, Memory, Name};
 
 impl Directory {
     /// Puts an entry behind the others; its cookie is to be above theirs. `Memory`, and nothing changes, where there is no

@@ -4,12 +4,12 @@ ghost use Rattle.std.specs.Option.{ForSome};
 ghost use Rattle.bfs_model.specs.Limits.{longest_name, most_entries, most_links};
 ghost use Rattle.bfs_model.specs.Changes.{changed, with_parent};
 ghost use Rattle.bfs_model.specs.Procedures.Renaming.{moved_below};
-ghost use Rattle.bfs_model.specs.Tree as tree;
 ghost use Rattle.bfs_model.specs.Tree.{entries_at, spent_ordinal};
 ghost use Rattle.bfs_procs.specs.Moves.{Owns, cleared, moved_by, with_parent_set, without_names};
 
 use crate::steps::{add_entry, add_link, drop_entry, lose_link, lose_name, set_ctime, set_parent};
-use bfs_inode::{FileId, Store, Time};
+use bfs_inode::{FileId, Time};
+use bfs_tree::{Store, is_directory};
 use bfs_types::{Memory, Ordinal};
 
 // an inode comes from one directory to another, in the place of what has its new name there
@@ -79,16 +79,6 @@ fn clear_name<S: Store>(
     } else {
         drop_entry(store, now, to, to_name);
         lose_name(store, now, id);
-    }
-}
-
-fn is_directory<S: Store>(store: &S, id: FileId) -> bool
-    requires { IsTrue ((S.reach store.now).known id) }
-    ensures { result ≡ tree.is_directory (get (S.inodes store.now) id) }
-{
-    match store.get(id) {
-        Some(inode) => inode.is_directory(),
-        None => false,
     }
 }
 

@@ -11,7 +11,8 @@ ghost use Rattle.bfs_procs.specs.Renaming.{moves_directory, refusals};
 
 use crate::renaming::moves::Move;
 use crate::renaming::refusals::{Renaming, Replaced};
-use bfs_inode::{Directory, FileId, Store, is_bad_name};
+use bfs_inode::{Directory, FileId, is_bad_name};
+use bfs_tree::Store;
 use bfs_types::Ordinal;
 use bfs_wire::Status;
 

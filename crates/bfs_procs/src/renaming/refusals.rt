@@ -7,8 +7,8 @@ ghost use Rattle.bfs_procs.specs.Renaming.{is_new, is_onto_directory, is_onto_en
 ghost use Rattle.bfs_wire.specs.Replies.{status_of};
 
 use crate::limits::{MOST_ENTRIES, MOST_LINKS};
-use crate::renaming::below::is_below;
-use bfs_inode::{FileId, Inode, Store};
+use bfs_inode::{FileId, Inode};
+use bfs_tree::{Store, is_below};
 use bfs_types::Ordinal;
 use bfs_wire::Status;
 

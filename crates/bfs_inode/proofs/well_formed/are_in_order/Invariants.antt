@@ -1,9 +1,0 @@
-use Rattle.std.specs.Prelude.{◌↔◌}
-use Rattle.std.specs.List.{AllByRecursion}
-use Rattle.std.specs.FinMap.{entries}
-use Rattle.bfs_inode.specs.WellFormed.{IsInOrder}
-use Rattle.bfs_inode.proofs.well_formed.are_in_order.Given as goal
-
--- all are in order just if those that are left are
-abbrev pub invariant-loop-id : goal.invariant-loop-id
-invariant-loop-id l = AllByRecursion (IsInOrder l.tree) l.id-iterator ↔ AllByRecursion (IsInOrder l.tree) (entries l.tree)

@@ -1,0 +1,5 @@
+pub mod Laws
+pub mod MapLemmas
+pub mod BlockLemmas
+pub mod Below
+pub mod WellFormed

@@ -1,0 +1,4 @@
+pub mod Reach
+pub mod Lending
+pub mod Maps
+pub mod WellFormed

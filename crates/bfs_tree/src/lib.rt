@@ -1,0 +1,11 @@
+//! The tree of a file system's inodes, and what every store of inodes promises.
+#![tactic(auto)]
+
+mod ancestry;
+mod store;
+mod trees;
+mod well_formed;
+
+pub use ancestry::{is_below, is_directory};
+pub use store::Store;
+pub use trees::Tree;

@@ -1,0 +1,72 @@
+ghost use Rattle.std.specs.Prelude.{◌≡◌, ℕ, Bool, true, IsTrue, OnOk, OnErr, IfErr};
+ghost use Rattle.std.specs.Option.{option_copied, option_copied_mut};
+ghost use Rattle.std.specs.Borrow.{sem};
+ghost use Rattle.std.specs.FinMap.{get, insert, len, remove};
+ghost use Rattle.bfs_model.specs.Tree.{Inodes};
+ghost use Rattle.bfs_model.specs.Procedures.OfStatus.{used_blocks};
+ghost use Rattle.bfs_tree.specs.Reach.{Reach};
+ghost use Rattle.bfs_tree.specs.Lending.{LendsInode};
+
+use bfs_inode::Inode;
+use bfs_types::FileId;
+
+/// Inodes by their fileids. A store may know but some of the fileids, and answers for these alone; of those that it knows
+/// it may own but some, and changes these alone. One that is whole knows and owns them all.
+pub trait Store {
+    // the inodes by fileid that it stands for
+    ghost inodes: { Self → Inodes };
+
+    // which fileids it knows and owns, and whether that is all of them
+    ghost reach: { Self → Reach };
+
+    /// Whether it knows and owns every fileid.
+    fn is_whole(&self) -> bool
+        ensures { result ≡ (reach self.now).whole };
+
+    /// How many inodes there are; of a store that is whole.
+    fn count(&self) -> usize
+        requires { IsTrue ((reach self.now).whole) }
+        ensures { result ≡ len (inodes self.now) };
+
+    /// How many blocks of 4,096 bytes all inodes take; of a store that is whole.
+    fn used_blocks(&self) -> u64
+        requires { IsTrue ((reach self.now).whole) }
+        ensures { result ≡ used_blocks (inodes self.now) };
+
+    /// Whether it knows what has the fileid, if only that nothing has.
+    fn knows(&self, id: FileId) -> bool
+        ensures { result ≡ (reach self.now).known id };
+
+    /// The inode of a fileid that it knows, or `None` where there is none.
+    fn get(&self, id: FileId) -> Option<&Inode>
+        requires { IsTrue ((reach self.now).known id) }
+        ensures { option_copied result ≡ get (inodes self.now) id };
+
+    /// The inode of a fileid that it owns, to be changed, or `None` where there is none.
+    fn get_mut(&mut self, id: FileId) -> Option<&mut Inode>
+        requires { IsTrue ((reach self.old).owned id) }
+        ensures value { option_copied_mut result ≡ get (inodes self.old) id }
+        ensures* writes_back { sem 𝓛 (LendsInode Self.row inodes reach self.entry id result) };
+
+    /// Puts an inode at a fileid that it owns, in the place of one that is there. Where memory ran out the inode comes back,
+    /// and nothing changes.
+    fn insert(&mut self, id: FileId, inode: Inode) -> Result<(), Inode>
+        requires { IsTrue ((reach self.old).owned id) }
+        ensures reach { reach self.new ≡ reach self.old }
+        ensures ok { OnOk result (inodes self.new ≡ insert (inodes self.old) id inode) }
+        ensures err { OnErr result (inodes self.new ≡ inodes self.old) }
+        ensures back { IfErr result (λ back. back ≡ inode) };
+
+    /// Takes out the inode of a fileid that it owns, or `None` where there is none.
+    fn remove(&mut self, id: FileId) -> Option<Inode>
+        requires { IsTrue ((reach self.old).owned id) }
+        ensures reach { reach self.new ≡ reach self.old }
+        ensures value { result ≡ get (inodes self.old) id }
+        ensures removed { inodes self.new ≡ remove (inodes self.old) id };
+
+    ghost knows_owned: { (s : Self) (id : ℕ) → (reach s).owned id ≡ true → (reach s).known id ≡ true };
+
+    ghost knows_all: { (s : Self) → (reach s).whole ≡ true → (id : ℕ) → (reach s).known id ≡ true };
+
+    ghost owns_all: { (s : Self) → (reach s).whole ≡ true → (id : ℕ) → (reach s).owned id ≡ true };
+}

@@ -1,0 +1,133 @@
+ghost use Rattle.std.specs.Prelude.{◌≡◌, ◌==◌, ◌≤◌, ◌↔◌, IsTrue, length};
+ghost use Rattle.std.specs.List.{list_all, AllByRecursion};
+ghost use Rattle.std.specs.FinMap.{get, entries};
+ghost use Rattle.bfs_model.specs.Tree.{entries_at, entries_in};
+ghost use Rattle.bfs_model.specs.WellFormed as model;
+ghost use Rattle.bfs_tree.specs.WellFormed as place;
+
+mod limits;
+
+use crate::ancestry::{is_below, is_directory};
+use crate::store::Store;
+use crate::trees::Tree;
+use bfs_inode::{Directory, Entry, Inode};
+use bfs_types::FileId;
+use limits::is_limited;
+
+impl Tree {
+    /// Whether the tree is well formed. The root is a directory, and no entry names it. What an entry names is there. Each
+    /// other directory has one name, in the directory that is its parent, and the way up from it leads to the root. A file
+    /// or a symbolic link has as many links as names, and at least one; a directory has two, and one for each directory in
+    /// it. Links, entries, names, bytes and paths are within their limits; the names in a directory are good ones and
+    /// differ, and its cookies rise.
+    ///
+    /// No memory is taken, but time: of n inodes with e entries in all, each file and symbolic link costs n + e steps; each
+    /// directory costs a comparison of each two of its names, a step for each entry of its parent, and a look-up for each
+    /// of its own entries and for each directory above it.
+    pub fn well_formed(&self) -> bool
+        ensures { IsTrue result ↔ model.IsWellFormedTree self.now }
+    {
+        is_directory(self, FileId::root()) && are_in_order(self)
+    }
+}
+
+fn are_in_order(tree: &Tree) -> bool
+    ensures { IsTrue result ↔ AllByRecursion (place.IsInOrder tree.now) (entries tree.now) }
+{
+    for (id, inode) in tree.iter() {
+        if !is_limited(inode) || !is_in_place(tree, FileId::new(*id), inode) {
+            return false;
+        }
+    }
+    true
+}
+
+// whether an inode has its links, and a directory its place
+fn is_in_place(tree: &Tree, id: FileId, inode: &Inode) -> bool
+    ensures { result ≡ place.is_in_place tree.now id inode.now.links inode.now.body }
+{
+    match inode.directory() {
+        Some(directory) => is_directory_in_place(tree, id, inode.links(), directory),
+        None => has_names(tree, id, inode.links()),
+    }
+}
+
+fn is_directory_in_place(tree: &Tree, id: FileId, links: u32, directory: &Directory) -> bool
+    ensures { result ≡ place.is_directory_in_place tree.now id links directory.now }
+{
+    are_children(tree, id, directory.entries())
+        && links as usize == 2 + directories_among(tree, directory.entries())
+        && (id == FileId::root() || has_one_name_in(tree, directory.parent(), id))
+        && is_below(tree, id, FileId::root())
+}
+
+fn are_children(tree: &Tree, dir: FileId, entries: &[Entry]) -> bool
+    ensures { result ≡ list_all (λ entry. place.is_child tree.now dir entry.child) entries.now }
+{
+    entries.iter().all(|entry| is_child(tree, dir, entry.child))
+}
+
+// whether what a directory names is there, and isn't the root or a directory that lies in another one
+fn is_child(tree: &Tree, dir: FileId, child: FileId) -> bool
+    ensures { result ≡ place.is_child tree.now dir child }
+{
+    let Some(inode) = tree.get(child) else {
+        return false;
+    };
+    match inode.directory() {
+        Some(directory) => child != FileId::root() && directory.parent() == dir,
+        None => true,
+    }
+}
+
+#[tactic(auto, using(crate::proofs::WellFormed::Lists::directories_counted))]
+fn directories_among(tree: &Tree, entries: &[Entry]) -> usize
+    ensures value { result ≡ model.directories_among tree.now entries.now }
+    ensures within { result ≤ length entries.now }
+{
+    entries
+        .iter()
+        .filter(|entry| is_directory(tree, entry.child))
+        .count()
+}
+
+// whether the entries of all directories name it so often
+fn has_names(tree: &Tree, id: FileId, count: u32) -> bool
+    ensures { result ≡ (count == model.named tree.now id) }
+{
+    let mut left = count as usize;
+    for (_, inode) in tree.iter() {
+        let names = names_in(inode, id);
+        if names > left {
+            return false;
+        }
+        left -= names;
+    }
+    left == 0
+}
+
+fn has_one_name_in(tree: &Tree, dir: FileId, id: FileId) -> bool
+    ensures { result ≡ (model.times id (entries_at (get tree.now dir)) == 1) }
+{
+    match tree.get(dir) {
+        Some(inode) => names_in(inode, id) == 1,
+        None => false,
+    }
+}
+
+// how many entries of an inode name another one; what is no directory has none
+fn names_in(inode: &Inode, id: FileId) -> usize
+    ensures { result ≡ model.times id (entries_in inode.now.body) }
+{
+    match inode.directory() {
+        Some(directory) => times(id, directory.entries()),
+        None => 0,
+    }
+}
+
+#[tactic(auto, using(crate::proofs::WellFormed::Lists::times_counted))]
+fn times(id: FileId, entries: &[Entry]) -> usize
+    ensures { result ≡ model.times id entries.now }
+{
+    entries.iter().filter(|entry| entry.child == id).count()
+}

@@ -1,0 +1,2 @@
+-- Lemmas of bfs_types.
+pub mod BytesLemmas
