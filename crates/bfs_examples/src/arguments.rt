@@ -6,9 +6,10 @@ use crate::numbers::{
     SETATTR, STATFS, SYMLINK, WRITE, WRITECACHE,
 };
 use crate::words::{ROOT, THIRD, spelled};
-use bfs_types::{FileId, Memory, SetTime, Settings};
+use bfs_types::{FileId, SetTime, Settings};
 use bfs_wire::{GarbageArgs, NfsCall, parse_args};
 use std::alloc::Global;
+use std::process::Abort;
 use std::test::Fail;
 
 // the names `abc` and `de`, the first with another padding than zeros
@@ -42,46 +43,48 @@ fn third() -> Option<FileId> {
     Some(FileId::new(3))
 }
 
-// whether that call has those words as its arguments
-fn is_read(
+// the words of a call's arguments
+fn reads(
+    rt: &impl Abort,
     alloc: Global,
     procedure: u32,
     words: &[&[u32]],
     call: &NfsCall,
-) -> Result<bool, Memory> {
+) -> Result<(), Fail> {
     let bytes = spelled(alloc, words)?;
     match parse_args(procedure, bytes.as_slice()) {
-        Ok(given) => Ok(given == *call),
-        Err(_) => Ok(false),
+        Ok(given) => holds!(rt; given == *call),
+        Err(_) => assert!(rt; false, "the arguments of procedure {procedure}"),
     }
+    Ok(())
 }
 
 #[test]
 fn reads_arguments_of_files(rt: HostRuntime) -> Result<(), Fail> {
     let alloc = rt.alloc();
     let call = NfsCall::GetAttr { file: third() };
-    holds!(rt; is_read(alloc, GETATTR, &[THIRD], &call)?);
+    reads(&rt, alloc, GETATTR, &[THIRD], &call)?;
     let call = NfsCall::ReadLink { file: third() };
-    holds!(rt; is_read(alloc, READLINK, &[THIRD], &call)?);
+    reads(&rt, alloc, READLINK, &[THIRD], &call)?;
     let call = NfsCall::FileSystemStatus { file: third() };
-    holds!(rt; is_read(alloc, STATFS, &[THIRD], &call)?);
+    reads(&rt, alloc, STATFS, &[THIRD], &call)?;
     let call = NfsCall::SetAttr {
         file: third(),
         settings: SETTINGS,
     };
-    holds!(rt; is_read(alloc, SETATTR, &[THIRD, SET], &call)?);
+    reads(&rt, alloc, SETATTR, &[THIRD, SET], &call)?;
     let call = NfsCall::Read {
         file: third(),
         offset: 1,
         count: 2,
     };
-    holds!(rt; is_read(alloc, READ, &[THIRD, &[1, 2, 3]], &call)?);
+    reads(&rt, alloc, READ, &[THIRD, &[1, 2, 3]], &call)?;
     let call = NfsCall::Write {
         file: third(),
         offset: 2,
         bytes: b"de",
     };
-    holds!(rt; is_read(alloc, WRITE, &[THIRD, &[1, 2, 3], DE], &call)?);
+    reads(&rt, alloc, WRITE, &[THIRD, &[1, 2, 3], DE], &call)?;
     Ok(())
 }
 
@@ -92,35 +95,35 @@ fn reads_arguments_of_directories(rt: HostRuntime) -> Result<(), Fail> {
         dir: root(),
         name: b"abc",
     };
-    holds!(rt; is_read(alloc, LOOKUP, &[ROOT, ABC], &call)?);
+    reads(&rt, alloc, LOOKUP, &[ROOT, ABC], &call)?;
     let call = NfsCall::Remove {
         dir: root(),
         name: b"abc",
     };
-    holds!(rt; is_read(alloc, REMOVE, &[ROOT, ABC], &call)?);
+    reads(&rt, alloc, REMOVE, &[ROOT, ABC], &call)?;
     let call = NfsCall::RemoveDirectory {
         dir: root(),
         name: b"abc",
     };
-    holds!(rt; is_read(alloc, RMDIR, &[ROOT, ABC], &call)?);
+    reads(&rt, alloc, RMDIR, &[ROOT, ABC], &call)?;
     let call = NfsCall::Create {
         dir: root(),
         name: b"abc",
         settings: SETTINGS,
     };
-    holds!(rt; is_read(alloc, CREATE, &[ROOT, ABC, SET], &call)?);
+    reads(&rt, alloc, CREATE, &[ROOT, ABC, SET], &call)?;
     let call = NfsCall::MakeDirectory {
         dir: root(),
         name: b"abc",
         settings: SETTINGS,
     };
-    holds!(rt; is_read(alloc, MKDIR, &[ROOT, ABC, SET], &call)?);
+    reads(&rt, alloc, MKDIR, &[ROOT, ABC, SET], &call)?;
     let call = NfsCall::ReadDirectory {
         dir: root(),
         cookie: 1,
         count: 2,
     };
-    holds!(rt; is_read(alloc, READDIR, &[ROOT, &[1, 2]], &call)?);
+    reads(&rt, alloc, READDIR, &[ROOT, &[1, 2]], &call)?;
     Ok(())
 }
 
@@ -133,25 +136,25 @@ fn reads_arguments_of_links(rt: HostRuntime) -> Result<(), Fail> {
         to: third(),
         to_name: b"de",
     };
-    holds!(rt; is_read(alloc, RENAME, &[ROOT, ABC, THIRD, DE], &call)?);
+    reads(&rt, alloc, RENAME, &[ROOT, ABC, THIRD, DE], &call)?;
     let call = NfsCall::Link {
         file: third(),
         dir: root(),
         name: b"de",
     };
-    holds!(rt; is_read(alloc, LINK, &[THIRD, ROOT, DE], &call)?);
+    reads(&rt, alloc, LINK, &[THIRD, ROOT, DE], &call)?;
     let call = NfsCall::SymbolicLink {
         dir: root(),
         name: b"abc",
         path: b"de",
         settings: SETTINGS,
     };
-    holds!(rt; is_read(alloc, SYMLINK, &[ROOT, ABC, DE, SET], &call)?);
+    reads(&rt, alloc, SYMLINK, &[ROOT, ABC, DE, SET], &call)?;
     Ok(())
 }
 
 // each procedure with good arguments
-const GOOD: [(u32, &[&[u32]]); 18] = [
+static GOOD: &[(u32, &[&[u32]])] = &[
     (NULL, &[]),
     (GETATTR, &[NO_HANDLE]),
     (SETATTR, &[THIRD, SET]),
@@ -176,19 +179,30 @@ fn is_garbage(procedure: u32, bytes: &[u8]) -> bool {
     parse_args(procedure, bytes) == Err(GarbageArgs)
 }
 
+// all of the words, and neither fewer bytes nor one more
+fn reads_all_alone(
+    rt: &impl Abort,
+    alloc: Global,
+    procedure: u32,
+    words: &[&[u32]],
+) -> Result<(), Fail> {
+    let mut bytes = spelled(alloc, words)?;
+    let whole = parse_args(procedure, bytes.as_slice()).is_ok();
+    same!(rt; (procedure, whole), (procedure, true));
+    for length in 0..bytes.len() {
+        let cut = is_garbage(procedure, &bytes[..length]);
+        same!(rt; (procedure, length, cut), (procedure, length, true));
+    }
+    bytes.push(0)?;
+    let longer = is_garbage(procedure, bytes.as_slice());
+    same!(rt; (procedure, longer), (procedure, true));
+    Ok(())
+}
+
 #[test]
 fn reads_no_arguments_with_bytes_missing_or_left(rt: HostRuntime) -> Result<(), Fail> {
     for (procedure, words) in GOOD {
-        let mut bytes = spelled(rt.alloc(), words)?;
-        let whole = parse_args(procedure, bytes.as_slice()).is_ok();
-        same!(rt; (procedure, whole), (procedure, true));
-        for length in 0..bytes.len() {
-            let cut = is_garbage(procedure, &bytes[..length]);
-            same!(rt; (procedure, length, cut), (procedure, length, true));
-        }
-        bytes.push(0)?;
-        let longer = is_garbage(procedure, bytes.as_slice());
-        same!(rt; (procedure, longer), (procedure, true));
+        reads_all_alone(&rt, rt.alloc(), *procedure, words)?;
     }
     Ok(())
 }

@@ -1,6 +1,7 @@
 //! Batches on a file system.
 use crate::asserts::{holds, same};
-use bfs_serial::{Batch, ExecError, FileSystem, PushError, execute_serial};
+use crate::words::spells;
+use bfs_serial::{Batch, ExecError, FileSystem, PushError, Replies, execute_serial};
 use bfs_types::Time;
 use std::alloc::Global;
 use std::process::Abort;
@@ -16,21 +17,23 @@ const ROOT_REPLY: &str =
 const NO_CALL: &str =
     "000000010000000100000002000186a30000000200000001000000000000000000000000000000004246533200000001000000020000000000000000000000000000000000000000";
 
-#[test]
-fn executes_one_request(rt: HostRuntime) -> Result<(), Fail> {
-    let alloc = rt.alloc();
-    let mut files = FileSystem::new(alloc)?;
+fn one_request(alloc: Global) -> Result<Batch, Fail> {
     let mut batch = Batch::new(alloc);
     batch.set_time(Time::new(1, 0).ok_or("a time")?);
     batch.push(hex::decode(alloc, ROOT_REQUEST)?.as_slice())?;
-    let replies = execute_serial(alloc, &mut files, &batch)?;
-    assert_eq!(rt; replies.len(), 1);
-    same!(rt; hex::encode(alloc, replies.get(0))?.as_str(), ROOT_REPLY);
+    Ok(batch)
+}
+
+#[test]
+fn executes_one_request(rt: HostRuntime) -> Result<(), Fail> {
+    let mut files = FileSystem::new(rt.alloc())?;
+    let replies = execute_serial(rt.alloc(), &mut files, &one_request(rt.alloc())?)?;
     holds!(rt; files.is_live());
     same!(rt; files.next_ordinal(), Some(4));
     same!(rt; files.last_time(), Time::new(1, 0));
     holds!(rt; files.tree().is_some());
-    Ok(())
+    assert_eq!(rt; replies.len(), 1);
+    spells(&rt, rt.alloc(), replies.get(0), ROOT_REPLY)
 }
 
 fn front(bytes: &[u8], count: usize) -> &[u8] {
@@ -55,18 +58,20 @@ fn without_a_header(rt: &impl Abort, alloc: Global) -> Result<Batch, Fail> {
 
 #[test]
 fn leaves_messages_without_a_header_unanswered(rt: HostRuntime) -> Result<(), Fail> {
-    let alloc = rt.alloc();
-    let mut files = FileSystem::new(alloc)?;
+    let mut files = FileSystem::new(rt.alloc())?;
     same!(rt; files.next_ordinal(), Some(3));
-    let batch = without_a_header(&rt, alloc)?;
-    let replies = execute_serial(alloc, &mut files, &batch)?;
-    assert_eq!(rt; replies.len(), 4);
+    let batch = without_a_header(&rt, rt.alloc())?;
+    are_empty(&rt, &execute_serial(rt.alloc(), &mut files, &batch)?);
+    same!(rt; files.next_ordinal(), Some(7));
+    Ok(())
+}
+
+fn are_empty(rt: &impl Abort, replies: &Replies) {
     holds!(rt; !replies.is_empty());
+    assert_eq!(rt; replies.len(), 4);
     for index in 0..4 {
         same!(rt; replies.get(index).len(), 0);
     }
-    same!(rt; files.next_ordinal(), Some(7));
-    Ok(())
 }
 
 #[test]
@@ -112,41 +117,33 @@ fn empty_batch(rt: &impl Abort, alloc: Global, time: Time) -> Batch {
 }
 
 // a request of the longest size, and 1,023 of a byte
-fn full_batch(alloc: Global) -> Result<Batch, Fail> {
-    let mut batch = Batch::new(alloc);
+fn fill(alloc: Global, batch: &mut Batch) -> Result<(), Fail> {
     let longest = vec![in alloc; 0u8; 16_384]?;
     batch.push(longest.as_slice())?;
     for _ in 1..1024 {
         batch.push(&[7])?;
     }
-    Ok(batch)
-}
-
-#[test]
-fn fills_a_batch(rt: HostRuntime) -> Result<(), Fail> {
-    let batch = full_batch(rt.alloc())?;
-    assert_eq!(rt; batch.len(), 1024);
-    same!(rt; batch.request(1023).len(), 1);
-    same!(rt; batch.requests().len(), 1024);
     Ok(())
 }
 
 #[test]
 fn refuses_what_a_batch_can_not_take(rt: HostRuntime) -> Result<(), Fail> {
     let longer = vec![in rt.alloc(); 0u8; 16_385]?;
-    for mut batch in [Batch::new(rt.alloc()), full_batch(rt.alloc())?] {
-        same!(rt;
-            batch.push(longer.as_slice()),
-            Err(PushError::RequestTooLong)
-        );
-    }
-    Ok(())
-}
-
-#[test]
-fn refuses_more_than_a_batch_holds(rt: HostRuntime) -> Result<(), Fail> {
-    let mut batch = full_batch(rt.alloc())?;
+    let mut batch = Batch::new(rt.alloc());
+    same!(rt;
+        batch.push(longer.as_slice()),
+        Err(PushError::RequestTooLong)
+    );
+    fill(rt.alloc(), &mut batch)?;
+    same!(rt; batch.len(), 1024);
     same!(rt; batch.push(&[7]), Err(PushError::BatchFull));
+    same!(rt;
+        batch.push(longer.as_slice()),
+        Err(PushError::RequestTooLong)
+    );
+    same!(rt; batch.requests().len(), 1024);
+    assert_eq!(rt; batch.len(), 1024);
+    same!(rt; batch.request(1023).len(), 1);
     Ok(())
 }
 

@@ -25,7 +25,7 @@ const ROOT_REPLY: &str =
     "0000000100000001000000000000000000000000000000000000000000000002000041ed000000020000000000000000000000400000100000000000000000010000000100000002000000000000000000000000000000000000000000000000";
 
 // GETATTR of the root with xid 9 and one thing wrong, and all of it
-const REFUSED: [(&str, &str, &str); 7] = [
+static REFUSED: &[(&str, &str, &str)] = &[
     (
         "the third RPC version",
         "000000090000000000000003000186a30000000200000001000000000000000000000000000000004246533200000001000000020000000000000000000000000000000000000000",
@@ -72,27 +72,25 @@ fn answer_whole<S: Store>(alloc: Global, store: &mut S, request: &[u8]) -> Resul
     answer(alloc, store, Ordinal::first(), Time::epoch(), request)
 }
 
+// of a new tree, in hexadecimal
+fn answer_to(alloc: Global, request: &str) -> Result<String, Fail> {
+    let request = hex::decode(alloc, request)?;
+    let mut tree = Tree::new(alloc)?;
+    let reply = answer_whole(alloc, &mut tree, request.as_slice())?;
+    Ok(hex::encode(alloc, reply.as_slice())?)
+}
+
 #[test]
 fn answers_the_attributes_of_the_root(rt: HostRuntime) -> Result<(), Fail> {
-    let alloc = rt.alloc();
-    let mut tree = Tree::new(alloc)?;
-    let request = hex::decode(alloc, ROOT_REQUEST)?;
-    let reply = answer_whole(alloc, &mut tree, request.as_slice())?;
-    spells(&rt, alloc, reply.as_slice(), ROOT_REPLY)
+    same!(rt; answer_to(rt.alloc(), ROOT_REQUEST)?.as_str(), ROOT_REPLY);
+    Ok(())
 }
 
 #[test]
 fn refuses_calls_in_order(rt: HostRuntime) -> Result<(), Fail> {
-    let alloc = rt.alloc();
-    let mut tree = Tree::new(alloc)?;
     for (wrong, request, reply) in REFUSED {
-        let request = hex::decode(alloc, request)?;
-        let given = answer_whole(alloc, &mut tree, request.as_slice())?;
-        assert_eq!(rt;
-            hex::encode(alloc, given.as_slice())?.as_str(),
-            reply,
-            "{wrong}"
-        );
+        let given = answer_to(rt.alloc(), request)?;
+        same!(rt; (*wrong, given.as_str()), (*wrong, *reply));
     }
     Ok(())
 }

@@ -24,7 +24,7 @@ const SIXTH_WRITTEN: &[u32] = attributes!(file 6, links 1, size 1, blocks 1, tim
 // an `a` at offset 0
 const BYTE: &[u32] = &[0, 0, 0, 1, 0x61000000];
 
-const BELOW_ITSELF: &[&[Step]] = &[
+static BELOW_ITSELF: &[&[Step]] = &[
     &[
         Step(MKDIR, &[ROOT, D, UNSET], &[OK, THIRD, THIRD_MADE]),
         Step(MKDIR, &[THIRD, E, UNSET], &[OK, FOURTH, FOURTH_MADE]),
@@ -52,7 +52,7 @@ const FILE: &[u32] = attributes!(file 5, links 1, size 0, blocks 0, times 2 2 2)
 // the root with a directory and two names of a file
 const ROOT_FILLED: &[u32] = &[2, 0x41ed, 3, 0, 0, 160, 4096, 0, 1, 1, 2, 0, 0, 2, 0, 2, 0];
 
-const OF_ANOTHER_KIND: &[&[Step]] = &[
+static OF_ANOTHER_KIND: &[&[Step]] = &[
     &[Step(STATFS, &[ROOT], &[OK, ROOM])],
     &[
         Step(MKDIR, &[ROOT, D, UNSET], &[OK, FOURTH, DIRECTORY]),
@@ -82,7 +82,7 @@ const ROOT_OF_TWO: &[u32] = &[2, 0x41ed, 4, 0, 0, 128, 4096, 0, 1, 1, 2, 0, 0, 1
 
 const ROOT_OF_ONE: &[u32] = &[2, 0x41ed, 3, 0, 0, 96, 4096, 0, 1, 1, 2, 0, 0, 2, 0, 2, 0];
 
-const REPLACED: &[&[Step]] = &[
+static REPLACED: &[&[Step]] = &[
     &[
         Step(MKDIR, &[ROOT, D, UNSET], &[OK, THIRD, THIRD_MADE]),
         Step(MKDIR, &[ROOT, E, UNSET], &[OK, FOURTH, FOURTH_MADE]),
@@ -105,7 +105,7 @@ const FIFTH_BELOW: &[u32] = attributes!(directory 5, links 2, size 64, times 1 1
 
 const FOURTH_FILLED: &[u32] = attributes!(directory 4, links 3, size 96, times 1 2 2);
 
-const REPLACED_ELSEWHERE: &[&[Step]] = &[
+static REPLACED_ELSEWHERE: &[&[Step]] = &[
     &[
         Step(MKDIR, &[ROOT, D, UNSET], &[OK, THIRD, THIRD_MADE]),
         Step(MKDIR, &[ROOT, E, UNSET], &[OK, FOURTH, FOURTH_MADE]),
@@ -130,7 +130,7 @@ const SETTINGS: &[u32] = &[0o700, 7, 8, 5, 9, 2, 3, 1000000];
 
 const SET: &[u32] = &[2, 0o040700, 2, 7, 8, 64, 4096, 0, 1, 1, 3, 9, 2, 1, 0, 1, 0];
 
-const MADE_WITH_SETTINGS: &[&[Step]] = &[&[
+static MADE_WITH_SETTINGS: &[&[Step]] = &[&[
     Step(MKDIR, &[ROOT, D, SETTINGS], &[OK, THIRD, SET]),
     Step(LOOKUP, &[THIRD, DOT], &[OK, THIRD, SET]),
     Step(RMDIR, &[ROOT, D], &[OK]),

@@ -6,7 +6,7 @@ use std::test::Fail;
 
 const MADE: &[u32] = attributes!(file 3, links 1, size 0, blocks 0, times 1 1 1);
 
-const TOLD_OF: &[&[Step]] = &[&[
+static TOLD_OF: &[&[Step]] = &[&[
     Step(CREATE, &[ROOT, A, UNSET], &[OK, THIRD, MADE]),
     Step(GETATTR, &[THIRD], &[OK, MADE]),
 ]];
@@ -18,7 +18,7 @@ fn makes_a_file_and_tells_of_it(rt: HostRuntime) -> Result<(), Fail> {
 
 const MADE_FOURTH: &[u32] = attributes!(file 4, links 1, size 0, blocks 0, times 1 1 1);
 
-const ASKED_FOR_BEFORE: &[&[Step]] = &[&[
+static ASKED_FOR_BEFORE: &[&[Step]] = &[&[
     Step(GETATTR, &[FOURTH], &[STALE]),
     Step(CREATE, &[ROOT, A, UNSET], &[OK, FOURTH, MADE_FOURTH]),
 ]];
@@ -42,7 +42,7 @@ const WRITE_FROM_FIRST: &[u32] = &[0, 0, 0];
 
 const READ_FROM_FIRST: &[u32] = &[0, 8, 0];
 
-const WRITTEN_AND_READ: &[&[Step]] = &[
+static WRITTEN_AND_READ: &[&[Step]] = &[
     &[
         Step(CREATE, &[ROOT, A, UNSET], &[OK, THIRD, MADE]),
         Step(WRITE, &[THIRD, WRITE_FROM_FIRST, OLD_BYTES], &[OK, OLD]),
@@ -61,7 +61,7 @@ fn reads_what_was_written(rt: HostRuntime) -> Result<(), Fail> {
 
 const LONGEST: &[u32] = attributes!(file 3, links 1, size 1048576, blocks 256, times 1 2 2);
 
-const FILLED: &[&[Step]] = &[
+static FILLED: &[&[Step]] = &[
     &[Step(CREATE, &[ROOT, A, UNSET], &[OK, THIRD, MADE])],
     &[
         Step(WRITE, &[THIRD, &[0, 1048575, 0, 2, 0x61610000]], &[FBIG]),
@@ -89,7 +89,7 @@ const SET: &[u32] = &[
     1, 0x81ff, 1, 7, 65534, 3, 4096, 0, 1, 1, 3, 2, 0, 2, 0, 2, 0,
 ];
 
-const LOOKED_UP_AND_SET: &[&[Step]] = &[
+static LOOKED_UP_AND_SET: &[&[Step]] = &[
     &[
         Step(CREATE, &[ROOT, A, UNSET], &[OK, THIRD, MADE]),
         Step(LOOKUP, &[ROOT, A], &[OK, THIRD, MADE]),

@@ -56,7 +56,7 @@ fn makes_files(rt: HostRuntime) -> Result<(), Fail> {
     holds!(rt; !file.is_link());
     holds!(rt; file.link().is_none());
     same!(rt; file.links(), 1);
-    add_link(&mut file);
+    add_link(&mut file, first_second());
     same!(rt; file.links(), 2);
     Ok(())
 }
@@ -73,14 +73,18 @@ const CUT: Settings = Settings {
 
 #[test]
 fn writes_and_cuts_files(rt: HostRuntime) -> Result<(), Fail> {
-    let now = first_second();
-    let mut file = file(rt.alloc())?;
-    file.write(now, 1, b"ab")?;
-    holds!(rt; file.file() == Some(b"\0ab".as_slice()));
-    file.set_attributes(now, &CUT)?;
-    holds!(rt; file.file() == Some(b"\0a".as_slice()));
+    let mut file = written_file(rt.alloc())?;
+    same!(rt; file.file(), Some(b"\0ab".as_slice()));
+    file.set_attributes(first_second(), &CUT)?;
+    same!(rt; file.file(), Some(b"\0a".as_slice()));
     same!(rt; file.attributes(FileId::new(3)).atime.seconds(), 7);
     Ok(())
+}
+
+fn written_file(alloc: Global) -> Result<Inode, Memory> {
+    let mut file = file(alloc)?;
+    file.write(first_second(), 1, b"ab")?;
+    Ok(file)
 }
 
 fn root_with_entry(alloc: Global) -> Result<Inode, Memory> {
@@ -92,8 +96,8 @@ fn root_with_entry(alloc: Global) -> Result<Inode, Memory> {
 #[test]
 fn adds_entries(rt: HostRuntime) -> Result<(), Fail> {
     let root = root_with_entry(rt.alloc())?;
-    holds!(rt; child_of(&root, b"a") == Some(FileId::new(3)));
-    holds!(rt; first_cookie(&root) == Some(3));
+    same!(rt; child_of(&root, b"a"), Some(FileId::new(3)));
+    same!(rt; first_cookie(&root), Some(3));
     Ok(())
 }
 

@@ -3,6 +3,8 @@
 #![tactic(auto)]
 
 #[cfg(test)]
+mod ancestry;
+#[cfg(test)]
 mod arguments;
 #[cfg(test)]
 mod asserts;

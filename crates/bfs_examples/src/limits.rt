@@ -19,7 +19,7 @@ use std::process::Abort;
 use std::test::Fail;
 
 // the file `a` and the directories `d` and `d/e`
-const MADE: &[Step] = &[
+static MADE: &[Step] = &[
     Step(CREATE, &[ROOT, A, UNSET], &[OK, THIRD, A_MADE]),
     Step(MKDIR, &[ROOT, D, UNSET], &[OK, FOURTH, D_MADE]),
     Step(MKDIR, &[FOURTH, E, UNSET], &[OK, FIFTH, E_MADE]),
@@ -52,7 +52,7 @@ fn runs_on(
     runs(rt, alloc, tree, first, steps)
 }
 
-const AT_THE_END: &[Step] = &[
+static AT_THE_END: &[Step] = &[
     Step(CREATE, &[ROOT, B, UNSET], &[NOSPC]),
     Step(MKDIR, &[ROOT, B, UNSET], &[NOSPC]),
     Step(SYMLINK, &[ROOT, B, PATH, UNSET], &[NOSPC]),
@@ -74,7 +74,7 @@ const TOO_LARGE: &[u32] = &[
     0xffffffff, 0xffffffff, 0xffffffff, 1048577, 0xffffffff, 0xffffffff, 0xffffffff, 0xffffffff,
 ];
 
-const ABOVE_THE_LIMIT: &[Step] = &[Step(CREATE, &[ROOT, A, TOO_LARGE], &[FBIG])];
+static ABOVE_THE_LIMIT: &[Step] = &[Step(CREATE, &[ROOT, A, TOO_LARGE], &[FBIG])];
 
 #[test]
 fn makes_no_file_above_the_limit(rt: HostRuntime) -> Result<(), Fail> {
@@ -84,9 +84,9 @@ fn makes_no_file_above_the_limit(rt: HostRuntime) -> Result<(), Fail> {
 }
 
 /// Counts a link more, where there may be one.
-pub(crate) fn add_link(inode: &mut Inode) {
+pub(crate) fn add_link(inode: &mut Inode, now: Time) {
     if inode.links() < 32_767 {
-        inode.add_link(Time::epoch());
+        inode.add_link(now);
     }
 }
 
@@ -94,14 +94,14 @@ pub(crate) fn add_link(inode: &mut Inode) {
 fn add_all_links(tree: &mut Tree, id: FileId) -> Result<u32, Fail> {
     let inode = tree.get_mut(id).ok_or("an inode")?;
     for _link in 0..32_767 {
-        add_link(inode);
+        add_link(inode, Time::epoch());
     }
     Ok(inode.links())
 }
 
 const NINTH_MADE: &[u32] = attributes!(directory 9, links 2, size 64, times 1 1 1);
 
-const BEYOND_THE_LAST: &[Step] = &[
+static BEYOND_THE_LAST: &[Step] = &[
     Step(MKDIR, &[ROOT, B, UNSET], &[NOSPC]),
     Step(LINK, &[THIRD, FOURTH, B], &[NOSPC]),
     Step(RENAME, &[FOURTH, E, ROOT, B], &[NOSPC]),
@@ -168,7 +168,7 @@ const LATE: &[u32] = &[0x42465332, 1, 70010, 0, 0, 0, 0, 0];
 
 const LATE_MADE: &[u32] = attributes!(file 70010, links 1, size 0, blocks 0, times 1 1 1);
 
-const IN_A_FULL_DIRECTORY: &[Step] = &[
+static IN_A_FULL_DIRECTORY: &[Step] = &[
     Step(GETATTR, &[FIFTH], &[OK, FULL]),
     Step(CREATE, &[FIFTH, B, UNSET], &[NOSPC]),
     Step(MKDIR, &[FIFTH, B, UNSET], &[NOSPC]),

@@ -13,7 +13,7 @@ const THIRD_MADE: &[u32] = attributes!(file 3, links 1, size 0, blocks 0, times 
 
 const FIFTH_MADE: &[u32] = attributes!(file 5, links 1, size 0, blocks 0, times 2 2 2);
 
-const NAMED_AGAIN: &[&[Step]] = &[
+static NAMED_AGAIN: &[&[Step]] = &[
     &[Step(CREATE, &[ROOT, A, UNSET], &[OK, THIRD, THIRD_MADE])],
     &[
         Step(REMOVE, &[ROOT, A], &[OK]),
@@ -31,7 +31,7 @@ const DIRECTORY: &[u32] = attributes!(directory 3, links 2, size 64, times 1 1 1
 
 const FILE: &[u32] = attributes!(file 4, links 1, size 0, blocks 0, times 1 1 1);
 
-const UNNAMED: &[&[Step]] = &[
+static UNNAMED: &[&[Step]] = &[
     &[
         Step(MKDIR, &[ROOT, D, UNSET], &[OK, THIRD, DIRECTORY]),
         Step(CREATE, &[ROOT, A, UNSET], &[OK, FOURTH, FILE]),
@@ -56,7 +56,7 @@ const NO_BYTES: &[u32] = &[
     0xffffffff, 0xffffffff, 0xffffffff, 0, 0xffffffff, 0xffffffff, 0xffffffff, 0xffffffff,
 ];
 
-const PATH_HELD: &[&[Step]] = &[&[
+static PATH_HELD: &[&[Step]] = &[&[
     Step(SYMLINK, &[ROOT, L, PATH, UNSET], &[OK]),
     Step(READLINK, &[THIRD], &[OK, PATH]),
     Step(SETATTR, &[THIRD, NO_BYTES], &[PERM]),
@@ -83,7 +83,7 @@ const MODE: &[u32] = &[
     0o2600, 0xffffffff, 0xffffffff, 0xffffffff, 0xffffffff, 0xffffffff, 0xffffffff, 0xffffffff,
 ];
 
-const FOLLOWED: &[&[Step]] = &[
+static FOLLOWED: &[&[Step]] = &[
     &[
         Step(SYMLINK, &[ROOT, L, &[0], SETTINGS], &[OK]),
         Step(READLINK, &[THIRD], &[OK, &[0]]),

@@ -26,7 +26,7 @@ const LAST: &[u32] = &[0, 1];
 
 const NOT_LAST: &[u32] = &[0, 0];
 
-const PAGES: &[&[Step]] = &[&[
+static PAGES: &[&[Step]] = &[&[
     Step(CREATE, &[ROOT, A, UNSET], &[OK, THIRD, THIRD_MADE]),
     Step(CREATE, &[ROOT, B, UNSET], &[OK, FOURTH, FOURTH_MADE]),
     Step(CREATE, &[ROOT, C, UNSET], &[OK, FIFTH, FIFTH_MADE]),
@@ -54,7 +54,7 @@ const ITSELF: &[u32] = &[1, 3, 1, 0x2e000000, 1];
 
 const ENTRY_LONG: &[u32] = &[1, 4, 5, 0x61626364, 0x65000000, 4];
 
-const FULL_PAGES: &[&[Step]] = &[&[
+static FULL_PAGES: &[&[Step]] = &[&[
     Step(MKDIR, &[ROOT, D, UNSET], &[OK, THIRD, DIRECTORY]),
     Step(CREATE, &[THIRD, LONG, UNSET], &[OK, FOURTH, FOURTH_MADE]),
     Step(READDIR, &[THIRD, &[0, 51]], &[OK, ITSELF, NOT_LAST]),

@@ -1,7 +1,7 @@
 //! The words of results (RFC 1094 sections 2.2 and 2.3).
 use crate::asserts::{holds, same};
 use crate::words::{THIRD, same_bytes, spelled};
-use bfs_types::{Attributes, FileId, FileType, LinkPath, Name, Time};
+use bfs_types::{Attributes, FileId, FileType, LinkPath, Memory, Name, Time};
 use bfs_wire::{FileBytes, ListedEntries, ListedEntry, NfsReply, Status, put_reply, write_reply};
 use std::alloc::Global;
 use std::process::Abort;
@@ -12,11 +12,21 @@ fn writes(rt: &impl Abort, alloc: Global, reply: NfsReply, words: &[&[u32]]) -> 
     let wanted = spelled(alloc, words)?;
     let written = write_reply(alloc, &reply)?;
     same_bytes(rt, alloc, written.as_slice(), wanted.as_slice())?;
-    let mut wanted = spelled(alloc, &[&[7]])?;
+    let wanted = behind_seven(alloc, written.as_slice())?;
+    let put = put_behind_seven(alloc, &reply)?;
+    same_bytes(rt, alloc, put.as_slice(), wanted.as_slice())
+}
+
+fn behind_seven(alloc: Global, bytes: &[u8]) -> Result<Vec<u8>, Fail> {
     let mut out = spelled(alloc, &[&[7]])?;
-    wanted.extend_from_slice(written.as_slice())?;
-    put_reply(&mut out, &reply)?;
-    same_bytes(rt, alloc, out.as_slice(), wanted.as_slice())
+    out.extend_from_slice(bytes)?;
+    Ok(out)
+}
+
+fn put_behind_seven(alloc: Global, reply: &NfsReply) -> Result<Vec<u8>, Memory> {
+    let mut out = spelled(alloc, &[&[7]])?;
+    put_reply(&mut out, reply)?;
+    Ok(out)
 }
 
 // of an inode of fileid 3
@@ -100,7 +110,7 @@ fn writes_statuses(rt: HostRuntime) -> Result<(), Fail> {
 }
 
 #[test]
-fn writes_paths_listings_and_the_room(rt: HostRuntime) -> Result<(), Fail> {
+fn writes_paths_and_the_room(rt: HostRuntime) -> Result<(), Fail> {
     let alloc = rt.alloc();
     let path = LinkPath::new(alloc, b"a/b")?;
     holds!(rt; path.as_slice() == b"a/b".as_slice());
@@ -110,12 +120,10 @@ fn writes_paths_listings_and_the_room(rt: HostRuntime) -> Result<(), Fail> {
         alloc,
         NfsReply::FreeBlocks(7),
         &[&[0, 8192, 4096, 262144, 7, 7]],
-    )?;
-    let nothing = NfsReply::Listed {
-        entries: ListedEntries::new(alloc),
-        all: false,
-    };
-    writes(&rt, alloc, nothing, &[&[0, 0, 0]])?;
+    )
+}
+
+fn two_entries(alloc: Global) -> Result<ListedEntries, Fail> {
     let mut entries = ListedEntries::new(alloc);
     for (cookie, name, child) in [(1, b".".as_slice(), 2), (9, b"abcde".as_slice(), 8)] {
         entries.push(ListedEntry {
@@ -124,7 +132,21 @@ fn writes_paths_listings_and_the_room(rt: HostRuntime) -> Result<(), Fail> {
             child: FileId::new(child),
         })?;
     }
-    let listed = NfsReply::Listed { entries, all: true };
+    Ok(entries)
+}
+
+#[test]
+fn writes_listings(rt: HostRuntime) -> Result<(), Fail> {
+    let alloc = rt.alloc();
+    let nothing = NfsReply::Listed {
+        entries: ListedEntries::new(alloc),
+        all: false,
+    };
+    writes(&rt, alloc, nothing, &[&[0, 0, 0]])?;
+    let listed = NfsReply::Listed {
+        entries: two_entries(alloc)?,
+        all: true,
+    };
     let first = &[1, 2, 1, 0x2e000000, 1];
     let second = &[1, 8, 5, 0x61626364, 0x65000000, 9];
     writes(&rt, alloc, listed, &[&[0], first, second, &[0, 1]])

@@ -15,7 +15,7 @@ use bfs_types::Ordinal;
 use std::test::Fail;
 
 // what is made: the directories `d` and `d/e`, the files `a` and `d/b`, the symbolic link `l`, and `d/e/c`, a name more of `a`
-const MAKING: &[Step] = &[
+static MAKING: &[Step] = &[
     Step(NULL, &[], &[]),
     Step(MKDIR, &[ROOT, D, UNSET], &[OK, FOURTH, D_MADE]),
     Step(MKDIR, &[FOURTH, E, UNSET], &[OK, FIFTH, E_MADE]),
@@ -46,7 +46,7 @@ const PATH: &[u32] = &[3, 0x642f6200];
 const ROOM_LESS_FOUR: &[u32] = &[8192, 4096, 262144, 262140, 262140];
 
 // what is written, read and moved: `a` becomes `g`, `d/b` becomes `d/e/b` and then takes the place of `g`, `d/e` becomes `f/h`
-const MOVING: &[Step] = &[
+static MOVING: &[Step] = &[
     Step(
         WRITE,
         &[SIXTH, &[0, 4095, 0, 2, 0x78790000]],
@@ -101,7 +101,7 @@ const L_SET: &[u32] = &[
 ];
 
 // what is listed, two entries a page, and then removed until the root is empty
-const REMOVING: &[Step] = &[
+static REMOVING: &[Step] = &[
     Step(READDIR, &[ROOT, &[0, 52]], &[OK, DOTS, &[0, 0]]),
     Step(READDIR, &[ROOT, &[2, 71]], &[OK, D_AND_L, &[0, 0]]),
     Step(READDIR, &[ROOT, &[8, 52]], &[OK, G_AND_F, &[0, 1]]),
@@ -145,7 +145,7 @@ fn serves_a_session(rt: HostRuntime) -> Result<(), Fail> {
 }
 
 // each procedure with what it is for
-const EACH: &[Step] = &[
+static EACH: &[Step] = &[
     Step(NULL, &[], &[]),
     Step(MKDIR, &[ROOT, D, UNSET], &[OK, FOURTH, D_MADE]),
     Step(CREATE, &[ROOT, A, UNSET], &[OK, FIFTH, FIFTH_MADE]),

@@ -123,19 +123,29 @@ fn runs_one(
     ordinal: Ordinal,
     step: &Step,
 ) -> Result<(), Fail> {
-    let Step(procedure, arguments, results) = step;
+    let Step(_, _, results) = step;
+    let given = run_words(rt, alloc, tree, ordinal, step)?;
+    let wanted = spelled(alloc, results)?;
+    same_bytes(rt, alloc, given.as_slice(), wanted.as_slice())
+}
+
+fn run_words(
+    rt: &impl Abort,
+    alloc: Global,
+    tree: &mut Tree,
+    ordinal: Ordinal,
+    step: &Step,
+) -> Result<Vec<u8>, Memory> {
+    let Step(procedure, arguments, _) = step;
     let arguments = spelled(alloc, arguments)?;
     match parse_args(*procedure, arguments.as_slice()) {
         Ok(call) => {
             let time = Time::new(1, 0).unwrap_or(Time::epoch());
             let reply = run_whole(alloc, tree, ordinal, time, &NOBODY, &call)?;
-            let given = write_reply(alloc, &reply)?;
-            let wanted = spelled(alloc, results)?;
-            same_bytes(rt, alloc, given.as_slice(), wanted.as_slice())?;
+            write_reply(alloc, &reply)
         }
-        Err(_) => assert!(rt; false, "the arguments of procedure {procedure}"),
+        Err(_) => panic!(rt; "the arguments of procedure {procedure}"),
     }
-    Ok(())
 }
 
 /// Carries out a call on a whole store, which knows what any call reads and owns what it writes.

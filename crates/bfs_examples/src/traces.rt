@@ -4,6 +4,7 @@ use bfs_replay::{
     Failure, Line, Outcome, ReplayError, TraceError, UsageError, options, parse_trace, read_input,
     run_trace,
 };
+use std::alloc::Global;
 use std::io;
 use std::io::{ErrorKind, Write};
 use std::test::Fail;
@@ -68,22 +69,26 @@ fn reads_batches_and_requests(rt: HostRuntime) -> Result<(), Fail> {
     Ok(())
 }
 
+fn is_refused(alloc: Global, words: &[&str]) -> bool {
+    matches!(options(alloc, words), Err(UsageError::Usage))
+}
+
 #[test]
 fn reads_the_command_line(rt: HostRuntime) -> Result<(), Fail> {
-    let alloc = rt.alloc();
     let words = ["replay", "--engine", "serial", "a.trace"];
-    same!(rt; options(alloc, &words)?.trace, "a.trace");
+    same!(rt; options(rt.alloc(), &words)?.trace, "a.trace");
     let lone = ["replay", "a.trace"];
-    same!(rt; options(alloc, &lone)?.trace, "a.trace");
-    let none = ["replay"];
-    holds!(rt; matches!(options(alloc, &none), Err(UsageError::Usage)));
-    let help = ["replay", "--help"];
-    holds!(rt; matches!(options(alloc, &help), Err(UsageError::Usage)));
-    let engine = ["replay", "--engine", "runs", "a.trace"];
-    holds!(rt; matches!(options(alloc, &engine), Err(UsageError::Usage)));
+    same!(rt; options(rt.alloc(), &lone)?.trace, "a.trace");
+    Ok(())
+}
+
+#[test]
+fn refuses_other_command_lines(rt: HostRuntime) {
+    holds!(rt; is_refused(rt.alloc(), &["replay"]));
+    holds!(rt; is_refused(rt.alloc(), &["replay", "--help"]));
+    holds!(rt; is_refused(rt.alloc(), &["replay", "--engine", "runs", "a.trace"]));
     same!(rt; UsageError::Usage.code(), 42);
     same!(rt; Failure::from(UsageError::Usage).status(), 2);
-    Ok(())
 }
 
 #[test]

@@ -4,7 +4,7 @@ use crate::inodes::UNSET;
 use crate::limits::{add_entry, add_link};
 use bfs_inode::{FileId, Inode};
 use bfs_tree::{Store, Tree};
-use bfs_types::{Cred, Time};
+use bfs_types::{Cred, Memory, Time};
 use std::alloc::Global;
 use std::process::Abort;
 use std::test::Fail;
@@ -39,42 +39,40 @@ const NOBODY: Cred = Cred {
 };
 
 fn plant(alloc: Global, tree: &mut Tree, planted: &Planted) -> Result<(), Fail> {
-    let now = Time::epoch();
     match planted {
-        Planted::Root { links, entries } => {
-            let root = Inode::root(alloc);
-            put(tree, 2, filled(root, *links, entries)?)
-        }
+        Planted::Root { links, entries } => put(tree, 2, Inode::root(alloc), *links, entries),
         Planted::Directory {
             id,
             parent,
             links,
             entries,
-        } => {
-            let parent = FileId::new(*parent);
-            let directory = Inode::new_directory(alloc, now, NOBODY, &UNSET, parent);
-            put(tree, *id, filled(directory, *links, entries)?)
-        }
-        Planted::File { id, links } => {
-            let file = Inode::new_file(alloc, now, NOBODY, &UNSET)?;
-            put(tree, *id, filled(file, *links, &[])?)
-        }
+        } => put(tree, *id, directory(alloc, *parent), *links, entries),
+        Planted::File { id, links } => put(tree, *id, file(alloc)?, *links, &[]),
     }
+}
+
+fn directory(alloc: Global, parent: u32) -> Inode {
+    Inode::new_directory(alloc, Time::epoch(), NOBODY, &UNSET, FileId::new(parent))
+}
+
+fn file(alloc: Global) -> Result<Inode, Memory> {
+    Inode::new_file(alloc, Time::epoch(), NOBODY, &UNSET)
+}
+
+// with that many links more, and those entries
+fn put(tree: &mut Tree, id: u32, inode: Inode, links: u32, entries: &[Entry]) -> Result<(), Fail> {
+    tree.insert(FileId::new(id), filled(inode, links, entries)?)?;
+    Ok(())
 }
 
 fn filled(mut inode: Inode, links: u32, entries: &[Entry]) -> Result<Inode, Fail> {
     for _link in 0..links {
-        add_link(&mut inode);
+        add_link(&mut inode, Time::epoch());
     }
     for Entry(cookie, name, child) in entries {
         add_entry(&mut inode, *cookie, name, FileId::new(*child))?;
     }
     Ok(inode)
-}
-
-fn put(tree: &mut Tree, id: u32, inode: Inode) -> Result<(), Fail> {
-    tree.insert(FileId::new(id), inode)?;
-    Ok(())
 }
 
 /// Inodes that are put into a tree, and whether it is well formed then.

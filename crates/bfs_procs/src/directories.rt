@@ -15,6 +15,7 @@ ghost use Rattle.bfs_wire.specs.Replies.{reply_of, status_of};
 
 use crate::context::Context;
 use crate::limits::{MOST_BYTES, MOST_ENTRIES};
+use crate::steps::put;
 use bfs_inode::{Directory, FileId, Inode, is_bad_name, is_no_name};
 use bfs_tree::Store;
 use bfs_types::{Memory, Ordinal, Settings};
@@ -78,10 +79,8 @@ pub(crate) fn create<S: Store>(
     let file = Inode::new_file(alloc, context.time, context.caller, settings)?;
     let reply = found(id, &file);
     inode.add_entry(context.time, id.number(), name, id)?;
-    match store.insert(id, file) {
-        Err(_) => Err(Memory),
-        Ok(()) => Ok(reply),
-    }
+    put(store, id, file)?;
+    Ok(reply)
 }
 
 /// What is answered with the inode of that fileid.

@@ -14,7 +14,7 @@ ghost use Rattle.bfs_wire.specs.Replies.{reply_of, status_of};
 use crate::context::Context;
 use crate::directories::new_name;
 use crate::limits::MOST_LINKS;
-use crate::steps::add_link;
+use crate::steps::{add_link, put};
 use bfs_inode::{Directory, FileId, Inode};
 use bfs_tree::Store;
 use bfs_types::{LinkPath, Memory, Ordinal, Settings};
@@ -116,10 +116,8 @@ pub(crate) fn make_symbolic_link<S: Store>(
     };
     let link = Inode::new_symbolic_link(alloc, context.time, context.caller, settings, path)?;
     inode.add_entry(context.time, id.number(), name, id)?;
-    match store.insert(id, link) {
-        Err(_) => Err(Memory),
-        Ok(()) => Ok(NfsReply::Done),
-    }
+    put(store, id, link)?;
+    Ok(NfsReply::Done)
 }
 
 /// The fileid for a new name in a directory, which makes a link more of an inode that has so many, or why there is none.

@@ -8,6 +8,7 @@ ghost use Rattle.bfs_wire.specs.Replies.{reply_of};
 use crate::context::Context;
 use crate::directories::found;
 use crate::links::new_name_of_links;
+use crate::steps::put;
 use bfs_inode::{FileId, Inode};
 use bfs_tree::Store;
 use bfs_types::{Memory, Settings};
@@ -46,8 +47,6 @@ pub(crate) fn make_directory<S: Store>(
     let reply = found(id, &made);
     inode.add_entry(context.time, id.number(), name, id)?;
     inode.add_link(context.time);
-    match store.insert(id, made) {
-        Err(_) => Err(Memory),
-        Ok(()) => Ok(reply),
-    }
+    put(store, id, made)?;
+    Ok(reply)
 }

@@ -1,13 +1,13 @@
 // What procedures do to the inode of one fileid, where it is there.
 ghost use Rattle.std.specs.Prelude.{◌≡◌, ◌<◌, ◌≤◌, length, IsTrue, IfOk};
 ghost use Rattle.std.specs.Option.{ForSome};
-ghost use Rattle.std.specs.FinMap.{get};
+ghost use Rattle.std.specs.FinMap.{get, insert};
 ghost use Rattle.bfs_model.specs.Limits.{longest_name, most_entries, most_links};
 ghost use Rattle.bfs_model.specs.Changes.{changed, link_lost, with_ctime, with_entry, with_link, with_link_less, with_parent, without_entry};
 ghost use Rattle.bfs_model.specs.Procedures.OfFiles.{entry_made};
 ghost use Rattle.bfs_model.specs.Tree.{entries_at};
 
-use bfs_inode::{FileId, Time};
+use bfs_inode::{FileId, Inode, Time};
 use bfs_tree::Store;
 use bfs_types::Memory;
 
@@ -43,6 +43,18 @@ pub(crate) fn add_entry<S: Store>(
         inode.add_entry(now, cookie, name, child)?;
     }
     Ok(())
+}
+
+/// Puts an inode at a fileid. `Memory` where there is no room for it.
+pub(crate) fn put<S: Store>(store: &mut S, id: FileId, inode: Inode) -> Result<(), Memory>
+    requires { IsTrue ((S.reach store.old).owned id) }
+    ensures done { IfOk result (λ _. S.inodes store.new ≡ insert (S.inodes store.old) id inode) }
+    ensures reach { S.reach store.new ≡ S.reach store.old }
+{
+    match store.insert(id, inode) {
+        Err(_) => Err(Memory),
+        Ok(()) => Ok(()),
+    }
 }
 
 /// Puts a directory below another one.
