@@ -1,4 +1,4 @@
-ghost use Rattle.std.specs.Prelude.{◌≡◌, false, None, IfOk, IfSome, if◌then◌else◌};
+ghost use Rattle.std.specs.Prelude.{◌≡◌, None, IfOk, IfSome, if◌then◌else◌};
 ghost use Rattle.std.specs.Option.{option_map};
 ghost use Rattle.std.specs.Result.{result_ok};
 ghost use Rattle.bfs_model.specs.Arguments as model;
@@ -11,8 +11,8 @@ use crate::forms::{
     write,
 };
 use crate::garbage::GarbageArgs;
+use crate::parts::Arguments;
 use bfs_types::{FileId, Settings};
-use bfs_xdr::Reader;
 
 /// A procedure with its arguments (RFC 1094 section 2.2). A file handle is the file that it leads to, or `None` where it is
 /// not one of ours. Names, paths and file bytes are those of the request.
@@ -115,11 +115,11 @@ pub fn parse_args(procedure: u32, args: &[u8]) -> Result<NfsCall<'_>, GarbageArg
     ensures value { option_map call_of (result_ok result) ≡ model.arguments_of procedure args.now }
     ensures short { IfOk result (λ call. IsShort (call_of call)) }
 {
-    let mut reader = Reader::new(args);
-    let Some(call) = fields(procedure, &mut reader) else {
+    let mut arguments = Arguments::new(args);
+    let Some(call) = fields(procedure, &mut arguments) else {
         return Err(GarbageArgs);
     };
-    if !reader.rest().is_empty() {
+    if !arguments.rest().is_empty() {
         return Err(GarbageArgs);
     }
     Ok(call)
@@ -127,31 +127,29 @@ pub fn parse_args(procedure: u32, args: &[u8]) -> Result<NfsCall<'_>, GarbageArg
 
 // a procedure's arguments
 #[tactic(auto, unfolding(bfs_model::specs::Arguments::fields_at))]
-fn fields<'a>(procedure: u32, reader: &mut Reader<'a>) -> Option<NfsCall<'a>>
-    requires { reader.old.strict ≡ false }
-    ensures value { option_map (λ call. (call_of call, reader.new.left)) result ≡ model.fields_at procedure reader.old.left }
-    ensures lenient { IfSome result (λ call. reader.new.strict ≡ false) }
+fn fields<'a>(procedure: u32, arguments: &mut Arguments<'a>) -> Option<NfsCall<'a>>
+    ensures value { option_map (λ call. (call_of call, arguments.new)) result ≡ model.fields_at procedure arguments.old }
     ensures short { IfSome result (λ call. IsShort (call_of call)) }
 {
     match procedure {
         0 => Some(NfsCall::Null),
-        1 => get_attributes(reader),
-        2 => set_attributes(reader),
+        1 => get_attributes(arguments),
+        2 => set_attributes(arguments),
         3 => Some(NfsCall::Root),
-        4 => look_up(reader),
-        5 => read_link(reader),
-        6 => read(reader),
+        4 => look_up(arguments),
+        5 => read_link(arguments),
+        6 => read(arguments),
         7 => Some(NfsCall::WriteCache),
-        8 => write(reader),
-        9 => create(reader),
-        10 => remove(reader),
-        11 => rename(reader),
-        12 => link(reader),
-        13 => symbolic_link(reader),
-        14 => make_directory(reader),
-        15 => remove_directory(reader),
-        16 => read_directory(reader),
-        17 => file_system_status(reader),
+        8 => write(arguments),
+        9 => create(arguments),
+        10 => remove(arguments),
+        11 => rename(arguments),
+        12 => link(arguments),
+        13 => symbolic_link(arguments),
+        14 => make_directory(arguments),
+        15 => remove_directory(arguments),
+        16 => read_directory(arguments),
+        17 => file_system_status(arguments),
         _ => None,
     }
 }

@@ -1,14 +1,15 @@
-// The parts of arguments, one after another from a reader.
-ghost use Rattle.std.specs.Prelude.{◌≡◌, ◌≤◌, false, length, IfSome};
+// The parts of a call's arguments, one after another.
+ghost use Rattle.std.specs.Prelude.{◌≡◌, ◌≤◌, ℕ, List, false, length, IfSome};
 ghost use Rattle.std.specs.Option.{option_map};
 ghost use Rattle.std.specs.Result.{result_ok};
 ghost use Rattle.bfs_model.specs.Arguments as model;
-ghost use Rattle.bfs_model.specs.Items.{word_at};
+ghost use Rattle.bfs_model.specs.Items.{opaque_at, word_at};
 ghost use Rattle.bfs_model.specs.Limits.{longest_name, longest_path, most_data};
 
 use crate::handle::handle_id;
 use bfs_types::{FileId, SetTime, Settings};
 use bfs_xdr::Reader;
+use std::marker::Model;
 
 // the length of a file handle in bytes (RFC 1094 section 2.3.3)
 const HANDLE_BYTES: u32 = 32;
@@ -25,85 +26,107 @@ const MAX_DATA: u32 = 8192;
 // the word of a setting that is not set (RFC 1094 section 2.3.6)
 const NOT_SET: u32 = u32::MAX;
 
-// a file handle, as the file that it leads to
-#[tactic(auto, unfolding(bfs_model::specs::Arguments::handle_at))]
-pub(crate) fn file(reader: &mut Reader) -> Option<Option<FileId>>
-    requires { reader.old.strict ≡ false }
-    ensures value { option_map (λ file. (file, reader.new.left)) result ≡ model.handle_at reader.old.left }
-    ensures lenient { IfSome result (λ file. reader.new.strict ≡ false) }
-{
-    let handle = reader.fixed(HANDLE_BYTES).ok()?;
-    Some(handle_id(handle))
+// the bytes of a call's arguments that are left, whose padding is not looked at
+#[derive(Drop)]
+pub(crate) struct Arguments<'a> {
+    reader: Reader<'a>,
 }
 
-// an unsigned integer
-pub(crate) fn word(reader: &mut Reader) -> Option<u32>
-    requires { reader.old.strict ≡ false }
-    ensures value { option_map (λ word. (word, reader.new.left)) result ≡ result_ok (word_at reader.old.left) }
-    ensures lenient { IfSome result (λ word. reader.new.strict ≡ false) }
-{
-    reader.u32().ok()
+impl<'a> Model for Arguments<'a> {
+    ghost Value = { List ℕ };
+
+    ghost view = { λ arguments. arguments.reader.left };
+
+    ghost invariant = { λ arguments. arguments.reader.strict ≡ false };
 }
 
-// a name (RFC 1094 section 2.3.9)
-#[tactic(auto, using(crate::proofs::Lengths::opaque_within))]
-pub(crate) fn name<'a>(reader: &mut Reader<'a>) -> Option<&'a [u8]>
-    requires { reader.old.strict ≡ false }
-    ensures value { option_map (λ name. (name.now, reader.new.left)) result ≡ model.name_at reader.old.left }
-    ensures lenient { IfSome result (λ name. reader.new.strict ≡ false) }
-    ensures short { IfSome result (λ name. length name.now ≤ longest_name) }
-{
-    let name = reader.opaque(MAX_NAME).ok()?;
-    Some(name)
-}
+impl<'a> Arguments<'a> {
+    pub(crate) fn new(bytes: &'a [u8]) -> Arguments<'a>
+        ensures { result ≡ bytes.now }
+    {
+        Arguments {
+            reader: Reader::new(bytes),
+        }
+    }
 
-// a path (RFC 1094 section 2.3.10)
-#[tactic(auto, using(crate::proofs::Lengths::opaque_within))]
-pub(crate) fn path<'a>(reader: &mut Reader<'a>) -> Option<&'a [u8]>
-    requires { reader.old.strict ≡ false }
-    ensures value { option_map (λ path. (path.now, reader.new.left)) result ≡ model.path_at reader.old.left }
-    ensures lenient { IfSome result (λ path. reader.new.strict ≡ false) }
-    ensures short { IfSome result (λ path. length path.now ≤ longest_path) }
-{
-    let path = reader.opaque(MAX_PATH).ok()?;
-    Some(path)
-}
+    // the bytes that are left
+    pub(crate) fn rest(&self) -> &'a [u8]
+        ensures { result.now ≡ self.now }
+    {
+        self.reader.rest()
+    }
 
-// a file's bytes (RFC 1094 section 2.3.11)
-#[tactic(auto, using(crate::proofs::Lengths::opaque_within))]
-pub(crate) fn data<'a>(reader: &mut Reader<'a>) -> Option<&'a [u8]>
-    requires { reader.old.strict ≡ false }
-    ensures value { option_map (λ bytes. (bytes.now, reader.new.left)) result ≡ model.data_at reader.old.left }
-    ensures lenient { IfSome result (λ bytes. reader.new.strict ≡ false) }
-    ensures short { IfSome result (λ bytes. length bytes.now ≤ most_data) }
-{
-    let bytes = reader.opaque(MAX_DATA).ok()?;
-    Some(bytes)
-}
+    // a file handle, as the file that it leads to
+    #[tactic(auto, unfolding(bfs_model::specs::Arguments::handle_at))]
+    pub(crate) fn file(&mut self) -> Option<Option<FileId>>
+        ensures { option_map (λ file. (file, self.new)) result ≡ model.handle_at self.old }
+    {
+        let handle = self.reader.fixed(HANDLE_BYTES).ok()?;
+        Some(handle_id(handle))
+    }
 
-// what a call sets (RFC 1094 section 2.3.6, sattr)
-#[tactic(auto, unfolding(bfs_model::specs::Arguments::settings_at))]
-pub(crate) fn settings(reader: &mut Reader) -> Option<Settings>
-    requires { reader.old.strict ≡ false }
-    ensures value { option_map (λ settings. (settings, reader.new.left)) result ≡ model.settings_at reader.old.left }
-    ensures lenient { IfSome result (λ settings. reader.new.strict ≡ false) }
-{
-    let mode = word(reader)?;
-    let uid = word(reader)?;
-    let gid = word(reader)?;
-    let size = word(reader)?;
-    let atime_seconds = word(reader)?;
-    let atime_useconds = word(reader)?;
-    let mtime_seconds = word(reader)?;
-    let mtime_useconds = word(reader)?;
-    Some(Settings {
-        mode: word_set(mode),
-        uid: word_set(uid),
-        gid: word_set(gid),
-        size: word_set(size),
-        atime: time_set(atime_seconds, atime_useconds),
-        mtime: time_set(mtime_seconds, mtime_useconds),
-    })
+    // an unsigned integer
+    pub(crate) fn word(&mut self) -> Option<u32>
+        ensures { option_map (λ word. (word, self.new)) result ≡ result_ok (word_at self.old) }
+    {
+        self.reader.u32().ok()
+    }
+
+    // at most so many bytes, behind their length (RFC 4506 sections 4.10 and 4.11)
+    #[tactic(auto, using(crate::proofs::Lengths::opaque_within))]
+    fn opaque(&mut self, most: u32) -> Option<&'a [u8]>
+        ensures value { option_map (λ bytes. (bytes.now, self.new)) result ≡ result_ok (opaque_at false most self.old) }
+        ensures short { IfSome result (λ bytes. length bytes.now ≤ most) }
+    {
+        self.reader.opaque(most).ok()
+    }
+
+    // a name (RFC 1094 section 2.3.9)
+    pub(crate) fn name(&mut self) -> Option<&'a [u8]>
+        ensures value { option_map (λ name. (name.now, self.new)) result ≡ model.name_at self.old }
+        ensures short { IfSome result (λ name. length name.now ≤ longest_name) }
+    {
+        self.opaque(MAX_NAME)
+    }
+
+    // a path (RFC 1094 section 2.3.10)
+    pub(crate) fn path(&mut self) -> Option<&'a [u8]>
+        ensures value { option_map (λ path. (path.now, self.new)) result ≡ model.path_at self.old }
+        ensures short { IfSome result (λ path. length path.now ≤ longest_path) }
+    {
+        self.opaque(MAX_PATH)
+    }
+
+    // a file's bytes (RFC 1094 section 2.3.11)
+    pub(crate) fn data(&mut self) -> Option<&'a [u8]>
+        ensures value { option_map (λ bytes. (bytes.now, self.new)) result ≡ model.data_at self.old }
+        ensures short { IfSome result (λ bytes. length bytes.now ≤ most_data) }
+    {
+        self.opaque(MAX_DATA)
+    }
+
+    // what a call sets (RFC 1094 section 2.3.6, sattr)
+    #[tactic(auto, unfolding(bfs_model::specs::Arguments::settings_at))]
+    pub(crate) fn settings(&mut self) -> Option<Settings>
+        ensures { option_map (λ settings. (settings, self.new)) result ≡ model.settings_at self.old }
+    {
+        let mode = self.word()?;
+        let uid = self.word()?;
+        let gid = self.word()?;
+        let size = self.word()?;
+        let atime_seconds = self.word()?;
+        let atime_useconds = self.word()?;
+        let mtime_seconds = self.word()?;
+        let mtime_useconds = self.word()?;
+        Some(Settings {
+            mode: word_set(mode),
+            uid: word_set(uid),
+            gid: word_set(gid),
+            size: word_set(size),
+            atime: time_set(atime_seconds, atime_useconds),
+            mtime: time_set(mtime_seconds, mtime_useconds),
+        })
+    }
 }
 
 fn word_set(word: u32) -> Option<u32>
