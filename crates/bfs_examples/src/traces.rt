@@ -54,6 +54,18 @@ fn tells_the_line_at_fault(rt: HostRuntime) -> Result<(), Fail> {
 }
 
 #[test]
+fn refuses_carriage_returns(rt: HostRuntime) {
+    for text in [
+        b"\r\n".as_slice(),
+        b"# no call\r\n",
+        b"#\r",
+        b"batch 1.000000\r\n",
+    ] {
+        same!(rt; parse_trace(rt.alloc(), text).err(), Some(TraceError::BadLine(1)));
+    }
+}
+
+#[test]
 fn reads_batches_and_requests(rt: HostRuntime) -> Result<(), Fail> {
     let trace = parse_trace(rt.alloc(), b"batch 4294967295.999999\n0 5 raw 00")?;
     same!(rt; trace.lines().len(), 2);

@@ -11,12 +11,12 @@ use std::test::Fail;
 
 /// A directory's entry: its cookie, its name, and the fileid of what it names.
 #[derive(Drop)]
-struct Entry<'a>(u32, &'a [u8], u32);
+pub(crate) struct Entry<'a>(u32, &'a [u8], u32);
 
 /// What is put into a tree: the root, the directory of a fileid below that of another, or the file of a fileid. The links
 /// are those beyond the ones that it is made with.
 #[derive(Drop)]
-enum Planted<'a> {
+pub(crate) enum Planted<'a> {
     Root {
         links: u32,
         entries: &'a [Entry<'a>],
@@ -37,6 +37,15 @@ const NOBODY: Cred = Cred {
     uid: 65534,
     gid: 65534,
 };
+
+/// A new tree, with what is planted into it.
+pub(crate) fn grown(alloc: Global, planted: &[Planted]) -> Result<Tree, Fail> {
+    let mut tree = Tree::new(alloc)?;
+    for inode in planted {
+        plant(alloc, &mut tree, inode)?;
+    }
+    Ok(tree)
+}
 
 fn plant(alloc: Global, tree: &mut Tree, planted: &Planted) -> Result<(), Fail> {
     match planted {

@@ -1,5 +1,6 @@
 -- The grammar of a trace: lines of words, with one space between two words.
-use Rattle.std.specs.Prelude.{ℕ, ◌+◌, ◌*◌, ◌==◌, ◌||◌, Bool, true, List, [], ◌∷◌, length, Option, Some, None, Result, Ok, Err, nat_lt, bytes_eq, codes, option_map, if◌then◌else◌}
+use Rattle.std.specs.Prelude.{ℕ, ◌+◌, ◌*◌, ◌==◌, ◌&&◌, ◌||◌, not, Bool, true, List, [], ◌∷◌, length, Option, Some, None, Result, Ok, Err, nat_lt, bytes_eq, codes, option_map, if◌then◌else◌}
+use Rattle.std.specs.List.{list_any}
 use Rattle.std.specs.Result.{result_ok}
 use Rattle.hex.specs.Hex.{decode_of}
 use Rattle.bfs_model.specs.Tree.{Time}
@@ -51,10 +52,10 @@ line_in _ = None
 unfoldable pub line_of : List ℕ → Option Line
 line_of text = line_in (parts 32 text)
 
--- an empty line, or a comment
+-- an empty line, or a comment: a line that begins with `#` and has no carriage return
 unfoldable pub is_bare : List ℕ → Bool
 is_bare [] = true
-is_bare (byte ∷ bytes) = byte == 35
+is_bare (byte ∷ bytes) = byte == 35 && not (list_any (λ b. b == 13) bytes)
 
 -- All lines --------------------------------------------------------------------------------------------------------
 

@@ -104,14 +104,14 @@ fn parse_line(alloc: Global, text: &[u8]) -> Result<Line, Fault>
     parse_request(alloc, first, second, verb, digits)
 }
 
-/// Whether a line is empty or a comment.
+/// Whether a line is empty or a comment. One with a carriage return is neither.
 #[tactic(auto, unfolding(crate::specs::Trace::is_bare))]
 fn is_bare(text: &[u8]) -> bool
     ensures { result ≡ is_bare text.now }
 {
     match text {
         [] => true,
-        [first, ..] => *first == b'#',
+        [first, rest @ ..] => *first == b'#' && !rest.contains(&b'\r'),
     }
 }
 
@@ -126,7 +126,7 @@ fn room_after(line: &Line, room: u32) -> Option<u32>
 }
 
 /// Reads a trace: lines of words with one space between two words, where empty lines and lines that begin with `#` are
-/// passed over. A line ends with a newline, which the last may lack.
+/// passed over. A line ends with a newline, which the last may lack. None has a carriage return.
 ///
 /// `batch S.UUUUUU` begins a block at a time in seconds and microseconds since the beginning of 1970. `CLIENT T raw HEX` is a
 /// request of the block before it: a client below 16, its timestamp below 2^64, and the 1 to 16,384 bytes of the call. A block
