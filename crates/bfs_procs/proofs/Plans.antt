@@ -12,7 +12,7 @@ use Rattle.bfs_model.specs.Procedures.Renaming as model
 use Rattle.bfs_model.specs.Procedures.Renaming.{name_cleared, moved_below, renaming_refusals, unless_renaming_refused, renamed}
 use Rattle.bfs_model.specs.Replies.{done}
 use Rattle.bfs_model.specs.Steps.{first_of, unless_refused, or_stale}
-use Rattle.bfs_model.specs.Tree.{Time, Entry, Listing, Body, file, directory, link, Inode, Inodes, is_directory, is_directory_body, listing_in, entries_in, spent_ordinal}
+use Rattle.bfs_model.specs.Tree.{Time, Entry, Listing, Body, file, directory, link, Inode, Inodes, is_directory, is_directory_body, entries_in, spent_ordinal}
 use Rattle.bfs_model.proofs.Tables.{AllPassed, all_passed}
 use Rattle.bfs_procs.specs.declared.renaming.moves.Move.{Move}
 use Rattle.bfs_procs.specs.declared.renaming.plans.Plan.{Plan}
@@ -144,11 +144,6 @@ plan_onto m reach p r existing plan seen entry held other inode there owned is =
 
 -- The call ------------------------------------------------------------------------------------------------------------------
 
-listing_is : (body : Body) (listing : Listing) → listing_in body ≡ Some listing → body ≡ directory listing
-listing_is (file bytes) listing is = absurd cc
-listing_is (directory listing) other is = cc
-listing_is (link path) listing is = absurd cc
-
 holds_some : (found : Option Entry) (entry : Entry) → found ≡ Some entry → IsTrue (is_some found)
 holds_some None entry is = absurd cc
 holds_some (Some found) entry is = refl
@@ -163,23 +158,21 @@ module _ (m : Inodes) (o : ℕ) (now : Time) (from : ℕ) (from_name : List ℕ)
   called_is from_handle to_handle from_is from_there from_listed to_is to_there to_listed from_good to_good held there =
       rw (from_is, from_there, from_listed, to_is, to_there, to_listed, from_good, to_good, held, there) refl
 
-  pub planned_is : (reach : Reach) (from_handle to_handle : Option ℕ) (plan : Plan) → from_handle ≡ Some from → get m from ≡ Some x → listing_in x.body ≡ Some from_listing
-      → to_handle ≡ Some to → get m to ≡ Some y → listing_in y.body ≡ Some to_listing → is_bad_name from_name ≡ false → is_bad_name to_name ≡ false
+  pub planned_is : (reach : Reach) (from_handle to_handle : Option ℕ) (plan : Plan) → from_handle ≡ Some from → get m from ≡ Some x → x.body ≡ directory from_listing
+      → to_handle ≡ Some to → get m to ≡ Some y → y.body ≡ directory to_listing → is_bad_name from_name ≡ false → is_bad_name to_name ≡ false
       → entry_named from_name from_listing.entries ≡ Some entry → get m entry.child ≡ Some moved → length to_listing.entries ≤ most_entries → y.links ≤ most_links
       → ((r : model.Renaming) → IsSeen m (renaming_in called) r (entry_named to_name to_listing.entries)
       → IsPlan m reach r.ordinal r.now r.from_name r.to_name plan (model.renamed_onto m r (entry_named to_name to_listing.entries)))
       → IsPlan m reach o now from_name to_name plan (model.entry_renamed m o now from_handle from_name to_handle to_name)
   planned_is reach from_handle to_handle plan from_is from_there from_listed to_is to_there to_listed from_good to_good held there few_entries few_links onto =
-      let from_body = listing_is x.body from_listing from_listed in
-      let to_body = listing_is y.body to_listing to_listed in
       subst (IsPlan m reach o now from_name to_name plan)
-      (called_is from_handle to_handle from_is from_there from_body to_is to_there to_body from_good to_good held there)
+      (called_is from_handle to_handle from_is from_there from_listed to_is to_there to_listed from_good to_good held there)
       (onto called (record {
         same = refl;
         from_there = from_there;
-        from_holds = rw from_body (holds_some (entry_named from_name from_listing.entries) entry held);
+        from_holds = rw from_listed (holds_some (entry_named from_name from_listing.entries) entry held);
         to_there = to_there;
-        to_is = to_body;
+        to_is = to_listed;
         to_holds = refl;
         few_entries = few_entries;
         few_links = few_links;

@@ -14,8 +14,9 @@ ghost use Rattle.bfs_model.specs.Procedures.OfFiles.{file_created, looked_up, ne
 ghost use Rattle.bfs_wire.specs.Replies.{reply_of, status_of};
 
 use crate::context::Context;
+use crate::finding::directory_at;
 use crate::limits::{MOST_BYTES, MOST_ENTRIES};
-use crate::steps::put;
+use crate::steps::{add_entry, put};
 use bfs_inode::{Directory, FileId, Inode, is_bad_name, is_no_name};
 use bfs_tree::Store;
 use bfs_types::{Memory, Ordinal, Settings};
@@ -27,14 +28,9 @@ pub(crate) fn look_up<S: Store>(store: &S, dir: Option<FileId>, name: &[u8]) -> 
     requires { AllByRecursion (λ id. IsTrue ((S.reach store.now).known id)) (ids_in dir ++ ids_in (child_found (S.inodes store.now) dir name.now)) }
     ensures { (S.inodes store.now, reply_of result) ≡ looked_up (S.inodes store.now) dir name.now }
 {
-    let Some(dir) = dir else {
-        return NfsReply::Refused(Status::Stale);
-    };
-    let Some(inode) = store.get(dir) else {
-        return NfsReply::Refused(Status::Stale);
-    };
-    let Some(directory) = inode.directory() else {
-        return NfsReply::Refused(Status::NotDir);
+    let (dir, _, directory) = match directory_at(store, dir) {
+        Err(status) => return NfsReply::Refused(status),
+        Ok(found) => found,
     };
     if is_no_name(name) {
         return NfsReply::Refused(Status::Perm);
@@ -49,7 +45,7 @@ pub(crate) fn look_up<S: Store>(store: &S, dir: Option<FileId>, name: &[u8]) -> 
 }
 
 /// CREATE (RFC 1094 section 2.2.10). `Memory` where there is no room for the file or for its entry.
-#[tactic(auto, using(bfs_tree::proofs::Laws::insert_same))]
+#[tactic(auto, unfolding(bfs_model::specs::Changes::changed))]
 pub(crate) fn create<S: Store>(
     alloc: Global,
     store: &mut S,
@@ -63,14 +59,9 @@ pub(crate) fn create<S: Store>(
     ensures done { IfOk result (λ reply. (S.inodes store.new, reply_of reply) ≡ file_created (S.inodes store.old) context.ordinal context.time context.caller dir name.now settings.now) }
     ensures reach { S.reach store.new ≡ S.reach store.old }
 {
-    let Some(dir) = dir else {
-        return Ok(NfsReply::Refused(Status::Stale));
-    };
-    let Some(inode) = store.get_mut(dir) else {
-        return Ok(NfsReply::Refused(Status::Stale));
-    };
-    let Some(directory) = inode.directory() else {
-        return Ok(NfsReply::Refused(Status::NotDir));
+    let (dir, _, directory) = match directory_at(store, dir) {
+        Err(status) => return Ok(NfsReply::Refused(status)),
+        Ok(found) => found,
     };
     let id = match new_file_id(context.ordinal, directory, name, settings.size) {
         Err(status) => return Ok(NfsReply::Refused(status)),
@@ -78,7 +69,7 @@ pub(crate) fn create<S: Store>(
     };
     let file = Inode::new_file(alloc, context.time, context.caller, settings)?;
     let reply = found(id, &file);
-    inode.add_entry(context.time, id.number(), name, id)?;
+    add_entry(store, context.time, dir, id.number(), name, id)?;
     put(store, id, file)?;
     Ok(reply)
 }

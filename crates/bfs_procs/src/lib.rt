@@ -7,6 +7,7 @@ mod context;
 mod directories;
 mod file_system;
 mod files;
+mod finding;
 mod limits;
 mod links;
 mod listing;

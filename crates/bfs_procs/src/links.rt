@@ -13,8 +13,9 @@ ghost use Rattle.bfs_wire.specs.Replies.{reply_of, status_of};
 
 use crate::context::Context;
 use crate::directories::new_name;
+use crate::finding::directory_at;
 use crate::limits::MOST_LINKS;
-use crate::steps::{add_link, put};
+use crate::steps::{add_entry, add_link, put};
 use bfs_inode::{Directory, FileId, Inode};
 use bfs_tree::Store;
 use bfs_types::{LinkPath, Memory, Ordinal, Settings};
@@ -43,7 +44,7 @@ pub(crate) fn read_link<S: Store>(
 }
 
 /// LINK (RFC 1094 section 2.2.13). `Memory` where there is no room for the entry.
-#[tactic(auto, using(bfs_tree::proofs::Laws::insert_same, crate::proofs::LinkLemmas::few_links))]
+#[tactic(auto, unfolding(bfs_model::specs::Changes::changed))]
 pub(crate) fn link<S: Store>(
     store: &mut S,
     context: Context,
@@ -65,27 +66,21 @@ pub(crate) fn link<S: Store>(
     if linked.is_directory() {
         return Ok(NfsReply::Refused(Status::IsDir));
     }
-    let links = linked.links();
-    let Some(dir) = dir else {
-        return Ok(NfsReply::Refused(Status::Stale));
+    let (dir, _, directory) = match directory_at(store, dir) {
+        Err(status) => return Ok(NfsReply::Refused(status)),
+        Ok(found) => found,
     };
-    let Some(inode) = store.get_mut(dir) else {
-        return Ok(NfsReply::Refused(Status::Stale));
-    };
-    let Some(directory) = inode.directory() else {
-        return Ok(NfsReply::Refused(Status::NotDir));
-    };
-    let cookie = match new_name_of_links(context.ordinal, directory, name, links) {
+    let cookie = match new_name_of_links(context.ordinal, directory, name, linked.links()) {
         Err(status) => return Ok(NfsReply::Refused(status)),
         Ok(cookie) => cookie,
     };
-    inode.add_entry(context.time, cookie.number(), name, id)?;
+    add_entry(store, context.time, dir, cookie.number(), name, id)?;
     add_link(store, context.time, id);
     Ok(NfsReply::Done)
 }
 
 /// SYMLINK (RFC 1094 section 2.2.14). `Memory` where there is no room for the path or for the entry.
-#[tactic(auto, using(bfs_tree::proofs::Laws::insert_same))]
+#[tactic(auto, unfolding(bfs_model::specs::Changes::changed))]
 pub(crate) fn make_symbolic_link<S: Store>(
     alloc: Global,
     store: &mut S,
@@ -101,21 +96,16 @@ pub(crate) fn make_symbolic_link<S: Store>(
     ensures done { IfOk result (λ reply. (S.inodes store.new, reply_of reply) ≡ symbolic_link_made (S.inodes store.old) context.ordinal context.time context.caller dir name.now path.now settings.now) }
     ensures reach { S.reach store.new ≡ S.reach store.old }
 {
-    let Some(dir) = dir else {
-        return Ok(NfsReply::Refused(Status::Stale));
-    };
-    let Some(inode) = store.get_mut(dir) else {
-        return Ok(NfsReply::Refused(Status::Stale));
-    };
-    let Some(directory) = inode.directory() else {
-        return Ok(NfsReply::Refused(Status::NotDir));
+    let (dir, _, directory) = match directory_at(store, dir) {
+        Err(status) => return Ok(NfsReply::Refused(status)),
+        Ok(found) => found,
     };
     let id = match new_name(context.ordinal, directory, name) {
         Err(status) => return Ok(NfsReply::Refused(status)),
         Ok(id) => id,
     };
     let link = Inode::new_symbolic_link(alloc, context.time, context.caller, settings, path)?;
-    inode.add_entry(context.time, id.number(), name, id)?;
+    add_entry(store, context.time, dir, id.number(), name, id)?;
     put(store, id, link)?;
     Ok(NfsReply::Done)
 }

@@ -6,10 +6,11 @@ ghost use Rattle.bfs_model.specs.Procedures.OfListing.{directory_read};
 ghost use Rattle.bfs_inode.specs.Pages.{listed_of};
 ghost use Rattle.bfs_wire.specs.Replies.{reply_of};
 
+use crate::finding::directory_at;
 use bfs_inode::{FileId, Listed, Page};
 use bfs_tree::Store;
 use bfs_types::{Memory, Name};
-use bfs_wire::{ListedEntries, ListedEntry, NfsReply, Status};
+use bfs_wire::{ListedEntries, ListedEntry, NfsReply};
 use std::alloc::Global;
 
 /// READDIR (RFC 1094 section 2.2.17). `Memory` where there is no room for the entries.
@@ -23,15 +24,9 @@ pub(crate) fn read_directory<S: Store>(
     requires { ForSome dir (λ id. IsTrue ((S.reach store.now).known id)) }
     ensures { IfOk result (λ reply. (S.inodes store.now, reply_of reply) ≡ directory_read (S.inodes store.now) dir cookie count) }
 {
-    let Some(id) = dir else {
-        return Ok(NfsReply::Refused(Status::Stale));
-    };
-    let Some(inode) = store.get(id) else {
-        return Ok(NfsReply::Refused(Status::Stale));
-    };
-    match inode.directory() {
-        None => Ok(NfsReply::Refused(Status::NotDir)),
-        Some(directory) => list(alloc, directory.page(id, cookie, count)),
+    match directory_at(store, dir) {
+        Err(status) => Ok(NfsReply::Refused(status)),
+        Ok((id, _, directory)) => list(alloc, directory.page(id, cookie, count)),
     }
 }
 

@@ -7,8 +7,9 @@ ghost use Rattle.bfs_wire.specs.Replies.{reply_of};
 
 use crate::context::Context;
 use crate::directories::found;
+use crate::finding::directory_at;
 use crate::links::new_name_of_links;
-use crate::steps::put;
+use crate::steps::{add_entry, add_link, put};
 use bfs_inode::{FileId, Inode};
 use bfs_tree::Store;
 use bfs_types::{Memory, Settings};
@@ -16,7 +17,7 @@ use bfs_wire::{NfsReply, Status};
 use std::alloc::Global;
 
 /// MKDIR (RFC 1094 section 2.2.15). `Memory` where there is no room for the directory or for its entry.
-#[tactic(auto, using(bfs_tree::proofs::Laws::insert_same))]
+#[tactic(auto, using(bfs_model::proofs::WellFormed::Steps::insert_again, bfs_model::proofs::WellFormed::Each::got_put), unfolding(bfs_model::specs::Changes::changed))]
 pub(crate) fn make_directory<S: Store>(
     alloc: Global,
     store: &mut S,
@@ -30,14 +31,9 @@ pub(crate) fn make_directory<S: Store>(
     ensures done { IfOk result (λ reply. (S.inodes store.new, reply_of reply) ≡ directory_made (S.inodes store.old) context.ordinal context.time context.caller dir name.now settings.now) }
     ensures reach { S.reach store.new ≡ S.reach store.old }
 {
-    let Some(dir) = dir else {
-        return Ok(NfsReply::Refused(Status::Stale));
-    };
-    let Some(inode) = store.get_mut(dir) else {
-        return Ok(NfsReply::Refused(Status::Stale));
-    };
-    let Some(directory) = inode.directory() else {
-        return Ok(NfsReply::Refused(Status::NotDir));
+    let (dir, inode, directory) = match directory_at(store, dir) {
+        Err(status) => return Ok(NfsReply::Refused(status)),
+        Ok(found) => found,
     };
     let id = match new_name_of_links(context.ordinal, directory, name, inode.links()) {
         Err(status) => return Ok(NfsReply::Refused(status)),
@@ -45,8 +41,8 @@ pub(crate) fn make_directory<S: Store>(
     };
     let made = Inode::new_directory(alloc, context.time, context.caller, settings, dir);
     let reply = found(id, &made);
-    inode.add_entry(context.time, id.number(), name, id)?;
-    inode.add_link(context.time);
+    add_entry(store, context.time, dir, id.number(), name, id)?;
+    add_link(store, context.time, dir);
     put(store, id, made)?;
     Ok(reply)
 }

@@ -9,8 +9,9 @@ ghost use Rattle.bfs_model.specs.Procedures.OfFiles.{file_removed};
 ghost use Rattle.bfs_model.specs.Procedures.OfDirectories.{directory_removed, has_entries};
 ghost use Rattle.bfs_wire.specs.Replies.{reply_of, status_of};
 
+use crate::finding::child_at;
 use crate::steps::{drop_entry, lose_link, lose_name};
-use bfs_inode::{FileId, Inode, Time, is_bad_name};
+use bfs_inode::{FileId, Inode, Time};
 use bfs_tree::Store;
 use bfs_wire::{NfsReply, Status};
 
@@ -26,24 +27,9 @@ pub(crate) fn remove<S: Store>(
     ensures done { (S.inodes store.new, reply_of result) ≡ file_removed (S.inodes store.old) now dir name.now }
     ensures reach { S.reach store.new ≡ S.reach store.old }
 {
-    let Some(dir) = dir else {
-        return NfsReply::Refused(Status::Stale);
-    };
-    let Some(inode) = store.get(dir) else {
-        return NfsReply::Refused(Status::Stale);
-    };
-    let Some(directory) = inode.directory() else {
-        return NfsReply::Refused(Status::NotDir);
-    };
-    if is_bad_name(name) {
-        return NfsReply::Refused(Status::Perm);
-    }
-    let Some(entry) = directory.entry(name) else {
-        return NfsReply::Refused(Status::NoEnt);
-    };
-    let id = entry.child;
-    let Some(child) = store.get(id) else {
-        return NfsReply::Refused(Status::Stale);
+    let (dir, id, child) = match child_at(store, dir, name) {
+        Err(status) => return NfsReply::Refused(status),
+        Ok(found) => found,
     };
     if child.is_directory() {
         return NfsReply::Refused(Status::IsDir);
@@ -65,24 +51,9 @@ pub(crate) fn remove_directory<S: Store>(
     ensures done { (S.inodes store.new, reply_of result) ≡ directory_removed (S.inodes store.old) now dir name.now }
     ensures reach { S.reach store.new ≡ S.reach store.old }
 {
-    let Some(dir) = dir else {
-        return NfsReply::Refused(Status::Stale);
-    };
-    let Some(inode) = store.get(dir) else {
-        return NfsReply::Refused(Status::Stale);
-    };
-    let Some(directory) = inode.directory() else {
-        return NfsReply::Refused(Status::NotDir);
-    };
-    if is_bad_name(name) {
-        return NfsReply::Refused(Status::Perm);
-    }
-    let Some(entry) = directory.entry(name) else {
-        return NfsReply::Refused(Status::NoEnt);
-    };
-    let id = entry.child;
-    let Some(child) = store.get(id) else {
-        return NfsReply::Refused(Status::Stale);
+    let (dir, id, child) = match child_at(store, dir, name) {
+        Err(status) => return NfsReply::Refused(status),
+        Ok(found) => found,
     };
     if let Some(status) = removal_refusal(child) {
         return NfsReply::Refused(status);

@@ -9,6 +9,7 @@ ghost use Rattle.bfs_model.specs.Steps.{first_of};
 ghost use Rattle.bfs_procs.specs.Plans.{IsPlan, IsSeen, IsUnlessRefused, move_by};
 ghost use Rattle.bfs_procs.specs.Renaming.{moves_directory, refusals};
 
+use crate::finding::directory_at;
 use crate::renaming::moves::Move;
 use crate::renaming::refusals::{Renaming, Replaced};
 use bfs_inode::{Directory, FileId, is_bad_name};
@@ -37,23 +38,13 @@ pub(super) fn planned<S: Store>(
     requires whole { IsTrue (moves_a_directory (S.inodes store.now) from from_name.now to) → IsTrue ((S.reach store.now).whole) }
     ensures { (now : Time) → IsPlan (S.inodes store.now) (S.reach store.now) ordinal now from_name.now to_name.now result (model.entry_renamed (S.inodes store.now) ordinal now from from_name.now to to_name.now) }
 {
-    let Some(from) = from else {
-        return Plan::Refuse(Status::Stale);
+    let (from, _, directory) = match directory_at(store, from) {
+        Err(status) => return Plan::Refuse(status),
+        Ok(found) => found,
     };
-    let Some(inode) = store.get(from) else {
-        return Plan::Refuse(Status::Stale);
-    };
-    let Some(directory) = inode.directory() else {
-        return Plan::Refuse(Status::NotDir);
-    };
-    let Some(to) = to else {
-        return Plan::Refuse(Status::Stale);
-    };
-    let Some(to_inode) = store.get(to) else {
-        return Plan::Refuse(Status::Stale);
-    };
-    let Some(to_directory) = to_inode.directory() else {
-        return Plan::Refuse(Status::NotDir);
+    let (to, to_inode, to_directory) = match directory_at(store, to) {
+        Err(status) => return Plan::Refuse(status),
+        Ok(found) => found,
     };
     if is_bad_name(from_name) || is_bad_name(to_name) {
         return Plan::Refuse(Status::Perm);
