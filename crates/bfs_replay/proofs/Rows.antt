@@ -47,6 +47,10 @@ pub row-carriage_return : trace_of (codes "batch 1.000000\r\n") ≡ Err 1
 unfolding hex_on_literals parts number_of time_of call_of request_of line_of is_bare read_lines
 row-carriage_return = refl
 
+pub row-comment_with_carriage_return : trace_of (codes "# a comment\r\n") ≡ Err 1
+unfolding hex_on_literals parts number_of time_of call_of request_of line_of is_bare read_lines
+row-comment_with_carriage_return = refl
+
 pub row-two_spaces : trace_of (codes "batch  1.000000\n") ≡ Err 1
 unfolding hex_on_literals parts number_of time_of call_of request_of line_of is_bare read_lines
 row-two_spaces = refl
