@@ -2,7 +2,7 @@
 use Rattle.std.proofs.Common.{◌≡◌, ℕ, suc, ◌+◌, ◌<◌, ◌≤◌, Bool, true, false, cond, not, nat_lt, List, [], ◌∷◌, ◌++◌, length, get_or, take, drop, Some, None, bytes_eq, position, refl, sym, ap, subst, ◌∙◌, arith}
 use Rattle.std.specs.List.{position_or_len, slice_get}
 use Rattle.std.proofs.lemmas.List.{append-nil, take_all, drop_all}
-use Rattle.std.proofs.lemmas.Option.{slice_get_read, slice_get_past}
+use Rattle.std.proofs.lemmas.Option.{cond_some, slice_get_read, slice_get_past}
 use Rattle.std.proofs.lemmas.List.Folds.{find_at}
 use Rattle.std.proofs.lemmas.Bool.{ltb-true, ltb-false}
 use Rattle.bfs_model.specs.Tree.{Entry}
@@ -22,10 +22,6 @@ left_of : (name : List ℕ) (es : List Entry) → take (position_or_len (has nam
 left_of name [] = refl
 left_of name (e ∷ es) = step (bytes_eq e.name name) (1 + position_or_len (has name) es) (position_or_len (has name) es) e es (without_name name es) (omega arith) (left_of name es)
 
-found_below : (b : Bool) (n i : ℕ) → cond b (Some n) None ≡ Some i → (b ≡ true) × (n ≡ i)
-found_below true n i e = (refl, cc)
-found_below false n i e = absurd cc
-
 none_below : (b : Bool) (n : ℕ) → cond b (Some n) None ≡ None → b ≡ false
 none_below true n e = absurd cc
 none_below false n e = refl
@@ -33,7 +29,7 @@ none_below false n e = refl
 -- Where there is one
 place_is : (name : List ℕ) (es : List Entry) (i : ℕ) → position (has name) es ≡ Some i → (i < length es) × (position_or_len (has name) es ≡ i)
 place_is name es i is =
-    let f = found_below (nat_lt (position_or_len (has name) es) (length es)) (position_or_len (has name) es) i is in
+    let f = cond_some (nat_lt (position_or_len (has name) es) (length es)) (position_or_len (has name) es) i is in
     (subst (λ n. n < length es) f.1 (ltb-true _ _ f.0), f.1)
 
 pub named_at : (name : List ℕ) (es : List Entry) (i : ℕ) (x : Entry) → position (has name) es ≡ Some i → x ≡ get_or es i x → Some x ≡ entry_named name es
@@ -61,12 +57,3 @@ none_dropped name es is =
     ∙ ap (λ rest. es ++ rest) (sym (drop_all (suc n) es (omega arith)))
     ∙ ap (λ front. front ++ drop (suc n) es) (sym (take_all n es past))
     ∙ left_of name es
-
-fewer : (b : Bool) (e : Entry) (es rest : List Entry) → length rest ≤ length es → length (cond b es (e ∷ rest)) ≤ length es + 1
-fewer true e es rest h = omega arith
-fewer false e es rest h = omega arith
-
--- no more entries than there were
-pub length-without_name : (name : List ℕ) (es : List Entry) → length (without_name name es) ≤ length es
-length-without_name name [] = omega arith
-length-without_name name (e ∷ es) = omega (arith, fewer (bytes_eq e.name name) e es (without_name name es) (length-without_name name es))

@@ -1,9 +1,10 @@
 -- A handle leads to the file that it was made of, and nothing else leads there.
-use Rattle.std.proofs.Common.{◌≡◌, ◌≢◌, ℕ, ◌^◌, ◌<◌, Bool, true, false, cond, List, length, take, drop, Option, Some, None, refl, ap, ◌∙◌}
+use Rattle.std.proofs.Common.{◌≡◌, ◌≢◌, ℕ, ◌^◌, ◌<◌, List, length, take, drop, Option, Some, None, refl, ap, ◌∙◌}
 use Rattle.std.specs.Int.{w32, from_be_bytes}
 use Rattle.std.specs.Str.{bytes_eq}
 use Rattle.std.proofs.lemmas.Nat.{from_be_bytes-to_be_bytes_4}
 use Rattle.std.proofs.lemmas.Slice.Eq.{bytes_eq-Decides}
+use Rattle.std.proofs.lemmas.Option.{cond_some}
 use Rattle.bfs_model.specs.Items.{word}
 use Rattle.bfs_model.specs.Arguments.{handle, handle_id}
 use Rattle.bfs_model.specs.Laws.{HandleLeadsToItsFile, OnlyTheHandleLeadsToAFile}
@@ -12,7 +13,7 @@ use Rattle.bfs_model.specs.Laws.{HandleLeadsToItsFile, OnlyTheHandleLeadsToAFile
 abbrev id_in : List ℕ → ℕ
 id_in bytes = from_be_bytes w32 (take 4 (drop 8 bytes))
 
-length_of_handle : (id : ℕ) → length (handle id) ≡ 32
+pub length_of_handle : (id : ℕ) → length (handle id) ≡ 32
 unfolding handle word
 length_of_handle id = refl
 
@@ -24,14 +25,10 @@ pub handle_leads : HandleLeadsToItsFile
 unfolding handle_id
 handle_leads id lt = rw (id_in_handle id lt, (bytes_eq-Decides (handle id) (handle id)).1 refl) refl
 
-given : (b : Bool) (n id : ℕ) → cond b (Some n) None ≡ Some id → (b ≡ true) × (n ≡ id)
-given true n id e = (refl, cc)
-given false n id e = absurd cc
-
 pub only_handle_leads : OnlyTheHandleLeadsToAFile
 unfolding handle_id
 only_handle_leads bytes id e =
-    let found = given (bytes_eq bytes (handle (id_in bytes))) (id_in bytes) id e in
+    let found = cond_some (bytes_eq bytes (handle (id_in bytes))) (id_in bytes) id e in
     (bytes_eq-Decides bytes (handle (id_in bytes))).0 found.0 ∙ ap handle found.1
 
 -- bytes of another length than a handle's lead nowhere

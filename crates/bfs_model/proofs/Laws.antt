@@ -1,7 +1,7 @@
 -- What is written is read again, and what is read was written so.
 use Rattle.std.proofs.Common.{◌≡◌, ℕ, zero, suc, ◌^◌, ◌<◌, ◌≤◌, Bool, true, false, cond, not, ◌&&◌, ltb, eqb, List, [], ◌∷◌, ◌++◌, length, get_or, take, drop, replicate, Result, Ok, Err, refl, sym, ap, subst, ◌∙◌, append_assoc, arith, inl, inr}
 use Rattle.std.specs.Int.{Width, w32, w64, byte_len, from_be_bytes, to_be_bytes}
-use Rattle.std.proofs.lemmas.Bool.{cases_lt, ltb-false, le-ltb, eqb-true}
+use Rattle.std.proofs.lemmas.Bool.{and_parts, not-false, cases_lt, ltb-false, le-ltb, eqb-true}
 use Rattle.std.proofs.lemmas.List.{take_at, drop_at, take-append-drop, length-append, length-take, length-replicate, get_or-take, get_or_past}
 use Rattle.std.proofs.lemmas.List.Elements.{All-get_or}
 use Rattle.std.proofs.lemmas.Nat.{be_bytes_4, be_bytes_8, from_be_bytes-to_be_bytes_4, from_be_bytes-to_be_bytes_8}
@@ -11,7 +11,7 @@ use Rattle.bfs_model.specs.Laws.{AreBytes, WordIsReadAgain, HyperIsReadAgain, Bo
 -- Tools -----------------------------------------------------------------------------------------------------------
 
 -- the value of a step that did not fail
-bind_ok : {A B : Type 0} (r : Result A Fault) (f : A → Result B Fault) (y : B) → (r >>= f) ≡ Ok y → (x : A) × (r ≡ Ok x) × (f x ≡ Ok y)
+pub bind_ok : {A B : Type 0} (r : Result A Fault) (f : A → Result B Fault) (y : B) → (r >>= f) ≡ Ok y → (x : A) × (r ≡ Ok x) × (f x ≡ Ok y)
 bind_ok (Ok x) f y e = (x, refl, e)
 bind_ok (Err d) f y e = absurd cc
 
@@ -141,14 +141,6 @@ boolean_written bytes b rest fits e =
 
 -- Opaque data -------------------------------------------------------------------------------------------------------
 
-both : (p q : Bool) → (p && q) ≡ true → (p ≡ true) × (q ≡ true)
-both true q e = (refl, e)
-both false q e = absurd cc
-
-true_from_not : (p : Bool) → not p ≡ false → p ≡ true
-true_from_not true e = refl
-true_from_not false e = absurd cc
-
 are_zeros-replicate : (n : ℕ) → are_zeros (replicate n 0) ≡ true
 are_zeros-replicate zero = refl
 are_zeros-replicate (suc n) = are_zeros-replicate n
@@ -156,7 +148,7 @@ are_zeros-replicate (suc n) = are_zeros-replicate n
 zeros_are : (bytes : List ℕ) → are_zeros bytes ≡ true → bytes ≡ replicate (length bytes) 0
 zeros_are [] e = refl
 zeros_are (b ∷ bytes) e =
-    let parts = both (eqb b 0) (are_zeros bytes) e in
+    let parts = and_parts (eqb b 0) (are_zeros bytes) e in
     ap (λ x. x ∷ bytes) (eqb-true b 0 parts.0) ∙ ap (λ xs. 0 ∷ xs) (zeros_are bytes parts.1)
 
 bytes_again : (n : ℕ) (item rest : List ℕ) → length item ≡ n → bytes_at n (item ++ rest) ≡ Ok (item, rest)
@@ -194,12 +186,12 @@ fixed_written count bytes item rest e =
     let g = guard_ok (not (are_zeros b.0.0)) bad_padding (a.0.0, b.0.1) (item, rest) b.2 in
     let front = bytes_written count bytes a.0.0 a.0.1 a.1 in
     let padding = bytes_written (padding_of count) a.0.1 b.0.0 b.0.1 b.1 in
-    let zeros : b.0.0 ≡ replicate (padding_of (length a.0.0)) 0 = zeros_are b.0.0 (true_from_not _ g.0) ∙ ap (λ k. replicate k 0) (padding.1 ∙ ap padding_of (sym front.1)) in
+    let zeros : b.0.0 ≡ replicate (padding_of (length a.0.0)) 0 = zeros_are b.0.0 (not-false _ g.0) ∙ ap (λ k. replicate k 0) (padding.1 ∙ ap padding_of (sym front.1)) in
     let whole : bytes ≡ fixed a.0.0 ++ b.0.1 = front.0 ∙ ap (λ t. a.0.0 ++ t) (padding.0 ∙ ap (λ z. z ++ b.0.1) zeros) ∙ sym (append_assoc a.0.0 (replicate (padding_of (length a.0.0)) 0) b.0.1) in
     subst (λ (p : List ℕ × List ℕ). (bytes ≡ fixed p.0 ++ p.1) × (length p.0 ≡ count)) g.1 (whole, front.1)
 
 -- a test that did not fail, before a step
-guard_then : {A : Type 0} (b : Bool) (d : Fault) (r : Result A Fault) (y : A) → cond b (Err d) r ≡ Ok y → (b ≡ false) × (r ≡ Ok y)
+pub guard_then : {A : Type 0} (b : Bool) (d : Fault) (r : Result A Fault) (y : A) → cond b (Err d) r ≡ Ok y → (b ≡ false) × (r ≡ Ok y)
 guard_then true d r y e = absurd cc
 guard_then false d r y e = (refl, e)
 

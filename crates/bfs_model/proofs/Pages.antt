@@ -1,7 +1,7 @@
 -- READDIR's pages follow each other.
 use Rattle.std.proofs.Common.{◌≡◌, ◌↔◌, ℕ, suc, ◌+◌, ◌-◌, ◌<◌, ◌≤◌, Bool, true, false, cond, ltb, leb, eqb, min, List, [], ◌∷◌, ◌++◌, length, drop, All, Option, Some, None, refl, sym, ap, subst, ◌∙◌, append_assoc, append-nil, arith}
 use Rattle.std.proofs.lemmas.Bool.{ltb-true, ltb-false, lt-ltb, le-ltb, le-leb, eqb-true, eq-eqb}
-use Rattle.std.proofs.lemmas.List.{length-append}
+use Rattle.std.proofs.lemmas.List.{length-append, nil_from_length}
 use Rattle.std.proofs.lemmas.List.Elements.{All-filter, All-head, All-tail}
 use Rattle.std.specs.FinMap.{get}
 use Rattle.bfs_model.specs.Tree.{Entry, Listing, Body, file, directory, link, Inode, Inodes, FileSystem, first_ordinal, listing_at, listing_in}
@@ -182,14 +182,10 @@ cookies_rise inodes dir listing counts h =
 
 -- The end ----------------------------------------------------------------------------------------------------------------
 
-none_if : (rest : List Entry) → length rest ≤ 0 → rest ≡ []
-none_if [] none = refl
-none_if (entry ∷ rest) none = absurd (omega arith)
-
 ends : (page rest left : List Entry) → page ++ rest ≡ left → (eqb (length page) (length left) ≡ true) ↔ (rest ≡ [])
 ends page rest left parts =
     let counted : length page + length rest ≡ length left = sym (length-append page rest) ∙ ap length parts in (
-      λ is. let same : length page ≡ length left = eqb-true (length page) (length left) is in none_if rest (omega arith),
+      λ is. let same : length page ≡ length left = eqb-true (length page) (length left) is in nil_from_length rest (omega arith),
       λ none. let empty : length rest ≡ 0 = ap length none in eq-eqb (length page) (length left) (omega arith),
     )
 
@@ -212,7 +208,7 @@ one_more inodes dir cookie (first ∷ counts) count =
 whole_if : (part rest whole : List Entry) → part ++ rest ≡ whole → (rest ≡ []) ↔ (part ≡ whole)
 whole_if part rest whole parts = (
   λ none. sym (append-nil part) ∙ ap (λ es. part ++ es) (sym none) ∙ parts,
-  λ same. let counted : length part + length rest ≡ length whole = sym (length-append part rest) ∙ ap length parts in let long : length part ≡ length whole = ap length same in none_if rest (omega arith),
+  λ same. let counted : length part + length rest ≡ length whole = sym (length-append part rest) ∙ ap length parts in let long : length part ≡ length whole = ap length same in nil_from_length rest (omega arith),
 )
 
 pub all_read_at_end : AllIsReadAtTheEnd
@@ -248,7 +244,7 @@ leaves_fewer count (next ∷ others) rest n room parts most =
 enough : (inodes : Inodes) (dir : ℕ) (listing : Listing) (cookie : ℕ) (counts : List ℕ) → IsListed inodes dir listing
     → length (listed_behind cookie (all_listed dir listing)) ≤ length counts → All (λ count. All (HasRoom count) (all_listed dir listing)) counts
     → pages_read inodes dir cookie counts ≡ listed_behind cookie (all_listed dir listing)
-enough inodes dir listing cookie [] h most room = sym (none_if (listed_behind cookie (all_listed dir listing)) most)
+enough inodes dir listing cookie [] h most room = sym (nil_from_length (listed_behind cookie (all_listed dir listing)) (omega (arith, most)))
 enough inodes dir listing cookie (count ∷ counts) h most room =
     let page : List Entry = entries_told (page_read inodes dir cookie count) in
     let left : List Entry = listed_behind cookie (all_listed dir listing) in

@@ -6,7 +6,8 @@ use Rattle.bfs_model.specs.Changes.{changed, with_entry}
 use Rattle.bfs_model.specs.Limits.{most_links}
 use Rattle.bfs_model.specs.Tree.{Time, Entry, Inode, Inodes}
 use Rattle.bfs_model.proofs.WellFormed.Each.{at_found, at_changed}
-use Rattle.bfs_procs.proofs.Moves.{HasLink, link_at}
+use Rattle.bfs_model.proofs.WellFormed.RenamingLimits.{HasLink}
+use Rattle.bfs_procs.proofs.Moves.{link_at}
 
 -- one that had fewer than the most still has
 pub few_links : (m : Inodes) (now : Time) (entry : Entry) (dir id : ℕ) (x : Inode) → get m id ≡ Some x → x.links < most_links → ForSome (get (changed m dir (with_entry now entry)) id) (λ inode. inode.links < most_links)

@@ -1,61 +1,30 @@
 -- What RENAME's steps leave in the directory that something moves to: a place for an entry, and for a link.
-use Rattle.std.proofs.Common.{◌≡◌, ℕ, ◌+◌, ◌-◌, ◌<◌, ◌≤◌, Bool, true, false, not, ◌&&◌, IsTrue, List, length, Option, Some, None, is_some, refl, sym, ap, subst, ◌∙◌, arith, inl, inr}
+use Rattle.std.proofs.Common.{◌≡◌, ℕ, ◌-◌, ◌<◌, ◌≤◌, Bool, true, false, not, ◌&&◌, IsTrue, List, length, Option, Some, None, is_some, refl, sym, ap, subst, ◌∙◌, arith, inl, inr}
 use Rattle.std.specs.Prelude.{◌==◌, nat_le, option_map}
-use Rattle.std.specs.FinMap.{get, insert, remove}
-use Rattle.std.specs.Option.{ForSome, option_map_or}
+use Rattle.std.specs.FinMap.{get, remove}
+use Rattle.std.specs.Option.{ForSome}
 use Rattle.std.proofs.lemmas.Bool.{leb-false, cases_eq, ne_eqb}
-use Rattle.bfs_model.specs.Changes.{changed, without_entry, with_listing, with_parent, with_link, with_link_less}
-use Rattle.bfs_model.specs.Directories.{entry_named, without_name}
+use Rattle.bfs_model.specs.Changes.{changed, without_entry, with_parent, with_link, with_link_less}
+use Rattle.bfs_model.specs.Directories.{entry_named}
 use Rattle.bfs_model.specs.Limits.{most_entries, most_links}
 use Rattle.bfs_model.specs.Procedures.Renaming.{replaced_by_kind, name_cleared, moved_below}
-use Rattle.bfs_model.specs.Tree.{Time, Entry, Listing, Body, file, directory, link, Inode, Inodes, is_directory, is_directory_body, entries_in, entries_at}
+use Rattle.bfs_model.specs.Tree.{Time, Entry, Inode, Inodes, is_directory, entries_in, entries_at}
 use Rattle.bfs_model.proofs.WellFormed.Each.{At, at_found, at_changed, at_changed_here, at_link_lost, each_changed, each_removed, kind_inserted}
-use Rattle.bfs_model.proofs.WellFormed.Entries.{shorter, no_longer}
+use Rattle.bfs_model.proofs.WellFormed.Steps.{kind_listed, changed_there}
+use Rattle.bfs_model.proofs.WellFormed.RenamingLimits.{HasFewer, HasLink, entries_below, fewer_without, fewer_still, second_false}
 use Rattle.bfs_procs.specs.Moves.{cleared}
 
 -- Of one inode ------------------------------------------------------------------------------------------------------------
 
-abbrev pub HasFewer : Inode → Type 0
-HasFewer x = length (entries_in x.body) < most_entries
-
 abbrev pub HasFew : Inode → Type 0
 HasFew x = length (entries_in x.body) ≤ most_entries
-
-abbrev pub HasLink : Inode → Type 0
-HasLink x = x.links < most_links
 
 abbrev pub HasLinks : Inode → Type 0
 HasLinks x = x.links ≤ most_links
 
-entries_without : (name : List ℕ) (body : Body) → entries_in (with_listing (λ listing. record listing { entries = without_name name listing.entries }) body) ≡ without_name name (entries_in body)
-entries_without name (file bytes) = refl
-entries_without name (directory listing) = refl
-entries_without name (link path) = refl
-
-entries_below : (parent : ℕ) (body : Body) → entries_in (with_listing (λ listing. record listing { parent = parent }) body) ≡ entries_in body
-entries_below parent (file bytes) = refl
-entries_below parent (directory listing) = refl
-entries_below parent (link path) = refl
-
-kind_same : (change : Listing → Listing) (body : Body) → is_directory_body (with_listing change body) ≡ is_directory_body body
-kind_same change (file bytes) = refl
-kind_same change (directory listing) = refl
-kind_same change (link path) = refl
-
--- taking an entry that is there makes room for one
-fewer_without : (now : Time) (name : List ℕ) (x : Inode) (entry : Entry) → entry_named name (entries_in x.body) ≡ Some entry → HasFew x → HasFewer (without_entry now name x)
-fewer_without now name x entry found few =
-    let most : length (entries_in x.body) ≤ most_entries = few in
-    let less : length (without_name name (entries_in x.body)) + 1 ≡ length (entries_in x.body) = shorter name (entries_in x.body) entry found in
-    rw (entries_without name x.body) (omega arith)
-
 fewer_of : (now : Time) (name : List ℕ) (x : Inode) (found : Option Entry) → entry_named name (entries_in x.body) ≡ found → IsTrue (is_some found) → HasFew x → HasFewer (without_entry now name x)
 fewer_of now name x None is there few = absurd cc
 fewer_of now name x (Some entry) is there few = fewer_without now name x entry is few
-
--- taking one where there is room keeps it
-fewer_still : (now : Time) (name : List ℕ) (x : Inode) → HasFewer x → HasFewer (without_entry now name x)
-fewer_still now name x fewer = rw (entries_without name x.body) (let few : length (entries_in x.body) < most_entries = fewer in omega (arith, no_longer name (entries_in x.body)))
 
 fewer_below : (parent : ℕ) (x : Inode) → HasFewer x → HasFewer (with_parent parent x)
 fewer_below parent x fewer = rw (entries_below parent x.body) fewer
@@ -77,11 +46,6 @@ place_at m id has = place_by (get m id) (λ x there. has id x there refl)
 
 pub link_at : (m : Inodes) (id : ℕ) → At id HasLink m → ForSome (get m id) (λ inode. inode.links < most_links)
 link_at m id has = λ x there. has id x there refl
-
--- the change of an inode that is there puts it
-pub changed_there : (m : Inodes) (k : ℕ) (change : Inode → Inode) (x : Inode) → get m k ≡ Some x → changed m k change ≡ insert m k (change x)
-unfolding changed
-changed_there m k change x there = ap (λ found. option_map_or (λ inode. insert m k (change inode)) found m) there
 
 -- Once the name is free -------------------------------------------------------------------------------------------------------
 
@@ -121,10 +85,6 @@ pub record IsFree (to : ℕ) (moves : Bool) (after : Inodes) : Type 0 where
   pub few : IsTrue moves → At to HasLink after
 
 -- RENAME's table ----------------------------------------------------------------------------------------------------------------
-
-second_false : (p q : Bool) → (p && q) ≡ false → p ≡ true → q ≡ false
-second_false true q e is = e
-second_false false q e is = absurd cc
 
 abbrev taken : Inodes → Time → (from : ℕ) → (from_name : List ℕ) → Inodes
 taken m now from from_name = changed m from (without_entry now from_name)
@@ -183,7 +143,7 @@ module _ (m : Inodes) (now : Time) (from : ℕ) (from_name : List ℕ) (from_ino
   kind_taken : (id : ℕ) → is_directory (get (taken m now from from_name) id) ≡ is_directory (get m id)
   kind_taken id =
       ap (λ (after : Inodes). is_directory (get after id)) (changed_there m from (without_entry now from_name) from_inode known.from_there)
-      ∙ kind_inserted m from (without_entry now from_name from_inode) from_inode known.from_there (kind_same _ from_inode.body) id
+      ∙ kind_inserted m from (without_entry now from_name from_inode) from_inode known.from_there (kind_listed _ from_inode.body) id
 
   pub free_new : (moves : Bool) → (not (from == to) && nat_le most_entries (length (entries_in to_inode.body))) ≡ false → (moves && nat_le most_links to_inode.links) ≡ false
       → IsFree to moves (cleared (taken m now from from_name) now to to_name None)

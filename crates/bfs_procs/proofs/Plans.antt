@@ -1,5 +1,5 @@
 -- RENAME's table, read as a plan.
-use Rattle.std.proofs.Common.{◌≡◌, ℕ, ◌<◌, ◌≤◌, Bool, true, false, not, ◌&&◌, IsTrue, List, length, Option, Some, None, is_some, refl, sym, ap, subst, ◌∙◌}
+use Rattle.std.proofs.Common.{◌≡◌, ℕ, ◌<◌, ◌≤◌, false, not, IsTrue, List, length, Option, Some, None, is_some, refl, sym, ap, subst, ◌∙◌}
 use Rattle.std.specs.Prelude.{◌==◌, option_map, if◌then◌else◌}
 use Rattle.std.specs.FinMap.{get}
 use Rattle.std.proofs.lemmas.Bool.{leb-false, not-false, and_parts}
@@ -13,6 +13,8 @@ use Rattle.bfs_model.specs.Procedures.Renaming.{name_cleared, moved_below, renam
 use Rattle.bfs_model.specs.Replies.{done}
 use Rattle.bfs_model.specs.Steps.{first_of, unless_refused, or_stale}
 use Rattle.bfs_model.specs.Tree.{Time, Entry, Listing, Body, file, directory, link, Inode, Inodes, is_directory, is_directory_body, entries_in, spent_ordinal}
+use Rattle.bfs_model.proofs.WellFormed.RenamingLimits.{third_false}
+use Rattle.bfs_model.proofs.WellFormed.Steps.{changed_there}
 use Rattle.bfs_model.proofs.Tables.{AllPassed, all_passed}
 use Rattle.bfs_procs.specs.declared.renaming.moves.Move.{Move}
 use Rattle.bfs_procs.specs.declared.renaming.plans.Plan.{Plan}
@@ -24,7 +26,7 @@ use Rattle.bfs_procs.specs.Moves.{Owns, cleared, moved_by}
 use Rattle.bfs_procs.specs.Plans.{renaming_in, IsSeen, move_by, IsUnlessRefused, CanMove, IsPlan}
 use Rattle.bfs_procs.specs.Renaming.{replaced_in, refusals}
 use Rattle.bfs_wire.specs.Replies.{status_of}
-use Rattle.bfs_procs.proofs.Moves.{IsThere, IsFree, place_at, link_at, changed_there, cleared_is, below_fewer, parent_link, free_new, free_onto}
+use Rattle.bfs_procs.proofs.Moves.{IsThere, IsFree, place_at, link_at, cleared_is, below_fewer, parent_link, free_new, free_onto}
 
 -- The rows ------------------------------------------------------------------------------------------------------------------
 
@@ -118,10 +120,6 @@ plan_new m reach p r existing plan seen none owned is =
     is)
 
 -- onto an entry
-third_false : (p q : Bool) → (p && true && q) ≡ false → p ≡ true → q ≡ false
-third_false true q e is = e
-third_false false q e is = absurd cc
-
 onto_is : (m : Inodes) (r : model.Renaming) (existing : Option Entry) (entry : Entry) (inode : Inode) → existing ≡ Some entry → (entry.child == r.moved) ≡ false → get m entry.child ≡ Some inode
     → unless_renaming_refused m (onto_in r entry inode) ≡ model.renamed_onto m r existing
 onto_is m r existing entry inode is other there =

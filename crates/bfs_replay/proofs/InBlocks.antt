@@ -1,6 +1,6 @@
 -- Lines that stand in blocks.
 use Rattle.std.proofs.Common.{◌≡◌, ◌≤◌, ◌+◌, ◌-◌, ◌==◌, ◌∙◌, ℕ, Bool, List, [], ◌∷◌, ◌++◌, length, Option, Some, None, Result, Ok, Err, true, false, if◌then◌else◌, IfOk, refl, ◌≢◌, sym, ap, subst, arith}
-use Rattle.std.proofs.lemmas.List.{append-nil}
+use Rattle.std.proofs.lemmas.List.{append-nil, nil_from_length}
 use Rattle.std.specs.Option.{option_map_or}
 use Rattle.std.specs.List.{All, flat_map}
 use Rattle.std.proofs.lemmas.Bool.{eqb-false}
@@ -84,15 +84,11 @@ leading-blocks [] = refl
 leading-blocks (line.Batch time ∷ lines) = leading-blocks lines
 leading-blocks (line.Request request ∷ lines) = ap (λ rs. request ∷ rs) (leading-blocks lines)
 
-length_zero : {X : Type 0} (xs : List X) → length xs ≤ 0 → xs ≡ []
-length_zero [] none = refl
-length_zero (x ∷ xs) none = absurd (omega arith)
-
 -- the blocks hold all requests in their order
 pub requests-blocks : (lines : List Line) → in_blocks 0 lines ≡ true → flat_map (λ (block : Block). block.requests) (blocks lines) ≡ requests_in lines
 unfolding leading
 requests-blocks lines stand =
-    let nothing : leading lines ≡ [] = length_zero (leading lines) (length-leading 0 lines stand) in
+    let nothing : leading lines ≡ [] = nil_from_length (leading lines) (omega (arith, length-leading 0 lines stand)) in
     ap (λ front. front ++ flat_map (λ (block : Block). block.requests) (blocks lines)) (sym nothing) ∙ leading-blocks lines
 
 pub ruleset laws = (requests-blocks, bounded_blocks)

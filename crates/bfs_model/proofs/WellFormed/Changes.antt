@@ -4,7 +4,7 @@ use Rattle.std.specs.FinMap.{get, insert, remove}
 use Rattle.std.proofs.lemmas.Bool.{cases_eq, cases_Bool, eqb-true, ne_eqb, cond-false}
 use Rattle.bfs_model.specs.Tree.{Body, file, directory, link, Inode, Inodes, root_id, is_directory_body, is_directory, parent_in, entries_in, entries_at, parent_at, parent_of}
 use Rattle.bfs_model.specs.WellFormed.{times, named, ReachesRoot, step}
-use Rattle.bfs_model.proofs.WellFormed.Sums.{set_at, only, above, hit, under, due_in, due, links_at, own, Owing, get-set_at, get-set_here, get-set_other, named-set, under-set, at-set, reaches_along}
+use Rattle.bfs_model.proofs.WellFormed.Sums.{set_at, only, above, hit, hit_none, under, due_in, due, links_at, own, Owing, get-set_at, get-set_here, get-set_other, named-set, under-set, at-set, reaches_along}
 
 -- The equations --------------------------------------------------------------------------------------------------------
 
@@ -66,16 +66,12 @@ parent_other m k o c other = ap (above c) (get-set_other m k o c other)
 pub reaches_same : (m n : Inodes) → ((c : ℕ) → parent_of n c ≡ parent_of m c) → (d : ℕ) → ReachesRoot (parent_of m) d → ReachesRoot (parent_of n) d
 reaches_same m n same d r = reaches_along (parent_of m) (parent_of n) (λ q. Unit {0}) (λ q p good up. inl (same q ∙ up, tt)) d r tt
 
-pub only_none : (k c : ℕ) → only k 0 c ≡ 0
-only_none k c = same_either (eqb k c)
-  where
-    same_either : (b : Bool) → ◌≡◌ {A = ℕ} (cond b 0 0) 0
-    same_either true = refl
-    same_either false = refl
+pub same_zero : (b : Bool) → ◌≡◌ {A = ℕ} (cond b 0 0) 0
+same_zero true = refl
+same_zero false = refl
 
-pub hit_none : (b : Bool) (c : ℕ) → hit (cond b None None) c ≡ 0
-hit_none true c = refl
-hit_none false c = refl
+pub only_none : (k c : ℕ) → only k 0 c ≡ 0
+only_none k c = same_zero (eqb k c)
 
 gone : (m : Inodes) (k : ℕ) → IsTrue (is_directory (get (set_at m k None) k)) → ⊥
 gone m k is = let none : is_directory (get (set_at m k None) k) ≡ false = ap is_directory (get-set_here m k None) in cc

@@ -8,6 +8,7 @@ use Rattle.std.proofs.lemmas.Bool.{leb-false}
 use Rattle.std.proofs.lemmas.Cmp.{eq_by_cmp_equiv}
 use Rattle.std.specs.Cmp.{nat_cmp_total}
 use Rattle.std.proofs.lemmas.Map.Views.{tells_apart}
+use Rattle.std.proofs.lemmas.Option.{same_Some}
 use Rattle.bfs_model.specs.Tree.{Time, Inode, Inodes, is_directory, is_directory_body}
 use Rattle.bfs_model.specs.Changes.{with_link_less, changed, link_lost_of, link_lost}
 use Rattle.bfs_model.proofs.Maps.{got, got_removed}
@@ -19,17 +20,14 @@ Each P m = (id : ℕ) (inode : Inode) → get m id ≡ Some inode → P id inode
 abbrev pub At : (at : ℕ) → (Inode → Type 0) → Inodes → Type 0
 At at Q m = Each (λ id inode. id ≡ at → Q inode) m
 
-pub some_is : {A : Type 0} (x y : A) → Some x ≡ Some y → x ≡ y
-some_is x y e = cc
-
 pub at_found : (Q : Inode → Type 0) (m : Inodes) (at : ℕ) (found : Inode) → get m at ≡ Some found → Q found → At at Q m
-at_found Q m at found there holds id inode here is = subst Q (some_is found inode (sym there ∙ ap (get m) (sym is) ∙ here)) holds
+at_found Q m at found there holds id inode here is = subst Q (same_Some found inode (sym there ∙ ap (get m) (sym is) ∙ here)) holds
 
 -- One more, and one less -----------------------------------------------------------------------------------------------
 
 put_by : (P : ℕ → Inode → Type 0) (test : Bool) (id k : ℕ) (v inode : Inode) (old : Option Inode)
     → (test ≡ true → id ≡ k) → P k v → (old ≡ Some inode → P id inode) → cond test (Some v) old ≡ Some inode → P id inode
-put_by P true id k v inode old key new others e = subst (λ (x : Inode). P id x) (some_is v inode e) (subst (λ (q : ℕ). P q v) (sym (key refl)) new)
+put_by P true id k v inode old key new others e = subst (λ (x : Inode). P id x) (same_Some v inode e) (subst (λ (q : ℕ). P q v) (sym (key refl)) new)
 put_by P false id k v inode old key new others e = others e
 
 pub each_inserted : (P : ℕ → Inode → Type 0) (m : Inodes) → Each P m → (k : ℕ) (v : Inode) → P k v → Each P (insert m k v)

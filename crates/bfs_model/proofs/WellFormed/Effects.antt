@@ -2,13 +2,14 @@
 use Rattle.std.proofs.Common.{◌≡◌, ℕ, ◌+◌, ◌≤◌, Bool, true, false, cond, ◌||◌, eqb, IsTrue, IsFalse, List, [], ◌∷◌, ◌++◌, Some, None, refl, sym, ap, subst, ◌∙◌, arith}
 use Rattle.std.specs.FinMap.{get, insert, remove}
 use Rattle.std.proofs.lemmas.Bool.{ne_eqb, cond-true, cond-false}
+use Rattle.std.proofs.lemmas.Option.{same_Some}
 use Rattle.bfs_model.specs.Tree.{Time, Entry, Inode, Inodes, root_id, is_directory_body, is_directory, entries_in, entries_at, parent_in, parent_at, parent_of}
 use Rattle.bfs_model.specs.Directories.{entry_named, without_name}
 use Rattle.bfs_model.specs.Changes.{with_entry, without_entry, with_link, with_link_less, changed, link_lost}
 use Rattle.bfs_model.specs.WellFormed.{times, named}
 use Rattle.bfs_model.proofs.WellFormed.Sums.{only, one, hit, under, due, links_at, own, Owing, WellFormed, nothing, none_loose, get-set_here, get-set_other}
 use Rattle.bfs_model.proofs.WellFormed.Changes.{parents_kept, due_of_directory, settle, appear, vanish}
-use Rattle.bfs_model.proofs.WellFormed.Steps.{one_here, same_number, times-push, kind_listed, parent_listed, entries_listed, no_entries, no_parent, file_due, changed_there, insert_again, entry_added, entry_taken, firm_file, link_gained, link_gone, folder_linked, folder_unlinked}
+use Rattle.bfs_model.proofs.WellFormed.Steps.{one_here, times-push, kind_listed, parent_listed, entries_listed, no_entries, no_parent, file_due, changed_there, insert_again, entry_added, entry_taken, firm_file, link_gained, link_gone, folder_linked, folder_unlinked}
 use Rattle.bfs_model.proofs.WellFormed.Facts.{childless_under}
 
 -- What an entry more or less leaves of a directory -------------------------------------------------------------------------
@@ -74,7 +75,7 @@ made_directory_keeps m w d x now e y there folder absent is_folder pair bare bel
     let at_d : get m2 d ≡ Some x2 = get-set_here m d (Some x2) in
     appear w2 o y (get-set_other m d (Some x2) o apart ∙ absent) bare
     (λ p up.
-    let is : d ≡ p = same_number d p (sym below ∙ up) in
+    let is : d ≡ p = same_Some d p (sym below ∙ up) in
     subst (λ q. IsTrue (is_directory (get m2 q)) × (IsFalse (none_loose o) → 1 ≤ times o (entries_at (get m2 q)))) is (
       ap is_directory at_d ∙ kind,
       λ firm.

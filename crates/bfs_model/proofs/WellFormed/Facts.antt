@@ -1,17 +1,11 @@
 -- What follows from the two equations: of what an entry names, where it is held, and what is below it.
-use Rattle.std.proofs.Common.{◌≡◌, ℕ, ◌+◌, ◌≤◌, cond, eqb, IsTrue, List, [], Option, Some, None, inl, inr, refl, sym, ap, subst, ◌∙◌, arith}
+use Rattle.std.proofs.Common.{◌≡◌, ℕ, ◌+◌, ◌≤◌, cond, eqb, IsTrue, [], Option, Some, None, inl, inr, refl, sym, ap, subst, ◌∙◌, arith}
 use Rattle.std.specs.FinMap.{get}
 use Rattle.std.proofs.lemmas.Bool.{cases_eq, ne_eqb, cond-false}
-use Rattle.bfs_model.specs.Tree.{Entry, Inode, Inodes, root_id, is_directory_body, is_directory, entries_at, parent_in, parent_of}
-use Rattle.bfs_model.specs.Directories.{entry_named}
+use Rattle.bfs_model.specs.Tree.{Inode, Inodes, root_id, is_directory_body, is_directory, entries_at, parent_in, parent_of}
 use Rattle.bfs_model.specs.WellFormed.{times, named}
 use Rattle.bfs_model.proofs.WellFormed.Sums.{set_at, above, hit, under, due, WellFormed, get-set_other, weigh_zero, named-set}
 use Rattle.bfs_model.proofs.WellFormed.Changes.{parent_is_there, due_of_directory}
-use Rattle.bfs_model.proofs.WellFormed.Steps.{one_here, times-without}
-
--- an entry that is found names its inode
-pub found_named : (name : List ℕ) (es : List Entry) (e : Entry) → entry_named name es ≡ Some e → 1 ≤ times e.child es
-found_named name es e found = let counts = times-without e.child name es e found in let itself = one_here e.child in omega arith
 
 pub named_at_least : (m : Inodes) (d c : ℕ) → times c (entries_at (get m d)) ≤ named m c
 named_at_least m d c = let law : named (set_at m d None) c + times c (entries_at (get m d)) ≡ named m c + 0 = named-set m d None c in omega arith

@@ -29,7 +29,7 @@ pub record Follows (o n : ℕ) : Type 0 where
 
 -- What the table's tests say ------------------------------------------------------------------------------------------------
 
-none_from : {X : Type 0} (found : Option X) → is_some found ≡ false → found ≡ None
+pub none_from : {X : Type 0} (found : Option X) → is_some found ≡ false → found ≡ None
 none_from None e = refl
 none_from (Some x) e = absurd cc
 

@@ -5,14 +5,14 @@ use Rattle.std.specs.Ordering.{nat_cmp, eq_by_cmp}
 use Rattle.std.specs.FinMap.{find, get, entries, get-entries}
 use Rattle.std.proofs.lemmas.Bool.{eq-eqb}
 use Rattle.std.proofs.lemmas.List.Sums.{sum_by-cons}
+use Rattle.std.proofs.lemmas.Option.{same_Some}
 use Rattle.bfs_model.specs.Tree.{Entry, Inode, Inodes, entries_in}
 use Rattle.bfs_model.specs.Directories.{entry_named}
 use Rattle.bfs_model.specs.WellFormed.{times, named}
-use Rattle.bfs_model.proofs.WellFormed.Each.{some_is}
 
 -- what is found in a list counts in its sum
 found_by : (test : Bool) (weight : Inode → ℕ) (first x : Inode) (further : Option Inode) (rest : ℕ) → cond test (Some first) further ≡ Some x → (further ≡ Some x → weight x ≤ rest) → weight x ≤ weight first + rest
-found_by true weight first x further rest e le = let same : weight first ≡ weight x = ap weight (some_is first x e) in omega arith
+found_by true weight first x further rest e le = let same : weight first ≡ weight x = ap weight (same_Some first x e) in omega arith
 found_by false weight first x further rest e le = let most : weight x ≤ rest = le e in omega arith
 
 found_counts : (weight : Inode → ℕ) (id : ℕ) (x : Inode) (inodes : List (ℕ × Inode)) → find nat_cmp id inodes ≡ Some x → weight x ≤ sum_by (λ (inode : ℕ × Inode). weight inode.1) inodes
@@ -25,10 +25,10 @@ pub named_in_one : (m : Inodes) (dir : ℕ) (x : Inode) → get m dir ≡ Some x
 named_in_one m dir x there id = found_counts (λ inode. times id (entries_in inode.body)) dir x (entries m) (sym (get-entries m dir) ∙ there)
 
 child_by : (test : Bool) (first entry : Entry) (further : Option Entry) (rest : ℕ) → cond test (Some first) further ≡ Some entry → (further ≡ Some entry → 1 ≤ rest) → 1 ≤ cond (first.child == entry.child) 1 0 + rest
-child_by true first entry further rest e le = subst (λ (found : Entry). 1 ≤ cond (first.child == found.child) 1 0 + rest) (some_is first entry e) (rw (eq-eqb first.child first.child refl) (omega arith))
+child_by true first entry further rest e le = subst (λ (found : Entry). 1 ≤ cond (first.child == found.child) 1 0 + rest) (same_Some first entry e) (rw (eq-eqb first.child first.child refl) (omega arith))
 child_by false first entry further rest e le = let least : 1 ≤ rest = le e in omega arith
 
 -- the entry of a name names its child
-pub child_named : (name : List ℕ) (entries : List Entry) (entry : Entry) → entry_named name entries ≡ Some entry → 1 ≤ times entry.child entries
-child_named name [] entry e = absurd cc
-child_named name (first ∷ entries) entry e = child_by (bytes_eq first.name name) first entry (entry_named name entries) (times entry.child entries) e (child_named name entries entry)
+pub found_named : (name : List ℕ) (entries : List Entry) (entry : Entry) → entry_named name entries ≡ Some entry → 1 ≤ times entry.child entries
+found_named name [] entry e = absurd cc
+found_named name (first ∷ entries) entry e = child_by (bytes_eq first.name name) first entry (entry_named name entries) (times entry.child entries) e (found_named name entries entry)

@@ -3,6 +3,7 @@ use Rattle.std.proofs.Common.{◌≡◌, ℕ, ◌+◌, ◌≤◌, Bool, true, fa
 use Rattle.std.specs.Option.{option_map_or}
 use Rattle.std.specs.FinMap.{get, insert, remove}
 use Rattle.std.proofs.lemmas.Bool.{cases_eq, cases_Bool, ne_eqb, eq-eqb, eqb-false, cond-true, cond-false}
+use Rattle.std.proofs.lemmas.Option.{same_Some}
 use Rattle.bfs_model.specs.Tree.{Time, Entry, Listing, Body, file, directory, link, Inode, Inodes, root_id, is_directory_body, is_directory, entries_in, entries_at, parent_in, parent_at, parent_of}
 use Rattle.bfs_model.specs.Directories.{entry_named, without_name}
 use Rattle.bfs_model.specs.Changes.{with_listing, with_entry, without_entry, with_parent, with_link, with_link_less, with_ctime, changed, link_lost, link_lost_of}
@@ -10,8 +11,9 @@ use Rattle.bfs_model.specs.Procedures.Renaming.{replaced_by_kind, name_cleared, 
 use Rattle.bfs_model.specs.WellFormed.{times, named, ReachesRoot}
 use Rattle.bfs_model.proofs.WellFormed.Sums.{one, above, hit, under, links_at, own, Owing, WellFormed, nothing, none_loose, cut, get-set_here, get-set_other, reaches_along}
 use Rattle.bfs_model.proofs.WellFormed.Changes.{read_kept, parent_other, settle, reparent}
-use Rattle.bfs_model.proofs.WellFormed.Steps.{same_number, Alike, one_here, times-push, kind_listed, parent_listed, entries_listed, no_entries, no_parent, changed_there, alike_kept, entry_added, entry_taken, firm, same_some, folder_linked, folder_unlinked}
-use Rattle.bfs_model.proofs.WellFormed.Facts.{found_named, named_at_least, root_unnamed, holder, childless}
+use Rattle.bfs_model.proofs.WellFormed.Steps.{Alike, one_here, times-push, kind_listed, parent_listed, entries_listed, no_entries, no_parent, changed_there, alike_kept, entry_added, entry_taken, firm, folder_linked, folder_unlinked}
+use Rattle.bfs_model.proofs.WellFormed.Named.{found_named}
+use Rattle.bfs_model.proofs.WellFormed.Facts.{named_at_least, root_unnamed, holder, childless}
 use Rattle.bfs_model.proofs.WellFormed.Effects.{added_kind, added_entries, taken_kind, taken_entries, removed_keeps, removed_directory_keeps}
 
 -- What steps leave of directories ----------------------------------------------------------------------------------------
@@ -175,7 +177,7 @@ moved_parent m now from to k not_root folder =
 -- Names of one directory -------------------------------------------------------------------------------------------------
 
 behind : (t : Bool) (d e : Entry) (later : Option Entry) → cond t (Some d) later ≡ Some e → (d.child ≡ e.child → ⊥) → later ≡ Some e
-behind true d e later at apart = absurd (apart (ap (λ (x : Entry). x.child) (same_some d e at)))
+behind true d e later at apart = absurd (apart (ap (λ (x : Entry). x.child) (same_Some d e at)))
 behind false d e later at apart = at
 
 in_front : (t : Bool) (d e : Entry) (later fewer : Option Entry) → cond t (Some d) later ≡ Some e → (later ≡ Some e → fewer ≡ Some e) → cond t (Some d) fewer ≡ Some e
@@ -184,7 +186,7 @@ in_front false d e later fewer at rest = rest at
 
 still_there : (other : List ℕ) (b : Bool) (d c e : Entry) (es fewer : List Entry) (rest : Option Entry) → cond b (Some d) rest ≡ Some c → entry_named other (d ∷ es) ≡ Some e → (c.child ≡ e.child → ⊥)
     → (rest ≡ Some c → entry_named other es ≡ Some e → entry_named other fewer ≡ Some e) → entry_named other (cond b es (d ∷ fewer)) ≡ Some e
-still_there other true d c e es fewer rest is at apart inner = behind (bytes_eq d.name other) d e (entry_named other es) at (λ same. apart (ap (λ (x : Entry). x.child) (sym (same_some d c is)) ∙ same))
+still_there other true d c e es fewer rest is at apart inner = behind (bytes_eq d.name other) d e (entry_named other es) at (λ same. apart (ap (λ (x : Entry). x.child) (sym (same_Some d c is)) ∙ same))
 still_there other false d c e es fewer rest is at apart inner = in_front (bytes_eq d.name other) d e (entry_named other es) (entry_named other fewer) at (inner is)
 
 -- an entry of another child is still found
@@ -322,11 +324,11 @@ module _ (m : Inodes) (w : WellFormed m) (now : Time) (from to : ℕ) (from_name
   moved_below_to old false go move p up =
       let up_before : parent_of m c.child ≡ Some p = sym (view_parent m (cleared old) c.child (cleared_same old c.child (moved_stays old go))) ∙ up in
       elim (cases_Bool (is_directory_body v.body)) [
-        | inl is ↦ same_number p from (sym up_before ∙ holder m w from c.child v here is held_before) ∙ move is
+        | inl is ↦ same_Some p from (sym up_before ∙ holder m w from c.child v here is held_before) ∙ move is
         | inr is ↦ absurd (plain_above (eqb c.child root_id) p (ap (above c.child) (sym here) ∙ up_before) is)
       ]
   moved_below_to old true go move p up =
-      same_number p to (sym up ∙ moved_parent (cleared old) now from to c.child moved_not_root (view_kind m (cleared old) c.child (cleared_same old c.child (moved_stays old go)) ∙ ap is_directory here ∙ move.0))
+      same_Some p to (sym up ∙ moved_parent (cleared old) now from to c.child moved_not_root (view_kind m (cleared old) c.child (cleared_same old c.child (moved_stays old go)) ∙ ap is_directory here ∙ move.0))
 
   to_folder_then : (old : Option Entry) (b : Bool) → CanGo m to_name z c.child old → IsTrue (is_directory (get (moved old b) to))
   to_folder_then old b go = moved_kind (cleared old) now from to c.child to b ∙ view_kind m (cleared old) to (cleared_same old to (to_stays old go)) ∙ ap is_directory to_there ∙ to_folder

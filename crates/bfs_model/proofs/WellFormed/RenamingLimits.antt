@@ -4,7 +4,7 @@ use Rattle.std.specs.Prelude.{◌==◌, nat_le}
 use Rattle.std.specs.FinMap.{get, insert, remove}
 use Rattle.std.proofs.lemmas.Bool.{leb-false, not-false, and_parts, cases_eq, ne_eqb}
 use Rattle.bfs_model.specs.Limits.{longest_name, most_entries, most_links}
-use Rattle.bfs_model.specs.Tree.{Time, Entry, Listing, Body, file, directory, link, Inode, Inodes, root_id, is_directory_body, is_directory, entries_in}
+use Rattle.bfs_model.specs.Tree.{Time, Entry, Body, file, directory, link, Inode, Inodes, root_id, is_directory_body, is_directory, entries_in}
 use Rattle.bfs_model.specs.Replies.{Reply, perm, done}
 use Rattle.bfs_model.specs.Steps.{Outcome}
 use Rattle.bfs_model.specs.Directories.{is_bad_name, entry_named, without_name}
@@ -15,32 +15,28 @@ use Rattle.bfs_model.specs.WellFormed.{times, named, IsTree, HasNames, BodyIsWit
 use Rattle.bfs_model.proofs.Tables.{AllPassed, kept_passed, kept_stale, kept_directory, kept_noent}
 use Rattle.bfs_model.proofs.WellFormed.Entries.{none_without, gone_named, shorter, no_longer}
 use Rattle.bfs_model.proofs.WellFormed.Each.{At, at_found, at_changed, at_inserted, at_put, at_put_other, at_changed_here, at_link_lost, each_inserted, each_removed, each_changed, kind_inserted}
-use Rattle.bfs_model.proofs.WellFormed.Named.{named_in_one, child_named}
+use Rattle.bfs_model.proofs.WellFormed.Steps.{kind_listed}
+use Rattle.bfs_model.proofs.WellFormed.Named.{named_in_one, found_named}
 use Rattle.bfs_model.proofs.WellFormed.Limits.{AreWithin, HasRoom, all_older, entry_within, without_within, parent_within, link_within, ctime_within}
 use Rattle.bfs_model.proofs.WellFormed.LimitsKept.{Follows, IsDirectory, listing_kept, lost_within, directory_less_within}
 
 -- What is read of an inode ---------------------------------------------------------------------------------------------------
 
-abbrev HasFewer : Inode → Type 0
+abbrev pub HasFewer : Inode → Type 0
 HasFewer x = length (entries_in x.body) < most_entries
 
-abbrev HasLink : Inode → Type 0
+abbrev pub HasLink : Inode → Type 0
 HasLink x = x.links < most_links
 
-entries_without : (name : List ℕ) (body : Body) → entries_in (with_listing (λ listing. record listing { entries = without_name name listing.entries }) body) ≡ without_name name (entries_in body)
+pub entries_without : (name : List ℕ) (body : Body) → entries_in (with_listing (λ listing. record listing { entries = without_name name listing.entries }) body) ≡ without_name name (entries_in body)
 entries_without name (file bytes) = refl
 entries_without name (directory listing) = refl
 entries_without name (link path) = refl
 
-entries_below : (parent : ℕ) (body : Body) → entries_in (with_listing (λ listing. record listing { parent = parent }) body) ≡ entries_in body
+pub entries_below : (parent : ℕ) (body : Body) → entries_in (with_listing (λ listing. record listing { parent = parent }) body) ≡ entries_in body
 entries_below parent (file bytes) = refl
 entries_below parent (directory listing) = refl
 entries_below parent (link path) = refl
-
-kind_same : (change : Listing → Listing) (body : Body) → is_directory_body (with_listing change body) ≡ is_directory_body body
-kind_same change (file bytes) = refl
-kind_same change (directory listing) = refl
-kind_same change (link path) = refl
 
 most_in : (o id links : ℕ) (body : Body) → BodyIsWithin o id links body → length (entries_in body) ≤ most_entries
 most_in o id links (file bytes) h = omega arith
@@ -53,14 +49,14 @@ names_in o id links (directory listing) h = h.2
 names_in o id links (link path) h = tt
 
 -- taking an entry that is there makes room for one
-fewer_without : (o id : ℕ) (now : Time) (name : List ℕ) (x : Inode) (entry : Entry) → IsWithin o id x → entry_named name (entries_in x.body) ≡ Some entry → HasFewer (without_entry now name x)
-fewer_without o id now name x entry h found =
-    let most : length (entries_in x.body) ≤ most_entries = most_in o id x.links x.body h.body in
+pub fewer_without : (now : Time) (name : List ℕ) (x : Inode) (entry : Entry) → entry_named name (entries_in x.body) ≡ Some entry → length (entries_in x.body) ≤ most_entries → HasFewer (without_entry now name x)
+fewer_without now name x entry found few =
+    let most : length (entries_in x.body) ≤ most_entries = few in
     let less : length (without_name name (entries_in x.body)) + 1 ≡ length (entries_in x.body) = shorter name (entries_in x.body) entry found in
     rw (entries_without name x.body) (omega arith)
 
 -- taking one where there is room keeps it
-fewer_still : (now : Time) (name : List ℕ) (x : Inode) → HasFewer x → HasFewer (without_entry now name x)
+pub fewer_still : (now : Time) (name : List ℕ) (x : Inode) → HasFewer x → HasFewer (without_entry now name x)
 fewer_still now name x fewer = rw (entries_without name x.body) (let few : length (entries_in x.body) < most_entries = fewer in omega (arith, no_longer name (entries_in x.body)))
 
 free_still : (now : Time) (name other : List ℕ) (x : Inode) → entry_named name (entries_in x.body) ≡ None → entry_named name (entries_in (without_entry now other x).body) ≡ None
@@ -143,7 +139,7 @@ taken_from m r known = at_put r.from IsDirectory m (without_entry r.now r.from_n
 
 taken_fewer : (m : Inodes) (r : Renaming) → IsKnown m r → AreWithin m r.ordinal → At r.from HasFewer (taken m r)
 taken_fewer m r known within =
-    at_put r.from HasFewer m (without_entry r.now r.from_name r.from_inode) (fewer_without r.ordinal r.from r.now r.from_name r.from_inode known.from_entry (within r.from r.from_inode known.from_there) known.from_holds)
+    at_put r.from HasFewer m (without_entry r.now r.from_name r.from_inode) (fewer_without r.now r.from_name r.from_inode known.from_entry known.from_holds (most_in r.ordinal r.from r.from_inode.links r.from_inode.body (within r.from r.from_inode known.from_there).body))
 
 to_free : (m : Inodes) (r : Renaming) → IsKnown m r → entry_named r.to_name r.to_listing.entries ≡ None → At r.to (λ (x : Inode). entry_named r.to_name (entries_in x.body) ≡ None) (taken m r)
 to_free m r known free =
@@ -153,11 +149,11 @@ to_free m r known free =
 
 -- Onto no entry ------------------------------------------------------------------------------------------------------------------
 
-second_false : (p q : Bool) → (p && q) ≡ false → p ≡ true → q ≡ false
+pub second_false : (p q : Bool) → (p && q) ≡ false → p ≡ true → q ≡ false
 second_false true q e is = e
 second_false false q e is = absurd cc
 
-third_false : (p q : Bool) → (p && true && q) ≡ false → p ≡ true → q ≡ false
+pub third_false : (p q : Bool) → (p && true && q) ≡ false → p ≡ true → q ≡ false
 third_false true q e is = e
 third_false false q e is = absurd cc
 
@@ -215,8 +211,9 @@ entered_fewer m r known within entry found x there =
     elim (cases_eq r.from r.to) [
       | inl same ↦ fewer_still r.now r.to_name x (taken_fewer m r known within r.to x there (sym same))
       | inr apart ↦
-          fewer_without r.ordinal r.to r.now r.to_name x entry (taken_within m r known within r.to x there)
+          fewer_without r.now r.to_name x entry
           (at_put_other r.to Holds m held r.from (without_entry r.now r.from_name r.from_inode) apart r.to x there refl)
+          (most_in r.ordinal r.to x.links x.body (taken_within m r known within r.to x there).body)
     ]
 
 entered_room : (m : Inodes) (r : Renaming) → IsKnown m r → AreWithin m r.ordinal → (entry : Entry) → entry_named r.to_name r.to_listing.entries ≡ Some entry
@@ -238,7 +235,7 @@ onto_entry m r known within entry found inode there passed =
     let taken_to : At r.to IsDirectory (taken m r) = at_inserted r.to IsDirectory m to_is r.from (without_entry r.now r.from_name r.from_inode) r.from_inode known.from_there (λ is. listing_kept _ r.from_inode.body is) in
     let out_to : At r.to IsDirectory out = at_changed r.to IsDirectory (taken m r) taken_to r.to (without_entry r.now r.to_name) (λ x is. listing_kept _ x.body is) in
     let kind : is_directory (get (taken m r) entry.child) ≡ is_directory_body inode.body =
-    kind_inserted m r.from (without_entry r.now r.from_name r.from_inode) r.from_inode known.from_there (kind_same _ r.from_inode.body) entry.child ∙ ap is_directory there in
+    kind_inserted m r.from (without_entry r.now r.from_name r.from_inode) r.from_inode known.from_there (kind_listed _ r.from_inode.body) entry.child ∙ ap is_directory there in
     replaced_cleared r out entry.child (is_directory (get (taken m r) entry.child)) out_within out_from out_to (entered_room m r known within entry found)
     (λ moves. kind ∙ not-false (is_directory_body inode.body) (third_false (is_directory_body r.moved_inode.body) (not (is_directory_body inode.body)) passed.1.1.0 (and_parts (is_directory_body r.moved_inode.body) (not (r.from == r.to)) moves).0))
 
@@ -266,7 +263,7 @@ onto_within m n r known follows within (Some entry) found =
 -- what an entry names is not the root
 unrooted : (m : Inodes) → IsTree m → (dir : ℕ) (x : Inode) → get m dir ≡ Some x → (name : List ℕ) (entry : Entry) → entry_named name (entries_in x.body) ≡ Some entry → entry.child ≡ root_id → ⊥
 unrooted m tree dir x there name entry found is =
-    let one : 1 ≤ times entry.child (entries_in x.body) = child_named name (entries_in x.body) entry found in
+    let one : 1 ≤ times entry.child (entries_in x.body) = found_named name (entries_in x.body) entry found in
     let most : times root_id (entries_in x.body) ≤ named m root_id = named_in_one m dir x there root_id in
     let none : named m root_id ≡ 0 = tree.root_unnamed in
     let same : times entry.child (entries_in x.body) ≡ times root_id (entries_in x.body) = ap (λ id. times id (entries_in x.body)) is in

@@ -4,12 +4,13 @@ use Rattle.std.specs.Option.{option_map_or}
 use Rattle.std.specs.Cmp.{nat_cmp_total}
 use Rattle.std.specs.FinMap.{get, insert, remove, same_map, nat_cmp-IsAntisymmetric}
 use Rattle.std.proofs.lemmas.Bool.{eqb-true, eq-eqb, leb-true, cond-true, cond-false, or_parts}
+use Rattle.std.proofs.lemmas.Option.{same_Some}
 use Rattle.bfs_model.specs.Tree.{Time, Entry, Listing, Body, file, directory, link, Inode, Inodes, root_id, is_directory_body, is_directory, entries_in, entries_at, parent_in, parent_at, parent_of}
 use Rattle.bfs_model.specs.Directories.{entry_named, without_name}
 use Rattle.bfs_model.specs.Changes.{with_listing, with_entry, without_entry, with_link, with_link_less, changed, link_lost, link_lost_of}
 use Rattle.bfs_model.specs.WellFormed.{times}
-use Rattle.bfs_model.proofs.WellFormed.Sums.{set_at, only, one, above, hit, under, due_in, due, links_at, own, Owing, get-set_at, under-set}
-use Rattle.bfs_model.proofs.WellFormed.Changes.{hit_none, none_either, settle, alter, vanish}
+use Rattle.bfs_model.proofs.WellFormed.Sums.{set_at, only, one, above, hit, hit_none, under, due_in, due, links_at, own, Owing, get-set_at, under-set}
+use Rattle.bfs_model.proofs.WellFormed.Changes.{none_either, settle, alter, vanish}
 
 -- Numbers and bodies ---------------------------------------------------------------------------------------------------
 
@@ -26,19 +27,13 @@ one_here k = let one_is : ℕ = 1 in let none : ℕ = 0 in cond-true (eqb k k) o
 one_off : (n : ℕ) → 1 ≤ n → n ≡ (n - 1) + 1
 one_off n least = omega arith
 
-pub same_number : (a b : ℕ) → Some a ≡ Some b → a ≡ b
-same_number a b is = cc
-
 pub times-push : (c : ℕ) (es : List Entry) (e : Entry) → times c (es ++ e ∷ []) ≡ times c es + one e.child c
 times-push c [] e = omega arith
 times-push c (d ∷ es) e = let rest = times-push c es e in omega arith
 
-pub same_some : (d e : Entry) → Some d ≡ Some e → d ≡ e
-same_some d e is = cc
-
 taken_here : (c : ℕ) (fewer es : List Entry) (d e : Entry) (b : Bool) (rest : Option Entry) → cond b (Some d) rest ≡ Some e → (rest ≡ Some e → times c fewer + one e.child c ≡ times c es)
     → times c (cond b es (d ∷ fewer)) + one e.child c ≡ one d.child c + times c es
-taken_here c fewer es d e true rest is later = let same : one d.child c ≡ one e.child c = ap (λ x. one x.child c) (same_some d e is) in omega arith
+taken_here c fewer es d e true rest is later = let same : one d.child c ≡ one e.child c = ap (λ x. one x.child c) (same_Some d e is) in omega arith
 taken_here c fewer es d e false rest is later = let known = later is in omega arith
 
 pub times-without : (c : ℕ) (name : List ℕ) (es : List Entry) (e : Entry) → entry_named name es ≡ Some e → times c (without_name name es) + one e.child c ≡ times c es

@@ -224,7 +224,7 @@ named-set m k o c =
     let is = times_at c k o in
     omega arith
 
-hit_none : (b : Bool) (c : ℕ) → hit (cond b None None) c ≡ 0
+pub hit_none : (b : Bool) (c : ℕ) → hit (cond b None None) c ≡ 0
 hit_none true c = refl
 hit_none false c = refl
 

@@ -26,7 +26,8 @@ use Rattle.bfs_model.specs.Bytes.{bytes_from}
 use Rattle.bfs_model.proofs.Tables.{AllPassed, kept_passed, kept_stale, kept_inode, kept_directory, kept_file, kept_noent}
 use Rattle.bfs_model.proofs.WellFormed.Sums.{WellFormed, cut}
 use Rattle.bfs_model.proofs.WellFormed.Steps.{Alike, alike_kept}
-use Rattle.bfs_model.proofs.WellFormed.Facts.{found_named, named_at_least, root_unnamed, holder, childless}
+use Rattle.bfs_model.proofs.WellFormed.Named.{found_named}
+use Rattle.bfs_model.proofs.WellFormed.Facts.{named_at_least, root_unnamed, holder, childless}
 use Rattle.bfs_model.proofs.WellFormed.Effects.{created_keeps, made_directory_keeps, linked_keeps, removed_keeps, removed_directory_keeps}
 use Rattle.bfs_model.proofs.WellFormed.Renames.{CanGo, CanMove, renamed_keeps}
 

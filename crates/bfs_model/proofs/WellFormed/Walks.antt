@@ -5,6 +5,7 @@ use Rattle.std.specs.Ordering.{nat_cmp, eq_by_cmp}
 use Rattle.std.specs.Cmp.{nat_cmp_total}
 use Rattle.std.specs.FinMap.{get, remove, len, get-remove, get-empty, len-remove, empty_of_len, nat_cmp-IsAntisymmetric}
 use Rattle.std.proofs.lemmas.Map.Views.{tells_apart}
+use Rattle.std.proofs.lemmas.Bool.{or_parts, or_right}
 use Rattle.bfs_model.specs.Tree.{Inode, Inodes, root_id, is_directory, parent_at, parent_of}
 use Rattle.bfs_model.specs.Procedures.Renaming.{is_within}
 use Rattle.bfs_model.specs.WellFormed.{ReachesRoot, at_root, step}
@@ -97,16 +98,12 @@ unfolding is_within
 is_within-same m zero id other same = eq-eqb id other same
 is_within-same m (suc steps) id other same = rw (eq-eqb id other same) refl
 
-neither : (a b : Bool) → (a || b) ≡ false → (a ≡ false) × (b ≡ false)
-neither true b none = absurd (true≢false none)
-neither false b none = (refl, none)
-
 -- a walk that is long enough and does not meet an id reaches the root also where the way is cut there
 pub way_past : (m : Inodes) (apart : ℕ) {id : ℕ} (way : ReachesRoot (parent_of m) id) (steps : ℕ) → depth way ≤ steps → is_within m steps id apart ≡ false → ReachesRoot (cut (parent_of m) apart) id
 way_past m apart (at_root is) steps enough past = at_root is
 way_past m apart (step parent to way) zero enough past = absurd (omega arith)
 way_past m apart {id = id} (step parent to way) (suc steps) enough past =
-    let tests = neither (id == apart) (is_within m steps parent apart) (sym (is_within-step m steps id apart parent to) ∙ past) in
+    let tests = or_parts (id == apart) (is_within m steps parent apart) (sym (is_within-step m steps id apart parent to) ∙ past) in
     step parent (ap (λ b. cond b None (parent_of m id)) tests.0 ∙ to) (way_past m apart way steps (omega arith) tests.1)
 
 -- a walk that is long enough meets the root
@@ -114,11 +111,7 @@ pub walk_met : (m : Inodes) {id : ℕ} (way : ReachesRoot (parent_of m) id) (ste
 walk_met m {id = id} (at_root is) steps enough = is_within-same m steps id root_id is
 walk_met m (step parent to way) zero enough = absurd (omega arith)
 walk_met m {id = id} (step parent to way) (suc steps) enough =
-    is_within-step m steps id root_id parent to ∙ ap (λ b. id == root_id || b) (walk_met m way steps (omega arith)) ∙ or_true (id == root_id)
-  where
-    or_true : (b : Bool) → (b || true) ≡ true
-    or_true true = refl
-    or_true false = refl
+    is_within-step m steps id root_id parent to ∙ ap (λ b. id == root_id || b) (walk_met m way steps (omega arith)) ∙ or_right (id == root_id) true refl
 
 -- by the first test, and where it fails by the parent
 through : (above : ℕ → Option ℕ) (meets : ℕ → Bool) (id other : ℕ) → ReachesRoot above other → ((parent : ℕ) → meets parent ≡ true → ReachesRoot above parent)

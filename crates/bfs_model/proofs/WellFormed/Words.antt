@@ -7,6 +7,7 @@ use Rattle.std.proofs.lemmas.Bool.{cases_lt, cases_eq}
 use Rattle.std.proofs.lemmas.Option.{same_Some}
 use Rattle.bfs_model.specs.Tree.{Entry, Body, file, directory, link, Inode, Inodes, root_id, new_root, new_tree, is_directory_body, is_directory, entries_in, entries_at, parent_in, parent_at, parent_of}
 use Rattle.bfs_model.specs.WellFormed.{times, named, directories_among, at_root, IsTree}
+use Rattle.bfs_model.proofs.WellFormed.Changes.{same_zero}
 use Rattle.bfs_model.proofs.WellFormed.Sums.{weigh, weight_at, get-set_at, get-set_here, get-set_other, weigh-set_at, weigh_zero, one, above, hit, under, due, links_at, own, WellFormed, named-set}
 
 -- Sums over a map ------------------------------------------------------------------------------------------------------
@@ -59,10 +60,6 @@ folder_at k q x = cond (is_directory_body x.body) (one k q) 0
 cond-add : (b : Bool) (n k : ℕ) → cond b (n + k) 0 ≡ cond b n 0 + cond b k 0
 cond-add true n k = refl
 cond-add false n k = refl
-
-same_zero : (b : Bool) → ◌≡◌ {A = ℕ} (cond b 0 0) 0
-same_zero true = refl
-same_zero false = refl
 
 folder_there : (k : ℕ) (o : Option Inode) → weight_at (folder_at k) k o ≡ cond (is_directory o) 1 0
 folder_there k None = refl

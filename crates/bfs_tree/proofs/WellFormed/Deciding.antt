@@ -4,7 +4,7 @@ use Rattle.std.specs.Prelude.{◌==◌, ◌||◌}
 use Rattle.std.specs.List.{AllByRecursion, list_all}
 use Rattle.std.specs.Option.{option_map_or}
 use Rattle.std.specs.FinMap.{get, entries, len, remove}
-use Rattle.std.proofs.lemmas.Bool.{cases_lt}
+use Rattle.std.proofs.lemmas.Bool.{cases_lt, and_parts, and_from}
 use Rattle.bfs_model.specs.Tree.{Entry, Listing, Body, file, directory, link, Inode, Inodes, root_id, is_directory_body, is_directory, entries_in, entries_at, parent_in, parent_at, parent_of}
 use Rattle.bfs_model.specs.Procedures.Renaming.{is_within}
 use Rattle.bfs_model.specs.WellFormed.{times, named, directories_among, IsTree, IsWellFormedTree}
@@ -13,7 +13,7 @@ use Rattle.bfs_model.proofs.WellFormed.Words.{formed_from}
 use Rattle.bfs_model.proofs.WellFormed.Walks.{way_met, reaches_within}
 use Rattle.bfs_model.proofs.WellFormed.Facts.{named_at_least}
 use Rattle.bfs_tree.specs.WellFormed.{may_name, is_child, is_directory_in_place, is_in_place, IsInOrder}
-use Rattle.bfs_tree.proofs.WellFormed.Lists.{each_of_all, all_of_each, both, and_also, named_of_all, all_of_named}
+use Rattle.bfs_tree.proofs.WellFormed.Lists.{each_of_all, all_of_each, named_of_all, all_of_named}
 
 -- From the tests ---------------------------------------------------------------------------------------------------------
 
@@ -26,9 +26,9 @@ record Placed (m : Inodes) (id count : ℕ) (listing : Listing) : Type 0 where
 
 placed_from : (m : Inodes) (id links : ℕ) (listing : Listing) → IsTrue (is_directory_in_place m id links listing) → Placed m id links listing
 placed_from m id links listing is =
-    let third = both _ (is_within m (len m) id root_id) is in
-    let second = both _ (id == root_id || times id (entries_at (get m listing.parent)) == 1) third.0 in
-    let first = both (list_all (λ entry. is_child m id entry.child) listing.entries) (links == 2 + directories_among m listing.entries) second.0 in
+    let third = and_parts _ (is_within m (len m) id root_id) is in
+    let second = and_parts _ (id == root_id || times id (entries_at (get m listing.parent)) == 1) third.0 in
+    let first = and_parts (list_all (λ entry. is_child m id entry.child) listing.entries) (links == 2 + directories_among m listing.entries) second.0 in
     record { children = first.0; links = eqb-true links _ first.1; once = second.1; way = third.1 }
 
 child_by_body : (m : Inodes) (dir links child : ℕ) (body : Body) → IsTrue (is_in_place m dir links body) → 1 ≤ times child (entries_in body) → is_child m dir child ≡ true
@@ -71,7 +71,7 @@ parent_by_body dir child parent false (file bytes) is up = absurd cc
 parent_by_body dir child parent false (link path) is up = absurd cc
 parent_by_body dir child parent false (directory listing) is up =
     let same : listing.parent ≡ parent = cc in
-    sym same ∙ eqb-true listing.parent dir (both (not (child == root_id)) _ is).1
+    sym same ∙ eqb-true listing.parent dir (and_parts (not (child == root_id)) _ is).1
 
 parent_by : (dir child parent : ℕ) (root : Bool) (o : Option Inode) → option_map_or (λ inode. may_name dir child inode.body) o false ≡ true → cond root None (parent_at o) ≡ Some parent → parent ≡ dir
 parent_by dir child parent root None is up = absurd (true≢false (sym is))
@@ -154,7 +154,7 @@ module _ (m : Inodes) (tree : IsTree m) where
   may_by_body dir child true (directory listing) test up some =
       absurd (unnamed dir (subst (λ (c : ℕ). 1 ≤ times c (entries_at (get m dir))) (eqb-true child root_id test) some))
   may_by_body dir child false (directory listing) test up some =
-      and_also (not (child == root_id)) (listing.parent == dir) (ap not test) (eq-eqb listing.parent dir (tree.in_parent dir child listing.parent some up))
+      and_from (not (child == root_id)) (listing.parent == dir) (ap not test) (eq-eqb listing.parent dir (tree.in_parent dir child listing.parent some up))
 
   may_by : (dir child : ℕ) (o : Option Inode) → get m child ≡ o → 1 ≤ times child (entries_at (get m dir)) → option_map_or (λ inode. may_name dir child inode.body) o false ≡ true
   may_by dir child None is some = absurd (true≢false (sym (tree.there dir child some) ∙ ap is_some is))
@@ -178,9 +178,9 @@ module _ (m : Inodes) (tree : IsTree m) where
       let among : x.links ≡ 2 + directories_among m listing.entries = tree.directory_links id x is (ap is_directory_body held) ∙ ap (λ body. 2 + directories_among m (entries_in body)) held in
       let up : parent_of m id ≡ cond (id == root_id) None (Some listing.parent) = ap (λ o. cond (id == root_id) None (parent_at o)) is ∙ ap (λ body. cond (id == root_id) None (parent_in body)) held in
       let children : list_all (λ entry. is_child m id entry.child) listing.entries ≡ true = all_of_named (is_child m id) listing.entries (λ child some. may_by id child (get m child) refl (subst (λ (es : List Entry). 1 ≤ times child es) (sym inside) some)) in
-      and_also _ (is_within m (len m) id root_id)
-      (and_also _ (id == root_id || times id (entries_at (get m listing.parent)) == 1)
-      (and_also (list_all (λ entry. is_child m id entry.child) listing.entries) (x.links == 2 + directories_among m listing.entries)
+      and_from _ (is_within m (len m) id root_id)
+      (and_from _ (id == root_id || times id (entries_at (get m listing.parent)) == 1)
+      (and_from (list_all (λ entry. is_child m id entry.child) listing.entries) (x.links == 2 + directories_among m listing.entries)
       children (eq-eqb x.links (2 + directories_among m listing.entries) among))
       (once id listing (id == root_id) folder up refl))
       (reaches_within m id (tree.reaches id folder))

@@ -1,23 +1,23 @@
 -- Of each inode of a map, and of each entry of a directory.
-use Rattle.std.proofs.Common.{◌≡◌, ℕ, ◌+◌, ◌≤◌, Bool, true, false, cond, ◌&&◌, true≢false, T, List, [], ◌∷◌, Option, Some, refl, sym, subst, ◌∙◌, arith, eqb-true, eq-eqb}
+use Rattle.std.proofs.Common.{◌≡◌, ℕ, ◌+◌, ◌≤◌, Bool, true, false, cond, T, List, [], ◌∷◌, Option, Some, refl, sym, subst, ◌∙◌, arith, eqb-true, eq-eqb}
 use Rattle.std.specs.Prelude.{◌==◌, ◌||◌, bytes_eq, count_by, is_some}
 use Rattle.std.specs.List.{AllByRecursion, list_all, list_any}
 use Rattle.std.specs.Ordering.{nat_cmp, eq_by_cmp}
 use Rattle.std.specs.FinMap.{find, is_sorted, get, entries, entries_sorted, get-entries, nat_cmp-IsAntisymmetric}
-use Rattle.std.proofs.lemmas.Bool.{cond-true, cond-false}
+use Rattle.std.proofs.lemmas.Bool.{cond-true, cond-false, and_parts, and_from}
 use Rattle.std.proofs.lemmas.List.Recursion.{is_count_by}
 use Rattle.std.proofs.lemmas.Map.Views.{tells_apart}
+use Rattle.std.proofs.lemmas.Option.{same_Some}
 use Rattle.bfs_model.specs.Tree.{Entry, Inode, Inodes, is_directory}
 use Rattle.bfs_model.specs.Directories.{entry_named}
 use Rattle.bfs_model.specs.WellFormed.{times, directories_among}
 use Rattle.bfs_model.proofs.WellFormed.Sums.{split, itself, apart}
-use Rattle.bfs_model.proofs.WellFormed.Each.{some_is}
 
 -- Inodes -----------------------------------------------------------------------------------------------------------------
 
 first_or_further : (P : ℕ × Inode → Type 0) (e : ℕ × Inode) (id : ℕ) (x : Inode) (further : Option Inode) (test : Bool) → (test ≡ true → id ≡ e.0) → P e → (further ≡ Some x → P (id, x))
     → cond test (Some e.1) further ≡ Some x → P (id, x)
-first_or_further P e id x further true key here others is = subst (λ (q : ℕ). P (q, x)) (sym (key refl)) (subst (λ (y : Inode). P (e.0, y)) (some_is e.1 x is) here)
+first_or_further P e id x further true key here others is = subst (λ (q : ℕ). P (q, x)) (sym (key refl)) (subst (λ (y : Inode). P (e.0, y)) (same_Some e.1 x is) here)
 first_or_further P e id x further false key here others is = others is
 
 found_of_all : (P : ℕ × Inode → Type 0) (es : List (ℕ × Inode)) → AllByRecursion P es → (id : ℕ) (x : Inode) → find nat_cmp id es ≡ Some x → P (id, x)
@@ -42,13 +42,6 @@ all_of_each P m each = all_of_found P (entries m) (entries_sorted m) (λ id x is
 
 -- Entries ----------------------------------------------------------------------------------------------------------------
 
-pub both : (a b : Bool) → (a && b) ≡ true → (a ≡ true) × (b ≡ true)
-both true b is = (refl, is)
-both false b is = absurd (true≢false (sym is))
-
-pub and_also : (a b : Bool) → a ≡ true → b ≡ true → (a && b) ≡ true
-and_also a b is also = rw (is, also) refl
-
 named_by : (test : ℕ → Bool) (child : ℕ) (e : Entry) (es : List Entry) (b : Bool) → (e.child == child) ≡ b → test e.child ≡ true → (1 ≤ times child es → test child ≡ true) → 1 ≤ cond b 1 0 + times child es → test child ≡ true
 named_by test child e es true is here further some = subst (λ (c : ℕ). test c ≡ true) (eqb-true e.child child is) here
 named_by test child e es false is here further some = further (omega arith)
@@ -57,30 +50,26 @@ named_by test child e es false is here further some = further (omega arith)
 pub named_of_all : (test : ℕ → Bool) (es : List Entry) → list_all (λ entry. test entry.child) es ≡ true → (child : ℕ) → 1 ≤ times child es → test child ≡ true
 named_of_all test [] all child some = absurd (omega arith)
 named_of_all test (e ∷ es) all child some =
-    let parts = both (test e.child) (list_all (λ entry. test entry.child) es) all in
+    let parts = and_parts (test e.child) (list_all (λ entry. test entry.child) es) all in
     named_by test child e es (e.child == child) refl parts.0 (named_of_all test es parts.1 child) some
 
 pub all_of_named : (test : ℕ → Bool) (es : List Entry) → ((child : ℕ) → 1 ≤ times child es → test child ≡ true) → list_all (λ entry. test entry.child) es ≡ true
 all_of_named test [] each = refl
 all_of_named test (e ∷ es) each =
-    and_also _ _ (each e.child (rw (eq-eqb e.child e.child refl) (omega arith)))
+    and_from _ _ (each e.child (rw (eq-eqb e.child e.child refl) (omega arith)))
     (all_of_named test es (λ child some. each child (let more : times child es ≤ times child (e ∷ es) = omega arith in omega arith)))
+
+counted_by : (test : Bool) (rest : ℕ) → cond test 1 0 + rest ≡ cond test (1 + rest) rest
+counted_by true rest = refl
+counted_by false rest = omega arith
 
 -- how many entries name one child
 pub times_counted : (child : ℕ) (es : List Entry) → count_by (λ entry. entry.child == child) es ≡ times child es
 times_counted child es = sym (is_count_by (times child) (λ entry. entry.child == child) refl (λ e rest. counted_by (e.child == child) (times child rest)) es)
-  where
-    counted_by : (test : Bool) (rest : ℕ) → cond test 1 0 + rest ≡ cond test (1 + rest) rest
-    counted_by true rest = refl
-    counted_by false rest = omega arith
 
 -- how many name a directory
 pub directories_counted : (m : Inodes) (es : List Entry) → count_by (λ entry. is_directory (get m entry.child)) es ≡ directories_among m es
 directories_counted m es = sym (is_count_by (directories_among m) (λ entry. is_directory (get m entry.child)) refl (λ e rest. counted_by (is_directory (get m e.child)) (directories_among m rest)) es)
-  where
-    counted_by : (test : Bool) (rest : ℕ) → cond test 1 0 + rest ≡ cond test (1 + rest) rest
-    counted_by true rest = refl
-    counted_by false rest = omega arith
 
 -- whether a name is found
 pub found_is_any : (name : List ℕ) (es : List Entry) → list_any (λ entry. bytes_eq entry.name name) es ≡ is_some (entry_named name es)

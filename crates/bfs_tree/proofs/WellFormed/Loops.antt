@@ -1,5 +1,5 @@
 -- What a turn of each loop knows, and what its end tells.
-use Rattle.std.proofs.Common.{◌≡◌, ℕ, suc, ◌+◌, ◌-◌, ◌<◌, ◌≤◌, true, false, true≢false, IsTrue, IsFalse, List, [], ◌∷◌, length, get_or, take, drop, Option, Some, None, is_some, sum_by, inl, inr, refl, sym, ap, subst, ◌∙◌, add-one, arith, eq-eqb, ne_eqb}
+use Rattle.std.proofs.Common.{◌≡◌, ℕ, suc, ◌+◌, ◌-◌, ◌<◌, ◌≤◌, true, false, true≢false, IsTrue, IsFalse, List, [], ◌∷◌, length, get_or, take, drop, None, is_some, sum_by, inl, inr, refl, sym, ap, subst, ◌∙◌, add-one, arith, eq-eqb, ne_eqb}
 use Rattle.std.specs.Prelude.{◌==◌, ◌↔◌, bytes_eq}
 use Rattle.std.specs.List.{AllByRecursion, list_any}
 use Rattle.std.proofs.Math.Seq.{drop-cons}
@@ -10,6 +10,7 @@ use Rattle.bfs_model.specs.Tree.{Entry, Inode, entries_in}
 use Rattle.bfs_model.specs.Limits.{longest_name}
 use Rattle.bfs_model.specs.Directories.{is_bad_name, entry_named}
 use Rattle.bfs_model.specs.WellFormed.{times, IsRising, HasNames}
+use Rattle.bfs_model.proofs.WellFormed.LimitsKept.{none_from}
 use Rattle.bfs_tree.proofs.WellFormed.Lists.{found_is_any}
 
 -- What a loop answers ----------------------------------------------------------------------------------------------------
@@ -53,10 +54,6 @@ module _ (n : ℕ) (es : List Entry) (at least cookie : ℕ) (e : Entry) (lt : a
 pub rises_to_end : (n : ℕ) (es : List Entry) (at least : ℕ) → length es ≤ at → (IsRising least (drop at es) n ↔ IsRising 0 es n) → IsTrue true ↔ IsRising 0 es n
 rises_to_end n es at least le so_far = yes (so_far.0 (subst (λ (left : List Entry). IsRising least left n) (sym (drop_all at es le)) tt))
 
-not_found : (found : Option Entry) → is_some found ≡ false → found ≡ None
-not_found None is = refl
-not_found (Some e) is = absurd (true≢false is)
-
 module _ (es : List Entry) (at : ℕ) (name : List ℕ) (e : Entry) (lt : at < length es) (is : e ≡ get_or es at e) (its : e.name ≡ name) (so_far : HasNames (drop at es) ↔ HasNames es) where
   names : HasNames es → IsFalse (is_bad_name e.name) × (length e.name ≤ longest_name) × (entry_named e.name (drop (at + 1) es) ≡ None) × HasNames (drop (at + 1) es)
   names h = subst HasNames (from_here es at e lt is) (so_far.1 h)
@@ -68,7 +65,7 @@ module _ (es : List Entry) (at : ℕ) (name : List ℕ) (e : Entry) (lt : at < l
   pub names_further : is_bad_name name ≡ false → length name ≤ longest_name → list_any (λ entry. bytes_eq entry.name name) (take (length es - (at + 1)) (drop (at + 1) es)) ≡ false → HasNames (drop (at + 1) es) ↔ HasNames es
   names_further good short other = (
     λ h. so_far.0 (subst HasNames (sym (from_here es at e lt is)) (subst (λ (own : List ℕ). IsFalse (is_bad_name own) × (length own ≤ longest_name) × (entry_named own (drop (at + 1) es) ≡ None) × HasNames (drop (at + 1) es)) (sym its)
-        (good, short, not_found _ (sym (found_is_any name (drop (at + 1) es)) ∙ ap (list_any (λ entry. bytes_eq entry.name name)) (sym rest) ∙ other), h))),
+        (good, short, none_from _ (sym (found_is_any name (drop (at + 1) es)) ∙ ap (list_any (λ entry. bytes_eq entry.name name)) (sym rest) ∙ other), h))),
     λ h. (names h).3,
   )
 

@@ -1,7 +1,8 @@
 -- Line after line: what a line prints comes before what the lines behind it print.
-use Rattle.std.proofs.Common.{◌≡◌, [], ◌∷◌, List, length, true, refl, subst, arith}
+use Rattle.std.proofs.Common.{◌≡◌, true, subst}
 use Rattle.std.specs.Io.KnownBytes.{Appends}
 use Rattle.std.proofs.KnownBytes.{Appends-trans, Appends-nil}
+use Rattle.std.proofs.lemmas.List.{nil_from_length}
 use Rattle.bfs_model.specs.Tree.{new_file_system}
 use Rattle.bfs_replay.specs.Blocks.{blocks, in_blocks}
 use Rattle.bfs_replay.specs.Output.{output_from}
@@ -45,10 +46,6 @@ loop-line-preserved g c =
       ),
     )
 
-no_lines : {X : Type 0} (xs : List X) → length xs ≡ 0 → xs ≡ []
-no_lines [] none = refl
-no_lines (x ∷ xs) none = absurd (omega arith)
-
 pub returns-clause-written : goal.returns-clause-written
 unfolding output_from blocks
-returns-clause-written g c = c.loop-line.invariant.1.1.2 _ (rw (no_lines c.loop-line.rest.now c.in_default-split_first.ensures.cases) (Appends-nil _))
+returns-clause-written g c = c.loop-line.invariant.1.1.2 _ (rw (nil_from_length c.loop-line.rest.now c.in_default-split_first.ensures.cases) (Appends-nil _))

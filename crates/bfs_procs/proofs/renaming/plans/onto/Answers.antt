@@ -1,5 +1,5 @@
 use Rattle.std.proofs.Common.{ℕ, IsTrue, sym, subst, ◌∙◌}
-use Rattle.bfs_model.proofs.WellFormed.Each.{some_is}
+use Rattle.std.proofs.lemmas.Option.{same_Some}
 use Rattle.bfs_procs.proofs.Plans.{plan_new, plan_onto}
 use Rattle.bfs_procs.proofs.renaming.plans.onto.Goals as goal
 
@@ -11,5 +11,5 @@ returns-in-Some-get g c = λ r seen. plan_onto _ _ _ r _ _ seen c.in-Some.entry.
     (rw (← c.entry-2.view_is) (sym c.eq.ensures ∙ c.if-eq.false))
     c.in-Some-get.inode.now
     (rw (← c.entry-2.view_is) (sym c.in-Some-get.ensures))
-    (c.requires.from, c.requires.to, c.requires.moved, λ x e. subst (λ (id : ℕ). IsTrue ((g.S.Store.reach c.args.store.now).owned id)) (some_is _ _ e) (c.requires.existing _ (sym c.in-Some.ensures)))
+    (c.requires.from, c.requires.to, c.requires.moved, λ x e. subst (λ (id : ℕ). IsTrue ((g.S.Store.reach c.args.store.now).owned id)) (same_Some _ _ e) (c.requires.existing _ (sym c.in-Some.ensures)))
     (rw (← c.entry-2.view_is) (rw c.by.ensures at c.unless_refused-in-Some-get.ensures))
