@@ -6,7 +6,7 @@ use bfs_replay::{
 };
 use std::alloc::Global;
 use std::io;
-use std::io::{ErrorKind, Write};
+use std::io::{ErrorKind, Read, Write};
 use std::test::Fail;
 
 const ROOT_TRACE: &[u8] =
@@ -110,10 +110,39 @@ fn reads_input(rt: HostRuntime) -> Result<(), Fail> {
     Ok(())
 }
 
+/// A reader that gives its bytes and then refuses.
+#[derive(Drop)]
+struct Broken {
+    bytes: &'static [u8],
+    kind: ErrorKind,
+}
+
+impl Read for Broken {
+    fn read(&mut self, into: &mut [u8]) -> io::Result<usize> {
+        if self.bytes.is_empty() {
+            return Err(io::Error::from(self.kind));
+        }
+        self.bytes.read(into)
+    }
+}
+
+#[test]
+fn tells_why_the_reader_refuses(rt: HostRuntime) {
+    let broken = |kind| Broken {
+        bytes: ROOT_TRACE,
+        kind,
+    };
+    let refused = read_input(rt.alloc(), broken(ErrorKind::PermissionDenied));
+    same!(rt; refused.err(), Some(Failure::Input));
+    let refused = read_input(rt.alloc(), broken(ErrorKind::OutOfMemory));
+    same!(rt; refused.err(), Some(Failure::Memory));
+}
+
 /// A writer that takes so many bytes and refuses from then on.
 #[derive(Drop)]
 struct Refusing {
     room: usize,
+    kind: ErrorKind,
     taken: Vec<u8>,
 }
 
@@ -121,7 +150,7 @@ impl Write for Refusing {
     fn write(&mut self, bytes: &[u8]) -> io::Result<usize> {
         let count = bytes.len().min(self.room);
         if count == 0 && !bytes.is_empty() {
-            return Err(io::Error::from(ErrorKind::StorageFull));
+            return Err(io::Error::from(self.kind));
         }
         self.taken.extend_from_slice(&bytes[..count])?;
         self.room -= count;
@@ -139,6 +168,7 @@ fn stops_where_the_writer_refuses(rt: HostRuntime) -> Result<(), Fail> {
     for room in 0..ROOT_LINE.len() {
         let mut writer = Refusing {
             room,
+            kind: ErrorKind::StorageFull,
             taken: Vec::new(rt.alloc()),
         };
         match run_trace(&rt, &trace, &mut writer) {
@@ -150,5 +180,18 @@ fn stops_where_the_writer_refuses(rt: HostRuntime) -> Result<(), Fail> {
         }
         assert!(rt; writer.taken.as_slice() == &ROOT_LINE[..room], "at {room}");
     }
+    Ok(())
+}
+
+#[test]
+fn tells_that_the_writer_wants_memory(rt: HostRuntime) -> Result<(), Fail> {
+    let trace = parse_trace(rt.alloc(), ROOT_TRACE)?;
+    let mut writer = Refusing {
+        room: 10,
+        kind: ErrorKind::OutOfMemory,
+        taken: Vec::new(rt.alloc()),
+    };
+    let refused = run_trace(&rt, &trace, &mut writer);
+    same!(rt; refused.err(), Some(ReplayError::Memory));
     Ok(())
 }

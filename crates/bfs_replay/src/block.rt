@@ -1,6 +1,7 @@
-ghost use Rattle.std.specs.Prelude.{◌≡◌, ◌≢◌, ◌<◌, ◌≤◌, [], ◌∷◌, length, Some, IsSome, IfSome, IfNone, OnOk, IfOk, IfErr};
+ghost use Rattle.std.specs.Prelude.{◌≡◌, ◌≢◌, ◌↔◌, ◌<◌, ◌≤◌, [], ◌∷◌, length, Some, IsSome, IfSome, IfNone, OnOk, IfOk, IfErr};
 ghost use Rattle.std.specs.Option.{ForSome};
 ghost use Rattle.std.specs.Io.KnownBytes.{Appends};
+ghost use Rattle.std.specs.IoError.{error_kind};
 ghost use Rattle.bfs_model.specs.Serial.{execute};
 ghost use Rattle.bfs_replay.specs.Blocks.{block_limit, leading, line_of};
 ghost use Rattle.bfs_replay.specs.Output.{batch_of, block_output, calls_of, reply_lines};
@@ -113,7 +114,8 @@ fn print_reply<W: Write>(
 
 // a writer may want memory too
 fn refusal_of(error: io::Error) -> ReplayError
-    ensures { result ≢ ReplayError.Failed }
+    ensures memory { (result ≡ ReplayError.Memory) ↔ (error_kind error ≡ ErrorKind.OutOfMemory) }
+    ensures fails { result ≢ ReplayError.Failed }
 {
     if error.kind() == ErrorKind::OutOfMemory {
         ReplayError::Memory

@@ -1,27 +1,40 @@
-ghost use Rattle.std.specs.Prelude.{◌≡◌, ◌≤◌, length, IfOk, IfSome};
+ghost use Rattle.std.specs.Prelude.{◌≡◌, ◌≢◌, ◌↔◌, ◌≤◌, length, IfOk, IfErr, IfSome};
+ghost use Rattle.std.specs.IoError.{error_kind};
 
 use crate::failure::Failure;
 use std::alloc::Global;
+use std::io;
 use std::io::{ErrorKind, Read};
 
 /// The most bytes of a trace.
 const MOST_BYTES: usize = 67_108_864;
 
-/// All bytes that the reader has, at most 67,108,864; `Failure::Input` where there are more, or where the reader refuses.
+/// All bytes that the reader has, at most 67,108,864; `Failure::Input` where there are more, or where the reader refuses,
+/// and `Failure::Memory` where memory runs out, also in the reader.
 pub fn read_input<R: Read + Drop>(alloc: Global, reader: R) -> Result<Vec<u8>, Failure>
     ensures all { IfOk result (λ bytes. IfSome (R.remaining reader) (λ all. bytes.items ≡ all)) }
     ensures within { IfOk result (λ bytes. length bytes.items ≤ 67108864) }
+    ensures fails { IfErr result (λ failure. failure ≢ Failure.Memory → failure ≡ Failure.Input) }
 {
     let mut bytes = Vec::new(alloc);
     let mut limited = reader.take(MOST_BYTES as u64 + 1);
     if let Err(error) = limited.read_to_end(&mut bytes) {
-        return Err(match error.kind() {
-            ErrorKind::OutOfMemory => Failure::Memory,
-            _ => Failure::Input,
-        });
+        return Err(failure_of(error));
     }
     if bytes.len() > MOST_BYTES {
         return Err(Failure::Input);
     }
     Ok(bytes)
+}
+
+// a reader may want memory too
+fn failure_of(error: io::Error) -> Failure
+    ensures memory { (result ≡ Failure.Memory) ↔ (error_kind error ≡ ErrorKind.OutOfMemory) }
+    ensures input { (result ≡ Failure.Input) ↔ (error_kind error ≢ ErrorKind.OutOfMemory) }
+{
+    if error.kind() == ErrorKind::OutOfMemory {
+        Failure::Memory
+    } else {
+        Failure::Input
+    }
 }
