@@ -2,7 +2,7 @@ ghost use Rattle.std.specs.Prelude.{◌≡◌, ◌+◌, ◌<◌, ◌≤◌, [], 
 ghost use Rattle.std.specs.Option.{ForSome};
 ghost use Rattle.bfs_model.specs.Tree.{listing_in};
 ghost use Rattle.bfs_model.specs.Attributes.{size_of, type_of};
-ghost use Rattle.bfs_model.specs.Limits.{longest_name, most_bytes, most_entries};
+ghost use Rattle.bfs_model.specs.Limits.{most_name_bytes, most_file_bytes, most_entries};
 ghost use Rattle.bfs_model.specs.Changes.{overwritten_body, resized_body, with_listing};
 ghost use Rattle.bfs_model.specs.Directories.{without_name};
 ghost use Rattle.bfs_types.specs.Attributes.{file_type_of};
@@ -50,7 +50,7 @@ impl Body {
 
     /// Of a file; what is no file stays.
     pub(crate) fn resize(&mut self, size: u32) -> Result<(), Memory>
-        requires { IsSome (file_in (body_of self.old)) → size ≤ most_bytes }
+        requires { IsSome (file_in (body_of self.old)) → size ≤ most_file_bytes }
         ensures ok { OnOk result (body_of self.new ≡ resized_body size (body_of self.old)) }
         ensures err { OnErr result (body_of self.new ≡ body_of self.old) }
     {
@@ -62,7 +62,7 @@ impl Body {
 
     /// Into a file; what is no file stays.
     pub(crate) fn write(&mut self, offset: u32, written: &[u8]) -> Result<(), Memory>
-        requires { offset + length written.now ≤ most_bytes }
+        requires { offset + length written.now ≤ most_file_bytes }
         ensures ok { OnOk result (body_of self.new ≡ overwritten_body offset written.now (body_of self.old)) }
         ensures err { OnErr result (body_of self.new ≡ body_of self.old) }
     {
@@ -80,7 +80,7 @@ impl Body {
         child: FileId,
     ) -> Result<(), Memory>
         requires room { ForSome (listing_in (body_of self.old)) (λ listing. length listing.entries < most_entries) }
-        requires short { length name.now ≤ longest_name }
+        requires short { length name.now ≤ most_name_bytes }
         ensures ok { OnOk result (body_of self.new ≡ with_listing (λ listing. record listing { entries = listing.entries ++ (record { cookie = cookie; name = name.now; child = child }) ∷ [] }) (body_of self.old)) }
         ensures err { OnErr result (body_of self.new ≡ body_of self.old) }
     {

@@ -2,7 +2,7 @@ ghost use Rattle.std.specs.Prelude.{◌≡◌, ◌<◌, ◌≤◌, length, unwra
 ghost use Rattle.std.specs.Option.{option_copied, option_map_or};
 ghost use Rattle.bfs_model.specs.Tree.{new_root, is_directory_body, listing_in};
 ghost use Rattle.bfs_model.specs.Attributes.{attributes_of, blocks_of, size_of};
-ghost use Rattle.bfs_model.specs.Limits.{longest_path, most_bytes, most_links};
+ghost use Rattle.bfs_model.specs.Limits.{most_path_bytes, most_file_bytes, most_links};
 ghost use Rattle.bfs_model.specs.Changes.{new_inode, permission_bits, time_or};
 ghost use Rattle.bfs_model.specs.Procedures.OfFiles.{new_file};
 ghost use Rattle.bfs_model.specs.Procedures.OfDirectories.{new_directory};
@@ -67,7 +67,7 @@ impl Inode {
         caller: Cred,
         settings: &Settings,
     ) -> Result<Inode, Memory>
-        requires { unwrap_or settings.now.size 0 ≤ most_bytes }
+        requires { unwrap_or settings.now.size 0 ≤ most_file_bytes }
         ensures { IfOk result (λ inode. inode ≡ new_file now caller settings.now) }
     {
         let bytes = FileData::zeros(alloc, settings.size.unwrap_or(0) as usize)?;
@@ -100,7 +100,7 @@ impl Inode {
         settings: &Settings,
         target: &[u8],
     ) -> Result<Inode, Memory>
-        requires { length target.now ≤ longest_path }
+        requires { length target.now ≤ most_path_bytes }
         ensures { IfOk result (λ inode. inode ≡ new_symbolic_link now caller settings.now target.now) }
     {
         let body = Body::Link(LinkPath::new(alloc, target)?);
@@ -171,7 +171,7 @@ impl Inode {
     /// The bytes, where it is a file.
     pub fn file(&self) -> Option<&[u8]>
         ensures value { option_map (λ bytes. bytes.now) result ≡ file_in self.now.body }
-        ensures within { IfSome result (λ bytes. length bytes.now ≤ most_bytes) }
+        ensures within { IfSome result (λ bytes. length bytes.now ≤ most_file_bytes) }
     {
         match &self.body {
             Body::File(data) => Some(data.as_slice()),
@@ -182,7 +182,7 @@ impl Inode {
     /// The path, where it is a symbolic link.
     pub fn link(&self) -> Option<&[u8]>
         ensures value { option_map (λ path. path.now) result ≡ path_in self.now.body }
-        ensures within { IfSome result (λ path. length path.now ≤ longest_path) }
+        ensures within { IfSome result (λ path. length path.now ≤ most_path_bytes) }
     {
         match &self.body {
             Body::Link(path) => Some(path.as_slice()),

@@ -7,7 +7,7 @@ use Rattle.bfs_model.specs.Call.{Credential}
 use Rattle.bfs_model.specs.Arguments.{Call, null, get_attributes, set_attributes, root, look_up, read_link, read, write_cache, write, create, remove, rename, make_link, make_symbolic_link, make_directory, remove_directory, read_directory, file_system_status}
 use Rattle.bfs_model.specs.Replies.{Status, perm, exist, nospc, fbig, refused}
 use Rattle.bfs_model.specs.Directories.{is_bad_name, entry_named}
-use Rattle.bfs_model.specs.Limits.{most_bytes, most_entries, most_links}
+use Rattle.bfs_model.specs.Limits.{most_file_bytes, most_entries, most_links}
 use Rattle.bfs_model.specs.Changes.{with_settings, with_bytes, with_entry, without_entry, with_parent, with_link, with_link_less, with_ctime}
 use Rattle.bfs_model.specs.Steps.{Outcome, first_of}
 use Rattle.bfs_model.specs.Procedures.{procedure}
@@ -94,7 +94,7 @@ procedure_adds m o now caller (write file offset bytes) =
     (λ id inode old leads there holding allowed. inl (insert_follows m id inode (with_bytes now offset bytes inode) there (type_with_bytes now offset bytes inode)))
 procedure_adds m o now caller (create dir name settings) =
     file_created_holds (Adds m o (create dir name settings)) m (adds_none m o (create dir name settings)) o now caller dir name settings
-    (λ id inode listing leads there holding allowed. inr (new_is_none m o dir (not_spent o listing name ((nat_lt most_bytes (unwrap_or settings.size 0), fbig) ∷ []) allowed), entry_then_made m o id inode _ _ there (type_with_entry now (entry_made o name o) inode)))
+    (λ id inode listing leads there holding allowed. inr (new_is_none m o dir (not_spent o listing name ((nat_lt most_file_bytes (unwrap_or settings.size 0), fbig) ∷ []) allowed), entry_then_made m o id inode _ _ there (type_with_entry now (entry_made o name o) inode)))
 procedure_adds m o now caller (remove dir name) =
     file_removed_holds (Adds m o (remove dir name)) m (adds_none m o (remove dir name)) now dir name
     (λ id inode listing entry child leads there holding good named is_child allowed.

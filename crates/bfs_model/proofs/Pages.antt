@@ -6,7 +6,7 @@ use Rattle.std.proofs.lemmas.List.Elements.{All-filter, All-head, All-tail}
 use Rattle.std.specs.FinMap.{get}
 use Rattle.bfs_model.specs.Tree.{Entry, Listing, Body, file, directory, link, Inode, Inodes, FileSystem, first_ordinal, listing_at, listing_in}
 use Rattle.bfs_model.specs.Directories.{all_listed, listed_behind, listed_size, held_by, page_of}
-use Rattle.bfs_model.specs.Limits.{most_data}
+use Rattle.bfs_model.specs.Limits.{most_data_bytes}
 use Rattle.bfs_model.specs.Replies.{Reply, listed}
 use Rattle.bfs_model.specs.Steps.{Outcome, or_stale, or_notdir}
 use Rattle.bfs_model.specs.Procedures.OfListing.{page_listed, directory_read}
@@ -89,7 +89,7 @@ page_then whole least ordinal cookie count rising =
     let left : List Entry = listed_behind cookie whole in
     let page : List Entry = page_of count left in
     let rest : List Entry = drop (length page) left in
-    let parts : page ++ rest ≡ left = held_first (min count most_data - 12) left in
+    let parts : page ++ rest ≡ left = held_first (min count most_data_bytes - 12) left in
     let left_rises : IsRising (cookie + 1) (page ++ rest) ordinal = rw parts (behind_rises cookie least whole ordinal rising) in
     let higher : cookie ≤ cookie_after cookie page = cookie_rises cookie page rest ordinal left_rises in
     let behind : listed_behind (cookie_after cookie page) whole ≡ rest =
@@ -226,8 +226,8 @@ all_read_at_end inodes dir listing counts count h =
 -- Room -------------------------------------------------------------------------------------------------------------------
 
 -- a page with room for the first of some entries begins with it
-begins : (count : ℕ) (next : Entry) (others : List Entry) → HasRoom count next → page_of count (next ∷ others) ≡ next ∷ held_by (min count most_data - 12 - listed_size next) others
-begins count next others room = rw (le-leb (listed_size next) (min count most_data - 12) (omega arith)) refl
+begins : (count : ℕ) (next : Entry) (others : List Entry) → HasRoom count next → page_of count (next ∷ others) ≡ next ∷ held_by (min count most_data_bytes - 12 - listed_size next) others
+begins count next others room = rw (le-leb (listed_size next) (min count most_data_bytes - 12) (omega arith)) refl
 
 pub not_empty_with_room : PageWithRoomIsNotEmpty
 not_empty_with_room inodes dir listing cookie count next others h left room =
@@ -237,7 +237,7 @@ not_empty_with_room inodes dir listing cookie count next others h left room =
 leaves_fewer : (count : ℕ) (left rest : List Entry) (n : ℕ) → All (HasRoom count) left → page_of count left ++ rest ≡ left → length left ≤ suc n → length rest ≤ n
 leaves_fewer count [] rest n room parts most = rw parts (omega arith)
 leaves_fewer count (next ∷ others) rest n room parts most =
-    let held : List Entry = held_by (min count most_data - 12 - listed_size next) others in
+    let held : List Entry = held_by (min count most_data_bytes - 12 - listed_size next) others in
     let counted = ap length (rw (begins count next others (All-head (HasRoom count) next others room)) at parts) in
     omega (arith, length-append held rest)
 

@@ -7,7 +7,7 @@ use Rattle.bfs_model.specs.Bytes.{bytes_from}
 use Rattle.bfs_model.specs.Call.{Credential}
 use Rattle.bfs_model.specs.Arguments.{Settings}
 use Rattle.bfs_model.specs.Directories.{is_bad_name, is_no_name, entry_named, all_listed, listed_behind}
-use Rattle.bfs_model.specs.Limits.{most_bytes, most_links}
+use Rattle.bfs_model.specs.Limits.{most_file_bytes, most_links}
 use Rattle.bfs_model.specs.Changes.{with_settings, with_bytes, with_entry, without_entry, with_link, with_link_less, changed, link_lost}
 use Rattle.bfs_model.specs.Replies.{Status, perm, isdir, fbig, nospc, notdir, notempty, refused, done, attributes, found, path, contents, free_blocks}
 use Rattle.bfs_model.specs.Steps.{Outcome, first_of, or_stale}
@@ -53,22 +53,22 @@ module _ (P : Outcome → Type 0) (m : Inodes) (refusal : (status : Status) → 
 
   pub file_written_holds : (now : Time) (handle : Option ℕ) (offset : ℕ) (written : List ℕ)
       → ((id : ℕ) (inode : Inode) (bytes : List ℕ) → handle ≡ Some id → get m id ≡ Some inode → inode.body ≡ file bytes
-      → first_of ((nat_lt most_bytes (offset + length written), fbig) ∷ []) ≡ None
+      → first_of ((nat_lt most_file_bytes (offset + length written), fbig) ∷ []) ≡ None
       → P (insert m id (with_bytes now offset written inode), attributes (attributes_of id (with_bytes now offset written inode))))
       → P (file_written m now handle offset written)
   file_written_holds now handle offset written holds = with_file_holds P m refusal handle _ (λ id inode bytes leads is holding.
-      unless_refused_holds P m refusal (first_of ((nat_lt most_bytes (offset + length written), fbig) ∷ [])) _ (holds id inode bytes leads is holding))
+      unless_refused_holds P m refusal (first_of ((nat_lt most_file_bytes (offset + length written), fbig) ∷ [])) _ (holds id inode bytes leads is holding))
 
   pub file_created_holds : (ordinal : ℕ) (now : Time) (caller : Credential) (handle : Option ℕ) (name : List ℕ) (settings : Settings)
       → ((dir : ℕ) (inode : Inode) (listing : Listing) → handle ≡ Some dir → get m dir ≡ Some inode → inode.body ≡ directory listing
-      → first_of (new_name_refusals ordinal listing name ++ (nat_lt most_bytes (unwrap_or settings.size 0), fbig) ∷ []) ≡ None
+      → first_of (new_name_refusals ordinal listing name ++ (nat_lt most_file_bytes (unwrap_or settings.size 0), fbig) ∷ []) ≡ None
       → P (
         insert (insert m dir (with_entry now (entry_made ordinal name ordinal) inode)) ordinal (new_file now caller settings),
         found ordinal (attributes_of ordinal (new_file now caller settings)),
       ))
       → P (file_created m ordinal now caller handle name settings)
   file_created_holds ordinal now caller handle name settings holds = with_directory_holds P m refusal handle _ (λ dir inode listing leads is holding.
-      unless_refused_holds P m refusal (first_of (new_name_refusals ordinal listing name ++ (nat_lt most_bytes (unwrap_or settings.size 0), fbig) ∷ [])) _
+      unless_refused_holds P m refusal (first_of (new_name_refusals ordinal listing name ++ (nat_lt most_file_bytes (unwrap_or settings.size 0), fbig) ∷ [])) _
       (holds dir inode listing leads is holding))
 
   pub file_removed_holds : (now : Time) (handle : Option ℕ) (name : List ℕ)

@@ -5,7 +5,7 @@ use Rattle.std.specs.List.{flat_map}
 use Rattle.std.proofs.lemmas.List.{length-append, length-take, length-replicate}
 use Rattle.std.proofs.lemmas.Bool.{leb-true}
 use Rattle.bfs_model.specs.Items.{padding_of, word, boolean, fixed, counted}
-use Rattle.bfs_model.specs.Limits.{most_data, longest_path, longest_reply}
+use Rattle.bfs_model.specs.Limits.{most_data_bytes, most_path_bytes, most_reply_bytes}
 use Rattle.bfs_model.specs.Tree.{Time, Entry, Body, link, Inode, Inodes}
 use Rattle.bfs_model.specs.Attributes.{Attributes}
 use Rattle.bfs_model.specs.Bytes.{bytes_from}
@@ -77,14 +77,14 @@ free_is_short : (free : ℕ) → IsShort (free_blocks free)
 unfolding results word
 free_is_short free = lit≤ tt
 
-path_is_short : (target : List ℕ) → length target ≤ longest_path → IsShort (path target)
+path_is_short : (target : List ℕ) → length target ≤ most_path_bytes → IsShort (path target)
 unfolding results word
 path_is_short target short = omega (arith, length-counted target, padding_is_short (length target))
 
 contents_are_short : (of : Attributes) (offset count : ℕ) (bytes : List ℕ) → IsShort (contents of (bytes_from offset count bytes))
 unfolding results word
 contents_are_short of offset count bytes =
-    omega (arith, length-counted (bytes_from offset count bytes), padding_is_short (length (bytes_from offset count bytes)), length-take (min count most_data) (drop offset bytes))
+    omega (arith, length-counted (bytes_from offset count bytes), padding_is_short (length (bytes_from offset count bytes)), length-take (min count most_data_bytes) (drop offset bytes))
 
 page_is_short : (room : ℕ) (entries : List Entry) (all : Bool) → room ≤ 8180 → IsShort (listed (held_by room entries) all)
 unfolding results word boolean
@@ -93,7 +93,7 @@ page_is_short room entries all most =
     omega (arith, length-append items (boolean false), length-append (items ++ boolean false) (boolean all), entries_fit room entries)
 
 listing_is_short : (count : ℕ) (entries : List Entry) → IsShort (page_listed count entries)
-listing_is_short count entries = page_is_short (min count most_data - 12) entries _ (omega arith)
+listing_is_short count entries = page_is_short (min count most_data_bytes - 12) entries _ (omega arith)
 
 -- Procedures -----------------------------------------------------------------------------------------------------------------
 
@@ -102,7 +102,7 @@ HasShortReply outcome = IsShort outcome.1
 
 -- the symbolic links that there are lead by paths within the limit
 abbrev HasShortPaths : Inodes → Type 0
-HasShortPaths m = (id : ℕ) (inode : Inode) (target : List ℕ) → get m id ≡ Some inode → inode.body ≡ link target → length target ≤ longest_path
+HasShortPaths m = (id : ℕ) (inode : Inode) (target : List ℕ) → get m id ≡ Some inode → inode.body ≡ link target → length target ≤ most_path_bytes
 
 procedure_is_short : (m : Inodes) (o : ℕ) (now : Time) (caller : Credential) (call : Call) → HasShortPaths m → IsShort (procedure m o now caller call).1
 procedure_is_short m o now caller null paths = void_is_short
@@ -138,15 +138,15 @@ procedure_is_short m o now caller (file_system_status file) paths = status_got_h
 
 -- Requests -------------------------------------------------------------------------------------------------------------------
 
-success_is_short : (xid : ℕ) (bytes : List ℕ) → length bytes ≤ 16360 → length (success xid bytes) ≤ longest_reply
+success_is_short : (xid : ℕ) (bytes : List ℕ) → length bytes ≤ 16360 → length (success xid bytes) ≤ most_reply_bytes
 unfolding success word
 success_is_short xid bytes short = omega arith
 
-garbage_is_short : (xid : ℕ) → length (garbage xid) ≤ longest_reply
+garbage_is_short : (xid : ℕ) → length (garbage xid) ≤ most_reply_bytes
 unfolding garbage word
 garbage_is_short xid = lit≤ tt
 
-refusal_is_short : (reason : Refusal) → length (refusal reason) ≤ longest_reply
+refusal_is_short : (reason : Refusal) → length (refusal reason) ≤ most_reply_bytes
 unfolding refusal word
 refusal_is_short silent = lit≤ tt
 refusal_is_short (rpc_mismatch xid) = lit≤ tt
@@ -155,20 +155,20 @@ refusal_is_short (program_unavailable xid) = lit≤ tt
 refusal_is_short (program_mismatch xid) = lit≤ tt
 refusal_is_short (procedure_unavailable xid) = lit≤ tt
 
-arguments_answer : (m : Inodes) (o : ℕ) (now : Time) (request : Request) (call : Option Call) → HasShortPaths m → length (answer_arguments m o now request call).1 ≤ longest_reply
+arguments_answer : (m : Inodes) (o : ℕ) (now : Time) (request : Request) (call : Option Call) → HasShortPaths m → length (answer_arguments m o now request call).1 ≤ most_reply_bytes
 arguments_answer m o now request None paths = garbage_is_short request.xid
 arguments_answer m o now request (Some call) paths = success_is_short request.xid _ (procedure_is_short m o now request.credential call paths)
 
-call_answer : (m : Inodes) (o : ℕ) (now : Time) (call : Result Request Refusal) → HasShortPaths m → length (answer_call m o now call).1 ≤ longest_reply
+call_answer : (m : Inodes) (o : ℕ) (now : Time) (call : Result Request Refusal) → HasShortPaths m → length (answer_call m o now call).1 ≤ most_reply_bytes
 call_answer m o now (Ok request) paths = arguments_answer m o now request (arguments_of request.procedure request.arguments) paths
 call_answer m o now (Err reason) paths = refusal_is_short reason
 
 -- only the paths matter: what else is in a reply is of limited length on any map
-pub short_answer : (m : Inodes) (o : ℕ) (now : Time) (request : List ℕ) → HasShortPaths m → length (answer m o now request).1 ≤ longest_reply
+pub short_answer : (m : Inodes) (o : ℕ) (now : Time) (request : List ℕ) → HasShortPaths m → length (answer m o now request).1 ≤ most_reply_bytes
 unfolding answer
 short_answer m o now request paths = call_answer m o now (call_of request) paths
 
-short_path : (limit id links : ℕ) (body : Body) (target : List ℕ) → BodyIsWithin limit id links body → body ≡ link target → length target ≤ longest_path
+short_path : (limit id links : ℕ) (body : Body) (target : List ℕ) → BodyIsWithin limit id links body → body ≡ link target → length target ≤ most_path_bytes
 short_path limit id links body target within is = (subst (BodyIsWithin limit id links) is within).1
 
 pub short_replies : RepliesAreShort

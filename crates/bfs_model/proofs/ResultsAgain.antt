@@ -3,7 +3,7 @@ use Rattle.std.proofs.Common.{◌≡◌, ℕ, zero, suc, ◌+◌, ◌-◌, ◌^�
 use Rattle.std.proofs.lemmas.List.{length-append}
 use Rattle.std.proofs.lemmas.List.Elements.{All-head, All-tail}
 use Rattle.bfs_model.specs.Items.{padding_of, fixed_at, word, words, boolean, fixed, counted}
-use Rattle.bfs_model.specs.Limits.{longest_name, longest_path, most_data}
+use Rattle.bfs_model.specs.Limits.{most_name_bytes, most_path_bytes, most_data_bytes}
 use Rattle.bfs_model.specs.Tree.{Time, Entry}
 use Rattle.bfs_model.specs.Attributes.{FileType, regular, directory_type, symbolic_link, Attributes, block_size, blocks_of, transfer_size, total_blocks}
 use Rattle.bfs_model.specs.Arguments.{handle}
@@ -151,13 +151,13 @@ found_arm_again : (file : ℕ) (of : Attributes) → IsWord file → AttributesA
 unfolding found_arm
 found_arm_again file of lt h = rw (handle_again file (words (attribute_words of)) lt, ← append-nil (words (attribute_words of)), attributes_again of [] h) refl
 
-path_arm_again : (target : List ℕ) → length target ≤ longest_path → path_arm (counted target) ≡ Ok (path target, [])
+path_arm_again : (target : List ℕ) → length target ≤ most_path_bytes → path_arm (counted target) ≡ Ok (path target, [])
 unfolding path_arm
-path_arm_again target most = rw (← append-nil (counted target), opaque_again true longest_path target [] most (omega arith)) refl
+path_arm_again target most = rw (← append-nil (counted target), opaque_again true most_path_bytes target [] most (omega arith)) refl
 
-contents_arm_again : (of : Attributes) (read : List ℕ) → AttributesAreSpellable of → length read ≤ most_data → contents_arm (words (attribute_words of) ++ counted read) ≡ Ok (contents of read, [])
+contents_arm_again : (of : Attributes) (read : List ℕ) → AttributesAreSpellable of → length read ≤ most_data_bytes → contents_arm (words (attribute_words of) ++ counted read) ≡ Ok (contents of read, [])
 unfolding contents_arm
-contents_arm_again of read h most = rw (attributes_again of (counted read) h, ← append-nil (counted read), opaque_again true most_data read [] most (omega arith)) refl
+contents_arm_again of read h most = rw (attributes_again of (counted read) h, ← append-nil (counted read), opaque_again true most_data_bytes read [] most (omega arith)) refl
 
 blocks_arm_again : (free : ℕ) → IsWord free → blocks_arm (words (transfer_size ∷ block_size ∷ total_blocks ∷ free ∷ free ∷ [])) ≡ Ok (free_blocks free, [])
 unfolding blocks_arm
@@ -168,8 +168,8 @@ blocks_arm_again free lt = rw (after_number_again transfer_size _ (omega arith),
 entry_again : (entry : Entry) (rest : List ℕ) → EntryIsSpellable entry → entry_told_at (word entry.child ++ (counted entry.name ++ (word entry.cookie ++ rest))) ≡ Ok (entry, rest)
 unfolding entry_told_at
 entry_again entry rest h =
-    let long : length entry.name < 2 ^ 32 = let most : length entry.name ≤ longest_name = h.name in omega arith in
-    rw (word_again entry.child _ h.child, opaque_again true longest_name entry.name _ h.name long, word_again entry.cookie rest h.cookie) refl
+    let long : length entry.name < 2 ^ 32 = let most : length entry.name ≤ most_name_bytes = h.name in omega arith in
+    rw (word_again entry.child _ h.child, opaque_again true most_name_bytes entry.name _ h.name long, word_again entry.cookie rest h.cookie) refl
 
 -- with as much fuel as there are entries, and one more for their end
 chain_again : (most : ℕ) (entries : List Entry) (rest : List ℕ) → length entries < most → All EntryIsSpellable entries → chain_at most (flat_map entry_item entries ++ (boolean false ++ rest)) ≡ Ok (entries, rest)

@@ -7,7 +7,7 @@ use Rattle.bfs_model.specs.Call.{nobody, call_of, header_of, opaque_auth_at, cre
 use Rattle.bfs_model.specs.Arguments.{create, get_attributes, read, write, handle, handle_id, handle_at, file_at, read_at, write_at, settings_at, named_with_settings_at, fields_at, arguments_of}
 use Rattle.bfs_model.specs.Replies.{found, attributes, contents, refused, nospc, fbig, results, success}
 use Rattle.bfs_model.specs.Attributes.{Attributes, attributes_of}
-use Rattle.bfs_model.specs.Limits.{most_bytes}
+use Rattle.bfs_model.specs.Limits.{most_file_bytes}
 use Rattle.bfs_model.specs.Bytes.{overwritten}
 use Rattle.bfs_model.specs.Procedures.{procedure}
 use Rattle.bfs_model.specs.Serial.{execute}
@@ -43,7 +43,7 @@ not_made_at_spent_ordinal = simp inode_gets
 -- The longest file -----------------------------------------------------------------------------------------------------------
 
 not_made_so_long : (size : ℕ) → size ≡ 1048577 → procedure new_tree 3 (at 1) nobody (create (Some 2) (codes "a") (record unset { size = Some size })) ≡ (new_tree, refused fbig)
-not_made_so_long size is = let past : nat_lt most_bytes size ≡ true = rw is refl in simp (inode_gets, past)
+not_made_so_long size is = let past : nat_lt most_file_bytes size ≡ true = rw is refl in simp (inode_gets, past)
 
 -- so many zeros and an `a`
 pub zeros_and_a : ℕ → List ℕ
@@ -77,7 +77,7 @@ a_made : procedure new_tree 3 (at 1) nobody (create (Some 2) (codes "a") unset) 
 a_made = simp inode_gets (same (simp inode_entries) refl)
 
 too_long : (offset : ℕ) → offset ≡ 1048575 → procedure (with_a (a_file 1 1 1 1 [])) 4 (at 2) nobody (write (Some 3) offset (codes "aa")) ≡ (with_a (a_file 1 1 1 1 []), refused fbig)
-too_long offset is = let past : nat_lt most_bytes (offset + 2) ≡ true = rw is refl in simp (inode_gets, past)
+too_long offset is = let past : nat_lt most_file_bytes (offset + 2) ≡ true = rw is refl in simp (inode_gets, past)
 
 -- the attributes of the longest file
 abbrev of_longest : Attributes
@@ -88,7 +88,7 @@ longest_told n is = rw (length-zeros_and_a n, is) refl
 
 long_enough : (offset : ℕ) → offset ≡ 1048575 → procedure (with_a (a_file 1 1 1 1 [])) 5 (at 2) nobody (write (Some 3) offset (codes "a")) ≡ (with_a (a_file 1 1 2 2 (zeros_and_a offset)), attributes of_longest)
 long_enough offset is =
-    let fits : nat_lt most_bytes (offset + 1) ≡ false = rw is refl in
+    let fits : nat_lt most_file_bytes (offset + 1) ≡ false = rw is refl in
     simp (inode_gets, fits, a_written_at) (same (simp inode_entries) (ap attributes (longest_told offset is)))
 
 end_read : (n : ℕ) → suc n ≡ 1048575 → procedure (with_a (a_file 1 1 2 2 (zeros_and_a (suc n)))) 6 (at 2) nobody (read (Some 3) n 8) ≡ (with_a (a_file 1 1 2 2 (zeros_and_a (suc n))), contents of_longest (0 ∷ 0x61 ∷ []))

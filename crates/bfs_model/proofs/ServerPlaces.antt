@@ -8,7 +8,7 @@ use Rattle.bfs_model.specs.Attributes.{attributes_of}
 use Rattle.bfs_model.specs.Bytes.{bytes_from}
 use Rattle.bfs_model.specs.Directories.{entry_named}
 use Rattle.bfs_model.specs.Changes.{changed}
-use Rattle.bfs_model.specs.Limits.{most_bytes, most_entries}
+use Rattle.bfs_model.specs.Limits.{most_file_bytes, most_entries}
 use Rattle.bfs_model.specs.Procedures.{procedure}
 use Rattle.bfs_model.specs.Procedures.Renaming.{is_within}
 use Rattle.bfs_model.proofs.Maps.{inode_gets, inode_entries, same}
@@ -116,7 +116,7 @@ size_of_a_link size = simp inode_gets
 write_of_a_link : (offset : ℕ) → procedure tree 8 (at 2) nobody (write (Some 7) offset []) ≡ (tree, refused perm)
 write_of_a_link offset = simp inode_gets
 
-empty_write_past_the_limit : (offset : ℕ) → nat_lt most_bytes (offset + 0) ≡ true → procedure tree 8 (at 2) nobody (write (Some 6) offset []) ≡ (tree, refused fbig)
+empty_write_past_the_limit : (offset : ℕ) → nat_lt most_file_bytes (offset + 0) ≡ true → procedure tree 8 (at 2) nobody (write (Some 6) offset []) ≡ (tree, refused fbig)
 empty_write_past_the_limit offset past = simp (inode_gets, past)
 
 -- The limits of links and entries -----------------------------------------------------------------------------------------

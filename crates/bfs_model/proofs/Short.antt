@@ -5,7 +5,7 @@ use Rattle.std.specs.Result.{result_ok}
 use Rattle.std.proofs.lemmas.Bool.{ltb-false}
 use Rattle.std.proofs.lemmas.List.{length-take}
 use Rattle.bfs_model.specs.Items.{Fault, short, too_long, bad_padding, ◌>>=◌, padding_of, are_zeros, word_at, bytes_at, fixed_at, opaque_at}
-use Rattle.bfs_model.specs.Limits.{longest_name, longest_path}
+use Rattle.bfs_model.specs.Limits.{most_name_bytes, most_path_bytes}
 use Rattle.bfs_model.specs.Arguments.{Settings, Call, null, get_attributes, set_attributes, root, look_up, read_link, read, write_cache, write, create, remove, rename, make_link, make_symbolic_link, make_directory, remove_directory, read_directory, file_system_status, handle_at, name_at, path_at, data_at, settings_at, file_at, named_at, named_with_settings_at, set_attributes_at, read_at, write_at, rename_at, link_at, symbolic_link_at, read_directory_at, fields_at, arguments_of}
 use Rattle.bfs_model.specs.Short.{IsShort}
 
@@ -82,11 +82,11 @@ opaque_has : (most : ℕ) (bytes : List ℕ) → GivesOk (HasMost most) (opaque_
 unfolding opaque_at
 opaque_has most bytes = after_ok (HasMost most) (word_at bytes) _ (λ count. counted_by (ltb most count.0) most count.0 count.1 (ltb-false most count.0))
 
-name_has : (bytes : List ℕ) → Gives (HasMost longest_name) (name_at bytes)
-name_has bytes = gives_result (HasMost longest_name) (opaque_at false longest_name bytes) (opaque_has longest_name bytes)
+name_has : (bytes : List ℕ) → Gives (HasMost most_name_bytes) (name_at bytes)
+name_has bytes = gives_result (HasMost most_name_bytes) (opaque_at false most_name_bytes bytes) (opaque_has most_name_bytes bytes)
 
-path_has : (bytes : List ℕ) → Gives (HasMost longest_path) (path_at bytes)
-path_has bytes = gives_result (HasMost longest_path) (opaque_at false longest_path bytes) (opaque_has longest_path bytes)
+path_has : (bytes : List ℕ) → Gives (HasMost most_path_bytes) (path_at bytes)
+path_has bytes = gives_result (HasMost most_path_bytes) (opaque_at false most_path_bytes bytes) (opaque_has most_path_bytes bytes)
 
 -- Forms of arguments --------------------------------------------------------------------------------------------------------------
 
@@ -97,19 +97,19 @@ file_short : (call : Option ℕ → Call) → ((file : Option ℕ) → IsShort (
 unfolding file_at
 file_short call holds bytes = after CallIsShort (handle_at bytes) _ (λ file. gives CallIsShort (call file.0, file.1) (holds file.0))
 
-named_short : (call : Option ℕ → List ℕ → Call) → ((dir : Option ℕ) (name : List ℕ) → length name ≤ longest_name → IsShort (call dir name)) → (bytes : List ℕ) → Gives CallIsShort (named_at call bytes)
+named_short : (call : Option ℕ → List ℕ → Call) → ((dir : Option ℕ) (name : List ℕ) → length name ≤ most_name_bytes → IsShort (call dir name)) → (bytes : List ℕ) → Gives CallIsShort (named_at call bytes)
 unfolding named_at
 named_short call holds bytes =
     after CallIsShort (handle_at bytes) _ (λ dir.
-    then_gives (HasMost longest_name) CallIsShort (name_at dir.1) _ (name_has dir.1) (λ name few.
+    then_gives (HasMost most_name_bytes) CallIsShort (name_at dir.1) _ (name_has dir.1) (λ name few.
     gives CallIsShort (call dir.0 name.0, name.1) (holds dir.0 name.0 few)))
 
-named_with_settings_short : (call : Option ℕ → List ℕ → Settings → Call) → ((dir : Option ℕ) (name : List ℕ) (settings : Settings) → length name ≤ longest_name → IsShort (call dir name settings))
+named_with_settings_short : (call : Option ℕ → List ℕ → Settings → Call) → ((dir : Option ℕ) (name : List ℕ) (settings : Settings) → length name ≤ most_name_bytes → IsShort (call dir name settings))
     → (bytes : List ℕ) → Gives CallIsShort (named_with_settings_at call bytes)
 unfolding named_with_settings_at
 named_with_settings_short call holds bytes =
     after CallIsShort (handle_at bytes) _ (λ dir.
-    then_gives (HasMost longest_name) CallIsShort (name_at dir.1) _ (name_has dir.1) (λ name few.
+    then_gives (HasMost most_name_bytes) CallIsShort (name_at dir.1) _ (name_has dir.1) (λ name few.
     after CallIsShort (settings_at name.1) _ (λ settings.
     gives CallIsShort (call dir.0 name.0 settings.0, settings.1) (holds dir.0 name.0 settings.0 few))))
 
@@ -145,7 +145,7 @@ rename_short bytes =
     after CallIsShort (handle_at bytes) _ (λ from.
     after CallIsShort (name_at from.1) _ (λ from_name.
     after CallIsShort (handle_at from_name.1) _ (λ to.
-    then_gives (HasMost longest_name) CallIsShort (name_at to.1) _ (name_has to.1) (λ to_name few.
+    then_gives (HasMost most_name_bytes) CallIsShort (name_at to.1) _ (name_has to.1) (λ to_name few.
     gives CallIsShort (rename from.0 from_name.0 to.0 to_name.0, to_name.1) few))))
 
 link_short : (bytes : List ℕ) → Gives CallIsShort (link_at bytes)
@@ -153,15 +153,15 @@ unfolding link_at
 link_short bytes =
     after CallIsShort (handle_at bytes) _ (λ file.
     after CallIsShort (handle_at file.1) _ (λ dir.
-    then_gives (HasMost longest_name) CallIsShort (name_at dir.1) _ (name_has dir.1) (λ name few.
+    then_gives (HasMost most_name_bytes) CallIsShort (name_at dir.1) _ (name_has dir.1) (λ name few.
     gives CallIsShort (make_link file.0 dir.0 name.0, name.1) few)))
 
 symbolic_link_short : (bytes : List ℕ) → Gives CallIsShort (symbolic_link_at bytes)
 unfolding symbolic_link_at
 symbolic_link_short bytes =
     after CallIsShort (handle_at bytes) _ (λ dir.
-    then_gives (HasMost longest_name) CallIsShort (name_at dir.1) _ (name_has dir.1) (λ name few.
-    then_gives (HasMost longest_path) CallIsShort (path_at name.1) _ (path_has name.1) (λ path few_of_path.
+    then_gives (HasMost most_name_bytes) CallIsShort (name_at dir.1) _ (name_has dir.1) (λ name few.
+    then_gives (HasMost most_path_bytes) CallIsShort (path_at name.1) _ (path_has name.1) (λ path few_of_path.
     after CallIsShort (settings_at path.1) _ (λ settings.
     gives CallIsShort (make_symbolic_link dir.0 name.0 path.0 settings.0, settings.1) (few, few_of_path)))))
 

@@ -6,7 +6,7 @@ use Rattle.std.specs.Int.{w32, from_be_bytes}
 use Rattle.bfs_model.specs.Items.{word, word_at, fixed_at, opaque_at}
 use Rattle.bfs_model.specs.Tree.{Time}
 use Rattle.bfs_model.specs.Call.{◌>>=◌}
-use Rattle.bfs_model.specs.Limits.{longest_name, longest_path, most_data}
+use Rattle.bfs_model.specs.Limits.{most_name_bytes, most_path_bytes, most_data_bytes}
 
 -- File handles (RFC 1094 section 2.3.3) ----------------------------------------------------------------------------
 
@@ -72,15 +72,15 @@ handle_at bytes = do
 
 -- a name of at most 255 bytes (RFC 1094 section 2.3.9)
 abbrev pub name_at : List ℕ → Option (List ℕ × List ℕ)
-name_at bytes = result_ok (opaque_at false longest_name bytes)
+name_at bytes = result_ok (opaque_at false most_name_bytes bytes)
 
 -- a path of at most 1,024 bytes (RFC 1094 section 2.3.10)
 abbrev pub path_at : List ℕ → Option (List ℕ × List ℕ)
-path_at bytes = result_ok (opaque_at false longest_path bytes)
+path_at bytes = result_ok (opaque_at false most_path_bytes bytes)
 
 -- a file's bytes, at most 8,192 in one call (RFC 1094 section 2.3.11)
 abbrev pub data_at : List ℕ → Option (List ℕ × List ℕ)
-data_at bytes = result_ok (opaque_at false most_data bytes)
+data_at bytes = result_ok (opaque_at false most_data_bytes bytes)
 
 unfoldable pub settings_at : List ℕ → Option (Settings × List ℕ)
 settings_at bytes = do

@@ -1,7 +1,7 @@
 -- The entries of a directory: names, and what is listed of them.
 use Rattle.std.specs.Prelude.{ℕ, ◌+◌, ◌-◌, ◌==◌, ◌||◌, Bool, min, List, [], ◌∷◌, length, filter, find, Option, codes, bytes_eq, nat_lt, nat_le, if◌then◌else◌}
 use Rattle.std.specs.List.{list_any}
-use Rattle.bfs_model.specs.Limits.{most_data}
+use Rattle.bfs_model.specs.Limits.{most_data_bytes}
 use Rattle.bfs_model.specs.Items.{padding_of}
 use Rattle.bfs_model.specs.Tree.{Entry, Listing}
 
@@ -53,4 +53,4 @@ held_by room (entry ∷ entries) = if nat_le (listed_size entry) room then entry
 
 -- a page of at most so many bytes, of which status, end of list and eof take 12
 abbrev pub page_of : (count : ℕ) → List Entry → List Entry
-page_of count entries = held_by (min count most_data - 12) entries
+page_of count entries = held_by (min count most_data_bytes - 12) entries

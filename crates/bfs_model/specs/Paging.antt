@@ -1,7 +1,7 @@
 -- A directory read page by page (RFC 1094 section 2.2.17): each READDIR goes on behind the last entry of the page before.
 use Rattle.std.specs.Prelude.{◌≡◌, ◌≢◌, ◌↔◌, ℕ, ◌+◌, ◌≤◌, Bool, true, false, min, List, [], ◌∷◌, ◌++◌, length, All, Some}
 use Rattle.std.specs.FinMap.{get}
-use Rattle.bfs_model.specs.Limits.{most_data}
+use Rattle.bfs_model.specs.Limits.{most_data_bytes}
 use Rattle.bfs_model.specs.Tree.{Entry, Listing, Inodes, FileSystem, first_ordinal, listing_at}
 use Rattle.bfs_model.specs.Replies.{Reply, listed}
 use Rattle.bfs_model.specs.Directories.{all_listed, listed_behind, listed_size}
@@ -46,7 +46,7 @@ pub record IsListed (inodes : Inodes) (dir : ℕ) (listing : Listing) : Type 0 w
 
 -- a page of so many bytes holds an entry, beside status, end of list and eof
 abbrev pub HasRoom : (count : ℕ) → Entry → Type 0
-HasRoom count entry = 12 + listed_size entry ≤ min count most_data
+HasRoom count entry = 12 + listed_size entry ≤ min count most_data_bytes
 
 -- The laws -----------------------------------------------------------------------------------------------------------
 

@@ -3,7 +3,7 @@
 use Rattle.std.specs.Prelude.{◌≡◌, ℕ, zero, suc, ◌-◌, ◌%◌, ◌==◌, ◌<◌, ◌≤◌, ◌^◌, ◌&&◌, Bool, true, List, [], ◌∷◌, length, All, Option, Some, None, Result, Ok, Err, if◌then◌else◌}
 use Rattle.std.specs.Option.{ok_or}
 use Rattle.bfs_model.specs.Items.{Fault, ◌>>=◌, word_at, boolean_at, fixed_at, opaque_at}
-use Rattle.bfs_model.specs.Limits.{longest_name, longest_path, most_data}
+use Rattle.bfs_model.specs.Limits.{most_name_bytes, most_path_bytes, most_data_bytes}
 use Rattle.bfs_model.specs.Tree.{Time, Entry, Inodes}
 use Rattle.bfs_model.specs.Attributes.{FileType, regular, directory_type, symbolic_link, Attributes, block_size, blocks_of, transfer_size, total_blocks}
 use Rattle.bfs_model.specs.Arguments.{Call, handle_id, arguments_of}
@@ -248,20 +248,20 @@ found_arm bytes = do
 
 unfoldable pub path_arm : List ℕ → Reading Reply
 path_arm bytes = do
-  (target, rest) ← text_at longest_path bytes
+  (target, rest) ← text_at most_path_bytes bytes
   Ok (path target, rest)
 
 unfoldable pub contents_arm : List ℕ → Reading Reply
 contents_arm bytes = do
   (of, rest) ← attributes_told_at bytes
-  (read, rest) ← text_at most_data rest
+  (read, rest) ← text_at most_data_bytes rest
   Ok (contents of read, rest)
 
 -- an entry of a chain: fileid, name, and the four bytes of its cookie, as a number
 unfoldable pub entry_told_at : List ℕ → Reading Entry
 entry_told_at bytes = do
   (child, rest) ← number_at bytes
-  (name, rest) ← text_at longest_name rest
+  (name, rest) ← text_at most_name_bytes rest
   (cookie, rest) ← number_at rest
   Ok (record { cookie = cookie; name = name; child = child }, rest)
 
@@ -331,7 +331,7 @@ pub record AttributesAreSpellable (of : Attributes) : Type 0 where
 
 pub record EntryIsSpellable (entry : Entry) : Type 0 where
   pub child : IsWord entry.child
-  pub name : length entry.name ≤ longest_name
+  pub name : length entry.name ≤ most_name_bytes
   pub cookie : IsWord entry.cookie
 
 -- a reply's numbers, names, path and data are within what its items hold
@@ -341,8 +341,8 @@ FitsItems (refused status) = Unit {0}
 FitsItems done = Unit {0}
 FitsItems (attributes of) = AttributesAreSpellable of
 FitsItems (found file of) = IsWord file × AttributesAreSpellable of
-FitsItems (path target) = length target ≤ longest_path
-FitsItems (contents of read) = AttributesAreSpellable of × (length read ≤ most_data)
+FitsItems (path target) = length target ≤ most_path_bytes
+FitsItems (contents of read) = AttributesAreSpellable of × (length read ≤ most_data_bytes)
 FitsItems (listed entries all) = All EntryIsSpellable entries
 FitsItems (free_blocks free) = IsWord free
 

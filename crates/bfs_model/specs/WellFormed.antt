@@ -1,7 +1,7 @@
 -- What holds of every live file system.
 use Rattle.std.specs.Prelude.{◌≡◌, ℕ, ◌+◌, ◌==◌, ◌<◌, ◌≤◌, IsTrue, IsFalse, List, [], ◌∷◌, length, Option, Some, None, is_some, sum_by, if◌then◌else◌}
 use Rattle.std.specs.FinMap.{get, entries}
-use Rattle.bfs_model.specs.Limits.{most_bytes, longest_name, longest_path, most_entries, most_links}
+use Rattle.bfs_model.specs.Limits.{most_file_bytes, most_name_bytes, most_path_bytes, most_entries, most_links}
 use Rattle.bfs_model.specs.Tree.{Entry, Body, file, directory, link, Inode, Inodes, FileSystem, root_id, first_ordinal, spent_ordinal, is_directory_body, is_directory, entries_in, entries_at, parent_of}
 use Rattle.bfs_model.specs.Directories.{is_bad_name, entry_named}
 
@@ -51,13 +51,18 @@ IsRising least (entry ∷ entries) ordinal = (least ≤ entry.cookie) × (entry.
 -- names are good ones, and differ
 abbrev pub HasNames : List Entry → Type 0
 HasNames [] = Unit {0}
-HasNames (entry ∷ entries) = IsFalse (is_bad_name entry.name) × (length entry.name ≤ longest_name) × (entry_named entry.name entries ≡ None) × HasNames entries
+HasNames (entry ∷ entries) = IsFalse (is_bad_name entry.name) × (length entry.name ≤ most_name_bytes) × (entry_named entry.name entries ≡ None) × HasNames entries
+
+-- no two entries have one name
+abbrev pub NamesDiffer : List Entry → Type 0
+NamesDiffer [] = Unit {0}
+NamesDiffer (entry ∷ entries) = (entry_named entry.name entries ≡ None) × NamesDiffer entries
 
 abbrev pub BodyIsWithin : (ordinal id links : ℕ) → Body → Type 0
-BodyIsWithin ordinal id links (file bytes) = (1 ≤ links) × (length bytes ≤ most_bytes)
+BodyIsWithin ordinal id links (file bytes) = (1 ≤ links) × (length bytes ≤ most_file_bytes)
 BodyIsWithin ordinal id links (directory listing) =
     (length listing.entries ≤ most_entries) × IsRising first_ordinal listing.entries ordinal × HasNames listing.entries × (id ≡ root_id → listing.parent ≡ root_id)
-BodyIsWithin ordinal id links (link path) = (1 ≤ links) × (length path ≤ longest_path)
+BodyIsWithin ordinal id links (link path) = (1 ≤ links) × (length path ≤ most_path_bytes)
 
 -- an inode is within the limits: its fileid is the root's or the ordinal of an earlier request, as are cookies
 pub record IsWithin (ordinal id : ℕ) (inode : Inode) : Type 0 where
@@ -67,9 +72,9 @@ pub record IsWithin (ordinal id : ℕ) (inode : Inode) : Type 0 where
 
 -- The limits that a tree has by itself, whatever the ordinals of its file system: cookies rise, and are ordinals
 abbrev pub BodyIsLimited : (links : ℕ) → Body → Type 0
-BodyIsLimited links (file bytes) = (1 ≤ links) × (length bytes ≤ most_bytes)
+BodyIsLimited links (file bytes) = (1 ≤ links) × (length bytes ≤ most_file_bytes)
 BodyIsLimited links (directory listing) = (length listing.entries ≤ most_entries) × IsRising 0 listing.entries spent_ordinal × HasNames listing.entries
-BodyIsLimited links (link path) = (1 ≤ links) × (length path ≤ longest_path)
+BodyIsLimited links (link path) = (1 ≤ links) × (length path ≤ most_path_bytes)
 
 pub record IsLimited (inode : Inode) : Type 0 where
   pub links : inode.links ≤ most_links

@@ -2,7 +2,7 @@ ghost use Rattle.std.specs.Prelude.{◌≡◌, ◌<◌, ◌≤◌, ◌∷◌, �
 ghost use Rattle.std.specs.Option.{option_map};
 ghost use Rattle.std.specs.Result.{result_err};
 ghost use Rattle.std.specs.List.{AllByRecursion};
-ghost use Rattle.bfs_model.specs.Limits.{longest_name, most_bytes, most_entries};
+ghost use Rattle.bfs_model.specs.Limits.{most_name_bytes, most_file_bytes, most_entries};
 ghost use Rattle.bfs_model.specs.Attributes.{attributes_of};
 ghost use Rattle.bfs_model.specs.Replies as replies;
 ghost use Rattle.bfs_model.specs.Replies.{fbig};
@@ -55,7 +55,7 @@ pub(crate) fn create<S: Store>(
     settings: &Settings,
 ) -> Result<NfsReply, Memory>
     requires owned { AllByRecursion (λ id. IsTrue ((S.reach store.old).owned id)) (ids_in dir ++ new_ids context.ordinal) }
-    requires short { length name.now ≤ longest_name }
+    requires short { length name.now ≤ most_name_bytes }
     ensures done { IfOk result (λ reply. (S.inodes store.new, reply_of reply) ≡ file_created (S.inodes store.old) context.ordinal context.time context.caller dir name.now settings.now) }
     ensures reach { S.reach store.new ≡ S.reach store.old }
 {
@@ -104,11 +104,11 @@ fn new_file_id(
     name: &[u8],
     size: Option<u32>,
 ) -> Result<FileId, Status>
-    ensures refused { option_map status_of (result_err result) ≡ first_of (new_name_refusals ordinal directory.now name.now ++ (nat_lt most_bytes (unwrap_or size 0), fbig) ∷ []) }
+    ensures refused { option_map status_of (result_err result) ≡ first_of (new_name_refusals ordinal directory.now name.now ++ (nat_lt most_file_bytes (unwrap_or size 0), fbig) ∷ []) }
     ensures value { IfOk result (λ id. id ≡ ordinal) }
     ensures new { IfOk result (λ id. id < spent_ordinal) }
     ensures room { IfOk result (λ id. length directory.now.entries < most_entries) }
-    ensures small { IfOk result (λ id. unwrap_or size 0 ≤ most_bytes) }
+    ensures small { IfOk result (λ id. unwrap_or size 0 ≤ most_file_bytes) }
 {
     let id = new_name(ordinal, directory, name)?;
     if size.unwrap_or(0) as usize > MOST_BYTES {

@@ -2,7 +2,7 @@ ghost use Rattle.std.specs.Prelude.{◌≡◌, ◌+◌, ◌≤◌, ◌∷◌, []
 ghost use Rattle.std.specs.Option.{ForSome, option_map};
 ghost use Rattle.std.specs.Result.{result_map_both};
 ghost use Rattle.bfs_model.specs.Bytes as model;
-ghost use Rattle.bfs_model.specs.Limits.{most_bytes, most_data};
+ghost use Rattle.bfs_model.specs.Limits.{most_file_bytes, most_data_bytes};
 ghost use Rattle.bfs_model.specs.Procedures.OfFiles.{file_read, file_written};
 ghost use Rattle.bfs_wire.specs.Replies.{reply_of, status_of};
 ghost use Rattle.bfs_procs.specs.Files.{file_bytes};
@@ -85,7 +85,7 @@ fn file_bytes(inode: &Inode) -> Result<&[u8], Status>
 
 // whether bytes that are written at that offset would make a file too large
 fn is_past_limit(offset: u32, bytes: &[u8]) -> bool
-    ensures { result ≡ nat_lt most_bytes (offset + length bytes.now) }
+    ensures { result ≡ nat_lt most_file_bytes (offset + length bytes.now) }
 {
     offset as usize + bytes.len() > MOST_BYTES
 }
@@ -93,7 +93,7 @@ fn is_past_limit(offset: u32, bytes: &[u8]) -> bool
 // those that a READ gives
 fn bytes_from(bytes: &[u8], offset: u32, count: u32) -> &[u8]
     ensures value { result.now ≡ model.bytes_from offset count bytes.now }
-    ensures short { length result.now ≤ most_data }
+    ensures short { length result.now ≤ most_data_bytes }
 {
     let start = bytes.len().min(offset as usize);
     let rest = &bytes[start..];

@@ -2,7 +2,7 @@ ghost use Rattle.std.specs.Prelude.{◌≡◌, ◌<◌, ◌≤◌, ◌∷◌, []
 ghost use Rattle.std.specs.Option.{ForSome, option_map};
 ghost use Rattle.std.specs.Result.{result_err};
 ghost use Rattle.std.specs.List.{AllByRecursion};
-ghost use Rattle.bfs_model.specs.Limits.{longest_name, longest_path, most_entries, most_links};
+ghost use Rattle.bfs_model.specs.Limits.{most_name_bytes, most_path_bytes, most_entries, most_links};
 ghost use Rattle.bfs_model.specs.Replies.{nospc};
 ghost use Rattle.bfs_model.specs.Tree.{spent_ordinal};
 ghost use Rattle.bfs_model.specs.Steps.{first_of};
@@ -53,7 +53,7 @@ pub(crate) fn link<S: Store>(
     name: &[u8],
 ) -> Result<NfsReply, Memory>
     requires owned { AllByRecursion (λ id. IsTrue ((S.reach store.old).owned id)) (ids_in file ++ ids_in dir) }
-    requires short { length name.now ≤ longest_name }
+    requires short { length name.now ≤ most_name_bytes }
     ensures done { IfOk result (λ reply. (S.inodes store.new, reply_of reply) ≡ link_made (S.inodes store.old) context.ordinal context.time file dir name.now) }
     ensures reach { S.reach store.new ≡ S.reach store.old }
 {
@@ -91,8 +91,8 @@ pub(crate) fn make_symbolic_link<S: Store>(
     settings: &Settings,
 ) -> Result<NfsReply, Memory>
     requires owned { AllByRecursion (λ id. IsTrue ((S.reach store.old).owned id)) (ids_in dir ++ new_ids context.ordinal) }
-    requires short { length name.now ≤ longest_name }
-    requires short_path { length path.now ≤ longest_path }
+    requires short { length name.now ≤ most_name_bytes }
+    requires short_path { length path.now ≤ most_path_bytes }
     ensures done { IfOk result (λ reply. (S.inodes store.new, reply_of reply) ≡ symbolic_link_made (S.inodes store.old) context.ordinal context.time context.caller dir name.now path.now settings.now) }
     ensures reach { S.reach store.new ≡ S.reach store.old }
 {

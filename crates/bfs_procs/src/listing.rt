@@ -1,6 +1,6 @@
 ghost use Rattle.std.specs.Prelude.{◌≡◌, ◌≤◌, length, IfOk, IsTrue};
 ghost use Rattle.std.specs.Option.{ForSome};
-ghost use Rattle.bfs_model.specs.Limits.{longest_name};
+ghost use Rattle.bfs_model.specs.Limits.{most_name_bytes};
 ghost use Rattle.bfs_model.specs.Replies as replies;
 ghost use Rattle.bfs_model.specs.Procedures.OfListing.{directory_read};
 ghost use Rattle.bfs_inode.specs.Pages.{listed_of};
@@ -44,7 +44,7 @@ fn list(alloc: Global, mut page: Page) -> Result<NfsReply, Memory>
 }
 
 fn entry_of(alloc: Global, listed: &Listed) -> Result<ListedEntry, Memory>
-    requires { length listed.now.name.now ≤ longest_name }
+    requires { length listed.now.name.now ≤ most_name_bytes }
     ensures { IfOk result (λ entry. entry ≡ listed_of listed.now) }
 {
     Ok(ListedEntry {

@@ -1,6 +1,6 @@
 ghost use Rattle.std.specs.Prelude.{◌≡◌, ◌≤◌, ◌++◌, length, IfOk, IsTrue};
 ghost use Rattle.std.specs.List.{AllByRecursion};
-ghost use Rattle.bfs_model.specs.Limits.{longest_name};
+ghost use Rattle.bfs_model.specs.Limits.{most_name_bytes};
 ghost use Rattle.bfs_model.specs.Touched.{ids_in, new_ids};
 ghost use Rattle.bfs_model.specs.Procedures.OfDirectories.{directory_made};
 ghost use Rattle.bfs_wire.specs.Replies.{reply_of};
@@ -27,7 +27,7 @@ pub(crate) fn make_directory<S: Store>(
     settings: &Settings,
 ) -> Result<NfsReply, Memory>
     requires owned { AllByRecursion (λ id. IsTrue ((S.reach store.old).owned id)) (ids_in dir ++ new_ids context.ordinal) }
-    requires short { length name.now ≤ longest_name }
+    requires short { length name.now ≤ most_name_bytes }
     ensures done { IfOk result (λ reply. (S.inodes store.new, reply_of reply) ≡ directory_made (S.inodes store.old) context.ordinal context.time context.caller dir name.now settings.now) }
     ensures reach { S.reach store.new ≡ S.reach store.old }
 {

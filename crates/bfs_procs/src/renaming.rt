@@ -1,6 +1,6 @@
 ghost use Rattle.std.specs.Prelude.{◌≡◌, ◌≤◌, length, IfOk};
 ghost use Rattle.bfs_model.specs.Arguments as model;
-ghost use Rattle.bfs_model.specs.Limits.{longest_name};
+ghost use Rattle.bfs_model.specs.Limits.{most_name_bytes};
 ghost use Rattle.bfs_model.specs.Procedures.Renaming.{entry_renamed};
 ghost use Rattle.bfs_model.specs.Touched.{footprint};
 ghost use Rattle.bfs_tree.specs.Reach.{Knows};
@@ -29,7 +29,7 @@ pub(crate) fn rename<S: Store>(
     to_name: &[u8],
 ) -> Result<NfsReply, Memory>
     requires known { Knows (S.reach store.old) (footprint (S.inodes store.old) context.ordinal (model.rename from from_name.now to to_name.now)) }
-    requires short { length to_name.now ≤ longest_name }
+    requires short { length to_name.now ≤ most_name_bytes }
     ensures done { IfOk result (λ reply. (S.inodes store.new, reply_of reply) ≡ entry_renamed (S.inodes store.old) context.ordinal context.time from from_name.now to to_name.now) }
     ensures reach { S.reach store.new ≡ S.reach store.old }
 {

@@ -2,7 +2,7 @@
 ghost use Rattle.std.specs.Prelude.{◌≡◌, ◌<◌, ◌≤◌, length, IsTrue, IfOk};
 ghost use Rattle.std.specs.Option.{ForSome};
 ghost use Rattle.std.specs.FinMap.{get, insert};
-ghost use Rattle.bfs_model.specs.Limits.{longest_name, most_entries, most_links};
+ghost use Rattle.bfs_model.specs.Limits.{most_name_bytes, most_entries, most_links};
 ghost use Rattle.bfs_model.specs.Changes.{changed, link_lost, with_ctime, with_entry, with_link, with_link_less, with_parent, without_entry};
 ghost use Rattle.bfs_model.specs.Procedures.OfFiles.{entry_made};
 ghost use Rattle.bfs_model.specs.Tree.{entries_at};
@@ -35,7 +35,7 @@ pub(crate) fn add_entry<S: Store>(
 ) -> Result<(), Memory>
     requires owned { IsTrue ((S.reach store.old).owned dir) }
     requires room { length (entries_at (get (S.inodes store.old) dir)) < most_entries }
-    requires short { length name.now ≤ longest_name }
+    requires short { length name.now ≤ most_name_bytes }
     ensures done { IfOk result (λ _. S.inodes store.new ≡ changed (S.inodes store.old) dir (with_entry now (entry_made cookie name.now child))) }
     ensures reach { S.reach store.new ≡ S.reach store.old }
 {

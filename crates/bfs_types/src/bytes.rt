@@ -1,6 +1,7 @@
 ghost use Rattle.std.specs.Prelude.{◌≡◌, ◌+◌, ◌<◌, ◌≤◌, ◌^◌, ◌++◌, length, take, drop, replicate, IfOk, OnOk, OnErr};
 ghost use Rattle.bfs_model.specs.Bytes.{filled_to, overwritten, resized};
 
+use crate::limits::{MOST_NAME_BYTES, MOST_PATH_BYTES};
 use crate::memory::Memory;
 use std::alloc::{AllocError, Global};
 use std::marker::Model;
@@ -12,10 +13,10 @@ pub struct Bytes<const MOST: usize> {
 }
 
 /// A name in a directory: at most 255 bytes (RFC 1094 section 2.3.9, filename).
-pub type Name = Bytes<255>;
+pub type Name = Bytes<MOST_NAME_BYTES>;
 
 /// The path that a symbolic link holds: at most 1,024 bytes (RFC 1094 section 2.3.10, path).
-pub type LinkPath = Bytes<1024>;
+pub type LinkPath = Bytes<MOST_PATH_BYTES>;
 
 impl<const MOST: usize> Model for Bytes<MOST> {
     ghost use Rattle.std.specs.Prelude.{ℕ, List, ◌≤◌, length};

@@ -6,6 +6,7 @@ mod attributes;
 mod bytes;
 mod cred;
 mod file_id;
+mod limits;
 mod memory;
 mod ordinal;
 mod settings;
@@ -15,6 +16,10 @@ pub use attributes::{Attributes, FileType};
 pub use bytes::{Bytes, LinkPath, Name};
 pub use cred::Cred;
 pub use file_id::FileId;
+pub use limits::{
+    MOST_DATA_BYTES, MOST_ENTRIES, MOST_FILE_BYTES, MOST_LINKS, MOST_NAME_BYTES, MOST_PATH_BYTES,
+    MOST_REPLY_BYTES, MOST_REQUEST_BYTES, MOST_REQUESTS, limits_are_those_of_the_model,
+};
 pub use memory::Memory;
 pub use ordinal::Ordinal;
 pub use settings::{SetTime, Settings};

@@ -4,7 +4,7 @@ ghost use Rattle.std.specs.Option.{option_map};
 ghost use Rattle.std.specs.Result.{result_ok};
 ghost use Rattle.bfs_model.specs.Arguments as model;
 ghost use Rattle.bfs_model.specs.Items.{opaque_at, word_at};
-ghost use Rattle.bfs_model.specs.Limits.{longest_name, longest_path, most_data};
+ghost use Rattle.bfs_model.specs.Limits.{most_name_bytes, most_path_bytes, most_data_bytes};
 
 use crate::handle::handle_id;
 use bfs_types::{FileId, SetTime, Settings};
@@ -84,7 +84,7 @@ impl<'a> Arguments<'a> {
     // a name (RFC 1094 section 2.3.9)
     pub(crate) fn name(&mut self) -> Option<&'a [u8]>
         ensures value { option_map (λ name. (name.now, self.new)) result ≡ model.name_at self.old }
-        ensures short { IfSome result (λ name. length name.now ≤ longest_name) }
+        ensures short { IfSome result (λ name. length name.now ≤ most_name_bytes) }
     {
         self.opaque(MAX_NAME)
     }
@@ -92,7 +92,7 @@ impl<'a> Arguments<'a> {
     // a path (RFC 1094 section 2.3.10)
     pub(crate) fn path(&mut self) -> Option<&'a [u8]>
         ensures value { option_map (λ path. (path.now, self.new)) result ≡ model.path_at self.old }
-        ensures short { IfSome result (λ path. length path.now ≤ longest_path) }
+        ensures short { IfSome result (λ path. length path.now ≤ most_path_bytes) }
     {
         self.opaque(MAX_PATH)
     }
@@ -100,7 +100,7 @@ impl<'a> Arguments<'a> {
     // a file's bytes (RFC 1094 section 2.3.11)
     pub(crate) fn data(&mut self) -> Option<&'a [u8]>
         ensures value { option_map (λ bytes. (bytes.now, self.new)) result ≡ model.data_at self.old }
-        ensures short { IfSome result (λ bytes. length bytes.now ≤ most_data) }
+        ensures short { IfSome result (λ bytes. length bytes.now ≤ most_data_bytes) }
     {
         self.opaque(MAX_DATA)
     }

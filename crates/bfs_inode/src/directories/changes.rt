@@ -1,5 +1,5 @@
 ghost use Rattle.std.specs.Prelude.{◌≡◌, ◌<◌, ◌≤◌, [], ◌∷◌, ◌++◌, length, position, bytes_eq, OnOk, OnErr};
-ghost use Rattle.bfs_model.specs.Limits.{longest_name, most_entries};
+ghost use Rattle.bfs_model.specs.Limits.{most_name_bytes, most_entries};
 ghost use Rattle.bfs_model.specs.Directories.{entry_named, without_name};
 
 use crate::directories::{Directory, Entry};
@@ -10,7 +10,7 @@ impl Directory {
     /// room for it.
     pub fn add(&mut self, cookie: u32, name: &[u8], child: FileId) -> Result<(), Memory>
         requires room { length self.old.entries < most_entries }
-        requires short { length name.now ≤ longest_name }
+        requires short { length name.now ≤ most_name_bytes }
         ensures ok { OnOk result (self.new ≡ record self.old { entries = self.old.entries ++ (record { cookie = cookie; name = name.now; child = child }) ∷ [] }) }
         ensures err { OnErr result (self.new ≡ self.old) }
     {

@@ -1,6 +1,6 @@
 ghost use Rattle.std.specs.Prelude.{◌≡◌, ◌+◌, ◌<◌, ◌≤◌, ◌==◌, [], ◌∷◌, length, drop, slice_get, MatchOption, IfSome};
 ghost use Rattle.bfs_model.specs.Tree as model;
-ghost use Rattle.bfs_model.specs.Limits.{longest_name, most_entries};
+ghost use Rattle.bfs_model.specs.Limits.{most_name_bytes, most_entries};
 ghost use Rattle.bfs_model.specs.Directories.{all_listed, listed_behind, listed_size, page_of};
 ghost use Rattle.bfs_inode.specs.Pages.{listed_of};
 
@@ -71,7 +71,7 @@ impl<'a> Page<'a> {
     pub fn next_entry(&mut self) -> Option<Listed<'a>>
         ensures taken { MatchOption result ((self.old.listed ≡ []) × (self.new.listed ≡ [])) (λ listed. self.old.listed ≡ listed_of listed ∷ self.new.listed) }
         ensures all { self.new.all ≡ self.old.all }
-        ensures short { IfSome result (λ listed. length listed.name.now ≤ longest_name) }
+        ensures short { IfSome result (λ listed. length listed.name.now ≤ most_name_bytes) }
     {
         let place = first_behind(self.directory, self.id, self.cookie, self.place)?;
         let listed = listed_at(self.directory, self.id, place);
@@ -95,7 +95,7 @@ impl<'a> Page<'a> {
 
 // the bytes that it takes in a reply
 fn size_listed(listed: &Listed) -> u32
-    requires { length listed.now.name.now ≤ longest_name }
+    requires { length listed.now.name.now ≤ most_name_bytes }
     ensures { result ≡ listed_size (listed_of listed.now) }
 {
     let length = listed.name.len() as u32;
@@ -106,7 +106,7 @@ fn size_listed(listed: &Listed) -> u32
 fn listed_at(directory: &Directory, id: FileId, place: usize) -> Listed<'_>
     requires { place < length (all_listed id directory.now) }
     ensures value { slice_get (all_listed id directory.now) place ≡ Some (listed_of result) }
-    ensures short { length result.name.now ≤ longest_name }
+    ensures short { length result.name.now ≤ most_name_bytes }
 {
     match place {
         0 => Listed {
@@ -125,7 +125,7 @@ fn listed_at(directory: &Directory, id: FileId, place: usize) -> Listed<'_>
 
 fn listed_entry(entry: &Entry) -> Listed<'_>
     ensures value { listed_of result ≡ entry.now }
-    ensures short { length result.name.now ≤ longest_name }
+    ensures short { length result.name.now ≤ most_name_bytes }
 {
     Listed {
         cookie: entry.cookie,

@@ -1,7 +1,7 @@
 ghost use Rattle.std.specs.Prelude.{◌≡◌, ◌+◌, ◌<◌, ◌≤◌, length, OnOk, OnErr, IsSome};
 ghost use Rattle.std.specs.Option.{ForSome};
 ghost use Rattle.bfs_model.specs.Tree.{listing_in};
-ghost use Rattle.bfs_model.specs.Limits.{longest_name, most_bytes, most_entries, most_links};
+ghost use Rattle.bfs_model.specs.Limits.{most_name_bytes, most_file_bytes, most_entries, most_links};
 ghost use Rattle.bfs_model.specs.Changes.{touched, with_bytes, with_ctime, with_entry, with_link, with_link_less, with_parent, with_settings, without_entry};
 ghost use Rattle.bfs_inode.specs.Inodes.{file_in};
 
@@ -12,7 +12,7 @@ impl Inode {
     /// Sets what SETATTR sets (RFC 1094 section 2.2.3). `Memory`, and nothing changes, where there is no room for a file's
     /// new size.
     pub fn set_attributes(&mut self, now: Time, settings: &Settings) -> Result<(), Memory>
-        requires { ForSome settings.now.size (λ size. IsSome (file_in self.old.body) → size ≤ most_bytes) }
+        requires { ForSome settings.now.size (λ size. IsSome (file_in self.old.body) → size ≤ most_file_bytes) }
         ensures ok { OnOk result (self.new ≡ with_settings now settings.now self.old) }
         ensures err { OnErr result (self.new ≡ self.old) }
     {
@@ -32,7 +32,7 @@ impl Inode {
     /// Writes into a file from an offset on, as WRITE does (RFC 1094 section 2.2.9); the times change of any inode. `Memory`,
     /// and nothing changes, where there is no room to grow.
     pub fn write(&mut self, now: Time, offset: u32, bytes: &[u8]) -> Result<(), Memory>
-        requires { offset + length bytes.now ≤ most_bytes }
+        requires { offset + length bytes.now ≤ most_file_bytes }
         ensures ok { OnOk result (self.new ≡ with_bytes now offset bytes.now self.old) }
         ensures err { OnErr result (self.new ≡ self.old) }
     {
@@ -51,7 +51,7 @@ impl Inode {
         child: FileId,
     ) -> Result<(), Memory>
         requires room { ForSome (listing_in self.old.body) (λ listing. length listing.entries < most_entries) }
-        requires short { length name.now ≤ longest_name }
+        requires short { length name.now ≤ most_name_bytes }
         ensures ok { OnOk result (self.new ≡ with_entry now (record { cookie = cookie; name = name.now; child = child }) self.old) }
         ensures err { OnErr result (self.new ≡ self.old) }
     {

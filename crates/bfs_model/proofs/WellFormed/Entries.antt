@@ -5,7 +5,7 @@ use Rattle.std.proofs.lemmas.Bool.{both_ways, false_from_ne_true}
 use Rattle.std.proofs.lemmas.List.Folds.{find-append}
 use Rattle.std.proofs.lemmas.Slice.Eq.{bytes_eq-Decides}
 use Rattle.bfs_model.specs.Tree.{Entry}
-use Rattle.bfs_model.specs.Limits.{longest_name}
+use Rattle.bfs_model.specs.Limits.{most_name_bytes}
 use Rattle.bfs_model.specs.Directories.{is_bad_name, entry_named, without_name}
 use Rattle.bfs_model.specs.WellFormed.{IsRising, HasNames}
 
@@ -55,7 +55,7 @@ none_named name entry entries e = none_further (bytes_eq entry.name name) entry 
 named_pushed : (name : List ℕ) (entries : List Entry) (last : Entry) → entry_named name entries ≡ None → bytes_eq last.name name ≡ false → entry_named name (entries ++ last ∷ []) ≡ None
 named_pushed name entries last none other = find-append (λ (entry : Entry). bytes_eq entry.name name) entries (last ∷ []) ∙ rw (none, other) refl
 
-pub names_pushed : (entries : List Entry) (last : Entry) → IsFalse (is_bad_name last.name) → length last.name ≤ longest_name → entry_named last.name entries ≡ None → HasNames entries → HasNames (entries ++ last ∷ [])
+pub names_pushed : (entries : List Entry) (last : Entry) → IsFalse (is_bad_name last.name) → length last.name ≤ most_name_bytes → entry_named last.name entries ≡ None → HasNames entries → HasNames (entries ++ last ∷ [])
 names_pushed [] last good short none h = (good, short, refl, tt)
 names_pushed (entry ∷ entries) last good short none h =
     let parts = none_named last.name entry entries none in

@@ -4,7 +4,7 @@ use Rattle.std.specs.Prelude.{◌==◌}
 use Rattle.std.specs.FinMap.{get}
 use Rattle.std.proofs.lemmas.Bool.{ltb-false}
 use Rattle.std.proofs.lemmas.List.{length-append, length-take, length-drop}
-use Rattle.bfs_model.specs.Limits.{most_bytes, longest_name, most_entries, most_links}
+use Rattle.bfs_model.specs.Limits.{most_file_bytes, most_name_bytes, most_entries, most_links}
 use Rattle.bfs_model.specs.Tree.{Time, Body, file, directory, link, Inode, Inodes, root_id, first_ordinal, spent_ordinal, is_directory_body, entries_in}
 use Rattle.bfs_model.specs.Arguments.{Settings}
 use Rattle.bfs_model.specs.Call.{Credential}
@@ -56,7 +56,7 @@ pub record HasRoom (name : List ℕ) (x : Inode) : Type 0 where
   pub fewer : length (entries_in x.body) < most_entries
   pub free : entry_named name (entries_in x.body) ≡ None
 
-entry_body : (o n id links : ℕ) (name : List ℕ) (child : ℕ) (body : Body) → first_ordinal ≤ o → o < n → IsFalse (is_bad_name name) → length name ≤ longest_name
+entry_body : (o n id links : ℕ) (name : List ℕ) (child : ℕ) (body : Body) → first_ordinal ≤ o → o < n → IsFalse (is_bad_name name) → length name ≤ most_name_bytes
     → length (entries_in body) < most_entries → entry_named name (entries_in body) ≡ None
     → BodyIsWithin o id links body → BodyIsWithin n id links (with_listing (λ listing. record listing { entries = listing.entries ++ entry_made o name child ∷ [] }) body)
 entry_body o n id links name child (file bytes) first lt good short fewer free h = h
@@ -68,7 +68,7 @@ entry_body o n id links name child (directory listing) first lt good short fewer
 )
 entry_body o n id links name child (link path) first lt good short fewer free h = h
 
-pub entry_within : (o n id : ℕ) (now : Time) (name : List ℕ) (child : ℕ) (x : Inode) → first_ordinal ≤ o → o < n → IsFalse (is_bad_name name) → length name ≤ longest_name
+pub entry_within : (o n id : ℕ) (now : Time) (name : List ℕ) (child : ℕ) (x : Inode) → first_ordinal ≤ o → o < n → IsFalse (is_bad_name name) → length name ≤ most_name_bytes
     → HasRoom name x → IsWithin o id x → IsWithin n id (with_entry now (entry_made o name child) x)
 entry_within o n id now name child x first lt good short room h = let below : id < o = h.fileid.1 in record {
   fileid = (h.fileid.0, omega arith);
@@ -134,23 +134,23 @@ ctime_within o id now x h = record { fileid = h.fileid; links = h.links; body = 
 resized_most : (size : ℕ) (bytes : List ℕ) → length (resized size bytes) ≤ size
 resized_most size bytes = omega (arith, length-take size (bytes ++ replicate (size - length bytes) 0))
 
-overwritten_by : (test : Bool) (front written back bytes : List ℕ) (offset : ℕ) → length front ≤ offset → length back ≡ length bytes - (offset + length written) → length bytes ≤ most_bytes → offset + length written ≤ most_bytes
-    → length (cond test bytes (front ++ written ++ back)) ≤ most_bytes
+overwritten_by : (test : Bool) (front written back bytes : List ℕ) (offset : ℕ) → length front ≤ offset → length back ≡ length bytes - (offset + length written) → length bytes ≤ most_file_bytes → offset + length written ≤ most_file_bytes
+    → length (cond test bytes (front ++ written ++ back)) ≤ most_file_bytes
 overwritten_by true front written back bytes offset before after most end = most
 overwritten_by false front written back bytes offset before after most end = simp (length-append {A = ℕ}) (omega arith)
 
-overwritten_most : (offset : ℕ) (written bytes : List ℕ) → length bytes ≤ most_bytes → offset + length written ≤ most_bytes → length (overwritten offset written bytes) ≤ most_bytes
+overwritten_most : (offset : ℕ) (written bytes : List ℕ) → length bytes ≤ most_file_bytes → offset + length written ≤ most_file_bytes → length (overwritten offset written bytes) ≤ most_file_bytes
 overwritten_most offset written bytes most end =
     overwritten_by (length written == 0) (take offset (filled_to offset bytes)) written (drop (offset + length written) bytes) bytes offset
     (omega (arith, length-take offset (filled_to offset bytes))) (length-drop (offset + length written) bytes) most end
 
-overwritten_within : (o id links offset : ℕ) (written : List ℕ) (body : Body) → offset + length written ≤ most_bytes
+overwritten_within : (o id links offset : ℕ) (written : List ℕ) (body : Body) → offset + length written ≤ most_file_bytes
     → BodyIsWithin o id links body → BodyIsWithin o id links (overwritten_body offset written body)
 overwritten_within o id links offset written (file bytes) end h = (h.0, overwritten_most offset written bytes h.1 end)
 overwritten_within o id links offset written (directory listing) end h = h
 overwritten_within o id links offset written (link path) end h = h
 
-pub bytes_within : (o id : ℕ) (now : Time) (offset : ℕ) (written : List ℕ) (x : Inode) → offset + length written ≤ most_bytes → IsWithin o id x → IsWithin o id (with_bytes now offset written x)
+pub bytes_within : (o id : ℕ) (now : Time) (offset : ℕ) (written : List ℕ) (x : Inode) → offset + length written ≤ most_file_bytes → IsWithin o id x → IsWithin o id (with_bytes now offset written x)
 bytes_within o id now offset written x end h = record {
   fileid = h.fileid;
   links = h.links;
@@ -158,7 +158,7 @@ bytes_within o id now offset written x end h = record {
 }
 
 resized_within : (o id links size : ℕ) (body : Body) → AllPassed (size_refusals body (Some size)) → BodyIsWithin o id links body → BodyIsWithin o id links (resized_body size body)
-resized_within o id links size (file bytes) passed h = let most : size ≤ most_bytes = ltb-false most_bytes size passed.0 in (h.0, omega (arith, resized_most size bytes))
+resized_within o id links size (file bytes) passed h = let most : size ≤ most_file_bytes = ltb-false most_file_bytes size passed.0 in (h.0, omega (arith, resized_most size bytes))
 resized_within o id links size (directory listing) passed h = h
 resized_within o id links size (link path) passed h = h
 

@@ -5,7 +5,7 @@ use Rattle.std.specs.Option.{option_map_or}
 use Rattle.std.specs.FinMap.{get, insert, remove}
 use Rattle.std.proofs.lemmas.Bool.{both_ways, leb-false, ltb-false}
 use Rattle.std.proofs.lemmas.List.{length-replicate}
-use Rattle.bfs_model.specs.Limits.{most_bytes, longest_name, longest_path, most_entries, most_links}
+use Rattle.bfs_model.specs.Limits.{most_file_bytes, most_name_bytes, most_path_bytes, most_entries, most_links}
 use Rattle.bfs_model.specs.Tree.{Time, Listing, Body, file, directory, link, Inode, Inodes, first_ordinal, spent_ordinal, is_directory_body, entries_in}
 use Rattle.bfs_model.specs.Call.{Credential}
 use Rattle.bfs_model.specs.Arguments.{Settings}
@@ -50,33 +50,33 @@ attributes_set_within m n within t handle settings =
 pub file_written_within : (m : Inodes) (n : ℕ) → AreWithin m n → (t : Time) (handle : Option ℕ) (offset : ℕ) (written : List ℕ) → AreWithin (file_written m t handle offset written).0 n
 file_written_within m n within t handle offset written =
     kept_file (λ after. AreWithin after n) m within handle _ (λ id x bytes there is.
-    kept_passed (λ after. AreWithin after n) m within ((nat_lt most_bytes (offset + length written), fbig) ∷ []) _ (λ passed.
-    each_inserted (IsWithin n) m within id (with_bytes t offset written x) (bytes_within n id t offset written x (ltb-false most_bytes (offset + length written) passed.0) (within id x there))))
+    kept_passed (λ after. AreWithin after n) m within ((nat_lt most_file_bytes (offset + length written), fbig) ∷ []) _ (λ passed.
+    each_inserted (IsWithin n) m within id (with_bytes t offset written x) (bytes_within n id t offset written x (ltb-false most_file_bytes (offset + length written) passed.0) (within id x there))))
 
 -- New names -----------------------------------------------------------------------------------------------------------------
 
 -- the directory with the new entry
-new_entry_within : (o n : ℕ) → Follows o n → (t : Time) (dir : ℕ) (x : Inode) (listing : Listing) (name : List ℕ) (child : ℕ) → length name ≤ longest_name → x.body ≡ directory listing
+new_entry_within : (o n : ℕ) → Follows o n → (t : Time) (dir : ℕ) (x : Inode) (listing : Listing) (name : List ℕ) (child : ℕ) → length name ≤ most_name_bytes → x.body ≡ directory listing
     → AllPassed (new_name_refusals o listing name) → IsWithin o dir x → IsWithin n dir (with_entry t (entry_made o name child) x)
 new_entry_within o n follows t dir x listing name child short is passed h =
     entry_within o n dir t name child x follows.first (follows.unspent passed.1.1.0) passed.0 short (room_for name x listing is passed.1.0 passed.1.1.1.0) h
 
-pub file_created_within : (m : Inodes) (o n : ℕ) → Follows o n → AreWithin m o → (t : Time) (caller : Credential) (handle : Option ℕ) (name : List ℕ) (settings : Settings) → length name ≤ longest_name
+pub file_created_within : (m : Inodes) (o n : ℕ) → Follows o n → AreWithin m o → (t : Time) (caller : Credential) (handle : Option ℕ) (name : List ℕ) (settings : Settings) → length name ≤ most_name_bytes
     → AreWithin (file_created m o t caller handle name settings).0 n
 file_created_within m o n follows within t caller handle name settings short =
     let kept : AreWithin m n = all_older m o n follows.before within in
-    let big : List (Bool × Status) = (nat_lt most_bytes (unwrap_or settings.size 0), fbig) ∷ [] in
+    let big : List (Bool × Status) = (nat_lt most_file_bytes (unwrap_or settings.size 0), fbig) ∷ [] in
     kept_directory (λ after. AreWithin after n) m kept handle _ (λ dir x listing there is.
     kept_passed (λ after. AreWithin after n) m kept (new_name_refusals o listing name ++ big) _ (λ passed.
     let rows = passed_front (new_name_refusals o listing name) big passed in
-    let size : unwrap_or settings.size 0 ≤ most_bytes = ltb-false most_bytes (unwrap_or settings.size 0) (passed_back (new_name_refusals o listing name) big passed).0 in
+    let size : unwrap_or settings.size 0 ≤ most_file_bytes = ltb-false most_file_bytes (unwrap_or settings.size 0) (passed_back (new_name_refusals o listing name) big passed).0 in
     let named = new_entry_within o n follows t dir x listing name o short is rows (within dir x there) in
     each_inserted (IsWithin n) (insert m dir (with_entry t (entry_made o name o) x)) (each_inserted (IsWithin n) m kept dir (with_entry t (entry_made o name o) x) named) o (new_file t caller settings)
     (new_within o n t caller settings (option_map_or permission_bits settings.mode 0o644) 1 (file (replicate (unwrap_or settings.size 0) 0)) follows.first (follows.unspent rows.1.1.0) (omega arith)
     (omega arith, omega (arith, length-replicate {A = ℕ} (unwrap_or settings.size 0) 0)))))
 
 pub symbolic_link_made_within : (m : Inodes) (o n : ℕ) → Follows o n → AreWithin m o → (t : Time) (caller : Credential) (handle : Option ℕ) (name target : List ℕ) (settings : Settings)
-    → length name ≤ longest_name → length target ≤ longest_path → AreWithin (symbolic_link_made m o t caller handle name target settings).0 n
+    → length name ≤ most_name_bytes → length target ≤ most_path_bytes → AreWithin (symbolic_link_made m o t caller handle name target settings).0 n
 symbolic_link_made_within m o n follows within t caller handle name target settings short short_target =
     let kept : AreWithin m n = all_older m o n follows.before within in
     kept_directory (λ after. AreWithin after n) m kept handle _ (λ dir x listing there is.
@@ -85,7 +85,7 @@ symbolic_link_made_within m o n follows within t caller handle name target setti
     each_inserted (IsWithin n) (insert m dir (with_entry t (entry_made o name o) x)) (each_inserted (IsWithin n) m kept dir (with_entry t (entry_made o name o) x) named) o (new_symbolic_link t caller settings target)
     (new_within o n t caller settings 0o777 1 (link target) follows.first (follows.unspent rows.1.1.0) (omega arith) (omega arith, short_target))))
 
-pub directory_made_within : (m : Inodes) (o n : ℕ) → Follows o n → AreWithin m o → (t : Time) (caller : Credential) (handle : Option ℕ) (name : List ℕ) (settings : Settings) → length name ≤ longest_name
+pub directory_made_within : (m : Inodes) (o n : ℕ) → Follows o n → AreWithin m o → (t : Time) (caller : Credential) (handle : Option ℕ) (name : List ℕ) (settings : Settings) → length name ≤ most_name_bytes
     → AreWithin (directory_made m o t caller handle name settings).0 n
 directory_made_within m o n follows within t caller handle name settings short =
     let kept : AreWithin m n = all_older m o n follows.before within in
@@ -101,7 +101,7 @@ directory_made_within m o n follows within t caller handle name settings short =
     (new_within o n t caller settings (option_map_or permission_bits settings.mode 0o755) 2 (directory (record { parent = dir; entries = [] })) follows.first (follows.unspent rows.1.1.0) (omega arith)
     (omega arith, tt, tt, λ root. absurd (let first : first_ordinal ≤ o = follows.first in omega arith)))))
 
-pub link_made_within : (m : Inodes) (o n : ℕ) → Follows o n → AreWithin m o → (t : Time) (handle in_directory : Option ℕ) (name : List ℕ) → length name ≤ longest_name
+pub link_made_within : (m : Inodes) (o n : ℕ) → Follows o n → AreWithin m o → (t : Time) (handle in_directory : Option ℕ) (name : List ℕ) → length name ≤ most_name_bytes
     → AreWithin (link_made m o t handle in_directory name).0 n
 link_made_within m o n follows within t handle in_directory name short =
     let kept : AreWithin m n = all_older m o n follows.before within in

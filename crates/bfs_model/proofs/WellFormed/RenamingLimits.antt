@@ -3,7 +3,7 @@ use Rattle.std.proofs.Common.{◌≡◌, ℕ, ◌+◌, ◌<◌, ◌≤◌, Bool,
 use Rattle.std.specs.Prelude.{◌==◌, nat_le}
 use Rattle.std.specs.FinMap.{get, insert, remove}
 use Rattle.std.proofs.lemmas.Bool.{leb-false, not-false, and_parts, cases_eq, ne_eqb}
-use Rattle.bfs_model.specs.Limits.{longest_name, most_entries, most_links}
+use Rattle.bfs_model.specs.Limits.{most_name_bytes, most_entries, most_links}
 use Rattle.bfs_model.specs.Tree.{Time, Entry, Body, file, directory, link, Inode, Inodes, root_id, is_directory_body, is_directory, entries_in}
 use Rattle.bfs_model.specs.Replies.{Reply, perm, done}
 use Rattle.bfs_model.specs.Steps.{Outcome}
@@ -83,7 +83,7 @@ record IsKnown (m : Inodes) (r : Renaming) : Type 0 where
   to_is : r.to_inode.body ≡ directory r.to_listing
   not_root : r.moved ≡ root_id → ⊥
   good : IsFalse (is_bad_name r.to_name)
-  short : length r.to_name ≤ longest_name
+  short : length r.to_name ≤ most_name_bytes
 
 -- the inodes once the name is free
 record IsCleared (r : Renaming) (c : Inodes) : Type 0 where
@@ -269,7 +269,7 @@ unrooted m tree dir x there name entry found is =
     let same : times entry.child (entries_in x.body) ≡ times root_id (entries_in x.body) = ap (λ id. times id (entries_in x.body)) is in
     omega arith
 
-pub entry_renamed_within : (m : Inodes) (o n : ℕ) → Follows o n → AreWithin m o → IsTree m → (t : Time) (from_handle : Option ℕ) (from_name : List ℕ) (to_handle : Option ℕ) (to_name : List ℕ) → length to_name ≤ longest_name
+pub entry_renamed_within : (m : Inodes) (o n : ℕ) → Follows o n → AreWithin m o → IsTree m → (t : Time) (from_handle : Option ℕ) (from_name : List ℕ) (to_handle : Option ℕ) (to_name : List ℕ) → length to_name ≤ most_name_bytes
     → AreWithin (entry_renamed m o t from_handle from_name to_handle to_name).0 n
 entry_renamed_within m o n follows within tree t from_handle from_name to_handle to_name short =
     let kept : AreWithin m n = all_older m o n follows.before within in

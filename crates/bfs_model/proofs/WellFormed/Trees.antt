@@ -7,7 +7,7 @@ use Rattle.bfs_model.specs.Call.{Credential}
 use Rattle.bfs_model.specs.Arguments.{Settings, Call, null, get_attributes, set_attributes, root, look_up, read_link, read, write_cache, write, create, remove, rename, make_link, make_symbolic_link, make_directory, remove_directory, read_directory, file_system_status}
 use Rattle.bfs_model.specs.Replies.{Status, perm, isdir, notdir, fbig, nospc, notempty, done, attributes, found, contents, free_blocks}
 use Rattle.bfs_model.specs.Attributes.{attributes_of, total_blocks}
-use Rattle.bfs_model.specs.Limits.{most_bytes, most_links}
+use Rattle.bfs_model.specs.Limits.{most_file_bytes, most_links}
 use Rattle.bfs_model.specs.Directories.{is_no_name, is_bad_name, entry_named, all_listed, listed_behind}
 use Rattle.bfs_model.specs.Changes.{with_entry, without_entry, with_link, with_link_less, changed, link_lost, with_size, with_settings, with_bytes, resized_body, overwritten_body}
 use Rattle.bfs_model.specs.Steps.{Outcome, first_of, unless_refused, or_stale, with_directory, or_noent}
@@ -134,7 +134,7 @@ module _ (m : Inodes) (w : WellFormed m) (o : ℕ) (now : Time) (caller : Creden
 
   file_written_keeps : (handle : Option ℕ) (offset : ℕ) (written : List ℕ) → WellFormed (file_written m now handle offset written).0
   file_written_keeps handle offset written =
-      let rows : List (Bool × Status) = (nat_lt most_bytes (offset + length written), fbig) ∷ [] in
+      let rows : List (Bool × Status) = (nat_lt most_file_bytes (offset + length written), fbig) ∷ [] in
       kept_file WellFormed m w handle (λ id inode bytes. unless_refused m (first_of rows) (insert m id (with_bytes now offset written inode), attributes (attributes_of id (with_bytes now offset written inode)))) (λ id x bytes there is.
       kept_passed WellFormed m w rows (insert m id (with_bytes now offset written x), attributes (attributes_of id (with_bytes now offset written x))) (λ passed.
       alike_kept w id x (with_bytes now offset written x) there (written_alike now offset written x)))
@@ -153,7 +153,7 @@ module _ (m : Inodes) (w : WellFormed m) (o : ℕ) (now : Time) (caller : Creden
 
   file_created_keeps : IsFreshIn m o → (handle : Option ℕ) (name : List ℕ) (settings : Settings) → WellFormed (file_created m o now caller handle name settings).0
   file_created_keeps fresh handle name settings =
-      let rows : Listing → List (Bool × Status) = λ l. new_name_refusals o l name ++ (nat_lt most_bytes (unwrap_or settings.size 0), fbig) ∷ [] in
+      let rows : Listing → List (Bool × Status) = λ l. new_name_refusals o l name ++ (nat_lt most_file_bytes (unwrap_or settings.size 0), fbig) ∷ [] in
       let created : ℕ → Inode → Outcome = λ dir x. (insert (insert m dir (with_entry now (entry_made o name o) x)) o (new_file now caller settings), found o (attributes_of o (new_file now caller settings))) in
       kept_directory WellFormed m w handle (λ dir inode listing. unless_refused m (first_of (rows listing)) (created dir inode)) (λ dir x l there is.
       kept_passed WellFormed m w (rows l) (created dir x) (λ passed.

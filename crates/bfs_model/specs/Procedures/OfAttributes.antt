@@ -5,7 +5,7 @@ use Rattle.bfs_model.specs.Tree.{Time, Body, file, directory, link, Inodes}
 use Rattle.bfs_model.specs.Attributes.{attributes_of}
 use Rattle.bfs_model.specs.Arguments.{Settings}
 use Rattle.bfs_model.specs.Replies.{Status, perm, isdir, fbig, attributes}
-use Rattle.bfs_model.specs.Limits.{most_bytes}
+use Rattle.bfs_model.specs.Limits.{most_file_bytes}
 use Rattle.bfs_model.specs.Changes.{with_settings}
 use Rattle.bfs_model.specs.Steps.{Outcome, first_of, unless_refused, with_inode}
 
@@ -17,7 +17,7 @@ abbrev pub size_refusals : Body → (size : Option ℕ) → List (Bool × Status
 size_refusals body None = []
 size_refusals (directory listing) (Some size) = (true, isdir) ∷ []
 size_refusals (link target) (Some size) = (true, perm) ∷ []
-size_refusals (file bytes) (Some size) = (nat_lt most_bytes size, fbig) ∷ []
+size_refusals (file bytes) (Some size) = (nat_lt most_file_bytes size, fbig) ∷ []
 
 abbrev pub attributes_set : Inodes → Time → Option ℕ → Settings → Outcome
 attributes_set inodes now handle settings = with_inode inodes handle (λ id inode.

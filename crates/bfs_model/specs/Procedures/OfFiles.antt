@@ -8,7 +8,7 @@ use Rattle.bfs_model.specs.Call.{Credential}
 use Rattle.bfs_model.specs.Arguments.{Settings}
 use Rattle.bfs_model.specs.Replies.{Status, perm, exist, isdir, fbig, nospc, done, attributes, found, contents}
 use Rattle.bfs_model.specs.Directories.{dot, dot_dot, is_no_name, is_bad_name, entry_named}
-use Rattle.bfs_model.specs.Limits.{most_bytes, most_entries}
+use Rattle.bfs_model.specs.Limits.{most_file_bytes, most_entries}
 use Rattle.bfs_model.specs.Bytes.{bytes_from}
 use Rattle.bfs_model.specs.Changes.{permission_bits, with_bytes, with_entry, without_entry, new_inode, link_lost}
 use Rattle.bfs_model.specs.Steps.{Outcome, first_of, unless_refused, or_stale, or_noent, with_directory, with_file}
@@ -36,7 +36,7 @@ file_read inodes handle offset count = with_file inodes handle (λ id inode byte
 
 abbrev pub file_written : Inodes → Time → Option ℕ → (offset : ℕ) (written : List ℕ) → Outcome
 file_written inodes now handle offset written = with_file inodes handle (λ id inode bytes.
-    unless_refused inodes (first_of ((nat_lt most_bytes (offset + length written), fbig) ∷ []))
+    unless_refused inodes (first_of ((nat_lt most_file_bytes (offset + length written), fbig) ∷ []))
     (insert inodes id (with_bytes now offset written inode), attributes (attributes_of id (with_bytes now offset written inode))))
 
 -- CREATE and REMOVE --------------------------------------------------------------------------------------------------
@@ -59,7 +59,7 @@ new_file now caller settings = new_inode now caller settings (option_map_or perm
 
 abbrev pub file_created : Inodes → (ordinal : ℕ) → Time → Credential → Option ℕ → (name : List ℕ) → Settings → Outcome
 file_created inodes ordinal now caller handle name settings = with_directory inodes handle (λ dir inode listing.
-    unless_refused inodes (first_of (new_name_refusals ordinal listing name ++ (nat_lt most_bytes (unwrap_or settings.size 0), fbig) ∷ [])) (
+    unless_refused inodes (first_of (new_name_refusals ordinal listing name ++ (nat_lt most_file_bytes (unwrap_or settings.size 0), fbig) ∷ [])) (
       insert (insert inodes dir (with_entry now (entry_made ordinal name ordinal) inode)) ordinal (new_file now caller settings),
       found ordinal (attributes_of ordinal (new_file now caller settings)),
     ))

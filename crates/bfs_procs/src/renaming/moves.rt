@@ -1,7 +1,7 @@
 ghost use Rattle.std.specs.Prelude.{◌≡◌, ◌<◌, ◌≤◌, true, length, IsTrue, IfOk};
 ghost use Rattle.std.specs.FinMap.{get};
 ghost use Rattle.std.specs.Option.{ForSome};
-ghost use Rattle.bfs_model.specs.Limits.{longest_name, most_entries, most_links};
+ghost use Rattle.bfs_model.specs.Limits.{most_name_bytes, most_entries, most_links};
 ghost use Rattle.bfs_model.specs.Changes.{changed, with_parent};
 ghost use Rattle.bfs_model.specs.Procedures.Renaming.{moved_below};
 ghost use Rattle.bfs_model.specs.Tree.{entries_at, spent_ordinal};
@@ -34,7 +34,7 @@ pub(super) fn carry_out<S: Store>(
 ) -> Result<(), Memory>
     requires owned { Owns (S.reach store.old) step }
     requires unspent { ordinal < spent_ordinal }
-    requires short { length to_name.now ≤ longest_name }
+    requires short { length to_name.now ≤ most_name_bytes }
     requires few { IsTrue step.moves_directory → ForSome (get (with_parent_set (S.inodes store.old) now from_name.now to_name.now step) step.to) (λ inode. inode.links < most_links) }
     requires room { length (entries_at (get (without_names (S.inodes store.old) now from_name.now to_name.now step) step.to)) < most_entries }
     ensures done { IfOk result (λ _. S.inodes store.new ≡ moved_by (S.inodes store.old) ordinal now from_name.now to_name.now step) }

@@ -7,7 +7,7 @@ use Rattle.std.proofs.lemmas.Bool.{cases_eq}
 use Rattle.std.proofs.lemmas.List.{take_all, drop_all, length-drop}
 use Rattle.std.proofs.lemmas.List.Sums.{sum_by-cons}
 use Rattle.bfs_model.specs.Tree.{Entry, Inode, entries_in}
-use Rattle.bfs_model.specs.Limits.{longest_name}
+use Rattle.bfs_model.specs.Limits.{most_name_bytes}
 use Rattle.bfs_model.specs.Directories.{is_bad_name, entry_named}
 use Rattle.bfs_model.specs.WellFormed.{times, IsRising, HasNames}
 use Rattle.bfs_model.proofs.WellFormed.LimitsKept.{none_from}
@@ -55,16 +55,16 @@ pub rises_to_end : (n : ℕ) (es : List Entry) (at least : ℕ) → length es �
 rises_to_end n es at least le so_far = yes (so_far.0 (subst (λ (left : List Entry). IsRising least left n) (sym (drop_all at es le)) tt))
 
 module _ (es : List Entry) (at : ℕ) (name : List ℕ) (e : Entry) (lt : at < length es) (is : e ≡ get_or es at e) (its : e.name ≡ name) (so_far : HasNames (drop at es) ↔ HasNames es) where
-  names : HasNames es → IsFalse (is_bad_name e.name) × (length e.name ≤ longest_name) × (entry_named e.name (drop (at + 1) es) ≡ None) × HasNames (drop (at + 1) es)
+  names : HasNames es → IsFalse (is_bad_name e.name) × (length e.name ≤ most_name_bytes) × (entry_named e.name (drop (at + 1) es) ≡ None) × HasNames (drop (at + 1) es)
   names h = subst HasNames (from_here es at e lt is) (so_far.1 h)
 
   -- the rest of the entries is all that is behind a place
   rest : take (length es - (at + 1)) (drop (at + 1) es) ≡ drop (at + 1) es
   rest = take_all _ _ (omega (arith, length-drop (at + 1) es))
 
-  pub names_further : is_bad_name name ≡ false → length name ≤ longest_name → list_any (λ entry. bytes_eq entry.name name) (take (length es - (at + 1)) (drop (at + 1) es)) ≡ false → HasNames (drop (at + 1) es) ↔ HasNames es
+  pub names_further : is_bad_name name ≡ false → length name ≤ most_name_bytes → list_any (λ entry. bytes_eq entry.name name) (take (length es - (at + 1)) (drop (at + 1) es)) ≡ false → HasNames (drop (at + 1) es) ↔ HasNames es
   names_further good short other = (
-    λ h. so_far.0 (subst HasNames (sym (from_here es at e lt is)) (subst (λ (own : List ℕ). IsFalse (is_bad_name own) × (length own ≤ longest_name) × (entry_named own (drop (at + 1) es) ≡ None) × HasNames (drop (at + 1) es)) (sym its)
+    λ h. so_far.0 (subst HasNames (sym (from_here es at e lt is)) (subst (λ (own : List ℕ). IsFalse (is_bad_name own) × (length own ≤ most_name_bytes) × (entry_named own (drop (at + 1) es) ≡ None) × HasNames (drop (at + 1) es)) (sym its)
         (good, short, none_from _ (sym (found_is_any name (drop (at + 1) es)) ∙ ap (list_any (λ entry. bytes_eq entry.name name)) (sym rest) ∙ other), h))),
     λ h. (names h).3,
   )

@@ -1,0 +1,43 @@
+//! How large things may be, each limit once: code and contracts cite these constants by name, and each is tied to the model's here.
+ghost use Rattle.std.specs.Prelude.{◌≡◌};
+ghost use Rattle.bfs_model.specs.Limits.{most_file_bytes, most_data_bytes, most_name_bytes, most_path_bytes, most_entries, most_links, most_request_bytes, most_reply_bytes, most_requests};
+
+/// The bytes of a file.
+pub const MOST_FILE_BYTES: usize = 1_048_576;
+
+/// The bytes that one READ or WRITE moves, and those of a page of READDIR (RFC 1094 section 2.3.1, MAXDATA).
+pub const MOST_DATA_BYTES: usize = 8_192;
+
+/// The bytes of a name (RFC 1094 section 2.3.1, MAXNAMLEN).
+pub const MOST_NAME_BYTES: usize = 255;
+
+/// The bytes of a symbolic link's path (RFC 1094 section 2.3.1, MAXPATHLEN).
+pub const MOST_PATH_BYTES: usize = 1_024;
+
+/// The entries of a directory, `.` and `..` not counted.
+pub const MOST_ENTRIES: usize = 65_536;
+
+/// The links of an inode.
+pub const MOST_LINKS: u32 = 32_767;
+
+/// The bytes of a request.
+pub const MOST_REQUEST_BYTES: usize = 16_384;
+
+/// The bytes of a reply.
+pub const MOST_REPLY_BYTES: usize = 16_384;
+
+/// The requests of a batch.
+pub const MOST_REQUESTS: usize = 1_024;
+
+/// The limits of the code are those of the model. The body is empty: what is said is its contract.
+pub fn limits_are_those_of_the_model()
+    ensures file_bytes { MOST_FILE_BYTES ≡ most_file_bytes }
+    ensures data_bytes { MOST_DATA_BYTES ≡ most_data_bytes }
+    ensures name_bytes { MOST_NAME_BYTES ≡ most_name_bytes }
+    ensures path_bytes { MOST_PATH_BYTES ≡ most_path_bytes }
+    ensures entries { MOST_ENTRIES ≡ most_entries }
+    ensures links { MOST_LINKS ≡ most_links }
+    ensures request_bytes { MOST_REQUEST_BYTES ≡ most_request_bytes }
+    ensures reply_bytes { MOST_REPLY_BYTES ≡ most_reply_bytes }
+    ensures requests { MOST_REQUESTS ≡ most_requests }
+{}
