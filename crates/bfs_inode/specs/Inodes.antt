@@ -1,5 +1,7 @@
 -- What an inode holds, as the model has it.
-use Rattle.std.specs.Prelude.{ℕ, List, Option, Some, None}
+use Rattle.std.specs.Prelude.{ℕ, ◌+◌, ◌*◌, max, List, Option, Some, None}
+use Rattle.bfs_model.specs.Attributes.{blocks_of}
+use Rattle.bfs_model.specs.Limits.{most_file_bytes, most_entries}
 use Rattle.bfs_model.specs.Tree as model
 use Rattle.bfs_inode.specs.declared.bodies.Body.{Body}
 use Rattle.bfs_inode.specs.declared.bodies.Body.TheVariants.{File, Directory, Link}
@@ -20,3 +22,13 @@ abbrev pub path_in : model.Body → Option (List ℕ)
 path_in (model.file bytes) = None
 path_in (model.directory listing) = None
 path_in (model.link path) = Some path
+
+-- How large an inode is at most -----------------------------------------------------------------------------------------
+
+-- in bytes: as the largest file, or as the directory with the most entries
+abbrev pub most_size : ℕ
+most_size = max most_file_bytes (32 * (most_entries + 2))
+
+-- in blocks
+abbrev pub most_blocks : ℕ
+most_blocks = blocks_of most_size

@@ -1,3 +1,4 @@
 pub mod Inodes
 pub mod Seen
+pub mod Directories
 pub mod Pages

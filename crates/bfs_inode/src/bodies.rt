@@ -1,18 +1,18 @@
-ghost use Rattle.std.specs.Prelude.{◌≡◌, ◌+◌, ◌<◌, ◌≤◌, [], ◌∷◌, ◌++◌, length, IsSome, OnOk, OnErr};
-ghost use Rattle.std.specs.Option.{ForSome};
-ghost use Rattle.bfs_model.specs.Tree.{listing_in};
+ghost use Rattle.std.specs.Prelude.{◌≡◌, ◌+◌, ◌<◌, ◌≤◌, None, [], ◌∷◌, ◌++◌, length, IsSome, OnOk, OnErr};
+ghost use Rattle.std.specs.List.{All};
+ghost use Rattle.bfs_model.specs.Tree.{entries_in};
 ghost use Rattle.bfs_model.specs.Attributes.{size_of, type_of};
 ghost use Rattle.bfs_model.specs.Limits.{most_name_bytes, most_file_bytes, most_entries};
 ghost use Rattle.bfs_model.specs.Changes.{overwritten_body, resized_body, with_listing};
-ghost use Rattle.bfs_model.specs.Directories.{without_name};
+ghost use Rattle.bfs_model.specs.Directories.{entry_named, without_name};
 ghost use Rattle.bfs_types.specs.Attributes.{file_type_of};
-ghost use Rattle.bfs_inode.specs.Inodes.{body_of, file_in};
+ghost use Rattle.bfs_inode.specs.Inodes.{body_of, file_in, most_size};
 
 use crate::directories::Directory;
-use bfs_types::{Bytes, FileId, FileType, LinkPath, Memory};
+use bfs_types::{Bytes, FileId, FileType, LinkPath, MOST_FILE_BYTES, Memory};
 
-/// The bytes of a file: at most 1,048,576.
-pub type FileData = Bytes<1_048_576>;
+/// The bytes of a file: at most `MOST_FILE_BYTES`.
+pub type FileData = Bytes<MOST_FILE_BYTES>;
 
 /// What an inode holds.
 #[derive(Debug, Drop)]
@@ -39,7 +39,7 @@ impl Body {
     /// In bytes; a directory counts 32 for each entry, `.` and `..` among them.
     pub(crate) fn size(&self) -> u32
         ensures value { result ≡ size_of (body_of self.now) }
-        ensures within { result ≤ 2097216 }
+        ensures within { result ≤ most_size }
     {
         match self {
             Body::File(data) => data.len() as u32,
@@ -79,7 +79,9 @@ impl Body {
         name: &[u8],
         child: FileId,
     ) -> Result<(), Memory>
-        requires room { ForSome (listing_in (body_of self.old)) (λ listing. length listing.entries < most_entries) }
+        requires room { length (entries_in (body_of self.old)) < most_entries }
+        requires above { All (λ entry. entry.cookie < cookie) (entries_in (body_of self.old)) }
+        requires free { entry_named name.now (entries_in (body_of self.old)) ≡ None }
         requires short { length name.now ≤ most_name_bytes }
         ensures ok { OnOk result (body_of self.new ≡ with_listing (λ listing. record listing { entries = listing.entries ++ (record { cookie = cookie; name = name.now; child = child }) ∷ [] }) (body_of self.old)) }
         ensures err { OnErr result (body_of self.new ≡ body_of self.old) }

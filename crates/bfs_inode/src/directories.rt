@@ -1,11 +1,16 @@
 ghost use Rattle.std.specs.Prelude.{◌≡◌, ◌≤◌, ◌↔◌, [], length, slice_get, IsTrue};
 ghost use Rattle.std.specs.Option.{option_copied};
 ghost use Rattle.bfs_model.specs.Directories.{entry_named};
+ghost use Rattle.bfs_model.specs.Limits.{most_entries};
+ghost use Rattle.bfs_model.specs.Tree.{spent_ordinal};
+ghost use Rattle.bfs_model.specs.WellFormed.{IsRising, NamesDiffer};
 
 mod changes;
+mod entries;
 mod pages;
 
 use bfs_types::{FileId, Name};
+pub use entries::Entries;
 pub use pages::{Listed, Page};
 use std::alloc::Global;
 use std::marker::Model;
@@ -13,11 +18,11 @@ use std::marker::Model;
 /// A name in a directory (RFC 1094 section 2.2.17).
 #[derive(Debug, Drop)]
 pub struct Entry {
-    /// It rises from entry to entry of a directory, and no other entry of the file system has or had it.
+    /// The number that READDIR goes on behind. The cookies of a directory rise from entry to entry.
     pub cookie: u32,
     /// The name, without the directories above.
     pub name: Name,
-    /// The inode that it names.
+    /// The fileid of the inode that it names.
     pub child: FileId,
 }
 
@@ -29,7 +34,8 @@ impl Model for Entry {
     ghost view = { λ entry. record { cookie = entry.cookie; name = entry.name; child = entry.child } };
 }
 
-/// The directory above, and at most 65,536 entries by rising cookie. `.` and `..` are no entries.
+/// The directory above, and at most `MOST_ENTRIES` entries. `.` and `..` are not among them. The cookies rise from entry to
+/// entry, and no two entries have one name.
 #[derive(Debug, Drop)]
 pub struct Directory {
     parent: FileId,
@@ -37,18 +43,18 @@ pub struct Directory {
 }
 
 impl Model for Directory {
-    ghost use Rattle.std.specs.Prelude.{◌≤◌, length};
     ghost use Rattle.bfs_model.specs.Tree as model;
+    ghost use Rattle.bfs_inode.specs.Directories.{AreEntries};
 
     ghost Value = { model.Listing };
 
     ghost view = { λ directory. record { parent = directory.parent; entries = directory.entries.items } };
 
-    ghost invariant = { λ directory. length directory.entries.items ≤ 65536 };
+    ghost invariant = { λ directory. AreEntries directory.entries.items };
 }
 
 impl Directory {
-    /// A directory with no entries below that one.
+    /// A directory with no entries, below the one of that fileid.
     pub fn new(alloc: Global, parent: FileId) -> Directory
         ensures { result ≡ record { parent = parent; entries = [] } }
     {
@@ -58,7 +64,7 @@ impl Directory {
         }
     }
 
-    /// The directory above; of the root it is the root.
+    /// The fileid of the directory above. That of the root is the root itself.
     pub fn parent(&self) -> FileId
         ensures { result ≡ self.now.parent }
     {
@@ -68,7 +74,7 @@ impl Directory {
     /// How many entries there are.
     pub fn len(&self) -> usize
         ensures value { result ≡ length self.now.entries }
-        ensures within { result ≤ 65536 }
+        ensures within { result ≤ most_entries }
     {
         self.entries.len()
     }
@@ -81,14 +87,24 @@ impl Directory {
     }
 
     /// The entries by rising cookie.
-    pub fn entries(&self) -> &[Entry]
-        ensures value { result.now ≡ self.now.entries }
-        ensures within { length result.now ≤ 65536 }
+    pub fn iter(&self) -> Entries<'_>
+        ensures { result ≡ self.now.entries }
     {
-        self.entries.as_slice()
+        Entries {
+            left: self.entries.as_slice(),
+        }
     }
 
-    /// The entry of that name.
+    /// The cookies rise from entry to entry, and no two entries have one name. The body does nothing: what is said is its
+    /// contract.
+    pub fn entries_are_in_order(&self)
+        ensures rising { IsRising 0 self.now.entries spent_ordinal }
+        ensures differ { NamesDiffer self.now.entries }
+    {
+        let _ = &self.entries;
+    }
+
+    /// The entry of that name, or `None` if there is none.
     pub fn entry(&self, name: &[u8]) -> Option<&Entry>
         ensures { option_copied result ≡ entry_named name.now self.now.entries }
     {
@@ -97,7 +113,7 @@ impl Directory {
             .find(|entry| entry.name.as_slice() == name)
     }
 
-    /// The entry at a place, of which that with the lowest cookie is 0.
+    /// The entry at a place, counted from 0 by rising cookie, or `None` if there are not that many.
     pub fn at(&self, place: usize) -> Option<&Entry>
         ensures { option_copied result ≡ slice_get self.now.entries place }
     {

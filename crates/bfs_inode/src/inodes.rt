@@ -1,23 +1,27 @@
-ghost use Rattle.std.specs.Prelude.{◌≡◌, ◌<◌, ◌≤◌, length, unwrap_or, is_some, option_map, IfOk, IfSome};
+ghost use Rattle.std.specs.Prelude.{◌≡◌, ◌≤◌, length, unwrap_or, is_some, option_map, IfOk, IfSome};
 ghost use Rattle.std.specs.Option.{option_copied, option_map_or};
-ghost use Rattle.bfs_model.specs.Tree.{new_root, is_directory_body, listing_in};
+ghost use Rattle.bfs_model.specs.Tree.{new_root, is_directory_body, listing_in, spent_ordinal};
 ghost use Rattle.bfs_model.specs.Attributes.{attributes_of, blocks_of, size_of};
 ghost use Rattle.bfs_model.specs.Limits.{most_path_bytes, most_file_bytes, most_links};
 ghost use Rattle.bfs_model.specs.Changes.{new_inode, permission_bits, time_or};
 ghost use Rattle.bfs_model.specs.Procedures.OfFiles.{new_file};
 ghost use Rattle.bfs_model.specs.Procedures.OfDirectories.{new_directory};
 ghost use Rattle.bfs_model.specs.Procedures.OfLinks.{new_symbolic_link};
-ghost use Rattle.bfs_inode.specs.Inodes.{body_of, file_in, path_in};
+ghost use Rattle.bfs_model.specs.WellFormed.{IsRising, NamesDiffer};
+ghost use Rattle.bfs_inode.specs.Inodes.{body_of, file_in, path_in, most_blocks};
 
 mod changes;
 
 use crate::bodies::{Body, FileData};
 use crate::directories::Directory;
-use bfs_types::{Attributes, Cred, FileId, LinkPath, Memory, SetTime, Settings, Time};
+use bfs_types::{
+    Attributes, BLOCK_SIZE, Cred, FileId, LinkPath, MOST_PERMISSIONS, Memory, SetTime, Settings,
+    Time,
+};
 use std::alloc::Global;
 use std::marker::Model;
 
-/// A file, a directory or a symbolic link, with what is known of it (RFC 1094 section 2.3.5).
+/// A file, a directory or a symbolic link, and its attributes (RFC 1094 section 2.3.5).
 #[derive(Debug, Drop)]
 pub struct Inode {
     permissions: u32,
@@ -59,8 +63,8 @@ impl Inode {
         }
     }
 
-    /// A new file, of zeros up to the size that is set, with one link and, where no mode is set, mode 0644. It is the caller's
-    /// where no owner is set. `Memory` where there is no room for the zeros.
+    /// A new file with one link, and as many zeros as the size that is set. If no mode is set, it has mode 0644; if no owner
+    /// is set, it belongs to the caller. `Memory` if memory runs out.
     pub fn new_file(
         alloc: Global,
         now: Time,
@@ -75,8 +79,8 @@ impl Inode {
         Ok(Inode::made(now, caller, settings, permissions, 1, Body::File(bytes)))
     }
 
-    /// A new directory with no entries below that one, with two links and, where no mode is set, mode 0755. It is the caller's
-    /// where no owner is set.
+    /// A new directory with two links and no entries, below the one of that fileid. If no mode is set, it has mode 0755; if no
+    /// owner is set, it belongs to the caller.
     pub fn new_directory(
         alloc: Global,
         now: Time,
@@ -91,8 +95,8 @@ impl Inode {
         Inode::made(now, caller, settings, permissions, 2, body)
     }
 
-    /// A new symbolic link that holds that path, with one link and mode 0777. It is the caller's where no owner is set.
-    /// `Memory` where there is no room for the path.
+    /// A new symbolic link with one link and mode 0777, which holds that path. If no owner is set, it belongs to the caller.
+    /// `Memory` if memory runs out.
     pub fn new_symbolic_link(
         alloc: Global,
         now: Time,
@@ -115,7 +119,7 @@ impl Inode {
         links: u32,
         body: Body,
     ) -> Inode
-        requires bits { permissions < 4096 }
+        requires bits { permissions ≤ MOST_PERMISSIONS }
         requires few { links ≤ most_links }
         ensures { result ≡ new_inode now caller settings.now permissions links (body_of body) }
     {
@@ -145,7 +149,7 @@ impl Inode {
         matches!(self.body, Body::Link(_))
     }
 
-    /// How many names it has; of a directory, two and one more for each directory in it.
+    /// Its links: of a file or a symbolic link, how many names it has; of a directory, two and one more for each directory in it.
     pub fn links(&self) -> u32
         ensures value { result ≡ self.now.links }
         ensures within { result ≤ most_links }
@@ -153,12 +157,12 @@ impl Inode {
         self.links
     }
 
-    /// How many blocks it takes, of 4,096 bytes each.
+    /// How many blocks it takes, of `BLOCK_SIZE` bytes each.
     pub fn blocks(&self) -> u32
         ensures value { result ≡ blocks_of (size_of self.now.body) }
-        ensures within { result ≤ 513 }
+        ensures within { result ≤ most_blocks }
     {
-        self.body.size().div_ceil(4096)
+        self.body.size().div_ceil(BLOCK_SIZE)
     }
 
     /// What it holds.
@@ -168,7 +172,7 @@ impl Inode {
         &self.body
     }
 
-    /// The bytes, where it is a file.
+    /// The bytes of a file, or `None` if it is no file.
     pub fn file(&self) -> Option<&[u8]>
         ensures value { option_map (λ bytes. bytes.now) result ≡ file_in self.now.body }
         ensures within { IfSome result (λ bytes. length bytes.now ≤ most_file_bytes) }
@@ -179,7 +183,7 @@ impl Inode {
         }
     }
 
-    /// The path, where it is a symbolic link.
+    /// The path of a symbolic link, or `None` if it is none.
     pub fn link(&self) -> Option<&[u8]>
         ensures value { option_map (λ path. path.now) result ≡ path_in self.now.body }
         ensures within { IfSome result (λ path. length path.now ≤ most_path_bytes) }
@@ -190,17 +194,22 @@ impl Inode {
         }
     }
 
-    /// The parent and the entries, where it is a directory.
+    /// The parent and the entries of a directory, or `None` if it is no directory.
     pub fn directory(&self) -> Option<&Directory>
-        ensures { option_copied result ≡ listing_in self.now.body }
+        ensures value { option_copied result ≡ listing_in self.now.body }
+        ensures rising { IfSome result (λ directory. IsRising 0 directory.now.entries spent_ordinal) }
+        ensures differ { IfSome result (λ directory. NamesDiffer directory.now.entries) }
     {
         match &self.body {
-            Body::Directory(directory) => Some(directory),
+            Body::Directory(directory) => {
+                directory.entries_are_in_order();
+                Some(directory)
+            }
             _ => None,
         }
     }
 
-    /// What GETATTR tells of it as the inode of that fileid (RFC 1094 section 2.2.2).
+    /// Its attributes, as the inode of that fileid (RFC 1094 section 2.3.5).
     pub fn attributes(&self, id: FileId) -> Attributes
         ensures { result ≡ attributes_of id self.now }
     {
@@ -221,12 +230,12 @@ impl Inode {
 
 // the permissions of a mode that is set
 fn permissions_set(mode: Option<u32>, otherwise: u32) -> u32
-    requires { otherwise < 4096 }
+    requires { otherwise ≤ MOST_PERMISSIONS }
     ensures value { result ≡ option_map_or permission_bits mode otherwise }
-    ensures within { result < 4096 }
+    ensures within { result ≤ MOST_PERMISSIONS }
 {
     match mode {
-        Some(mode) => mode % 4096,
+        Some(mode) => mode % (MOST_PERMISSIONS + 1),
         None => otherwise,
     }
 }

@@ -8,6 +8,6 @@ mod names;
 
 pub use bfs_types::{FileId, Time};
 pub use bodies::{Body, FileData};
-pub use directories::{Directory, Entry, Listed, Page};
+pub use directories::{Directory, Entries, Entry, Listed, Page};
 pub use inodes::Inode;
 pub use names::{is_bad_name, is_no_name};

@@ -3,15 +3,15 @@ ghost use Rattle.std.specs.Prelude.{◌≡◌, ◌==◌, ◌||◌};
 ghost use Rattle.std.specs.List.{list_any};
 ghost use Rattle.bfs_model.specs.Directories as model;
 
-/// Whether it is a name that no call makes, takes or replaces: no directory holds it, or each one has it of itself, as `.`
-/// and `..`.
+/// Whether no call may make, take or replace the name: no directory holds it, or it is `.` or `..`, which every directory has
+/// of itself.
 pub fn is_bad_name(name: &[u8]) -> bool
     ensures { result ≡ model.is_bad_name name.now }
 {
     is_no_name(name) || name == b".".as_slice() || name == b"..".as_slice()
 }
 
-/// Whether it is empty, or has a byte 0 or a `/`: no directory holds it.
+/// Whether no directory holds the name: it is empty, or has a byte 0 or a `/`.
 pub fn is_no_name(name: &[u8]) -> bool
     ensures { result ≡ model.is_no_name name.now }
 {

@@ -2,27 +2,34 @@ use crate::file_id::FileId;
 use crate::time::Time;
 use std::marker::Model;
 
-/// The types of inodes that there are (RFC 1094 section 2.3.2, ftype).
+/// The types of inodes (RFC 1094 section 2.3.2, ftype).
 #[derive(Clone, Copy, Debug, PartialEq, Eq)]
 pub enum FileType {
+    /// A file, which holds bytes.
     Regular,
+    /// A directory, which holds entries.
     Directory,
+    /// A symbolic link, which holds a path.
     SymbolicLink,
 }
 
-/// What an inode's attributes tell (RFC 1094 section 2.3.5, fattr), but for what is the same of each inode or follows from
+/// The attributes of an inode (RFC 1094 section 2.3.5, fattr), without those that are the same for each inode or follow from
 /// these: the blocksize, rdev, the number of blocks and the fsid.
 #[derive(Clone, Copy, Debug, PartialEq, Eq)]
 pub struct Attributes {
+    /// Whether it is a file, a directory or a symbolic link.
     pub file_type: FileType,
-    /// The twelve low bits of the mode, so below 4,096.
+    /// The twelve low bits of the mode.
     pub permissions: u32,
     /// The number of hard links.
     pub links: u32,
+    /// The number of the user who owns it.
     pub uid: u32,
+    /// The number of the group that owns it.
     pub gid: u32,
     /// In bytes.
     pub size: u32,
+    /// Its own number.
     pub fileid: FileId,
     /// When it was last read.
     pub atime: Time,
@@ -33,7 +40,8 @@ pub struct Attributes {
 }
 
 impl Model for Attributes {
-    ghost use Rattle.std.specs.Prelude.{◌<◌};
+    ghost use Rattle.std.specs.Prelude.{◌≤◌};
+    ghost use Rattle.bfs_types.specs.declared.limits.TheConstants.{MOST_PERMISSIONS};
     ghost use Rattle.bfs_model.specs.Attributes as model;
 
     ghost Value = { model.Attributes };
@@ -42,7 +50,7 @@ impl Model for Attributes {
 
     ghost view = { seen };
 
-    ghost invariant = { λ attributes. attributes.permissions < 4096 };
+    ghost invariant = { λ attributes. attributes.permissions ≤ MOST_PERMISSIONS };
 
     ghost inverse = { unseen };
 

@@ -12,10 +12,10 @@ pub struct Bytes<const MOST: usize> {
     bytes: Vec<u8>,
 }
 
-/// A name in a directory: at most 255 bytes (RFC 1094 section 2.3.9, filename).
+/// A name in a directory: at most `MOST_NAME_BYTES` (RFC 1094 section 2.3.9, filename).
 pub type Name = Bytes<MOST_NAME_BYTES>;
 
-/// The path that a symbolic link holds: at most 1,024 bytes (RFC 1094 section 2.3.10, path).
+/// The path that a symbolic link holds: at most `MOST_PATH_BYTES` (RFC 1094 section 2.3.10, path).
 pub type LinkPath = Bytes<MOST_PATH_BYTES>;
 
 impl<const MOST: usize> Model for Bytes<MOST> {
@@ -29,7 +29,7 @@ impl<const MOST: usize> Model for Bytes<MOST> {
 }
 
 impl<const MOST: usize> Bytes<MOST> {
-    /// Those bytes, copied; `Memory` where there is no room for them.
+    /// A copy of those bytes. `Memory` if memory runs out.
     pub fn new(alloc: Global, bytes: &[u8]) -> Result<Bytes<MOST>, Memory>
         requires { length bytes.now ≤ MOST }
         ensures { IfOk result (λ held. held ≡ bytes.now) }
@@ -39,7 +39,7 @@ impl<const MOST: usize> Bytes<MOST> {
         Ok(Bytes { bytes: held })
     }
 
-    /// So many zeros; `Memory` where there is no room for them.
+    /// That many zeros. `Memory` if memory runs out.
     pub fn zeros(alloc: Global, size: usize) -> Result<Bytes<MOST>, Memory>
         requires { size ≤ MOST }
         ensures { IfOk result (λ held. held ≡ replicate size 0) }
@@ -65,7 +65,7 @@ impl<const MOST: usize> Bytes<MOST> {
         self.bytes.as_slice()
     }
 
-    /// Cuts them to so many, or fills them up with zeros. `Memory`, and nothing changes, where there is no room for the zeros.
+    /// Makes them that many: drops the bytes behind, or puts zeros behind. `Memory` if memory runs out; then nothing changes.
     pub fn resize(&mut self, size: usize) -> Result<(), Memory>
         requires { size ≤ MOST }
         ensures ok { OnOk result (self.new ≡ resized size self.old) }
@@ -74,8 +74,8 @@ impl<const MOST: usize> Bytes<MOST> {
         Ok(resize(&mut self.bytes, size)?)
     }
 
-    /// Writes others over them from an offset on, behind zeros where it is past the end; writing nothing changes nothing.
-    /// `Memory`, and nothing changes, where there is no room to grow.
+    /// Writes other bytes over them from an offset on. An offset past the end is filled up to with zeros. Writing no bytes
+    /// changes nothing. `Memory` if memory runs out; then nothing changes.
     pub fn write(&mut self, offset: usize, written: &[u8]) -> Result<(), Memory>
         requires { offset + length written.now ≤ MOST }
         ensures ok { OnOk result (self.new ≡ overwritten offset written.now self.old) }

@@ -1,9 +1,11 @@
 use std::marker::Model;
 
-/// For whom a call is made: the numbers of a user and of the user's group.
+/// The caller of a procedure: the numbers of a user and of the user's group.
 #[derive(Clone, Copy, Debug, PartialEq, Eq)]
 pub struct Cred {
+    /// The number of the user.
     pub uid: u32,
+    /// The number of the user's group.
     pub gid: u32,
 }
 

@@ -3,7 +3,7 @@ ghost use Rattle.bfs_model.specs.Tree.{root_id};
 
 use std::marker::Model;
 
-/// The number of an inode, which no other inode of the file system has or had (RFC 1094 section 2.3.5, fileid).
+/// The number of an inode (RFC 1094 section 2.3.5, fileid). No other inode of the file system has it or ever had it.
 #[derive(Clone, Copy, Debug, PartialEq, Eq, PartialOrd, Ord)]
 pub struct FileId(u32);
 
@@ -32,7 +32,7 @@ impl FileId {
         FileId(2)
     }
 
-    /// The fileid as a number, as it stands in a file handle and in attributes.
+    /// The number, as it stands in a file handle and in attributes.
     pub fn number(self) -> u32
         ensures { result ≡ self }
     {

@@ -1,5 +1,5 @@
-//! The vocabulary that every crate above shares: bytes, fileids, times, ordinals, attributes, credentials, settings, and the
-//! want of memory.
+//! The vocabulary that every crate above shares: bytes, fileids, times, ordinals, attributes, credentials, settings, limits, and
+//! the error for memory that runs out.
 #![tactic(auto)]
 
 mod attributes;
@@ -17,8 +17,9 @@ pub use bytes::{Bytes, LinkPath, Name};
 pub use cred::Cred;
 pub use file_id::FileId;
 pub use limits::{
-    MOST_DATA_BYTES, MOST_ENTRIES, MOST_FILE_BYTES, MOST_LINKS, MOST_NAME_BYTES, MOST_PATH_BYTES,
-    MOST_REPLY_BYTES, MOST_REQUEST_BYTES, MOST_REQUESTS, limits_are_those_of_the_model,
+    BLOCK_SIZE, MOST_DATA_BYTES, MOST_ENTRIES, MOST_FILE_BYTES, MOST_LINKS, MOST_NAME_BYTES,
+    MOST_PATH_BYTES, MOST_PERMISSIONS, MOST_REPLY_BYTES, MOST_REQUEST_BYTES, MOST_REQUESTS,
+    TOTAL_BLOCKS, TRANSFER_SIZE, limits_are_those_of_the_model,
 };
 pub use memory::Memory;
 pub use ordinal::Ordinal;

@@ -1,5 +1,6 @@
 //! How large things may be, each limit once: code and contracts cite these constants by name, and each is tied to the model's here.
 ghost use Rattle.std.specs.Prelude.{◌≡◌};
+ghost use Rattle.bfs_model.specs.Attributes.{block_size, total_blocks, transfer_size};
 ghost use Rattle.bfs_model.specs.Limits.{most_file_bytes, most_data_bytes, most_name_bytes, most_path_bytes, most_entries, most_links, most_request_bytes, most_reply_bytes, most_requests};
 
 /// The bytes of a file.
@@ -20,6 +21,9 @@ pub const MOST_ENTRIES: usize = 65_536;
 /// The links of an inode.
 pub const MOST_LINKS: u32 = 32_767;
 
+/// The permissions of an inode, which are the twelve low bits of its mode: all of them set.
+pub const MOST_PERMISSIONS: u32 = 0o7777;
+
 /// The bytes of a request.
 pub const MOST_REQUEST_BYTES: usize = 16_384;
 
@@ -28,6 +32,15 @@ pub const MOST_REPLY_BYTES: usize = 16_384;
 
 /// The requests of a batch.
 pub const MOST_REQUESTS: usize = 1_024;
+
+/// The bytes of a block (RFC 1094 section 2.2.18, bsize).
+pub const BLOCK_SIZE: u32 = 4_096;
+
+/// The blocks of the file system, free or not (RFC 1094 section 2.2.18, blocks).
+pub const TOTAL_BLOCKS: u32 = 262_144;
+
+/// The bytes that a READ or a WRITE moves at best: as many as it may (RFC 1094 section 2.2.18, tsize).
+pub const TRANSFER_SIZE: u32 = MOST_DATA_BYTES as u32;
 
 /// The limits of the code are those of the model. The body is empty: what is said is its contract.
 pub fn limits_are_those_of_the_model()
@@ -40,4 +53,7 @@ pub fn limits_are_those_of_the_model()
     ensures request_bytes { MOST_REQUEST_BYTES ≡ most_request_bytes }
     ensures reply_bytes { MOST_REPLY_BYTES ≡ most_reply_bytes }
     ensures requests { MOST_REQUESTS ≡ most_requests }
+    ensures block_size { BLOCK_SIZE ≡ block_size }
+    ensures total_blocks { TOTAL_BLOCKS ≡ total_blocks }
+    ensures transfer_size { TRANSFER_SIZE ≡ transfer_size }
 {}

@@ -3,13 +3,13 @@ ghost use Rattle.std.specs.Prelude.{◌≡◌};
 use std::alloc::{AllocError, AllocFailed};
 use thiserror::Error;
 
-/// Memory ran out. What was asked for did not happen.
+/// Memory ran out, so that the function did not do its work.
 #[derive(Clone, Copy, Debug, PartialEq, Eq, Error)]
 #[error("out of memory")]
 pub struct Memory;
 
 impl Memory {
-    /// The number of this refusal, apart from those of every other.
+    /// The number of this error, which no other error of the file system has.
     pub fn code(self) -> u32
         ensures { result ≡ 40 }
     {

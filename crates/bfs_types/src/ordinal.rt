@@ -6,8 +6,8 @@ ghost use Rattle.bfs_model.specs.Serial.{ordinal_after};
 use crate::file_id::FileId;
 use std::marker::Model;
 
-/// The number of an executed request, which is also the fileid of what the request creates. It rises by one with each
-/// request up to 4,294,967,296, where all fileids are spent, and stays there.
+/// The number of an executed request, which is also the fileid of the inode that the request creates. It rises by one with
+/// each request up to 4,294,967,296, where all fileids are spent, and stays there.
 #[derive(Clone, Copy, Debug, PartialEq, Eq, PartialOrd, Ord)]
 pub struct Ordinal(u64);
 
@@ -24,10 +24,11 @@ impl Model for Ordinal {
     ghost inverse = { λ number. record { 0 = number } };
 }
 
+// where all fileids are spent, since a fileid is a word of 32 bits
 const SPENT: u64 = 4_294_967_296;
 
 impl Ordinal {
-    /// The ordinal of that number, or `None` above that at which all fileids are spent.
+    /// The ordinal of that number, or `None` if the number is above 4,294,967,296.
     pub fn new(number: u64) -> Option<Ordinal>
         ensures { SomeIff result (number ≤ spent_ordinal) number }
     {
@@ -60,21 +61,21 @@ impl Ordinal {
         self.0 == SPENT
     }
 
-    /// The ordinal so many requests on; where all fileids are spent it stays.
+    /// The ordinal that many requests later. Once all fileids are spent it stays.
     pub fn after(self, count: u64) -> Ordinal
         ensures { result ≡ ordinal_after self count }
     {
         Ordinal(self.0.saturating_add(count).min(SPENT))
     }
 
-    /// The ordinal of the request after that of this one.
+    /// The ordinal of the next request.
     pub fn next(self) -> Ordinal
         ensures { result ≡ ordinal_after self 1 }
     {
         self.after(1)
     }
 
-    /// The fileid of what the request of this ordinal creates, or `None` where all fileids are spent.
+    /// The fileid of the inode that the request of this ordinal creates, or `None` if all fileids are spent.
     pub fn file_id(self) -> Option<FileId>
         ensures { SomeIff result (self < spent_ordinal) self }
     {

@@ -5,8 +5,8 @@ ghost use Rattle.bfs_model.specs.Serial.{is_after, next_microsecond, effective_t
 
 use std::marker::Model;
 
-/// Seconds and microseconds since the beginning of 1970 (RFC 1094 section 2.3.4, timeval). There are fewer than 1,000,000
-/// microseconds.
+/// Seconds and microseconds since the beginning of 1970 (RFC 1094 section 2.3.4, timeval). The microseconds are below
+/// 1,000,000.
 #[derive(Clone, Copy, Debug, PartialEq, Eq, PartialOrd, Ord)]
 pub struct Time {
     seconds: u32,
@@ -27,7 +27,7 @@ impl Model for Time {
 }
 
 impl Time {
-    /// That time, or `None` where the microseconds make up a second or more.
+    /// That time, or `None` if the microseconds are 1,000,000 or more.
     pub fn new(seconds: u32, useconds: u32) -> Option<Time>
         ensures { SomeIff result (useconds < 1000000) (record { seconds = seconds; useconds = useconds }) }
     {
@@ -38,7 +38,7 @@ impl Time {
         }
     }
 
-    /// The beginning of 1970, the last time of a new file system.
+    /// The beginning of 1970, which is the last time of a new file system.
     pub fn epoch() -> Time
         ensures { result ≡ model.epoch }
     {
@@ -71,8 +71,8 @@ impl Time {
             || (self.seconds == other.seconds && self.useconds > other.useconds)
     }
 
-    /// The time of a batch for which this one was proposed, after a batch at the last time: this one if it is later, else
-    /// a microsecond after the last. The last time that a timeval can spell, 4294967295 s and 999999 us, stays.
+    /// The time of a batch for which this time was proposed, where `last` is the time of the batch before: this time if it is
+    /// later, else one microsecond after the last. The latest time of a timeval, 4294967295 s and 999999 us, stays.
     pub fn effective_after(self, last: Time) -> Time
         ensures { result ≡ effective_time last self }
     {

@@ -14,8 +14,8 @@ use crate::garbage::GarbageArgs;
 use crate::parts::Arguments;
 use bfs_types::{FileId, Settings};
 
-/// A procedure with its arguments (RFC 1094 section 2.2). A file handle is the file that it leads to, or `None` where it is
-/// not one of ours. Names, paths and file bytes are those of the request.
+/// A procedure with its arguments (RFC 1094 section 2.2). A file handle stands as the fileid that it leads to, or as `None` if
+/// it is no handle of this file system. Names, paths and file bytes are borrowed from the request.
 #[derive(Clone, Copy, Debug, PartialEq, Eq)]
 pub enum NfsCall<'a> {
     /// Do nothing.
@@ -108,8 +108,9 @@ pub enum NfsCall<'a> {
     },
 }
 
-/// The call of that procedure, by its number in RFC 1094 section 2.2, whose arguments the bytes spell with nothing after
-/// them. Padding is not looked at.
+/// The call of a procedure, by its number in RFC 1094 section 2.2, with the arguments that the bytes spell. The bytes of the
+/// padding may have any value. `GarbageArgs` if there is no such procedure, if the bytes don't spell its arguments, or if
+/// further bytes follow.
 #[tactic(auto, unfolding(bfs_model::specs::Arguments::arguments_of))]
 pub fn parse_args(procedure: u32, args: &[u8]) -> Result<NfsCall<'_>, GarbageArgs>
     ensures value { option_map call_of (result_ok result) ≡ model.arguments_of procedure args.now }

@@ -16,7 +16,7 @@ pub fn handle_bytes(file: FileId) -> [u8; 32]
     ]
 }
 
-/// The file whose handle the bytes are, or `None` where they are not a handle of ours.
+/// The file whose handle the bytes are, or `None` if they are no handle of this file system.
 #[tactic(auto, using(bfs_model::proofs::Handles::other_lengths_lead_nowhere), unfolding(bfs_model::specs::Arguments::handle_id))]
 pub fn handle_id(bytes: &[u8]) -> Option<FileId>
     ensures { result ≡ model.handle_id bytes.now }

@@ -1,4 +1,4 @@
-//! The calls of NFS version 2 and what is answered to them (RFC 1094), read from bytes and written as bytes.
+//! The calls of NFS version 2, read from bytes, and their results, written as bytes (RFC 1094).
 #![tactic(auto)]
 
 mod call;

@@ -11,7 +11,7 @@ use std::marker::Model;
 /// An entry of a directory, as READDIR lists it (RFC 1094 section 2.2.17, entry).
 #[derive(Debug, Drop)]
 pub struct ListedEntry {
-    /// What a further READDIR goes on behind.
+    /// The cookie of a further READDIR, which goes on behind this entry.
     pub cookie: u32,
     /// The name, without the directories above; or `.` or `..`.
     pub name: Name,
@@ -52,7 +52,7 @@ impl ListedEntries {
         }
     }
 
-    /// Lists one more entry, behind those before. `Memory` where there is none for it.
+    /// Adds an entry at the end. `Memory` if memory runs out; then nothing changes.
     pub fn push(&mut self, entry: ListedEntry) -> Result<(), Memory>
         ensures ok { OnOk result (self.new ≡ self.old ++ entry ∷ []) }
         ensures err { OnErr result (self.new ≡ self.old) }

@@ -7,21 +7,12 @@ ghost use Rattle.bfs_model.specs.Items.{opaque_at, word_at};
 ghost use Rattle.bfs_model.specs.Limits.{most_name_bytes, most_path_bytes, most_data_bytes};
 
 use crate::handle::handle_id;
-use bfs_types::{FileId, SetTime, Settings};
+use bfs_types::{FileId, MOST_DATA_BYTES, MOST_NAME_BYTES, MOST_PATH_BYTES, SetTime, Settings};
 use bfs_xdr::Reader;
 use std::marker::Model;
 
 // the length of a file handle in bytes (RFC 1094 section 2.3.3)
 const HANDLE_BYTES: u32 = 32;
-
-// the most bytes of a name (RFC 1094 section 2.3.1, MAXNAMLEN)
-const MAX_NAME: u32 = 255;
-
-// the most bytes of a symbolic link's path (RFC 1094 section 2.3.1, MAXPATHLEN)
-const MAX_PATH: u32 = 1024;
-
-// the most bytes that one WRITE brings (RFC 1094 section 2.3.1, MAXDATA)
-const MAX_DATA: u32 = 8192;
 
 // the word of a setting that is not set (RFC 1094 section 2.3.6)
 const NOT_SET: u32 = u32::MAX;
@@ -86,7 +77,7 @@ impl<'a> Arguments<'a> {
         ensures value { option_map (λ name. (name.now, self.new)) result ≡ model.name_at self.old }
         ensures short { IfSome result (λ name. length name.now ≤ most_name_bytes) }
     {
-        self.opaque(MAX_NAME)
+        self.opaque(MOST_NAME_BYTES as u32)
     }
 
     // a path (RFC 1094 section 2.3.10)
@@ -94,7 +85,7 @@ impl<'a> Arguments<'a> {
         ensures value { option_map (λ path. (path.now, self.new)) result ≡ model.path_at self.old }
         ensures short { IfSome result (λ path. length path.now ≤ most_path_bytes) }
     {
-        self.opaque(MAX_PATH)
+        self.opaque(MOST_PATH_BYTES as u32)
     }
 
     // a file's bytes (RFC 1094 section 2.3.11)
@@ -102,7 +93,7 @@ impl<'a> Arguments<'a> {
         ensures value { option_map (λ bytes. (bytes.now, self.new)) result ≡ model.data_at self.old }
         ensures short { IfSome result (λ bytes. length bytes.now ≤ most_data_bytes) }
     {
-        self.opaque(MAX_DATA)
+        self.opaque(MOST_DATA_BYTES as u32)
     }
 
     // what a call sets (RFC 1094 section 2.3.6, sattr)

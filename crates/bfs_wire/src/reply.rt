@@ -7,39 +7,48 @@ use crate::file_type::{type_bits, type_number};
 use crate::handle::handle_bytes;
 use crate::listing::{ListedEntries, put_entries};
 use crate::status::Status;
-use bfs_types::{Attributes, Bytes, FileId, LinkPath, Memory};
+use bfs_types::{
+    Attributes, BLOCK_SIZE, Bytes, FileId, LinkPath, MOST_DATA_BYTES, Memory, TOTAL_BLOCKS,
+    TRANSFER_SIZE,
+};
 use bfs_xdr::{put_bool, put_opaque, put_words};
 use std::alloc::Global;
 
-/// Bytes of a file that READ gives: at most 8,192 (RFC 1094 section 2.3.11, nfsdata).
-pub type FileBytes = Bytes<8192>;
+/// Bytes of a file that READ gives: at most `MOST_DATA_BYTES` (RFC 1094 section 2.3.11, nfsdata).
+pub type FileBytes = Bytes<MOST_DATA_BYTES>;
 
-/// What a procedure gives (RFC 1094 section 2.2).
+/// The results of a procedure (RFC 1094 section 2.2).
 #[derive(Debug, Drop)]
 pub enum NfsReply {
-    /// Of NULL, ROOT and WRITECACHE: no status and nothing else.
+    /// The results of NULL, ROOT and WRITECACHE: not even a status.
     Void,
-    /// The procedure was not done, for this reason.
+    /// The procedure was not done, for the reason that the status tells.
     Refused(Status),
-    /// The procedure was done, and gives nothing else.
+    /// The procedure was done and has no other results.
     Done,
     /// The attributes of the file.
     Attributes(Attributes),
     /// The file that was found or made, and its attributes.
     Found {
+        /// The fileid of the file.
         file: FileId,
+        /// The file's attributes.
         attributes: Attributes,
     },
     /// The file's attributes, and the bytes that were read of it.
     Contents {
+        /// The file's attributes.
         attributes: Attributes,
+        /// The bytes that were read.
         bytes: FileBytes,
     },
     /// The path that a symbolic link holds.
     Path(LinkPath),
-    /// Entries of a directory, and whether none is left behind them.
+    /// Entries of a directory, and whether they are the last ones.
     Listed {
+        /// The entries, in the order in which they are listed.
         entries: ListedEntries,
+        /// Whether the directory has no further entries.
         all: bool,
     },
     /// How many blocks are free.
@@ -49,20 +58,11 @@ pub enum NfsReply {
 // the status of a procedure that was done (RFC 1094 section 2.3.1, NFS_OK)
 const DONE: u32 = 0;
 
-// in bytes
-const BLOCK_SIZE: u32 = 4096;
-
 // of the only file system that there is
 const FSID: u32 = 1;
 
-// the bytes that a READ or WRITE moves at best
-const TRANSFER_SIZE: u32 = 8192;
-
-// of the file system, free or not
-const TOTAL_BLOCKS: u32 = 262_144;
-
-/// Appends the results of a procedure (RFC 1094 section 2.2), so that a reply can be built behind its header. `Memory` where
-/// the bytes can't grow.
+/// Appends the results of a procedure (RFC 1094 section 2.2), so that a reply can be built behind its header. `Memory` if
+/// memory runs out; then nothing is appended.
 pub fn put_reply(out: &mut Vec<u8>, reply: &NfsReply) -> Result<(), Memory>
     ensures ok { OnOk result (out.new.items ≡ out.old.items ++ model.results (reply_of reply.now)) }
     ensures err { OnErr result (out.new.items ≡ out.old.items) }
@@ -75,7 +75,7 @@ pub fn put_reply(out: &mut Vec<u8>, reply: &NfsReply) -> Result<(), Memory>
     Ok(())
 }
 
-/// The results of a procedure (RFC 1094 section 2.2) in bytes of their own. `Memory` where there is none for them.
+/// The results of a procedure (RFC 1094 section 2.2) as bytes of their own. `Memory` if memory runs out.
 pub fn write_reply(alloc: Global, reply: &NfsReply) -> Result<Vec<u8>, Memory>
     ensures { IfOk result (λ bytes. bytes.items ≡ model.results (reply_of reply.now)) }
 {

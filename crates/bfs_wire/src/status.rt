@@ -11,9 +11,9 @@ pub enum Status {
     NoEnt,
     /// The name is taken.
     Exist,
-    /// What should be a directory is none.
+    /// A directory is required, and this is none.
     NotDir,
-    /// What should be no directory is one.
+    /// This is a directory, and none may be here.
     IsDir,
     /// The file would be too large.
     FBig,
@@ -21,7 +21,7 @@ pub enum Status {
     NoSpc,
     /// The directory has entries.
     NotEmpty,
-    /// The handle leads to nothing: what it named is gone, or it is not one of ours.
+    /// The handle leads to no inode: the inode is gone, or the handle is not one of this file system.
     Stale,
 }
 

@@ -1,4 +1,5 @@
-ghost use Rattle.std.specs.Prelude.{◌≡◌, ◌<◌, ◌≤◌, [], ◌∷◌, ◌++◌, length, position, bytes_eq, OnOk, OnErr};
+ghost use Rattle.std.specs.Prelude.{◌≡◌, ◌<◌, ◌≤◌, None, [], ◌∷◌, ◌++◌, length, position, bytes_eq, OnOk, OnErr};
+ghost use Rattle.std.specs.List.{All};
 ghost use Rattle.bfs_model.specs.Limits.{most_name_bytes, most_entries};
 ghost use Rattle.bfs_model.specs.Directories.{entry_named, without_name};
 
@@ -6,10 +7,12 @@ use crate::directories::{Directory, Entry};
 use bfs_types::{FileId, Memory, Name};
 
 impl Directory {
-    /// Puts an entry behind the others; its cookie is to be above theirs. `Memory`, and nothing changes, where there is no
-    /// room for it.
+    /// Adds an entry behind the others. Its cookie is above theirs, and none of them has its name. `Memory` if memory runs out;
+    /// then nothing changes.
     pub fn add(&mut self, cookie: u32, name: &[u8], child: FileId) -> Result<(), Memory>
         requires room { length self.old.entries < most_entries }
+        requires above { All (λ entry. entry.cookie < cookie) self.old.entries }
+        requires free { entry_named name.now self.old.entries ≡ None }
         requires short { length name.now ≤ most_name_bytes }
         ensures ok { OnOk result (self.new ≡ record self.old { entries = self.old.entries ++ (record { cookie = cookie; name = name.now; child = child }) ∷ [] }) }
         ensures err { OnErr result (self.new ≡ self.old) }
@@ -23,15 +26,16 @@ impl Directory {
         Ok(())
     }
 
-    /// Takes out the entry of that name. The others keep their order.
+    /// Removes the entry of that name and gives it back, or `None` if there is none. The others keep their order.
     pub fn drop_entry(&mut self, name: &[u8]) -> Option<Entry>
         ensures value { result ≡ entry_named name.now self.old.entries }
         ensures dropped { self.new ≡ record self.old { entries = without_name name.now self.old.entries } }
+        ensures gone { entry_named name.now self.new.entries ≡ None }
     {
         drop_entry(&mut self.entries, name)
     }
 
-    /// Puts it below another directory.
+    /// Puts it below the directory of that fileid.
     pub fn set_parent(&mut self, parent: FileId)
         ensures { self.new ≡ record self.old { parent = parent } }
     {

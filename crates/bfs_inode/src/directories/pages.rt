@@ -5,22 +5,22 @@ ghost use Rattle.bfs_model.specs.Directories.{all_listed, listed_behind, listed_
 ghost use Rattle.bfs_inode.specs.Pages.{listed_of};
 
 use crate::directories::{Directory, Entry};
-use bfs_types::FileId;
+use bfs_types::{FileId, MOST_DATA_BYTES};
 use std::marker::Model;
 
 /// An entry of a directory as READDIR lists it, or `.` or `..` (RFC 1094 section 2.2.17).
 #[derive(Clone, Copy, Debug)]
 pub struct Listed<'a> {
-    /// What a further READDIR goes on behind.
+    /// The cookie of a further READDIR, which goes on behind this entry.
     pub cookie: u32,
     /// The name, without the directories above.
     pub name: &'a [u8],
-    /// The inode that it names.
+    /// The fileid of the inode that it names.
     pub child: FileId,
 }
 
-/// What a page of READDIR has yet to list of a directory: of `.`, `..` and the entries those behind a cookie, as many as
-/// fit into a number of bytes (RFC 1094 section 2.2.17).
+/// What is left of a page of READDIR: of `.`, `..` and the entries of a directory, those behind a cookie, as many as fit into a
+/// number of bytes (RFC 1094 section 2.2.17).
 #[derive(Debug, Drop)]
 pub struct Page<'a> {
     directory: &'a Directory,
@@ -46,12 +46,10 @@ impl<'a> Model for Page<'a> {
 // the bytes of a page that are no entry's: its status, the end of its list, and whether it is the last
 const AROUND_ENTRIES: u32 = 12;
 
-// the bytes of a page at most (RFC 1094 section 2.3.1, MAXDATA)
-const LONGEST_PAGE: u32 = 8192;
-
 impl Directory {
-    /// The page of at most that many bytes behind that cookie, of the directory of that fileid. It is 0 for the first page,
-    /// and else the cookie of the last entry of the page before.
+    /// The page of READDIR behind that cookie, where `id` is the fileid of the directory. The cookie is 0 for the first page, and
+    /// that of the last entry of the page before for each further one. A page takes at most `count` bytes in a reply, and at
+    /// most `MOST_DATA_BYTES`.
     pub fn page(&self, id: FileId, cookie: u32, count: u32) -> Page<'_>
         ensures listed { result.listed ≡ page_of count (listed_behind cookie (all_listed id self.now)) }
         ensures all { result.all ≡ (length (page_of count (listed_behind cookie (all_listed id self.now))) == length (listed_behind cookie (all_listed id self.now))) }
@@ -61,13 +59,15 @@ impl Directory {
             id,
             cookie,
             place: 0,
-            room: count.min(LONGEST_PAGE).saturating_sub(AROUND_ENTRIES),
+            room: count
+                .min(MOST_DATA_BYTES as u32)
+                .saturating_sub(AROUND_ENTRIES),
         }
     }
 }
 
 impl<'a> Page<'a> {
-    /// The next entry of the page.
+    /// The next entry of the page, or `None` behind its last one.
     pub fn next_entry(&mut self) -> Option<Listed<'a>>
         ensures taken { MatchOption result ((self.old.listed ≡ []) × (self.new.listed ≡ [])) (λ listed. self.old.listed ≡ listed_of listed ∷ self.new.listed) }
         ensures all { self.new.all ≡ self.old.all }
@@ -84,7 +84,7 @@ impl<'a> Page<'a> {
         Some(listed)
     }
 
-    /// Whether no entry of the directory is left behind the page, once all entries of the page were taken.
+    /// Whether the directory has no further entries behind the page. All entries of the page have been taken.
     pub fn is_last(&self) -> bool
         requires { self.now.listed ≡ [] }
         ensures { result ≡ self.now.all }

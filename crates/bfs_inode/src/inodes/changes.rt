@@ -1,6 +1,8 @@
-ghost use Rattle.std.specs.Prelude.{◌≡◌, ◌+◌, ◌<◌, ◌≤◌, length, OnOk, OnErr, IsSome};
+ghost use Rattle.std.specs.Prelude.{◌≡◌, ◌+◌, ◌<◌, ◌≤◌, None, length, OnOk, OnErr, IsSome};
+ghost use Rattle.std.specs.List.{All};
 ghost use Rattle.std.specs.Option.{ForSome};
-ghost use Rattle.bfs_model.specs.Tree.{listing_in};
+ghost use Rattle.bfs_model.specs.Tree.{entries_in};
+ghost use Rattle.bfs_model.specs.Directories.{entry_named};
 ghost use Rattle.bfs_model.specs.Limits.{most_name_bytes, most_file_bytes, most_entries, most_links};
 ghost use Rattle.bfs_model.specs.Changes.{touched, with_bytes, with_ctime, with_entry, with_link, with_link_less, with_parent, with_settings, without_entry};
 ghost use Rattle.bfs_inode.specs.Inodes.{file_in};
@@ -9,8 +11,8 @@ use crate::inodes::{Inode, permissions_set, time_set};
 use bfs_types::{FileId, Memory, Settings, Time};
 
 impl Inode {
-    /// Sets what SETATTR sets (RFC 1094 section 2.2.3). `Memory`, and nothing changes, where there is no room for a file's
-    /// new size.
+    /// Sets attributes, as SETATTR does (RFC 1094 section 2.2.3). A size is set of a file alone. `Memory` if memory runs out;
+    /// then nothing changes.
     pub fn set_attributes(&mut self, now: Time, settings: &Settings) -> Result<(), Memory>
         requires { ForSome settings.now.size (λ size. IsSome (file_in self.old.body) → size ≤ most_file_bytes) }
         ensures ok { OnOk result (self.new ≡ with_settings now settings.now self.old) }
@@ -29,8 +31,8 @@ impl Inode {
         Ok(())
     }
 
-    /// Writes into a file from an offset on, as WRITE does (RFC 1094 section 2.2.9); the times change of any inode. `Memory`,
-    /// and nothing changes, where there is no room to grow.
+    /// Writes bytes into a file from an offset on, as WRITE does (RFC 1094 section 2.2.9). An inode that is no file keeps what it
+    /// holds, and its times change all the same. `Memory` if memory runs out; then nothing changes.
     pub fn write(&mut self, now: Time, offset: u32, bytes: &[u8]) -> Result<(), Memory>
         requires { offset + length bytes.now ≤ most_file_bytes }
         ensures ok { OnOk result (self.new ≡ with_bytes now offset bytes.now self.old) }
@@ -41,8 +43,9 @@ impl Inode {
         Ok(())
     }
 
-    /// Puts an entry behind the others of a directory; the times change of any inode. `Memory`, and nothing changes, where
-    /// there is no room for it.
+    /// Adds an entry to a directory, behind the others. Its cookie is above theirs, and none of them has its name. An inode that
+    /// is no directory keeps what it holds, and its times change all the same. `Memory` if memory runs out; then nothing
+    /// changes.
     pub fn add_entry(
         &mut self,
         now: Time,
@@ -50,7 +53,9 @@ impl Inode {
         name: &[u8],
         child: FileId,
     ) -> Result<(), Memory>
-        requires room { ForSome (listing_in self.old.body) (λ listing. length listing.entries < most_entries) }
+        requires room { length (entries_in self.old.body) < most_entries }
+        requires above { All (λ entry. entry.cookie < cookie) (entries_in self.old.body) }
+        requires free { entry_named name.now (entries_in self.old.body) ≡ None }
         requires short { length name.now ≤ most_name_bytes }
         ensures ok { OnOk result (self.new ≡ with_entry now (record { cookie = cookie; name = name.now; child = child }) self.old) }
         ensures err { OnErr result (self.new ≡ self.old) }
@@ -60,7 +65,7 @@ impl Inode {
         Ok(())
     }
 
-    /// Counts a name more.
+    /// Counts one more link.
     pub fn add_link(&mut self, now: Time)
         requires { self.old.links < most_links }
         ensures { self.new ≡ with_link now self.old }
@@ -69,7 +74,8 @@ impl Inode {
         self.set_ctime(now);
     }
 
-    /// Takes the entry of that name out of a directory; the times change of any inode.
+    /// Removes the entry of that name from a directory. Without such an entry the inode keeps what it holds, and its times
+    /// change all the same.
     pub fn drop_entry(&mut self, now: Time, name: &[u8])
         ensures { self.new ≡ without_entry now name.now self.old }
     {
@@ -77,14 +83,14 @@ impl Inode {
         self.touch(now);
     }
 
-    /// Puts a directory below another one; what is no directory stays.
+    /// Puts a directory below the one of that fileid. An inode that is no directory does not change.
     pub fn set_parent(&mut self, parent: FileId)
         ensures { self.new ≡ with_parent parent self.old }
     {
         self.body.set_parent(parent);
     }
 
-    /// Counts a name less.
+    /// Counts one link less; no links stay none.
     pub fn lose_link(&mut self, now: Time)
         ensures { self.new ≡ with_link_less now self.old }
     {
@@ -92,7 +98,7 @@ impl Inode {
         self.set_ctime(now);
     }
 
-    /// Says that the inode changed now.
+    /// Sets the time at which the inode last changed.
     pub fn set_ctime(&mut self, now: Time)
         ensures { self.new ≡ with_ctime now self.old }
     {

@@ -1,7 +1,9 @@
--- There are no more entries than there were.
-use Rattle.std.proofs.Common.{arith}
-use Rattle.bfs_model.proofs.WellFormed.Entries.{no_longer}
+-- What is left is in order, and has no entry of the name.
+use Rattle.bfs_inode.proofs.DirectoryLemmas.{entry_dropped, name_gone}
 use Rattle.bfs_inode.proofs.directories.Directory.drop_entry.Goals as goal
 
 pub invariant_of-self : goal.invariant_of-self
-invariant_of-self c = rw c.drop_entry.ensures.dropped (omega (arith, no_longer c.args.name.now c.self.inside.entries.items))
+invariant_of-self c = rw c.drop_entry.ensures.dropped (entry_dropped c.args.name.now c.self.inside.entries.items c.self.invariant)
+
+pub returns-clause-gone : goal.returns-clause-gone
+returns-clause-gone c = rw c.drop_entry.ensures.dropped (name_gone c.args.name.now c.self.inside.entries.items c.self.invariant.differ)
