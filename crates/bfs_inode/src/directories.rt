@@ -88,16 +88,18 @@ impl Directory {
 
     /// The entries by rising cookie.
     pub fn iter(&self) -> Entries<'_>
-        ensures { result ≡ self.now.entries }
+        ensures value { result ≡ self.now.entries }
+        ensures within { length result ≤ most_entries }
     {
         Entries {
             left: self.entries.as_slice(),
         }
     }
 
-    /// The cookies rise from entry to entry, and no two entries have one name. The body does nothing: what is said is its
-    /// contract.
+    /// There are at most `MOST_ENTRIES` entries, their cookies rise from entry to entry, and no two have one name. The body does
+    /// nothing: what is said is its contract.
     pub fn entries_are_in_order(&self)
+        ensures few { length self.now.entries ≤ most_entries }
         ensures rising { IsRising 0 self.now.entries spent_ordinal }
         ensures differ { NamesDiffer self.now.entries }
     {

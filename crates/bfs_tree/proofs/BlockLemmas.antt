@@ -10,19 +10,23 @@ use Rattle.std.specs.Cmp.{ranked}
 use Rattle.bfs_model.specs.Tree.{Inode}
 use Rattle.bfs_model.specs.Attributes.{blocks_of, size_of}
 
+-- each inode counts fewer blocks than a word can tell
+abbrev most : ℕ
+most = 4294967295
+
 abbrev pub blocks_at : ℕ × Inode → ℕ
 blocks_at entry = blocks_of (size_of entry.1.body)
 
--- so many blocks before these entries are at most 513 for each fileid below
+-- so many blocks before these entries are at most those of an inode for each fileid below
 abbrev pub IsRoom : ℕ → List (ℕ × Inode) → Type 0
 IsRoom blocks [] = ⊤
-IsRoom blocks (e ∷ es) = (blocks ≤ 513 * e.0) × ((more : ℕ) → more ≤ 513 → IsRoom (blocks + more) es)
+IsRoom blocks (e ∷ es) = (blocks ≤ most * e.0) × ((more : ℕ) → more ≤ most → IsRoom (blocks + more) es)
 
 above : (n k : ℕ) (es : List (ℕ × Inode)) → n ≤ k → AllByRecursion (λ y. nat_cmp k y ≡ Less) (keys_of es) → AllByRecursion (λ y. n + 1 ≤ y) (keys_of es)
 above n k [] h all = tt
 above n k (e ∷ es) h all = (let lt : k < e.0 = ranked k e.0 Less (sym all.0) in omega arith, above n k es h all.1)
 
-room_from : (n blocks : ℕ) (es : List (ℕ × Inode)) → blocks ≤ 513 * n → AllByRecursion (λ y. n ≤ y) (keys_of es) → IsStrictlySortedBy nat_cmp (keys_of es) → IsRoom blocks es
+room_from : (n blocks : ℕ) (es : List (ℕ × Inode)) → blocks ≤ most * n → AllByRecursion (λ y. n ≤ y) (keys_of es) → IsStrictlySortedBy nat_cmp (keys_of es) → IsRoom blocks es
 unfolding IsStrictlySortedBy
 room_from n blocks [] h all sorted = tt
 room_from n blocks (e ∷ es) h all sorted =

@@ -1,12 +1,18 @@
 -- What is looked at in each inode to tell whether a tree is well formed. It is proved that this tells `IsWellFormedTree`, so
 -- nothing here has to be believed.
-use Rattle.std.specs.Prelude.{ℕ, ◌+◌, ◌==◌, ◌&&◌, ◌||◌, Bool, true, false, not, IsTrue}
+use Rattle.std.specs.Prelude.{ℕ, ◌+◌, ◌==◌, ◌&&◌, ◌||◌, Bool, true, false, not, IsTrue, List, length, nat_le}
 use Rattle.std.specs.List.{list_all}
 use Rattle.std.specs.Option.{option_map_or}
 use Rattle.std.specs.FinMap.{get}
+use Rattle.bfs_model.specs.Limits.{most_name_bytes}
+use Rattle.bfs_model.specs.Directories.{is_bad_name}
 use Rattle.bfs_model.specs.Tree.{Listing, Body, file, directory, link, Inode, Inodes, root_id, entries_at}
 use Rattle.bfs_model.specs.Procedures.Renaming.{is_below}
 use Rattle.bfs_model.specs.WellFormed.{times, named, directories_among, IsLimited}
+
+-- a name that an entry may have
+abbrev pub is_good_name : List ℕ → Bool
+is_good_name name = not (is_bad_name name) && nat_le (length name) most_name_bytes
 
 -- a directory may name anything but the root, and a directory that lies in another one
 abbrev pub may_name : (dir child : ℕ) → Body → Bool

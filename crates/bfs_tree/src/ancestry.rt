@@ -6,8 +6,8 @@ ghost use Rattle.bfs_model.specs.Procedures.Renaming as model;
 use crate::store::Store;
 use bfs_types::FileId;
 
-/// Whether a directory has that fileid, which the store knows. For a caller with the fileid alone: where the inode is at
-/// hand, `Inode::is_directory` says it with no look-up.
+/// Whether the inode of that fileid is a directory. The store knows the fileid. It costs one look-up; a caller that has the
+/// inode calls `Inode::is_directory`.
 pub fn is_directory<S: Store>(store: &S, id: FileId) -> bool
     requires { IsTrue ((S.reach store.now).known id) }
     ensures { result ≡ tree.is_directory (get (S.inodes store.now) id) }
@@ -18,11 +18,9 @@ pub fn is_directory<S: Store>(store: &S, id: FileId) -> bool
     }
 }
 
-/// Whether a directory is that other one or lies below it, in a store that is whole. What is no directory lies below nothing.
-/// It is to be asked before a directory comes into another one, which may not lie below it, and of each directory of a tree,
-/// which is to lie below the root.
+/// Whether `id` is `other`, or is a directory that lies below `other`. The store is whole.
 ///
-/// It costs a look-up for each directory on the way up, of which there are no more than inodes.
+/// It costs a look-up for each directory on the way up, and at most as many look-ups as there are inodes.
 pub fn is_below<S: Store>(store: &S, id: FileId, other: FileId) -> bool
     requires { IsTrue ((S.reach store.now).whole) }
     ensures { result ≡ model.is_below (S.inodes store.now) id other }

@@ -1,4 +1,4 @@
-//! The tree of a file system's inodes, and what every store of inodes promises.
+//! The tree of a file system's inodes, and the trait of all stores of inodes.
 #![tactic(auto)]
 
 mod ancestry;

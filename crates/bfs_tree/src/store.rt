@@ -10,8 +10,8 @@ ghost use Rattle.bfs_tree.specs.Lending.{LendsInode};
 use bfs_inode::Inode;
 use bfs_types::FileId;
 
-/// Inodes by their fileids. A store may know but some of the fileids, and answers for these alone; of those that it knows
-/// it may own but some, and changes these alone. One that is whole knows and owns them all.
+/// Inodes by their fileids. A store may know only some of the fileids; only of these it tells the inodes. It may own only some
+/// of those that it knows; only of these it changes the inodes. A store that is whole knows and owns all fileids.
 pub trait Store {
     // the inodes by fileid that it stands for
     ghost inodes: { Self → Inodes };
@@ -23,33 +23,33 @@ pub trait Store {
     fn is_whole(&self) -> bool
         ensures { result ≡ (reach self.now).whole };
 
-    /// How many inodes there are; of a store that is whole.
+    /// How many inodes there are, in a store that is whole.
     fn count(&self) -> usize
         requires { IsTrue ((reach self.now).whole) }
         ensures { result ≡ len (inodes self.now) };
 
-    /// How many blocks of 4,096 bytes all inodes take; of a store that is whole.
+    /// How many blocks, of `BLOCK_SIZE` bytes each, all inodes take, in a store that is whole.
     fn used_blocks(&self) -> u64
         requires { IsTrue ((reach self.now).whole) }
         ensures { result ≡ used_blocks (inodes self.now) };
 
-    /// Whether it knows what has the fileid, if only that nothing has.
+    /// Whether it knows the fileid, that is, which inode has it or that none does.
     fn knows(&self, id: FileId) -> bool
         ensures { result ≡ (reach self.now).known id };
 
-    /// The inode of a fileid that it knows, or `None` where there is none.
+    /// The inode of a fileid that it knows, or `None` if no inode has it.
     fn get(&self, id: FileId) -> Option<&Inode>
         requires { IsTrue ((reach self.now).known id) }
         ensures { option_copied result ≡ get (inodes self.now) id };
 
-    /// The inode of a fileid that it owns, to be changed, or `None` where there is none.
+    /// The inode of a fileid that it owns, to be changed, or `None` if no inode has it.
     fn get_mut(&mut self, id: FileId) -> Option<&mut Inode>
         requires { IsTrue ((reach self.old).owned id) }
         ensures value { option_copied_mut result ≡ get (inodes self.old) id }
         ensures* writes_back { sem 𝓛 (LendsInode Self.row inodes reach self.entry id result) };
 
-    /// Puts an inode at a fileid that it owns, in the place of one that is there. Where memory ran out the inode comes back,
-    /// and nothing changes.
+    /// Puts an inode at a fileid that it owns, in the place of one that is there. If memory runs out, the error is the inode
+    /// itself; then nothing changes.
     fn insert(&mut self, id: FileId, inode: Inode) -> Result<(), Inode>
         requires { IsTrue ((reach self.old).owned id) }
         ensures reach { reach self.new ≡ reach self.old }
@@ -57,7 +57,7 @@ pub trait Store {
         ensures err { OnErr result (inodes self.new ≡ inodes self.old) }
         ensures back { IfErr result (λ back. back ≡ inode) };
 
-    /// Takes out the inode of a fileid that it owns, or `None` where there is none.
+    /// Removes the inode of a fileid that it owns and gives it back, or `None` if no inode has it.
     fn remove(&mut self, id: FileId) -> Option<Inode>
         requires { IsTrue ((reach self.old).owned id) }
         ensures reach { reach self.new ≡ reach self.old }

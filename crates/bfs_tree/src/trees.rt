@@ -6,16 +6,17 @@ ghost use Rattle.bfs_model.specs.Tree.{Inodes, new_tree};
 ghost use Rattle.bfs_model.specs.Procedures.OfStatus.{used_blocks};
 ghost use Rattle.bfs_tree.specs.Maps.{map_of};
 ghost use Rattle.bfs_tree.specs.Reach.{Reach, everywhere};
+ghost use Rattle.bfs_tree.specs.Tree.{at_home};
 
 use crate::store::Store;
 use bfs_inode::Inode;
 use bfs_types::{FileId, Memory};
 use std::alloc::Global;
 use std::collections::BTreeMap;
-use std::collections::btree_map::{Iter, Keys};
+use std::collections::btree_map::Iter;
 use std::marker::Model;
 
-/// All inodes of a file system by their fileids.
+/// The inodes of a file system by their fileids.
 #[derive(Debug, Drop)]
 pub struct Tree {
     inodes: BTreeMap<u32, Inode>,
@@ -37,33 +38,34 @@ impl Model for Tree {
 }
 
 impl Tree {
-    /// A tree with the root alone.
+    /// A tree with the root alone. `Memory` if memory runs out.
     pub fn new(alloc: Global) -> Result<Tree, Memory>
-        ensures { IfOk result (λ tree. tree ≡ new_tree) }
+        ensures { IfOk result (λ tree. at_home tree ≡ new_tree) }
     {
         let mut inodes = BTreeMap::new(alloc);
         inodes.insert(FileId::root().number(), Inode::root(alloc))?;
         Ok(Tree { inodes })
     }
 
-    /// The numbers of the fileids that have an inode; they rise.
-    pub fn ids(&self) -> Keys<'_, u32, Inode>
-        ensures value { result ≡ keys self.now }
-        ensures rising { IsStrictlyIncreasing result }
+    /// The fileids of the inodes, rising. `Memory` if memory runs out.
+    pub fn ids(&self, alloc: Global) -> Result<Vec<FileId>, Memory>
+        ensures value { IfOk result (λ ids. ids.items ≡ keys (at_home self.now)) }
+        ensures rising { IfOk result (λ ids. IsStrictlyIncreasing ids.items) }
     {
-        self.inodes.keys()
+        let ids = self.inodes.keys().map(|id| FileId::new(*id));
+        Ok(ids.collect(alloc)?)
     }
 
     /// The inodes by the numbers of their fileids, which rise.
     pub(crate) fn iter(&self) -> Iter<'_, u32, Inode>
-        ensures { result ≡ entries self.now }
+        ensures { result ≡ entries (at_home self.now) }
     {
         self.inodes.iter()
     }
 }
 
 impl Store for Tree {
-    ghost inodes = { λ tree. tree };
+    ghost inodes = { at_home };
 
     ghost reach = { λ _. everywhere };
 
@@ -115,7 +117,7 @@ fn blocks_in_all(inodes: &BTreeMap<u32, Inode>) -> u64
     let mut blocks = 0;
     for (id, inode) in inodes.iter() {
         // there are no more inodes before this one than fileids below its own
-        prove!(blocks <= 513 * *id as u64);
+        prove!(blocks <= u32::MAX as u64 * *id as u64);
         blocks += inode.blocks() as u64;
     }
     blocks

@@ -1,8 +1,10 @@
-ghost use Rattle.std.specs.Prelude.{◌≡◌, ◌==◌, ◌≤◌, ◌↔◌, IsTrue, length};
+ghost use Rattle.std.specs.Prelude.{◌≡◌, ◌==◌, ◌≤◌, ◌↔◌, IsTrue};
 ghost use Rattle.std.specs.List.{list_all, AllByRecursion};
 ghost use Rattle.std.specs.FinMap.{get, entries};
+ghost use Rattle.bfs_model.specs.Limits.{most_entries};
 ghost use Rattle.bfs_model.specs.Tree.{entries_at, entries_in};
 ghost use Rattle.bfs_model.specs.WellFormed as model;
+ghost use Rattle.bfs_tree.specs.Tree.{at_home};
 ghost use Rattle.bfs_tree.specs.WellFormed as place;
 
 mod limits;
@@ -10,29 +12,35 @@ mod limits;
 use crate::ancestry::{is_below, is_directory};
 use crate::store::Store;
 use crate::trees::Tree;
-use bfs_inode::{Directory, Entry, Inode};
+use bfs_inode::{Directory, Inode};
 use bfs_types::FileId;
 use limits::is_limited;
 
 impl Tree {
-    /// Whether the tree is well formed. The root is a directory, and no entry names it. What an entry names is there. Each
-    /// other directory has one name, in the directory that is its parent, and the way up from it leads to the root. A file
-    /// or a symbolic link has as many links as names, and at least one; a directory has two, and one for each directory in
-    /// it. Links, entries, names, bytes and paths are within their limits; the names in a directory are good ones and
-    /// differ, and its cookies rise.
+    /// Whether the tree is well formed:
     ///
-    /// No memory is taken, but time: of n inodes with e entries in all, each file and symbolic link costs n + e steps; each
-    /// directory costs a comparison of each two of its names, a step for each entry of its parent, and a look-up for each
-    /// of its own entries and for each directory above it.
+    /// - The root is a directory, and no entry names it.
+    /// - Each entry names an inode of the tree.
+    /// - Each directory but the root has one name, in the directory that is its parent, and going up from parent to parent leads
+    ///   to the root.
+    /// - A file or a symbolic link has as many links as names, and at least one. A directory has two links, and one more for each
+    ///   directory in it.
+    /// - Links, entries, names, bytes and paths are within their limits.
+    /// - In each directory the names are good ones, no two are the same, and the cookies rise.
+    ///
+    /// It takes no memory. In a tree of n inodes with e entries in all, each file and symbolic link costs n + e steps. Each
+    /// directory costs a step for each byte of its names, two look-ups for each of its entries, a step for each entry of its
+    /// parent, and a look-up for each directory above it. That the names of a directory differ and its cookies rise costs
+    /// nothing, since every `Directory` keeps it so.
     pub fn well_formed(&self) -> bool
-        ensures { IsTrue result ↔ model.IsWellFormedTree self.now }
+        ensures { IsTrue result ↔ model.IsWellFormedTree (at_home self.now) }
     {
         is_directory(self, FileId::root()) && are_in_order(self)
     }
 }
 
 fn are_in_order(tree: &Tree) -> bool
-    ensures { IsTrue result ↔ AllByRecursion (place.IsInOrder tree.now) (entries tree.now) }
+    ensures { IsTrue result ↔ AllByRecursion (place.IsInOrder (at_home tree.now)) (entries (at_home tree.now)) }
 {
     for (id, inode) in tree.iter() {
         if !is_limited(inode) || !is_in_place(tree, FileId::new(*id), inode) {
@@ -44,7 +52,7 @@ fn are_in_order(tree: &Tree) -> bool
 
 // whether an inode has its links, and a directory its place
 fn is_in_place(tree: &Tree, id: FileId, inode: &Inode) -> bool
-    ensures { result ≡ place.is_in_place tree.now id inode.now.links inode.now.body }
+    ensures { result ≡ place.is_in_place (at_home tree.now) id inode.now.links inode.now.body }
 {
     match inode.directory() {
         Some(directory) => is_directory_in_place(tree, id, inode.links(), directory),
@@ -53,23 +61,25 @@ fn is_in_place(tree: &Tree, id: FileId, inode: &Inode) -> bool
 }
 
 fn is_directory_in_place(tree: &Tree, id: FileId, links: u32, directory: &Directory) -> bool
-    ensures { result ≡ place.is_directory_in_place tree.now id links directory.now }
+    ensures { result ≡ place.is_directory_in_place (at_home tree.now) id links directory.now }
 {
-    are_children(tree, id, directory.entries())
-        && links as usize == 2 + directories_among(tree, directory.entries())
+    are_children(tree, id, directory)
+        && links as usize == 2 + directories_among(tree, directory)
         && (id == FileId::root() || has_one_name_in(tree, directory.parent(), id))
         && is_below(tree, id, FileId::root())
 }
 
-fn are_children(tree: &Tree, dir: FileId, entries: &[Entry]) -> bool
-    ensures { result ≡ list_all (λ entry. place.is_child tree.now dir entry.child) entries.now }
+fn are_children(tree: &Tree, dir: FileId, directory: &Directory) -> bool
+    ensures { result ≡ list_all (λ entry. place.is_child (at_home tree.now) dir entry.child) directory.now.entries }
 {
-    entries.iter().all(|entry| is_child(tree, dir, entry.child))
+    directory
+        .iter()
+        .all(|entry| is_child(tree, dir, entry.child))
 }
 
 // whether what a directory names is there, and isn't the root or a directory that lies in another one
 fn is_child(tree: &Tree, dir: FileId, child: FileId) -> bool
-    ensures { result ≡ place.is_child tree.now dir child }
+    ensures { result ≡ place.is_child (at_home tree.now) dir child }
 {
     let Some(inode) = tree.get(child) else {
         return false;
@@ -81,11 +91,11 @@ fn is_child(tree: &Tree, dir: FileId, child: FileId) -> bool
 }
 
 #[tactic(auto, using(crate::proofs::WellFormed::Lists::directories_counted))]
-fn directories_among(tree: &Tree, entries: &[Entry]) -> usize
-    ensures value { result ≡ model.directories_among tree.now entries.now }
-    ensures within { result ≤ length entries.now }
+fn directories_among(tree: &Tree, directory: &Directory) -> usize
+    ensures value { result ≡ model.directories_among (at_home tree.now) directory.now.entries }
+    ensures within { result ≤ most_entries }
 {
-    entries
+    directory
         .iter()
         .filter(|entry| is_directory(tree, entry.child))
         .count()
@@ -93,7 +103,7 @@ fn directories_among(tree: &Tree, entries: &[Entry]) -> usize
 
 // whether the entries of all directories name it so often
 fn has_names(tree: &Tree, id: FileId, count: u32) -> bool
-    ensures { result ≡ (count == model.named tree.now id) }
+    ensures { result ≡ (count == model.named (at_home tree.now) id) }
 {
     let mut left = count as usize;
     for (_, inode) in tree.iter() {
@@ -107,7 +117,7 @@ fn has_names(tree: &Tree, id: FileId, count: u32) -> bool
 }
 
 fn has_one_name_in(tree: &Tree, dir: FileId, id: FileId) -> bool
-    ensures { result ≡ (model.times id (entries_at (get tree.now dir)) == 1) }
+    ensures { result ≡ (model.times id (entries_at (get (at_home tree.now) dir)) == 1) }
 {
     match tree.get(dir) {
         Some(inode) => names_in(inode, id) == 1,
@@ -120,14 +130,14 @@ fn names_in(inode: &Inode, id: FileId) -> usize
     ensures { result ≡ model.times id (entries_in inode.now.body) }
 {
     match inode.directory() {
-        Some(directory) => times(id, directory.entries()),
+        Some(directory) => times(directory, id),
         None => 0,
     }
 }
 
 #[tactic(auto, using(crate::proofs::WellFormed::Lists::times_counted))]
-fn times(id: FileId, entries: &[Entry]) -> usize
-    ensures { result ≡ model.times id entries.now }
+fn times(directory: &Directory, id: FileId) -> usize
+    ensures { result ≡ model.times id directory.now.entries }
 {
-    entries.iter().filter(|entry| entry.child == id).count()
+    directory.iter().filter(|entry| entry.child == id).count()
 }

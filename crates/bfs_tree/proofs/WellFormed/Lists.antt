@@ -1,17 +1,19 @@
 -- Of each inode of a map, and of each entry of a directory.
-use Rattle.std.proofs.Common.{◌≡◌, ℕ, ◌+◌, ◌≤◌, Bool, true, false, cond, T, List, [], ◌∷◌, Option, Some, refl, sym, subst, ◌∙◌, arith, eqb-true, eq-eqb}
-use Rattle.std.specs.Prelude.{◌==◌, ◌||◌, bytes_eq, count_by, is_some}
-use Rattle.std.specs.List.{AllByRecursion, list_all, list_any}
+use Rattle.std.proofs.Common.{◌≡◌, ℕ, ◌+◌, ◌≤◌, Bool, true, false, cond, not, T, List, [], ◌∷◌, length, Option, Some, refl, sym, ap, subst, ◌∙◌, arith, eqb-true, eq-eqb}
+use Rattle.std.specs.Prelude.{◌==◌, count_by, nat_le}
+use Rattle.std.specs.List.{AllByRecursion, list_all}
 use Rattle.std.specs.Ordering.{nat_cmp, eq_by_cmp}
 use Rattle.std.specs.FinMap.{find, is_sorted, get, entries, entries_sorted, get-entries, nat_cmp-IsAntisymmetric}
-use Rattle.std.proofs.lemmas.Bool.{cond-true, cond-false, and_parts, and_from}
+use Rattle.std.proofs.lemmas.Bool.{cond-true, cond-false, and_parts, and_from, not-true, leb-true, le-leb}
 use Rattle.std.proofs.lemmas.List.Recursion.{is_count_by}
 use Rattle.std.proofs.lemmas.Map.Views.{tells_apart}
 use Rattle.std.proofs.lemmas.Option.{same_Some}
 use Rattle.bfs_model.specs.Tree.{Entry, Inode, Inodes, is_directory}
-use Rattle.bfs_model.specs.Directories.{entry_named}
-use Rattle.bfs_model.specs.WellFormed.{times, directories_among}
+use Rattle.bfs_model.specs.Directories.{is_bad_name}
+use Rattle.bfs_model.specs.Limits.{most_name_bytes}
+use Rattle.bfs_model.specs.WellFormed.{times, directories_among, NamesDiffer, HasNames}
 use Rattle.bfs_model.proofs.WellFormed.Sums.{split, itself, apart}
+use Rattle.bfs_tree.specs.WellFormed.{is_good_name}
 
 -- Inodes -----------------------------------------------------------------------------------------------------------------
 
@@ -71,11 +73,15 @@ times_counted child es = sym (is_count_by (times child) (λ entry. entry.child =
 pub directories_counted : (m : Inodes) (es : List Entry) → count_by (λ entry. is_directory (get m entry.child)) es ≡ directories_among m es
 directories_counted m es = sym (is_count_by (directories_among m) (λ entry. is_directory (get m entry.child)) refl (λ e rest. counted_by (is_directory (get m e.child)) (directories_among m rest)) es)
 
--- whether a name is found
-pub found_is_any : (name : List ℕ) (es : List Entry) → list_any (λ entry. bytes_eq entry.name name) es ≡ is_some (entry_named name es)
-found_is_any name [] = refl
-found_is_any name (e ∷ es) = found_by (bytes_eq e.name name) _ (entry_named name es) (found_is_any name es)
-  where
-    found_by : (test : Bool) (rest : Bool) (found : Option Entry) → rest ≡ is_some found → (test || rest) ≡ is_some (cond test (Some e) found)
-    found_by true rest found is = refl
-    found_by false rest found is = is
+-- the names of a directory differ, so that they are good where each one is
+pub names_from : (es : List Entry) → NamesDiffer es → list_all (λ entry. is_good_name entry.name) es ≡ true → HasNames es
+names_from [] differ all = tt
+names_from (e ∷ es) differ all =
+    let parts = and_parts (is_good_name e.name) (list_all (λ entry. is_good_name entry.name) es) all in
+    let good = and_parts (not (is_bad_name e.name)) (nat_le (length e.name) most_name_bytes) parts.0 in
+    (not-true (is_bad_name e.name) good.0, leb-true (length e.name) most_name_bytes good.1, differ.0, names_from es differ.1 parts.1)
+
+pub names_of : (es : List Entry) → HasNames es → list_all (λ entry. is_good_name entry.name) es ≡ true
+names_of [] h = refl
+names_of (e ∷ es) h =
+    and_from (is_good_name e.name) _ (and_from (not (is_bad_name e.name)) (nat_le (length e.name) most_name_bytes) (ap not h.0) (le-leb (length e.name) most_name_bytes h.1)) (names_of es h.3)

@@ -1,59 +1,42 @@
-ghost use Rattle.std.specs.Prelude.{◌≡◌, ◌↔◌, IsTrue, bytes_eq};
-ghost use Rattle.std.specs.List.{list_any};
-ghost use Rattle.bfs_model.specs.Tree.{spent_ordinal};
-ghost use Rattle.bfs_model.specs.WellFormed.{HasNames, IsLimited, IsRising};
+ghost use Rattle.std.specs.Prelude.{◌≡◌, ◌↔◌, IsTrue};
+ghost use Rattle.std.specs.List.{list_all};
+ghost use Rattle.bfs_model.specs.WellFormed.{IsLimited};
+ghost use Rattle.bfs_tree.specs.WellFormed.{is_good_name};
 
-use bfs_inode::{Body, Entry, Inode, is_bad_name};
+use bfs_inode::{Body, Directory, Entry, Inode, is_bad_name};
+use bfs_types::{MOST_FILE_BYTES, MOST_PATH_BYTES};
 
-// whether an inode is within the limits; the types hold those of its links and of the lengths of what it holds
+// whether an inode is within the limits; the types keep those of its links, of what it holds, and of cookies
+#[tactic(auto, using(crate::proofs::WellFormed::Lists::names_from, crate::proofs::WellFormed::Lists::names_of))]
 pub(super) fn is_limited(inode: &Inode) -> bool
     ensures { IsTrue result ↔ IsLimited inode.now }
 {
     let links = inode.links();
     match inode.body() {
         Body::File(data) => {
-            prove!(data.len() <= 1_048_576);
+            prove!(data.len() <= MOST_FILE_BYTES);
             links >= 1
         }
         Body::Directory(directory) => {
-            cookies_rise(directory.entries()) && names_are_good(directory.entries())
+            directory.entries_are_in_order();
+            names_are_good(directory)
         }
         Body::Link(path) => {
-            prove!(path.len() <= 1024);
+            prove!(path.len() <= MOST_PATH_BYTES);
             links >= 1
         }
     }
 }
 
-fn cookies_rise(entries: &[Entry]) -> bool
-    ensures { IsTrue result ↔ IsRising 0 entries.now spent_ordinal }
+fn names_are_good(directory: &Directory) -> bool
+    ensures { result ≡ list_all (λ entry. is_good_name entry.name) directory.now.entries }
 {
-    let mut least = 0;
-    for entry in entries {
-        let cookie = u64::from(entry.cookie);
-        if cookie < least {
-            return false;
-        }
-        least = cookie + 1;
-    }
-    true
+    directory.iter().all(|entry| has_good_name(entry))
 }
 
-// whether no name is a bad one, and none is that of a later entry
-fn names_are_good(entries: &[Entry]) -> bool
-    ensures { IsTrue result ↔ HasNames entries.now }
+// its type keeps a name short
+fn has_good_name(entry: &Entry) -> bool
+    ensures { result ≡ is_good_name entry.now.name }
 {
-    for (place, entry) in entries.iter().enumerate() {
-        let name = entry.name.as_slice();
-        if is_bad_name(name) || has_name(&entries[place + 1..], name) {
-            return false;
-        }
-    }
-    true
-}
-
-fn has_name(entries: &[Entry], name: &[u8]) -> bool
-    ensures { result ≡ list_any (λ entry. bytes_eq entry.name name.now) entries.now }
-{
-    entries.iter().any(|entry| entry.name.as_slice() == name)
+    !is_bad_name(entry.name.as_slice())
 }

@@ -1,9 +1,0 @@
-use Rattle.std.proofs.Common.{drop}
-use Rattle.std.specs.Prelude.{◌↔◌}
-use Rattle.bfs_model.specs.Tree.{spent_ordinal}
-use Rattle.bfs_model.specs.WellFormed.{IsRising}
-use Rattle.bfs_tree.proofs.well_formed.limits.cookies_rise.Given as goal
-
--- all rise just if those that are left do
-abbrev pub invariant-loop-entry : goal.invariant-loop-entry
-invariant-loop-entry l = IsRising l.least (drop l.entry-index l.entries) spent_ordinal ↔ IsRising 0 l.entries spent_ordinal
