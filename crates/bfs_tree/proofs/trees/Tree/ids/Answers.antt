@@ -13,7 +13,7 @@ pub returns-clause-value : goal.returns-clause-value
 returns-clause-value c =
     let keys = map (λ e. e.0) c.self.inside.inodes.entries in
     let ran = c.in_ok-collect.ensures.ran in
-    let road = YieldsList-from_map _ (λ (id : ℕ). id) (YieldsList-at c.map.ensures.source (YieldsList-from_rest keys c.keys.ensures.rest)) c.map.ensures.closure (λ x r q k. search rules) in
+    let road = YieldsList-from_map _ (λ (id : ℕ). id) (YieldsList-at c.map-ids.ensures.source (YieldsList-from_rest keys c.keys.ensures.rest)) c.map-ids.ensures.closure (λ x r q k. search rules) in
     rw (← c.self.view_is)
     (ran.2.0 ∙ sym (map-id ran.0) ∙ items_from_drains ran.0 ran.1 road ∙ map-id keys ∙ sym (ap (map (λ e. e.0)) (entries-map_of c.self.inside.inodes c.keys.ensures.ordered)))
 
