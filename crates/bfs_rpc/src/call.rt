@@ -9,12 +9,16 @@ use crate::reject::Reject;
 use bfs_types::Cred;
 use bfs_xdr::Reader;
 
-/// A call that is not refused: which procedure of NFS version 2 it wants, for whom, and the bytes of its arguments.
+/// A call of a procedure of NFS version 2 (RFC 5531 section 9, call_body).
 #[derive(Clone, Copy, Debug, PartialEq, Eq)]
 pub struct Call<'a> {
+    /// The number by which the caller tells the reply to this call from others.
     pub xid: u32,
+    /// The number of the procedure, from 0 to 17 (RFC 1094 section 2.2).
     pub proc: u32,
+    /// The caller.
     pub cred: Cred,
+    /// The bytes of the procedure's arguments.
     pub args: &'a [u8],
 }
 
@@ -45,8 +49,8 @@ const LAST_PROCEDURE: u32 = 17;
 // the most bytes of a credential's or a verifier's body (RFC 5531 section 8.2, opaque_auth)
 const MAX_AUTH_BYTES: u32 = 400;
 
-/// The call that a message spells (RFC 5531 section 9). Where several refusals fit, it is the first in the order of
-/// `Reject`; padding is not looked at.
+/// The call that a message spells (RFC 5531 section 9), or the reason for which it is refused. If there are several reasons,
+/// it is the first in the order of `Reject`. The bytes of the padding may have any value.
 #[tactic(auto, unfolding(bfs_model::specs::Call::call_of))]
 pub fn parse_call(bytes: &[u8]) -> Result<Call<'_>, Reject>
     ensures { Gives request_of refusal_of result (model.call_of bytes.now) }

@@ -1,5 +1,5 @@
-//! ONC RPC version 2 (RFC 5531) as a server of NFS version 2 speaks it: the call that a message spells, or why it is refused,
-//! and the heads of replies.
+//! ONC RPC version 2 (RFC 5531) for a server of NFS version 2: a message read as a call, or the reason for which it is refused,
+//! and the headers of replies.
 #![tactic(auto)]
 
 mod call;

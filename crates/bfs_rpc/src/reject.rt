@@ -3,11 +3,10 @@ ghost use Rattle.bfs_rpc.specs.Calls.{code_of};
 
 use thiserror::Error;
 
-/// Why a message is not carried out as a call (RFC 5531 section 9). All but the first can be answered, under the call's xid,
-/// which they hold.
+/// Why a message is refused (RFC 5531 section 9). All but the first hold the xid of the call, under which it is answered.
 #[derive(Clone, Copy, Debug, PartialEq, Eq, Error)]
 pub enum Reject {
-    /// Not even the header can be read, or the message is no call: it gets no reply.
+    /// The header can't be read, or the message is no call: there is no reply.
     #[error("the message is not a call")]
     Silent,
     /// RPC_MISMATCH: the version of RPC is not 2.
@@ -16,7 +15,7 @@ pub enum Reject {
     /// AUTH_BADCRED: the credential is neither AUTH_NONE nor a well-formed AUTH_SYS.
     #[error("call {0}: the credential can't be read")]
     BadCred(u32),
-    /// PROG_UNAVAIL: the program is not NFS, 100003.
+    /// PROG_UNAVAIL: the program is not NFS, whose number is 100003.
     #[error("call {0}: the program is not NFS")]
     ProgUnavail(u32),
     /// PROG_MISMATCH: the version of NFS is not 2.
@@ -28,7 +27,7 @@ pub enum Reject {
 }
 
 impl Reject {
-    /// The number of this refusal, apart from those of every other.
+    /// The number of this error, which no other error of the file system has.
     pub fn code(self) -> u32
         ensures { result ≡ code_of self }
     {

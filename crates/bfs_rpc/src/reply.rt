@@ -44,7 +44,8 @@ fn put_accepted(out: &mut Vec<u8>, xid: u32, status: u32) -> Result<(), Memory>
     put_words(out, &[xid, REPLY, MSG_ACCEPTED, AUTH_NONE, 0, status])
 }
 
-/// Appends what stands before the results in the reply to a call that was carried out: a success with no results.
+/// Appends the header of the reply to a call that was carried out; the results of the procedure are to follow. `Memory` if
+/// memory runs out; then nothing is appended.
 #[tactic(auto, unfolding(bfs_model::specs::Replies::success))]
 pub fn put_success(out: &mut Vec<u8>, xid: u32) -> Result<(), Memory>
     ensures ok { OnOk result (out.new.items ≡ out.old.items ++ success xid []) }
@@ -53,7 +54,7 @@ pub fn put_success(out: &mut Vec<u8>, xid: u32) -> Result<(), Memory>
     put_accepted(out, xid, SUCCESS)
 }
 
-/// The reply to a call that was carried out, with the bytes of its results.
+/// The reply to a call that was carried out, where `body` is the bytes of the procedure's results. `Memory` if memory runs out.
 #[tactic(auto, unfolding(bfs_model::specs::Replies::success))]
 pub fn write_success(alloc: Global, xid: u32, body: &[u8]) -> Result<Vec<u8>, Memory>
     ensures { IfOk result (λ reply. reply.items ≡ success xid body.now) }
@@ -64,7 +65,7 @@ pub fn write_success(alloc: Global, xid: u32, body: &[u8]) -> Result<Vec<u8>, Me
     Ok(reply)
 }
 
-/// The reply to a call whose arguments can't be read.
+/// The reply to a call whose arguments can't be read (RFC 5531 section 9, GARBAGE_ARGS). `Memory` if memory runs out.
 #[tactic(auto, unfolding(bfs_model::specs::Replies::garbage))]
 pub fn write_garbage(alloc: Global, xid: u32) -> Result<Vec<u8>, Memory>
     ensures { IfOk result (λ reply. reply.items ≡ garbage xid) }
@@ -74,7 +75,8 @@ pub fn write_garbage(alloc: Global, xid: u32) -> Result<Vec<u8>, Memory>
     Ok(reply)
 }
 
-/// The reply to a call that is refused; of no bytes where there is none to be sent.
+/// The reply to a message that is refused. It has no bytes for `Reject::Silent`, to which no reply is sent. `Memory` if memory
+/// runs out.
 #[tactic(auto, unfolding(bfs_model::specs::Replies::refusal))]
 pub fn write_reject(alloc: Global, reject: &Reject) -> Result<Vec<u8>, Memory>
     ensures { IfOk result (λ reply. reply.items ≡ refusal (refusal_of reject.now)) }

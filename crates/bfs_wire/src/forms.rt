@@ -54,7 +54,7 @@ pub(crate) fn read_link<'a>(arguments: &mut Arguments<'a>) -> Option<NfsCall<'a>
     })
 }
 
-// READ (RFC 1094 section 2.2.7), whose total count is not looked at
+// READ (RFC 1094 section 2.2.7), whose total count is not used
 #[tactic(auto, unfolding(bfs_model::specs::Arguments::read_at))]
 pub(crate) fn read<'a>(arguments: &mut Arguments<'a>) -> Option<NfsCall<'a>>
     ensures value { option_map (λ call. (call_of call, arguments.new)) result ≡ model.read_at arguments.old }
@@ -71,7 +71,7 @@ pub(crate) fn read<'a>(arguments: &mut Arguments<'a>) -> Option<NfsCall<'a>>
     })
 }
 
-// WRITE (RFC 1094 section 2.2.9), whose begin offset and total count are not looked at
+// WRITE (RFC 1094 section 2.2.9), whose begin offset and total count are not used
 #[tactic(auto, unfolding(bfs_model::specs::Arguments::write_at))]
 pub(crate) fn write<'a>(arguments: &mut Arguments<'a>) -> Option<NfsCall<'a>>
     ensures value { option_map (λ call. (call_of call, arguments.new)) result ≡ model.write_at arguments.old }

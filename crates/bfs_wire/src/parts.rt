@@ -17,7 +17,7 @@ const HANDLE_BYTES: u32 = 32;
 // the word of a setting that is not set (RFC 1094 section 2.3.6)
 const NOT_SET: u32 = u32::MAX;
 
-// the bytes of a call's arguments that are left, whose padding is not looked at
+// the bytes of a call's arguments that are left; those of the padding may have any value
 #[derive(Drop)]
 pub(crate) struct Arguments<'a> {
     reader: Reader<'a>,
