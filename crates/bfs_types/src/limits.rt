@@ -1,6 +1,7 @@
 //! How large things may be, each limit once: code and contracts cite these constants by name, and each is tied to the model's here.
-ghost use Rattle.std.specs.Prelude.{◌≡◌};
+ghost use Rattle.std.specs.Prelude.{◌≡◌, ℕ, ◌+◌, ◌%◌};
 ghost use Rattle.bfs_model.specs.Attributes.{block_size, total_blocks, transfer_size};
+ghost use Rattle.bfs_model.specs.Changes.{permission_bits};
 ghost use Rattle.bfs_model.specs.Limits.{most_file_bytes, most_data_bytes, most_name_bytes, most_path_bytes, most_entries, most_links, most_request_bytes, most_reply_bytes, most_requests};
 
 /// The bytes of a file.
@@ -50,6 +51,7 @@ pub fn limits_are_those_of_the_model()
     ensures path_bytes { MOST_PATH_BYTES ≡ most_path_bytes }
     ensures entries { MOST_ENTRIES ≡ most_entries }
     ensures links { MOST_LINKS ≡ most_links }
+    ensures permissions { (mode : ℕ) → mode % (MOST_PERMISSIONS + 1) ≡ permission_bits mode }
     ensures request_bytes { MOST_REQUEST_BYTES ≡ most_request_bytes }
     ensures reply_bytes { MOST_REPLY_BYTES ≡ most_reply_bytes }
     ensures requests { MOST_REQUESTS ≡ most_requests }

@@ -5,7 +5,7 @@ use crate::directories::Entry;
 use std::marker::Model;
 
 /// The entries of a directory by rising cookie.
-#[derive(Drop)]
+#[derive(Debug, Drop)]
 pub struct Entries<'a> {
     pub(super) left: &'a [Entry],
 }
