@@ -145,3 +145,8 @@ pub(crate) fn run_whole<S: Store>(
 {
     run(alloc, store, ordinal, time, caller, call)
 }
+
+/// Whether a tree's inodes have these fileids.
+pub(crate) fn has_ids(tree: &Tree, wanted: &[u32]) -> bool {
+    tree.ids().eq(wanted)
+}
