@@ -28,14 +28,14 @@ pub struct Differ<T: Debug + Drop> {
     pub wanted: T,
 }
 
-/// Nothing, or `None` where the condition does not hold.
+/// `Some` where the condition holds.
 pub fn held(condition: bool) -> Option<()>
     ensures { is_some result ≡ condition }
 {
     if condition { Some(()) } else { None }
 }
 
-/// Compares two values.
+/// Compares two values, and gives both back where they are not the same.
 pub fn compared<T: PartialEq + Debug + Drop>(given: T, wanted: T) -> Result<(), Differ<T>>
     ensures { is_ok result ≡ T.eq given wanted }
 {
