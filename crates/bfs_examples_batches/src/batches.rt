@@ -1,0 +1,159 @@
+//! Batches on a file system.
+use bfs_serial::{Batch, ExecError, FileSystem, PushError, Replies, execute_serial};
+use bfs_testing::words::{ROOT_REQUEST, spells};
+use bfs_testing::{holds, same};
+use bfs_types::Time;
+use std::alloc::Global;
+use std::process::Abort;
+use std::test::Fail;
+
+const ROOT_REPLY: &str =
+    "0000000100000001000000000000000000000000000000000000000000000002000041ed000000020000000000000000000000400000100000000000000000010000000100000002000000000000000000000000000000000000000000000000";
+
+// GETATTR of the root as a message of type 1, which is a reply
+const NO_CALL: &str =
+    "000000010000000100000002000186a30000000200000001000000000000000000000000000000004246533200000001000000020000000000000000000000000000000000000000";
+
+fn one_request(alloc: Global) -> Result<Batch, Fail> {
+    let mut batch = Batch::new(alloc);
+    batch.set_time(Time::new(1, 0).ok_or("a time")?);
+    batch.push(hex::decode(alloc, ROOT_REQUEST)?.as_slice())?;
+    Ok(batch)
+}
+
+#[test]
+fn executes_one_request(rt: HostRuntime) -> Result<(), Fail> {
+    let mut files = FileSystem::new(rt.alloc())?;
+    let replies = execute_serial(rt.alloc(), &mut files, &one_request(rt.alloc())?)?;
+    holds!(rt; files.is_live());
+    same!(rt; files.next_ordinal(), Some(4));
+    same!(rt; files.last_time(), Time::new(1, 0));
+    holds!(rt; files.tree().is_some());
+    assert_eq!(rt; replies.len(), 1);
+    spells(rt.alloc(), replies.get(0), ROOT_REPLY)
+}
+
+fn front(bytes: &[u8], count: usize) -> &[u8] {
+    if count < bytes.len() {
+        &bytes[..count]
+    } else {
+        bytes
+    }
+}
+
+// the beginnings of a request, and a message that is no call
+fn without_a_header(rt: &impl Abort, alloc: Global) -> Result<Batch, Fail> {
+    let mut batch = Batch::new(alloc);
+    let good = hex::decode(alloc, ROOT_REQUEST)?;
+    same!(rt; good.len(), 72);
+    for count in [0, 3, 39] {
+        batch.push(front(good.as_slice(), count))?;
+    }
+    batch.push(hex::decode(alloc, NO_CALL)?.as_slice())?;
+    Ok(batch)
+}
+
+#[test]
+fn leaves_messages_without_a_header_unanswered(rt: HostRuntime) -> Result<(), Fail> {
+    let mut files = FileSystem::new(rt.alloc())?;
+    same!(rt; files.next_ordinal(), Some(3));
+    let batch = without_a_header(&rt, rt.alloc())?;
+    are_empty(&rt, &execute_serial(rt.alloc(), &mut files, &batch)?);
+    same!(rt; files.next_ordinal(), Some(7));
+    Ok(())
+}
+
+fn are_empty(rt: &impl Abort, replies: &Replies) {
+    holds!(rt; !replies.is_empty());
+    assert_eq!(rt; replies.len(), 4);
+    for index in 0..4 {
+        same!(rt; replies.get(index).len(), 0);
+    }
+}
+
+#[test]
+fn moves_time_alone_for_an_empty_batch(rt: HostRuntime) -> Result<(), Fail> {
+    let mut files = FileSystem::new(rt.alloc())?;
+    moves_time(
+        &rt,
+        rt.alloc(),
+        &mut files,
+        Time::new(5, 0),
+        Time::new(5, 0),
+    )?;
+    moves_time(
+        &rt,
+        rt.alloc(),
+        &mut files,
+        Time::new(3, 0),
+        Time::new(5, 1),
+    )
+}
+
+fn moves_time(
+    rt: &impl Abort,
+    alloc: Global,
+    files: &mut FileSystem,
+    proposed: Option<Time>,
+    last: Option<Time>,
+) -> Result<(), Fail> {
+    let batch = empty_batch(rt, alloc, proposed.ok_or("a time")?);
+    let replies = execute_serial(alloc, files, &batch)?;
+    same!(rt; replies.len(), 0);
+    same!(rt; files.last_time(), last);
+    same!(rt; files.next_ordinal(), Some(3));
+    Ok(())
+}
+
+fn empty_batch(rt: &impl Abort, alloc: Global, time: Time) -> Batch {
+    let mut batch = Batch::new(alloc);
+    holds!(rt; batch.is_empty());
+    same!(rt; batch.time(), Time::epoch());
+    batch.set_time(time);
+    batch
+}
+
+// a request of the longest size, and 1,023 of a byte
+fn fill(alloc: Global, batch: &mut Batch) -> Result<(), Fail> {
+    let longest = vec![in alloc; 0u8; 16_384]?;
+    batch.push(longest.as_slice())?;
+    for _ in 1..1024 {
+        batch.push(&[7])?;
+    }
+    Ok(())
+}
+
+#[test]
+fn refuses_what_a_batch_can_not_take(rt: HostRuntime) -> Result<(), Fail> {
+    let longer = vec![in rt.alloc(); 0u8; 16_385]?;
+    let mut batch = Batch::new(rt.alloc());
+    same!(rt;
+        batch.push(longer.as_slice()),
+        Err(PushError::RequestTooLong)
+    );
+    fill(rt.alloc(), &mut batch)?;
+    same!(rt; batch.len(), 1024);
+    same!(rt; batch.push(&[7]), Err(PushError::BatchFull));
+    same!(rt;
+        batch.push(longer.as_slice()),
+        Err(PushError::RequestTooLong)
+    );
+    same!(rt; batch.requests().len(), 1024);
+    assert_eq!(rt; batch.len(), 1024);
+    same!(rt; batch.request(1023).len(), 1);
+    Ok(())
+}
+
+#[test]
+fn numbers_errors(rt: HostRuntime) {
+    for (error, code) in [
+        (PushError::RequestTooLong, 12),
+        (PushError::BatchFull, 13),
+        (PushError::Memory, 40),
+    ] {
+        same!(rt; error.code(), code);
+    }
+    for (error, code) in [(ExecError::Failed, 41), (ExecError::Memory, 40)] {
+        same!(rt; error.code(), code);
+    }
+}

@@ -1,0 +1,278 @@
+//! Inodes, directories and stores, one call at a time.
+use crate::growing::{add_link, same_ids};
+use bfs_inode::{Directory, FileData, FileId, Inode};
+use bfs_testing::{holds, same};
+use bfs_tree::{Store, Tree};
+use bfs_types::{Cred, FileType, LinkPath, Memory, Name, SetTime, Settings, Time};
+use std::alloc::Global;
+use std::test::Fail;
+
+pub(crate) const UNSET: Settings = Settings {
+    mode: None,
+    uid: None,
+    gid: None,
+    size: None,
+    atime: None,
+    mtime: None,
+};
+
+const CALLER: Cred = Cred {
+    uid: 1000,
+    gid: 100,
+};
+
+fn first_second() -> Time {
+    Time::new(1, 0).unwrap_or(Time::epoch())
+}
+
+fn child_of(inode: &Inode, name: &[u8]) -> Option<FileId> {
+    Some(inode.directory()?.entry(name)?.child)
+}
+
+#[test]
+fn makes_directories_without_entries(rt: HostRuntime) {
+    let directory = Directory::new(rt.alloc(), FileId::new(7));
+    same!(rt; directory.parent(), FileId::new(7));
+    same!(rt; directory.len(), 0);
+    holds!(rt; directory.is_empty());
+}
+
+#[test]
+fn makes_the_root(rt: HostRuntime) {
+    let root = Inode::root(rt.alloc());
+    same!(rt; root.attributes(FileId::root()).fileid.number(), 2);
+    holds!(rt; root.directory().is_some());
+}
+
+fn file(alloc: Global) -> Result<Inode, Memory> {
+    Inode::new_file(alloc, first_second(), CALLER, &UNSET)
+}
+
+#[test]
+fn makes_files(rt: HostRuntime) -> Result<(), Fail> {
+    let mut file = file(rt.alloc())?;
+    holds!(rt; !file.is_directory());
+    holds!(rt; !file.is_link());
+    holds!(rt; file.link().is_none());
+    same!(rt; file.links(), 1);
+    add_link(&mut file, first_second());
+    same!(rt; file.links(), 2);
+    Ok(())
+}
+
+// two bytes, and 7.000005 as the time of the last access
+const CUT: Settings = Settings {
+    size: Some(2),
+    atime: Some(SetTime {
+        seconds: 7,
+        useconds: 5,
+    }),
+    ..UNSET
+};
+
+#[test]
+fn writes_and_cuts_files(rt: HostRuntime) -> Result<(), Fail> {
+    let mut file = written_file(rt.alloc())?;
+    same!(rt; file.file(), Some(b"\0ab".as_slice()));
+    file.set_attributes(first_second(), &CUT)?;
+    same!(rt; file.file(), Some(b"\0a".as_slice()));
+    same!(rt; file.attributes(FileId::new(3)).atime.seconds(), 7);
+    Ok(())
+}
+
+fn written_file(alloc: Global) -> Result<Inode, Memory> {
+    let mut file = file(alloc)?;
+    file.write(first_second(), 1, b"ab")?;
+    Ok(file)
+}
+
+fn root_with_entry(alloc: Global) -> Result<Inode, Memory> {
+    let mut root = Inode::root(alloc);
+    root.add_entry(Time::epoch(), 3, b"a", FileId::new(3))?;
+    Ok(root)
+}
+
+#[test]
+fn adds_entries(rt: HostRuntime) -> Result<(), Fail> {
+    let root = root_with_entry(rt.alloc())?;
+    same!(rt; child_of(&root, b"a"), Some(FileId::new(3)));
+    same!(rt; first_cookie(&root), Some(3));
+    Ok(())
+}
+
+fn first_cookie(inode: &Inode) -> Option<u32> {
+    Some(inode.directory()?.at(0)?.cookie)
+}
+
+#[test]
+fn drops_entries(rt: HostRuntime) -> Result<(), Fail> {
+    let later = first_second();
+    let mut root = root_with_entry(rt.alloc())?;
+    root.drop_entry(later, b"a");
+    holds!(rt; child_of(&root, b"a").is_none());
+    same!(rt; root.attributes(FileId::root()).mtime, later);
+    Ok(())
+}
+
+#[test]
+fn counts_a_link_less(rt: HostRuntime) {
+    let later = first_second();
+    let mut root = Inode::root(rt.alloc());
+    root.lose_link(Time::epoch());
+    same!(rt; root.links(), 1);
+    root.set_ctime(later);
+    same!(rt; root.attributes(FileId::root()).ctime, later);
+}
+
+#[test]
+fn counts_entries(rt: HostRuntime) -> Result<(), Fail> {
+    let mut directory = Directory::new(rt.alloc(), FileId::root());
+    directory.add(4, b"b", FileId::new(4))?;
+    same!(rt; directory.len(), 1);
+    Ok(())
+}
+
+// the cookie of what was dropped, what it named, and whether its name was that one
+fn drop_entry(directory: &mut Directory, name: &[u8]) -> Option<(u32, FileId, bool)> {
+    let entry = directory.drop_entry(name)?;
+    Some((entry.cookie, entry.child, entry.name.as_slice() == name))
+}
+
+#[test]
+fn takes_back_entries(rt: HostRuntime) -> Result<(), Fail> {
+    let mut directory = Directory::new(rt.alloc(), FileId::root());
+    directory.add(4, b"b", FileId::new(5))?;
+    same!(rt; drop_entry(&mut directory, b"b"), Some((4, FileId::new(5), true)));
+    same!(rt; drop_entry(&mut directory, b"b"), None);
+    Ok(())
+}
+
+#[test]
+fn moves_directories(rt: HostRuntime) {
+    let mut directory = Directory::new(rt.alloc(), FileId::root());
+    directory.set_parent(FileId::new(6));
+    same!(rt; directory.parent(), FileId::new(6));
+    let mut below = directory_below(rt.alloc(), FileId::new(7));
+    below.set_parent(FileId::new(8));
+    same!(rt; parent_of(&below), Some(FileId::new(8)));
+}
+
+fn parent_of(inode: &Inode) -> Option<FileId> {
+    Some(inode.directory()?.parent())
+}
+
+fn directory_below(alloc: Global, parent: FileId) -> Inode {
+    Inode::new_directory(alloc, first_second(), CALLER, &UNSET, parent)
+}
+
+#[test]
+fn makes_directories(rt: HostRuntime) {
+    let directory = directory_below(rt.alloc(), FileId::new(7));
+    holds!(rt; directory.is_directory());
+    same!(rt; (directory.links(), directory.blocks()), (2, 1));
+    let attributes = directory.attributes(FileId::new(3));
+    same!(rt; (attributes.permissions, attributes.size), (0o755, 64));
+    same!(rt; (attributes.uid, attributes.gid), (1000, 100));
+}
+
+#[test]
+fn makes_symbolic_links(rt: HostRuntime) -> Result<(), Fail> {
+    let now = first_second();
+    let link = Inode::new_symbolic_link(rt.alloc(), now, CALLER, &UNSET, b"a/b")?;
+    holds!(rt; link.is_link());
+    holds!(rt; link.link() == Some(b"a/b".as_slice()));
+    let attributes = link.attributes(FileId::new(3));
+    same!(rt; attributes.file_type, FileType::SymbolicLink);
+    same!(rt; (attributes.permissions, attributes.size), (0o777, 3));
+    Ok(())
+}
+
+fn add_second_link(tree: &mut Tree, id: FileId) -> bool {
+    match tree.get_mut(id) {
+        Some(inode) if inode.links() == 1 => {
+            inode.add_link(Time::epoch());
+            true
+        }
+        _ => false,
+    }
+}
+
+fn put_file(alloc: Global, tree: &mut Tree, id: FileId) -> Result<bool, Memory> {
+    let file = Inode::new_file(alloc, Time::epoch(), SUPERUSER, &UNSET)?;
+    Ok(tree.insert(id, file).is_ok())
+}
+
+#[test]
+fn keeps_inodes_by_their_fileids(rt: HostRuntime) -> Result<(), Fail> {
+    let id = FileId::new(3);
+    let mut tree = Tree::new(rt.alloc())?;
+    holds!(rt; put_file(rt.alloc(), &mut tree, id)?);
+    holds!(rt; add_second_link(&mut tree, id));
+    same!(rt; links_at(&tree, id), Some(2));
+    holds!(rt; tree.remove(id).is_some());
+    holds!(rt; tree.get(id).is_none());
+    Ok(())
+}
+
+const SUPERUSER: Cred = Cred { uid: 0, gid: 0 };
+
+// through the trait, of a store that is whole
+fn count_and_used_blocks<S: Store>(store: &S) -> Option<(usize, u64)> {
+    if store.is_whole() {
+        Some((store.count(), store.used_blocks()))
+    } else {
+        None
+    }
+}
+
+fn links_at(tree: &Tree, id: FileId) -> Option<u32> {
+    Some(tree.get(id)?.links())
+}
+
+const TWO_BLOCKS: Settings = Settings {
+    size: Some(4097),
+    ..UNSET
+};
+
+#[test]
+fn counts_inodes_and_blocks(rt: HostRuntime) -> Result<(), Fail> {
+    let alloc = rt.alloc();
+    let mut tree = Tree::new(alloc)?;
+    same!(rt; count_and_used_blocks(&tree), Some((1, 1)));
+    let file = Inode::new_file(alloc, Time::epoch(), SUPERUSER, &TWO_BLOCKS)?;
+    same!(rt; file.blocks(), 2);
+    tree.insert(FileId::new(9), file)?;
+    same!(rt; count_and_used_blocks(&tree), Some((2, 3)));
+    same_ids(&rt, &tree, &[2, 9]);
+    Ok(())
+}
+
+#[test]
+fn holds_bytes(rt: HostRuntime) -> Result<(), Fail> {
+    let mut data = written_zeros(rt.alloc())?;
+    same!(rt; data.len(), 4);
+    same!(rt; data.as_slice(), b"\0abc".as_slice());
+    cut_and_lengthen(&mut data)?;
+    same!(rt; data.as_slice(), b"\0ab\0\0".as_slice());
+    Ok(())
+}
+
+fn written_zeros(alloc: Global) -> Result<FileData, Memory> {
+    let mut data = FileData::zeros(alloc, 2)?;
+    data.write(1, b"abc")?;
+    Ok(data)
+}
+
+fn cut_and_lengthen(data: &mut FileData) -> Result<(), Memory> {
+    data.resize(3)?;
+    data.resize(5)
+}
+
+#[test]
+fn holds_paths_and_names(rt: HostRuntime) -> Result<(), Fail> {
+    let path = LinkPath::new(rt.alloc(), b"a/b")?;
+    holds!(rt; path.as_slice() == b"a/b".as_slice());
+    let name = Name::new(rt.alloc(), b"a")?;
+    holds!(rt; name.as_slice() == b"a".as_slice());
+    Ok(())
+}

@@ -1,0 +1,65 @@
+//! Pages of a directory's entries.
+use bfs_inode::{Directory, FileId, Page};
+use bfs_testing::words::letters;
+use bfs_testing::{holds, same};
+use std::alloc::Global;
+use std::process::Abort;
+use std::test::Fail;
+
+fn add_thousand(rt: &impl Abort, alloc: Global) -> Result<Directory, Fail> {
+    let mut directory = Directory::new(alloc, FileId::root());
+    for index in 0..1000 {
+        assert!(rt; directory.len() < 65_536);
+        directory.add(3 + index, &letters(index), FileId::new(3 + index))?;
+    }
+    Ok(directory)
+}
+
+// lists the page behind a cookie, and gives the last cookie on it
+fn list_page(rt: &impl Abort, directory: &Directory, cookie: u32) -> u32 {
+    let mut last = cookie;
+    let mut page = directory.page(FileId::new(7), cookie, 512);
+    // 25 entries of 20 bytes fit between the 12 bytes around them
+    for _entry in 0..25 {
+        if let Some(listed) = page.next_entry() {
+            same!(rt; listed.cookie.checked_sub(last), Some(1));
+            last = listed.cookie;
+        }
+    }
+    assert!(rt; page.next_entry().is_none());
+    same!(rt; page.is_last(), last == 1002);
+    last
+}
+
+#[test]
+fn lists_each_of_many_entries_once(rt: HostRuntime) -> Result<(), Fail> {
+    let directory = add_thousand(&rt, rt.alloc())?;
+    let mut last = 0;
+    for pages in 1..42 {
+        last = list_page(&rt, &directory, last);
+        same!(rt; last, 1002.min(25 * pages));
+    }
+    Ok(())
+}
+
+fn lists(page: &mut Page, cookie: u32, name: &[u8], child: u32) -> bool {
+    match page.next_entry() {
+        Some(listed) => {
+            listed.cookie == cookie && listed.name == name && listed.child == FileId::new(child)
+        }
+        None => false,
+    }
+}
+
+#[test]
+fn lists_the_directory_and_the_one_above_first(rt: HostRuntime) -> Result<(), Fail> {
+    let mut directory = Directory::new(rt.alloc(), FileId::root());
+    directory.add(9, b"abc", FileId::new(8))?;
+    let mut page = directory.page(FileId::new(7), 0, 8192);
+    holds!(rt; lists(&mut page, 1, b".", 7));
+    holds!(rt; lists(&mut page, 2, b"..", 2));
+    holds!(rt; lists(&mut page, 9, b"abc", 8));
+    assert!(rt; page.next_entry().is_none());
+    holds!(rt; page.is_last());
+    Ok(())
+}

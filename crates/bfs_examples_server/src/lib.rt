@@ -1,0 +1,22 @@
+//! Worked examples of procedures, one after another, as tests whose expected values come from outside: the standards' own
+//! tables, and bytes that were written by hand.
+#![tactic(auto)]
+
+#[cfg(test)]
+mod answers;
+#[cfg(test)]
+mod directories;
+#[cfg(test)]
+mod files;
+#[cfg(test)]
+mod limits;
+#[cfg(test)]
+mod links;
+#[cfg(test)]
+mod listings;
+#[cfg(test)]
+mod refusals;
+#[cfg(test)]
+mod session;
+#[cfg(test)]
+mod steps;

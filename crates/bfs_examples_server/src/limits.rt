@@ -1,0 +1,156 @@
+//! What is refused where ordinals, links or entries are at their end.
+use crate::steps::{Step, runs};
+use bfs_inode::{FileId, Inode};
+use bfs_testing::numbers::{
+    CREATE, FBIG, GETATTR, LINK, LOOKUP, MKDIR, NOENT, NOSPC, OK, READDIR, REMOVE, RENAME, RMDIR,
+    SYMLINK,
+};
+use bfs_testing::words::{A, B, C, D, E, FIFTH, FOURTH, NINTH, ROOT, THIRD, UNSET, letters};
+use bfs_testing::{attributes, same};
+use bfs_tree::{Store, Tree};
+use bfs_types::{Memory, Ordinal, Time};
+use std::alloc::Global;
+use std::test::Fail;
+
+// the file `a` and the directories `d` and `d/e`
+static MADE: &[Step] = &[
+    Step(CREATE, &[ROOT, A, UNSET], &[OK, THIRD, A_MADE]),
+    Step(MKDIR, &[ROOT, D, UNSET], &[OK, FOURTH, D_MADE]),
+    Step(MKDIR, &[FOURTH, E, UNSET], &[OK, FIFTH, E_MADE]),
+];
+
+const A_MADE: &[u32] = attributes!(file 3, links 1, size 0, blocks 0, times 1 1 1);
+
+const D_MADE: &[u32] = attributes!(directory 4, links 2, size 64, times 1 1 1);
+
+const E_MADE: &[u32] = attributes!(directory 5, links 2, size 64, times 1 1 1);
+
+// the path `b`
+const PATH: &[u32] = &[1, 0x62000000];
+
+fn made(alloc: Global) -> Result<Tree, Fail> {
+    let mut tree = Tree::new(alloc)?;
+    runs(alloc, &mut tree, Ordinal::first(), MADE)?;
+    Ok(tree)
+}
+
+// under that ordinal and those behind it
+fn runs_on(alloc: Global, tree: &mut Tree, ordinal: u64, steps: &[Step]) -> Result<(), Fail> {
+    let first = Ordinal::new(ordinal).ok_or("an ordinal")?;
+    runs(alloc, tree, first, steps)
+}
+
+static AT_THE_END: &[Step] = &[
+    Step(CREATE, &[ROOT, B, UNSET], &[NOSPC]),
+    Step(MKDIR, &[ROOT, B, UNSET], &[NOSPC]),
+    Step(SYMLINK, &[ROOT, B, PATH, UNSET], &[NOSPC]),
+    Step(LINK, &[THIRD, ROOT, B], &[NOSPC]),
+    Step(RENAME, &[ROOT, A, ROOT, B], &[NOSPC]),
+    Step(RENAME, &[ROOT, A, ROOT, A], &[OK]),
+    Step(REMOVE, &[ROOT, A], &[OK]),
+    Step(RMDIR, &[FOURTH, E], &[OK]),
+    Step(RMDIR, &[ROOT, D], &[OK]),
+];
+
+#[test]
+fn makes_nothing_at_a_spent_ordinal(rt: HostRuntime) -> Result<(), Fail> {
+    let mut tree = made(rt.alloc())?;
+    runs_on(rt.alloc(), &mut tree, 4_294_967_296, AT_THE_END)
+}
+
+const TOO_LARGE: &[u32] = &[
+    0xffffffff, 0xffffffff, 0xffffffff, 1048577, 0xffffffff, 0xffffffff, 0xffffffff, 0xffffffff,
+];
+
+static ABOVE_THE_LIMIT: &[Step] = &[Step(CREATE, &[ROOT, A, TOO_LARGE], &[FBIG])];
+
+#[test]
+fn makes_no_file_above_the_limit(rt: HostRuntime) -> Result<(), Fail> {
+    let alloc = rt.alloc();
+    let mut tree = Tree::new(alloc)?;
+    runs(alloc, &mut tree, Ordinal::first(), ABOVE_THE_LIMIT)
+}
+
+// gives an inode as many links as it may have, and counts them
+fn add_all_links(tree: &mut Tree, id: FileId) -> Result<u32, Fail> {
+    let inode = tree.get_mut(id).ok_or("an inode")?;
+    for _link in 0..32_767 {
+        if inode.links() < 32_767 {
+            inode.add_link(Time::epoch());
+        }
+    }
+    Ok(inode.links())
+}
+
+const NINTH_MADE: &[u32] = attributes!(directory 9, links 2, size 64, times 1 1 1);
+
+static BEYOND_THE_LAST: &[Step] = &[
+    Step(MKDIR, &[ROOT, B, UNSET], &[NOSPC]),
+    Step(LINK, &[THIRD, FOURTH, B], &[NOSPC]),
+    Step(RENAME, &[FOURTH, E, ROOT, B], &[NOSPC]),
+    Step(MKDIR, &[FOURTH, B, UNSET], &[OK, NINTH, NINTH_MADE]),
+    Step(RENAME, &[ROOT, D, ROOT, B], &[OK]),
+    Step(SYMLINK, &[ROOT, D, PATH, UNSET], &[OK]),
+];
+
+#[test]
+fn makes_no_link_beyond_the_last(rt: HostRuntime) -> Result<(), Fail> {
+    let mut tree = made(rt.alloc())?;
+    for id in [FileId::root(), FileId::new(3)] {
+        same!(rt; add_all_links(&mut tree, id)?, 32_767);
+    }
+    runs_on(rt.alloc(), &mut tree, 6, BEYOND_THE_LAST)
+}
+
+// gives a directory as many entries as it may have, all of them names of a file
+fn add_all_entries(tree: &mut Tree, directory: FileId, file: FileId) -> Result<(), Fail> {
+    let inode = tree.get_mut(directory).ok_or("a directory")?;
+    for index in 0..65_536 {
+        match inode.directory() {
+            Some(directory) if directory.len() < 65_536 => {}
+            _ => return Err(Fail::new("no room for the entry")),
+        }
+        inode.add_entry(Time::epoch(), 4 + index, &letters(index), file)?;
+    }
+    Ok(())
+}
+
+const FULL: &[u32] = &[
+    2, 0x41ed, 2, 65534, 65534, 2097216, 4096, 0, 513, 1, 5, 1, 0, 0, 0, 0, 0,
+];
+
+// `aaaa`, the first of the names, and `pppp`, the last
+const FIRST_NAME: &[u32] = &[4, 0x61616161];
+
+const LAST_NAME: &[u32] = &[4, 0x70707070];
+
+// the name `b`, at the end of a page that is the last
+const ENTRY_B: &[u32] = &[1, 3, 1, 0x62000000, 70006, 0, 1];
+
+const LATE: &[u32] = &[0x42465332, 1, 70010, 0, 0, 0, 0, 0];
+
+const LATE_MADE: &[u32] = attributes!(file 70010, links 1, size 0, blocks 0, times 1 1 1);
+
+static IN_A_FULL_DIRECTORY: &[Step] = &[
+    Step(GETATTR, &[FIFTH], &[OK, FULL]),
+    Step(CREATE, &[FIFTH, B, UNSET], &[NOSPC]),
+    Step(MKDIR, &[FIFTH, B, UNSET], &[NOSPC]),
+    Step(SYMLINK, &[FIFTH, B, PATH, UNSET], &[NOSPC]),
+    Step(LINK, &[THIRD, FIFTH, B], &[NOSPC]),
+    Step(RENAME, &[ROOT, A, FIFTH, B], &[NOSPC]),
+    // but an entry that goes leaves its place to another one
+    Step(RENAME, &[FIFTH, LAST_NAME, FIFTH, B], &[OK]),
+    Step(LOOKUP, &[FIFTH, B], &[OK, THIRD, A_MADE]),
+    Step(LOOKUP, &[FIFTH, LAST_NAME], &[NOENT]),
+    Step(READDIR, &[FIFTH, &[65538, 8192]], &[OK, ENTRY_B]),
+    Step(CREATE, &[ROOT, C, UNSET], &[OK, LATE, LATE_MADE]),
+    Step(RENAME, &[ROOT, C, FIFTH, FIRST_NAME], &[OK]),
+    Step(LOOKUP, &[FIFTH, FIRST_NAME], &[OK, LATE, LATE_MADE]),
+];
+
+#[test]
+fn makes_no_entry_in_a_full_directory(rt: HostRuntime) -> Result<(), Fail> {
+    let mut tree = made(rt.alloc())?;
+    add_all_entries(&mut tree, FileId::new(5), FileId::new(3))?;
+    runs_on(rt.alloc(), &mut tree, 70_000, IN_A_FULL_DIRECTORY)
+}

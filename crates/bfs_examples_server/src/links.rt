@@ -1,0 +1,99 @@
+//! Names of a file, one or more, and symbolic links.
+use crate::steps::{Step, executes, has_ids, serves};
+use bfs_testing::numbers::{
+    CREATE, GETATTR, LINK, LOOKUP, MKDIR, NOTDIR, OK, PERM, READLINK, REMOVE, RMDIR, SETATTR,
+    STALE, SYMLINK,
+};
+use bfs_testing::words::{A, B, D, FIFTH, FOURTH, L, ROOT, THIRD, UNSET};
+use bfs_testing::{attributes, holds, same};
+use bfs_types::Time;
+use std::test::Fail;
+
+const THIRD_MADE: &[u32] = attributes!(file 3, links 1, size 0, blocks 0, times 1 1 1);
+
+const FIFTH_MADE: &[u32] = attributes!(file 5, links 1, size 0, blocks 0, times 2 2 2);
+
+static NAMED_AGAIN: &[&[Step]] = &[
+    &[Step(CREATE, &[ROOT, A, UNSET], &[OK, THIRD, THIRD_MADE])],
+    &[
+        Step(REMOVE, &[ROOT, A], &[OK]),
+        Step(CREATE, &[ROOT, A, UNSET], &[OK, FIFTH, FIFTH_MADE]),
+        Step(LOOKUP, &[ROOT, A], &[OK, FIFTH, FIFTH_MADE]),
+    ],
+];
+
+#[test]
+fn gives_a_removed_name_to_another_file(rt: HostRuntime) -> Result<(), Fail> {
+    serves(rt.alloc(), NAMED_AGAIN)
+}
+
+const DIRECTORY: &[u32] = attributes!(directory 3, links 2, size 64, times 1 1 1);
+
+const FILE: &[u32] = attributes!(file 4, links 1, size 0, blocks 0, times 1 1 1);
+
+static UNNAMED: &[&[Step]] = &[
+    &[
+        Step(MKDIR, &[ROOT, D, UNSET], &[OK, THIRD, DIRECTORY]),
+        Step(CREATE, &[ROOT, A, UNSET], &[OK, FOURTH, FILE]),
+        Step(LINK, &[FOURTH, THIRD, B], &[OK]),
+    ],
+    &[
+        Step(REMOVE, &[ROOT, A], &[OK]),
+        Step(REMOVE, &[THIRD, B], &[OK]),
+        Step(GETATTR, &[FOURTH], &[STALE]),
+    ],
+];
+
+#[test]
+fn keeps_a_file_while_it_has_a_name(rt: HostRuntime) -> Result<(), Fail> {
+    serves(rt.alloc(), UNNAMED)
+}
+
+// the path `a/b`
+const PATH: &[u32] = &[3, 0x612f6200];
+
+const NO_BYTES: &[u32] = &[
+    0xffffffff, 0xffffffff, 0xffffffff, 0, 0xffffffff, 0xffffffff, 0xffffffff, 0xffffffff,
+];
+
+static PATH_HELD: &[&[Step]] = &[&[
+    Step(SYMLINK, &[ROOT, L, PATH, UNSET], &[OK]),
+    Step(READLINK, &[THIRD], &[OK, PATH]),
+    Step(SETATTR, &[THIRD, NO_BYTES], &[PERM]),
+    Step(RMDIR, &[ROOT, L], &[NOTDIR]),
+]];
+
+#[test]
+fn holds_a_path_in_a_symbolic_link(rt: HostRuntime) -> Result<(), Fail> {
+    let files = executes(rt.alloc(), PATH_HELD)?;
+    let tree = files.tree().ok_or("a live file system")?;
+    holds!(rt; has_ids(tree, &[2, 3]));
+    same!(rt; files.last_time(), Time::new(1, 0));
+    Ok(())
+}
+
+// mode 0600, uid 7, gid 8, 5 bytes, and 9.000002 as the time of the last access
+const SETTINGS: &[u32] = &[0o600, 7, 8, 5, 9, 2, 0xffffffff, 0xffffffff];
+
+const SET: &[u32] = &[5, 0o120777, 1, 7, 8, 0, 4096, 0, 0, 1, 3, 9, 2, 1, 0, 1, 0];
+
+// the mode that is set is 02600
+const MODE_SET: &[u32] = &[5, 0o122600, 1, 7, 8, 0, 4096, 0, 0, 1, 3, 9, 2, 1, 0, 2, 0];
+
+const MODE: &[u32] = &[
+    0o2600, 0xffffffff, 0xffffffff, 0xffffffff, 0xffffffff, 0xffffffff, 0xffffffff, 0xffffffff,
+];
+
+static FOLLOWED: &[&[Step]] = &[
+    &[
+        Step(SYMLINK, &[ROOT, L, &[0], SETTINGS], &[OK]),
+        Step(READLINK, &[THIRD], &[OK, &[0]]),
+        Step(LOOKUP, &[ROOT, L], &[OK, THIRD, SET]),
+    ],
+    &[Step(SETATTR, &[THIRD, MODE], &[OK, MODE_SET])],
+];
+
+#[test]
+fn makes_symbolic_links_for_all_to_follow(rt: HostRuntime) -> Result<(), Fail> {
+    serves(rt.alloc(), FOLLOWED)
+}

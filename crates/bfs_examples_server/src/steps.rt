@@ -1,0 +1,152 @@
+//! Calls one after another, each with the results that it is to get.
+ghost use Rattle.std.specs.Prelude.{◌≡◌, IsTrue};
+ghost use Rattle.bfs_model.specs.Short.{IsShort};
+ghost use Rattle.bfs_wire.specs.Calls.{call_of};
+
+use bfs_procs::run;
+use bfs_rpc::Cred;
+use bfs_serial::{Batch, FileSystem, Replies, execute_serial};
+use bfs_testing::asserts::compared;
+use bfs_testing::words::{call, put_parts, same_bytes, spelled};
+use bfs_tree::{Store, Tree};
+use bfs_types::{Memory, Ordinal, Time};
+use bfs_wire::{NfsCall, NfsReply, parse_args, write_reply};
+use std::alloc::Global;
+use std::test::Fail;
+
+/// A call's procedure, the words of its arguments, and those of the results that it is to get.
+pub(crate) struct Step(
+    pub(crate) u32,
+    pub(crate) &'static [&'static [u32]],
+    pub(crate) &'static [&'static [u32]],
+);
+
+/// Executes batches of calls on a new file system, the first at one second, the next at two and so on, and compares each
+/// reply. The xids of a batch are 1, 2 and so on.
+pub(crate) fn executes(alloc: Global, batches: &[&[Step]]) -> Result<FileSystem, Fail> {
+    let mut files = FileSystem::new(alloc)?;
+    let mut second = 1;
+    for steps in batches {
+        execute(alloc, &mut files, second, steps)?;
+        second = second.saturating_add(1);
+    }
+    Ok(files)
+}
+
+/// As `executes`, where nothing is asked of the file system afterwards.
+pub(crate) fn serves(alloc: Global, batches: &[&[Step]]) -> Result<(), Fail> {
+    executes(alloc, batches)?;
+    Ok(())
+}
+
+fn execute(alloc: Global, files: &mut FileSystem, second: u32, steps: &[Step]) -> Result<(), Fail> {
+    let batch = batch_of(alloc, second, steps)?;
+    let replies = execute_serial(alloc, files, &batch)?;
+    compares(alloc, &replies, steps)
+}
+
+fn batch_of(alloc: Global, second: u32, steps: &[Step]) -> Result<Batch, Fail> {
+    let mut batch = Batch::new(alloc);
+    batch.set_time(Time::new(second, 0).ok_or("a time")?);
+    let mut xid = 1;
+    for step in steps {
+        batch.push(request(alloc, xid, step)?.as_slice())?;
+        xid = xid.saturating_add(1);
+    }
+    Ok(batch)
+}
+
+fn request(alloc: Global, xid: u32, step: &Step) -> Result<Vec<u8>, Memory> {
+    let Step(procedure, arguments, _) = step;
+    let mut bytes = call(alloc, xid, *procedure)?;
+    put_parts(&mut bytes, arguments)?;
+    Ok(bytes)
+}
+
+fn compares(alloc: Global, replies: &Replies, steps: &[Step]) -> Result<(), Fail> {
+    compared(replies.len(), steps.len())?;
+    let mut xid = 1;
+    for index in 0..replies.len() {
+        let step = steps.get(index).ok_or("a step for each reply")?;
+        let wanted = reply(alloc, xid, step)?;
+        same_bytes(alloc, replies.get(index), wanted.as_slice())?;
+        xid = xid.saturating_add(1);
+    }
+    Ok(())
+}
+
+// the reply to a call that succeeds
+fn reply(alloc: Global, xid: u32, step: &Step) -> Result<Vec<u8>, Memory> {
+    let Step(_, _, results) = step;
+    let mut bytes = spelled(alloc, &[&[xid, 1, 0, 0, 0, 0]])?;
+    put_parts(&mut bytes, results)?;
+    Ok(bytes)
+}
+
+/// Carries out calls on a tree, the first under that ordinal, at one second and for somebody without a credential, and
+/// compares the words of each one's results.
+pub(crate) fn runs(
+    alloc: Global,
+    tree: &mut Tree,
+    first: Ordinal,
+    steps: &[Step],
+) -> Result<(), Fail> {
+    let mut ordinal = first;
+    for step in steps {
+        runs_one(alloc, tree, ordinal, step)?;
+        ordinal = ordinal.next();
+    }
+    Ok(())
+}
+
+const NOBODY: Cred = Cred {
+    uid: 65534,
+    gid: 65534,
+};
+
+fn runs_one(alloc: Global, tree: &mut Tree, ordinal: Ordinal, step: &Step) -> Result<(), Fail> {
+    let Step(_, _, results) = step;
+    let given = run_words(alloc, tree, ordinal, step)?;
+    let wanted = spelled(alloc, results)?;
+    same_bytes(alloc, given.as_slice(), wanted.as_slice())
+}
+
+fn run_words(
+    alloc: Global,
+    tree: &mut Tree,
+    ordinal: Ordinal,
+    step: &Step,
+) -> Result<Vec<u8>, Fail> {
+    let Step(procedure, arguments, _) = step;
+    let arguments = spelled(alloc, arguments)?;
+    match parse_args(*procedure, arguments.as_slice()) {
+        Ok(call) => {
+            let time = Time::new(1, 0).unwrap_or(Time::epoch());
+            let reply = run_whole(alloc, tree, ordinal, time, &NOBODY, &call)?;
+            Ok(write_reply(alloc, &reply)?)
+        }
+        Err(_) => Err(Fail::new(format_args!("the arguments of procedure {procedure}"))),
+    }
+}
+
+/// Carries out a call on a whole store, which knows what any call reads and owns what it writes.
+#[tactic(auto, using(bfs_serial::proofs::Whole::knows_all_touched))]
+pub(crate) fn run_whole<S: Store>(
+    alloc: Global,
+    store: &mut S,
+    ordinal: Ordinal,
+    time: Time,
+    caller: &Cred,
+    call: &NfsCall,
+) -> Result<NfsReply, Memory>
+    requires whole { IsTrue ((S.reach store.old).whole) }
+    requires short { IsShort (call_of call.now) }
+    ensures { S.reach store.new ≡ S.reach store.old }
+{
+    run(alloc, store, ordinal, time, caller, call)
+}
+
+/// Whether a tree's inodes have these fileids.
+pub(crate) fn has_ids(tree: &Tree, wanted: &[u32]) -> bool {
+    tree.ids().eq(wanted)
+}
