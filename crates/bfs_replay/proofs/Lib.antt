@@ -2,10 +2,7 @@ pub mod Asked
 pub mod Cuts
 pub mod Digits
 pub mod Rows
-pub mod TooMany
-pub mod Front
-pub mod InBlocks
 pub mod Usages
 pub mod Halves
-pub mod RunningLemmas
 pub mod AllTaken
+pub mod Printed
