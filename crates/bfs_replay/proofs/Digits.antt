@@ -1,10 +1,12 @@
--- A number digit by digit.
-use Rattle.std.proofs.Common.{◌≡◌, ◌+◌, ◌*◌, ◌<◌, ◌≤◌, ◌&&◌, ℕ, List, [], ◌∷◌, length, Bool, true, false, Option, Some, None, if◌then◌else◌, nat_le, refl, sym, arith}
+-- A number digit by digit, and bytes by two digits each.
+use Rattle.std.proofs.Common.{◌≡◌, ◌+◌, ◌*◌, ◌<◌, ◌≤◌, ◌&&◌, ℕ, List, [], ◌∷◌, length, Bool, true, false, Option, Some, None, if◌then◌else◌, nat_le, Ok, refl, sym, arith}
 use Rattle.std.specs.Prelude.{option_and_then}
 use Rattle.std.specs.Char.{is_ascii_digit, digit_value}
 use Rattle.std.specs.Str.{all_ascii_digits}
 use Rattle.std.specs.Str.Parse.{digits_value_after}
 use Rattle.std.proofs.lemmas.Bool.{le-leb, lt-leb, leb-true, leb-false}
+use Rattle.hex.specs.Hex.{decode_of}
+use Rattle.hex.proofs.HexLemmas.{decode_of-ok}
 use Rattle.bfs_replay.specs.Words.{number_spelled, with_digit}
 
 -- the number with all these digits behind it, where each number on the way is at most `max`
@@ -56,3 +58,7 @@ pub number_of_nothing : (max : ℕ) (word : List ℕ) → length word ≡ 0 → 
 unfolding number_spelled
 number_of_nothing max [] none = refl
 number_of_nothing max (byte ∷ bytes) none = absurd (omega arith)
+
+-- a text decodes to half as many bytes as it has digits
+pub half : (digits bytes : List ℕ) → decode_of digits ≡ Ok bytes → length digits ≡ 2 * length bytes
+half digits bytes is = (decode_of-ok digits bytes is).2

@@ -5,16 +5,16 @@ use Rattle.std.specs.Prelude.{⊤, replicate, is_ok}
 use Rattle.std.specs.List.{flat_map}
 use Rattle.hex.proofs.OnLiterals.{hex_on_literals}
 use Rattle.bfs_replay.specs.Events.{Request}
-use Rattle.bfs_replay.specs.Lines.{call_spelled, line_said, time_spelled}
+use Rattle.bfs_replay.specs.Lines.{call_spelled, line_spelled, time_spelled}
 use Rattle.bfs_replay.specs.Output.{reply_line}
-use Rattle.bfs_replay.specs.Trace.{is_passed_over, read_lines, trace_said}
+use Rattle.bfs_replay.specs.Trace.{is_passed_over, read_lines, trace_spelled}
 use Rattle.bfs_replay.specs.Words.{number_spelled, parts}
 use Rattle.bfs_replay.specs.declared.events.Event.{Event}
 use Rattle.bfs_replay.specs.declared.events.Event.TheVariants as event
 
 -- what computes what a text says
 unfoldable pub read_on_literals : ⊤
-unfolding hex_on_literals parts number_spelled time_spelled call_spelled line_said is_passed_over read_lines
+unfolding hex_on_literals parts number_spelled time_spelled call_spelled line_spelled is_passed_over read_lines
 read_on_literals = tt
 
 abbrev pub block_at : (seconds useconds : ℕ) → List Request → Event
@@ -24,72 +24,72 @@ abbrev pub request_by : (client timestamp : ℕ) → (call : List ℕ) → Reque
 request_by c t bytes = record { client = c; timestamp = t; call = bytes }
 
 -- comments and empty lines, leading zeros, both cases of digits, and a last line with no newline
-pub row-two_requests : trace_said (codes "# a\n\nbatch 01.000000\n0 1 raw 00Ff\n15 007 raw aB")
+pub row-two_requests : trace_spelled (codes "# a\n\nbatch 01.000000\n0 1 raw 00Ff\n15 007 raw aB")
     ≡ Ok (block_at 1 0 (request_by 0 1 (0 ∷ 255 ∷ []) ∷ request_by 15 7 (171 ∷ []) ∷ []) ∷ [])
 unfolding read_on_literals
 row-two_requests = refl
 
 -- the ends of what numbers may be
-pub row-last_numbers : trace_said (codes "batch 4294967295.999999\n15 18446744073709551615 raw 00\n")
+pub row-last_numbers : trace_spelled (codes "batch 4294967295.999999\n15 18446744073709551615 raw 00\n")
     ≡ Ok (block_at 4294967295 999999 (request_by 15 18446744073709551615 (0 ∷ []) ∷ []) ∷ [])
 unfolding read_on_literals
 row-last_numbers = refl
 
-pub row-nothing : trace_said [] ≡ Ok []
+pub row-nothing : trace_spelled [] ≡ Ok []
 unfolding read_on_literals
 row-nothing = refl
 
 -- Lines that break the grammar -------------------------------------------------------------------------------------
 
-pub row-no_block : trace_said (codes "# a\n0 1 raw 00\n") ≡ Err 2
+pub row-no_block : trace_spelled (codes "# a\n0 1 raw 00\n") ≡ Err 2
 unfolding read_on_literals
 row-no_block = refl
 
-pub row-other_verb : trace_said (codes "batch 1.000000\n0 1 raw 00\n0 2 Raw 00\n") ≡ Err 3
+pub row-other_verb : trace_spelled (codes "batch 1.000000\n0 1 raw 00\n0 2 Raw 00\n") ≡ Err 3
 unfolding read_on_literals
 row-other_verb = refl
 
-pub row-carriage_return : trace_said (codes "batch 1.000000\r\n") ≡ Err 1
+pub row-carriage_return : trace_spelled (codes "batch 1.000000\r\n") ≡ Err 1
 unfolding read_on_literals
 row-carriage_return = refl
 
-pub row-carriage_return_behind_call : trace_said (codes "batch 1.000000\n0 1 raw 00\r\n") ≡ Err 2
+pub row-carriage_return_behind_call : trace_spelled (codes "batch 1.000000\n0 1 raw 00\r\n") ≡ Err 2
 unfolding read_on_literals
 row-carriage_return_behind_call = refl
 
-pub row-carriage_return_alone : trace_said (codes "# a comment\r\n\r\n") ≡ Err 2
+pub row-carriage_return_alone : trace_spelled (codes "# a comment\r\n\r\n") ≡ Err 2
 unfolding read_on_literals
 row-carriage_return_alone = refl
 
-pub row-two_spaces : trace_said (codes "batch  1.000000\n") ≡ Err 1
+pub row-two_spaces : trace_spelled (codes "batch  1.000000\n") ≡ Err 1
 unfolding read_on_literals
 row-two_spaces = refl
 
-pub row-last_space : trace_said (codes "batch 1.000000 \n") ≡ Err 1
+pub row-last_space : trace_spelled (codes "batch 1.000000 \n") ≡ Err 1
 unfolding read_on_literals
 row-last_space = refl
 
-pub row-five_digits : trace_said (codes "batch 1.00000\n") ≡ Err 1
+pub row-five_digits : trace_spelled (codes "batch 1.00000\n") ≡ Err 1
 unfolding read_on_literals
 row-five_digits = refl
 
-pub row-sign : trace_said (codes "batch +1.000000\n") ≡ Err 1
+pub row-sign : trace_spelled (codes "batch +1.000000\n") ≡ Err 1
 unfolding read_on_literals
 row-sign = refl
 
-pub row-late_time : trace_said (codes "batch 4294967296.000000\n") ≡ Err 1
+pub row-late_time : trace_spelled (codes "batch 4294967296.000000\n") ≡ Err 1
 unfolding read_on_literals
 row-late_time = refl
 
-pub row-other_client : trace_said (codes "batch 1.000000\n16 1 raw 00") ≡ Err 2
+pub row-other_client : trace_spelled (codes "batch 1.000000\n16 1 raw 00") ≡ Err 2
 unfolding read_on_literals
 row-other_client = refl
 
-pub row-odd_digits : trace_said (codes "batch 1.000000\n0 1 raw 000") ≡ Err 2
+pub row-odd_digits : trace_spelled (codes "batch 1.000000\n0 1 raw 000") ≡ Err 2
 unfolding read_on_literals
 row-odd_digits = refl
 
-pub row-no_bytes : trace_said (codes "batch 1.000000\n0 1 raw ") ≡ Err 2
+pub row-no_bytes : trace_spelled (codes "batch 1.000000\n0 1 raw ") ≡ Err 2
 unfolding read_on_literals
 row-no_bytes = refl
 
@@ -97,17 +97,17 @@ abbrev pub requests_behind_batch : ℕ → List ℕ
 requests_behind_batch count = codes "batch 1.000000\n" ++ flat_map (λ line. line) (replicate count (codes "0 1 raw 00\n"))
 
 -- a block has room for 1,024 requests
-pub row-full_block : is_ok (trace_said (requests_behind_batch 1024)) ≡ true
+pub row-full_block : is_ok (trace_spelled (requests_behind_batch 1024)) ≡ true
 unfolding read_on_literals
 row-full_block = refl
 
-pub row-request_too_many : trace_said (requests_behind_batch 1025) ≡ Err 1026
+pub row-request_too_many : trace_spelled (requests_behind_batch 1025) ≡ Err 1026
 unfolding read_on_literals
 row-request_too_many = refl
 
 -- Events and replies -----------------------------------------------------------------------------------------------
 
-pub row-blocks : trace_said (codes "batch 1.000000\n0 1 raw 00\n3 1 raw 01\nbatch 2.000000\n# a comment\r\nbatch 3.000000\n0 2 raw 02\n")
+pub row-blocks : trace_spelled (codes "batch 1.000000\n0 1 raw 00\n3 1 raw 01\nbatch 2.000000\n# a comment\r\nbatch 3.000000\n0 2 raw 02\n")
     ≡ Ok (block_at 1 0 (request_by 0 1 (0 ∷ []) ∷ request_by 3 1 (1 ∷ []) ∷ []) ∷ block_at 2 0 [] ∷ block_at 3 0 (request_by 0 2 (2 ∷ []) ∷ []) ∷ [])
 unfolding read_on_literals
 row-blocks = refl

@@ -48,7 +48,7 @@ asked_by words = unless_faulty (fault_of replay_app words) (asked_among (matches
 abbrev pub as_asked : Options → Asked
 as_asked options = record { trace = options.trace.now; engine = options.engine }
 
--- the options are those that the words ask for; where memory ran out nothing is said
+-- the options are those that the words ask for; unspecified where memory ran out
 abbrev pub Asks : Result Options UsageError → Option Asked → Type 0
 Asks (Ok options) asked = asked ≡ Some (as_asked options)
 Asks (Err error.Usage) asked = asked ≡ None

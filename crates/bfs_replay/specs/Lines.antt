@@ -57,5 +57,5 @@ line_in [] = None
 line_in (first ∷ words) = if bytes_eq first (codes "batch") then batch_line words else request_line first words
 
 -- what a line says, or None where it breaks the grammar
-unfoldable pub line_said : List ℕ → Option Line
-line_said text = line_in (parts 32 text)
+unfoldable pub line_spelled : List ℕ → Option Line
+line_spelled text = line_in (parts 32 text)

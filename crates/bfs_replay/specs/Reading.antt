@@ -7,14 +7,13 @@ use Rattle.bfs_replay.specs.declared.trace.Trace.{Trace}
 use Rattle.bfs_replay.specs.declared.trace.TraceError.{TraceError}
 use Rattle.bfs_replay.specs.declared.trace.TraceError.TheVariants as error
 
--- a value is what the grammar reads, and a fault comes where it reads none; where memory ran out nothing is said
+-- a value is what the grammar reads, and a fault comes where it reads none; unspecified where memory ran out
 abbrev pub Reads : {X Y : Type 0} → (X → Y) → Result X Fault → Option Y → Type 0
 Reads view (Ok value) read = read ≡ Some (view value)
 Reads view (Err fault.Bad) read = read ≡ None
 Reads view (Err fault.Memory) read = ⊤
 
--- a trace has the events that the grammar reads, and a bad line is the one that breaks it; where memory ran out nothing is
--- said
+-- a trace has the events that the grammar reads, and a bad line is the one that breaks it; unspecified where memory ran out
 abbrev pub ReadsTrace : Result Trace TraceError → Result (List Event) ℕ → Type 0
 ReadsTrace (Ok trace) read = read ≡ Ok trace
 ReadsTrace (Err (error.BadLine number)) read = read ≡ Err number

@@ -5,7 +5,7 @@ use Rattle.bfs_model.specs.Call.{◌>>=◌}
 use Rattle.bfs_model.specs.Limits.{most_requests}
 use Rattle.bfs_model.specs.Tree.{Time}
 use Rattle.bfs_replay.specs.Events.{Block, Request}
-use Rattle.bfs_replay.specs.Lines.{line_said}
+use Rattle.bfs_replay.specs.Lines.{line_spelled}
 use Rattle.bfs_replay.specs.Words.{parts}
 use Rattle.bfs_replay.specs.declared.events.Event.{Event}
 use Rattle.bfs_replay.specs.declared.events.Event.TheVariants as event
@@ -35,19 +35,20 @@ abbrev pub with_request : List Event → Request → Option (List Event)
 with_request events request =
     option_map (slice_set events (length events - 1)) (slice_get events (length events - 1) >>= event_with request)
 
-abbrev pub with_said : List Event → Line → Option (List Event)
-with_said events (line.Batch time) = with_batch events time
-with_said events (line.Request request) = with_request events request
+-- events with what a line says: a block begins, or the last event has a request more
+abbrev pub with_line : List Event → Line → Option (List Event)
+with_line events (line.Batch time) = with_batch events time
+with_line events (line.Request request) = with_request events request
 
--- events with what a line says, or None where it breaks the grammar
-abbrev pub with_line : List Event → List ℕ → Option (List Event)
-with_line events text = if is_passed_over text then Some events else (line_said text >>= with_said events)
+-- events with a line of text, or None where it breaks the grammar
+abbrev pub with_text : List Event → List ℕ → Option (List Event)
+with_text events text = if is_passed_over text then Some events else (line_spelled text >>= with_line events)
 
 -- the events of the lines from line `number` on, behind those before them, or the number of the first that breaks the grammar
 unfoldable pub read_lines : List (List ℕ) → (number : ℕ) → List Event → Result (List Event) ℕ
 read_lines [] number events = Ok events
-read_lines (text ∷ texts) number events = option_map_or (read_lines texts (number + 1)) (with_line events text) (Err number)
+read_lines (text ∷ texts) number events = option_map_or (read_lines texts (number + 1)) (with_text events text) (Err number)
 
 -- the events of a trace, or the number of the first line that breaks the grammar, counted from 1
-abbrev pub trace_said : List ℕ → Result (List Event) ℕ
-trace_said text = read_lines (parts 10 text) 1 []
+abbrev pub trace_spelled : List ℕ → Result (List Event) ℕ
+trace_spelled text = read_lines (parts 10 text) 1 []

@@ -55,7 +55,7 @@ fn engine_named(name: Option<&str>) -> Option<Engine>
 }
 
 /// What the matches ask for, unless the engine is none of ours.
-#[tactic(auto, using(crate::proofs::Asked::value_in_rows))]
+#[tactic(auto, using(crate::proofs::CommandLine::value_in_rows))]
 fn options_among<'a>(found: &ArgMatches<'a>) -> Option<Options<'a>>
     ensures { option_map as_asked result ≡ asked_among (rows_of (found_of found.now)) }
 {
@@ -66,7 +66,7 @@ fn options_among<'a>(found: &ArgMatches<'a>) -> Option<Options<'a>>
 
 /// Reads the words of the command line, the program's name first: `replay [--engine serial] TRACE`. Any other engine, any
 /// other option (`--help` and `--version` among them), no trace and two traces are `UsageError::Usage`.
-#[tactic(auto, using(crate::proofs::Asked::asked_where_taken, crate::proofs::Asked::none_where_refused))]
+#[tactic(auto, using(crate::proofs::CommandLine::asked_where_taken, crate::proofs::CommandLine::none_where_refused))]
 pub fn options<'a, S: AsStr>(alloc: Global, words: &'a [S]) -> Result<Options<'a>, UsageError>
     ensures { Asks result (asked_by (map S.text words.now)) }
 {

@@ -1,6 +1,6 @@
 ghost use Rattle.std.specs.Prelude.{◌≡◌, ◌≤◌, length, IfOk};
 ghost use Rattle.bfs_model.specs.Limits.{most_request_bytes};
-ghost use Rattle.bfs_replay.specs.Lines.{batch_line, call_by_verb, call_spelled, line_said, raw_call, request_line, time_spelled};
+ghost use Rattle.bfs_replay.specs.Lines.{batch_line, call_by_verb, call_spelled, line_spelled, raw_call, request_line, time_spelled};
 ghost use Rattle.bfs_replay.specs.Reading.{Reads};
 
 use crate::events::Request;
@@ -40,7 +40,7 @@ fn parse_time(word: &[u8]) -> Option<Time>
 }
 
 /// Reads the bytes of a call from their hexadecimal digits.
-#[tactic(auto, unfolding(crate::specs::Lines::call_spelled), using(crate::proofs::Halves::half))]
+#[tactic(auto, unfolding(crate::specs::Lines::call_spelled), using(crate::proofs::Digits::half))]
 fn parse_call(alloc: Global, word: &[u8]) -> Result<Vec<u8>, Fault>
     ensures value { Reads (λ bytes. bytes.items) result (call_spelled word.now) }
     ensures within { IfOk result (λ bytes. length bytes.items ≤ most_request_bytes) }
@@ -98,9 +98,9 @@ fn parse_request(alloc: Global, client: &[u8], words: &mut Words<'_>) -> Result<
 }
 
 /// Reads a line that is neither empty nor a comment.
-#[tactic(auto, unfolding(crate::specs::Lines::line_said))]
+#[tactic(auto, unfolding(crate::specs::Lines::line_spelled))]
 pub(crate) fn parse_line(alloc: Global, text: &[u8]) -> Result<Line, Fault>
-    ensures { Reads (λ line. line) result (line_said text.now) }
+    ensures { Reads (λ line. line) result (line_spelled text.now) }
 {
     let mut words = Words::new(text, b' ');
     let first = words.next_word().ok_or(Fault::Bad)?;

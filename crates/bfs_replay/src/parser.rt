@@ -1,6 +1,6 @@
 ghost use Rattle.std.specs.Prelude.{◌≡◌};
 ghost use Rattle.bfs_replay.specs.Reading.{Reads, ReadsTrace};
-ghost use Rattle.bfs_replay.specs.Trace.{is_passed_over, trace_said, with_line};
+ghost use Rattle.bfs_replay.specs.Trace.{is_passed_over, trace_spelled, with_text};
 
 use crate::fault::Fault;
 use crate::lines::{Line, parse_line};
@@ -18,7 +18,7 @@ fn is_passed_over(text: &[u8]) -> bool
 
 /// Reads a line behind those that made the trace.
 fn read_line(alloc: Global, text: &[u8], trace: &mut Trace) -> Result<(), Fault>
-    ensures { Reads (λ _. trace.new) result (with_line trace.old text.now) }
+    ensures { Reads (λ _. trace.new) result (with_text trace.old text.now) }
 {
     if is_passed_over(text) {
         return Ok(());
@@ -38,7 +38,7 @@ fn read_line(alloc: Global, text: &[u8], trace: &mut Trace) -> Result<(), Fault>
 /// breaks this grammar.
 #[tactic(auto, unfolding(crate::specs::Trace::read_lines))]
 pub fn parse_trace(alloc: Global, text: &[u8]) -> Result<Trace, TraceError>
-    ensures { ReadsTrace result (trace_said text.now) }
+    ensures { ReadsTrace result (trace_spelled text.now) }
 {
     let mut trace = Trace::new(alloc);
     let mut number = 0usize;

@@ -11,7 +11,7 @@ use std::io;
 use std::io::{ErrorKind, Write};
 
 /// Writes a line for each request, with its reply.
-#[tactic(auto, using(crate::proofs::Printed::all_lines))]
+#[tactic(auto, using(crate::proofs::ReplyLines::all_lines))]
 pub(crate) fn print_replies<W: Write>(
     alloc: Global,
     requests: &[Request],

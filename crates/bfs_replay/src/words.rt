@@ -47,6 +47,7 @@ impl<'a> Words<'a> {
     pub(crate) fn next_word(&mut self) -> Option<&'a [u8]>
         ensures some { IfSome result (λ word. self.old ≡ word.now ∷ self.new) }
         ensures none { IfNone result (self.old ≡ []) }
+        ensures at_end { IfNone result (self.new ≡ []) }
     {
         let (word, rest) = cut(self.rest?, self.at);
         self.rest = rest;

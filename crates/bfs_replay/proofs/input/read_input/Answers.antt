@@ -1,7 +1,7 @@
 -- Fewer bytes were read than were asked for, so these are all.
 use Rattle.std.proofs.Common.{arith, rules, ◌+◌, ◌≤◌, ◌≡◌, length}
 use Rattle.bfs_replay.specs.declared.input.TheConstants.{MOST_TRACE_BYTES}
-use Rattle.bfs_replay.proofs.AllTaken.{all_taken}
+use Rattle.bfs_replay.proofs.Takes.{all_taken}
 use Rattle.bfs_replay.proofs.input.read_input.Goals as goal
 
 pub returns-clause-all : goal.returns-clause-all

@@ -1,6 +1,6 @@
 use Rattle.std.proofs.Common.{◌<◌, length, arith}
 use Rattle.std.proofs.KnownBytes.{Appends-trans}
-use Rattle.bfs_replay.proofs.Printed.{one_line_more}
+use Rattle.bfs_replay.proofs.ReplyLines.{one_line_more}
 use Rattle.bfs_replay.proofs.replies.print_replies.Goals as goal
 
 pub loop-index-preserved : goal.loop-index-preserved
