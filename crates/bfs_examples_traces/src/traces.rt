@@ -1,7 +1,7 @@
 //! Traces: what is read, what is printed, and what is refused.
 use bfs_replay::{
-    Failure, Line, Outcome, ReplayError, TraceError, UsageError, options, parse_trace, read_input,
-    run_trace,
+    Engine, Event, Failure, Options, Outcome, ReplayError, TraceError, UsageError, options,
+    parse_trace, read_input, run_trace,
 };
 use bfs_testing::{holds, same};
 use std::alloc::Global;
@@ -57,27 +57,39 @@ fn tells_the_line_at_fault(rt: HostRuntime) -> Result<(), Fail> {
 fn refuses_carriage_returns(rt: HostRuntime) {
     for text in [
         b"\r\n".as_slice(),
-        b"# no call\r\n",
-        b"#\r",
         b"batch 1.000000\r\n",
+        b"batch 1.000000 \r\n",
     ] {
         same!(rt; parse_trace(rt.alloc(), text).err(), Some(TraceError::BadLine(1)));
     }
 }
 
 #[test]
-fn reads_batches_and_requests(rt: HostRuntime) -> Result<(), Fail> {
-    let trace = parse_trace(rt.alloc(), b"batch 4294967295.999999\n0 5 raw 00")?;
-    same!(rt; trace.lines().len(), 2);
-    for line in trace.lines() {
-        match line {
-            Line::Batch(time) => same!(rt; time.seconds(), 4_294_967_295),
-            Line::Request(request) => {
-                same!(rt; (request.client(), request.timestamp()), (0, 5));
-                same!(rt; request.call().len(), 1);
+fn passes_comments_over(rt: HostRuntime) -> Result<(), Fail> {
+    let trace = parse_trace(rt.alloc(), b"# no call\r\n\n#\r\n# a\rb")?;
+    holds!(rt; trace.events().is_empty());
+    Ok(())
+}
+
+#[test]
+fn reads_blocks_with_their_requests(rt: HostRuntime) -> Result<(), Fail> {
+    let text = b"batch 4294967295.999999\n0 5 raw 00\n15 6 raw 0102\nbatch 2.000000";
+    let trace = parse_trace(rt.alloc(), text)?;
+    same!(rt; trace.events().len(), 2);
+    let mut seen = Vec::new(rt.alloc());
+    for event in trace.events() {
+        match event {
+            Event::Block(block) => {
+                seen.push(block.time().seconds() as u64)?;
+                for request in block.requests() {
+                    seen.push(request.client() as u64)?;
+                    seen.push(request.timestamp())?;
+                    seen.push(request.call().len() as u64)?;
+                }
             }
         }
     }
+    holds!(rt; seen.as_slice() == [4_294_967_295, 0, 5, 1, 15, 6, 2, 2].as_slice());
     Ok(())
 }
 
@@ -88,9 +100,13 @@ fn is_refused(alloc: Global, words: &[&str]) -> bool {
 #[test]
 fn reads_the_command_line(rt: HostRuntime) -> Result<(), Fail> {
     let words = ["replay", "--engine", "serial", "a.trace"];
-    same!(rt; options(rt.alloc(), &words)?.trace, "a.trace");
     let lone = ["replay", "a.trace"];
-    same!(rt; options(rt.alloc(), &lone)?.trace, "a.trace");
+    let serial = Options {
+        trace: "a.trace",
+        engine: Engine::Serial,
+    };
+    same!(rt; options(rt.alloc(), &words)?, serial);
+    same!(rt; options(rt.alloc(), &lone)?, serial);
     Ok(())
 }
 

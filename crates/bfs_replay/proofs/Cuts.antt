@@ -1,13 +1,13 @@
--- Cutting a text at a byte.
-use Rattle.std.proofs.Common.{◌≡◌, ℕ, ◌+◌, ◌-◌, ◌<◌, List, [], ◌∷◌, length, take, drop, refl, arith, true, false}
+-- Cutting a text at a byte, and the words that are cut.
+use Rattle.std.proofs.Common.{◌≡◌, ℕ, ◌+◌, ◌-◌, ◌<◌, List, [], ◌∷◌, ◌≢◌, None, length, take, drop, refl, ap, arith, true, false}
 use Rattle.std.specs.Prelude.{◌==◌, eqb}
 use Rattle.std.specs.List.{position_or_len, slice_index_or}
 use Rattle.std.proofs.lemmas.List.{take_all}
 use Rattle.std.proofs.Common.{length-drop}
 use Rattle.std.proofs.lemmas.List.Elements.{All-from_get_or}
-use Rattle.std.proofs.lemmas.List.Splits.{slice_split_first, slice_split_none}
+use Rattle.std.proofs.lemmas.List.Splits.{length-slice_split, slice_split_first, slice_split_none}
 use Rattle.std.proofs.lemmas.List.Sums.{position_or_len_is}
-use Rattle.bfs_replay.specs.Words.{parts}
+use Rattle.bfs_replay.specs.Words.{only_word, parts}
 
 -- the first part ends before the first byte `at`
 pub cut_at : (at : ℕ) (text : List ℕ) (i : ℕ) → i < length text
@@ -23,3 +23,12 @@ cut_at at text i lt none here =
 pub cut_none : (at : ℕ) (text : List ℕ) → ((k : ℕ) → k < length text → (slice_index_or text k 0 == at) ≡ false) → parts at text ≡ text ∷ []
 unfolding parts
 cut_none at text none = slice_split_none (λ b. eqb b at) text (All-from_get_or (λ b. eqb b at ≡ false) text 0 none)
+
+-- any text has a part
+pub parts_of_some_text : (at : ℕ) (text : List ℕ) → parts at text ≢ []
+unfolding parts
+parts_of_some_text at text none = omega (arith, ap length none, length-slice_split (λ b. eqb b at) text)
+
+pub not_only_word : (word : List ℕ) (words : List (List ℕ)) → words ≢ [] → only_word (word ∷ words) ≡ None
+not_only_word word [] more = absurd (more refl)
+not_only_word word (next ∷ words) more = refl

@@ -1,11 +1,13 @@
--- A number digit by digit.
-use Rattle.std.proofs.Common.{◌≡◌, ◌+◌, ◌*◌, ◌<◌, ◌≤◌, ◌&&◌, ℕ, List, [], ◌∷◌, length, Bool, true, false, Option, Some, None, if◌then◌else◌, nat_le, refl, sym, arith}
+-- A number digit by digit, and bytes by two digits each.
+use Rattle.std.proofs.Common.{◌≡◌, ◌+◌, ◌*◌, ◌<◌, ◌≤◌, ◌&&◌, ℕ, List, [], ◌∷◌, length, Bool, true, false, Option, Some, None, if◌then◌else◌, nat_le, Ok, refl, sym, arith}
 use Rattle.std.specs.Prelude.{option_and_then}
 use Rattle.std.specs.Char.{is_ascii_digit, digit_value}
 use Rattle.std.specs.Str.{all_ascii_digits}
 use Rattle.std.specs.Str.Parse.{digits_value_after}
 use Rattle.std.proofs.lemmas.Bool.{le-leb, lt-leb, leb-true, leb-false}
-use Rattle.bfs_replay.specs.Words.{number_of, with_digit}
+use Rattle.hex.specs.Hex.{decode_of}
+use Rattle.hex.proofs.HexLemmas.{decode_of-ok}
+use Rattle.bfs_replay.specs.Words.{number_spelled, with_digit}
 
 -- the number with all these digits behind it, where each number on the way is at most `max`
 unfoldable pub number_after : ℕ → ℕ → List ℕ → Option ℕ
@@ -47,12 +49,16 @@ number_after-spelled max value (byte ∷ bytes) le =
     go true false is rest = sym (spelled-above max longer bytes (leb-false longer max is))
 
 -- a word of one digit or more is read digit by digit
-pub number_by_digits : (max : ℕ) (word : List ℕ) → 0 < length word → number_after max 0 word ≡ number_of max word
-unfolding number_of
+pub number_by_digits : (max : ℕ) (word : List ℕ) → 0 < length word → number_after max 0 word ≡ number_spelled max word
+unfolding number_spelled
 number_by_digits max [] some = absurd (omega arith)
 number_by_digits max (byte ∷ bytes) some = number_after-spelled max 0 (byte ∷ bytes) (omega arith)
 
-pub number_of_nothing : (max : ℕ) (word : List ℕ) → length word ≡ 0 → number_of max word ≡ None
-unfolding number_of
+pub number_of_nothing : (max : ℕ) (word : List ℕ) → length word ≡ 0 → number_spelled max word ≡ None
+unfolding number_spelled
 number_of_nothing max [] none = refl
 number_of_nothing max (byte ∷ bytes) none = absurd (omega arith)
+
+-- a text decodes to half as many bytes as it has digits
+pub half : (digits bytes : List ℕ) → decode_of digits ≡ Ok bytes → length digits ≡ 2 * length bytes
+half digits bytes is = (decode_of-ok digits bytes is).2

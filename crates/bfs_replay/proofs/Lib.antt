@@ -1,11 +1,7 @@
-pub mod Asked
+pub mod CommandLine
 pub mod Cuts
 pub mod Digits
+pub mod ReplyLines
 pub mod Rows
-pub mod TooMany
-pub mod Front
-pub mod InBlocks
+pub mod Takes
 pub mod Usages
-pub mod Halves
-pub mod RunningLemmas
-pub mod AllTaken

@@ -1,33 +1,49 @@
 -- What the run of a trace prints.
-use Rattle.std.specs.Prelude.{ℕ, ◌++◌, List, [], ◌∷◌, map}
-use Rattle.bfs_model.specs.Tree.{FileSystem, new_file_system}
+use Rattle.std.specs.Prelude.{ℕ, ◌++◌, List, [], ◌∷◌, codes, decimal, map}
+use Rattle.std.specs.List.{flat_map, fold, zip}
+use Rattle.hex.specs.Hex.{encode_lower}
 use Rattle.bfs_model.specs.Serial.{Batch, execute}
-use Rattle.bfs_replay.specs.Request.{Request}
-use Rattle.bfs_replay.specs.Blocks.{Block, blocks, line_of}
-use Rattle.bfs_replay.specs.declared.line.Line.{Line}
+use Rattle.bfs_model.specs.Tree.{FileSystem, new_file_system}
+use Rattle.bfs_replay.specs.Events.{Block, Request}
+use Rattle.bfs_replay.specs.declared.events.Event.{Event}
+use Rattle.bfs_replay.specs.declared.events.Event.TheVariants as event
 
--- the calls of requests
-abbrev pub calls_of : List Request → List (List ℕ)
-calls_of requests = map (λ request. request.call) requests
+-- a reply as it is printed: lower-case hexadecimal digits, or `-` for no bytes
+abbrev pub reply_text : List ℕ → List ℕ
+reply_text [] = codes "-"
+reply_text (byte ∷ bytes) = encode_lower (byte ∷ bytes)
 
--- a block as a batch for a file system
-abbrev pub batch_of : Block → Batch
-batch_of block = record { time = block.time; requests = calls_of block.requests }
+-- the line that tells a reply: `c<client> t<timestamp> <hex>`
+unfoldable pub reply_line : Request → List ℕ → List ℕ
+reply_line request reply =
+    codes "c" ++ decimal request.client ++ codes " t" ++ decimal request.timestamp ++ codes " " ++ reply_text reply ++ codes "\n"
 
 -- a line for each request, with its reply
-unfoldable pub reply_lines : List Request → List (List ℕ) → List ℕ
-reply_lines [] replies = []
-reply_lines (request ∷ requests) [] = []
-reply_lines (request ∷ requests) (reply ∷ replies) = line_of request.client request.timestamp reply ++ reply_lines requests replies
+abbrev pub reply_lines : List Request → List (List ℕ) → List ℕ
+reply_lines requests replies = flat_map (λ answered. reply_line answered.0 answered.1) (zip requests replies)
+
+-- a block as a batch for a file system
+abbrev pub as_batch : Block → Batch
+as_batch block = record { time = block.time; requests = map (λ request. request.call) block.requests }
 
 abbrev pub block_output : FileSystem → Block → List ℕ
-block_output files block = reply_lines block.requests (execute files (batch_of block)).1
+block_output files block = reply_lines block.requests (execute files (as_batch block)).1
 
--- what blocks print that are executed one after another on a file system
-unfoldable pub output_from : FileSystem → List Block → List ℕ
-output_from files [] = []
-output_from files (block ∷ rest) = block_output files block ++ output_from (execute files (batch_of block)).0 rest
+-- what an event prints that happens to a file system
+abbrev pub event_output : FileSystem → Event → List ℕ
+event_output files (event.Block block) = block_output files block
 
--- what a trace prints, on a new file system
-abbrev pub output_of : List Line → List ℕ
-output_of lines = output_from new_file_system (blocks lines)
+-- the file system after an event
+abbrev pub files_after : FileSystem → Event → FileSystem
+files_after files (event.Block block) = (execute files (as_batch block)).0
+
+-- the file system and what was printed, after one event more
+abbrev pub with_event : FileSystem × List ℕ → Event → FileSystem × List ℕ
+with_event run event = (files_after run.0 event, run.1 ++ event_output run.0 event)
+
+-- the file system and what was printed after the events of a trace, on a new file system
+abbrev pub run_of : List Event → FileSystem × List ℕ
+run_of events = fold with_event (new_file_system, []) events
+
+abbrev pub output_of : List Event → List ℕ
+output_of events = (run_of events).1

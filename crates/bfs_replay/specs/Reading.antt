@@ -1,21 +1,20 @@
 -- How the answer of a reader stands to what the grammar reads.
 use Rattle.std.specs.Prelude.{ℕ, ◌≡◌, ⊤, List, Option, Some, None, Result, Ok, Err}
-use Rattle.bfs_replay.specs.declared.line.Line.{Line}
-use Rattle.bfs_replay.specs.declared.parse.Fault.{Fault}
-use Rattle.bfs_replay.specs.declared.parse.Fault.TheVariants as fault
+use Rattle.bfs_replay.specs.declared.events.Event.{Event}
+use Rattle.bfs_replay.specs.declared.fault.Fault.{Fault}
+use Rattle.bfs_replay.specs.declared.fault.Fault.TheVariants as fault
 use Rattle.bfs_replay.specs.declared.trace.Trace.{Trace}
 use Rattle.bfs_replay.specs.declared.trace.TraceError.{TraceError}
 use Rattle.bfs_replay.specs.declared.trace.TraceError.TheVariants as error
 
--- a value is what the grammar reads, and a fault comes where it reads none; where memory ran out nothing is said
+-- a value is what the grammar reads, and a fault comes where it reads none; unspecified where memory ran out
 abbrev pub Reads : {X Y : Type 0} → (X → Y) → Result X Fault → Option Y → Type 0
 Reads view (Ok value) read = read ≡ Some (view value)
 Reads view (Err fault.Bad) read = read ≡ None
 Reads view (Err fault.Memory) read = ⊤
 
--- a trace has the lines that the grammar reads, and a bad line is the one that breaks it; where memory ran out nothing is
--- said
-abbrev pub ReadsTrace : Result Trace TraceError → Result (List Line) ℕ → Type 0
+-- a trace has the events that the grammar reads, and a bad line is the one that breaks it; unspecified where memory ran out
+abbrev pub ReadsTrace : Result Trace TraceError → Result (List Event) ℕ → Type 0
 ReadsTrace (Ok trace) read = read ≡ Ok trace
 ReadsTrace (Err (error.BadLine number)) read = read ≡ Err number
 ReadsTrace (Err error.Memory) read = ⊤

@@ -1,8 +1,8 @@
 ghost use Rattle.std.specs.Prelude.{◌≡◌, ◌≢◌, ◌↔◌, [], map, option_map, IfOk, IfErr};
 ghost use Rattle.clap.specs.Words.{app_of, fault_of, found_of, kind_of, matches_of, rows_of};
-ghost use Rattle.bfs_replay.specs.CommandLine.{Asks, is_serial, path_asked, replay_app, trace_among};
+ghost use Rattle.bfs_replay.specs.CommandLine.{Asks, as_asked, asked_among, asked_by, engine_named, replay_app};
 
-use crate::usage::{Options, UsageError};
+use crate::usage::{Engine, Options, UsageError};
 use clap::error::ErrorKind;
 use clap::{Arg, ArgMatches, Command};
 use std::alloc::{AllocError, Global};
@@ -44,36 +44,32 @@ fn matches<'a, S: AsStr>(alloc: Global, words: &'a [S]) -> Result<ArgMatches<'a>
     }
 }
 
-/// Whether the engine is `serial`, which also stands where none is named.
-fn is_serial(engine: Option<&str>) -> bool
-    ensures { result ≡ is_serial (option_map (λ name. name.now) engine.entry) }
+/// The engine of that name, or `Engine::Serial` where none is named.
+fn engine_named(name: Option<&str>) -> Option<Engine>
+    ensures { result ≡ engine_named (option_map (λ name. name.now) name.entry) }
 {
-    match engine {
-        Some(name) => name == "serial",
-        None => true,
+    match name {
+        Some(name) if name != "serial" => None,
+        _ => Some(Engine::Serial),
     }
 }
 
-/// The trace that the matches name, unless the engine is none of ours.
-#[tactic(auto, using(crate::proofs::Asked::value_in_rows))]
-fn trace_among<'a>(found: &ArgMatches<'a>) -> Option<&'a str>
-    ensures { option_map (λ trace. trace.now) result ≡ trace_among (rows_of (found_of found.now)) }
+/// What the matches ask for, unless the engine is none of ours.
+#[tactic(auto, using(crate::proofs::CommandLine::value_in_rows))]
+fn options_among<'a>(found: &ArgMatches<'a>) -> Option<Options<'a>>
+    ensures { option_map as_asked result ≡ asked_among (rows_of (found_of found.now)) }
 {
-    if !is_serial(found.get_str("engine")) {
-        return None;
-    }
-    found.get_str("trace")
+    let engine = engine_named(found.get_str("engine"))?;
+    let trace = found.get_str("trace")?;
+    Some(Options { trace, engine })
 }
 
 /// Reads the words of the command line, the program's name first: `replay [--engine serial] TRACE`. Any other engine, any
 /// other option (`--help` and `--version` among them), no trace and two traces are `UsageError::Usage`.
-#[tactic(auto, using(crate::proofs::Asked::asked_where_taken, crate::proofs::Asked::none_where_refused))]
+#[tactic(auto, using(crate::proofs::CommandLine::asked_where_taken, crate::proofs::CommandLine::none_where_refused))]
 pub fn options<'a, S: AsStr>(alloc: Global, words: &'a [S]) -> Result<Options<'a>, UsageError>
-    ensures { Asks result (path_asked (map S.text words.now)) }
+    ensures { Asks result (asked_by (map S.text words.now)) }
 {
     let found = matches(alloc, words)?;
-    let Some(trace) = trace_among(&found) else {
-        return Err(UsageError::Usage);
-    };
-    Ok(Options { trace })
+    options_among(&found).ok_or(UsageError::Usage)
 }

@@ -1,5 +1,5 @@
 ghost use Rattle.std.specs.Prelude.{◌≡◌};
-ghost use Rattle.bfs_replay.specs.Failures.{failure_of_options, failure_of_run, failure_of_trace, status_of};
+ghost use Rattle.bfs_replay.specs.Errors.{exit_status, failure_of_options, failure_of_run, failure_of_trace};
 
 use crate::run::ReplayError;
 use crate::trace::TraceError;
@@ -29,7 +29,7 @@ pub enum Failure {
 impl Failure {
     /// The status that the program ends with.
     pub fn status(self) -> u8
-        ensures { result ≡ status_of self }
+        ensures { result ≡ exit_status self }
     {
         match self {
             Failure::Usage | Failure::Input | Failure::Output => 2,

@@ -7,28 +7,28 @@ use std::io;
 use std::io::{ErrorKind, Read};
 
 /// The most bytes of a trace.
-const MOST_BYTES: usize = 67_108_864;
+pub const MOST_TRACE_BYTES: usize = 67_108_864;
 
-/// All bytes that the reader has, at most 67,108,864; `Failure::Input` where there are more, or where the reader refuses,
-/// and `Failure::Memory` where memory runs out, also in the reader.
+/// Reads all bytes that the reader has. `Failure::Input` comes if there are more than `MOST_TRACE_BYTES` or the reader refuses,
+/// and `Failure::Memory` if memory runs out, here or in the reader.
 pub fn read_input<R: Read + Drop>(alloc: Global, reader: R) -> Result<Vec<u8>, Failure>
     ensures all { IfOk result (λ bytes. IfSome (R.remaining reader) (λ all. bytes.items ≡ all)) }
-    ensures within { IfOk result (λ bytes. length bytes.items ≤ 67108864) }
+    ensures within { IfOk result (λ bytes. length bytes.items ≤ MOST_TRACE_BYTES) }
     ensures fails { IfErr result (λ failure. failure ≢ Failure.Memory → failure ≡ Failure.Input) }
 {
     let mut bytes = Vec::new(alloc);
-    let mut limited = reader.take(MOST_BYTES as u64 + 1);
+    let mut limited = reader.take(MOST_TRACE_BYTES as u64 + 1);
     if let Err(error) = limited.read_to_end(&mut bytes) {
-        return Err(failure_of(error));
+        return Err(read_error(error));
     }
-    if bytes.len() > MOST_BYTES {
+    if bytes.len() > MOST_TRACE_BYTES {
         return Err(Failure::Input);
     }
     Ok(bytes)
 }
 
-// a reader may want memory too
-fn failure_of(error: io::Error) -> Failure
+// memory may run out in a reader too
+fn read_error(error: io::Error) -> Failure
     ensures memory { (result ≡ Failure.Memory) ↔ (error_kind error ≡ ErrorKind.OutOfMemory) }
     ensures input { (result ≡ Failure.Input) ↔ (error_kind error ≢ ErrorKind.OutOfMemory) }
 {

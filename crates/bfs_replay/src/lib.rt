@@ -1,25 +1,25 @@
-//! What `replay` is asked to do and does: its command line, the trace of requests, and the run of it.
+//! What `replay` is asked to do and does: its command line, the trace of events, and the run of it.
 #![tactic(auto)]
 
-mod block;
 mod command_line;
+mod events;
 mod failure;
+mod fault;
 mod input;
-mod laws;
-mod line;
+mod lines;
 mod numbers;
-mod parse;
+mod parser;
+mod replies;
 mod run;
 mod trace;
 mod usage;
 mod words;
 
 pub use command_line::options;
+pub use events::{Block, Event, Request};
 pub use failure::Failure;
-pub use input::read_input;
-pub use laws::blocks_hold_all_requests;
-pub use line::{Line, Request};
-pub use parse::parse_trace;
+pub use input::{MOST_TRACE_BYTES, read_input};
+pub use parser::parse_trace;
 pub use run::{Outcome, ReplayError, run_trace};
 pub use trace::{Trace, TraceError};
-pub use usage::{Options, UsageError};
+pub use usage::{Engine, Options, UsageError};

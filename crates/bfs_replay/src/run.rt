@@ -1,14 +1,14 @@
-ghost use Rattle.std.specs.Prelude.{◌≡◌, ◌≢◌, Some, IsSome, OnOk, IfErr};
+ghost use Rattle.std.specs.Prelude.{◌≡◌, ◌≢◌, Some, IsSome, OnOk, IfOk, IfErr};
 ghost use Rattle.std.specs.Option.{ForSome};
 ghost use Rattle.std.specs.Io.KnownBytes.{Appends};
-ghost use Rattle.bfs_replay.specs.Codes.{replay_error_code};
-ghost use Rattle.bfs_replay.specs.Output.{output_of};
-ghost use Rattle.bfs_replay.specs.Running.{HasRoomBehind, files_after, line_output};
+ghost use Rattle.bfs_model.specs.Serial.{execute};
+ghost use Rattle.bfs_replay.specs.Errors.{replay_error_code};
+ghost use Rattle.bfs_replay.specs.Output.{as_batch, block_output, files_after, event_output, output_of};
 
-use crate::block::run_block;
-use crate::line::Line;
+use crate::events::{Block, Event};
+use crate::replies::print_replies;
 use crate::trace::Trace;
-use bfs_serial::FileSystem;
+use bfs_serial::{Batch, ExecError, FileSystem, PushError, execute_serial};
 use std::alloc::Global;
 use std::io::Write;
 use thiserror::Error;
@@ -47,9 +47,9 @@ impl ReplayError {
     }
 }
 
-/// Executes the blocks of a trace one after another on a new file system, each as one batch, and writes after each block a
-/// line for each of its requests: `c<client> t<timestamp> <reply>`, the reply in lower-case hexadecimal digits, or `-` where
-/// it has no bytes.
+/// Lets the events of a trace happen one after another on a new file system: the requests of a block are executed as one
+/// batch, and then a line is written for each of them: `c<client> t<timestamp> <reply>`, the reply in lower-case hexadecimal
+/// digits, or `-` where it has no bytes.
 pub fn run_trace<R: AllocGlobal, W: Write>(
     rt: &R,
     trace: &Trace,
@@ -62,30 +62,60 @@ pub fn run_trace<R: AllocGlobal, W: Write>(
     let Ok(mut files) = FileSystem::new(alloc) else {
         return Err(ReplayError::Memory);
     };
-    let mut rest = trace.lines();
-    while let Some((line, after)) = rest.split_first() {
-        run_line(alloc, &mut files, line, after, writer)?;
-        rest = after;
+    for event in trace.events() {
+        run_event(alloc, &mut files, event, writer)?;
     }
     Ok(Outcome::Agree)
 }
 
-// executes a block where the line begins one; a request was executed with the block that it belongs to
-fn run_line<W: Write>(
+fn run_event<W: Write>(
     alloc: Global,
     files: &mut FileSystem,
-    line: &Line,
-    after: &[Line],
+    event: &Event,
     writer: &mut W,
 ) -> Result<(), ReplayError>
     requires live { IsSome files.old }
-    requires room { HasRoomBehind line.now after.now }
-    ensures written { OnOk result (ForSome files.old (λ live. Appends (W.contents writer.old) (W.contents writer.new) (line_output live line.now after.now))) }
-    ensures files { OnOk result (ForSome files.old (λ live. files.new ≡ Some (files_after live line.now after.now))) }
+    ensures written { OnOk result (ForSome files.old (λ live. Appends (W.contents writer.old) (W.contents writer.new) (event_output live event.now))) }
+    ensures files { OnOk result (ForSome files.old (λ live. files.new ≡ Some (files_after live event.now))) }
     ensures fails { IfErr result (λ e. e ≢ ReplayError.Failed) }
 {
-    match line {
-        Line::Batch(time) => run_block(alloc, files, *time, after, writer),
-        Line::Request(_) => Ok(()),
+    match event {
+        Event::Block(block) => run_block(alloc, files, block, writer),
     }
+}
+
+// executes the requests of a block as one batch, and writes a line for each
+fn run_block<W: Write>(
+    alloc: Global,
+    files: &mut FileSystem,
+    block: &Block,
+    writer: &mut W,
+) -> Result<(), ReplayError>
+    requires live { IsSome files.old }
+    ensures written { OnOk result (ForSome files.old (λ live. Appends (W.contents writer.old) (W.contents writer.new) (block_output live block.now))) }
+    ensures files { OnOk result (ForSome files.old (λ live. files.new ≡ Some (execute live (as_batch block.now)).0)) }
+    ensures fails { IfErr result (λ e. e ≢ ReplayError.Failed) }
+{
+    let batch = make_batch(alloc, block)?;
+    match execute_serial(alloc, files, &batch) {
+        Ok(replies) => print_replies(alloc, block.requests(), &replies, writer),
+        Err(ExecError::Memory) => Err(ReplayError::Memory),
+        Err(ExecError::Failed) => Err(ReplayError::Failed),
+    }
+}
+
+fn make_batch(alloc: Global, block: &Block) -> Result<Batch, ReplayError>
+    ensures made { IfOk result (λ batch. batch ≡ as_batch block.now) }
+    ensures fails { IfErr result (λ e. e ≡ ReplayError.Memory) }
+{
+    let mut batch = Batch::new(alloc);
+    batch.set_time(block.time());
+    for request in block.requests() {
+        match batch.push(request.call()) {
+            Ok(()) => {}
+            Err(PushError::Memory) => return Err(ReplayError::Memory),
+            Err(PushError::RequestTooLong | PushError::BatchFull) => unreachable!(),
+        }
+    }
+    Ok(batch)
 }

@@ -1,46 +1,68 @@
-ghost use Rattle.std.specs.Prelude.{◌≡◌, true};
-ghost use Rattle.bfs_replay.specs.Blocks.{in_blocks};
-ghost use Rattle.bfs_replay.specs.Codes.{trace_error_code};
+ghost use Rattle.std.specs.Prelude.{◌≡◌, [], ◌∷◌, ◌++◌, OnOk};
+ghost use Rattle.bfs_replay.specs.Errors.{trace_error_code};
+ghost use Rattle.bfs_replay.specs.Reading.{Reads};
+ghost use Rattle.bfs_replay.specs.Trace.{with_batch, with_request};
 
-use crate::line::Line;
+use crate::events::{Block, Event, Request};
+use crate::fault::Fault;
+use bfs_types::Time;
+use std::alloc::Global;
 use std::marker::Model;
 use thiserror::Error;
 
-/// The lines of a trace: blocks, each a `batch` line and the requests that follow it.
+/// The events of a trace, in their order.
 #[derive(Debug, Drop)]
 pub struct Trace {
-    lines: Vec<Line>,
+    alloc: Global,
+    events: Vec<Event>,
 }
 
 impl Model for Trace {
     ghost use Rattle.std.specs.Prelude.{List};
-    ghost use Rattle.bfs_replay.specs.declared.line.Line.{Line};
+    ghost use Rattle.bfs_replay.specs.declared.events.Event.{Event};
 
-    ghost Value = { List Line };
+    ghost Value = { List Event };
 
-    ghost use Rattle.std.specs.Prelude.{◌≡◌, true};
-    ghost use Rattle.bfs_replay.specs.Blocks.{in_blocks};
-
-    ghost view = { λ trace. trace.lines.items };
-
-    ghost invariant = { λ trace. in_blocks 0 trace.lines.items ≡ true };
+    ghost view = { λ trace. trace.events.items };
 }
 
 impl Trace {
-    /// The trace of these lines, of which each request stands in a block.
-    pub(crate) fn new(lines: Vec<Line>) -> Trace
-        requires { in_blocks 0 lines.items ≡ true }
-        ensures { result ≡ lines.items }
+    /// A trace in which nothing has happened yet.
+    pub(crate) fn new(alloc: Global) -> Trace
+        ensures { result ≡ [] }
     {
-        Trace { lines }
+        Trace {
+            alloc,
+            events: Vec::new(alloc),
+        }
     }
 
-    /// The lines in their order. Each request stands behind a `batch` line, and at most 1,023 other requests stand between.
-    pub fn lines(&self) -> &[Line]
-        ensures lines { result.now ≡ self.now }
-        ensures in_blocks { in_blocks 0 result.now ≡ true }
+    /// Begins a block at that time.
+    pub(crate) fn push_batch(&mut self, time: Time) -> Result<(), Fault>
+        ensures { Reads (λ _. self.new) result (with_batch self.old time) }
     {
-        self.lines.as_slice()
+        let block = Block::new(self.alloc, time);
+        match self.events.push(Event::Block(block)) {
+            Ok(()) => Ok(()),
+            Err(_) => Err(Fault::Memory),
+        }
+    }
+
+    /// Puts a request behind the others of the last event, where that is a block with room for it.
+    pub(crate) fn push_request(&mut self, request: Request) -> Result<(), Fault>
+        ensures { Reads (λ _. self.new) result (with_request self.old request) }
+    {
+        let Some(event) = self.events.last_mut() else {
+            return Err(Fault::Bad);
+        };
+        event.push_request(request)
+    }
+
+    /// The events in their order.
+    pub fn events(&self) -> &[Event]
+        ensures { result.now ≡ self.now }
+    {
+        self.events.as_slice()
     }
 }
 

@@ -1,13 +1,22 @@
 ghost use Rattle.std.specs.Prelude.{◌≡◌};
-ghost use Rattle.bfs_replay.specs.Codes.{usage_error_code};
+ghost use Rattle.bfs_replay.specs.Errors.{usage_error_code};
 
 use thiserror::Error;
+
+/// What executes the requests of a block.
+#[derive(Clone, Copy, Debug, PartialEq, Eq)]
+pub enum Engine {
+    /// One replica that executes them one after another.
+    Serial,
+}
 
 /// What the words of the command line ask for.
 #[derive(Clone, Copy, Debug, PartialEq, Eq)]
 pub struct Options<'a> {
     /// The path of the trace.
     pub trace: &'a str,
+    /// What executes it.
+    pub engine: Engine,
 }
 
 /// Why the words of the command line are not taken.

@@ -1,7 +1,7 @@
 //! Replays a trace of NFS calls: `replay [--engine serial] TRACE`. docs/TRACE.md says what a trace is and what is printed.
 #![tactic(auto)]
 
-use bfs_replay::{Failure, Outcome, options, parse_trace, read_input, run_trace};
+use bfs_replay::{Engine, Failure, Outcome, options, parse_trace, read_input, run_trace};
 use std::fs::File;
 use std::io;
 use std::io::{BufWriter, ErrorKind, Write};
@@ -30,7 +30,9 @@ fn replay(rt: &HostRuntime) -> Result<Outcome, Failure> {
     let text = read_input(alloc, file)?;
     let trace = parse_trace(alloc, text.as_slice())?;
     let mut out = BufWriter::new(alloc, rt.stdout()).map_err(not_written)?;
-    let outcome = run_trace(rt, &trace, &mut out)?;
+    let outcome = match options.engine {
+        Engine::Serial => run_trace(rt, &trace, &mut out)?,
+    };
     out.flush().map_err(not_written)?;
     Ok(outcome)
 }
@@ -39,7 +41,7 @@ fn not_written(error: io::Error) -> Failure {
     memory_or(error, Failure::Output)
 }
 
-/// Want of memory comes as an error of input and output too.
+/// Memory may run out in input and output too.
 fn memory_or(error: io::Error, failure: Failure) -> Failure {
     if error.kind() == ErrorKind::OutOfMemory {
         Failure::Memory
