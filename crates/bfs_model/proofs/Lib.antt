@@ -15,6 +15,8 @@ pub mod ServerSettings
 pub mod ServerRefusals
 pub mod ServerPlaces
 pub mod Outcomes
+pub mod Found
+pub mod Attempts
 pub mod ProcedureOutcomes
 pub mod Unchanged
 pub mod Tables

@@ -9,7 +9,10 @@ use Rattle.bfs_model.specs.Directories.{all_listed, listed_behind, listed_size, 
 use Rattle.bfs_model.specs.Limits.{most_data_bytes}
 use Rattle.bfs_model.specs.Replies.{Reply, listed}
 use Rattle.bfs_model.specs.Steps.{Outcome, or_stale, or_notdir}
-use Rattle.bfs_model.specs.Procedures.OfListing.{page_listed, directory_read}
+use Rattle.bfs_model.specs.Context.{Context}
+use Rattle.bfs_model.specs.Arguments.{read_directory}
+use Rattle.bfs_model.specs.Procedures.{procedure}
+use Rattle.bfs_model.specs.Procedures.Names.{page_listed}
 use Rattle.bfs_model.specs.WellFormed.{IsRising, BodyIsWithin, IsWellFormed}
 use Rattle.bfs_model.specs.Paging.{page_read, entries_told, end_told, cookie_after, pages_read, IsListed, HasRoom, DirectoriesAreListed, PageIsTold, CookiesRise, PagesFollowEachOther, EndIsToldAtTheEnd, AllIsReadAtTheEnd, PageWithRoomIsNotEmpty, EnoughPagesAreAll}
 
@@ -108,11 +111,11 @@ outcome_of : (inodes : Inodes) (inode : Option Inode) (listing : Listing) (reply
 outcome_of inodes None listing reply there = absurd cc
 outcome_of inodes (Some inode) listing reply there = outcome_of_body inodes inode.body listing reply there
 
-outcome_told : (inodes : Inodes) (dir : ℕ) (listing : Listing) (cookie count : ℕ) → IsListed inodes dir listing
-    → directory_read inodes (Some dir) cookie count ≡ (inodes, page_listed count (listed_behind cookie (all_listed dir listing)))
+outcome_told : (inodes : Inodes) (context : Context) (dir : ℕ) (listing : Listing) (cookie count : ℕ) → IsListed inodes dir listing
+    → procedure inodes context (read_directory (Some dir) cookie count) ≡ (inodes, page_listed count (listed_behind cookie (all_listed dir listing)))
 outcome_told inodes dir listing cookie count h = outcome_of inodes (get inodes dir) listing (λ l. page_listed count (listed_behind cookie (all_listed dir l))) h.there
 
-page_told : (inodes : Inodes) (dir : ℕ) (listing : Listing) (cookie count : ℕ) → IsListed inodes dir listing → page_read inodes dir cookie count ≡ page_listed count (listed_behind cookie (all_listed dir listing))
+page_told : (inodes : Inodes) (context : Context) (dir : ℕ) (listing : Listing) (cookie count : ℕ) → IsListed inodes dir listing → page_read inodes context dir cookie count ≡ page_listed count (listed_behind cookie (all_listed dir listing))
 page_told inodes dir listing cookie count h = ap (λ (outcome : Outcome). outcome.1) (outcome_told inodes dir listing cookie count h)
 
 pub page_is_told : PageIsTold
@@ -120,7 +123,7 @@ page_is_told inodes dir listing cookie count h =
     outcome_told inodes dir listing cookie count h
     ∙ ap (λ (reply : Reply). (inodes, listed (entries_told reply) (end_told reply))) (sym (page_told inodes dir listing cookie count h))
 
-all_rises : (inodes : Inodes) (dir : ℕ) (listing : Listing) (h : IsListed inodes dir listing) → IsRising 1 (all_listed dir listing) (h.ordinal + 3)
+all_rises : (inodes : Inodes) (context : Context) (dir : ℕ) (listing : Listing) (h : IsListed inodes dir listing) → IsRising 1 (all_listed dir listing) (h.ordinal + 3)
 all_rises inodes dir listing h = (omega arith, omega arith, (omega arith, omega arith, rising_too 3 3 listing.entries h.ordinal (h.ordinal + 3) (omega arith) (omega arith) h.rising))
 
 -- what a body within the limits says of its cookies
@@ -144,8 +147,8 @@ cookie_after_both cookie [] pages = refl
 cookie_after_both cookie (entry ∷ page) pages = cookie_after_both entry.cookie page pages
 
 -- from any cookie on, a page and what is left
-one_then : (inodes : Inodes) (dir : ℕ) (listing : Listing) (cookie count : ℕ) → IsListed inodes dir listing
-    → entries_told (page_read inodes dir cookie count) ++ listed_behind (cookie_after cookie (entries_told (page_read inodes dir cookie count))) (all_listed dir listing)
+one_then : (inodes : Inodes) (context : Context) (dir : ℕ) (listing : Listing) (cookie count : ℕ) → IsListed inodes dir listing
+    → entries_told (page_read inodes context dir cookie count) ++ listed_behind (cookie_after cookie (entries_told (page_read inodes context dir cookie count))) (all_listed dir listing)
     ≡ listed_behind cookie (all_listed dir listing)
 one_then inodes dir listing cookie count h =
     subst (λ (reply : Reply). entries_told reply ++ listed_behind (cookie_after cookie (entries_told reply)) (all_listed dir listing) ≡ listed_behind cookie (all_listed dir listing))
@@ -153,18 +156,18 @@ one_then inodes dir listing cookie count h =
     (page_then (all_listed dir listing) 1 (h.ordinal + 3) cookie count (all_rises inodes dir listing h))
 
 -- from any cookie on, pages and what is left
-pub pages_then : (inodes : Inodes) (dir : ℕ) (listing : Listing) (cookie : ℕ) (counts : List ℕ) → IsListed inodes dir listing
-    → pages_read inodes dir cookie counts ++ listed_behind (cookie_after cookie (pages_read inodes dir cookie counts)) (all_listed dir listing) ≡ listed_behind cookie (all_listed dir listing)
+pub pages_then : (inodes : Inodes) (context : Context) (dir : ℕ) (listing : Listing) (cookie : ℕ) (counts : List ℕ) → IsListed inodes dir listing
+    → pages_read inodes context dir cookie counts ++ listed_behind (cookie_after cookie (pages_read inodes context dir cookie counts)) (all_listed dir listing) ≡ listed_behind cookie (all_listed dir listing)
 pages_then inodes dir listing cookie [] h = refl
 pages_then inodes dir listing cookie (count ∷ counts) h =
-    let page : List Entry = entries_told (page_read inodes dir cookie count) in
-    let pages : List Entry = pages_read inodes dir (cookie_after cookie page) counts in
+    let page : List Entry = entries_told (page_read inodes context dir cookie count) in
+    let pages : List Entry = pages_read inodes context dir (cookie_after cookie page) counts in
     append_assoc page pages (listed_behind (cookie_after cookie (page ++ pages)) (all_listed dir listing))
     ∙ ap (λ c. page ++ (pages ++ listed_behind c (all_listed dir listing))) (cookie_after_both cookie page pages)
     ∙ ap (λ es. page ++ es) (pages_then inodes dir listing (cookie_after cookie page) counts h)
     ∙ one_then inodes dir listing cookie count h
 
-all_from_zero : (inodes : Inodes) (dir : ℕ) (listing : Listing) → IsListed inodes dir listing → listed_behind 0 (all_listed dir listing) ≡ all_listed dir listing
+all_from_zero : (inodes : Inodes) (context : Context) (dir : ℕ) (listing : Listing) → IsListed inodes dir listing → listed_behind 0 (all_listed dir listing) ≡ all_listed dir listing
 all_from_zero inodes dir listing h = all_behind 0 1 (all_listed dir listing) (h.ordinal + 3) (omega arith) (all_rises inodes dir listing h)
 
 pub follow_each_other : PagesFollowEachOther
@@ -176,7 +179,7 @@ rising_part least (entry ∷ part) rest ordinal rising = (rising.0, rising.1, ri
 
 pub cookies_rise : CookiesRise
 cookies_rise inodes dir listing counts h =
-    let told : List Entry = pages_read inodes dir 0 counts in
+    let told : List Entry = pages_read inodes context dir 0 counts in
     let rest : List Entry = listed_behind (cookie_after 0 told) (all_listed dir listing) in
     rising_part 1 told rest (h.ordinal + 3) (subst (λ (es : List Entry). IsRising 1 es (h.ordinal + 3)) (sym (follow_each_other inodes dir listing counts h)) (all_rises inodes dir listing h))
 
@@ -194,15 +197,15 @@ end_told_at_end inodes dir listing cookie count h =
     let parts = page_then (all_listed dir listing) 1 (h.ordinal + 3) cookie count (all_rises inodes dir listing h) in
     subst (λ (reply : Reply). (end_told reply ≡ true) ↔ (listed_behind (cookie_after cookie (entries_told reply)) (all_listed dir listing) ≡ [])) (sym (page_told inodes dir listing cookie count h)) (ends (page_of count (listed_behind cookie (all_listed dir listing))) _ (listed_behind cookie (all_listed dir listing)) parts)
 
-one_more : (inodes : Inodes) (dir cookie : ℕ) (counts : List ℕ) (count : ℕ)
-    → pages_read inodes dir cookie (counts ++ count ∷ []) ≡ pages_read inodes dir cookie counts ++ entries_told (page_read inodes dir (cookie_after cookie (pages_read inodes dir cookie counts)) count)
-one_more inodes dir cookie [] count = append-nil (entries_told (page_read inodes dir cookie count))
+one_more : (inodes : Inodes) (context : Context) (dir cookie : ℕ) (counts : List ℕ) (count : ℕ)
+    → pages_read inodes context dir cookie (counts ++ count ∷ []) ≡ pages_read inodes context dir cookie counts ++ entries_told (page_read inodes context dir (cookie_after cookie (pages_read inodes context dir cookie counts)) count)
+one_more inodes dir cookie [] count = append-nil (entries_told (page_read inodes context dir cookie count))
 one_more inodes dir cookie (first ∷ counts) count =
-    let page : List Entry = entries_told (page_read inodes dir cookie first) in
-    let pages : List Entry = pages_read inodes dir (cookie_after cookie page) counts in
+    let page : List Entry = entries_told (page_read inodes context dir cookie first) in
+    let pages : List Entry = pages_read inodes context dir (cookie_after cookie page) counts in
     ap (λ es. page ++ es) (one_more inodes dir (cookie_after cookie page) counts count)
-    ∙ sym (append_assoc page pages (entries_told (page_read inodes dir (cookie_after (cookie_after cookie page) pages) count)))
-    ∙ ap (λ c. (page ++ pages) ++ entries_told (page_read inodes dir c count)) (sym (cookie_after_both cookie page pages))
+    ∙ sym (append_assoc page pages (entries_told (page_read inodes context dir (cookie_after (cookie_after cookie page) pages) count)))
+    ∙ ap (λ c. (page ++ pages) ++ entries_told (page_read inodes context dir c count)) (sym (cookie_after_both cookie page pages))
 
 -- a first part is all just where nothing is left
 whole_if : (part rest whole : List Entry) → part ++ rest ≡ whole → (rest ≡ []) ↔ (part ≡ whole)
@@ -213,14 +216,14 @@ whole_if part rest whole parts = (
 
 pub all_read_at_end : AllIsReadAtTheEnd
 all_read_at_end inodes dir listing counts count h =
-    let before : List Entry = pages_read inodes dir 0 counts in
+    let before : List Entry = pages_read inodes context dir 0 counts in
     let cookie : ℕ = cookie_after 0 before in
-    let page : List Entry = entries_told (page_read inodes dir cookie count) in
+    let page : List Entry = entries_told (page_read inodes context dir cookie count) in
     let rest : List Entry = listed_behind (cookie_after cookie page) (all_listed dir listing) in
     let parts : (before ++ page) ++ rest ≡ all_listed dir listing = append_assoc before page rest ∙ ap (λ es. before ++ es) (one_then inodes dir listing cookie count h) ∙ follow_each_other inodes dir listing counts h in
     let at_end = end_told_at_end inodes dir listing cookie count h in
     let whole = whole_if (before ++ page) rest (all_listed dir listing) parts in
-    let pages : pages_read inodes dir 0 (counts ++ count ∷ []) ≡ before ++ page = one_more inodes dir 0 counts count in
+    let pages : pages_read inodes context dir 0 (counts ++ count ∷ []) ≡ before ++ page = one_more inodes dir 0 counts count in
     (λ told. pages ∙ whole.0 (at_end.0 told), λ same. at_end.1 (whole.1 (sym pages ∙ same)))
 
 -- Room -------------------------------------------------------------------------------------------------------------------
@@ -241,12 +244,12 @@ leaves_fewer count (next ∷ others) rest n room parts most =
     let counted = ap length (rw (begins count next others (All-head (HasRoom count) next others room)) at parts) in
     omega (arith, length-append held rest)
 
-enough : (inodes : Inodes) (dir : ℕ) (listing : Listing) (cookie : ℕ) (counts : List ℕ) → IsListed inodes dir listing
+enough : (inodes : Inodes) (context : Context) (dir : ℕ) (listing : Listing) (cookie : ℕ) (counts : List ℕ) → IsListed inodes dir listing
     → length (listed_behind cookie (all_listed dir listing)) ≤ length counts → All (λ count. All (HasRoom count) (all_listed dir listing)) counts
-    → pages_read inodes dir cookie counts ≡ listed_behind cookie (all_listed dir listing)
+    → pages_read inodes context dir cookie counts ≡ listed_behind cookie (all_listed dir listing)
 enough inodes dir listing cookie [] h most room = sym (nil_from_length (listed_behind cookie (all_listed dir listing)) (omega (arith, most)))
 enough inodes dir listing cookie (count ∷ counts) h most room =
-    let page : List Entry = entries_told (page_read inodes dir cookie count) in
+    let page : List Entry = entries_told (page_read inodes context dir cookie count) in
     let left : List Entry = listed_behind cookie (all_listed dir listing) in
     let rest : List Entry = listed_behind (cookie_after cookie page) (all_listed dir listing) in
     let parts : page ++ rest ≡ left = one_then inodes dir listing cookie count h in

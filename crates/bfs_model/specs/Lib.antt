@@ -8,11 +8,13 @@ pub mod Replies
 pub mod Directories
 pub mod Bytes
 pub mod Changes
-pub mod Steps
+pub mod Context
+pub mod Refusals
 pub mod Procedures
 pub mod Serial
 pub mod WellFormed
-pub mod Touched
+pub mod Stored
+pub mod Footprints
 pub mod Laws
 pub mod ProcedureLaws
 pub mod ReplyLengths
