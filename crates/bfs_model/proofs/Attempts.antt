@@ -24,9 +24,9 @@ use Rattle.bfs_model.specs.Procedures.Names.{child_named, page_listed}
 use Rattle.bfs_model.specs.Procedures.Data.{path_in}
 use Rattle.bfs_model.specs.Procedures.Making.{new_name_refusals, with_name, new_file, new_directory, new_symbolic_link}
 use Rattle.bfs_model.specs.Procedures.Removing.{child_found, has_entries}
-use Rattle.bfs_model.specs.Procedures.Renaming.{Renaming, Replaced, renaming_refusals, renamed, replaced_by, moves_directory, renaming_of, renamed_onto}
+use Rattle.bfs_model.specs.Procedures.Renaming.{Renaming, Replaced, renaming_refusals, renamed, replaced_by, moves_directory, renaming_of, renaming_planned}
 use Rattle.bfs_model.specs.Procedures.Status.{used_blocks}
-use Rattle.bfs_model.proofs.Found.{fails, was_there, inode_at, directory_at, child_at, IsChildAt, IsRenamed, replaced_is, IsOnto, onto_none}
+use Rattle.bfs_model.proofs.Found.{fails, was_there, inode_at, directory_at, child_at, IsChildAt, IsRenamed, IsOnto, IsPlanned, planned_was}
 
 -- Attempts that are alike --------------------------------------------------------------------------------------------
 
@@ -106,6 +106,50 @@ module _ (m n : Inodes) where
   LooksAlike (read_directory handle cookie count) = SameAt handle
   LooksAlike (file_system_status handle) = n ≡ m
 
+  -- RENAME is planned alike
+  module _ (c : Context) (a b : FoundDirectory) (moved : FoundInode) (above : (replaced : Option Replaced) → IsTrue (moves_directory (renaming_of a b moved replaced)) → n ≡ m) where
+    rows_same : (replaced : Option Replaced) (moves : Bool) → moves_directory (renaming_of a b moved replaced) ≡ moves
+        → renaming_refusals n c (renaming_of a b moved replaced) ≡ renaming_refusals m c (renaming_of a b moved replaced)
+    rows_same replaced true is = ap (λ k. renaming_refusals k c (renaming_of a b moved replaced)) (above replaced is)
+    rows_same replaced false is = rw is refl
+
+    abbrev Allowed : Inodes → Option Replaced → Result (Option Renaming) Status
+    Allowed k replaced = checked (renaming_refusals k c (renaming_of a b moved replaced)) >>= λ allowed. Ok (Some (renaming_of a b moved replaced))
+
+    allowed_same : (replaced : Option Replaced) → Allowed n replaced ≡ Allowed m replaced
+    allowed_same replaced = ap (λ rows. checked rows >>= λ allowed. Ok (Some (renaming_of a b moved replaced))) (rows_same replaced (moves_directory (renaming_of a b moved replaced)) refl)
+
+    onto_same : (existing : Option Entry) → SameAt (option_map (λ entry. entry.child) existing) → (same : Bool)
+        → (if same then Ok None else (replaced_by n existing >>= Allowed n)) ≡ (if same then Ok None else (replaced_by m existing >>= Allowed m))
+    onto_same existing there true = refl
+    onto_same None there false = allowed_same None
+    onto_same (Some entry) there false =
+        then_same (replaced_by m (Some entry)) _ _ _ (ap (λ at. at >>= λ x. Ok (Some (record { id = x.id; is_directory = is_directory_body x.inode.body; has_entries = has_entries x.inode.body }))) (inode_same (Some entry.child) there))
+        (λ replaced is. allowed_same replaced)
+
+  planned_same : (c : Context) (from : Option ℕ) (from_name : List ℕ) (to : Option ℕ) (to_name : List ℕ) → LooksAlike (rename from from_name to to_name)
+      → renaming_planned n c from from_name to to_name ≡ renaming_planned m c from from_name to to_name
+  planned_same c from from_name to to_name looks =
+      let rows : List (Bool × Status) = (is_bad_name from_name, perm) ∷ (is_bad_name to_name, perm) ∷ [] in
+      then_same (directory_found m from) _ _ _ (directory_same from looks.0) (λ a a_is.
+      then_same (directory_found m to) _ _ _ (directory_same to looks.1) (λ b b_is.
+      then_same (checked rows) _ _ _ refl (λ good passed.
+      then_same (ok_or (entry_named from_name a.listing.entries) noent) _ _ _ refl (λ entry held.
+      let named : entry_named from_name a.listing.entries ≡ Some entry = was_there (entry_named from_name a.listing.entries) noent entry held in
+      then_same (inode_found m (Some entry.child)) _ _ _ (inode_same (Some entry.child) (λ id is. looks.2 a a_is id (ap (option_map (λ e. e.child)) named ∙ is))) (λ moved found_it.
+      let there = inode_at m (Some entry.child) moved found_it in
+      onto_same c a b moved
+      (looks.4 a b entry moved (record {
+        from_at = directory_at m from a a_is;
+        to_at = directory_at m to b b_is;
+        from_good = fails (is_bad_name from_name) rows good passed (inl refl);
+        to_good = fails (is_bad_name to_name) rows good passed (inr (inl refl));
+        named = named;
+        is = sym (same_Some entry.child moved.id there.led);
+        there = there.there;
+      }))
+      (entry_named to_name b.listing.entries) (looks.3 b b_is) _)))))
+
   -- What is done -------------------------------------------------------------------------------------------------------
 
   module _ (R : Outcome → Outcome → Type 0) (c : Context) where
@@ -160,34 +204,12 @@ module _ (m n : Inodes) where
         then_alike R (child_found m handle name) _ next further (child_same handle name same child) (λ x is.
         let at = child_at m handle name x.0 x.1 is in each x.0 at.0 x.1 at.1)
 
-    module _ (from : Option ℕ) (from_name : List ℕ) (to : Option ℕ) (to_name : List ℕ) (a b : FoundDirectory) (moved : FoundInode)
-        (above : (replaced : Option Replaced) → IsTrue (moves_directory (renaming_of a b moved replaced)) → n ≡ m)
-        (unmoved : R (m, done) (n, done))
-        (carried : (replaced : Option Replaced) (allowed : ⊤) → IsOnto m moved (entry_named to_name b.listing.entries) replaced → checked (renaming_refusals m c (renaming_of a b moved replaced)) ≡ Ok allowed
-        → R (renamed m c from_name to_name (renaming_of a b moved replaced), done) (renamed n c from_name to_name (renaming_of a b moved replaced), done)) where
-      abbrev Carried : Inodes → Option Replaced → Result Outcome Status
-      Carried k replaced = checked (renaming_refusals k c (renaming_of a b moved replaced)) >>= λ allowed. Ok (renamed k c from_name to_name (renaming_of a b moved replaced), done)
-
-      rows_same : (replaced : Option Replaced) (moves : Bool) → moves_directory (renaming_of a b moved replaced) ≡ moves
-          → renaming_refusals n c (renaming_of a b moved replaced) ≡ renaming_refusals m c (renaming_of a b moved replaced)
-      rows_same replaced true is = ap (λ k. renaming_refusals k c (renaming_of a b moved replaced)) (above replaced is)
-      rows_same replaced false is = rw is refl
-
-      carried_alike : (replaced : Option Replaced) → IsOnto m moved (entry_named to_name b.listing.entries) replaced → Alike R (Carried m replaced) (Carried n replaced)
-      carried_alike replaced onto =
-          then_alike R (checked (renaming_refusals m c (renaming_of a b moved replaced))) _ _ _ (ap checked (rows_same replaced (moves_directory (renaming_of a b moved replaced)) refl)) (λ allowed passed. carried replaced allowed onto passed)
-
-      onto_entry_alike : (entry : Entry) (same : Bool) → (entry.child == moved.id) ≡ same → entry_named to_name b.listing.entries ≡ Some entry → IsSame entry.child
-          → Alike R (if same then Ok (m, done) else (replaced_by m (Some entry) >>= Carried m)) (if same then Ok (n, done) else (replaced_by n (Some entry) >>= Carried n))
-      onto_entry_alike entry true is existing same = unmoved
-      onto_entry_alike entry false is existing same =
-          then_alike R (replaced_by m (Some entry)) _ _ _ (ap (λ at. at >>= λ x. Ok (Some (record { id = x.id; is_directory = is_directory_body x.inode.body; has_entries = has_entries x.inode.body }))) (inode_same (Some entry.child) (λ id is_id. subst IsSame (same_Some entry.child id is_id) same)))
-          (λ replaced found_it. carried_alike replaced (subst (λ held. IsOnto m moved held replaced) (sym existing) (replaced_is m moved entry replaced (λ equal. absurd (cc (eq-eqb entry.child moved.id equal))) found_it)))
-
-      onto_alike : (existing : Option Entry) → entry_named to_name b.listing.entries ≡ existing → SameAt (child_in b to_name)
-          → Alike R (renamed_onto m c from_name to_name a b moved existing) (renamed_onto n c from_name to_name a b moved existing)
-      onto_alike None is same = carried_alike None (subst (λ held. IsOnto m moved held None) (sym is) onto_none)
-      onto_alike (Some entry) is same = onto_entry_alike entry (entry.child == moved.id) refl is (same entry.child (ap (option_map (λ e. e.child)) is))
+    planned_alike : (from : Option ℕ) (from_name : List ℕ) (to : Option ℕ) (to_name : List ℕ) (plan : Option Renaming) → IsPlanned m c from from_name to to_name plan → IfDone (rename from from_name to to_name)
+        → R (option_map_or (renamed m c from_name to_name) plan m, done) (option_map_or (renamed n c from_name to_name) plan n, done)
+    planned_alike from from_name to to_name None p if_done = (if_done p.a p.b p.entry p.moved p.renamed_it).0
+    planned_alike from from_name to to_name (Some r) p if_done =
+        subst (λ k. R (renamed m c from_name to_name k, done) (renamed n c from_name to_name k, done)) p.planned.is
+        ((if_done p.a p.b p.entry p.moved p.renamed_it).1 p.planned.replaced p.planned.allowed p.planned.onto p.planned.passed)
 
     pub attempts_alike : (call : Call) → LooksAlike call → IfDone call → Alike R (attempted m c call) (attempted n c call)
     attempts_alike null looks if_done = if_done
@@ -217,23 +239,8 @@ module _ (m n : Inodes) where
         child_alike handle name _ _ looks.0 looks.1 (λ dir entry child at.
         then_alike R (checked ((is_directory_body child.inode.body, isdir) ∷ [])) _ _ _ refl (λ plain passed. if_done dir entry child plain at passed))
     attempts_alike (rename from from_name to to_name) looks if_done =
-        then_alike R (directory_found m from) _ _ _ (directory_same from looks.0) (λ a a_is.
-        then_alike R (directory_found m to) _ _ _ (directory_same to looks.1) (λ b b_is.
-        then_alike R (checked ((is_bad_name from_name, perm) ∷ (is_bad_name to_name, perm) ∷ [])) _ _ _ refl (λ good passed.
-        then_alike R (ok_or (entry_named from_name a.listing.entries) noent) _ _ _ refl (λ entry held.
-        let named : entry_named from_name a.listing.entries ≡ Some entry = was_there (entry_named from_name a.listing.entries) noent entry held in
-        then_alike R (inode_found m (Some entry.child)) _ _ _ (inode_same (Some entry.child) (λ id is. looks.2 a a_is id (ap (option_map (λ e. e.child)) named ∙ is))) (λ moved found_it.
-        let there = inode_at m (Some entry.child) moved found_it in
-        let renamed_it : IsRenamed m from from_name to to_name a b entry moved = record {
-          from_at = directory_at m from a a_is;
-          to_at = directory_at m to b b_is;
-          from_good = fails (is_bad_name from_name) ((is_bad_name from_name, perm) ∷ (is_bad_name to_name, perm) ∷ []) good passed (inl refl);
-          to_good = fails (is_bad_name to_name) ((is_bad_name from_name, perm) ∷ (is_bad_name to_name, perm) ∷ []) good passed (inr (inl refl));
-          named = named;
-          is = sym (same_Some entry.child moved.id there.led);
-          there = there.there;
-        } in
-        onto_alike from from_name to to_name a b moved (looks.4 a b entry moved renamed_it) (if_done a b entry moved renamed_it).0 (if_done a b entry moved renamed_it).1 (entry_named to_name b.listing.entries) refl (looks.3 b b_is))))))
+        then_alike R (renaming_planned m c from from_name to to_name) _ _ _ (planned_same c from from_name to to_name looks) (λ plan is.
+        planned_alike from from_name to to_name plan (planned_was m c from from_name to to_name plan is) if_done)
     attempts_alike (make_link handle in_directory name) looks if_done =
         then_alike R (inode_found m handle) _ _ _ (inode_same handle looks.0) (λ x is.
         then_alike R (checked ((is_directory_body x.inode.body, isdir) ∷ [])) _ _ _ refl (λ plain no_directory.

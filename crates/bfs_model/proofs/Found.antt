@@ -1,15 +1,16 @@
 -- What it says that tests are passed, and that an inode, a directory or a file was found.
-use Rattle.std.proofs.Common.{◌≡◌, ℕ, Bool, true, false, List, [], ◌∷◌, Option, Some, None, Result, Ok, Err, ◌⊎◌, inl, inr, if◌then◌else◌, refl, sym, ap, subst, ◌∙◌}
+use Rattle.std.proofs.Common.{◌≡◌, ℕ, Bool, true, false, List, [], ◌∷◌, Option, Some, None, Result, Ok, Err, ◌⊎◌, inl, inr, ◌==◌, eq-eqb, if◌then◌else◌, refl, sym, ap, subst, ◌∙◌}
 use Rattle.std.specs.Bool.{⊤}
 use Rattle.std.proofs.lemmas.Option.{same_Some}
-use Rattle.std.specs.Option.{ok_or}
+use Rattle.std.specs.Option.{ok_or, option_map_or}
 use Rattle.std.specs.FinMap.{get}
 use Rattle.bfs_model.specs.Items.{◌>>=◌}
+use Rattle.bfs_model.specs.Context.{Context}
 use Rattle.bfs_model.specs.Tree.{Entry, Listing, Body, file, directory, link, Inode, Inodes, listing_in, is_directory_body}
 use Rattle.bfs_model.specs.Replies.{Status, perm, noent, notdir, stale}
 use Rattle.bfs_model.specs.Directories.{is_bad_name, entry_named}
 use Rattle.bfs_model.specs.Procedures.Removing.{child_found, has_entries}
-use Rattle.bfs_model.specs.Procedures.Renaming.{Replaced, replaced_by}
+use Rattle.bfs_model.specs.Procedures.Renaming.{Renaming, Replaced, renaming_refusals, replaced_by, renaming_of, renaming_planned}
 use Rattle.bfs_model.specs.Refusals.{FoundInode, FoundDirectory, FoundFile, checked, inode_found, directory_found, bytes_in, file_found}
 
 -- Tests by their name ------------------------------------------------------------------------------------------------
@@ -138,3 +139,76 @@ replaced_is m moved entry replaced other is =
     let same : at.0.id ≡ entry.child = sym (same_Some entry.child at.0.id there.led) in
     subst (IsOnto m moved (Some entry)) (ap (λ id. Some (record { id = id; is_directory = is_directory_body at.0.inode.body; has_entries = has_entries at.0.inode.body })) (sym same) ∙ the_same _ replaced at.2)
     (onto_entry at.0.inode other (ap (get m) (sym same) ∙ there.there))
+
+-- what is planned of it: nothing, or this, which may be
+pub record IsAllowed (m : Inodes) (c : Context) (to_name : List ℕ) (a b : FoundDirectory) (moved : FoundInode) (r : Renaming) : Type 0 where
+  pub replaced : Option Replaced
+  pub onto : IsOnto m moved (entry_named to_name b.listing.entries) replaced
+  pub allowed : ⊤
+  pub passed : checked (renaming_refusals m c (renaming_of a b moved replaced)) ≡ Ok allowed
+  pub is : renaming_of a b moved replaced ≡ r
+
+abbrev pub IsPlan : Inodes → Context → (to_name : List ℕ) → (a b : FoundDirectory) → FoundInode → Option Renaming → Type 0
+IsPlan m c to_name a b moved None = Unit {0}
+IsPlan m c to_name a b moved (Some r) = IsAllowed m c to_name a b moved r
+
+some_is : (x y : Renaming) → ◌≡◌ {A = Result (Option Renaming) Status} (Ok (Some x)) (Ok (Some y)) → x ≡ y
+some_is x y is = let both : ◌≡◌ {A = Option Renaming} (Some x) (Some y) = the_same (Some x) (Some y) is in same_Some x y both
+
+module _ (m : Inodes) (c : Context) (a b : FoundDirectory) (moved : FoundInode) (to_name : List ℕ) where
+  allowed_was : (replaced : Option Replaced) (plan : Option Renaming) → IsOnto m moved (entry_named to_name b.listing.entries) replaced
+      → (checked (renaming_refusals m c (renaming_of a b moved replaced)) >>= λ allowed. Ok (Some (renaming_of a b moved replaced))) ≡ Ok plan → IsPlan m c to_name a b moved plan
+  allowed_was replaced None onto is = tt
+  allowed_was replaced (Some r) onto is =
+      let at = then_was (checked (renaming_refusals m c (renaming_of a b moved replaced))) _ (Some r) is in
+      record { replaced = replaced; onto = onto; allowed = at.0; passed = at.1; is = some_is (renaming_of a b moved replaced) r at.2 }
+
+  onto_entry_was : (old : Entry) (same : Bool) (plan : Option Renaming) → (old.child == moved.id) ≡ same → entry_named to_name b.listing.entries ≡ Some old
+      → (if same then Ok None else (replaced_by m (Some old) >>= λ replaced. checked (renaming_refusals m c (renaming_of a b moved replaced)) >>= λ allowed. Ok (Some (renaming_of a b moved replaced)))) ≡ Ok plan
+      → IsPlan m c to_name a b moved plan
+  onto_entry_was old true None other existing is = tt
+  onto_entry_was old true (Some r) other existing is = absurd (none_is r is)
+    where
+      none_is : (r : Renaming) → ◌≡◌ {A = Result (Option Renaming) Status} (Ok None) (Ok (Some r)) → ⊥
+      none_is r is = let both : ◌≡◌ {A = Option Renaming} None (Some r) = the_same None (Some r) is in cc
+  onto_entry_was old false plan other existing is =
+      let at = then_was (replaced_by m (Some old)) _ plan is in
+      allowed_was at.0 plan (subst (λ held. IsOnto m moved held at.0) (sym existing) (replaced_is m moved old at.0 (λ equal. absurd (cc (eq-eqb old.child moved.id equal))) at.1)) at.2
+
+  onto_was : (existing : Option Entry) (plan : Option Renaming) → entry_named to_name b.listing.entries ≡ existing
+      → (if option_map_or (λ other. other.child == moved.id) existing false then Ok None else (replaced_by m existing >>= λ replaced. checked (renaming_refusals m c (renaming_of a b moved replaced)) >>= λ allowed. Ok (Some (renaming_of a b moved replaced)))) ≡ Ok plan
+      → IsPlan m c to_name a b moved plan
+  onto_was None plan existing is = allowed_was None plan (subst (λ held. IsOnto m moved held None) (sym existing) onto_none) is
+  onto_was (Some old) plan existing is = onto_entry_was old (old.child == moved.id) plan refl existing is
+
+pub record IsPlanned (m : Inodes) (c : Context) (from : Option ℕ) (from_name : List ℕ) (to : Option ℕ) (to_name : List ℕ) (plan : Option Renaming) : Type 0 where
+  pub a : FoundDirectory
+  pub b : FoundDirectory
+  pub entry : Entry
+  pub moved : FoundInode
+  pub renamed_it : IsRenamed m from from_name to to_name a b entry moved
+  pub planned : IsPlan m c to_name a b moved plan
+
+pub planned_was : (m : Inodes) (c : Context) (from : Option ℕ) (from_name : List ℕ) (to : Option ℕ) (to_name : List ℕ) (plan : Option Renaming)
+    → renaming_planned m c from from_name to to_name ≡ Ok plan → IsPlanned m c from from_name to to_name plan
+planned_was m c from from_name to to_name plan is =
+    let rows : List (Bool × Status) = (is_bad_name from_name, perm) ∷ (is_bad_name to_name, perm) ∷ [] in
+    let a = then_was (directory_found m from) _ plan is in
+    let b = then_was (directory_found m to) _ plan a.2 in
+    let good = then_was (checked rows) _ plan b.2 in
+    let entry = then_was (ok_or (entry_named from_name a.0.listing.entries) noent) _ plan good.2 in
+    let moved = then_was (inode_found m (Some entry.0.child)) _ plan entry.2 in
+    let there = inode_at m (Some entry.0.child) moved.0 moved.1 in
+    record {
+      a = a.0; b = b.0; entry = entry.0; moved = moved.0;
+      renamed_it = record {
+        from_at = directory_at m from a.0 a.1;
+        to_at = directory_at m to b.0 b.1;
+        from_good = fails (is_bad_name from_name) rows good.0 good.1 (inl refl);
+        to_good = fails (is_bad_name to_name) rows good.0 good.1 (inr (inl refl));
+        named = was_there (entry_named from_name a.0.listing.entries) noent entry.0 entry.1;
+        is = sym (same_Some entry.0.child moved.0.id there.led);
+        there = there.there;
+      };
+      planned = onto_was m c a.0 b.0 moved.0 to_name (entry_named to_name b.0.listing.entries) plan refl moved.2;
+    }

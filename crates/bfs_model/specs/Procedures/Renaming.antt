@@ -103,19 +103,21 @@ abbrev pub renaming_of : (from to : FoundDirectory) → (moved : FoundInode) →
 renaming_of from to moved replaced =
     record { from = from.id; to = to.id; entries = length to.listing.entries; links = to.inode.links; moved = moved.id; is_directory = is_directory_body moved.inode.body; replaced = replaced }
 
--- onto the same inode, where nothing is done, or onto no entry or another
-abbrev pub renamed_onto : Inodes → Context → (from_name to_name : List ℕ) → (from to : FoundDirectory) → (moved : FoundInode) → (existing : Option Entry) → Result Outcome Status
-renamed_onto inodes context from_name to_name from to moved existing =
-    if option_map_or (λ entry. entry.child == moved.id) existing false then Ok (inodes, done) else (do
-      replaced ← replaced_by inodes existing
-      allowed ← checked (renaming_refusals inodes context (renaming_of from to moved replaced))
-      Ok (renamed inodes context from_name to_name (renaming_of from to moved replaced), done))
-
-abbrev pub entry_renamed : Inodes → Context → (from : Option ℕ) → (from_name : List ℕ) → (to : Option ℕ) → (to_name : List ℕ) → Result Outcome Status
-entry_renamed inodes context from_handle from_name to_handle to_name = do
+-- what is to be done: nothing, where both names lead to the same inode
+abbrev pub renaming_planned : Inodes → Context → (from : Option ℕ) → (from_name : List ℕ) → (to : Option ℕ) → (to_name : List ℕ) → Result (Option Renaming) Status
+renaming_planned inodes context from_handle from_name to_handle to_name = do
   from ← directory_found inodes from_handle
   to ← directory_found inodes to_handle
   good ← checked ((is_bad_name from_name, perm) ∷ (is_bad_name to_name, perm) ∷ [])
   entry ← ok_or (entry_named from_name from.listing.entries) noent
   moved ← inode_found inodes (Some entry.child)
-  renamed_onto inodes context from_name to_name from to moved (entry_named to_name to.listing.entries)
+  let existing = entry_named to_name to.listing.entries in
+    if option_map_or (λ other. other.child == moved.id) existing false then Ok None else (do
+      replaced ← replaced_by inodes existing
+      allowed ← checked (renaming_refusals inodes context (renaming_of from to moved replaced))
+      Ok (Some (renaming_of from to moved replaced)))
+
+abbrev pub entry_renamed : Inodes → Context → (from : Option ℕ) → (from_name : List ℕ) → (to : Option ℕ) → (to_name : List ℕ) → Result Outcome Status
+entry_renamed inodes context from from_name to to_name = do
+  plan ← renaming_planned inodes context from from_name to to_name
+  Ok (option_map_or (renamed inodes context from_name to_name) plan inodes, done)
