@@ -1,5 +1,5 @@
 -- Every procedure keeps a tree.
-use Rattle.std.proofs.Common.{◌≡◌, ℕ, ◌≤◌, Bool, not, IsTrue, IsFalse, List, [], ◌∷◌, ◌++◌, Option, Some, None, inl, inr, nat_lt, unwrap_or, refl, sym, ap, subst, ◌∙◌, arith}
+use Rattle.std.proofs.Common.{◌≡◌, ℕ, ◌≤◌, Bool, not, IsTrue, IsFalse, List, [], ◌∷◌, Option, Some, None, inl, inr, nat_lt, unwrap_or, refl, sym, ap, ◌∙◌, arith}
 use Rattle.std.specs.FinMap.{get, insert, remove as remove_at}
 use Rattle.std.proofs.lemmas.Bool.{not-false}
 use Rattle.bfs_model.specs.Tree.{Time, Entry, Body, file, directory, link, Inode, Inodes, is_directory_body, entries_in, entries_at, parent_in}
