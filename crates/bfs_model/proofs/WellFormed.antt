@@ -11,6 +11,7 @@ pub mod Trees
 pub mod Entries
 pub mod Each
 pub mod Named
+pub mod RenamingRoom
 pub mod Limits
 pub mod LimitsKept
 pub mod RenamingLimits
