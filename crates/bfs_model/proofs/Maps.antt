@@ -6,7 +6,7 @@ use Rattle.std.specs.FinMap.{put, len, get, empty, insert, remove, entries, from
 use Rattle.std.proofs.lemmas.Map.Views.{tells_apart}
 use Rattle.bfs_model.specs.Tree.{Inode, Inodes}
 use Rattle.bfs_model.specs.Replies.{Reply}
-use Rattle.bfs_model.specs.Steps.{Outcome}
+use Rattle.bfs_model.specs.Refusals.{Outcome}
 
 abbrev none : Inodes
 none = empty
