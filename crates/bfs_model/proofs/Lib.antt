@@ -16,6 +16,7 @@ pub mod ServerRefusals
 pub mod ServerPlaces
 pub mod Found
 pub mod Attempts
+pub mod Fresh
 pub mod Unchanged
 pub mod Tables
 pub mod Short
