@@ -14,11 +14,9 @@ pub mod ServerMoves
 pub mod ServerSettings
 pub mod ServerRefusals
 pub mod ServerPlaces
-pub mod Outcomes
 pub mod Found
 pub mod Attempts
 pub mod Fresh
-pub mod ProcedureOutcomes
 pub mod Unchanged
 pub mod Tables
 pub mod Short
