@@ -1,157 +1,138 @@
--- Each inode stays within the limits: the procedures but RENAME.
-use Rattle.std.proofs.Common.{◌≡◌, ℕ, ◌+◌, ◌<◌, ◌≤◌, Bool, false, not, IsTrue, IsFalse, List, [], ◌∷◌, ◌++◌, length, replicate, Option, Some, None, is_some, refl, sym, ap, subst, arith}
-use Rattle.std.specs.Prelude.{nat_le, nat_lt, unwrap_or}
-use Rattle.std.specs.Option.{option_map_or}
+-- Each inode stays within its limits: the calls but RENAME.
+use Rattle.std.proofs.Common.{◌≡◌, ℕ, ◌+◌, ◌<◌, ◌≤◌, Bool, false, not, IsTrue, IsFalse, List, [], ◌∷◌, ◌++◌, length, Option, Some, None, is_some, Ok, ◌⊎◌, inl, inr, refl, sym, ap, subst, arith}
+use Rattle.std.specs.Bool.{⊤}
+use Rattle.std.specs.Prelude.{nat_lt, unwrap_or, All}
+use Rattle.std.specs.List.{AllByRecursion}
 use Rattle.std.specs.FinMap.{get, insert, remove}
 use Rattle.std.proofs.lemmas.Bool.{both_ways, leb-false, ltb-false}
 use Rattle.std.proofs.lemmas.List.{length-replicate}
 use Rattle.bfs_model.specs.Limits.{most_file_bytes, most_name_bytes, most_path_bytes, most_entries, most_links}
-use Rattle.bfs_model.specs.Tree.{Time, Listing, Body, file, directory, link, Inode, Inodes, first_ordinal, spent_ordinal, is_directory_body, entries_in}
-use Rattle.bfs_model.specs.Call.{Credential}
+use Rattle.bfs_model.specs.Tree.{Entry, Listing, Body, Inode, Inodes, is_directory_body, entries_in, entries_at}
+use Rattle.bfs_model.specs.Context.{Context}
 use Rattle.bfs_model.specs.Arguments.{Settings}
-use Rattle.bfs_model.specs.Replies.{Status, perm, isdir, notdir, notempty, fbig, nospc}
+use Rattle.bfs_model.specs.Replies.{Status, fbig, nospc}
 use Rattle.bfs_model.specs.Directories.{is_bad_name, entry_named}
-use Rattle.bfs_model.specs.Changes.{permission_bits, with_settings, with_bytes, with_listing, with_entry, without_entry, with_link, with_link_less, changed, link_lost}
-use Rattle.bfs_model.specs.Procedures.OfAttributes.{size_refusals, attributes_set}
-use Rattle.bfs_model.specs.Procedures.OfFiles.{new_name_refusals, entry_made, new_file, file_written, file_created, file_removed}
-use Rattle.bfs_model.specs.Procedures.OfDirectories.{has_entries, new_directory, directory_made, directory_removed}
-use Rattle.bfs_model.specs.Procedures.OfLinks.{new_symbolic_link, link_made, symbolic_link_made}
-use Rattle.bfs_model.specs.WellFormed.{IsWithin}
-use Rattle.bfs_model.proofs.Tables.{AllPassed, passed_front, passed_back, kept_passed, kept_stale, kept_inode, kept_directory, kept_file, kept_noent}
-use Rattle.bfs_model.proofs.WellFormed.Each.{At, at_found, at_inserted, each_inserted, each_removed, each_changed, each_link_lost}
-use Rattle.bfs_model.proofs.WellFormed.Limits.{AreWithin, HasRoom, all_older, settings_within, bytes_within, entry_within, without_within, link_within, link_less_within, new_within}
+use Rattle.bfs_model.specs.Changes.{with_settings, with_bytes, without_entry, with_link, with_link_less, changed, link_lost}
+use Rattle.bfs_model.specs.Refusals.{FoundInode, FoundDirectory, FoundFile, checked, is_spent, is_full, has_most_links, inode_found, directory_found, file_found}
+use Rattle.bfs_model.specs.Procedures.Attributes.{size_refusals}
+use Rattle.bfs_model.specs.Procedures.Making.{new_name_refusals, with_name, new_file, new_directory, new_symbolic_link}
+use Rattle.bfs_model.specs.Footprints.{Footprint, ids_in, IsNewAt, IsNewIn, IsFreshFor}
+use Rattle.bfs_model.specs.WellFormed.{IsLimited}
+use Rattle.bfs_model.proofs.Found.{fails, IsInodeAt, IsDirectoryAt, IsFileAt, IsChildAt}
+use Rattle.bfs_model.proofs.WellFormed.Steps.{kind_listed}
+use Rattle.bfs_model.proofs.WellFormed.Each.{Each, at_found, at_inserted, at_removed, each_inserted, each_removed, each_changed, each_link_lost}
+use Rattle.bfs_model.proofs.WellFormed.RenamingRoom.{HasRoomIn, HasRoomFor}
+use Rattle.bfs_model.proofs.WellFormed.Limits.{AreLimited, settings_limited, bytes_limited, entry_limited, without_limited, link_limited, link_less_limited}
 
--- a call's ordinal and the next one, which is the same where it is spent; nothing is made then
-pub record Follows (o n : ℕ) : Type 0 where
-  pub first : first_ordinal ≤ o
-  pub before : o ≤ n
-  pub unspent : IsFalse (nat_le spent_ordinal o) → o < n
-
--- What the table's tests say ------------------------------------------------------------------------------------------------
+-- What the tests say -------------------------------------------------------------------------------------------------------
 
 pub none_from : {X : Type 0} (found : Option X) → is_some found ≡ false → found ≡ None
 none_from None e = refl
 none_from (Some x) e = absurd cc
 
-pub room_for : (name : List ℕ) (x : Inode) (listing : Listing) → x.body ≡ directory listing → IsFalse (is_some (entry_named name listing.entries)) → IsFalse (nat_le most_entries (length listing.entries)) → HasRoom name x
-room_for name x listing is free fewer = record {
-  fewer = subst (λ (body : Body). length (entries_in body) < most_entries) (sym is) (leb-false most_entries (length listing.entries) fewer);
-  free = subst (λ (body : Body). entry_named name (entries_in body) ≡ None) (sym is) (none_from (entry_named name listing.entries) free);
+-- a name that may come to a directory
+pub record IsNewName (c : Context) (listing : Listing) (name : List ℕ) : Type 0 where
+  pub good : IsFalse (is_bad_name name)
+  pub free : entry_named name listing.entries ≡ None
+  pub left : is_spent c.ordinal ≡ false
+  pub fewer : length listing.entries < most_entries
+
+pub new_name : (c : Context) (listing : Listing) (name : List ℕ) (more : List (Bool × Status)) (allowed : ⊤) → checked (new_name_refusals c listing name ++ more) ≡ Ok allowed → IsNewName c listing name
+new_name c listing name more allowed passed = record {
+  good = fails (is_bad_name name) (new_name_refusals c listing name ++ more) allowed passed (inl refl);
+  free = none_from (entry_named name listing.entries) (fails (is_some (entry_named name listing.entries)) (new_name_refusals c listing name ++ more) allowed passed (search (inl, inr) depth 9));
+  left = fails (is_spent c.ordinal) (new_name_refusals c listing name ++ more) allowed passed (search (inl, inr) depth 9);
+  fewer = leb-false most_entries (length listing.entries) (fails (is_full (length listing.entries)) (new_name_refusals c listing name ++ more) allowed passed (search (inl, inr) depth 9));
 }
 
--- SETATTR and WRITE ---------------------------------------------------------------------------------------------------------
+-- What a fresh ordinal says ------------------------------------------------------------------------------------------------
 
-pub attributes_set_within : (m : Inodes) (n : ℕ) → AreWithin m n → (t : Time) (handle : Option ℕ) (settings : Settings) → AreWithin (attributes_set m t handle settings).0 n
-attributes_set_within m n within t handle settings =
-    kept_inode (λ after. AreWithin after n) m within handle _ (λ id x there.
-    kept_passed (λ after. AreWithin after n) m within (size_refusals x.body settings.size) _ (λ passed.
-    each_inserted (IsWithin n) m within id (with_settings t settings x) (settings_within n id t settings x passed (within id x there))))
+pub first_of : (P : ℕ → Type 0) (handle : Option ℕ) (id : ℕ) (rest : List ℕ) → handle ≡ Some id → AllByRecursion P (ids_in handle ++ rest) → P id
+first_of P handle id rest is each = (subst (λ h. AllByRecursion P (ids_in h ++ rest)) is each).0
 
-pub file_written_within : (m : Inodes) (n : ℕ) → AreWithin m n → (t : Time) (handle : Option ℕ) (offset : ℕ) (written : List ℕ) → AreWithin (file_written m t handle offset written).0 n
-file_written_within m n within t handle offset written =
-    kept_file (λ after. AreWithin after n) m within handle _ (λ id x bytes there is.
-    kept_passed (λ after. AreWithin after n) m within ((nat_lt most_file_bytes (offset + length written), fbig) ∷ []) _ (λ passed.
-    each_inserted (IsWithin n) m within id (with_bytes t offset written x) (bytes_within n id t offset written x (ltb-false most_file_bytes (offset + length written) passed.0) (within id x there))))
+pub rest_of : (P : ℕ → Type 0) (handle : Option ℕ) (rest : List ℕ) → AllByRecursion P (ids_in handle ++ rest) → AllByRecursion P rest
+rest_of P None rest each = each
+rest_of P (Some id) rest each = each.1
 
--- New names -----------------------------------------------------------------------------------------------------------------
+pub new_where_left : (m : Inodes) (o : ℕ) (footprint : Footprint) → is_spent o ≡ false → IsFreshFor m o footprint → IsNewIn m o footprint
+new_where_left m o footprint left (inl spent) = absurd (both_ways (is_spent o) left spent)
+new_where_left m o footprint left (inr new) = new
 
--- the directory with the new entry
-new_entry_within : (o n : ℕ) → Follows o n → (t : Time) (dir : ℕ) (x : Inode) (listing : Listing) (name : List ℕ) (child : ℕ) → length name ≤ most_name_bytes → x.body ≡ directory listing
-    → AllPassed (new_name_refusals o listing name) → IsWithin o dir x → IsWithin n dir (with_entry t (entry_made o name child) x)
-new_entry_within o n follows t dir x listing name child short is passed h =
-    entry_within o n dir t name child x follows.first (follows.unspent passed.1.1.0) passed.0 short (room_for name x listing is passed.1.0 passed.1.1.1.0) h
+-- the cookies of a directory that is written are below a new ordinal
+pub cookies_below : (m : Inodes) (o : ℕ) (handle : Option ℕ) (dir : FoundDirectory) → IsDirectoryAt m handle dir → IsNewAt m o dir.id → All (λ entry. entry.cookie < o) dir.listing.entries
+cookies_below m o handle dir at new =
+    subst (λ (body : Body). All (λ entry. entry.cookie < o) (entries_in body)) at.holds (subst (λ (found : Option Inode). All (λ entry. entry.cookie < o) (entries_at found)) at.there new.1)
 
-pub file_created_within : (m : Inodes) (o n : ℕ) → Follows o n → AreWithin m o → (t : Time) (caller : Credential) (handle : Option ℕ) (name : List ℕ) (settings : Settings) → length name ≤ most_name_bytes
-    → AreWithin (file_created m o t caller handle name settings).0 n
-file_created_within m o n follows within t caller handle name settings short =
-    let kept : AreWithin m n = all_older m o n follows.before within in
-    let big : List (Bool × Status) = (nat_lt most_file_bytes (unwrap_or settings.size 0), fbig) ∷ [] in
-    kept_directory (λ after. AreWithin after n) m kept handle _ (λ dir x listing there is.
-    kept_passed (λ after. AreWithin after n) m kept (new_name_refusals o listing name ++ big) _ (λ passed.
-    let rows = passed_front (new_name_refusals o listing name) big passed in
-    let size : unwrap_or settings.size 0 ≤ most_file_bytes = ltb-false most_file_bytes (unwrap_or settings.size 0) (passed_back (new_name_refusals o listing name) big passed).0 in
-    let named = new_entry_within o n follows t dir x listing name o short is rows (within dir x there) in
-    each_inserted (IsWithin n) (insert m dir (with_entry t (entry_made o name o) x)) (each_inserted (IsWithin n) m kept dir (with_entry t (entry_made o name o) x) named) o (new_file t caller settings)
-    (new_within o n t caller settings (option_map_or permission_bits settings.mode 0o644) 1 (file (replicate (unwrap_or settings.size 0) 0)) follows.first (follows.unspent rows.1.1.0) (omega arith)
-    (omega arith, omega (arith, length-replicate {A = ℕ} (unwrap_or settings.size 0) 0)))))
+-- The calls ----------------------------------------------------------------------------------------------------------------
 
-pub symbolic_link_made_within : (m : Inodes) (o n : ℕ) → Follows o n → AreWithin m o → (t : Time) (caller : Credential) (handle : Option ℕ) (name target : List ℕ) (settings : Settings)
-    → length name ≤ most_name_bytes → length target ≤ most_path_bytes → AreWithin (symbolic_link_made m o t caller handle name target settings).0 n
-symbolic_link_made_within m o n follows within t caller handle name target settings short short_target =
-    let kept : AreWithin m n = all_older m o n follows.before within in
-    kept_directory (λ after. AreWithin after n) m kept handle _ (λ dir x listing there is.
-    kept_passed (λ after. AreWithin after n) m kept (new_name_refusals o listing name) _ (λ rows.
-    let named = new_entry_within o n follows t dir x listing name o short is rows (within dir x there) in
-    each_inserted (IsWithin n) (insert m dir (with_entry t (entry_made o name o) x)) (each_inserted (IsWithin n) m kept dir (with_entry t (entry_made o name o) x) named) o (new_symbolic_link t caller settings target)
-    (new_within o n t caller settings 0o777 1 (link target) follows.first (follows.unspent rows.1.1.0) (omega arith) (omega arith, short_target))))
+abbrev pub Limited : ℕ → Inode → Type 0
+Limited id x = IsLimited x
 
-pub directory_made_within : (m : Inodes) (o n : ℕ) → Follows o n → AreWithin m o → (t : Time) (caller : Credential) (handle : Option ℕ) (name : List ℕ) (settings : Settings) → length name ≤ most_name_bytes
-    → AreWithin (directory_made m o t caller handle name settings).0 n
-directory_made_within m o n follows within t caller handle name settings short =
-    let kept : AreWithin m n = all_older m o n follows.before within in
-    kept_directory (λ after. AreWithin after n) m kept handle _ (λ dir x listing there is.
-    let many : List (Bool × Status) = (nat_le most_links x.links, nospc) ∷ [] in
-    kept_passed (λ after. AreWithin after n) m kept (new_name_refusals o listing name ++ many) _ (λ passed.
-    let rows = passed_front (new_name_refusals o listing name) many passed in
-    let links : x.links < most_links = leb-false most_links x.links (passed_back (new_name_refusals o listing name) many passed).0 in
-    let named = new_entry_within o n follows t dir x listing name o short is rows (within dir x there) in
-    let linked = link_within n dir t (with_entry t (entry_made o name o) x) links named in
-    each_inserted (IsWithin n) (insert m dir (with_link t (with_entry t (entry_made o name o) x))) (each_inserted (IsWithin n) m kept dir (with_link t (with_entry t (entry_made o name o) x)) linked)
-    o (new_directory t caller settings dir)
-    (new_within o n t caller settings (option_map_or permission_bits settings.mode 0o755) 2 (directory (record { parent = dir; entries = [] })) follows.first (follows.unspent rows.1.1.0) (omega arith)
-    (omega arith, tt, tt, λ root. absurd (let first : first_ordinal ≤ o = follows.first in omega arith)))))
+module _ (m : Inodes) (c : Context) (limited : AreLimited m) where
+  pub set_limited : (handle : Option ℕ) (settings : Settings) (x : FoundInode) (allowed : ⊤) → IsInodeAt m handle x → checked (size_refusals x.inode.body settings.size) ≡ Ok allowed
+      → AreLimited (insert m x.id (with_settings c.time settings x.inode))
+  set_limited handle settings x allowed at passed = each_inserted Limited m limited x.id (with_settings c.time settings x.inode) (settings_limited c.time settings x.inode allowed passed (limited x.id x.inode at.there))
 
-pub link_made_within : (m : Inodes) (o n : ℕ) → Follows o n → AreWithin m o → (t : Time) (handle in_directory : Option ℕ) (name : List ℕ) → length name ≤ most_name_bytes
-    → AreWithin (link_made m o t handle in_directory name).0 n
-link_made_within m o n follows within t handle in_directory name short =
-    let kept : AreWithin m n = all_older m o n follows.before within in
-    kept_inode (λ after. AreWithin after n) m kept handle _ (λ id linked found.
-    kept_passed (λ after. AreWithin after n) m kept ((is_directory_body linked.body, isdir) ∷ []) _ (λ no_directory.
-    kept_directory (λ after. AreWithin after n) m kept in_directory _ (λ dir x listing there is.
-    let many : List (Bool × Status) = (nat_le most_links linked.links, nospc) ∷ [] in
-    kept_passed (λ after. AreWithin after n) m kept (new_name_refusals o listing name ++ many) _ (λ passed.
-    let rows = passed_front (new_name_refusals o listing name) many passed in
-    let links : linked.links < most_links = leb-false most_links linked.links (passed_back (new_name_refusals o listing name) many passed).0 in
-    let named = new_entry_within o n follows t dir x listing name id short is rows (within dir x there) in
-    let more = each_inserted (IsWithin n) m kept dir (with_entry t (entry_made o name id) x) named in
-    let few = at_inserted id (λ (y : Inode). y.links < most_links) m (at_found (λ (y : Inode). y.links < most_links) m id linked found links) dir (with_entry t (entry_made o name id) x) x there (λ lt. lt) in
-    each_changed (IsWithin n) (insert m dir (with_entry t (entry_made o name id) x)) more id (with_link t) (λ y here. link_within n id t y (few id y here refl) (more id y here))))))
+  pub written_limited : (handle : Option ℕ) (offset : ℕ) (written : List ℕ) (x : FoundFile) (small : ⊤) → IsFileAt m handle x → checked ((nat_lt most_file_bytes (offset + length written), fbig) ∷ []) ≡ Ok small
+      → AreLimited (insert m x.id (with_bytes c.time offset written x.inode))
+  written_limited handle offset written x small at passed =
+      let end = ltb-false most_file_bytes (offset + length written) (fails (nat_lt most_file_bytes (offset + length written)) ((nat_lt most_file_bytes (offset + length written), fbig) ∷ []) small passed (inl refl)) in
+      each_inserted Limited m limited x.id (with_bytes c.time offset written x.inode) (bytes_limited c.time offset written x.inode end (limited x.id x.inode at.there))
 
-pub listing_kept : (change : Listing → Listing) (body : Body) → IsTrue (is_directory_body body) → IsTrue (is_directory_body (with_listing change body))
-listing_kept change (file bytes) h = h
-listing_kept change (directory listing) h = h
-listing_kept change (link path) h = h
+  -- the directory with the new entry
+  module _ (handle : Option ℕ) (name : List ℕ) (dir : FoundDirectory) (short : length name ≤ most_name_bytes) (at : IsDirectoryAt m handle dir) (fresh : IsNewName c dir.listing name → IsNewAt m c.ordinal dir.id) where
+    entered : (child : ℕ) → IsNewName c dir.listing name → IsLimited (with_name c name child dir.inode)
+    entered child new =
+        let room : HasRoomFor c.ordinal name dir.inode = subst (λ (body : Body). HasRoomIn c.ordinal name (entries_in body)) (sym at.holds) (record { fewer = new.fewer; free = new.free; below = cookies_below m c.ordinal handle dir at (fresh new) }) in
+        entry_limited c name child dir.inode new.left new.good short room (limited dir.id dir.inode at.there)
 
--- REMOVE and RMDIR ----------------------------------------------------------------------------------------------------------
+    entered_all : (child : ℕ) → IsNewName c dir.listing name → AreLimited (insert m dir.id (with_name c name child dir.inode))
+    entered_all child new = each_inserted Limited m limited dir.id (with_name c name child dir.inode) (entered child new)
 
-abbrev pub IsDirectory : Inode → Type 0
-IsDirectory x = IsTrue (is_directory_body x.body)
+    pub created_limited : (settings : Settings) (allowed : ⊤) → checked (new_name_refusals c dir.listing name ++ (nat_lt most_file_bytes (unwrap_or settings.size 0), fbig) ∷ []) ≡ Ok allowed
+        → AreLimited (insert (insert m dir.id (with_name c name c.ordinal dir.inode)) c.ordinal (new_file c settings))
+    created_limited settings allowed passed =
+        let big : List (Bool × Status) = (nat_lt most_file_bytes (unwrap_or settings.size 0), fbig) ∷ [] in
+        let size : unwrap_or settings.size 0 ≤ most_file_bytes = ltb-false most_file_bytes (unwrap_or settings.size 0) (fails (nat_lt most_file_bytes (unwrap_or settings.size 0)) (new_name_refusals c dir.listing name ++ big) allowed passed (search (inl, inr) depth 9)) in
+        each_inserted Limited _ (entered_all c.ordinal (new_name c dir.listing name big allowed passed)) c.ordinal (new_file c settings)
+        (record { links = omega arith; body = (omega arith, omega (arith, length-replicate {A = ℕ} (unwrap_or settings.size 0) 0)) })
 
-pub lost_within : (m : Inodes) (n : ℕ) → AreWithin m n → (t : Time) (id : ℕ) → AreWithin (link_lost m t id) n
-lost_within m n within t id = each_link_lost (IsWithin n) m within t id (λ x there many. link_less_within n id t x (λ is. many) (within id x there))
+    pub symbolic_link_limited : (target : List ℕ) (settings : Settings) (allowed : ⊤) → length target ≤ most_path_bytes → checked (new_name_refusals c dir.listing name) ≡ Ok allowed
+        → AreLimited (insert (insert m dir.id (with_name c name c.ordinal dir.inode)) c.ordinal (new_symbolic_link c settings target))
+    symbolic_link_limited target settings allowed short_target passed =
+        each_inserted Limited _ (entered_all c.ordinal (new_name c dir.listing name [] allowed passed)) c.ordinal (new_symbolic_link c settings target) (record { links = omega arith; body = (omega arith, short_target) })
 
--- a directory has no least number of links
-pub directory_less_within : (m : Inodes) (n : ℕ) → AreWithin m n → (t : Time) (dir : ℕ) → At dir IsDirectory m → AreWithin (changed m dir (with_link_less t)) n
-directory_less_within m n within t dir is = each_changed (IsWithin n) m within dir (with_link_less t) (λ x there.
-    link_less_within n dir t x (λ file. absurd (both_ways (is_directory_body x.body) file (is dir x there refl))) (within dir x there))
+    pub directory_limited : (settings : Settings) (allowed : ⊤) → checked (new_name_refusals c dir.listing name ++ (has_most_links dir.inode.links, nospc) ∷ []) ≡ Ok allowed
+        → AreLimited (insert (insert m dir.id (with_link c.time (with_name c name c.ordinal dir.inode))) c.ordinal (new_directory c settings dir.id))
+    directory_limited settings allowed passed =
+        let many : List (Bool × Status) = (has_most_links dir.inode.links, nospc) ∷ [] in
+        let links : dir.inode.links < most_links = leb-false most_links dir.inode.links (fails (has_most_links dir.inode.links) (new_name_refusals c dir.listing name ++ many) allowed passed (search (inl, inr) depth 9)) in
+        each_inserted Limited _ (each_inserted Limited m limited dir.id (with_link c.time (with_name c name c.ordinal dir.inode)) (link_limited c.time (with_name c name c.ordinal dir.inode) links (entered c.ordinal (new_name c dir.listing name many allowed passed))))
+        c.ordinal (new_directory c settings dir.id) (record { links = omega arith; body = (omega arith, tt, tt) })
 
-pub file_removed_within : (m : Inodes) (n : ℕ) → AreWithin m n → (t : Time) (handle : Option ℕ) (name : List ℕ) → AreWithin (file_removed m t handle name).0 n
-file_removed_within m n within t handle name =
-    kept_directory (λ after. AreWithin after n) m within handle _ (λ dir x listing there is.
-    kept_passed (λ after. AreWithin after n) m within ((is_bad_name name, perm) ∷ []) _ (λ passed.
-    kept_noent (λ after. AreWithin after n) m within (entry_named name listing.entries) _ (λ entry found.
-    kept_stale (λ after. AreWithin after n) m within (get m entry.child) _ (λ child held.
-    kept_passed (λ after. AreWithin after n) m within ((is_directory_body child.body, isdir) ∷ []) _ (λ no_directory.
-    lost_within (insert m dir (without_entry t name x)) n (each_inserted (IsWithin n) m within dir (without_entry t name x) (without_within n dir t name x (within dir x there))) t entry.child)))))
+    pub link_made_limited : (file : Option ℕ) (x : FoundInode) (allowed : ⊤) → IsInodeAt m file x → checked (new_name_refusals c dir.listing name ++ (has_most_links x.inode.links, nospc) ∷ []) ≡ Ok allowed
+        → AreLimited (changed (insert m dir.id (with_name c name x.id dir.inode)) x.id (with_link c.time))
+    link_made_limited file x allowed linked passed =
+        let many : List (Bool × Status) = (has_most_links x.inode.links, nospc) ∷ [] in
+        let links : x.inode.links < most_links = leb-false most_links x.inode.links (fails (has_most_links x.inode.links) (new_name_refusals c dir.listing name ++ many) allowed passed (search (inl, inr) depth 9)) in
+        let few = at_inserted x.id (λ y. y.links < most_links) m (at_found (λ y. y.links < most_links) m x.id x.inode linked.there links) dir.id (with_name c name x.id dir.inode) dir.inode at.there (λ lt. lt) in
+        let all = entered_all x.id (new_name c dir.listing name many allowed passed) in
+        each_changed Limited (insert m dir.id (with_name c name x.id dir.inode)) all x.id (with_link c.time) (λ y here. link_limited c.time y (few x.id y here refl) (all x.id y here))
 
-pub directory_removed_within : (m : Inodes) (n : ℕ) → AreWithin m n → (t : Time) (handle : Option ℕ) (name : List ℕ) → AreWithin (directory_removed m t handle name).0 n
-directory_removed_within m n within t handle name =
-    kept_directory (λ after. AreWithin after n) m within handle _ (λ dir x listing there is.
-    kept_passed (λ after. AreWithin after n) m within ((is_bad_name name, perm) ∷ []) _ (λ passed.
-    kept_noent (λ after. AreWithin after n) m within (entry_named name listing.entries) _ (λ entry found.
-    kept_stale (λ after. AreWithin after n) m within (get m entry.child) _ (λ child held.
-    kept_passed (λ after. AreWithin after n) m within ((not (is_directory_body child.body), notdir) ∷ (has_entries child.body, notempty) ∷ []) _ (λ empty.
-    let taken : Inodes = insert m dir (without_entry t name x) in
-    let kept : AreWithin taken n = each_inserted (IsWithin n) m within dir (without_entry t name x) (without_within n dir t name x (within dir x there)) in
-    let dirs : At dir IsDirectory taken = at_inserted dir IsDirectory m (at_found IsDirectory m dir x there (ap is_directory_body is)) dir (without_entry t name x) x there (listing_kept _ x.body) in
-    directory_less_within (remove taken entry.child) n (each_removed (IsWithin n) taken kept entry.child) t dir (each_removed (λ id y. id ≡ dir → IsDirectory y) taken dirs entry.child))))))
+  module _ (handle : Option ℕ) (name : List ℕ) (dir : FoundDirectory) (entry : Entry) (child : FoundInode) (at : IsChildAt m handle name dir entry child) where
+    abbrev without : Inodes
+    without = insert m dir.id (without_entry c.time name dir.inode)
+
+    without_limits : AreLimited without
+    without_limits = each_inserted Limited m limited dir.id (without_entry c.time name dir.inode) (without_limited c.time name dir.inode (limited dir.id dir.inode at.in_it.there))
+
+    pub removed_limited : AreLimited (link_lost without c.time child.id)
+    removed_limited = each_link_lost Limited without without_limits c.time child.id (λ x there many. link_less_limited c.time x (λ is. many) (without_limits child.id x there))
+
+    pub directory_removed_limited : AreLimited (changed (remove without child.id) dir.id (with_link_less c.time))
+    directory_removed_limited =
+        let Folder = λ (x : Inode). IsTrue (is_directory_body x.body) in
+        let folder = at_inserted dir.id Folder m (at_found Folder m dir.id dir.inode at.in_it.there (ap is_directory_body at.in_it.holds)) dir.id (without_entry c.time name dir.inode) dir.inode at.in_it.there (λ is. rw (kind_listed _ dir.inode.body) is) in
+        let gone = each_removed Limited without without_limits child.id in
+        each_changed Limited (remove without child.id) gone dir.id (with_link_less c.time) (λ x there.
+        link_less_limited c.time x (λ file. absurd (both_ways (is_directory_body x.body) file (at_removed dir.id Folder without folder child.id dir.id x there refl))) (gone dir.id x there))
