@@ -16,3 +16,4 @@ pub mod Limits
 pub mod LimitsKept
 pub mod RenamingLimits
 pub mod ProceduresKeepLimits
+pub mod Numbered

@@ -47,12 +47,16 @@ new_name c listing name more allowed passed = record {
 
 -- What a fresh ordinal says ------------------------------------------------------------------------------------------------
 
-pub first_of : (P : ℕ → Type 0) (handle : Option ℕ) (id : ℕ) (rest : List ℕ) → handle ≡ Some id → AllByRecursion P (ids_in handle ++ rest) → P id
-first_of P handle id rest is each = (subst (λ h. AllByRecursion P (ids_in h ++ rest)) is each).0
+pub front_of : (P : ℕ → Type 0) (xs ys : List ℕ) → AllByRecursion P (xs ++ ys) → AllByRecursion P xs
+front_of P [] ys each = tt
+front_of P (x ∷ xs) ys each = (each.0, front_of P xs ys each.1)
 
-pub rest_of : (P : ℕ → Type 0) (handle : Option ℕ) (rest : List ℕ) → AllByRecursion P (ids_in handle ++ rest) → AllByRecursion P rest
-rest_of P None rest each = each
-rest_of P (Some id) rest each = each.1
+pub back_of : (P : ℕ → Type 0) (xs ys : List ℕ) → AllByRecursion P (xs ++ ys) → AllByRecursion P ys
+back_of P [] ys each = each
+back_of P (x ∷ xs) ys each = back_of P xs ys each.1
+
+pub led_of : (P : ℕ → Type 0) (handle : Option ℕ) (id : ℕ) → handle ≡ Some id → AllByRecursion P (ids_in handle) → P id
+led_of P handle id is each = (subst (λ h. AllByRecursion P (ids_in h)) is each).0
 
 pub new_where_left : (m : Inodes) (o : ℕ) (footprint : Footprint) → is_spent o ≡ false → IsFreshFor m o footprint → IsNewIn m o footprint
 new_where_left m o footprint left (inl spent) = absurd (both_ways (is_spent o) left spent)
