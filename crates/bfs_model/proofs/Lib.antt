@@ -17,6 +17,7 @@ pub mod ServerPlaces
 pub mod Outcomes
 pub mod Found
 pub mod Attempts
+pub mod Fresh
 pub mod ProcedureOutcomes
 pub mod Unchanged
 pub mod Tables
