@@ -6,7 +6,7 @@ use Rattle.std.specs.FinMap.{get}
 use Rattle.std.proofs.lemmas.Bool.{ltb-false, leb-false}
 use Rattle.std.proofs.lemmas.List.{length-append, length-take, length-drop}
 use Rattle.bfs_model.specs.Limits.{most_file_bytes, most_name_bytes, most_entries, most_links}
-use Rattle.bfs_model.specs.Tree.{Time, Listing, Body, file, directory, link, Inode, Inodes, spent_ordinal, is_directory_body, entries_in}
+use Rattle.bfs_model.specs.Tree.{Time, Body, file, directory, link, Inode, Inodes, spent_ordinal, is_directory_body, entries_in}
 use Rattle.bfs_model.specs.Context.{Context}
 use Rattle.bfs_model.specs.Arguments.{Settings}
 use Rattle.bfs_model.specs.Replies.{fbig}

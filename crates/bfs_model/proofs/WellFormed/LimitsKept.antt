@@ -1,9 +1,9 @@
 -- Each inode stays within its limits: the calls but RENAME.
-use Rattle.std.proofs.Common.{◌≡◌, ℕ, ◌+◌, ◌<◌, ◌≤◌, Bool, false, not, IsTrue, IsFalse, List, [], ◌∷◌, ◌++◌, length, Option, Some, None, is_some, Ok, ◌⊎◌, inl, inr, refl, sym, ap, subst, arith}
+use Rattle.std.proofs.Common.{◌≡◌, ℕ, ◌+◌, ◌<◌, ◌≤◌, Bool, false, IsTrue, IsFalse, List, [], ◌∷◌, ◌++◌, length, Option, Some, None, is_some, Ok, inl, inr, refl, sym, ap, subst, arith}
 use Rattle.std.specs.Bool.{⊤}
 use Rattle.std.specs.Prelude.{nat_lt, unwrap_or, All}
 use Rattle.std.specs.List.{AllByRecursion}
-use Rattle.std.specs.FinMap.{get, insert, remove}
+use Rattle.std.specs.FinMap.{insert, remove}
 use Rattle.std.proofs.lemmas.Bool.{both_ways, leb-false, ltb-false}
 use Rattle.std.proofs.lemmas.List.{length-replicate}
 use Rattle.bfs_model.specs.Limits.{most_file_bytes, most_name_bytes, most_path_bytes, most_entries, most_links}
@@ -13,7 +13,7 @@ use Rattle.bfs_model.specs.Arguments.{Settings}
 use Rattle.bfs_model.specs.Replies.{Status, fbig, nospc}
 use Rattle.bfs_model.specs.Directories.{is_bad_name, entry_named}
 use Rattle.bfs_model.specs.Changes.{with_settings, with_bytes, without_entry, with_link, with_link_less, changed, link_lost}
-use Rattle.bfs_model.specs.Refusals.{FoundInode, FoundDirectory, FoundFile, checked, is_spent, is_full, has_most_links, inode_found, directory_found, file_found}
+use Rattle.bfs_model.specs.Refusals.{FoundInode, FoundDirectory, FoundFile, checked, is_spent, is_full, has_most_links}
 use Rattle.bfs_model.specs.Procedures.Attributes.{size_refusals}
 use Rattle.bfs_model.specs.Procedures.Making.{new_name_refusals, with_name, new_file, new_directory, new_symbolic_link}
 use Rattle.bfs_model.specs.Footprints.{Footprint, ids_in, IsNewAt, IsNewIn, IsFreshFor}

@@ -1,5 +1,5 @@
 -- Each inode stays numbered by ordinals, the call's among them; and under the next ordinal every call is fresh.
-use Rattle.std.proofs.Common.{◌≡◌, ℕ, ◌+◌, ◌<◌, ◌≤◌, Bool, true, false, cond, List, [], ◌∷◌, ◌++◌, Option, Some, None, inl, inr, refl, sym, ap, subst, ◌∙◌, arith}
+use Rattle.std.proofs.Common.{◌≡◌, ℕ, ◌+◌, ◌<◌, ◌≤◌, Bool, true, false, List, [], ◌∷◌, ◌++◌, Option, Some, None, inl, inr, refl, sym, ap, ◌∙◌, arith}
 use Rattle.std.specs.Prelude.{All, bytes_eq, nat_lt, unwrap_or}
 use Rattle.std.specs.List.{AllByRecursion}
 use Rattle.std.specs.FinMap.{get, empty, insert, remove as removed}
@@ -15,12 +15,12 @@ use Rattle.bfs_model.specs.Changes.{with_size, resized_body, overwritten_body, w
 use Rattle.bfs_model.specs.Refusals.{FoundDirectory, is_spent, has_most_links}
 use Rattle.bfs_model.specs.Procedures.{procedure}
 use Rattle.bfs_model.specs.Procedures.Making.{entry_made, with_name, new_file, new_directory, new_symbolic_link}
-use Rattle.bfs_model.specs.Procedures.Renaming.{Replaced, renaming_refusals, renaming_of, moves_directory, name_lost, name_cleared, moved_below, unnamed, renamed}
+use Rattle.bfs_model.specs.Procedures.Renaming.{Replaced, renaming_refusals, renaming_of, moves_directory, name_lost, name_cleared, moved_below, unnamed}
 use Rattle.bfs_model.specs.Footprints.{Footprint, known, whole, IsNewAt, IsNewIn, IsFreshFor}
 use Rattle.bfs_model.specs.Serial.{ordinal_after}
 use Rattle.bfs_model.specs.WellFormed.{times, named, IsTree, IsNumbered}
 use Rattle.bfs_model.proofs.Maps.{got_of_none}
-use Rattle.bfs_model.proofs.Found.{fails, inode_at, directory_at, file_at, IsDirectoryAt, IsRenamed}
+use Rattle.bfs_model.proofs.Found.{fails, inode_at, directory_at, file_at, IsDirectoryAt}
 use Rattle.bfs_model.proofs.Attempts.{IfChanged, kept}
 use Rattle.bfs_model.proofs.WellFormed.Each.{Each, each_inserted, each_removed, each_changed, each_link_lost}
 use Rattle.bfs_model.proofs.WellFormed.Entries.{either_by}

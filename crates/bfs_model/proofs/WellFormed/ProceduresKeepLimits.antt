@@ -1,8 +1,7 @@
 -- Each inode stays within its limits, whatever is called under a fresh ordinal.
-use Rattle.std.proofs.Common.{◌≡◌, ℕ, ◌≤◌, Bool, true, false, List, [], ◌++◌, length, inl, inr, Option, Some, if◌then◌else◌, arith, subst}
-use Rattle.std.specs.List.{AllByRecursion}
-use Rattle.std.specs.FinMap.{get, empty}
-use Rattle.bfs_model.specs.Tree.{Body, directory, Inodes, root_id, new_root, new_tree}
+use Rattle.std.proofs.Common.{ℕ, Bool, true, false, List, [], ◌++◌, inl, inr, Option, if◌then◌else◌, arith, subst}
+use Rattle.std.specs.FinMap.{empty}
+use Rattle.bfs_model.specs.Tree.{directory, Inodes, root_id, new_root, new_tree}
 use Rattle.bfs_model.specs.Context.{Context}
 use Rattle.bfs_model.specs.Arguments.{Call, null, get_attributes, set_attributes, root, look_up, read_link, read, write_cache, write, create, remove, rename, make_link, make_symbolic_link, make_directory, remove_directory, read_directory, file_system_status}
 use Rattle.bfs_model.specs.Refusals.{FoundDirectory, is_spent}
