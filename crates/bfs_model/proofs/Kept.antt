@@ -13,13 +13,14 @@ use Rattle.bfs_model.specs.ProcedureLaws.{CallsKeepTreesWellFormed, CallsKeepFil
 use Rattle.bfs_model.proofs.Short.{arguments_are_short}
 use Rattle.bfs_model.proofs.WellFormed.Words.{new_tree_formed}
 use Rattle.bfs_model.proofs.WellFormed.Trees.{tree_kept}
-use Rattle.bfs_model.proofs.WellFormed.ProceduresKeepLimits.{limited_kept, new_is_limited}
+use Rattle.bfs_model.proofs.WellFormed.Limits.{new_is_limited}
+use Rattle.bfs_model.proofs.WellFormed.KeptEach.{limited_kept}
 use Rattle.bfs_model.proofs.WellFormed.Numbered.{AreNumbered, fresh_where_numbered, numbered_older, numbered_kept, new_is_numbered}
 
 -- Calls --------------------------------------------------------------------------------------------------------------------
 
 pub call_keeps_tree : CallsKeepTreesWellFormed
-call_keeps_tree m c call fresh short formed = record { tree = tree_kept m c call fresh formed.tree; limited = limited_kept m c call fresh short formed.limited }
+call_keeps_tree m c call fresh short formed = record { tree = tree_kept m c call fresh formed.tree; limited = limited_kept m c call fresh short formed.tree formed.limited }
 
 -- inodes that the request of an ordinal may come to
 pub record IsServable (m : Inodes) (o : ℕ) : Type 0 where
@@ -36,7 +37,7 @@ later m o good = let first : first_ordinal ≤ o = good.first in let most : o �
 call_keeps : (m : Inodes) (c : Context) (call : Call) → IsShort call → IsServable m c.ordinal → IsServable (procedure m c call).0 (ordinal_after c.ordinal 1)
 call_keeps m c call short good = let first : first_ordinal ≤ c.ordinal = good.first in let most : c.ordinal ≤ spent_ordinal = good.most in record {
   tree = call_keeps_tree m c call (fresh_where_numbered m c.ordinal _ good.numbered) short good.tree;
-  numbered = numbered_kept m c good.first good.most good.numbered good.tree.tree call;
+  numbered = numbered_kept m c good.first good.most good.numbered good.tree call short;
   first = omega arith;
   most = omega arith;
 }

@@ -2,11 +2,11 @@
 use Rattle.std.proofs.Common.{◌≡◌, ℕ, ◌+◌, ◌-◌, ◌<◌, ◌≤◌, Bool, true, false, cond, IsFalse, List, [], ◌∷◌, ◌++◌, length, take, drop, replicate, Option, Some, None, Ok, inl, refl, arith}
 use Rattle.std.specs.Bool.{⊤}
 use Rattle.std.specs.Prelude.{◌==◌, nat_lt}
-use Rattle.std.specs.FinMap.{get}
+use Rattle.std.specs.FinMap.{get, empty}
 use Rattle.std.proofs.lemmas.Bool.{ltb-false, leb-false}
 use Rattle.std.proofs.lemmas.List.{length-append, length-take, length-drop}
 use Rattle.bfs_model.specs.Limits.{most_file_bytes, most_name_bytes, most_entries, most_links}
-use Rattle.bfs_model.specs.Tree.{Time, Body, file, directory, link, Inode, Inodes, spent_ordinal, is_directory_body, entries_in}
+use Rattle.bfs_model.specs.Tree.{Time, Body, file, directory, link, Inode, Inodes, root_id, spent_ordinal, new_root, new_tree, is_directory_body, entries_in}
 use Rattle.bfs_model.specs.Context.{Context}
 use Rattle.bfs_model.specs.Arguments.{Settings}
 use Rattle.bfs_model.specs.Replies.{fbig}
@@ -17,7 +17,9 @@ use Rattle.bfs_model.specs.Refusals.{checked, is_spent}
 use Rattle.bfs_model.specs.Procedures.Attributes.{size_refusals}
 use Rattle.bfs_model.specs.Procedures.Making.{entry_made, with_name}
 use Rattle.bfs_model.specs.WellFormed.{BodyIsLimited, IsLimited}
+use Rattle.bfs_model.proofs.Maps.{got_of_none}
 use Rattle.bfs_model.proofs.Found.{fails}
+use Rattle.bfs_model.proofs.WellFormed.Each.{each_inserted}
 use Rattle.bfs_model.proofs.WellFormed.Entries.{rising_pushed, rising_without, names_pushed, names_without, no_longer}
 use Rattle.bfs_model.proofs.WellFormed.RenamingRoom.{HasRoomIn, HasRoomFor}
 
@@ -117,3 +119,8 @@ sized_limited now (Some size) x allowed passed h = record { links = h.links; bod
 
 pub settings_limited : (now : Time) (settings : Settings) (x : Inode) (allowed : ⊤) → checked (size_refusals x.body settings.size) ≡ Ok allowed → IsLimited x → IsLimited (with_settings now settings x)
 settings_limited now settings x allowed passed h = let sized = sized_limited now settings.size x allowed passed h in record { links = sized.links; body = sized.body }
+
+-- A new tree ---------------------------------------------------------------------------------------------------------------
+
+pub new_is_limited : AreLimited new_tree
+new_is_limited = each_inserted (λ id x. IsLimited x) empty (λ id inode there. absurd (cc (got_of_none id))) root_id new_root (record { links = omega arith; body = (omega arith, tt, tt) })
