@@ -13,6 +13,6 @@ pub mod Each
 pub mod Named
 pub mod RenamingRoom
 pub mod Limits
-pub mod LimitsKept
-pub mod RenamingLimits
-pub mod ProceduresKeepLimits
+pub mod NewNames
+pub mod KeptEach
+pub mod Numbered

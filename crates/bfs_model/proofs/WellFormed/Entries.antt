@@ -85,7 +85,7 @@ none_without name other (entry ∷ entries) e =
     named_in name (bytes_eq entry.name other) entries (entry ∷ without_name other entries)
     ∙ none_by (bytes_eq entry.name other) (bytes_eq entry.name name) entry (entry_named name entries) (entry_named name (without_name other entries)) parts (none_without name other entries parts.1)
 
-either_by : (P : List Entry → Type 0) (test : Bool) (entries without : List Entry) → P entries → P without → P (cond test entries without)
+pub either_by : (P : List Entry → Type 0) (test : Bool) (entries without : List Entry) → P entries → P without → P (cond test entries without)
 either_by P true entries without h further = h
 either_by P false entries without h further = further
 

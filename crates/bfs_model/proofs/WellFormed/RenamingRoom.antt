@@ -1,5 +1,5 @@
 -- What RENAME's steps leave in the directory that something comes to: a place for an entry under the new name, and for a link.
-use Rattle.std.proofs.Common.{◌≡◌, ℕ, ◌+◌, ◌-◌, ◌<◌, ◌≤◌, Bool, true, false, not, ◌&&◌, IsTrue, List, [], length, Option, Some, None, is_some, Result, Ok, inl, inr, refl, sym, ap, subst, ◌∙◌, arith}
+use Rattle.std.proofs.Common.{◌≡◌, ℕ, ◌+◌, ◌-◌, ◌<◌, ◌≤◌, Bool, true, false, not, ◌&&◌, IsTrue, List, length, Option, Some, None, is_some, Ok, inl, inr, refl, sym, ap, subst, ◌∙◌, arith}
 use Rattle.std.specs.Bool.{⊤}
 use Rattle.std.specs.Prelude.{◌==◌, All}
 use Rattle.std.specs.FinMap.{get, remove}
@@ -24,6 +24,10 @@ pub record HasRoomIn (ordinal : ℕ) (name : List ℕ) (entries : List Entry) : 
 
 abbrev pub HasRoomFor : (ordinal : ℕ) (name : List ℕ) → Inode → Type 0
 HasRoomFor ordinal name x = HasRoomIn ordinal name (entries_in x.body)
+
+-- there is a place for a link
+abbrev pub HasLink : Inode → Type 0
+HasLink x = x.links < most_links
 
 -- what is asked of the directory that something comes to
 pub record CanRename (ordinal : ℕ) (to : FoundDirectory) : Type 0 where
@@ -144,13 +148,10 @@ module _ (m : Inodes) (c : Context) (from : Option ℕ) (from_name : List ℕ) (
   less_links : (x : Inode) → x.links ≡ b.inode.links → x.links - 1 < most_links
   less_links x same = let most : b.inode.links ≤ most_links = can.links in omega arith
 
-  abbrev FewLinks : Inode → Type 0
-  FewLinks x = x.links < most_links
-
   -- where it takes the place of a directory, that one's link is free
   cleared_link : (existing : Option Entry) (replaced : Option Replaced) → IsOnto m moved existing replaced → let r = renaming_of a b moved replaced in IsTrue (moves_directory r)
       → (r.is_directory && is_some r.replaced && not (onto_directory r)) ≡ false → (not (is_some r.replaced) && moves_directory r && has_most_links r.links) ≡ false
-      → At b.id FewLinks (name_cleared taken c b.id to_name replaced)
+      → At b.id HasLink (name_cleared taken c b.id to_name replaced)
   cleared_link None replaced onto_none moves kinds links =
       let fewer : b.inode.links < most_links = leb-false most_links b.inode.links (second_false (moves_directory (renaming_of a b moved None)) _ links moves) in
       λ id x there here. let same : x.links ≡ b.inode.links = taken_links id x there here in omega arith
@@ -159,8 +160,8 @@ module _ (m : Inodes) (c : Context) (from : Option ℕ) (from_name : List ℕ) (
       let same = at_changed b.id (λ x. x.links ≡ b.inode.links) taken taken_links b.id (without_entry c.time to_name) (λ x is. is) in
       let is_one : is_directory_body inode.body ≡ true =
       not-false (is_directory_body inode.body) (third_false (is_directory_body moved.inode.body) (not (is_directory_body inode.body)) kinds (and_parts (is_directory_body moved.inode.body) (not (a.id == b.id)) moves).0) in
-      subst (λ kind. At b.id FewLinks (name_lost without c b.id old.child kind)) (sym is_one)
-      (at_changed_here b.id FewLinks (remove without old.child) (with_link_less c.time) (λ x there. less_links x (at_removed b.id (λ x. x.links ≡ b.inode.links) without same old.child b.id x there refl)))
+      subst (λ kind. At b.id HasLink (name_lost without c b.id old.child kind)) (sym is_one)
+      (at_changed_here b.id HasLink (remove without old.child) (with_link_less c.time) (λ x there. less_links x (at_removed b.id (λ x. x.links ≡ b.inode.links) without same old.child b.id x there refl)))
 
   module _ (replaced : Option Replaced) (allowed : ⊤) (onto : IsOnto m moved (entry_named to_name b.listing.entries) replaced)
       (passed : checked (renaming_refusals m c (renaming_of a b moved replaced)) ≡ Ok allowed) where
@@ -184,4 +185,4 @@ module _ (m : Inodes) (c : Context) (from : Option ℕ) (from_name : List ℕ) (
         let cleared = cleared_link (entry_named to_name b.listing.entries) replaced onto moves
         (fails (r.is_directory && is_some r.replaced && not (onto_directory r)) (renaming_refusals m c r) allowed passed (search (inl, inr) depth 9))
         (fails (not (is_some r.replaced) && moves_directory r && has_most_links r.links) (renaming_refusals m c r) allowed passed (search (inl, inr) depth 9)) in
-        at_changed b.id FewLinks (name_cleared taken c b.id to_name replaced) cleared moved.id (with_parent b.id) (λ x few. few) b.id x there refl
+        at_changed b.id HasLink (name_cleared taken c b.id to_name replaced) cleared moved.id (with_parent b.id) (λ x few. few) b.id x there refl
