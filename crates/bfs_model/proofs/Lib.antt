@@ -19,7 +19,9 @@ pub mod Attempts
 pub mod Fresh
 pub mod Unchanged
 pub mod Tables
+pub mod Readings
 pub mod Short
+pub mod Requests
 pub mod Follows
 pub mod Added
 pub mod ReplyLengths

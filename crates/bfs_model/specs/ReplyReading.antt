@@ -11,7 +11,7 @@ use Rattle.bfs_model.specs.Context.{Context}
 use Rattle.bfs_model.specs.Call.{Refusal, silent, rpc_mismatch, bad_credential, program_unavailable, program_mismatch, procedure_unavailable}
 use Rattle.bfs_model.specs.Replies.{Status, perm, noent, exist, notdir, isdir, fbig, nospc, notempty, stale, Reply, void, refused, done, attributes, found, path, contents, listed, free_blocks, results, success, garbage, refusal}
 use Rattle.bfs_model.specs.Procedures.{procedure}
-use Rattle.bfs_model.specs.Stored.{IsWord}
+use Rattle.bfs_model.specs.Stored.{IsWord, TimeIsSpellable}
 
 -- why bytes are no reply of this server
 pub data Misread : Type 0 where
@@ -312,10 +312,6 @@ results_of procedure bytes = do
   at_end reply rest
 
 -- What can be spelled ------------------------------------------------------------------------------------------------------
-
-pub record TimeIsSpellable (time : Time) : Type 0 where
-  pub seconds : IsWord time.seconds
-  pub useconds : IsWord time.useconds
 
 pub record AttributesAreSpellable (of : Attributes) : Type 0 where
   pub permissions : of.permissions < 4096
