@@ -22,12 +22,16 @@ pub mod Tables
 pub mod Readings
 pub mod Short
 pub mod Requests
+pub mod StoredChanges
+pub mod Storing
 pub mod Follows
 pub mod Added
 pub mod ReplyLengths
 pub mod ReplyForms
 pub mod ResultsAgain
 pub mod RepliesAgain
+pub mod ReplyFits
+pub mod Live
 pub mod ReadingRows
 pub mod Pages
 pub mod Kept

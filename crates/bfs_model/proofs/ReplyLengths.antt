@@ -99,12 +99,13 @@ listing_is_short count entries = page_is_short (min count most_data_bytes - 12) 
 
 -- Procedures -----------------------------------------------------------------------------------------------------------------
 
-short_path : (links : ℕ) (body : Body) (target : List ℕ) → BodyIsLimited links body → path_in body ≡ Some target → length target ≤ most_path_bytes
+pub short_path : (links : ℕ) (body : Body) (target : List ℕ) → BodyIsLimited links body → path_in body ≡ Some target → length target ≤ most_path_bytes
 short_path links (file bytes) target limited is = absurd cc
 short_path links (directory listing) target limited is = absurd cc
 short_path links (link held) target limited is = let same : held ≡ target = cc in subst (λ path. length path ≤ most_path_bytes) same limited.1
 
-abbrev AreLimited : Inodes → Type 0
+-- each inode is within the limits
+abbrev pub AreLimited : Inodes → Type 0
 AreLimited m = (id : ℕ) (inode : Inode) → get m id ≡ Some inode → IsLimited inode
 
 module _ (m : Inodes) (c : Context) (limited : AreLimited m) where
