@@ -108,7 +108,7 @@ answers_again keeps files time bytes request call live time_is are spelled wante
     let formed = keeps files c call refl (arguments_are_short request.procedure request.arguments call wanted) live.formed in (
       success_read files.tree files.next_ordinal time bytes request call spelled wanted is.xid,
       results_again request.procedure (form_by call) (procedure files.tree c call).1 (form_of_call request.procedure request.arguments call wanted)
-      (record { has_form = procedure_has_form files.tree c call; items = reply_fits files.tree c call stored formed.tree.limited }),
+          (record { has_form = procedure_has_form files.tree c call; items = reply_fits files.tree c call stored formed.tree.limited }),
     )
 
 pub garbage_answers_again : GarbageAnswersAreReadBack
