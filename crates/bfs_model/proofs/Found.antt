@@ -106,16 +106,14 @@ child_at m handle name dir child is =
     let named = then_was (ok_or (entry_named name at.0.listing.entries) noent) _ (dir, child) good.2 in
     let held = then_was (inode_found m (Some named.0.child)) _ (dir, child) named.2 in
     let there = inode_at m (Some named.0.child) held.0 held.1 in
-    let both = the_same (at.0, held.0) (dir, child) held.2 in (
-      named.0,
-      subst (λ (found : FoundDirectory × FoundInode). IsChildAt m handle name found.0 named.0 found.1) both (record {
-        in_it = directory_at m handle at.0 at.1;
-        good = fails (is_bad_name name) ((is_bad_name name, perm) ∷ []) good.0 good.1 (inl refl);
-        named = was_there (entry_named name at.0.listing.entries) noent named.0 named.1;
-        is = sym (same_Some named.0.child held.0.id there.led);
-        there = there.there;
-      }),
-    )
+    let both = the_same (at.0, held.0) (dir, child) held.2 in
+    (named.0, subst (λ (found : FoundDirectory × FoundInode). IsChildAt m handle name found.0 named.0 found.1) both (record {
+      in_it = directory_at m handle at.0 at.1;
+      good = fails (is_bad_name name) ((is_bad_name name, perm) ∷ []) good.0 good.1 (inl refl);
+      named = was_there (entry_named name at.0.listing.entries) noent named.0 named.1;
+      is = sym (same_Some named.0.child held.0.id there.led);
+      there = there.there;
+    }))
 
 -- what RENAME moves, and the directories from which and to which
 pub record IsRenamed (m : Inodes) (from : Option ℕ) (from_name : List ℕ) (to : Option ℕ) (to_name : List ℕ) (a b : FoundDirectory) (entry : Entry) (moved : FoundInode) : Type 0 where

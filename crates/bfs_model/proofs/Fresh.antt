@@ -1,5 +1,5 @@
 -- Of a call that makes an inode: its ordinal is not spent, and where it is fresh no inode has it.
-use Rattle.std.proofs.Common.{◌≡◌, ℕ, Bool, false, ◌⊎◌, inl, inr, List, [], ◌∷◌, ◌++◌, Option, Some, None, Ok, refl}
+use Rattle.std.proofs.Common.{◌≡◌, ℕ, Bool, false, inl, inr, List, [], ◌++◌, Option, Some, None, Ok, refl}
 use Rattle.std.specs.Bool.{⊤}
 use Rattle.std.specs.FinMap.{get}
 use Rattle.bfs_model.specs.Tree.{Listing, Inodes}

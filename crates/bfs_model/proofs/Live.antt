@@ -3,12 +3,12 @@ use Rattle.std.proofs.Common.{◌≡◌, ℕ, ◌+◌, ◌<◌, Bool, true, fals
 use Rattle.std.specs.Prelude.{nat_lt, IfSome}
 use Rattle.std.proofs.lemmas.Bool.{ltb-true}
 use Rattle.std.proofs.lemmas.List.Elements.{All-head, All-tail}
-use Rattle.std.specs.FinMap.{get, empty}
-use Rattle.bfs_model.specs.Tree.{Time, Inode, Inodes, FileSystem, root_id, new_root, new_tree, new_file_system}
+use Rattle.std.specs.FinMap.{empty}
+use Rattle.bfs_model.specs.Tree.{Time, Inodes, FileSystem, root_id, new_root, new_tree, new_file_system}
 use Rattle.bfs_model.specs.Context.{Context}
 use Rattle.bfs_model.specs.Call.{Request, Refusal, call_of}
 use Rattle.bfs_model.specs.Arguments.{Call, arguments_of}
-use Rattle.bfs_model.specs.Replies.{Reply, results}
+use Rattle.bfs_model.specs.Replies.{results}
 use Rattle.bfs_model.specs.Procedures.{procedure}
 use Rattle.bfs_model.specs.Serial.{Batch, is_after, next_microsecond, effective_time, execute, answer_arguments, answer_call, answer, inodes_after, ordinal_after}
 use Rattle.bfs_model.specs.WellFormed.{IsWellFormed}

@@ -1,19 +1,17 @@
 -- Where the inodes after a call can be stored, and are within the limits, its reply's items hold what it tells.
 use Rattle.std.proofs.Common.{◌≡◌, ℕ, ◌-◌, ◌≤◌, Bool, true, false, cond, min, nat_le, nat_lt, List, [], ◌∷◌, length, drop, All, Some, subst, arith}
 use Rattle.std.specs.List.{AllByRecursion}
-use Rattle.std.specs.FinMap.{get, insert}
+use Rattle.std.specs.FinMap.{get}
 use Rattle.std.proofs.lemmas.List.{length-take}
 use Rattle.std.proofs.lemmas.List.Elements.{All-nil, All-cons, All-head, All-tail, All-filter}
-use Rattle.bfs_model.specs.Limits.{most_data_bytes, most_name_bytes, most_file_bytes, most_path_bytes, most_entries, most_links}
+use Rattle.bfs_model.specs.Limits.{most_data_bytes, most_file_bytes, most_path_bytes, most_entries, most_links}
 use Rattle.bfs_model.specs.Tree.{Time, Entry, Listing, Body, file, directory, link, Inode, Inodes}
 use Rattle.bfs_model.specs.Context.{Context}
-use Rattle.bfs_model.specs.Attributes.{size_of, attributes_of, total_blocks}
-use Rattle.bfs_model.specs.Bytes.{bytes_from}
-use Rattle.bfs_model.specs.Directories.{dot, dot_dot, all_listed, listed_behind, listed_size, held_by, page_of}
+use Rattle.bfs_model.specs.Attributes.{size_of, attributes_of}
+use Rattle.bfs_model.specs.Directories.{dot, dot_dot, all_listed, listed_size, held_by}
 use Rattle.bfs_model.specs.Arguments.{Call, null, get_attributes, set_attributes, root, look_up, read_link, read, write_cache, write, create, remove, rename, make_link, make_symbolic_link, make_directory, remove_directory, read_directory, file_system_status}
 use Rattle.bfs_model.specs.Refusals.{Outcome}
 use Rattle.bfs_model.specs.Procedures.{procedure}
-use Rattle.bfs_model.specs.Procedures.Status.{used_blocks}
 use Rattle.bfs_model.specs.WellFormed.{BodyIsLimited, HasNames}
 use Rattle.bfs_model.specs.Stored.{IsWord, TimeIsSpellable, IsTime, EntryIsStorable, BodyIsStorable, AreStorable}
 use Rattle.bfs_model.specs.ReplyReading.{AttributesAreSpellable, EntryIsSpellable, FitsItems}

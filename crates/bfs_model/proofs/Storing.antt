@@ -1,11 +1,11 @@
 -- Calls leave inodes that can be stored.
-use Rattle.std.proofs.Common.{◌≡◌, ℕ, ◌<◌, Bool, true, false, inl, inr, List, [], ◌∷◌, ◌++◌, Option, Some, None, Ok, nat_lt, unwrap_or, arith}
+use Rattle.std.proofs.Common.{◌≡◌, ℕ, ◌<◌, Bool, true, false, inl, inr, List, [], ◌∷◌, Option, Some, None, nat_lt, unwrap_or, arith}
 use Rattle.std.proofs.lemmas.Bool.{leb-false}
-use Rattle.std.specs.FinMap.{get, insert}
+use Rattle.std.specs.FinMap.{insert}
 use Rattle.bfs_model.specs.Limits.{most_file_bytes}
 use Rattle.bfs_model.specs.Tree.{Inode, Inodes, spent_ordinal}
 use Rattle.bfs_model.specs.Context.{Context}
-use Rattle.bfs_model.specs.Arguments.{Call, null, get_attributes, set_attributes, root, look_up, read_link, read, write_cache, write, create, remove as remove_file, rename, make_link, make_symbolic_link, make_directory, remove_directory, read_directory, file_system_status}
+use Rattle.bfs_model.specs.Arguments.{Call, set_attributes, write, create, remove as remove_file, rename, make_link, make_symbolic_link, make_directory, remove_directory}
 use Rattle.bfs_model.specs.Replies.{fbig, nospc}
 use Rattle.bfs_model.specs.Changes.{without_entry, with_parent, with_link, with_link_less, with_ctime, changed, link_lost}
 use Rattle.bfs_model.specs.Refusals.{is_spent, has_most_links}

@@ -1,6 +1,6 @@
 -- How a whole reply is read, strictly, by the grammars of RFC 5531 section 9 and of RFC 1094 section 2.2, and what that says of
 -- the replies that are spelled.
-use Rattle.std.specs.Prelude.{◌≡◌, ℕ, zero, suc, ◌-◌, ◌%◌, ◌==◌, ◌<◌, ◌≤◌, ◌^◌, ◌&&◌, Bool, true, List, [], ◌∷◌, length, All, Option, Some, None, Result, Ok, Err, if◌then◌else◌}
+use Rattle.std.specs.Prelude.{◌≡◌, ℕ, zero, suc, ◌-◌, ◌%◌, ◌==◌, ◌<◌, ◌≤◌, ◌&&◌, Bool, true, List, [], ◌∷◌, length, All, Option, Some, None, Result, Ok, Err, if◌then◌else◌}
 use Rattle.std.specs.Option.{ok_or}
 use Rattle.bfs_model.specs.Items.{Fault, ◌>>=◌, word_at, boolean_at, fixed_at, opaque_at}
 use Rattle.bfs_model.specs.Limits.{most_name_bytes, most_path_bytes, most_data_bytes}
