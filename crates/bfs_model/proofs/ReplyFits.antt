@@ -17,7 +17,7 @@ use Rattle.bfs_model.specs.Stored.{IsWord, TimeIsSpellable, IsTime, EntryIsStora
 use Rattle.bfs_model.specs.ReplyReading.{AttributesAreSpellable, EntryIsSpellable, FitsItems}
 use Rattle.bfs_model.proofs.Found.{inode_at, directory_at, file_at}
 use Rattle.bfs_model.proofs.Attempts.{IfItIsDone, procedure_holds}
-use Rattle.bfs_model.proofs.WellFormed.Each.{got_put}
+use Rattle.bfs_model.proofs.Maps.{got_put}
 use Rattle.bfs_model.proofs.ReplyLengths.{AreLimited, short_path}
 
 -- Attributes -----------------------------------------------------------------------------------------------------------------
