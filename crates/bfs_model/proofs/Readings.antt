@@ -1,5 +1,5 @@
 -- What holds of all that readers of bytes give: it is short, and made of words and bytes.
-use Rattle.std.proofs.Common.{◌≡◌, ℕ, ◌<◌, ◌≤◌, Bool, true, false, cond, ltb, ◌||◌, List, length, take, drop, Option, Some, None, Result, Ok, Err, refl, subst, arith}
+use Rattle.std.proofs.Common.{◌≡◌, ℕ, ◌≤◌, Bool, true, false, cond, ltb, ◌||◌, List, length, take, drop, Option, Some, None, Result, Ok, Err, refl, subst, arith}
 use Rattle.std.specs.Prelude.{◌==◌, option_and_then, IfSome}
 use Rattle.std.specs.Int.{w32, from_be_bytes}
 use Rattle.std.specs.Result.{result_ok}
@@ -9,7 +9,7 @@ use Rattle.std.proofs.lemmas.List.{length-take}
 use Rattle.std.proofs.lemmas.List.Elements.{All-take, All-drop}
 use Rattle.bfs_model.specs.Items.{Fault, short, too_long, ◌>>=◌, padding_of, word_at, bytes_at, fixed_at, opaque_at}
 use Rattle.bfs_model.specs.Arguments.{Settings, all_ones, word_set, time_set, handle, handle_id, handle_at, settings_at}
-use Rattle.bfs_model.specs.Stored.{IsWord, AreBytes, TimeIsSpellable, SettingsAreStorable, HandleIsStorable}
+use Rattle.bfs_model.specs.Stored.{IsWord, IsByte, AreBytes, TimeIsSpellable, SettingsAreStorable, HandleIsStorable}
 use Rattle.bfs_model.proofs.Laws.{word_below}
 
 -- Tools ------------------------------------------------------------------------------------------------------------------------
@@ -56,9 +56,6 @@ chosen P false found other holds else_holds = else_holds
 
 -- Items ------------------------------------------------------------------------------------------------------------------------
 
-abbrev IsByte : ℕ → Type 0
-IsByte byte = byte < 256
-
 -- where F says that what is read from is bytes, so is what is read, and what is left
 module _ (F : Type 0) where
   pub record IsItem (most : ℕ) (item : List ℕ × List ℕ) : Type 0 where
@@ -100,7 +97,7 @@ module _ (F : Type 0) where
   unfolding opaque_at
   opaque_has most bytes are = then_ok IsWordRead (IsItem most) (word_at bytes) _ (word_read bytes are) (λ count is. counted_by (ltb most count.0) most count.0 count.1 is.left (ltb-false most count.0))
 
-  pub item_given : (most : ℕ) (bytes : List ℕ) → (F → AreBytes bytes) → Gives (IsItem most) (result_ok (opaque_at false most bytes))
+  item_given : (most : ℕ) (bytes : List ℕ) → (F → AreBytes bytes) → Gives (IsItem most) (result_ok (opaque_at false most bytes))
   item_given most bytes are = gives_result (IsItem most) (opaque_at false most bytes) (opaque_has most bytes are)
 
   -- Handles and settings ---------------------------------------------------------------------------------------------------------
@@ -123,7 +120,7 @@ module _ (F : Type 0) where
       let id = from_be_bytes w32 (take 4 (drop 8 item)) in
       if_some IsWord (bytes_eq item (handle id)) id (word_below (take 4 (drop 8 item)) (All-take IsByte 4 (drop 8 item) (All-drop IsByte 8 item are)))
 
-  pub handle_given : (bytes : List ℕ) → (F → AreBytes bytes) → Gives IsHandleRead (handle_at bytes)
+  handle_given : (bytes : List ℕ) → (F → AreBytes bytes) → Gives IsHandleRead (handle_at bytes)
   unfolding handle_at
   handle_given bytes are =
       then_gives (IsItem 32) IsHandleRead (result_ok (fixed_at false 32 bytes)) _ (gives_result (IsItem 32) (fixed_at false 32 bytes) (fixed_has 32 bytes are)) (λ item is.
@@ -138,10 +135,11 @@ module _ (F : Type 0) where
   a_time_set : (seconds useconds : ℕ) → IsWord seconds → IsWord useconds → IfSome (time_set seconds useconds) TimeIsSpellable
   a_time_set seconds useconds is are = if_none TimeIsSpellable (seconds == all_ones || useconds == all_ones) (record { seconds = seconds; useconds = useconds }) (record { seconds = is; useconds = are })
 
-  next_word : {Y : Type 0} (Q : Y → Type 0) (bytes : List ℕ) (next : ℕ × List ℕ → Option Y) → (F → AreBytes bytes) → ((w : ℕ × List ℕ) → IsWordRead w → Gives Q (next w)) → Gives Q (option_and_then next (result_ok (word_at bytes)))
+  -- a word, an item, a handle or settings, and what is read behind it
+  pub next_word : {Y : Type 0} (Q : Y → Type 0) (bytes : List ℕ) (next : ℕ × List ℕ → Option Y) → (F → AreBytes bytes) → ((w : ℕ × List ℕ) → IsWordRead w → Gives Q (next w)) → Gives Q (option_and_then next (result_ok (word_at bytes)))
   next_word Q bytes next are further = then_gives IsWordRead Q (result_ok (word_at bytes)) next (word_given bytes are) further
 
-  pub settings_given : (bytes : List ℕ) → (F → AreBytes bytes) → Gives AreSettingsRead (settings_at bytes)
+  settings_given : (bytes : List ℕ) → (F → AreBytes bytes) → Gives AreSettingsRead (settings_at bytes)
   unfolding settings_at
   settings_given bytes are =
       next_word AreSettingsRead bytes _ are (λ mode is_mode.
@@ -160,3 +158,12 @@ module _ (F : Type 0) where
         atime = a_time_set a_seconds.0 a_useconds.0 (are_a_seconds.word f) (are_a_useconds.word f);
         mtime = a_time_set m_seconds.0 m_useconds.0 (are_m_seconds.word f) (are_m_useconds.word f);
       })))))))))
+
+  pub next_item : {Y : Type 0} (Q : Y → Type 0) (most : ℕ) (bytes : List ℕ) (next : List ℕ × List ℕ → Option Y) → (F → AreBytes bytes) → ((item : List ℕ × List ℕ) → IsItem most item → Gives Q (next item)) → Gives Q (option_and_then next (result_ok (opaque_at false most bytes)))
+  next_item Q most bytes next are further = then_gives (IsItem most) Q (result_ok (opaque_at false most bytes)) next (item_given most bytes are) further
+
+  pub next_handle : {Y : Type 0} (Q : Y → Type 0) (bytes : List ℕ) (next : Option ℕ × List ℕ → Option Y) → (F → AreBytes bytes) → ((item : Option ℕ × List ℕ) → IsHandleRead item → Gives Q (next item)) → Gives Q (option_and_then next (handle_at bytes))
+  next_handle Q bytes next are further = then_gives IsHandleRead Q (handle_at bytes) next (handle_given bytes are) further
+
+  pub next_settings : {Y : Type 0} (Q : Y → Type 0) (bytes : List ℕ) (next : Settings × List ℕ → Option Y) → (F → AreBytes bytes) → ((item : Settings × List ℕ) → AreSettingsRead item → Gives Q (next item)) → Gives Q (option_and_then next (settings_at bytes))
+  next_settings Q bytes next are further = then_gives AreSettingsRead Q (settings_at bytes) next (settings_given bytes are) further

@@ -1,14 +1,14 @@
 -- A request that bytes spell is storable, and so is the xid of one that is refused.
 use Rattle.std.proofs.Common.{◌≡◌, ℕ, Bool, true, false, List, length, Option, Some, None, Result, Ok, Err, refl, subst, arith}
-use Rattle.std.specs.Prelude.{◌==◌, nat_lt, IfSome, option_and_then, if◌then◌else◌}
+use Rattle.std.specs.Prelude.{◌==◌, nat_lt, IfSome, if◌then◌else◌}
 use Rattle.std.specs.Option.{ok_or}
 use Rattle.std.specs.Result.{result_ok}
-use Rattle.bfs_model.specs.Items.{word_at, opaque_at}
+use Rattle.bfs_model.specs.Items.{word_at}
 use Rattle.bfs_model.specs.Call.{Credential, Request, Refusal, silent, rpc_mismatch, bad_credential, program_unavailable, program_mismatch, procedure_unavailable, Header, nobody, after_words, system_credential_of, credential_of, opaque_auth_at, header_of, ◌>>◌, only_if, is_procedure, call_of}
 use Rattle.bfs_model.specs.ReplyReading.{refusal_told}
 use Rattle.bfs_model.specs.Stored.{IsWord, AreBytes, CallerIsStorable, RequestIsStorable}
 use Rattle.bfs_model.specs.StoredLaws.{RequestsAreStorable}
-use Rattle.bfs_model.proofs.Readings.{Gives, gives, gives_none, then_gives, after, chosen, IsItem, IsWordRead, word_given, item_given}
+use Rattle.bfs_model.proofs.Readings.{Gives, gives, gives_none, then_gives, after, chosen, IsWordRead, word_given, next_word, next_item}
 
 -- F says that the request is bytes
 module _ (F : Type 0) where
@@ -20,10 +20,10 @@ module _ (F : Type 0) where
   system_caller : (body : List ℕ) → (F → AreBytes body) → Gives CallerIsGood (system_credential_of body)
   unfolding system_credential_of
   system_caller body are =
-      then_gives (IsWordRead F) CallerIsGood (result_ok (word_at body)) _ (word_given F body are) (λ stamp is_stamp.
-      then_gives (IsItem F 255) CallerIsGood (result_ok (opaque_at false 255 stamp.1)) _ (item_given F 255 stamp.1 is_stamp.left) (λ machine is_machine.
-      then_gives (IsWordRead F) CallerIsGood (result_ok (word_at machine.1)) _ (word_given F machine.1 is_machine.left) (λ uid is_uid.
-      then_gives (IsWordRead F) CallerIsGood (result_ok (word_at uid.1)) _ (word_given F uid.1 is_uid.left) (λ gid is_gid.
+      next_word F CallerIsGood body _ are (λ stamp is_stamp.
+      next_item F CallerIsGood 255 stamp.1 _ is_stamp.left (λ machine is_machine.
+      next_word F CallerIsGood machine.1 _ is_machine.left (λ uid is_uid.
+      next_word F CallerIsGood uid.1 _ is_uid.left (λ gid is_gid.
       after CallerIsGood (result_ok (word_at gid.1)) _ (λ count.
       after CallerIsGood (if nat_lt 16 count.0 then None else after_words count.0 count.1) _ (λ rest.
       chosen CallerIsGood (length rest == 0) (Some (record { uid = uid.0; gid = gid.0 })) None (gives CallerIsGood (record { uid = uid.0; gid = gid.0 }) (λ f. record { uid = is_uid.word f; gid = is_gid.word f })) (gives_none CallerIsGood)))))))
@@ -42,8 +42,8 @@ module _ (F : Type 0) where
   auth_given : (bytes : List ℕ) → (F → AreBytes bytes) → Gives AuthIsGood (opaque_auth_at bytes)
   unfolding opaque_auth_at
   auth_given bytes are =
-      then_gives (IsWordRead F) AuthIsGood (result_ok (word_at bytes)) _ (word_given F bytes are) (λ flavor is_flavor.
-      then_gives (IsItem F 400) AuthIsGood (result_ok (opaque_at false 400 flavor.1)) _ (item_given F 400 flavor.1 is_flavor.left) (λ body is_body.
+      next_word F AuthIsGood bytes _ are (λ flavor is_flavor.
+      next_item F AuthIsGood 400 flavor.1 _ is_flavor.left (λ body is_body.
       gives AuthIsGood (flavor.0, (body.0, body.1)) (is_body.bytes, is_body.left)))
 
   record HeaderIsGood (header : Header) : Type 0 where
@@ -51,19 +51,16 @@ module _ (F : Type 0) where
     body : F → AreBytes header.body
     arguments : F → AreBytes header.arguments
 
-  next_word : {Y : Type 0} (Q : Y → Type 0) (bytes : List ℕ) (next : ℕ × List ℕ → Option Y) → (F → AreBytes bytes) → ((w : ℕ × List ℕ) → IsWordRead F w → Gives Q (next w)) → Gives Q (option_and_then next (result_ok (word_at bytes)))
-  next_word Q bytes next are further = then_gives (IsWordRead F) Q (result_ok (word_at bytes)) next (word_given F bytes are) further
-
   header_given : (bytes : List ℕ) → (F → AreBytes bytes) → Gives HeaderIsGood (header_of bytes)
   unfolding header_of
   header_given bytes are =
-      next_word HeaderIsGood bytes _ are (λ xid is_xid.
-      next_word HeaderIsGood xid.1 _ is_xid.left (λ message_type is_type.
+      next_word F HeaderIsGood bytes _ are (λ xid is_xid.
+      next_word F HeaderIsGood xid.1 _ is_xid.left (λ message_type is_type.
       then_gives (IsWordRead F) HeaderIsGood (if message_type.0 == 0 then result_ok (word_at message_type.1) else None) _
       (chosen (IsWordRead F) (message_type.0 == 0) (result_ok (word_at message_type.1)) None (word_given F message_type.1 is_type.left) (gives_none (IsWordRead F))) (λ rpc_version is_rpc.
-      next_word HeaderIsGood rpc_version.1 _ is_rpc.left (λ program is_program.
-      next_word HeaderIsGood program.1 _ is_program.left (λ version is_version.
-      next_word HeaderIsGood version.1 _ is_version.left (λ procedure is_procedure.
+      next_word F HeaderIsGood rpc_version.1 _ is_rpc.left (λ program is_program.
+      next_word F HeaderIsGood program.1 _ is_program.left (λ version is_version.
+      next_word F HeaderIsGood version.1 _ is_version.left (λ procedure is_procedure.
       then_gives AuthIsGood HeaderIsGood (opaque_auth_at procedure.1) _ (auth_given procedure.1 is_procedure.left) (λ credential is_credential.
       then_gives AuthIsGood HeaderIsGood (opaque_auth_at credential.1.1) _ (auth_given credential.1.1 is_credential.1) (λ verifier is_verifier.
       gives HeaderIsGood _ (record { xid = is_xid.word; body = is_credential.0; arguments = is_verifier.1 })))))))))

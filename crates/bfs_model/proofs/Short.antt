@@ -1,14 +1,12 @@
 -- The arguments that bytes spell are short, and storable: what is read of variable length is within its limit, and what is read of bytes is words and bytes.
 use Rattle.std.proofs.Common.{◌≡◌, ℕ, ◌≤◌, List, length, Option, Some, None}
 use Rattle.std.specs.Prelude.{◌==◌}
-use Rattle.std.specs.Result.{result_ok}
-use Rattle.bfs_model.specs.Items.{word_at}
 use Rattle.bfs_model.specs.Limits.{most_name_bytes, most_path_bytes, most_data_bytes}
-use Rattle.bfs_model.specs.Arguments.{Settings, Call, null, get_attributes, set_attributes, root, look_up, read_link, read, write_cache, write, create, remove, rename, make_link, make_symbolic_link, make_directory, remove_directory, read_directory, file_system_status, handle_at, name_at, path_at, data_at, settings_at, file_at, named_at, named_with_settings_at, set_attributes_at, read_at, write_at, rename_at, link_at, symbolic_link_at, read_directory_at, fields_at, arguments_of}
+use Rattle.bfs_model.specs.Arguments.{Settings, Call, null, get_attributes, set_attributes, root, look_up, read_link, read, write_cache, write, create, remove, rename, make_link, make_symbolic_link, make_directory, remove_directory, read_directory, file_system_status, file_at, named_at, named_with_settings_at, set_attributes_at, read_at, write_at, rename_at, link_at, symbolic_link_at, read_directory_at, fields_at, arguments_of}
 use Rattle.bfs_model.specs.Short.{IsShort}
 use Rattle.bfs_model.specs.Stored.{AreBytes, SettingsAreStorable, HandleIsStorable, CallIsStorable}
 use Rattle.bfs_model.specs.StoredLaws.{ArgumentsAreStorable}
-use Rattle.bfs_model.proofs.Readings.{Gives, gives, gives_none, then_gives, chosen, IsItem, IsWordRead, IsHandleRead, AreSettingsRead, word_given, item_given, handle_given, settings_given}
+use Rattle.bfs_model.proofs.Readings.{Gives, gives, gives_none, then_gives, chosen, next_word, next_item, next_handle, next_settings}
 
 -- Forms of arguments --------------------------------------------------------------------------------------------------------------
 
@@ -23,15 +21,15 @@ module _ (F : Type 0) where
   file_good : (call : Option ℕ → Call) → ((file : Option ℕ) → (F → HandleIsStorable file) → CallIsGood (call file)) → (bytes : List ℕ) → (F → AreBytes bytes) → Gives IsGood (file_at call bytes)
   unfolding file_at
   file_good call holds bytes are =
-      then_gives (IsHandleRead F) IsGood (handle_at bytes) _ (handle_given F bytes are) (λ file is.
+      next_handle F IsGood bytes _ are (λ file is.
       gives IsGood (call file.0, file.1) (holds file.0 is.handle))
 
   named_good : (call : Option ℕ → List ℕ → Call) → ((dir : Option ℕ) (name : List ℕ) → length name ≤ most_name_bytes → (F → HandleIsStorable dir) → (F → AreBytes name) → CallIsGood (call dir name))
       → (bytes : List ℕ) → (F → AreBytes bytes) → Gives IsGood (named_at call bytes)
   unfolding named_at
   named_good call holds bytes are =
-      then_gives (IsHandleRead F) IsGood (handle_at bytes) _ (handle_given F bytes are) (λ dir is.
-      then_gives (IsItem F most_name_bytes) IsGood (name_at dir.1) _ (item_given F most_name_bytes dir.1 is.left) (λ name named.
+      next_handle F IsGood bytes _ are (λ dir is.
+      next_item F IsGood most_name_bytes dir.1 _ is.left (λ name named.
       gives IsGood (call dir.0 name.0, name.1) (holds dir.0 name.0 named.short is.handle named.bytes)))
 
   named_with_settings_good : (call : Option ℕ → List ℕ → Settings → Call)
@@ -39,69 +37,69 @@ module _ (F : Type 0) where
       → (bytes : List ℕ) → (F → AreBytes bytes) → Gives IsGood (named_with_settings_at call bytes)
   unfolding named_with_settings_at
   named_with_settings_good call holds bytes are =
-      then_gives (IsHandleRead F) IsGood (handle_at bytes) _ (handle_given F bytes are) (λ dir is.
-      then_gives (IsItem F most_name_bytes) IsGood (name_at dir.1) _ (item_given F most_name_bytes dir.1 is.left) (λ name named.
-      then_gives (AreSettingsRead F) IsGood (settings_at name.1) _ (settings_given F name.1 named.left) (λ settings set.
+      next_handle F IsGood bytes _ are (λ dir is.
+      next_item F IsGood most_name_bytes dir.1 _ is.left (λ name named.
+      next_settings F IsGood name.1 _ named.left (λ settings set.
       gives IsGood (call dir.0 name.0 settings.0, settings.1) (holds dir.0 name.0 settings.0 named.short is.handle named.bytes set))))
 
   set_attributes_good : (bytes : List ℕ) → (F → AreBytes bytes) → Gives IsGood (set_attributes_at bytes)
   unfolding set_attributes_at
   set_attributes_good bytes are =
-      then_gives (IsHandleRead F) IsGood (handle_at bytes) _ (handle_given F bytes are) (λ file is.
-      then_gives (AreSettingsRead F) IsGood (settings_at file.1) _ (settings_given F file.1 is.left) (λ settings set.
+      next_handle F IsGood bytes _ are (λ file is.
+      next_settings F IsGood file.1 _ is.left (λ settings set.
       gives IsGood (set_attributes file.0 settings.0, settings.1) (tt, λ f. (is.handle f, set f))))
 
   read_good : (bytes : List ℕ) → (F → AreBytes bytes) → Gives IsGood (read_at bytes)
   unfolding read_at
   read_good bytes are =
-      then_gives (IsHandleRead F) IsGood (handle_at bytes) _ (handle_given F bytes are) (λ file is.
-      then_gives (IsWordRead F) IsGood (result_ok (word_at file.1)) _ (word_given F file.1 is.left) (λ offset is_offset.
-      then_gives (IsWordRead F) IsGood (result_ok (word_at offset.1)) _ (word_given F offset.1 is_offset.left) (λ count is_count.
-      then_gives (IsWordRead F) IsGood (result_ok (word_at count.1)) _ (word_given F count.1 is_count.left) (λ total is_total.
+      next_handle F IsGood bytes _ are (λ file is.
+      next_word F IsGood file.1 _ is.left (λ offset is_offset.
+      next_word F IsGood offset.1 _ is_offset.left (λ count is_count.
+      next_word F IsGood count.1 _ is_count.left (λ total is_total.
       gives IsGood (read file.0 offset.0 count.0, total.1) (tt, λ f. (is.handle f, is_offset.word f, is_count.word f))))))
 
   write_good : (bytes : List ℕ) → (F → AreBytes bytes) → Gives IsGood (write_at bytes)
   unfolding write_at
   write_good bytes are =
-      then_gives (IsHandleRead F) IsGood (handle_at bytes) _ (handle_given F bytes are) (λ file is.
-      then_gives (IsWordRead F) IsGood (result_ok (word_at file.1)) _ (word_given F file.1 is.left) (λ begin is_begin.
-      then_gives (IsWordRead F) IsGood (result_ok (word_at begin.1)) _ (word_given F begin.1 is_begin.left) (λ offset is_offset.
-      then_gives (IsWordRead F) IsGood (result_ok (word_at offset.1)) _ (word_given F offset.1 is_offset.left) (λ total is_total.
-      then_gives (IsItem F most_data_bytes) IsGood (data_at total.1) _ (item_given F most_data_bytes total.1 is_total.left) (λ written is_written.
+      next_handle F IsGood bytes _ are (λ file is.
+      next_word F IsGood file.1 _ is.left (λ begin is_begin.
+      next_word F IsGood begin.1 _ is_begin.left (λ offset is_offset.
+      next_word F IsGood offset.1 _ is_offset.left (λ total is_total.
+      next_item F IsGood most_data_bytes total.1 _ is_total.left (λ written is_written.
       gives IsGood (write file.0 offset.0 written.0, written.1) (tt, λ f. (is.handle f, is_offset.word f, is_written.bytes f)))))))
 
   rename_good : (bytes : List ℕ) → (F → AreBytes bytes) → Gives IsGood (rename_at bytes)
   unfolding rename_at
   rename_good bytes are =
-      then_gives (IsHandleRead F) IsGood (handle_at bytes) _ (handle_given F bytes are) (λ from is_from.
-      then_gives (IsItem F most_name_bytes) IsGood (name_at from.1) _ (item_given F most_name_bytes from.1 is_from.left) (λ from_name from_named.
-      then_gives (IsHandleRead F) IsGood (handle_at from_name.1) _ (handle_given F from_name.1 from_named.left) (λ to is_to.
-      then_gives (IsItem F most_name_bytes) IsGood (name_at to.1) _ (item_given F most_name_bytes to.1 is_to.left) (λ to_name to_named.
+      next_handle F IsGood bytes _ are (λ from is_from.
+      next_item F IsGood most_name_bytes from.1 _ is_from.left (λ from_name from_named.
+      next_handle F IsGood from_name.1 _ from_named.left (λ to is_to.
+      next_item F IsGood most_name_bytes to.1 _ is_to.left (λ to_name to_named.
       gives IsGood (rename from.0 from_name.0 to.0 to_name.0, to_name.1) (to_named.short, λ f. (is_from.handle f, from_named.bytes f, is_to.handle f, to_named.bytes f))))))
 
   link_good : (bytes : List ℕ) → (F → AreBytes bytes) → Gives IsGood (link_at bytes)
   unfolding link_at
   link_good bytes are =
-      then_gives (IsHandleRead F) IsGood (handle_at bytes) _ (handle_given F bytes are) (λ file is.
-      then_gives (IsHandleRead F) IsGood (handle_at file.1) _ (handle_given F file.1 is.left) (λ dir is_dir.
-      then_gives (IsItem F most_name_bytes) IsGood (name_at dir.1) _ (item_given F most_name_bytes dir.1 is_dir.left) (λ name named.
+      next_handle F IsGood bytes _ are (λ file is.
+      next_handle F IsGood file.1 _ is.left (λ dir is_dir.
+      next_item F IsGood most_name_bytes dir.1 _ is_dir.left (λ name named.
       gives IsGood (make_link file.0 dir.0 name.0, name.1) (named.short, λ f. (is.handle f, is_dir.handle f, named.bytes f)))))
 
   symbolic_link_good : (bytes : List ℕ) → (F → AreBytes bytes) → Gives IsGood (symbolic_link_at bytes)
   unfolding symbolic_link_at
   symbolic_link_good bytes are =
-      then_gives (IsHandleRead F) IsGood (handle_at bytes) _ (handle_given F bytes are) (λ dir is.
-      then_gives (IsItem F most_name_bytes) IsGood (name_at dir.1) _ (item_given F most_name_bytes dir.1 is.left) (λ name named.
-      then_gives (IsItem F most_path_bytes) IsGood (path_at name.1) _ (item_given F most_path_bytes name.1 named.left) (λ path is_path.
-      then_gives (AreSettingsRead F) IsGood (settings_at path.1) _ (settings_given F path.1 is_path.left) (λ settings set.
+      next_handle F IsGood bytes _ are (λ dir is.
+      next_item F IsGood most_name_bytes dir.1 _ is.left (λ name named.
+      next_item F IsGood most_path_bytes name.1 _ named.left (λ path is_path.
+      next_settings F IsGood path.1 _ is_path.left (λ settings set.
       gives IsGood (make_symbolic_link dir.0 name.0 path.0 settings.0, settings.1) ((named.short, is_path.short), λ f. (is.handle f, named.bytes f, is_path.bytes f, set f))))))
 
   read_directory_good : (bytes : List ℕ) → (F → AreBytes bytes) → Gives IsGood (read_directory_at bytes)
   unfolding read_directory_at
   read_directory_good bytes are =
-      then_gives (IsHandleRead F) IsGood (handle_at bytes) _ (handle_given F bytes are) (λ dir is.
-      then_gives (IsWordRead F) IsGood (result_ok (word_at dir.1)) _ (word_given F dir.1 is.left) (λ cookie is_cookie.
-      then_gives (IsWordRead F) IsGood (result_ok (word_at cookie.1)) _ (word_given F cookie.1 is_cookie.left) (λ count is_count.
+      next_handle F IsGood bytes _ are (λ dir is.
+      next_word F IsGood dir.1 _ is.left (λ cookie is_cookie.
+      next_word F IsGood cookie.1 _ is_cookie.left (λ count is_count.
       gives IsGood (read_directory dir.0 cookie.0 count.0, count.1) (tt, λ f. (is.handle f, is_cookie.word f, is_count.word f)))))
 
   -- Calls --------------------------------------------------------------------------------------------------------------------------

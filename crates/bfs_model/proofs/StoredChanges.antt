@@ -1,5 +1,5 @@
 -- Changes of one inode leave one that can be stored.
-use Rattle.std.proofs.Common.{◌≡◌, ℕ, ◌-◌, ◌+◌, ◌<◌, ◌≤◌, Bool, true, false, cond, List, [], ◌∷◌, ◌++◌, length, take, drop, replicate, Option, Some, None, unwrap_or, refl, arith}
+use Rattle.std.proofs.Common.{◌≡◌, ℕ, ◌-◌, ◌+◌, ◌≤◌, Bool, true, false, cond, List, [], ◌∷◌, ◌++◌, length, take, drop, replicate, Option, Some, None, unwrap_or, refl, arith}
 use Rattle.std.specs.Prelude.{◌==◌, nat_lt, bytes_eq, IfSome}
 use Rattle.std.specs.Option.{option_map_or}
 use Rattle.std.specs.List.{AllByRecursion}
@@ -11,12 +11,9 @@ use Rattle.bfs_model.specs.Directories.{without_name}
 use Rattle.bfs_model.specs.Context.{Context}
 use Rattle.bfs_model.specs.Arguments.{Settings}
 use Rattle.bfs_model.specs.Changes.{permission_bits, time_or, touched, resized_body, with_size, with_settings, overwritten_body, with_bytes, with_listing, with_entry, without_entry, with_parent, new_inode}
-use Rattle.bfs_model.specs.Stored.{IsWord, AreBytes, TimeIsSpellable, IsTime, EntryIsStorable, BodyIsStorable, IsStorable, ContextIsStorable, SettingsAreStorable}
+use Rattle.bfs_model.specs.Stored.{IsWord, IsByte, AreBytes, TimeIsSpellable, IsTime, EntryIsStorable, BodyIsStorable, IsStorable, ContextIsStorable, SettingsAreStorable}
 
 -- Parts ----------------------------------------------------------------------------------------------------------------
-
-abbrev IsByte : ℕ → Type 0
-IsByte byte = byte < 256
 
 pub zeros_are_bytes : (n : ℕ) → AreBytes (replicate n 0)
 zeros_are_bytes n = All-replicate IsByte n 0 (omega arith)

@@ -12,8 +12,11 @@ use Rattle.bfs_model.specs.WellFormed.{IsWellFormed}
 abbrev pub IsWord : ℕ → Type 0
 IsWord n = n < 2 ^ 32
 
+abbrev pub IsByte : ℕ → Type 0
+IsByte byte = byte < 256
+
 abbrev pub AreBytes : List ℕ → Type 0
-AreBytes bytes = All (λ byte. byte < 256) bytes
+AreBytes bytes = All IsByte bytes
 
 -- a timeval of any two words (RFC 1094 section 2.3.4)
 pub record TimeIsSpellable (time : Time) : Type 0 where
