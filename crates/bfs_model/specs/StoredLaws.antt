@@ -12,7 +12,7 @@ use Rattle.bfs_model.specs.Stored.{AreBytes, IsTime, AreStorable, IsLive, Contex
 
 -- What is stored -----------------------------------------------------------------------------------------------------
 
--- whatever the inodes and the ordinal
+-- under any ordinal
 abbrev pub CallsKeepInodesStorable : Type 0
 CallsKeepInodesStorable = (inodes : Inodes) (context : Context) (call : Call) → ContextIsStorable context → CallIsStorable call → AreStorable inodes → AreStorable (procedure inodes context call).0
 
@@ -22,7 +22,7 @@ RequestsAreStorable = (bytes : List ℕ) (request : Request) → AreBytes bytes 
 abbrev pub ArgumentsAreStorable : Type 0
 ArgumentsAreStorable = (number : ℕ) (bytes : List ℕ) (call : Call) → AreBytes bytes → arguments_of number bytes ≡ Some call → CallIsStorable call
 
--- at any time proposed
+-- a batch of requests of bytes, at a time
 abbrev pub BatchesKeepFilesLive : Type 0
 BatchesKeepFilesLive = (files : FileSystem) (batch : Batch) → IsTime batch.time → All AreBytes batch.requests → IsLive files → IsLive (execute files batch).0
 
