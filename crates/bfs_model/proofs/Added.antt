@@ -1,14 +1,13 @@
 -- The inode that a call adds is that of its ordinal, and the others that stay are of the types that they were of.
 use Rattle.std.proofs.Common.{◌≡◌, ℕ, Bool, true, false, ◌⊎◌, inl, inr, List, [], ◌∷◌, Option, Some, None, Ok, is_some, IsTrue, nat_lt, unwrap_or, refl, subst}
-use Rattle.std.specs.Bool.{⊤}
 use Rattle.std.specs.FinMap.{get, insert}
 use Rattle.bfs_model.specs.Limits.{most_file_bytes}
 use Rattle.bfs_model.specs.Tree.{Inode, Inodes}
 use Rattle.bfs_model.specs.Context.{Context}
 use Rattle.bfs_model.specs.Attributes.{type_of}
-use Rattle.bfs_model.specs.Arguments.{Call, null, get_attributes, set_attributes, root, look_up, read_link, read, write_cache, write, create, remove, rename, make_link, make_symbolic_link, make_directory, remove_directory, read_directory, file_system_status}
+use Rattle.bfs_model.specs.Arguments.{Call, set_attributes, write, create, remove, rename, make_link, make_symbolic_link, make_directory, remove_directory}
 use Rattle.bfs_model.specs.Replies.{fbig, nospc}
-use Rattle.bfs_model.specs.Changes.{with_settings, with_bytes, without_entry, with_parent, with_link, with_link_less, with_ctime}
+use Rattle.bfs_model.specs.Changes.{without_entry, with_parent, with_link, with_link_less, with_ctime}
 use Rattle.bfs_model.specs.Refusals.{FoundDirectory, has_most_links, directory_found}
 use Rattle.bfs_model.specs.Procedures.{procedure}
 use Rattle.bfs_model.specs.Procedures.Making.{with_name, entry_made}

@@ -20,4 +20,5 @@ pub mod ProcedureLaws
 pub mod ReplyLengths
 pub mod Short
 pub mod ReplyReading
+pub mod StoredLaws
 pub mod Paging

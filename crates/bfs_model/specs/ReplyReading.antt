@@ -1,6 +1,6 @@
 -- How a whole reply is read, strictly, by the grammars of RFC 5531 section 9 and of RFC 1094 section 2.2, and what that says of
 -- the replies that are spelled.
-use Rattle.std.specs.Prelude.{◌≡◌, ℕ, zero, suc, ◌-◌, ◌%◌, ◌==◌, ◌<◌, ◌≤◌, ◌^◌, ◌&&◌, Bool, true, List, [], ◌∷◌, length, All, Option, Some, None, Result, Ok, Err, if◌then◌else◌}
+use Rattle.std.specs.Prelude.{◌≡◌, ℕ, zero, suc, ◌-◌, ◌%◌, ◌==◌, ◌<◌, ◌≤◌, ◌&&◌, Bool, true, List, [], ◌∷◌, length, All, Option, Some, None, Result, Ok, Err, if◌then◌else◌}
 use Rattle.std.specs.Option.{ok_or}
 use Rattle.bfs_model.specs.Items.{Fault, ◌>>=◌, word_at, boolean_at, fixed_at, opaque_at}
 use Rattle.bfs_model.specs.Limits.{most_name_bytes, most_path_bytes, most_data_bytes}
@@ -11,7 +11,7 @@ use Rattle.bfs_model.specs.Context.{Context}
 use Rattle.bfs_model.specs.Call.{Refusal, silent, rpc_mismatch, bad_credential, program_unavailable, program_mismatch, procedure_unavailable}
 use Rattle.bfs_model.specs.Replies.{Status, perm, noent, exist, notdir, isdir, fbig, nospc, notempty, stale, Reply, void, refused, done, attributes, found, path, contents, listed, free_blocks, results, success, garbage, refusal}
 use Rattle.bfs_model.specs.Procedures.{procedure}
-use Rattle.bfs_model.specs.Stored.{IsWord}
+use Rattle.bfs_model.specs.Stored.{IsWord, TimeIsSpellable}
 
 -- why bytes are no reply of this server
 pub data Misread : Type 0 where
@@ -312,10 +312,6 @@ results_of procedure bytes = do
   at_end reply rest
 
 -- What can be spelled ------------------------------------------------------------------------------------------------------
-
-pub record TimeIsSpellable (time : Time) : Type 0 where
-  pub seconds : IsWord time.seconds
-  pub useconds : IsWord time.useconds
 
 pub record AttributesAreSpellable (of : Attributes) : Type 0 where
   pub permissions : of.permissions < 4096
