@@ -18,7 +18,6 @@ pub mod Found
 pub mod Attempts
 pub mod Fresh
 pub mod Unchanged
-pub mod Tables
 pub mod Readings
 pub mod Short
 pub mod Requests
