@@ -107,14 +107,16 @@ child_at m handle name dir child is =
     let named = then_was (ok_or (entry_named name at.0.listing.entries) noent) _ (dir, child) good.2 in
     let held = then_was (inode_found m (Some named.0.child)) _ (dir, child) named.2 in
     let there = inode_at m (Some named.0.child) held.0 held.1 in
-    let both = the_same (at.0, held.0) (dir, child) held.2 in
-    (named.0, subst (λ (found : FoundDirectory × FoundInode). IsChildAt m handle name found.0 named.0 found.1) both (record {
-      in_it = directory_at m handle at.0 at.1;
-      good = fails (is_bad_name name) ((is_bad_name name, perm) ∷ []) good.0 good.1 (inl refl);
-      named = was_there (entry_named name at.0.listing.entries) noent named.0 named.1;
-      is = sym (same_Some named.0.child held.0.id there.led);
-      there = there.there;
-    }))
+    let both = the_same (at.0, held.0) (dir, child) held.2 in (
+      named.0,
+      subst (λ (found : FoundDirectory × FoundInode). IsChildAt m handle name found.0 named.0 found.1) both (record {
+        in_it = directory_at m handle at.0 at.1;
+        good = fails (is_bad_name name) ((is_bad_name name, perm) ∷ []) good.0 good.1 (inl refl);
+        named = was_there (entry_named name at.0.listing.entries) noent named.0 named.1;
+        is = sym (same_Some named.0.child held.0.id there.led);
+        there = there.there;
+      }),
+    )
 
 -- what RENAME moves, and the directories from which and to which
 pub record IsRenamed (m : Inodes) (from : Option ℕ) (from_name : List ℕ) (to : Option ℕ) (to_name : List ℕ) (a b : FoundDirectory) (entry : Entry) (moved : FoundInode) : Type 0 where
@@ -186,6 +188,7 @@ pub record IsPlanned (m : Inodes) (c : Context) (from : Option ℕ) (from_name :
   pub b : FoundDirectory
   pub entry : Entry
   pub moved : FoundInode
+  pub to_is : directory_found m to ≡ Ok b
   pub renamed_it : IsRenamed m from from_name to to_name a b entry moved
   pub planned : IsPlan m c to_name a b moved plan
 
@@ -200,7 +203,11 @@ planned_was m c from from_name to to_name plan is =
     let moved = then_was (inode_found m (Some entry.0.child)) _ plan entry.2 in
     let there = inode_at m (Some entry.0.child) moved.0 moved.1 in
     record {
-      a = a.0; b = b.0; entry = entry.0; moved = moved.0;
+      a = a.0;
+      b = b.0;
+      entry = entry.0;
+      moved = moved.0;
+      to_is = b.1;
       renamed_it = record {
         from_at = directory_at m from a.0 a.1;
         to_at = directory_at m to b.0 b.1;

@@ -28,4 +28,4 @@ attributes_set inodes context handle settings = do
   found ← inode_found inodes handle
   allowed ← checked (size_refusals found.inode.body settings.size)
   let inode = with_settings context.time settings found.inode in
-    Ok (insert inodes found.id inode, attributes (attributes_of found.id inode))
+      Ok (insert inodes found.id inode, attributes (attributes_of found.id inode))

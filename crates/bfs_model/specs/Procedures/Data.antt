@@ -34,4 +34,4 @@ file_written inodes context handle offset written = do
   old ← file_found inodes handle
   small ← checked ((nat_lt most_file_bytes (offset + length written), fbig) ∷ [])
   let inode = with_bytes context.time offset written old.inode in
-    Ok (insert inodes old.id inode, attributes (attributes_of old.id inode))
+      Ok (insert inodes old.id inode, attributes (attributes_of old.id inode))

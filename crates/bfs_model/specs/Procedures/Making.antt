@@ -43,7 +43,7 @@ file_created inodes context handle name settings = do
   dir ← directory_found inodes handle
   allowed ← checked (new_name_refusals context dir.listing name ++ (nat_lt most_file_bytes (unwrap_or settings.size 0), fbig) ∷ [])
   let id = context.ordinal in let inode = new_file context settings in
-    Ok (insert (insert inodes dir.id (with_name context name id dir.inode)) id inode, found id (attributes_of id inode))
+      Ok (insert (insert inodes dir.id (with_name context name id dir.inode)) id inode, found id (attributes_of id inode))
 
 abbrev pub new_directory : Context → Settings → (parent : ℕ) → Inode
 new_directory context settings parent =
@@ -54,7 +54,7 @@ directory_made inodes context handle name settings = do
   dir ← directory_found inodes handle
   allowed ← checked (new_name_refusals context dir.listing name ++ (has_most_links dir.inode.links, nospc) ∷ [])
   let id = context.ordinal in let inode = new_directory context settings dir.id in
-    Ok (insert (insert inodes dir.id (with_link context.time (with_name context name id dir.inode))) id inode, found id (attributes_of id inode))
+      Ok (insert (insert inodes dir.id (with_link context.time (with_name context name id dir.inode))) id inode, found id (attributes_of id inode))
 
 abbrev pub new_symbolic_link : Context → Settings → (target : List ℕ) → Inode
 new_symbolic_link context settings target = new_inode context.time context.caller settings 0o777 1 (link target)
@@ -64,7 +64,7 @@ symbolic_link_made inodes context handle name target settings = do
   dir ← directory_found inodes handle
   allowed ← checked (new_name_refusals context dir.listing name)
   let id = context.ordinal in
-    Ok (insert (insert inodes dir.id (with_name context name id dir.inode)) id (new_symbolic_link context settings target), done)
+      Ok (insert (insert inodes dir.id (with_name context name id dir.inode)) id (new_symbolic_link context settings target), done)
 
 -- A new link ---------------------------------------------------------------------------------------------------------
 

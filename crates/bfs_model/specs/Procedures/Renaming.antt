@@ -112,10 +112,10 @@ renaming_planned inodes context from_handle from_name to_handle to_name = do
   entry ← ok_or (entry_named from_name from.listing.entries) noent
   moved ← inode_found inodes (Some entry.child)
   let existing = entry_named to_name to.listing.entries in
-    if option_map_or (λ other. other.child == moved.id) existing false then Ok None else (do
-      replaced ← replaced_by inodes existing
-      allowed ← checked (renaming_refusals inodes context (renaming_of from to moved replaced))
-      Ok (Some (renaming_of from to moved replaced)))
+      if option_map_or (λ other. other.child == moved.id) existing false then Ok None else (do
+        replaced ← replaced_by inodes existing
+        allowed ← checked (renaming_refusals inodes context (renaming_of from to moved replaced))
+        Ok (Some (renaming_of from to moved replaced)))
 
 abbrev pub entry_renamed : Inodes → Context → (from : Option ℕ) → (from_name : List ℕ) → (to : Option ℕ) → (to_name : List ℕ) → Result Outcome Status
 entry_renamed inodes context from from_name to to_name = do
