@@ -31,10 +31,6 @@ followed_then (Some before) (Some between) (Some after) first next = next ∙ fi
 abbrev pub Follows : (m n : Inodes) → Type 0
 Follows m n = (id : ℕ) → IsFollowed (get m id) (get n id)
 
--- but for one
-abbrev pub FollowsBut : (o : ℕ) (m n : Inodes) → Type 0
-FollowsBut o m n = (id : ℕ) → (id ≡ o) ⊎ IsFollowed (get m id) (get n id)
-
 pub follows_itself : (m : Inodes) → Follows m m
 follows_itself m id = followed_by_itself (get m id)
 
@@ -60,7 +56,7 @@ made_at : (b : Bool) (m n : Inodes) (o : ℕ) (new : Inode) (q : ℕ) → eq_by_
 made_at true m n o new q is follows = inl (tells_apart nat_cmp-IsAntisymmetric q o is)
 made_at false m n o new q is follows = inr (follows q)
 
-pub made_follows : (m n : Inodes) (o : ℕ) (new : Inode) → Follows m n → FollowsBut o m (insert n o new)
+pub made_follows : (m n : Inodes) (o : ℕ) (new : Inode) → Follows m n → (id : ℕ) → (id ≡ o) ⊎ IsFollowed (get m id) (get (insert n o new) id)
 made_follows m n o new follows id = rw (got n o new id) (made_at (eq_by_cmp nat_cmp id o) m n o new id refl follows)
 
 -- Changes of one inode ---------------------------------------------------------------------------------------------------

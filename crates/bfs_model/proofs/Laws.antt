@@ -6,7 +6,8 @@ use Rattle.std.proofs.lemmas.List.{take_at, drop_at, take-append-drop, length-ap
 use Rattle.std.proofs.lemmas.List.Elements.{All-get_or}
 use Rattle.std.proofs.lemmas.Nat.{be_bytes_4, be_bytes_8, from_be_bytes-to_be_bytes_4, from_be_bytes-to_be_bytes_8}
 use Rattle.bfs_model.specs.Items.{Fault, short, too_long, bad_boolean, bad_padding, ◌>>=◌, padding_of, are_zeros, word_at, hyper_at, boolean_at, bytes_at, fixed_at, opaque_at, word, hyper, boolean, fixed, counted}
-use Rattle.bfs_model.specs.Laws.{AreBytes, WordIsReadAgain, HyperIsReadAgain, BooleanIsReadAgain, FixedIsReadAgain, OpaqueIsReadAgain, WordWasWritten, HyperWasWritten, BooleanWasWritten, FixedWasWritten, OpaqueWasWritten}
+use Rattle.bfs_model.specs.Stored.{AreBytes}
+use Rattle.bfs_model.specs.Laws.{WordIsReadAgain, HyperIsReadAgain, BooleanIsReadAgain, FixedIsReadAgain, OpaqueIsReadAgain, WordWasWritten, HyperWasWritten, BooleanWasWritten, FixedWasWritten, OpaqueWasWritten}
 
 -- Tools -----------------------------------------------------------------------------------------------------------
 
@@ -93,6 +94,10 @@ number_written w limit wide bytes n rest fits e =
 pub word_again : WordIsReadAgain
 unfolding word_at word
 word_again n rest lt = number_again w32 (2 ^ 32) wide32 n rest lt
+
+-- bytes read as a word are one
+pub word_below : (bytes : List ℕ) → AreBytes bytes → from_be_bytes w32 bytes < 2 ^ 32
+word_below bytes fits = wide32.below bytes (are_below bytes fits)
 
 pub word_written : WordWasWritten
 unfolding word_at word

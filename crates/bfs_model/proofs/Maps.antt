@@ -3,10 +3,11 @@ use Rattle.std.proofs.Common.{◌≡◌, ℕ, Bool, true, false, cond, [], lengt
 use Rattle.std.specs.Ordering.{nat_cmp, eq_by_cmp}
 use Rattle.std.specs.Cmp.{nat_cmp_total}
 use Rattle.std.specs.FinMap.{put, len, get, empty, insert, remove, entries, from_sorted, entries-insert, len-insert, len-empty, get-insert, get-remove, get-empty, entries-from_sorted, empty_of_len, len-entries, same_map, same_entries_map, nat_cmp-IsAntisymmetric}
+use Rattle.std.proofs.lemmas.Cmp.{eq_by_cmp_equiv}
 use Rattle.std.proofs.lemmas.Map.Views.{tells_apart}
 use Rattle.bfs_model.specs.Tree.{Inode, Inodes}
 use Rattle.bfs_model.specs.Replies.{Reply}
-use Rattle.bfs_model.specs.Steps.{Outcome}
+use Rattle.bfs_model.specs.Refusals.{Outcome}
 
 abbrev none : Inodes
 none = empty
@@ -54,6 +55,10 @@ same {m = m} {n = n} e f = rw (same_entries_map m n e, f) refl
 
 pub got : (m : Inodes) (k : ℕ) (v : Inode) (q : ℕ) → get (insert m k v) q ≡ cond (eq_by_cmp nat_cmp q k) (Some v) (get m q)
 got m k v q = get-insert nat_cmp_total m k v q
+
+-- at a fileid where one was put
+pub got_put : (m : Inodes) (k : ℕ) (v : Inode) → get (insert m k v) k ≡ Some v
+got_put m k v = got m k v k ∙ rw ((eq_by_cmp_equiv nat_cmp_total).refl k) refl
 
 pub got_of_none : (q : ℕ) → get none q ≡ None
 got_of_none q = get-empty nat_cmp q

@@ -3,14 +3,18 @@ use Rattle.std.proofs.Common.{◌≡◌, ◌↔◌, ℕ, suc, ◌+◌, ◌-◌, 
 use Rattle.std.proofs.lemmas.Bool.{ltb-true, ltb-false, lt-ltb, le-ltb, le-leb, eqb-true, eq-eqb}
 use Rattle.std.proofs.lemmas.List.{length-append, nil_from_length}
 use Rattle.std.proofs.lemmas.List.Elements.{All-filter, All-head, All-tail}
+use Rattle.std.specs.List.{AllByRecursion}
 use Rattle.std.specs.FinMap.{get}
-use Rattle.bfs_model.specs.Tree.{Entry, Listing, Body, file, directory, link, Inode, Inodes, FileSystem, first_ordinal, listing_at, listing_in}
+use Rattle.bfs_model.specs.Tree.{Entry, Listing, Body, file, directory, link, Inode, Inodes, FileSystem, first_ordinal, spent_ordinal, listing_at, listing_in, entries_in}
 use Rattle.bfs_model.specs.Directories.{all_listed, listed_behind, listed_size, held_by, page_of}
 use Rattle.bfs_model.specs.Limits.{most_data_bytes}
 use Rattle.bfs_model.specs.Replies.{Reply, listed}
-use Rattle.bfs_model.specs.Steps.{Outcome, or_stale, or_notdir}
-use Rattle.bfs_model.specs.Procedures.OfListing.{page_listed, directory_read}
-use Rattle.bfs_model.specs.WellFormed.{IsRising, BodyIsWithin, IsWellFormed}
+use Rattle.bfs_model.specs.Refusals.{Outcome}
+use Rattle.bfs_model.specs.Context.{Context}
+use Rattle.bfs_model.specs.Arguments.{read_directory}
+use Rattle.bfs_model.specs.Procedures.{procedure}
+use Rattle.bfs_model.specs.Procedures.Names.{page_listed}
+use Rattle.bfs_model.specs.WellFormed.{IsRising, BodyIsLimited, IsWellFormed}
 use Rattle.bfs_model.specs.Paging.{page_read, entries_told, end_told, cookie_after, pages_read, IsListed, HasRoom, DirectoriesAreListed, PageIsTold, CookiesRise, PagesFollowEachOther, EndIsToldAtTheEnd, AllIsReadAtTheEnd, PageWithRoomIsNotEmpty, EnoughPagesAreAll}
 
 -- Rising cookies -----------------------------------------------------------------------------------------------------
@@ -98,41 +102,44 @@ page_then whole least ordinal cookie count rising =
 
 -- The reply ------------------------------------------------------------------------------------------------------------
 
-outcome_of_body : (inodes : Inodes) (body : Body) (listing : Listing) (reply : Listing → Reply) → listing_in body ≡ Some listing → or_notdir inodes body (λ l. (inodes, reply l)) ≡ (inodes, reply listing)
-outcome_of_body inodes (file bytes) listing reply there = absurd cc
-outcome_of_body inodes (directory l) listing reply there = let same : l ≡ listing = cc in ap (λ (k : Listing). (inodes, reply k)) same
-outcome_of_body inodes (link target) listing reply there = absurd cc
+outcome_told : (inodes : Inodes) (context : Context) (dir : ℕ) (listing : Listing) (cookie count : ℕ) → IsListed inodes dir listing
+    → procedure inodes context (read_directory (Some dir) cookie count) ≡ (inodes, page_listed count (listed_behind cookie (all_listed dir listing)))
+outcome_told inodes context dir listing cookie count h = there_told (get inodes dir) refl h.there
+  where
+    there_told : (there : Option Inode) → get inodes dir ≡ there → listing_at there ≡ Some listing
+        → procedure inodes context (read_directory (Some dir) cookie count) ≡ (inodes, page_listed count (listed_behind cookie (all_listed dir listing)))
+    there_told None at is = absurd cc
+    there_told (Some inode) at is = rw (at, is) refl
 
-outcome_of : (inodes : Inodes) (inode : Option Inode) (listing : Listing) (reply : Listing → Reply) → listing_at inode ≡ Some listing
-    → or_stale inodes inode (λ i. or_notdir inodes i.body (λ l. (inodes, reply l))) ≡ (inodes, reply listing)
-outcome_of inodes None listing reply there = absurd cc
-outcome_of inodes (Some inode) listing reply there = outcome_of_body inodes inode.body listing reply there
-
-outcome_told : (inodes : Inodes) (dir : ℕ) (listing : Listing) (cookie count : ℕ) → IsListed inodes dir listing
-    → directory_read inodes (Some dir) cookie count ≡ (inodes, page_listed count (listed_behind cookie (all_listed dir listing)))
-outcome_told inodes dir listing cookie count h = outcome_of inodes (get inodes dir) listing (λ l. page_listed count (listed_behind cookie (all_listed dir l))) h.there
-
-page_told : (inodes : Inodes) (dir : ℕ) (listing : Listing) (cookie count : ℕ) → IsListed inodes dir listing → page_read inodes dir cookie count ≡ page_listed count (listed_behind cookie (all_listed dir listing))
-page_told inodes dir listing cookie count h = ap (λ (outcome : Outcome). outcome.1) (outcome_told inodes dir listing cookie count h)
+page_told : (inodes : Inodes) (context : Context) (dir : ℕ) (listing : Listing) (cookie count : ℕ) → IsListed inodes dir listing → page_read inodes context dir cookie count ≡ page_listed count (listed_behind cookie (all_listed dir listing))
+page_told inodes context dir listing cookie count h = ap (λ (outcome : Outcome). outcome.1) (outcome_told inodes context dir listing cookie count h)
 
 pub page_is_told : PageIsTold
-page_is_told inodes dir listing cookie count h =
-    outcome_told inodes dir listing cookie count h
-    ∙ ap (λ (reply : Reply). (inodes, listed (entries_told reply) (end_told reply))) (sym (page_told inodes dir listing cookie count h))
+page_is_told inodes context dir listing cookie count h =
+    outcome_told inodes context dir listing cookie count h
+    ∙ ap (λ (reply : Reply). (inodes, listed (entries_told reply) (end_told reply))) (sym (page_told inodes context dir listing cookie count h))
 
-all_rises : (inodes : Inodes) (dir : ℕ) (listing : Listing) (h : IsListed inodes dir listing) → IsRising 1 (all_listed dir listing) (h.ordinal + 3)
-all_rises inodes dir listing h = (omega arith, omega arith, (omega arith, omega arith, rising_too 3 3 listing.entries h.ordinal (h.ordinal + 3) (omega arith) (omega arith) h.rising))
+all_rises : (inodes : Inodes) (context : Context) (dir : ℕ) (listing : Listing) (h : IsListed inodes dir listing) → IsRising 1 (all_listed dir listing) (h.ordinal + 3)
+all_rises inodes context dir listing h = (omega arith, omega arith, (omega arith, omega arith, rising_too 3 3 listing.entries h.ordinal (h.ordinal + 3) (omega arith) (omega arith) h.rising))
 
--- what a body within the limits says of its cookies
-rising_in : (ordinal id links : ℕ) (body : Body) (listing : Listing) → listing_in body ≡ Some listing → BodyIsWithin ordinal id links body → IsRising first_ordinal listing.entries ordinal
-rising_in ordinal id links (file bytes) listing there within = absurd cc
-rising_in ordinal id links (directory l) listing there within = let same : l ≡ listing = cc in subst (λ (k : Listing). IsRising first_ordinal k.entries ordinal) same within.1
-rising_in ordinal id links (link target) listing there within = absurd cc
+-- cookies that rise, and are ordinals from the first on, below the next
+rising_between : (least : ℕ) (entries : List Entry) (high ordinal : ℕ) → IsRising least entries high → AllByRecursion (λ entry. (first_ordinal ≤ entry.cookie) × (entry.cookie < ordinal)) entries → IsRising first_ordinal entries ordinal
+rising_between least [] high ordinal rising numbered = tt
+rising_between least (entry ∷ entries) high ordinal rising numbered = (numbered.0.0, numbered.0.1, rising_on (entry.cookie + 1) entries rising.2 numbered.1)
+  where
+    rising_on : (least : ℕ) (entries : List Entry) → IsRising least entries high → AllByRecursion (λ entry. (first_ordinal ≤ entry.cookie) × (entry.cookie < ordinal)) entries → IsRising least entries ordinal
+    rising_on least [] rising numbered = tt
+    rising_on least (entry ∷ entries) rising numbered = (rising.0, numbered.0.1, rising_on (entry.cookie + 1) entries rising.2 numbered.1)
+
+rising_in : (ordinal links : ℕ) (body : Body) (listing : Listing) → listing_in body ≡ Some listing → BodyIsLimited links body → AllByRecursion (λ entry. (first_ordinal ≤ entry.cookie) × (entry.cookie < ordinal)) (entries_in body) → IsRising first_ordinal listing.entries ordinal
+rising_in ordinal links (file bytes) listing there limited numbered = absurd cc
+rising_in ordinal links (directory l) listing there limited numbered = let same : l ≡ listing = cc in subst (λ (k : Listing). IsRising first_ordinal k.entries ordinal) same (rising_between 0 l.entries spent_ordinal ordinal limited.1 numbered)
+rising_in ordinal links (link target) listing there limited numbered = absurd cc
 
 rising_at : (files : FileSystem) (dir : ℕ) (inode : Option Inode) (listing : Listing) → IsWellFormed files → get files.tree dir ≡ inode → listing_at inode ≡ Some listing
     → IsRising first_ordinal listing.entries files.next_ordinal
 rising_at files dir None listing h is there = absurd cc
-rising_at files dir (Some inode) listing h is there = rising_in files.next_ordinal dir inode.links inode.body listing there (h.within dir inode is).body
+rising_at files dir (Some inode) listing h is there = rising_in files.next_ordinal inode.links inode.body listing there (h.tree.limited dir inode is).body (h.numbered dir inode is).cookies
 
 pub directories_are_listed : DirectoriesAreListed
 directories_are_listed files dir listing h there = record { there = there; ordinal = files.next_ordinal; rising = rising_at files dir (get files.tree dir) listing h refl there }
@@ -144,41 +151,41 @@ cookie_after_both cookie [] pages = refl
 cookie_after_both cookie (entry ∷ page) pages = cookie_after_both entry.cookie page pages
 
 -- from any cookie on, a page and what is left
-one_then : (inodes : Inodes) (dir : ℕ) (listing : Listing) (cookie count : ℕ) → IsListed inodes dir listing
-    → entries_told (page_read inodes dir cookie count) ++ listed_behind (cookie_after cookie (entries_told (page_read inodes dir cookie count))) (all_listed dir listing)
+one_then : (inodes : Inodes) (context : Context) (dir : ℕ) (listing : Listing) (cookie count : ℕ) → IsListed inodes dir listing
+    → entries_told (page_read inodes context dir cookie count) ++ listed_behind (cookie_after cookie (entries_told (page_read inodes context dir cookie count))) (all_listed dir listing)
     ≡ listed_behind cookie (all_listed dir listing)
-one_then inodes dir listing cookie count h =
+one_then inodes context dir listing cookie count h =
     subst (λ (reply : Reply). entries_told reply ++ listed_behind (cookie_after cookie (entries_told reply)) (all_listed dir listing) ≡ listed_behind cookie (all_listed dir listing))
-    (sym (page_told inodes dir listing cookie count h))
-    (page_then (all_listed dir listing) 1 (h.ordinal + 3) cookie count (all_rises inodes dir listing h))
+    (sym (page_told inodes context dir listing cookie count h))
+    (page_then (all_listed dir listing) 1 (h.ordinal + 3) cookie count (all_rises inodes context dir listing h))
 
 -- from any cookie on, pages and what is left
-pub pages_then : (inodes : Inodes) (dir : ℕ) (listing : Listing) (cookie : ℕ) (counts : List ℕ) → IsListed inodes dir listing
-    → pages_read inodes dir cookie counts ++ listed_behind (cookie_after cookie (pages_read inodes dir cookie counts)) (all_listed dir listing) ≡ listed_behind cookie (all_listed dir listing)
-pages_then inodes dir listing cookie [] h = refl
-pages_then inodes dir listing cookie (count ∷ counts) h =
-    let page : List Entry = entries_told (page_read inodes dir cookie count) in
-    let pages : List Entry = pages_read inodes dir (cookie_after cookie page) counts in
+pub pages_then : (inodes : Inodes) (context : Context) (dir : ℕ) (listing : Listing) (cookie : ℕ) (counts : List ℕ) → IsListed inodes dir listing
+    → pages_read inodes context dir cookie counts ++ listed_behind (cookie_after cookie (pages_read inodes context dir cookie counts)) (all_listed dir listing) ≡ listed_behind cookie (all_listed dir listing)
+pages_then inodes context dir listing cookie [] h = refl
+pages_then inodes context dir listing cookie (count ∷ counts) h =
+    let page : List Entry = entries_told (page_read inodes context dir cookie count) in
+    let pages : List Entry = pages_read inodes context dir (cookie_after cookie page) counts in
     append_assoc page pages (listed_behind (cookie_after cookie (page ++ pages)) (all_listed dir listing))
     ∙ ap (λ c. page ++ (pages ++ listed_behind c (all_listed dir listing))) (cookie_after_both cookie page pages)
-    ∙ ap (λ es. page ++ es) (pages_then inodes dir listing (cookie_after cookie page) counts h)
-    ∙ one_then inodes dir listing cookie count h
+    ∙ ap (λ es. page ++ es) (pages_then inodes context dir listing (cookie_after cookie page) counts h)
+    ∙ one_then inodes context dir listing cookie count h
 
-all_from_zero : (inodes : Inodes) (dir : ℕ) (listing : Listing) → IsListed inodes dir listing → listed_behind 0 (all_listed dir listing) ≡ all_listed dir listing
-all_from_zero inodes dir listing h = all_behind 0 1 (all_listed dir listing) (h.ordinal + 3) (omega arith) (all_rises inodes dir listing h)
+all_from_zero : (inodes : Inodes) (context : Context) (dir : ℕ) (listing : Listing) → IsListed inodes dir listing → listed_behind 0 (all_listed dir listing) ≡ all_listed dir listing
+all_from_zero inodes context dir listing h = all_behind 0 1 (all_listed dir listing) (h.ordinal + 3) (omega arith) (all_rises inodes context dir listing h)
 
 pub follow_each_other : PagesFollowEachOther
-follow_each_other inodes dir listing counts h = pages_then inodes dir listing 0 counts h ∙ all_from_zero inodes dir listing h
+follow_each_other inodes context dir listing counts h = pages_then inodes context dir listing 0 counts h ∙ all_from_zero inodes context dir listing h
 
 rising_part : (least : ℕ) (part rest : List Entry) (ordinal : ℕ) → IsRising least (part ++ rest) ordinal → IsRising least part ordinal
 rising_part least [] rest ordinal rising = tt
 rising_part least (entry ∷ part) rest ordinal rising = (rising.0, rising.1, rising_part (entry.cookie + 1) part rest ordinal rising.2)
 
 pub cookies_rise : CookiesRise
-cookies_rise inodes dir listing counts h =
-    let told : List Entry = pages_read inodes dir 0 counts in
+cookies_rise inodes context dir listing counts h =
+    let told : List Entry = pages_read inodes context dir 0 counts in
     let rest : List Entry = listed_behind (cookie_after 0 told) (all_listed dir listing) in
-    rising_part 1 told rest (h.ordinal + 3) (subst (λ (es : List Entry). IsRising 1 es (h.ordinal + 3)) (sym (follow_each_other inodes dir listing counts h)) (all_rises inodes dir listing h))
+    rising_part 1 told rest (h.ordinal + 3) (subst (λ (es : List Entry). IsRising 1 es (h.ordinal + 3)) (sym (follow_each_other inodes context dir listing counts h)) (all_rises inodes context dir listing h))
 
 -- The end ----------------------------------------------------------------------------------------------------------------
 
@@ -190,19 +197,19 @@ ends page rest left parts =
     )
 
 pub end_told_at_end : EndIsToldAtTheEnd
-end_told_at_end inodes dir listing cookie count h =
-    let parts = page_then (all_listed dir listing) 1 (h.ordinal + 3) cookie count (all_rises inodes dir listing h) in
-    subst (λ (reply : Reply). (end_told reply ≡ true) ↔ (listed_behind (cookie_after cookie (entries_told reply)) (all_listed dir listing) ≡ [])) (sym (page_told inodes dir listing cookie count h)) (ends (page_of count (listed_behind cookie (all_listed dir listing))) _ (listed_behind cookie (all_listed dir listing)) parts)
+end_told_at_end inodes context dir listing cookie count h =
+    let parts = page_then (all_listed dir listing) 1 (h.ordinal + 3) cookie count (all_rises inodes context dir listing h) in
+    subst (λ (reply : Reply). (end_told reply ≡ true) ↔ (listed_behind (cookie_after cookie (entries_told reply)) (all_listed dir listing) ≡ [])) (sym (page_told inodes context dir listing cookie count h)) (ends (page_of count (listed_behind cookie (all_listed dir listing))) _ (listed_behind cookie (all_listed dir listing)) parts)
 
-one_more : (inodes : Inodes) (dir cookie : ℕ) (counts : List ℕ) (count : ℕ)
-    → pages_read inodes dir cookie (counts ++ count ∷ []) ≡ pages_read inodes dir cookie counts ++ entries_told (page_read inodes dir (cookie_after cookie (pages_read inodes dir cookie counts)) count)
-one_more inodes dir cookie [] count = append-nil (entries_told (page_read inodes dir cookie count))
-one_more inodes dir cookie (first ∷ counts) count =
-    let page : List Entry = entries_told (page_read inodes dir cookie first) in
-    let pages : List Entry = pages_read inodes dir (cookie_after cookie page) counts in
-    ap (λ es. page ++ es) (one_more inodes dir (cookie_after cookie page) counts count)
-    ∙ sym (append_assoc page pages (entries_told (page_read inodes dir (cookie_after (cookie_after cookie page) pages) count)))
-    ∙ ap (λ c. (page ++ pages) ++ entries_told (page_read inodes dir c count)) (sym (cookie_after_both cookie page pages))
+one_more : (inodes : Inodes) (context : Context) (dir cookie : ℕ) (counts : List ℕ) (count : ℕ)
+    → pages_read inodes context dir cookie (counts ++ count ∷ []) ≡ pages_read inodes context dir cookie counts ++ entries_told (page_read inodes context dir (cookie_after cookie (pages_read inodes context dir cookie counts)) count)
+one_more inodes context dir cookie [] count = append-nil (entries_told (page_read inodes context dir cookie count))
+one_more inodes context dir cookie (first ∷ counts) count =
+    let page : List Entry = entries_told (page_read inodes context dir cookie first) in
+    let pages : List Entry = pages_read inodes context dir (cookie_after cookie page) counts in
+    ap (λ es. page ++ es) (one_more inodes context dir (cookie_after cookie page) counts count)
+    ∙ sym (append_assoc page pages (entries_told (page_read inodes context dir (cookie_after (cookie_after cookie page) pages) count)))
+    ∙ ap (λ c. (page ++ pages) ++ entries_told (page_read inodes context dir c count)) (sym (cookie_after_both cookie page pages))
 
 -- a first part is all just where nothing is left
 whole_if : (part rest whole : List Entry) → part ++ rest ≡ whole → (rest ≡ []) ↔ (part ≡ whole)
@@ -212,15 +219,15 @@ whole_if part rest whole parts = (
 )
 
 pub all_read_at_end : AllIsReadAtTheEnd
-all_read_at_end inodes dir listing counts count h =
-    let before : List Entry = pages_read inodes dir 0 counts in
+all_read_at_end inodes context dir listing counts count h =
+    let before : List Entry = pages_read inodes context dir 0 counts in
     let cookie : ℕ = cookie_after 0 before in
-    let page : List Entry = entries_told (page_read inodes dir cookie count) in
+    let page : List Entry = entries_told (page_read inodes context dir cookie count) in
     let rest : List Entry = listed_behind (cookie_after cookie page) (all_listed dir listing) in
-    let parts : (before ++ page) ++ rest ≡ all_listed dir listing = append_assoc before page rest ∙ ap (λ es. before ++ es) (one_then inodes dir listing cookie count h) ∙ follow_each_other inodes dir listing counts h in
-    let at_end = end_told_at_end inodes dir listing cookie count h in
+    let parts : (before ++ page) ++ rest ≡ all_listed dir listing = append_assoc before page rest ∙ ap (λ es. before ++ es) (one_then inodes context dir listing cookie count h) ∙ follow_each_other inodes context dir listing counts h in
+    let at_end = end_told_at_end inodes context dir listing cookie count h in
     let whole = whole_if (before ++ page) rest (all_listed dir listing) parts in
-    let pages : pages_read inodes dir 0 (counts ++ count ∷ []) ≡ before ++ page = one_more inodes dir 0 counts count in
+    let pages : pages_read inodes context dir 0 (counts ++ count ∷ []) ≡ before ++ page = one_more inodes context dir 0 counts count in
     (λ told. pages ∙ whole.0 (at_end.0 told), λ same. at_end.1 (whole.1 (sym pages ∙ same)))
 
 -- Room -------------------------------------------------------------------------------------------------------------------
@@ -230,8 +237,8 @@ begins : (count : ℕ) (next : Entry) (others : List Entry) → HasRoom count ne
 begins count next others room = rw (le-leb (listed_size next) (min count most_data_bytes - 12) (omega arith)) refl
 
 pub not_empty_with_room : PageWithRoomIsNotEmpty
-not_empty_with_room inodes dir listing cookie count next others h left room =
-    rw (page_told inodes dir listing cookie count h, left, begins count next others room) (λ none. cc)
+not_empty_with_room inodes context dir listing cookie count next others h left room =
+    rw (page_told inodes context dir listing cookie count h, left, begins count next others room) (λ none. cc)
 
 -- a page with room leaves fewer
 leaves_fewer : (count : ℕ) (left rest : List Entry) (n : ℕ) → All (HasRoom count) left → page_of count left ++ rest ≡ left → length left ≤ suc n → length rest ≤ n
@@ -241,21 +248,21 @@ leaves_fewer count (next ∷ others) rest n room parts most =
     let counted = ap length (rw (begins count next others (All-head (HasRoom count) next others room)) at parts) in
     omega (arith, length-append held rest)
 
-enough : (inodes : Inodes) (dir : ℕ) (listing : Listing) (cookie : ℕ) (counts : List ℕ) → IsListed inodes dir listing
+enough : (inodes : Inodes) (context : Context) (dir : ℕ) (listing : Listing) (cookie : ℕ) (counts : List ℕ) → IsListed inodes dir listing
     → length (listed_behind cookie (all_listed dir listing)) ≤ length counts → All (λ count. All (HasRoom count) (all_listed dir listing)) counts
-    → pages_read inodes dir cookie counts ≡ listed_behind cookie (all_listed dir listing)
-enough inodes dir listing cookie [] h most room = sym (nil_from_length (listed_behind cookie (all_listed dir listing)) (omega (arith, most)))
-enough inodes dir listing cookie (count ∷ counts) h most room =
-    let page : List Entry = entries_told (page_read inodes dir cookie count) in
+    → pages_read inodes context dir cookie counts ≡ listed_behind cookie (all_listed dir listing)
+enough inodes context dir listing cookie [] h most room = sym (nil_from_length (listed_behind cookie (all_listed dir listing)) (omega (arith, most)))
+enough inodes context dir listing cookie (count ∷ counts) h most room =
+    let page : List Entry = entries_told (page_read inodes context dir cookie count) in
     let left : List Entry = listed_behind cookie (all_listed dir listing) in
     let rest : List Entry = listed_behind (cookie_after cookie page) (all_listed dir listing) in
-    let parts : page ++ rest ≡ left = one_then inodes dir listing cookie count h in
-    let page_is : page ≡ page_of count left = ap entries_told (page_told inodes dir listing cookie count h) in
+    let parts : page ++ rest ≡ left = one_then inodes context dir listing cookie count h in
+    let page_is : page ≡ page_of count left = ap entries_told (page_told inodes context dir listing cookie count h) in
     let fits : All (HasRoom count) left = All-filter (λ entry. ltb cookie entry.cookie) (HasRoom count) (all_listed dir listing) (All-head (λ c. All (HasRoom c) (all_listed dir listing)) count counts room) in
     let fewer : length rest ≤ length counts = leaves_fewer count left rest (length counts) fits (rw (← page_is) parts) most in
-    ap (λ es. page ++ es) (enough inodes dir listing (cookie_after cookie page) counts h fewer (All-tail (λ c. All (HasRoom c) (all_listed dir listing)) count counts room)) ∙ parts
+    ap (λ es. page ++ es) (enough inodes context dir listing (cookie_after cookie page) counts h fewer (All-tail (λ c. All (HasRoom c) (all_listed dir listing)) count counts room)) ∙ parts
 
 pub enough_are_all : EnoughPagesAreAll
-enough_are_all inodes dir listing counts h most room =
-    let whole = all_from_zero inodes dir listing h in
-    enough inodes dir listing 0 counts h (subst (λ (es : List Entry). length es ≤ length counts) (sym whole) (omega arith)) room ∙ whole
+enough_are_all inodes context dir listing counts h most room =
+    let whole = all_from_zero inodes context dir listing h in
+    enough inodes context dir listing 0 counts h (subst (λ (es : List Entry). length es ≤ length counts) (sym whole) (omega arith)) room ∙ whole

@@ -6,20 +6,22 @@ use Rattle.std.proofs.lemmas.List.{length-append, length-take, length-replicate}
 use Rattle.std.proofs.lemmas.Bool.{leb-true}
 use Rattle.bfs_model.specs.Items.{padding_of, word, boolean, fixed, counted}
 use Rattle.bfs_model.specs.Limits.{most_data_bytes, most_path_bytes, most_reply_bytes}
-use Rattle.bfs_model.specs.Tree.{Time, Entry, Body, link, Inode, Inodes}
+use Rattle.bfs_model.specs.Tree.{Time, Entry, Body, file, directory, link, Inode, Inodes}
+use Rattle.bfs_model.specs.Context.{Context}
 use Rattle.bfs_model.specs.Attributes.{Attributes}
 use Rattle.bfs_model.specs.Bytes.{bytes_from}
 use Rattle.bfs_model.specs.Directories.{listed_size, held_by}
-use Rattle.bfs_model.specs.Call.{Credential, Refusal, silent, rpc_mismatch, bad_credential, program_unavailable, program_mismatch, procedure_unavailable, Request, call_of}
+use Rattle.bfs_model.specs.Call.{Refusal, silent, rpc_mismatch, bad_credential, program_unavailable, program_mismatch, procedure_unavailable, Request, call_of}
 use Rattle.bfs_model.specs.Arguments.{Call, null, get_attributes, set_attributes, root, look_up, read_link, read, write_cache, write, create, remove, rename, make_link, make_symbolic_link, make_directory, remove_directory, read_directory, file_system_status, handle, arguments_of}
 use Rattle.bfs_model.specs.Replies.{Status, Reply, void, refused, done, attributes, found, path, contents, listed, free_blocks, entry_item, results, success, garbage, refusal}
-use Rattle.bfs_model.specs.Steps.{Outcome}
 use Rattle.bfs_model.specs.Procedures.{procedure}
-use Rattle.bfs_model.specs.Procedures.OfListing.{page_listed}
+use Rattle.bfs_model.specs.Procedures.Names.{page_listed}
+use Rattle.bfs_model.specs.Procedures.Data.{path_in}
 use Rattle.bfs_model.specs.Serial.{answer, answer_call, answer_arguments}
-use Rattle.bfs_model.specs.WellFormed.{BodyIsWithin}
+use Rattle.bfs_model.specs.WellFormed.{BodyIsLimited, IsLimited}
 use Rattle.bfs_model.specs.ReplyLengths.{RepliesAreShort}
-use Rattle.bfs_model.proofs.ProcedureOutcomes.{attributes_got_holds, attributes_set_holds, looked_up_holds, file_read_holds, file_written_holds, file_created_holds, file_removed_holds, directory_made_holds, directory_removed_holds, directory_read_holds, link_read_holds, link_made_holds, symbolic_link_made_holds, status_got_holds, entry_renamed_holds}
+use Rattle.bfs_model.proofs.Found.{inode_at}
+use Rattle.bfs_model.proofs.Attempts.{IfItIsDone, procedure_holds}
 
 -- Parts of replies -----------------------------------------------------------------------------------------------------------
 
@@ -97,44 +99,38 @@ listing_is_short count entries = page_is_short (min count most_data_bytes - 12) 
 
 -- Procedures -----------------------------------------------------------------------------------------------------------------
 
-abbrev HasShortReply : Outcome → Type 0
-HasShortReply outcome = IsShort outcome.1
+pub short_path : (links : ℕ) (body : Body) (target : List ℕ) → BodyIsLimited links body → path_in body ≡ Some target → length target ≤ most_path_bytes
+short_path links (file bytes) target limited is = absurd cc
+short_path links (directory listing) target limited is = absurd cc
+short_path links (link held) target limited is = let same : held ≡ target = cc in subst (λ path. length path ≤ most_path_bytes) same limited.1
 
--- the symbolic links that there are lead by paths within the limit
-abbrev HasShortPaths : Inodes → Type 0
-HasShortPaths m = (id : ℕ) (inode : Inode) (target : List ℕ) → get m id ≡ Some inode → inode.body ≡ link target → length target ≤ most_path_bytes
+-- each inode is within the limits
+abbrev pub AreLimited : Inodes → Type 0
+AreLimited m = (id : ℕ) (inode : Inode) → get m id ≡ Some inode → IsLimited inode
 
-procedure_is_short : (m : Inodes) (o : ℕ) (now : Time) (caller : Credential) (call : Call) → HasShortPaths m → IsShort (procedure m o now caller call).1
-procedure_is_short m o now caller null paths = void_is_short
-procedure_is_short m o now caller (get_attributes file) paths = attributes_got_holds HasShortReply m refused_is_short file (λ id inode leads there. attributes_are_short _)
-procedure_is_short m o now caller (set_attributes file settings) paths =
-    attributes_set_holds HasShortReply m refused_is_short now file settings (λ id inode leads there allowed. attributes_are_short _)
-procedure_is_short m o now caller root paths = void_is_short
-procedure_is_short m o now caller (look_up dir name) paths = looked_up_holds HasShortReply m refused_is_short dir name (λ id child there. found_is_short id _)
-procedure_is_short m o now caller (read_link file) paths =
-    link_read_holds HasShortReply m refused_is_short file (λ id inode target leads there holding. path_is_short target (paths id inode target there holding))
-procedure_is_short m o now caller (read file offset count) paths =
-    file_read_holds HasShortReply m refused_is_short file offset count (λ id inode bytes leads there holding. contents_are_short _ offset count bytes)
-procedure_is_short m o now caller write_cache paths = void_is_short
-procedure_is_short m o now caller (write file offset bytes) paths =
-    file_written_holds HasShortReply m refused_is_short now file offset bytes (λ id inode old leads there holding allowed. attributes_are_short _)
-procedure_is_short m o now caller (create dir name settings) paths =
-    file_created_holds HasShortReply m refused_is_short o now caller dir name settings (λ id inode listing leads there holding allowed. found_is_short o _)
-procedure_is_short m o now caller (remove dir name) paths =
-    file_removed_holds HasShortReply m refused_is_short now dir name (λ id inode listing entry child leads there holding good named is_child allowed. done_is_short)
-procedure_is_short m o now caller (rename from from_name to to_name) paths =
-    entry_renamed_holds HasShortReply m refused_is_short o now from from_name to to_name done_is_short (λ r there. done_is_short)
-procedure_is_short m o now caller (make_link file dir name) paths =
-    link_made_holds HasShortReply m refused_is_short o now file dir name (λ id linked to inode listing leads there no_directory leads_in is_in holding allowed. done_is_short)
-procedure_is_short m o now caller (make_symbolic_link dir name target settings) paths =
-    symbolic_link_made_holds HasShortReply m refused_is_short o now caller dir name target settings (λ id inode listing leads there holding allowed. done_is_short)
-procedure_is_short m o now caller (make_directory dir name settings) paths =
-    directory_made_holds HasShortReply m refused_is_short o now caller dir name settings (λ id inode listing leads there holding allowed. found_is_short o _)
-procedure_is_short m o now caller (remove_directory dir name) paths =
-    directory_removed_holds HasShortReply m refused_is_short now dir name (λ id inode listing entry child leads there holding good named is_child allowed. done_is_short)
-procedure_is_short m o now caller (read_directory dir cookie count) paths =
-    directory_read_holds HasShortReply m refused_is_short dir cookie count (λ id inode listing leads there holding. listing_is_short count _)
-procedure_is_short m o now caller (file_system_status file) paths = status_got_holds HasShortReply m refused_is_short file (λ id inode leads there. free_is_short _)
+module _ (m : Inodes) (c : Context) (limited : AreLimited m) where
+  call_is_short : (call : Call) → IfItIsDone m c (λ outcome. IsShort outcome.1) call
+  call_is_short null = void_is_short
+  call_is_short (get_attributes handle) = λ x found. attributes_are_short _
+  call_is_short (set_attributes handle settings) = λ x allowed found passed. attributes_are_short _
+  call_is_short root = void_is_short
+  call_is_short (look_up handle name) = λ x there. found_is_short x.id _
+  call_is_short (read_link handle) = λ x target found holds. path_is_short target (short_path x.inode.links x.inode.body target (limited x.id x.inode (inode_at m handle x found).there).body holds)
+  call_is_short (read handle offset count) = λ x found. contents_are_short _ offset count x.bytes
+  call_is_short write_cache = void_is_short
+  call_is_short (write handle offset written) = λ x small found passed. attributes_are_short _
+  call_is_short (create handle name settings) = λ dir allowed found passed. found_is_short c.ordinal _
+  call_is_short (remove handle name) = λ dir entry child plain at passed. done_is_short
+  call_is_short (rename from from_name to to_name) = λ a b entry moved at. (done_is_short, λ replaced allowed onto passed. done_is_short)
+  call_is_short (make_link handle in_directory name) = λ x plain dir allowed found no_directory dir_is passed. done_is_short
+  call_is_short (make_symbolic_link handle name target settings) = λ dir allowed found passed. done_is_short
+  call_is_short (make_directory handle name settings) = λ dir allowed found passed. found_is_short c.ordinal _
+  call_is_short (remove_directory handle name) = λ dir entry child empty at passed. done_is_short
+  call_is_short (read_directory handle cookie count) = λ dir found. listing_is_short count _
+  call_is_short (file_system_status handle) = λ x found. free_is_short _
+
+  procedure_is_short : (call : Call) → IsShort (procedure m c call).1
+  procedure_is_short call = procedure_holds m c (λ outcome. IsShort outcome.1) refused_is_short call (call_is_short call)
 
 -- Requests -------------------------------------------------------------------------------------------------------------------
 
@@ -155,22 +151,15 @@ refusal_is_short (program_unavailable xid) = lit≤ tt
 refusal_is_short (program_mismatch xid) = lit≤ tt
 refusal_is_short (procedure_unavailable xid) = lit≤ tt
 
-arguments_answer : (m : Inodes) (o : ℕ) (now : Time) (request : Request) (call : Option Call) → HasShortPaths m → length (answer_arguments m o now request call).1 ≤ most_reply_bytes
-arguments_answer m o now request None paths = garbage_is_short request.xid
-arguments_answer m o now request (Some call) paths = success_is_short request.xid _ (procedure_is_short m o now request.credential call paths)
+module _ (m : Inodes) (ordinal : ℕ) (time : Time) (limited : AreLimited m) where
+  arguments_answer : (request : Request) (call : Option Call) → length (answer_arguments m ordinal time request call).1 ≤ most_reply_bytes
+  arguments_answer request None = garbage_is_short request.xid
+  arguments_answer request (Some call) = success_is_short request.xid _ (procedure_is_short m _ limited call)
 
-call_answer : (m : Inodes) (o : ℕ) (now : Time) (call : Result Request Refusal) → HasShortPaths m → length (answer_call m o now call).1 ≤ most_reply_bytes
-call_answer m o now (Ok request) paths = arguments_answer m o now request (arguments_of request.procedure request.arguments) paths
-call_answer m o now (Err reason) paths = refusal_is_short reason
-
--- only the paths matter: what else is in a reply is of limited length on any map
-pub short_answer : (m : Inodes) (o : ℕ) (now : Time) (request : List ℕ) → HasShortPaths m → length (answer m o now request).1 ≤ most_reply_bytes
-unfolding answer
-short_answer m o now request paths = call_answer m o now (call_of request) paths
-
-short_path : (limit id links : ℕ) (body : Body) (target : List ℕ) → BodyIsWithin limit id links body → body ≡ link target → length target ≤ most_path_bytes
-short_path limit id links body target within is = (subst (BodyIsWithin limit id links) is within).1
+  call_answer : (call : Result Request Refusal) → length (answer_call m ordinal time call).1 ≤ most_reply_bytes
+  call_answer (Ok request) = arguments_answer request (arguments_of request.procedure request.arguments)
+  call_answer (Err reason) = refusal_is_short reason
 
 pub short_replies : RepliesAreShort
-short_replies m limit o now request within =
-    short_answer m o now request (λ id inode target there is. short_path limit id inode.links inode.body target (within id inode there).body is)
+unfolding answer
+short_replies m ordinal time request limited = call_answer m ordinal time limited (call_of request)

@@ -8,7 +8,8 @@ use Rattle.bfs_model.specs.Tree.{Time, Entry}
 use Rattle.bfs_model.specs.Attributes.{FileType, regular, directory_type, symbolic_link, Attributes, block_size, blocks_of, transfer_size, total_blocks}
 use Rattle.bfs_model.specs.Arguments.{handle}
 use Rattle.bfs_model.specs.Replies.{Status, perm, noent, exist, notdir, isdir, fbig, nospc, notempty, stale, status_number, Reply, void, refused, done, attributes, found, path, contents, listed, free_blocks, type_number, type_bits, attribute_words, entry_item, results}
-use Rattle.bfs_model.specs.ReplyReading.{Reading, status_of, handle_told_at, time_told_at, type_told, permissions_told, attributes_told_at, ResultsForm, void_form, status_form, attributes_form, found_form, path_form, contents_form, listed_form, blocks_form, by_status, attributes_arm, found_arm, path_arm, contents_arm, entry_told_at, chain_at, listed_arm, blocks_arm, results_at, results_of, IsWord, TimeIsSpellable, AttributesAreSpellable, EntryIsSpellable, FitsItems, HasForm, ResultsAreReadBack}
+use Rattle.bfs_model.specs.Stored.{IsWord, TimeIsSpellable}
+use Rattle.bfs_model.specs.ReplyReading.{Reading, status_of, handle_told_at, time_told_at, type_told, permissions_told, attributes_told_at, ResultsForm, void_form, status_form, attributes_form, found_form, path_form, contents_form, listed_form, blocks_form, by_status, attributes_arm, found_arm, path_arm, contents_arm, entry_told_at, chain_at, listed_arm, blocks_arm, results_at, results_of, AttributesAreSpellable, EntryIsSpellable, FitsItems, HasForm, ResultsAreReadBack}
 use Rattle.bfs_model.proofs.Laws.{word_again, boolean_again, fixed_again, opaque_again}
 use Rattle.bfs_model.proofs.Handles.{handle_leads, length_of_handle}
 use Rattle.bfs_model.proofs.RepliesAgain.{after_number_again, at_end_again}

@@ -9,7 +9,8 @@ use Rattle.bfs_model.specs.Call.{call_of, header_of, opaque_auth_at, credential_
 use Rattle.bfs_model.specs.Arguments.{handle, handle_id, handle_at, file_at, fields_at, arguments_of}
 use Rattle.bfs_model.specs.Replies.{attributes, results, success, garbage, refusal}
 use Rattle.bfs_model.specs.Procedures.{procedure}
-use Rattle.bfs_model.specs.Procedures.OfAttributes.{attributes_got}
+use Rattle.bfs_model.specs.Procedures.Attributes.{attributes_got}
+use Rattle.bfs_model.specs.Context.{Context}
 use Rattle.bfs_model.specs.Serial.{answer, execute}
 
 -- Items ---------------------------------------------------------------------------------------------------------
@@ -53,8 +54,8 @@ root_spelled : call_of root_request ≡ Ok (record { xid = 1; procedure = 1; cre
 unfolding call_of header_of opaque_auth_at credential_of opaque_at fixed_at bytes_at word_at word handle
 root_spelled = refl
 
-root_attributes_got : attributes_got new_tree (Some 2) ≡ (new_tree, attributes (attributes_of 2 new_root))
-root_attributes_got = rw root_found refl
+root_attributes_got : (context : Context) → attributes_got new_tree context (Some 2) ≡ Ok (new_tree, attributes (attributes_of 2 new_root))
+root_attributes_got context = rw root_found refl
 
 root_answered : (ordinal : ℕ) (time : Time) → answer new_tree ordinal time root_request ≡ (new_tree, root_reply)
 unfolding answer call_of header_of opaque_auth_at credential_of opaque_at fixed_at bytes_at word_at word handle arguments_of fields_at file_at handle_at handle_id success results

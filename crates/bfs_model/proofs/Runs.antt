@@ -3,10 +3,11 @@ use Rattle.std.proofs.Common.{◌≡◌, ℕ, List, [], ◌∷◌, ◌++◌, len
 use Rattle.std.specs.FinMap.{from_entries}
 use Rattle.bfs_model.specs.Items.{words}
 use Rattle.bfs_model.specs.Tree.{Time, Entry, Inode, Inodes, FileSystem, file, directory}
-use Rattle.bfs_model.specs.Call.{Credential, call_of}
+use Rattle.bfs_model.specs.Context.{Context}
+use Rattle.bfs_model.specs.Call.{Credential, call_of, nobody}
 use Rattle.bfs_model.specs.Arguments.{Settings, Call, arguments_of}
 use Rattle.bfs_model.specs.Replies.{Reply, results, success}
-use Rattle.bfs_model.specs.Steps.{Outcome}
+use Rattle.bfs_model.specs.Refusals.{Outcome}
 use Rattle.bfs_model.specs.Procedures.{procedure}
 use Rattle.bfs_model.specs.Serial.{Batch, answer, inodes_after, replies_to, ordinal_after, effective_time, execute}
 
@@ -36,6 +37,12 @@ succeeds xid after = words ((xid ∷ 1 ∷ 0 ∷ 0 ∷ 0 ∷ 0 ∷ []) ++ after)
 -- the words of attributes, with times in whole seconds
 abbrev pub told : (type mode nlink uid gid size blocks fileid a m c : ℕ) → List ℕ
 told type mode nlink uid gid size blocks fileid a m c = type ∷ mode ∷ nlink ∷ uid ∷ gid ∷ size ∷ 4096 ∷ 0 ∷ blocks ∷ 1 ∷ fileid ∷ a ∷ 0 ∷ m ∷ 0 ∷ c ∷ 0 ∷ []
+
+-- Contexts -----------------------------------------------------------------------------------------------------------
+
+-- of a call of nobody's
+abbrev pub under : (ordinal : ℕ) → Time → Context
+under ordinal time = record { ordinal = ordinal; time = time; caller = nobody }
 
 -- Inodes -------------------------------------------------------------------------------------------------------------
 
@@ -78,7 +85,7 @@ followed {o = o} {t = t} {requests = requests} e r = record {
 pub next : {m n after : Inodes} {o : ℕ} {t : Time} {request arguments : List ℕ} {requests replies : List (List ℕ)} {xid number : ℕ} {credential : Credential} {call : Call} {reply : Reply}
     → call_of request ≡ Ok (record { xid = xid; procedure = number; credential = credential; arguments = arguments })
     → arguments_of number arguments ≡ Some call
-    → ◌≡◌ {A = Outcome} (procedure m o t credential call) (n, reply)
+    → ◌≡◌ {A = Outcome} (procedure m (record { ordinal = o; time = t; caller = credential }) call) (n, reply)
     → Runs n (ordinal_after o 1) t requests after replies
     → Runs m o t (request ∷ requests) after (success xid (results reply) ∷ replies)
 unfolding answer

@@ -2,7 +2,7 @@
 use Rattle.std.proofs.Common.{◌≡◌, [], ◌∷◌, ◌++◌, Some, refl, codes}
 use Rattle.bfs_model.specs.Items.{word, word_at, bytes_at, fixed_at, opaque_at}
 use Rattle.bfs_model.specs.Tree.{Inode, Inodes, new_tree, new_file_system}
-use Rattle.bfs_model.specs.Call.{nobody, call_of, header_of, opaque_auth_at, credential_of}
+use Rattle.bfs_model.specs.Call.{call_of, header_of, opaque_auth_at, credential_of}
 use Rattle.bfs_model.specs.Arguments.{create, write, rename, make_directory, handle, handle_id, handle_at, write_at, rename_at, settings_at, named_with_settings_at, fields_at, arguments_of}
 use Rattle.bfs_model.specs.Replies.{found, attributes, refused, perm, results, success}
 use Rattle.bfs_model.specs.Attributes.{attributes_of}
@@ -10,7 +10,7 @@ use Rattle.bfs_model.specs.Procedures.{procedure}
 use Rattle.bfs_model.specs.Procedures.Renaming.{is_within}
 use Rattle.bfs_model.specs.Serial.{execute}
 use Rattle.bfs_model.proofs.Maps.{inode_gets, inode_entries, same}
-use Rattle.bfs_model.proofs.Runs.{of_file, names_unset, writes, renames, unset, succeeds, told, at, a_file, a_directory, the_root, entry, holding, ends, next, executed}
+use Rattle.bfs_model.proofs.Runs.{under, of_file, names_unset, writes, renames, unset, succeeds, told, at, a_file, a_directory, the_root, entry, holding, ends, next, executed}
 
 -- A directory does not come below itself --------------------------------------------------------------------------------
 
@@ -36,18 +36,18 @@ root_with_d_a_b = the_root 3 1 1 (entry 3 (codes "d") 3 ∷ entry 5 (codes "a") 
 abbrev d_e_and_files : (a b : Inode) → Inodes
 d_e_and_files a b = holding ((2, root_with_d_a_b) ∷ (3, d_with_e) ∷ (4, e) ∷ (5, a) ∷ (6, b) ∷ [])
 
-d_made : procedure new_tree 3 (at 1) nobody (make_directory (Some 2) (codes "d") unset) ≡ (d_alone, found 3 (attributes_of 3 (a_directory 2 1 1 1 2 [])))
+d_made : procedure new_tree (under 3 (at 1)) (make_directory (Some 2) (codes "d") unset) ≡ (d_alone, found 3 (attributes_of 3 (a_directory 2 1 1 1 2 [])))
 d_made = simp inode_gets (same (simp inode_entries) refl)
 
-e_made : procedure d_alone 4 (at 1) nobody (make_directory (Some 3) (codes "e") unset)
+e_made : procedure d_alone (under 4 (at 1)) (make_directory (Some 3) (codes "e") unset)
     ≡ (holding ((2, root_with_d) ∷ (3, d_with_e) ∷ (4, e) ∷ []), found 4 (attributes_of 4 e))
 e_made = simp inode_gets (same (simp inode_entries) refl)
 
-a_made : procedure (holding ((2, root_with_d) ∷ (3, d_with_e) ∷ (4, e) ∷ [])) 5 (at 1) nobody (create (Some 2) (codes "a") unset)
+a_made : procedure (holding ((2, root_with_d) ∷ (3, d_with_e) ∷ (4, e) ∷ [])) (under 5 (at 1)) (create (Some 2) (codes "a") unset)
     ≡ (holding ((2, root_with_d_a) ∷ (3, d_with_e) ∷ (4, e) ∷ (5, a_file 1 1 1 1 []) ∷ []), found 5 (attributes_of 5 (a_file 1 1 1 1 [])))
 a_made = simp inode_gets (same (simp inode_entries) refl)
 
-b_made : procedure (holding ((2, root_with_d_a) ∷ (3, d_with_e) ∷ (4, e) ∷ (5, a_file 1 1 1 1 []) ∷ [])) 6 (at 1) nobody (create (Some 2) (codes "b") unset)
+b_made : procedure (holding ((2, root_with_d_a) ∷ (3, d_with_e) ∷ (4, e) ∷ (5, a_file 1 1 1 1 []) ∷ [])) (under 6 (at 1)) (create (Some 2) (codes "b") unset)
     ≡ (d_e_and_files (a_file 1 1 1 1 []) (a_file 1 1 1 1 []), found 6 (attributes_of 6 (a_file 1 1 1 1 [])))
 b_made = simp inode_gets (same (simp inode_entries) refl)
 
@@ -63,16 +63,16 @@ nested_made : execute new_file_system (record { time = at 1; requests = names_un
 unfolding call_of header_of opaque_auth_at credential_of opaque_at fixed_at bytes_at word_at word handle arguments_of fields_at named_with_settings_at settings_at handle_at handle_id success results
 nested_made = executed new_file_system _ (next refl refl d_made (next refl refl e_made (next refl refl a_made (next refl refl b_made (ends _ _ _)))))
 
-a_written : procedure (d_e_and_files (a_file 1 1 1 1 []) (a_file 1 1 1 1 [])) 7 (at 2) nobody (write (Some 5) 0 (codes "x"))
+a_written : procedure (d_e_and_files (a_file 1 1 1 1 []) (a_file 1 1 1 1 [])) (under 7 (at 2)) (write (Some 5) 0 (codes "x"))
     ≡ (d_e_and_files (a_file 1 1 2 2 (codes "x")) (a_file 1 1 1 1 []), attributes (attributes_of 5 (a_file 1 1 2 2 (codes "x"))))
 a_written = simp inode_gets (same (simp inode_entries) refl)
 
-d_kept : procedure (d_e_and_files (a_file 1 1 2 2 (codes "x")) (a_file 1 1 1 1 [])) 8 (at 2) nobody (rename (Some 2) (codes "d") (Some 4) (codes "x"))
+d_kept : procedure (d_e_and_files (a_file 1 1 2 2 (codes "x")) (a_file 1 1 1 1 [])) (under 8 (at 2)) (rename (Some 2) (codes "d") (Some 4) (codes "x"))
     ≡ (d_e_and_files (a_file 1 1 2 2 (codes "x")) (a_file 1 1 1 1 []), refused perm)
 unfolding is_within
 d_kept = simp inode_gets
 
-b_written : procedure (d_e_and_files (a_file 1 1 2 2 (codes "x")) (a_file 1 1 1 1 [])) 9 (at 2) nobody (write (Some 6) 0 (codes "y"))
+b_written : procedure (d_e_and_files (a_file 1 1 2 2 (codes "x")) (a_file 1 1 1 1 [])) (under 9 (at 2)) (write (Some 6) 0 (codes "y"))
     ≡ (d_e_and_files (a_file 1 1 2 2 (codes "x")) (a_file 1 1 2 2 (codes "y")), attributes (attributes_of 6 (a_file 1 1 2 2 (codes "y"))))
 b_written = simp inode_gets (same (simp inode_entries) refl)
 

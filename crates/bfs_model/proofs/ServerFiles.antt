@@ -3,7 +3,7 @@ use Rattle.std.proofs.Common.{◌≡◌, ℕ, List, [], ◌∷◌, ◌++◌, Som
 use Rattle.std.specs.FinMap.{empty, insert}
 use Rattle.bfs_model.specs.Items.{words, word, word_at, bytes_at, fixed_at, opaque_at, fixed, counted}
 use Rattle.bfs_model.specs.Tree.{Inode, Inodes, new_tree, new_file_system}
-use Rattle.bfs_model.specs.Call.{Credential, nobody, call_of, header_of, opaque_auth_at, credential_of, system_credential_of, after_words}
+use Rattle.bfs_model.specs.Call.{Credential, call_of, header_of, opaque_auth_at, credential_of, system_credential_of, after_words}
 use Rattle.bfs_model.specs.Arguments.{create, get_attributes, look_up, read, write, remove, handle, handle_id, handle_at, file_at, named_at, read_at, write_at, settings_at, named_with_settings_at, fields_at, arguments_of}
 use Rattle.bfs_model.specs.Replies.{found, attributes, contents, done, refused, stale, results, success}
 use Rattle.bfs_model.specs.Attributes.{attributes_of}
@@ -11,7 +11,7 @@ use Rattle.bfs_model.specs.Changes.{link_lost}
 use Rattle.bfs_model.specs.Procedures.{procedure}
 use Rattle.bfs_model.specs.Serial.{execute}
 use Rattle.bfs_model.proofs.Maps.{inode_gets, inode_entries, same}
-use Rattle.bfs_model.proofs.Runs.{calls, of_file, unset_words, unset, succeeds, told, at, a_file, the_root, entry, ends, next, executed}
+use Rattle.bfs_model.proofs.Runs.{under, calls, of_file, unset_words, unset, succeeds, told, at, a_file, the_root, entry, ends, next, executed}
 
 -- One file -----------------------------------------------------------------------------------------------------------
 
@@ -38,10 +38,10 @@ look_up_a xid = calls xid 4 (of_file 2 ++ 1 ∷ 0x61000000 ∷ [])
 abbrev with_a : (id seconds : ℕ) → Inode → Inodes
 with_a id seconds inode = insert (insert empty 2 (the_root 2 seconds seconds (entry id (codes "a") id ∷ []))) id inode
 
-a_created : procedure new_tree 3 (at 1) nobody (create (Some 2) (codes "a") unset) ≡ (with_a 3 1 (a_file 1 1 1 1 []), found 3 (attributes_of 3 (a_file 1 1 1 1 [])))
+a_created : procedure new_tree (under 3 (at 1)) (create (Some 2) (codes "a") unset) ≡ (with_a 3 1 (a_file 1 1 1 1 []), found 3 (attributes_of 3 (a_file 1 1 1 1 [])))
 a_created = simp inode_gets (same (simp inode_entries) refl)
 
-a_told : procedure (with_a 3 1 (a_file 1 1 1 1 [])) 4 (at 1) nobody (get_attributes (Some 3)) ≡ (with_a 3 1 (a_file 1 1 1 1 []), attributes (attributes_of 3 (a_file 1 1 1 1 [])))
+a_told : procedure (with_a 3 1 (a_file 1 1 1 1 [])) (under 4 (at 1)) (get_attributes (Some 3)) ≡ (with_a 3 1 (a_file 1 1 1 1 []), attributes (attributes_of 3 (a_file 1 1 1 1 [])))
 a_told = simp inode_gets
 
 created_and_told : execute new_file_system (record { time = at 1; requests = create_a 1 ∷ get_attributes_of 2 3 ∷ [] })
@@ -54,10 +54,10 @@ created_and_told = executed new_file_system _ (next refl refl a_created (next re
 
 -- A fileid that leads nowhere does not keep the next call from making its file -----------------------------------------
 
-nothing_told : procedure new_tree 3 (at 1) nobody (get_attributes (Some 4)) ≡ (new_tree, refused stale)
+nothing_told : procedure new_tree (under 3 (at 1)) (get_attributes (Some 4)) ≡ (new_tree, refused stale)
 nothing_told = simp inode_gets
 
-a_created_second : procedure new_tree 4 (at 1) nobody (create (Some 2) (codes "a") unset) ≡ (with_a 4 1 (a_file 1 1 1 1 []), found 4 (attributes_of 4 (a_file 1 1 1 1 [])))
+a_created_second : procedure new_tree (under 4 (at 1)) (create (Some 2) (codes "a") unset) ≡ (with_a 4 1 (a_file 1 1 1 1 []), found 4 (attributes_of 4 (a_file 1 1 1 1 [])))
 a_created_second = simp inode_gets (same (simp inode_entries) refl)
 
 asked_for_and_then_created : execute new_file_system (record { time = at 1; requests = get_attributes_of 1 4 ∷ create_a 2 ∷ [] })
@@ -70,7 +70,7 @@ asked_for_and_then_created = executed new_file_system _ (next refl refl nothing_
 
 -- What is written is read ----------------------------------------------------------------------------------------------
 
-old_written : procedure (with_a 3 1 (a_file 1 1 1 1 [])) 4 (at 1) nobody (write (Some 3) 0 (codes "old"))
+old_written : procedure (with_a 3 1 (a_file 1 1 1 1 [])) (under 4 (at 1)) (write (Some 3) 0 (codes "old"))
     ≡ (with_a 3 1 (a_file 1 1 1 1 (codes "old")), attributes (attributes_of 3 (a_file 1 1 1 1 (codes "old"))))
 old_written = simp inode_gets (same (simp inode_entries) refl)
 
@@ -82,15 +82,15 @@ created_and_written : execute new_file_system (record { time = at 1; requests = 
 unfolding call_of header_of opaque_auth_at credential_of opaque_at fixed_at bytes_at word_at word handle arguments_of fields_at named_with_settings_at settings_at write_at handle_at handle_id success results
 created_and_written = executed new_file_system _ (next refl refl a_created (next refl refl old_written (ends _ _ _)))
 
-old_read : procedure (with_a 3 1 (a_file 1 1 1 1 (codes "old"))) 5 (at 2) nobody (read (Some 3) 0 8)
+old_read : procedure (with_a 3 1 (a_file 1 1 1 1 (codes "old"))) (under 5 (at 2)) (read (Some 3) 0 8)
     ≡ (with_a 3 1 (a_file 1 1 1 1 (codes "old")), contents (attributes_of 3 (a_file 1 1 1 1 (codes "old"))) (codes "old"))
 old_read = simp inode_gets
 
-new_written : procedure (with_a 3 1 (a_file 1 1 1 1 (codes "old"))) 6 (at 2) nobody (write (Some 3) 0 (codes "new"))
+new_written : procedure (with_a 3 1 (a_file 1 1 1 1 (codes "old"))) (under 6 (at 2)) (write (Some 3) 0 (codes "new"))
     ≡ (with_a 3 1 (a_file 1 1 2 2 (codes "new")), attributes (attributes_of 3 (a_file 1 1 2 2 (codes "new"))))
 new_written = simp inode_gets (same (simp inode_entries) refl)
 
-new_read : procedure (with_a 3 1 (a_file 1 1 2 2 (codes "new"))) 7 (at 2) nobody (read (Some 3) 0 8)
+new_read : procedure (with_a 3 1 (a_file 1 1 2 2 (codes "new"))) (under 7 (at 2)) (read (Some 3) 0 8)
     ≡ (with_a 3 1 (a_file 1 1 2 2 (codes "new")), contents (attributes_of 3 (a_file 1 1 2 2 (codes "new"))) (codes "new"))
 new_read = simp inode_gets
 
@@ -112,14 +112,14 @@ a_made : execute new_file_system (record { time = at 1; requests = create_a 1 �
 unfolding call_of header_of opaque_auth_at credential_of opaque_at fixed_at bytes_at word_at word handle arguments_of fields_at named_with_settings_at settings_at handle_at handle_id success results
 a_made = executed new_file_system _ (next refl refl a_created (ends _ _ _))
 
-a_removed : procedure (with_a 3 1 (a_file 1 1 1 1 [])) 4 (at 2) nobody (remove (Some 2) (codes "a")) ≡ (insert empty 2 (the_root 2 2 2 []), done)
+a_removed : procedure (with_a 3 1 (a_file 1 1 1 1 [])) (under 4 (at 2)) (remove (Some 2) (codes "a")) ≡ (insert empty 2 (the_root 2 2 2 []), done)
 unfolding link_lost
 a_removed = simp inode_gets (same (simp inode_entries) refl)
 
-a_created_again : procedure (insert empty 2 (the_root 2 2 2 [])) 5 (at 2) nobody (create (Some 2) (codes "a") unset) ≡ (with_a 5 2 (a_file 1 2 2 2 []), found 5 (attributes_of 5 (a_file 1 2 2 2 [])))
+a_created_again : procedure (insert empty 2 (the_root 2 2 2 [])) (under 5 (at 2)) (create (Some 2) (codes "a") unset) ≡ (with_a 5 2 (a_file 1 2 2 2 []), found 5 (attributes_of 5 (a_file 1 2 2 2 [])))
 a_created_again = simp inode_gets (same (simp inode_entries) refl)
 
-a_found : procedure (with_a 5 2 (a_file 1 2 2 2 [])) 6 (at 2) nobody (look_up (Some 2) (codes "a")) ≡ (with_a 5 2 (a_file 1 2 2 2 []), found 5 (attributes_of 5 (a_file 1 2 2 2 [])))
+a_found : procedure (with_a 5 2 (a_file 1 2 2 2 [])) (under 6 (at 2)) (look_up (Some 2) (codes "a")) ≡ (with_a 5 2 (a_file 1 2 2 2 []), found 5 (attributes_of 5 (a_file 1 2 2 2 [])))
 a_found = simp inode_gets
 
 removed_and_created_again : execute (record { tree = with_a 3 1 (a_file 1 1 1 1 []); next_ordinal = 4; last_time = at 1 }) (record { time = at 2; requests = remove_a 1 ∷ create_a 2 ∷ look_up_a 3 ∷ [] })
@@ -142,7 +142,7 @@ caller = record { uid = 1000; gid = 100 }
 abbrev callers_file : Inode
 callers_file = record (a_file 1 1 1 1 []) { uid = 1000; gid = 100 }
 
-callers_file_made : procedure new_tree 3 (at 1) caller (create (Some 2) (codes "a") unset) ≡ (with_a 3 1 callers_file, found 3 (attributes_of 3 callers_file))
+callers_file_made : procedure new_tree (record { ordinal = 3; time = at 1; caller = caller }) (create (Some 2) (codes "a") unset) ≡ (with_a 3 1 callers_file, found 3 (attributes_of 3 callers_file))
 callers_file_made = simp inode_gets (same (simp inode_entries) refl)
 
 -- CREATE with a credential of AUTH_SYS: a stamp, a machine of no name, uid, gid, and two further gids

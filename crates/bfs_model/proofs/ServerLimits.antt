@@ -3,7 +3,7 @@ use Rattle.std.proofs.Common.{◌≡◌, ℕ, zero, suc, ◌+◌, ◌-◌, true,
 use Rattle.std.proofs.lemmas.List.{length-append, length-replicate}
 use Rattle.bfs_model.specs.Items.{word, word_at, bytes_at, fixed_at, opaque_at, fixed, counted}
 use Rattle.bfs_model.specs.Tree.{Inode, Inodes, new_tree, new_file_system}
-use Rattle.bfs_model.specs.Call.{nobody, call_of, header_of, opaque_auth_at, credential_of}
+use Rattle.bfs_model.specs.Call.{call_of, header_of, opaque_auth_at, credential_of}
 use Rattle.bfs_model.specs.Arguments.{create, get_attributes, read, write, handle, handle_id, handle_at, file_at, read_at, write_at, settings_at, named_with_settings_at, fields_at, arguments_of}
 use Rattle.bfs_model.specs.Replies.{found, attributes, contents, refused, nospc, fbig, results, success}
 use Rattle.bfs_model.specs.Attributes.{Attributes, attributes_of}
@@ -12,20 +12,20 @@ use Rattle.bfs_model.specs.Bytes.{overwritten}
 use Rattle.bfs_model.specs.Procedures.{procedure}
 use Rattle.bfs_model.specs.Serial.{execute}
 use Rattle.bfs_model.proofs.Maps.{inode_gets, inode_entries, same}
-use Rattle.bfs_model.proofs.Runs.{calls, of_file, names_unset, writes, unset, succeeds, told, at, a_file, the_root, entry, holding, ends, next, executed}
+use Rattle.bfs_model.proofs.Runs.{under, calls, of_file, names_unset, writes, unset, succeeds, told, at, a_file, the_root, entry, holding, ends, next, executed}
 
 -- The last ordinal ---------------------------------------------------------------------------------------------------------
 
 abbrev with_last : Inodes
 with_last = holding ((2, the_root 2 7 7 (entry 4294967295 (codes "a") 4294967295 ∷ [])) ∷ (4294967295, a_file 1 7 7 7 []) ∷ [])
 
-last_made : procedure new_tree 4294967295 (at 7) nobody (create (Some 2) (codes "a") unset) ≡ (with_last, found 4294967295 (attributes_of 4294967295 (a_file 1 7 7 7 [])))
+last_made : procedure new_tree (under 4294967295 (at 7)) (create (Some 2) (codes "a") unset) ≡ (with_last, found 4294967295 (attributes_of 4294967295 (a_file 1 7 7 7 [])))
 last_made = simp inode_gets (same (simp inode_entries) refl)
 
-none_made : procedure with_last 4294967296 (at 7) nobody (create (Some 2) (codes "b") unset) ≡ (with_last, refused nospc)
+none_made : procedure with_last (under 4294967296 (at 7)) (create (Some 2) (codes "b") unset) ≡ (with_last, refused nospc)
 none_made = simp inode_gets
 
-root_told : procedure with_last 4294967296 (at 7) nobody (get_attributes (Some 2)) ≡ (with_last, attributes (attributes_of 2 (the_root 2 7 7 (entry 4294967295 (codes "a") 4294967295 ∷ []))))
+root_told : procedure with_last (under 4294967296 (at 7)) (get_attributes (Some 2)) ≡ (with_last, attributes (attributes_of 2 (the_root 2 7 7 (entry 4294967295 (codes "a") 4294967295 ∷ []))))
 root_told = simp inode_gets
 
 ordinals_spent : execute (record new_file_system { next_ordinal = 4294967295 }) (record { time = at 7; requests = names_unset 1 9 2 0x61000000 ∷ names_unset 2 9 2 0x62000000 ∷ calls 3 1 (of_file 2) ∷ [] })
@@ -37,12 +37,12 @@ unfolding call_of header_of opaque_auth_at credential_of opaque_at fixed_at byte
 ordinals_spent = executed _ _ (next refl refl last_made (next refl refl none_made (next refl refl root_told (ends _ _ _))))
 
 -- no call makes a file at a spent ordinal
-not_made_at_spent_ordinal : procedure new_tree 4294967296 (at 1) nobody (create (Some 2) (codes "a") unset) ≡ (new_tree, refused nospc)
+not_made_at_spent_ordinal : procedure new_tree (under 4294967296 (at 1)) (create (Some 2) (codes "a") unset) ≡ (new_tree, refused nospc)
 not_made_at_spent_ordinal = simp inode_gets
 
 -- The longest file -----------------------------------------------------------------------------------------------------------
 
-not_made_so_long : (size : ℕ) → size ≡ 1048577 → procedure new_tree 3 (at 1) nobody (create (Some 2) (codes "a") (record unset { size = Some size })) ≡ (new_tree, refused fbig)
+not_made_so_long : (size : ℕ) → size ≡ 1048577 → procedure new_tree (under 3 (at 1)) (create (Some 2) (codes "a") (record unset { size = Some size })) ≡ (new_tree, refused fbig)
 not_made_so_long size is = let past : nat_lt most_file_bytes size ≡ true = rw is refl in simp (inode_gets, past)
 
 -- so many zeros and an `a`
@@ -73,10 +73,10 @@ a_written_at n = let whole : n - 0 ≡ n = omega arith in simp (whole, take_all,
 abbrev with_a : Inode → Inodes
 with_a inode = holding ((2, the_root 2 1 1 (entry 3 (codes "a") 3 ∷ [])) ∷ (3, inode) ∷ [])
 
-a_made : procedure new_tree 3 (at 1) nobody (create (Some 2) (codes "a") unset) ≡ (with_a (a_file 1 1 1 1 []), found 3 (attributes_of 3 (a_file 1 1 1 1 [])))
+a_made : procedure new_tree (under 3 (at 1)) (create (Some 2) (codes "a") unset) ≡ (with_a (a_file 1 1 1 1 []), found 3 (attributes_of 3 (a_file 1 1 1 1 [])))
 a_made = simp inode_gets (same (simp inode_entries) refl)
 
-too_long : (offset : ℕ) → offset ≡ 1048575 → procedure (with_a (a_file 1 1 1 1 [])) 4 (at 2) nobody (write (Some 3) offset (codes "aa")) ≡ (with_a (a_file 1 1 1 1 []), refused fbig)
+too_long : (offset : ℕ) → offset ≡ 1048575 → procedure (with_a (a_file 1 1 1 1 [])) (under 4 (at 2)) (write (Some 3) offset (codes "aa")) ≡ (with_a (a_file 1 1 1 1 []), refused fbig)
 too_long offset is = let past : nat_lt most_file_bytes (offset + 2) ≡ true = rw is refl in simp (inode_gets, past)
 
 -- the attributes of the longest file
@@ -86,12 +86,12 @@ of_longest = record (attributes_of 3 (a_file 1 1 2 2 [])) { size = 1048576 }
 longest_told : (n : ℕ) → n ≡ 1048575 → attributes_of 3 (a_file 1 1 2 2 (zeros_and_a n)) ≡ of_longest
 longest_told n is = rw (length-zeros_and_a n, is) refl
 
-long_enough : (offset : ℕ) → offset ≡ 1048575 → procedure (with_a (a_file 1 1 1 1 [])) 5 (at 2) nobody (write (Some 3) offset (codes "a")) ≡ (with_a (a_file 1 1 2 2 (zeros_and_a offset)), attributes of_longest)
+long_enough : (offset : ℕ) → offset ≡ 1048575 → procedure (with_a (a_file 1 1 1 1 [])) (under 5 (at 2)) (write (Some 3) offset (codes "a")) ≡ (with_a (a_file 1 1 2 2 (zeros_and_a offset)), attributes of_longest)
 long_enough offset is =
     let fits : nat_lt most_file_bytes (offset + 1) ≡ false = rw is refl in
     simp (inode_gets, fits, a_written_at) (same (simp inode_entries) (ap attributes (longest_told offset is)))
 
-end_read : (n : ℕ) → suc n ≡ 1048575 → procedure (with_a (a_file 1 1 2 2 (zeros_and_a (suc n)))) 6 (at 2) nobody (read (Some 3) n 8) ≡ (with_a (a_file 1 1 2 2 (zeros_and_a (suc n))), contents of_longest (0 ∷ 0x61 ∷ []))
+end_read : (n : ℕ) → suc n ≡ 1048575 → procedure (with_a (a_file 1 1 2 2 (zeros_and_a (suc n)))) (under 6 (at 2)) (read (Some 3) n 8) ≡ (with_a (a_file 1 1 2 2 (zeros_and_a (suc n))), contents of_longest (0 ∷ 0x61 ∷ []))
 end_read n is = simp (inode_gets, drop-zeros_and_a, longest_told (suc n) is)
 
 file_of_the_limit : execute (record { tree = with_a (a_file 1 1 1 1 []); next_ordinal = 4; last_time = at 1 }) (record { time = at 2; requests = writes 1 3 1048575 2 0x61610000 ∷ writes 2 3 1048575 1 0x61000000 ∷ calls 3 6 (of_file 3 ++ 1048574 ∷ 8 ∷ 0 ∷ []) ∷ [] })

@@ -2,7 +2,7 @@
 use Rattle.std.proofs.Common.{◌≡◌, List, [], ◌∷◌, ◌++◌, Some, refl, codes}
 use Rattle.bfs_model.specs.Items.{word, word_at, bytes_at, fixed_at, opaque_at}
 use Rattle.bfs_model.specs.Tree.{Entry, Inode, Inodes, new_tree, new_file_system}
-use Rattle.bfs_model.specs.Call.{nobody, call_of, header_of, opaque_auth_at, credential_of}
+use Rattle.bfs_model.specs.Call.{call_of, header_of, opaque_auth_at, credential_of}
 use Rattle.bfs_model.specs.Arguments.{create, look_up, rename, make_directory, remove_directory, handle, handle_id, handle_at, named_at, rename_at, settings_at, named_with_settings_at, fields_at, arguments_of}
 use Rattle.bfs_model.specs.Replies.{found, done, refused, notempty, results, success}
 use Rattle.bfs_model.specs.Attributes.{attributes_of}
@@ -11,7 +11,7 @@ use Rattle.bfs_model.specs.Procedures.{procedure}
 use Rattle.bfs_model.specs.Procedures.Renaming.{is_within}
 use Rattle.bfs_model.specs.Serial.{execute}
 use Rattle.bfs_model.proofs.Maps.{inode_gets, inode_entries, same}
-use Rattle.bfs_model.proofs.Runs.{calls, of_file, names, names_unset, renames, unset, succeeds, told, at, a_file, a_directory, the_root, entry, holding, ends, next, executed}
+use Rattle.bfs_model.proofs.Runs.{under, calls, of_file, names, names_unset, renames, unset, succeeds, told, at, a_file, a_directory, the_root, entry, holding, ends, next, executed}
 
 -- Two directories, and a file in the first -----------------------------------------------------------------------------------
 
@@ -24,15 +24,15 @@ empty_directory = a_directory 2 1 1 1 2 []
 abbrev beginning : Inodes
 beginning = holding ((2, the_root 4 1 1 d_e) ∷ (3, a_directory 2 1 1 1 2 (entry 5 (codes "f") 5 ∷ [])) ∷ (4, empty_directory) ∷ (5, a_file 1 1 1 1 []) ∷ [])
 
-d_made : procedure new_tree 3 (at 1) nobody (make_directory (Some 2) (codes "d") unset)
+d_made : procedure new_tree (under 3 (at 1)) (make_directory (Some 2) (codes "d") unset)
     ≡ (holding ((2, the_root 3 1 1 (entry 3 (codes "d") 3 ∷ [])) ∷ (3, empty_directory) ∷ []), found 3 (attributes_of 3 empty_directory))
 d_made = simp inode_gets (same (simp inode_entries) refl)
 
-e_made : procedure (holding ((2, the_root 3 1 1 (entry 3 (codes "d") 3 ∷ [])) ∷ (3, empty_directory) ∷ [])) 4 (at 1) nobody (make_directory (Some 2) (codes "e") unset)
+e_made : procedure (holding ((2, the_root 3 1 1 (entry 3 (codes "d") 3 ∷ [])) ∷ (3, empty_directory) ∷ [])) (under 4 (at 1)) (make_directory (Some 2) (codes "e") unset)
     ≡ (holding ((2, the_root 4 1 1 d_e) ∷ (3, empty_directory) ∷ (4, empty_directory) ∷ []), found 4 (attributes_of 4 empty_directory))
 e_made = simp inode_gets (same (simp inode_entries) refl)
 
-f_made : procedure (holding ((2, the_root 4 1 1 d_e) ∷ (3, empty_directory) ∷ (4, empty_directory) ∷ [])) 5 (at 1) nobody (create (Some 3) (codes "f") unset)
+f_made : procedure (holding ((2, the_root 4 1 1 d_e) ∷ (3, empty_directory) ∷ (4, empty_directory) ∷ [])) (under 5 (at 1)) (create (Some 3) (codes "f") unset)
     ≡ (beginning, found 5 (attributes_of 5 (a_file 1 1 1 1 [])))
 f_made = simp inode_gets (same (simp inode_entries) refl)
 
@@ -67,28 +67,28 @@ f_as_g = holding ((2, the_root 3 2 2 (entry 4 (codes "e") 4 ∷ entry 10 (codes 
 abbrev x_gone : Inodes
 x_gone = holding ((2, the_root 3 2 2 (entry 4 (codes "e") 4 ∷ entry 10 (codes "g") 5 ∷ [])) ∷ (4, a_directory 2 1 2 2 2 []) ∷ (5, a_file 1 1 1 2 []) ∷ [])
 
-d_moved : procedure beginning 6 (at 2) nobody (rename (Some 2) (codes "d") (Some 4) (codes "x")) ≡ (moved, done)
+d_moved : procedure beginning (under 6 (at 2)) (rename (Some 2) (codes "d") (Some 4) (codes "x")) ≡ (moved, done)
 unfolding is_within changed
 d_moved = simp inode_gets (same (simp inode_entries) refl)
 
-above_found : procedure moved 7 (at 2) nobody (look_up (Some 3) (codes "..")) ≡ (moved, found 4 (attributes_of 4 e_with_x))
+above_found : procedure moved (under 7 (at 2)) (look_up (Some 3) (codes "..")) ≡ (moved, found 4 (attributes_of 4 e_with_x))
 above_found = simp inode_gets
 
-not_empty : procedure moved 8 (at 2) nobody (remove_directory (Some 4) (codes "x")) ≡ (moved, refused notempty)
+not_empty : procedure moved (under 8 (at 2)) (remove_directory (Some 4) (codes "x")) ≡ (moved, refused notempty)
 not_empty = simp inode_gets
 
-g_made : procedure moved 9 (at 2) nobody (create (Some 2) (codes "g") unset) ≡ (moved_and_g, found 9 (attributes_of 9 (a_file 1 2 2 2 [])))
+g_made : procedure moved (under 9 (at 2)) (create (Some 2) (codes "g") unset) ≡ (moved_and_g, found 9 (attributes_of 9 (a_file 1 2 2 2 [])))
 g_made = simp inode_gets (same (simp inode_entries) refl)
 
-g_replaced : procedure moved_and_g 10 (at 2) nobody (rename (Some 3) (codes "f") (Some 2) (codes "g")) ≡ (f_as_g, done)
+g_replaced : procedure moved_and_g (under 10 (at 2)) (rename (Some 3) (codes "f") (Some 2) (codes "g")) ≡ (f_as_g, done)
 unfolding is_within changed link_lost
 g_replaced = simp inode_gets (same (simp inode_entries) refl)
 
-x_removed : procedure f_as_g 11 (at 2) nobody (remove_directory (Some 4) (codes "x")) ≡ (x_gone, done)
+x_removed : procedure f_as_g (under 11 (at 2)) (remove_directory (Some 4) (codes "x")) ≡ (x_gone, done)
 unfolding changed
 x_removed = simp inode_gets (same (simp inode_entries) refl)
 
-g_found : procedure x_gone 12 (at 2) nobody (look_up (Some 2) (codes "g")) ≡ (x_gone, found 5 (attributes_of 5 (a_file 1 1 1 2 [])))
+g_found : procedure x_gone (under 12 (at 2)) (look_up (Some 2) (codes "g")) ≡ (x_gone, found 5 (attributes_of 5 (a_file 1 1 1 2 [])))
 g_found = simp inode_gets
 
 moved_replaced_and_removed : execute (record { tree = beginning; next_ordinal = 6; last_time = at 1 }) (record {

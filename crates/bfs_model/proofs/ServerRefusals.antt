@@ -2,7 +2,7 @@
 use Rattle.std.proofs.Common.{◌≡◌, [], ◌∷◌, ◌++◌, Some, refl, codes}
 use Rattle.bfs_model.specs.Items.{word, word_at, bytes_at, fixed_at, opaque_at}
 use Rattle.bfs_model.specs.Tree.{Inodes}
-use Rattle.bfs_model.specs.Call.{nobody, call_of, header_of, opaque_auth_at, credential_of}
+use Rattle.bfs_model.specs.Call.{call_of, header_of, opaque_auth_at, credential_of}
 use Rattle.bfs_model.specs.Arguments.{create, look_up, read, read_link, rename, handle, handle_id, handle_at, file_at, named_at, read_at, rename_at, settings_at, named_with_settings_at, fields_at, arguments_of}
 use Rattle.bfs_model.specs.Replies.{found, done, refused, exist, notdir, isdir, noent, perm, results, success}
 use Rattle.bfs_model.specs.Attributes.{attributes_of}
@@ -11,35 +11,35 @@ use Rattle.bfs_model.specs.Procedures.{procedure}
 use Rattle.bfs_model.specs.Procedures.Renaming.{is_within}
 use Rattle.bfs_model.specs.Serial.{execute}
 use Rattle.bfs_model.proofs.Maps.{inode_gets, inode_entries, same}
-use Rattle.bfs_model.proofs.Runs.{calls, of_file, names, names_unset, renames, unset, succeeds, told, at, a_file, a_directory, the_root, entry, holding, ends, next, executed}
+use Rattle.bfs_model.proofs.Runs.{under, calls, of_file, names, names_unset, renames, unset, succeeds, told, at, a_file, a_directory, the_root, entry, holding, ends, next, executed}
 
 -- a file `a`, and a directory `d` that holds an empty directory `e`
 abbrev before : Inodes
 before = holding ((2, the_root 3 1 1 (entry 3 (codes "a") 3 ∷ entry 4 (codes "d") 4 ∷ [])) ∷ (3, a_file 1 1 1 1 []) ∷ (4, a_directory 3 1 1 1 2 (entry 5 (codes "e") 5 ∷ [])) ∷ (5, a_directory 2 1 1 1 4 []) ∷ [])
 
-there_already : procedure before 6 (at 2) nobody (create (Some 2) (codes "a") unset) ≡ (before, refused exist)
+there_already : procedure before (under 6 (at 2)) (create (Some 2) (codes "a") unset) ≡ (before, refused exist)
 there_already = simp inode_gets
 
-no_directory : procedure before 7 (at 2) nobody (create (Some 3) (codes "b") unset) ≡ (before, refused notdir)
+no_directory : procedure before (under 7 (at 2)) (create (Some 3) (codes "b") unset) ≡ (before, refused notdir)
 no_directory = simp inode_gets
 
-no_file : procedure before 8 (at 2) nobody (read (Some 4) 0 8) ≡ (before, refused isdir)
+no_file : procedure before (under 8 (at 2)) (read (Some 4) 0 8) ≡ (before, refused isdir)
 no_file = simp inode_gets
 
-no_link : procedure before 9 (at 2) nobody (read_link (Some 3)) ≡ (before, refused perm)
+no_link : procedure before (under 9 (at 2)) (read_link (Some 3)) ≡ (before, refused perm)
 no_link = simp inode_gets
 
-no_such_name : procedure before 10 (at 2) nobody (look_up (Some 2) (codes "b")) ≡ (before, refused noent)
+no_such_name : procedure before (under 10 (at 2)) (look_up (Some 2) (codes "b")) ≡ (before, refused noent)
 no_such_name = simp inode_gets
 
-directory_itself : procedure before 11 (at 2) nobody (look_up (Some 4) (codes ".")) ≡ (before, found 4 (attributes_of 4 (a_directory 3 1 1 1 2 (entry 5 (codes "e") 5 ∷ []))))
+directory_itself : procedure before (under 11 (at 2)) (look_up (Some 4) (codes ".")) ≡ (before, found 4 (attributes_of 4 (a_directory 3 1 1 1 2 (entry 5 (codes "e") 5 ∷ []))))
 directory_itself = simp inode_gets
 
 -- a directory beside an empty one, whose place it takes
 abbrev beside : Inodes
 beside = holding ((2, the_root 4 1 1 (entry 3 (codes "d") 3 ∷ entry 4 (codes "e") 4 ∷ [])) ∷ (3, a_directory 2 1 1 1 2 []) ∷ (4, a_directory 2 1 1 1 2 []) ∷ [])
 
-directory_replaced : procedure beside 6 (at 2) nobody (rename (Some 2) (codes "d") (Some 2) (codes "e"))
+directory_replaced : procedure beside (under 6 (at 2)) (rename (Some 2) (codes "d") (Some 2) (codes "e"))
     ≡ (holding ((2, the_root 3 2 2 (entry 6 (codes "e") 3 ∷ [])) ∷ (3, a_directory 2 1 1 2 2 []) ∷ []), done)
 unfolding is_within changed
 directory_replaced = simp inode_gets (same (simp inode_entries) refl)
@@ -48,7 +48,7 @@ directory_replaced = simp inode_gets (same (simp inode_entries) refl)
 abbrev renamed : Inodes
 renamed = holding ((2, the_root 3 2 2 (entry 4 (codes "d") 4 ∷ entry 12 (codes "b") 3 ∷ [])) ∷ (3, a_file 1 1 1 2 []) ∷ (4, a_directory 3 1 1 1 2 (entry 5 (codes "e") 5 ∷ [])) ∷ (5, a_directory 2 1 1 1 4 []) ∷ [])
 
-a_renamed : procedure before 12 (at 2) nobody (rename (Some 2) (codes "a") (Some 2) (codes "b")) ≡ (renamed, done)
+a_renamed : procedure before (under 12 (at 2)) (rename (Some 2) (codes "a") (Some 2) (codes "b")) ≡ (renamed, done)
 unfolding is_within changed
 a_renamed = simp inode_gets (same (simp inode_entries) refl)
 

@@ -2,14 +2,14 @@
 use Rattle.std.proofs.Common.{◌≡◌, ℕ, List, [], ◌∷◌, ◌++◌, Some, refl, codes}
 use Rattle.bfs_model.specs.Items.{word, word_at, bytes_at, fixed_at, opaque_at, fixed, counted}
 use Rattle.bfs_model.specs.Tree.{Time, Inode, Inodes, file, new_tree, new_file_system}
-use Rattle.bfs_model.specs.Call.{nobody, call_of, header_of, opaque_auth_at, credential_of}
+use Rattle.bfs_model.specs.Call.{call_of, header_of, opaque_auth_at, credential_of}
 use Rattle.bfs_model.specs.Arguments.{Settings, create, set_attributes, read, handle, handle_id, handle_at, set_attributes_at, read_at, settings_at, named_with_settings_at, fields_at, arguments_of}
 use Rattle.bfs_model.specs.Replies.{found, attributes, contents, refused, isdir, results, success}
 use Rattle.bfs_model.specs.Attributes.{attributes_of}
 use Rattle.bfs_model.specs.Procedures.{procedure}
 use Rattle.bfs_model.specs.Serial.{execute}
 use Rattle.bfs_model.proofs.Maps.{inode_gets, inode_entries, same}
-use Rattle.bfs_model.proofs.Runs.{calls, of_file, unset, succeeds, at, the_root, entry, holding, ends, next, executed}
+use Rattle.bfs_model.proofs.Runs.{under, calls, of_file, unset, succeeds, at, the_root, entry, holding, ends, next, executed}
 
 -- mode 0100600, owner 7:8, five bytes, atime 100.000005, and as mtime the time of the batch
 abbrev all_set : Settings
@@ -39,19 +39,19 @@ size_set size = record unset { size = Some size }
 abbrev mode_size_and_mtime_set : Settings
 mode_size_and_mtime_set = record unset { mode = Some 0x41ff; size = Some 4; mtime = Some (at 50) }
 
-made_as_set : procedure new_tree 3 (at 9) nobody (create (Some 2) (codes "a") all_set) ≡ (with_a of_five, found 3 (attributes_of 3 of_five))
+made_as_set : procedure new_tree (under 3 (at 9)) (create (Some 2) (codes "a") all_set) ≡ (with_a of_five, found 3 (attributes_of 3 of_five))
 made_as_set = simp inode_gets (same (simp inode_entries) refl)
 
-cut : procedure (with_a of_five) 4 (at 10) nobody (set_attributes (Some 3) (size_set 2)) ≡ (with_a of_two, attributes (attributes_of 3 of_two))
+cut : procedure (with_a of_five) (under 4 (at 10)) (set_attributes (Some 3) (size_set 2)) ≡ (with_a of_two, attributes (attributes_of 3 of_two))
 cut = simp inode_gets (same (simp inode_entries) refl)
 
-set_again : procedure (with_a of_two) 5 (at 10) nobody (set_attributes (Some 3) mode_size_and_mtime_set) ≡ (with_a of_four, attributes (attributes_of 3 of_four))
+set_again : procedure (with_a of_two) (under 5 (at 10)) (set_attributes (Some 3) mode_size_and_mtime_set) ≡ (with_a of_four, attributes (attributes_of 3 of_four))
 set_again = simp inode_gets (same (simp inode_entries) refl)
 
-directory_not_cut : procedure (with_a of_four) 6 (at 10) nobody (set_attributes (Some 2) (size_set 0)) ≡ (with_a of_four, refused isdir)
+directory_not_cut : procedure (with_a of_four) (under 6 (at 10)) (set_attributes (Some 2) (size_set 0)) ≡ (with_a of_four, refused isdir)
 directory_not_cut = simp inode_gets
 
-filled_read : procedure (with_a of_four) 7 (at 10) nobody (read (Some 3) 1 8) ≡ (with_a of_four, contents (attributes_of 3 of_four) (0 ∷ 0 ∷ 0 ∷ []))
+filled_read : procedure (with_a of_four) (under 7 (at 10)) (read (Some 3) 1 8) ≡ (with_a of_four, contents (attributes_of 3 of_four) (0 ∷ 0 ∷ 0 ∷ []))
 filled_read = simp inode_gets
 
 -- the word that says "not set"

@@ -1,58 +1,56 @@
 -- Calls that leave the inodes as they are: those that are refused, and those that only read.
-use Rattle.std.proofs.Common.{◌≡◌, refl}
+use Rattle.std.proofs.Common.{◌≡◌, IsTrue, refl}
 use Rattle.bfs_model.specs.Tree.{Inodes}
-use Rattle.bfs_model.specs.Arguments.{null, get_attributes, set_attributes, root, look_up, read_link, read, write_cache, write, create, remove, rename, make_link, make_symbolic_link, make_directory, remove_directory, read_directory, file_system_status}
+use Rattle.bfs_model.specs.Context.{Context}
+use Rattle.bfs_model.specs.Arguments.{Call, null, get_attributes, set_attributes, root, look_up, read_link, read, write_cache, write, create, remove, rename, make_link, make_symbolic_link, make_directory, remove_directory, read_directory, file_system_status}
 use Rattle.bfs_model.specs.Replies.{Status, refused}
-use Rattle.bfs_model.specs.Steps.{Outcome}
-use Rattle.bfs_model.specs.ProcedureLaws.{ARefusedCallChangesNothing, ReadingChangesNothing}
-use Rattle.bfs_model.proofs.ProcedureOutcomes.{attributes_got_holds, attributes_set_holds, looked_up_holds, file_read_holds, file_written_holds, file_created_holds, file_removed_holds, directory_made_holds, directory_removed_holds, directory_read_holds, link_read_holds, link_made_holds, symbolic_link_made_holds, status_got_holds, entry_renamed_holds}
+use Rattle.bfs_model.specs.Refusals.{Outcome}
+use Rattle.bfs_model.specs.ProcedureLaws.{only_reads, ARefusedCallChangesNothing, ReadingChangesNothing}
+use Rattle.bfs_model.proofs.Attempts.{IfItIsDone, IfChanged, procedure_holds, kept}
 
 -- Refused ------------------------------------------------------------------------------------------------------------------
 
-abbrev IsKeptIfRefused : Inodes → Status → Outcome → Type 0
-IsKeptIfRefused m status outcome = outcome.1 ≡ refused status → outcome.0 ≡ m
+module _ (m : Inodes) (c : Context) (status : Status) where
+  abbrev IsKeptIfRefused : Outcome → Type 0
+  IsKeptIfRefused outcome = outcome.1 ≡ refused status → outcome.0 ≡ m
+
+  -- what is done leaves the inodes, or has another reply
+  kept_or_done : (call : Call) → IfItIsDone m c IsKeptIfRefused call
+  kept_or_done null = λ is. refl
+  kept_or_done (get_attributes handle) = λ x found is. refl
+  kept_or_done (set_attributes handle settings) = λ x allowed found passed is. absurd cc
+  kept_or_done root = λ is. refl
+  kept_or_done (look_up handle name) = λ x there is. refl
+  kept_or_done (read_link handle) = λ x target found holds is. refl
+  kept_or_done (read handle offset count) = λ x found is. refl
+  kept_or_done write_cache = λ is. refl
+  kept_or_done (write handle offset written) = λ x small found passed is. absurd cc
+  kept_or_done (create handle name settings) = λ dir allowed found passed is. absurd cc
+  kept_or_done (remove handle name) = λ dir entry child plain at passed is. absurd cc
+  kept_or_done (rename from from_name to to_name) = λ a b entry moved at. (λ is. refl, λ replaced allowed onto passed is. absurd cc)
+  kept_or_done (make_link handle in_directory name) = λ x plain dir allowed found no_directory dir_is passed is. absurd cc
+  kept_or_done (make_symbolic_link handle name target settings) = λ dir allowed found passed is. absurd cc
+  kept_or_done (make_directory handle name settings) = λ dir allowed found passed is. absurd cc
+  kept_or_done (remove_directory handle name) = λ dir entry child empty at passed is. absurd cc
+  kept_or_done (read_directory handle cookie count) = λ dir found is. refl
+  kept_or_done (file_system_status handle) = λ x found is. refl
 
 pub refused_keeps : ARefusedCallChangesNothing
-refused_keeps m o now caller null status is = refl
-refused_keeps m o now caller (get_attributes file) status is = attributes_got_holds (IsKeptIfRefused m status) m (λ _ _. refl) file (λ id inode leads there _. refl) is
-refused_keeps m o now caller (set_attributes file settings) status is = attributes_set_holds (IsKeptIfRefused m status) m (λ _ _. refl) now file settings (λ id inode leads there allowed is. absurd cc) is
-refused_keeps m o now caller root status is = refl
-refused_keeps m o now caller (look_up dir name) status is = looked_up_holds (IsKeptIfRefused m status) m (λ _ _. refl) dir name (λ id child there _. refl) is
-refused_keeps m o now caller (read_link file) status is = link_read_holds (IsKeptIfRefused m status) m (λ _ _. refl) file (λ id inode target leads there holding _. refl) is
-refused_keeps m o now caller (read file offset count) status is = file_read_holds (IsKeptIfRefused m status) m (λ _ _. refl) file offset count (λ id inode bytes leads there holding _. refl) is
-refused_keeps m o now caller write_cache status is = refl
-refused_keeps m o now caller (write file offset bytes) status is = file_written_holds (IsKeptIfRefused m status) m (λ _ _. refl) now file offset bytes (λ id inode old leads there holding allowed is. absurd cc) is
-refused_keeps m o now caller (create dir name settings) status is = file_created_holds (IsKeptIfRefused m status) m (λ _ _. refl) o now caller dir name settings (λ id inode listing leads there holding allowed is. absurd cc) is
-refused_keeps m o now caller (remove dir name) status is = file_removed_holds (IsKeptIfRefused m status) m (λ _ _. refl) now dir name (λ id inode listing entry child leads there holding good named is_child allowed is. absurd cc) is
-refused_keeps m o now caller (rename from from_name to to_name) status is = entry_renamed_holds (IsKeptIfRefused m status) m (λ _ _. refl) o now from from_name to to_name (λ _. refl) (λ r there is. absurd cc) is
-refused_keeps m o now caller (make_link file dir name) status is = link_made_holds (IsKeptIfRefused m status) m (λ _ _. refl) o now file dir name (λ id linked to inode listing leads there no_directory leads_in is_in holding allowed is. absurd cc) is
-refused_keeps m o now caller (make_symbolic_link dir name target settings) status is = symbolic_link_made_holds (IsKeptIfRefused m status) m (λ _ _. refl) o now caller dir name target settings (λ id inode listing leads there holding allowed is. absurd cc) is
-refused_keeps m o now caller (make_directory dir name settings) status is = directory_made_holds (IsKeptIfRefused m status) m (λ _ _. refl) o now caller dir name settings (λ id inode listing leads there holding allowed is. absurd cc) is
-refused_keeps m o now caller (remove_directory dir name) status is = directory_removed_holds (IsKeptIfRefused m status) m (λ _ _. refl) now dir name (λ id inode listing entry child leads there holding good named is_child allowed is. absurd cc) is
-refused_keeps m o now caller (read_directory dir cookie count) status is = directory_read_holds (IsKeptIfRefused m status) m (λ _ _. refl) dir cookie count (λ id inode listing leads there holding _. refl) is
-refused_keeps m o now caller (file_system_status file) status is = status_got_holds (IsKeptIfRefused m status) m (λ _ _. refl) file (λ id inode leads there _. refl) is
+refused_keeps m c call status = procedure_holds m c (IsKeptIfRefused m c status) (λ other is. refl) call (kept_or_done m c status call)
 
 -- Read ---------------------------------------------------------------------------------------------------------------------
 
-abbrev IsKept : Inodes → Outcome → Type 0
-IsKept m outcome = outcome.0 ≡ m
+nothing_changed : (m : Inodes) (c : Context) (call : Call) → IsTrue (only_reads call) → IfChanged m c (λ n. n ≡ m) call
+nothing_changed m c null only = tt
+nothing_changed m c (get_attributes handle) only = tt
+nothing_changed m c root only = tt
+nothing_changed m c (look_up handle name) only = tt
+nothing_changed m c (read_link handle) only = tt
+nothing_changed m c (read handle offset count) only = tt
+nothing_changed m c write_cache only = tt
+nothing_changed m c (read_directory handle cookie count) only = tt
+nothing_changed m c (file_system_status handle) only = tt
+nothing_changed m c call only = absurd cc
 
 pub reading_keeps : ReadingChangesNothing
-reading_keeps m o now caller null only = refl
-reading_keeps m o now caller (get_attributes file) only = attributes_got_holds (IsKept m) m (λ _. refl) file (λ id inode leads there. refl)
-reading_keeps m o now caller (set_attributes file settings) only = absurd cc
-reading_keeps m o now caller root only = refl
-reading_keeps m o now caller (look_up dir name) only = looked_up_holds (IsKept m) m (λ _. refl) dir name (λ id child there. refl)
-reading_keeps m o now caller (read_link file) only = link_read_holds (IsKept m) m (λ _. refl) file (λ id inode target leads there holding. refl)
-reading_keeps m o now caller (read file offset count) only = file_read_holds (IsKept m) m (λ _. refl) file offset count (λ id inode bytes leads there holding. refl)
-reading_keeps m o now caller write_cache only = refl
-reading_keeps m o now caller (write file offset bytes) only = absurd cc
-reading_keeps m o now caller (create dir name settings) only = absurd cc
-reading_keeps m o now caller (remove dir name) only = absurd cc
-reading_keeps m o now caller (rename from from_name to to_name) only = absurd cc
-reading_keeps m o now caller (make_link file dir name) only = absurd cc
-reading_keeps m o now caller (make_symbolic_link dir name target settings) only = absurd cc
-reading_keeps m o now caller (make_directory dir name settings) only = absurd cc
-reading_keeps m o now caller (remove_directory dir name) only = absurd cc
-reading_keeps m o now caller (read_directory dir cookie count) only = directory_read_holds (IsKept m) m (λ _. refl) dir cookie count (λ id inode listing leads there holding. refl)
-reading_keeps m o now caller (file_system_status file) only = status_got_holds (IsKept m) m (λ _. refl) file (λ id inode leads there. refl)
+reading_keeps m c call only = kept m c (λ n. n ≡ m) refl call (nothing_changed m c call only)

@@ -11,7 +11,8 @@ pub mod Trees
 pub mod Entries
 pub mod Each
 pub mod Named
+pub mod RenamingRoom
 pub mod Limits
-pub mod LimitsKept
-pub mod RenamingLimits
-pub mod ProceduresKeepLimits
+pub mod NewNames
+pub mod KeptEach
+pub mod Numbered

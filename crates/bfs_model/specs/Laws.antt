@@ -1,11 +1,9 @@
 -- What ties reading an item to writing it: what is written is read again, whatever follows it, and what a strict reader
 -- reads stood there as it is written.
-use Rattle.std.specs.Prelude.{◌≡◌, ℕ, ◌<◌, ◌≤◌, ◌^◌, Bool, true, List, ◌++◌, length, All, Some, Ok}
+use Rattle.std.specs.Prelude.{◌≡◌, ℕ, ◌<◌, ◌≤◌, ◌^◌, Bool, true, List, ◌++◌, length, Some, Ok}
 use Rattle.bfs_model.specs.Items.{word_at, hyper_at, boolean_at, fixed_at, opaque_at, word, hyper, boolean, fixed, counted}
 use Rattle.bfs_model.specs.Arguments.{handle, handle_id}
-
-abbrev pub AreBytes : List ℕ → Type 0
-AreBytes bytes = All (λ byte. byte < 256) bytes
+use Rattle.bfs_model.specs.Stored.{AreBytes}
 
 -- What is written is read again -----------------------------------------------------------------------------------
 

@@ -5,14 +5,16 @@ use Rattle.bfs_model.specs.Limits.{most_data_bytes}
 use Rattle.bfs_model.specs.Tree.{Entry, Listing, Inodes, FileSystem, first_ordinal, listing_at}
 use Rattle.bfs_model.specs.Replies.{Reply, listed}
 use Rattle.bfs_model.specs.Directories.{all_listed, listed_behind, listed_size}
-use Rattle.bfs_model.specs.Procedures.OfListing.{directory_read}
+use Rattle.bfs_model.specs.Context.{Context}
+use Rattle.bfs_model.specs.Arguments.{read_directory}
+use Rattle.bfs_model.specs.Procedures.{procedure}
 use Rattle.bfs_model.specs.WellFormed.{IsRising, IsWellFormed}
 
 -- One page -----------------------------------------------------------------------------------------------------------
 
 -- the reply to a READDIR from a cookie on
-abbrev pub page_read : Inodes → (dir cookie count : ℕ) → Reply
-page_read inodes dir cookie count = (directory_read inodes (Some dir) cookie count).1
+abbrev pub page_read : Inodes → Context → (dir cookie count : ℕ) → Reply
+page_read inodes context dir cookie count = (procedure inodes context (read_directory (Some dir) cookie count)).1
 
 -- the entries of a page
 abbrev pub entries_told : Reply → List Entry
@@ -32,11 +34,11 @@ cookie_after cookie (entry ∷ entries) = cookie_after entry.cookie entries
 -- Pages one after another --------------------------------------------------------------------------------------------
 
 -- their entries, with a count for each page
-abbrev pub pages_read : Inodes → (dir cookie : ℕ) → (counts : List ℕ) → List Entry
-pages_read inodes dir cookie [] = []
-pages_read inodes dir cookie (count ∷ counts) =
-    let page = entries_told (page_read inodes dir cookie count) in
-    page ++ pages_read inodes dir (cookie_after cookie page) counts
+abbrev pub pages_read : Inodes → Context → (dir cookie : ℕ) → (counts : List ℕ) → List Entry
+pages_read inodes context dir cookie [] = []
+pages_read inodes context dir cookie (count ∷ counts) =
+    let page = entries_told (page_read inodes context dir cookie count) in
+    page ++ pages_read inodes context dir (cookie_after cookie page) counts
 
 -- a directory is there, and the cookies of its entries rise
 pub record IsListed (inodes : Inodes) (dir : ℕ) (listing : Listing) : Type 0 where
@@ -57,43 +59,43 @@ DirectoriesAreListed = (files : FileSystem) (dir : ℕ) (listing : Listing) → 
 
 -- from any cookie on, READDIR is not refused and changes nothing: its reply is a page
 abbrev pub PageIsTold : Type 0
-PageIsTold = (inodes : Inodes) (dir : ℕ) (listing : Listing) (cookie count : ℕ) → IsListed inodes dir listing
-    → let reply = page_read inodes dir cookie count in directory_read inodes (Some dir) cookie count ≡ (inodes, listed (entries_told reply) (end_told reply))
+PageIsTold = (inodes : Inodes) (context : Context) (dir : ℕ) (listing : Listing) (cookie count : ℕ) → IsListed inodes dir listing
+    → let reply = page_read inodes context dir cookie count in procedure inodes context (read_directory (Some dir) cookie count) ≡ (inodes, listed (entries_told reply) (end_told reply))
 
 -- whatever the counts are, the pages are a first part of what is listed, and what is left is what stands behind the last
 -- cookie: no entry is skipped or told twice
 abbrev pub PagesFollowEachOther : Type 0
-PagesFollowEachOther = (inodes : Inodes) (dir : ℕ) (listing : Listing) (counts : List ℕ) → IsListed inodes dir listing
-    → pages_read inodes dir 0 counts ++ listed_behind (cookie_after 0 (pages_read inodes dir 0 counts)) (all_listed dir listing)
+PagesFollowEachOther = (inodes : Inodes) (context : Context) (dir : ℕ) (listing : Listing) (counts : List ℕ) → IsListed inodes dir listing
+    → pages_read inodes context dir 0 counts ++ listed_behind (cookie_after 0 (pages_read inodes context dir 0 counts)) (all_listed dir listing)
     ≡ all_listed dir listing
 
 -- and the cookies of all that is told rise, from that of `.` on
 abbrev pub CookiesRise : Type 0
-CookiesRise = (inodes : Inodes) (dir : ℕ) (listing : Listing) (counts : List ℕ) (there : IsListed inodes dir listing)
-    → IsRising 1 (pages_read inodes dir 0 counts) (there.ordinal + first_ordinal)
+CookiesRise = (inodes : Inodes) (context : Context) (dir : ℕ) (listing : Listing) (counts : List ℕ) (there : IsListed inodes dir listing)
+    → IsRising 1 (pages_read inodes context dir 0 counts) (there.ordinal + first_ordinal)
 
 -- from any cookie on, a page tells the end just where nothing is left after it
 abbrev pub EndIsToldAtTheEnd : Type 0
-EndIsToldAtTheEnd = (inodes : Inodes) (dir : ℕ) (listing : Listing) (cookie count : ℕ) → IsListed inodes dir listing
-    → let reply = page_read inodes dir cookie count in
+EndIsToldAtTheEnd = (inodes : Inodes) (context : Context) (dir : ℕ) (listing : Listing) (cookie count : ℕ) → IsListed inodes dir listing
+    → let reply = page_read inodes context dir cookie count in
     (end_told reply ≡ true) ↔ (listed_behind (cookie_after cookie (entries_told reply)) (all_listed dir listing) ≡ [])
 
 -- so whoever reads on until the end is told has read all that is listed, and nobody else has
 abbrev pub AllIsReadAtTheEnd : Type 0
-AllIsReadAtTheEnd = (inodes : Inodes) (dir : ℕ) (listing : Listing) (counts : List ℕ) (count : ℕ) → IsListed inodes dir listing
-    → let cookie = cookie_after 0 (pages_read inodes dir 0 counts) in
-    (end_told (page_read inodes dir cookie count) ≡ true) ↔ (pages_read inodes dir 0 (counts ++ count ∷ []) ≡ all_listed dir listing)
+AllIsReadAtTheEnd = (inodes : Inodes) (context : Context) (dir : ℕ) (listing : Listing) (counts : List ℕ) (count : ℕ) → IsListed inodes dir listing
+    → let cookie = cookie_after 0 (pages_read inodes context dir 0 counts) in
+    (end_told (page_read inodes context dir cookie count) ≡ true) ↔ (pages_read inodes context dir 0 (counts ++ count ∷ []) ≡ all_listed dir listing)
 
 -- from any cookie on, a page with room for the next entry tells it
 abbrev pub PageWithRoomIsNotEmpty : Type 0
-PageWithRoomIsNotEmpty = (inodes : Inodes) (dir : ℕ) (listing : Listing) (cookie count : ℕ) (next : Entry) (others : List Entry) → IsListed inodes dir listing
+PageWithRoomIsNotEmpty = (inodes : Inodes) (context : Context) (dir : ℕ) (listing : Listing) (cookie count : ℕ) (next : Entry) (others : List Entry) → IsListed inodes dir listing
     → listed_behind cookie (all_listed dir listing) ≡ next ∷ others → HasRoom count next
-    → entries_told (page_read inodes dir cookie count) ≢ []
+    → entries_told (page_read inodes context dir cookie count) ≢ []
 
 -- as many pages as there are entries, `.` and `..` among them, each with room for any of these, are all that is listed, in its
 -- order
 abbrev pub EnoughPagesAreAll : Type 0
-EnoughPagesAreAll = (inodes : Inodes) (dir : ℕ) (listing : Listing) (counts : List ℕ) → IsListed inodes dir listing
+EnoughPagesAreAll = (inodes : Inodes) (context : Context) (dir : ℕ) (listing : Listing) (counts : List ℕ) → IsListed inodes dir listing
     → length listing.entries + 2 ≤ length counts
     → All (λ count. All (HasRoom count) (all_listed dir listing)) counts
-    → pages_read inodes dir 0 counts ≡ all_listed dir listing
+    → pages_read inodes context dir 0 counts ≡ all_listed dir listing

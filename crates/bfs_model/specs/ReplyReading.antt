@@ -1,15 +1,17 @@
 -- How a whole reply is read, strictly, by the grammars of RFC 5531 section 9 and of RFC 1094 section 2.2, and what that says of
 -- the replies that are spelled.
-use Rattle.std.specs.Prelude.{◌≡◌, ℕ, zero, suc, ◌-◌, ◌%◌, ◌==◌, ◌<◌, ◌≤◌, ◌^◌, ◌&&◌, Bool, true, List, [], ◌∷◌, length, All, Option, Some, None, Result, Ok, Err, if◌then◌else◌}
+use Rattle.std.specs.Prelude.{◌≡◌, ℕ, zero, suc, ◌-◌, ◌%◌, ◌==◌, ◌<◌, ◌≤◌, ◌&&◌, Bool, true, List, [], ◌∷◌, length, All, Option, Some, None, Result, Ok, Err, if◌then◌else◌}
 use Rattle.std.specs.Option.{ok_or}
 use Rattle.bfs_model.specs.Items.{Fault, ◌>>=◌, word_at, boolean_at, fixed_at, opaque_at}
 use Rattle.bfs_model.specs.Limits.{most_name_bytes, most_path_bytes, most_data_bytes}
 use Rattle.bfs_model.specs.Tree.{Time, Entry, Inodes}
 use Rattle.bfs_model.specs.Attributes.{FileType, regular, directory_type, symbolic_link, Attributes, block_size, blocks_of, transfer_size, total_blocks}
 use Rattle.bfs_model.specs.Arguments.{Call, handle_id, arguments_of}
-use Rattle.bfs_model.specs.Call.{Credential, Refusal, silent, rpc_mismatch, bad_credential, program_unavailable, program_mismatch, procedure_unavailable}
+use Rattle.bfs_model.specs.Context.{Context}
+use Rattle.bfs_model.specs.Call.{Refusal, silent, rpc_mismatch, bad_credential, program_unavailable, program_mismatch, procedure_unavailable}
 use Rattle.bfs_model.specs.Replies.{Status, perm, noent, exist, notdir, isdir, fbig, nospc, notempty, stale, Reply, void, refused, done, attributes, found, path, contents, listed, free_blocks, results, success, garbage, refusal}
 use Rattle.bfs_model.specs.Procedures.{procedure}
+use Rattle.bfs_model.specs.Stored.{IsWord, TimeIsSpellable}
 
 -- why bytes are no reply of this server
 pub data Misread : Type 0 where
@@ -311,13 +313,6 @@ results_of procedure bytes = do
 
 -- What can be spelled ------------------------------------------------------------------------------------------------------
 
-abbrev pub IsWord : ℕ → Type 0
-IsWord n = n < 2 ^ 32
-
-pub record TimeIsSpellable (time : Time) : Type 0 where
-  pub seconds : IsWord time.seconds
-  pub useconds : IsWord time.useconds
-
 pub record AttributesAreSpellable (of : Attributes) : Type 0 where
   pub permissions : of.permissions < 4096
   pub links : IsWord of.links
@@ -373,8 +368,8 @@ ResultsAreReadBack = (procedure : ℕ) (form : ResultsForm) (reply : Reply) → 
 
 -- and the reply to each procedure's call has its form
 abbrev pub RepliesHaveTheirForm : Type 0
-RepliesHaveTheirForm = (inodes : Inodes) (ordinal : ℕ) (now : Time) (caller : Credential) (number : ℕ) (form : ResultsForm) (bytes : List ℕ) (call : Call)
-    → form_of number ≡ Some form → arguments_of number bytes ≡ Some call → HasForm form (procedure inodes ordinal now caller call).1
+RepliesHaveTheirForm = (inodes : Inodes) (context : Context) (number : ℕ) (form : ResultsForm) (bytes : List ℕ) (call : Call)
+    → form_of number ≡ Some form → arguments_of number bytes ≡ Some call → HasForm form (procedure inodes context call).1
 
 -- a message with results is read back, whatever these are
 abbrev pub SuccessIsReadBack : Type 0

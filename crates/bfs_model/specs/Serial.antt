@@ -4,7 +4,8 @@ use Rattle.bfs_model.specs.Tree.{Time, Inodes, FileSystem, spent_ordinal}
 use Rattle.bfs_model.specs.Call.{Request, Refusal, call_of}
 use Rattle.bfs_model.specs.Arguments.{Call, arguments_of}
 use Rattle.bfs_model.specs.Replies.{results, success, garbage, refusal}
-use Rattle.bfs_model.specs.Steps.{Outcome}
+use Rattle.bfs_model.specs.Context.{Context}
+use Rattle.bfs_model.specs.Refusals.{Outcome}
 use Rattle.bfs_model.specs.Procedures.{procedure}
 
 -- Time and ordinals ------------------------------------------------------------------------------------------------
@@ -33,7 +34,7 @@ in_success xid done = (done.0, success xid (results done.1))
 
 abbrev pub answer_arguments : Inodes → ℕ → Time → Request → Option Call → Inodes × List ℕ
 answer_arguments inodes ordinal time request None = (inodes, garbage request.xid)
-answer_arguments inodes ordinal time request (Some call) = in_success request.xid (procedure inodes ordinal time request.credential call)
+answer_arguments inodes ordinal time request (Some call) = in_success request.xid (procedure inodes (record { ordinal = ordinal; time = time; caller = request.credential }) call)
 
 abbrev pub answer_call : Inodes → ℕ → Time → Result Request Refusal → Inodes × List ℕ
 answer_call inodes ordinal time (Err reason) = (inodes, refusal reason)

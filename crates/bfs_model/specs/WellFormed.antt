@@ -1,8 +1,9 @@
 -- What holds of every live file system.
 use Rattle.std.specs.Prelude.{◌≡◌, ℕ, ◌+◌, ◌==◌, ◌<◌, ◌≤◌, IsTrue, IsFalse, List, [], ◌∷◌, length, Option, Some, None, is_some, sum_by, if◌then◌else◌}
+use Rattle.std.specs.List.{AllByRecursion}
 use Rattle.std.specs.FinMap.{get, entries}
 use Rattle.bfs_model.specs.Limits.{most_file_bytes, most_name_bytes, most_path_bytes, most_entries, most_links}
-use Rattle.bfs_model.specs.Tree.{Entry, Body, file, directory, link, Inode, Inodes, FileSystem, root_id, first_ordinal, spent_ordinal, is_directory_body, is_directory, entries_in, entries_at, parent_of}
+use Rattle.bfs_model.specs.Tree.{Entry, Body, file, directory, link, Inode, Inodes, FileSystem, root_id, first_ordinal, spent_ordinal, is_directory_body, is_directory, entries_in, entries_at, parent_in, parent_of}
 use Rattle.bfs_model.specs.Directories.{is_bad_name, entry_named}
 
 -- The tree -----------------------------------------------------------------------------------------------------------
@@ -58,19 +59,7 @@ abbrev pub NamesDiffer : List Entry → Type 0
 NamesDiffer [] = Unit {0}
 NamesDiffer (entry ∷ entries) = (entry_named entry.name entries ≡ None) × NamesDiffer entries
 
-abbrev pub BodyIsWithin : (ordinal id links : ℕ) → Body → Type 0
-BodyIsWithin ordinal id links (file bytes) = (1 ≤ links) × (length bytes ≤ most_file_bytes)
-BodyIsWithin ordinal id links (directory listing) =
-    (length listing.entries ≤ most_entries) × IsRising first_ordinal listing.entries ordinal × HasNames listing.entries × (id ≡ root_id → listing.parent ≡ root_id)
-BodyIsWithin ordinal id links (link path) = (1 ≤ links) × (length path ≤ most_path_bytes)
-
--- an inode is within the limits: its fileid is the root's or the ordinal of an earlier request, as are cookies
-pub record IsWithin (ordinal id : ℕ) (inode : Inode) : Type 0 where
-  pub fileid : (root_id ≤ id) × (id < ordinal)
-  pub links : inode.links ≤ most_links
-  pub body : BodyIsWithin ordinal id inode.links inode.body
-
--- The limits that a tree has by itself, whatever the ordinals of its file system: cookies rise, and are ordinals
+-- a file or a symbolic link has a link; cookies rise, and are ordinals
 abbrev pub BodyIsLimited : (links : ℕ) → Body → Type 0
 BodyIsLimited links (file bytes) = (1 ≤ links) × (length bytes ≤ most_file_bytes)
 BodyIsLimited links (directory listing) = (length listing.entries ≤ most_entries) × IsRising 0 listing.entries spent_ordinal × HasNames listing.entries
@@ -86,8 +75,14 @@ pub record IsWellFormedTree (inodes : Inodes) : Type 0 where
 
 -- The file system ----------------------------------------------------------------------------------------------------
 
+-- the fileid of an inode is the root's or the ordinal of an earlier request, cookies are such ordinals too, and the root is its own parent
+pub record IsNumbered (ordinal id : ℕ) (inode : Inode) : Type 0 where
+  pub fileid : (root_id ≤ id) × (id < ordinal)
+  pub cookies : AllByRecursion (λ entry. (first_ordinal ≤ entry.cookie) × (entry.cookie < ordinal)) (entries_in inode.body)
+  pub root_parent : id ≡ root_id → parent_in inode.body ≡ Some root_id
+
 pub record IsWellFormed (files : FileSystem) : Type 0 where
-  pub tree : IsTree files.tree
-  pub within : (id : ℕ) (inode : Inode) → get files.tree id ≡ Some inode → IsWithin files.next_ordinal id inode
+  pub tree : IsWellFormedTree files.tree
+  pub numbered : (id : ℕ) (inode : Inode) → get files.tree id ≡ Some inode → IsNumbered files.next_ordinal id inode
   -- ordinals begin at the first, and end where they are spent
   pub ordinal : (first_ordinal ≤ files.next_ordinal) × (files.next_ordinal ≤ spent_ordinal)

@@ -1,7 +1,7 @@
 ghost use Rattle.std.specs.Prelude.{◌≡◌, ℕ, Bool, length};
 ghost use Rattle.bfs_model.specs.Tree.{FileSystem, new_file_system, new_tree};
 ghost use Rattle.bfs_model.specs.Serial.{Batch, execute};
-ghost use Rattle.bfs_model.specs.ProcedureLaws.{CallsKeepFilesWellFormed};
+ghost use Rattle.bfs_model.specs.ProcedureLaws.{CallsKeepTreesWellFormed, CallsKeepFilesWellFormed};
 ghost use Rattle.bfs_model.specs.WellFormed.{IsWellFormed, IsWellFormedTree};
 
 /// A new file system is well formed.
@@ -22,7 +22,13 @@ pub fn a_well_formed_file_system_has_a_well_formed_tree()
     ensures { (files : FileSystem) → IsWellFormed files → IsWellFormedTree files.tree }
 {}
 
-/// A call leaves a well-formed file system well formed, one ordinal on.
+/// A call whose ordinal is fresh where it writes, and whose names and path are no longer than RFC 1094 section 2.3.1 allows, leaves a
+/// well-formed tree well formed.
+pub fn a_call_keeps_trees_well_formed()
+    ensures { CallsKeepTreesWellFormed }
+{}
+
+/// A call under the next ordinal leaves a well-formed file system well formed, one ordinal on.
 #[tactic(auto, using(crate::proofs::Kept::a_call_keeps))]
 pub fn a_call_keeps_files_well_formed()
     ensures { CallsKeepFilesWellFormed }

@@ -7,3 +7,4 @@ pub mod procedures;
 pub mod replies;
 pub mod replies_read;
 pub mod spelling;
+pub mod stored;

@@ -25,7 +25,6 @@ pub fn cookies_rise()
 {}
 
 /// A page tells the end of the directory just where nothing is left after it (RFC 1094 section 2.2.17).
-#[tactic(auto, using(crate::proofs::Pages::end_told_at_end))]
 pub fn end_is_told_at_the_end()
     ensures { EndIsToldAtTheEnd }
 {}

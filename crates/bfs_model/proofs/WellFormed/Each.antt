@@ -9,7 +9,7 @@ use Rattle.std.proofs.lemmas.Cmp.{eq_by_cmp_equiv}
 use Rattle.std.specs.Cmp.{nat_cmp_total}
 use Rattle.std.proofs.lemmas.Map.Views.{tells_apart}
 use Rattle.std.proofs.lemmas.Option.{same_Some}
-use Rattle.bfs_model.specs.Tree.{Time, Inode, Inodes, is_directory, is_directory_body}
+use Rattle.bfs_model.specs.Tree.{Time, Inode, Inodes}
 use Rattle.bfs_model.specs.Changes.{with_link_less, changed, link_lost_of, link_lost}
 use Rattle.bfs_model.proofs.Maps.{got, got_removed}
 
@@ -77,34 +77,20 @@ each_link_lost P m each now k new = link_lost_by P m each now k (get m k) new
 pub at_link_lost : (at : ℕ) (Q : Inode → Type 0) (m : Inodes) → At at Q m → (now : Time) (k : ℕ) → ((x : Inode) → Q x → Q (with_link_less now x)) → At at Q (link_lost m now k)
 at_link_lost at Q m each now k keeps = each_link_lost (λ id inode. id ≡ at → Q inode) m each now k (λ x there many is. keeps x (each k x there is))
 
--- Which are directories --------------------------------------------------------------------------------------------------
-
-kind_by : (test : Bool) (q k : ℕ) (v x : Inode) (old found : Option Inode) → (test ≡ true → old ≡ found) → found ≡ Some x → is_directory_body v.body ≡ is_directory_body x.body
-    → is_directory (cond test (Some v) old) ≡ is_directory old
-kind_by true q k v x old found same there alike = alike ∙ ap is_directory (sym (same refl ∙ there))
-kind_by false q k v x old found same there alike = refl
-
-pub kind_inserted : (m : Inodes) (k : ℕ) (v x : Inode) → get m k ≡ Some x → is_directory_body v.body ≡ is_directory_body x.body → (q : ℕ) → is_directory (get (insert m k v) q) ≡ is_directory (get m q)
-kind_inserted m k v x there alike q =
-    ap is_directory (got m k v q) ∙ kind_by (eq_by_cmp nat_cmp q k) q k v x (get m q) (get m k) (λ is. ap (get m) (tells_apart nat_cmp-IsAntisymmetric q k is)) there alike
-
 -- Where it is put or changed -----------------------------------------------------------------------------------------------
 
-pub got_put : (m : Inodes) (k : ℕ) (v : Inode) → get (insert m k v) k ≡ Some v
-got_put m k v = got m k v k ∙ rw ((eq_by_cmp_equiv nat_cmp_total).refl k) refl
-
-pub at_put : (at : ℕ) (Q : Inode → Type 0) (m : Inodes) (v : Inode) → Q v → At at Q (insert m at v)
-at_put at Q m v holds = at_found Q (insert m at v) at v (got_put m at v) holds
-
-at_changed_by : (at : ℕ) (Q : Inode → Type 0) (m : Inodes) (change : Inode → Inode) (found : Option Inode) → get m at ≡ found → ((x : Inode) → found ≡ Some x → Q (change x))
+here_by : (at : ℕ) (Q : Inode → Type 0) (m : Inodes) (change : Inode → Inode) (found : Option Inode) → get m at ≡ found → ((x : Inode) → found ≡ Some x → Q (change x))
     → At at Q (option_map_or (λ inode. insert m at (change inode)) found m)
-at_changed_by at Q m change None there new = λ id inode here is. absurd (cc (ap (get m) is))
-at_changed_by at Q m change (Some x) there new = at_put at Q m (change x) (new x refl)
+here_by at Q m change None there new = λ id inode here is. absurd (cc (ap (get m) is))
+here_by at Q m change (Some x) there new =
+    at_found Q (insert m at (change x)) at (change x) (got m at (change x) at ∙ rw ((eq_by_cmp_equiv nat_cmp_total).refl at) refl) (new x refl)
 
 pub at_changed_here : (at : ℕ) (Q : Inode → Type 0) (m : Inodes) (change : Inode → Inode) → ((x : Inode) → get m at ≡ Some x → Q (change x)) → At at Q (changed m at change)
 unfolding changed
-at_changed_here at Q m change new = at_changed_by at Q m change (get m at) refl new
+at_changed_here at Q m change new = here_by at Q m change (get m at) refl new
 
--- an inode put elsewhere
-pub at_put_other : (at : ℕ) (Q : Inode → Type 0) (m : Inodes) → At at Q m → (k : ℕ) (v : Inode) → (k ≡ at → ⊥) → At at Q (insert m k v)
-at_put_other at Q m each k v apart = each_inserted (λ id inode. id ≡ at → Q inode) m each k v (λ is. absurd (apart is))
+pub at_changed_other : (at : ℕ) (Q : Inode → Type 0) (m : Inodes) → At at Q m → (k : ℕ) (change : Inode → Inode) → (k ≡ at → ⊥) → At at Q (changed m k change)
+at_changed_other at Q m each k change apart = each_changed (λ id inode. id ≡ at → Q inode) m each k change (λ x there is. absurd (apart is))
+
+pub at_removed : (at : ℕ) (Q : Inode → Type 0) (m : Inodes) → At at Q m → (k : ℕ) → At at Q (remove m k)
+at_removed at Q m each k = each_removed (λ id inode. id ≡ at → Q inode) m each k

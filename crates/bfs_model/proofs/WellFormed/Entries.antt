@@ -1,31 +1,39 @@
 -- The limits of a directory's entries, when one is put at their end or the one of a name is taken out.
 use Rattle.std.proofs.Common.{◌≡◌, ℕ, ◌+◌, ◌<◌, ◌≤◌, Bool, true, false, cond, IsFalse, List, [], ◌∷◌, ◌++◌, length, Option, Some, None, refl, sym, subst, ◌∙◌, arith}
-use Rattle.std.specs.Prelude.{bytes_eq}
+use Rattle.std.specs.Prelude.{bytes_eq, All}
 use Rattle.std.proofs.lemmas.Bool.{both_ways, false_from_ne_true}
+use Rattle.std.proofs.lemmas.List.Elements.{All-cons, All-head, All-tail}
 use Rattle.std.proofs.lemmas.List.Folds.{find-append}
 use Rattle.std.proofs.lemmas.Slice.Eq.{bytes_eq-Decides}
 use Rattle.bfs_model.specs.Tree.{Entry}
 use Rattle.bfs_model.specs.Limits.{most_name_bytes}
 use Rattle.bfs_model.specs.Directories.{is_bad_name, entry_named, without_name}
-use Rattle.bfs_model.specs.WellFormed.{IsRising, HasNames}
+use Rattle.bfs_model.specs.WellFormed.{IsRising, HasNames, NamesDiffer}
+
+-- Each of them ----------------------------------------------------------------------------------------------------------
+
+without_by : (P : Entry → Type 0) (test : Bool) (entry : Entry) (entries without : List Entry) → All P (entry ∷ entries) → All P without → All P (cond test entries (entry ∷ without))
+without_by P true entry entries without h further = All-tail P entry entries h
+without_by P false entry entries without h further = All-cons P entry without (All-head P entry entries h) further
+
+-- what holds of each entry, holds of those that are left
+pub all_without : (P : Entry → Type 0) (name : List ℕ) (entries : List Entry) → All P entries → All P (without_name name entries)
+all_without P name [] h = h
+all_without P name (entry ∷ entries) h = without_by P (bytes_eq entry.name name) entry entries (without_name name entries) h (all_without P name entries (All-tail P entry entries h))
 
 -- Cookies ------------------------------------------------------------------------------------------------------------
 
-pub rising_older : (least : ℕ) (entries : List Entry) (o n : ℕ) → o ≤ n → IsRising least entries o → IsRising least entries n
-rising_older least [] o n le h = tt
-rising_older least (entry ∷ entries) o n le h = let below : entry.cookie < o = h.1 in (h.0, omega arith, rising_older (entry.cookie + 1) entries o n le h.2)
-
 -- where they rise from one number on, they do from a lower one
-pub rising_from : (least lower : ℕ) (entries : List Entry) (o : ℕ) → lower ≤ least → IsRising least entries o → IsRising lower entries o
+rising_from : (least lower : ℕ) (entries : List Entry) (o : ℕ) → lower ≤ least → IsRising least entries o → IsRising lower entries o
 rising_from least lower [] o le h = tt
 rising_from least lower (entry ∷ entries) o le h = let low : least ≤ entry.cookie = h.0 in (omega arith, h.1, h.2)
 
--- the entry of a later request comes last
-pub rising_pushed : (least : ℕ) (entries : List Entry) (last : Entry) (n : ℕ) → least ≤ last.cookie → last.cookie < n → IsRising least entries last.cookie → IsRising least (entries ++ last ∷ []) n
-rising_pushed least [] last n low lt h = (low, lt, tt)
-rising_pushed least (entry ∷ entries) last n low lt h =
-    let below : entry.cookie < last.cookie = h.1 in
-    (h.0, omega arith, rising_pushed (entry.cookie + 1) entries last n (omega arith) lt h.2)
+-- an entry comes last whose cookie is above the others'
+pub rising_pushed : (least : ℕ) (entries : List Entry) (last : Entry) (o : ℕ) → least ≤ last.cookie → last.cookie < o → All (λ entry. entry.cookie < last.cookie) entries → IsRising least entries o → IsRising least (entries ++ last ∷ []) o
+rising_pushed least [] last o low lt below h = (low, lt, tt)
+rising_pushed least (entry ∷ entries) last o low lt below h =
+    let first : entry.cookie < last.cookie = All-head (λ (entry : Entry). entry.cookie < last.cookie) entry entries below in
+    (h.0, h.1, rising_pushed (entry.cookie + 1) entries last o (omega arith) lt (All-tail (λ (entry : Entry). entry.cookie < last.cookie) entry entries below) h.2)
 
 rising_by : (test : Bool) (least : ℕ) (entry : Entry) (entries without : List Entry) (o : ℕ)
     → IsRising least (entry ∷ entries) o → IsRising (entry.cookie + 1) without o → IsRising least (cond test entries (entry ∷ without)) o
@@ -77,26 +85,35 @@ none_without name other (entry ∷ entries) e =
     named_in name (bytes_eq entry.name other) entries (entry ∷ without_name other entries)
     ∙ none_by (bytes_eq entry.name other) (bytes_eq entry.name name) entry (entry_named name entries) (entry_named name (without_name other entries)) parts (none_without name other entries parts.1)
 
-names_by : (test : Bool) (entries without : List Entry) → HasNames entries → HasNames without → HasNames (cond test entries without)
-names_by true entries without h further = h
-names_by false entries without h further = further
+pub either_by : (P : List Entry → Type 0) (test : Bool) (entries without : List Entry) → P entries → P without → P (cond test entries without)
+either_by P true entries without h further = h
+either_by P false entries without h further = further
 
 pub names_without : (name : List ℕ) (entries : List Entry) → HasNames entries → HasNames (without_name name entries)
 names_without name [] h = tt
 names_without name (entry ∷ entries) h =
-    names_by (bytes_eq entry.name name) entries (entry ∷ without_name name entries) h.3 (h.0, h.1, none_without entry.name name entries h.2, names_without name entries h.3)
+    either_by HasNames (bytes_eq entry.name name) entries (entry ∷ without_name name entries) h.3 (h.0, h.1, none_without entry.name name entries h.2, names_without name entries h.3)
+
+pub differ_without : (name : List ℕ) (entries : List Entry) → NamesDiffer entries → NamesDiffer (without_name name entries)
+differ_without name [] h = tt
+differ_without name (entry ∷ entries) h =
+    either_by NamesDiffer (bytes_eq entry.name name) entries (entry ∷ without_name name entries) h.1 (none_without entry.name name entries h.0, differ_without name entries h.1)
+
+pub names_differ : (entries : List Entry) → HasNames entries → NamesDiffer entries
+names_differ [] h = tt
+names_differ (entry ∷ entries) h = (h.2, names_differ entries h.3)
 
 gone_by : (test : Bool) (entry : Entry) (found without : Option Entry) → (test ≡ true → found ≡ None) → without ≡ None → cond test found (cond test (Some entry) without) ≡ None
 gone_by true entry found without e f = e refl
 gone_by false entry found without e f = f
 
-pub gone_named : (name : List ℕ) (entries : List Entry) → HasNames entries → entry_named name (without_name name entries) ≡ None
+pub gone_named : (name : List ℕ) (entries : List Entry) → NamesDiffer entries → entry_named name (without_name name entries) ≡ None
 gone_named name [] h = refl
 gone_named name (entry ∷ entries) h =
     named_in name (bytes_eq entry.name name) entries (entry ∷ without_name name entries)
     ∙ gone_by (bytes_eq entry.name name) entry (entry_named name entries) (entry_named name (without_name name entries))
-    (λ is. subst (λ (other : List ℕ). entry_named other entries ≡ None) (same_name entry.name name is) h.2)
-    (gone_named name entries h.3)
+    (λ is. subst (λ (other : List ℕ). entry_named other entries ≡ None) (same_name entry.name name is) h.0)
+    (gone_named name entries h.1)
 
 -- How many -----------------------------------------------------------------------------------------------------------
 

@@ -1,133 +1,87 @@
 -- The limits of one inode, and how they go through what procedures do to it.
-use Rattle.std.proofs.Common.{◌≡◌, ℕ, ◌+◌, ◌-◌, ◌<◌, ◌≤◌, Bool, true, false, cond, IsFalse, List, [], ◌∷◌, ◌++◌, length, take, drop, replicate, Option, Some, None, refl, arith, lit≤}
-use Rattle.std.specs.Prelude.{◌==◌}
-use Rattle.std.specs.FinMap.{get}
-use Rattle.std.proofs.lemmas.Bool.{ltb-false}
+use Rattle.std.proofs.Common.{◌≡◌, ℕ, ◌+◌, ◌-◌, ◌<◌, ◌≤◌, Bool, true, false, cond, IsFalse, List, [], ◌∷◌, ◌++◌, length, take, drop, replicate, Option, Some, None, Ok, inl, refl, arith}
+use Rattle.std.specs.Bool.{⊤}
+use Rattle.std.specs.Prelude.{◌==◌, nat_lt}
+use Rattle.std.specs.FinMap.{get, empty}
+use Rattle.std.proofs.lemmas.Bool.{ltb-false, leb-false}
 use Rattle.std.proofs.lemmas.List.{length-append, length-take, length-drop}
 use Rattle.bfs_model.specs.Limits.{most_file_bytes, most_name_bytes, most_entries, most_links}
-use Rattle.bfs_model.specs.Tree.{Time, Body, file, directory, link, Inode, Inodes, root_id, first_ordinal, spent_ordinal, is_directory_body, entries_in}
+use Rattle.bfs_model.specs.Tree.{Time, Body, file, directory, link, Inode, Inodes, root_id, spent_ordinal, new_root, new_tree, is_directory_body, entries_in}
+use Rattle.bfs_model.specs.Context.{Context}
 use Rattle.bfs_model.specs.Arguments.{Settings}
-use Rattle.bfs_model.specs.Call.{Credential}
+use Rattle.bfs_model.specs.Replies.{fbig}
 use Rattle.bfs_model.specs.Bytes.{filled_to, resized, overwritten}
-use Rattle.bfs_model.specs.Directories.{is_bad_name, entry_named, without_name}
-use Rattle.bfs_model.specs.Changes.{with_settings, with_bytes, with_size, resized_body, overwritten_body, with_listing, with_entry, without_entry, with_parent, with_link, with_link_less, with_ctime, new_inode}
-use Rattle.bfs_model.specs.Procedures.OfFiles.{entry_made}
-use Rattle.bfs_model.specs.Procedures.OfAttributes.{size_refusals}
-use Rattle.bfs_model.specs.WellFormed.{BodyIsWithin, IsWithin, BodyIsLimited, IsLimited}
-use Rattle.bfs_model.proofs.WellFormed.Entries.{rising_older, rising_from, rising_pushed, rising_without, names_pushed, names_without, no_longer}
-use Rattle.bfs_model.proofs.Tables.{AllPassed}
+use Rattle.bfs_model.specs.Directories.{is_bad_name, without_name}
+use Rattle.bfs_model.specs.Changes.{with_settings, with_bytes, with_size, resized_body, overwritten_body, with_listing, without_entry, with_parent, with_link, with_link_less, with_ctime}
+use Rattle.bfs_model.specs.Refusals.{checked, is_spent}
+use Rattle.bfs_model.specs.Procedures.Attributes.{size_refusals}
+use Rattle.bfs_model.specs.Procedures.Making.{entry_made, with_name}
+use Rattle.bfs_model.specs.WellFormed.{BodyIsLimited, IsLimited}
+use Rattle.bfs_model.proofs.Maps.{got_of_none}
+use Rattle.bfs_model.proofs.Found.{fails}
+use Rattle.bfs_model.proofs.WellFormed.Each.{each_inserted}
+use Rattle.bfs_model.proofs.WellFormed.Entries.{rising_pushed, rising_without, names_pushed, names_without, no_longer}
+use Rattle.bfs_model.proofs.WellFormed.RenamingRoom.{HasRoomIn, HasRoomFor}
 
 -- each inode is
-abbrev pub AreWithin : Inodes → (ordinal : ℕ) → Type 0
-AreWithin m o = (id : ℕ) (inode : Inode) → get m id ≡ Some inode → IsWithin o id inode
-
--- A later ordinal --------------------------------------------------------------------------------------------------------
-
-older_body : (o n id links : ℕ) (body : Body) → o ≤ n → BodyIsWithin o id links body → BodyIsWithin n id links body
-older_body o n id links (file bytes) le h = h
-older_body o n id links (directory listing) le h = (h.0, rising_older first_ordinal listing.entries o n le h.1, h.2, h.3)
-older_body o n id links (link path) le h = h
-
-pub older : (o n id : ℕ) (x : Inode) → o ≤ n → IsWithin o id x → IsWithin n id x
-older o n id x le h = let below : id < o = h.fileid.1 in record {
-  fileid = (h.fileid.0, omega arith);
-  links = h.links;
-  body = older_body o n id x.links x.body le h.body;
-}
-
-pub all_older : (m : Inodes) (o n : ℕ) → o ≤ n → AreWithin m o → AreWithin m n
-all_older m o n le within id x there = older o n id x le (within id x there)
-
--- By itself ------------------------------------------------------------------------------------------------------------
-
-limited_body : (o id links : ℕ) (body : Body) → o ≤ spent_ordinal → BodyIsWithin o id links body → BodyIsLimited links body
-limited_body o id links (file bytes) le h = h
-limited_body o id links (directory listing) le h = (h.0, rising_from first_ordinal 0 listing.entries spent_ordinal (lit≤ tt) (rising_older first_ordinal listing.entries o spent_ordinal le h.1), h.2)
-limited_body o id links (link path) le h = h
-
--- what is within the limits of a file system is within those of its tree
-pub limited : (o id : ℕ) (x : Inode) → o ≤ spent_ordinal → IsWithin o id x → IsLimited x
-limited o id x le h = record { links = h.links; body = limited_body o id x.links x.body le h.body }
+abbrev pub AreLimited : Inodes → Type 0
+AreLimited m = (id : ℕ) (inode : Inode) → get m id ≡ Some inode → IsLimited inode
 
 -- Entries ------------------------------------------------------------------------------------------------------------------
 
--- there is room for an entry of that name
-pub record HasRoom (name : List ℕ) (x : Inode) : Type 0 where
-  pub fewer : length (entries_in x.body) < most_entries
-  pub free : entry_named name (entries_in x.body) ≡ None
+entry_body : (c : Context) (name : List ℕ) (child links : ℕ) (body : Body) → is_spent c.ordinal ≡ false → IsFalse (is_bad_name name) → length name ≤ most_name_bytes → HasRoomIn c.ordinal name (entries_in body)
+    → BodyIsLimited links body → BodyIsLimited links (with_listing (λ listing. record listing { entries = listing.entries ++ entry_made c name child ∷ [] }) body)
+entry_body c name child links (file bytes) left good short room h = h
+entry_body c name child links (directory listing) left good short room h =
+    let few : length listing.entries < most_entries = room.fewer in
+    let unspent : c.ordinal < spent_ordinal = leb-false spent_ordinal c.ordinal left in (
+      omega (arith, length-append listing.entries (entry_made c name child ∷ [])),
+      rising_pushed 0 listing.entries (entry_made c name child) spent_ordinal (omega arith) unspent room.below h.1,
+      names_pushed listing.entries (entry_made c name child) good short room.free h.2,
+    )
+entry_body c name child links (link path) left good short room h = h
 
-entry_body : (o n id links : ℕ) (name : List ℕ) (child : ℕ) (body : Body) → first_ordinal ≤ o → o < n → IsFalse (is_bad_name name) → length name ≤ most_name_bytes
-    → length (entries_in body) < most_entries → entry_named name (entries_in body) ≡ None
-    → BodyIsWithin o id links body → BodyIsWithin n id links (with_listing (λ listing. record listing { entries = listing.entries ++ entry_made o name child ∷ [] }) body)
-entry_body o n id links name child (file bytes) first lt good short fewer free h = h
-entry_body o n id links name child (directory listing) first lt good short fewer free h = (
-  omega (arith, length-append listing.entries (entry_made o name child ∷ [])),
-  rising_pushed first_ordinal listing.entries (entry_made o name child) n first lt h.1,
-  names_pushed listing.entries (entry_made o name child) good short free h.2,
-  h.3,
-)
-entry_body o n id links name child (link path) first lt good short fewer free h = h
+pub entry_limited : (c : Context) (name : List ℕ) (child : ℕ) (x : Inode) → is_spent c.ordinal ≡ false → IsFalse (is_bad_name name) → length name ≤ most_name_bytes → HasRoomFor c.ordinal name x
+    → IsLimited x → IsLimited (with_name c name child x)
+entry_limited c name child x left good short room h = record { links = h.links; body = entry_body c name child x.links x.body left good short room h.body }
 
-pub entry_within : (o n id : ℕ) (now : Time) (name : List ℕ) (child : ℕ) (x : Inode) → first_ordinal ≤ o → o < n → IsFalse (is_bad_name name) → length name ≤ most_name_bytes
-    → HasRoom name x → IsWithin o id x → IsWithin n id (with_entry now (entry_made o name child) x)
-entry_within o n id now name child x first lt good short room h = let below : id < o = h.fileid.1 in record {
-  fileid = (h.fileid.0, omega arith);
-  links = h.links;
-  body = entry_body o n id x.links name child x.body first lt good short room.fewer room.free h.body;
-}
-
-without_body : (o id links : ℕ) (name : List ℕ) (body : Body)
-    → BodyIsWithin o id links body → BodyIsWithin o id links (with_listing (λ listing. record listing { entries = without_name name listing.entries }) body)
-without_body o id links name (file bytes) h = h
-without_body o id links name (directory listing) h =
+without_body : (links : ℕ) (name : List ℕ) (body : Body) → BodyIsLimited links body → BodyIsLimited links (with_listing (λ listing. record listing { entries = without_name name listing.entries }) body)
+without_body links name (file bytes) h = h
+without_body links name (directory listing) h =
     let most : length listing.entries ≤ most_entries = h.0 in
-    (omega (arith, no_longer name listing.entries), rising_without first_ordinal name listing.entries o h.1, names_without name listing.entries h.2, h.3)
-without_body o id links name (link path) h = h
+    (omega (arith, no_longer name listing.entries), rising_without 0 name listing.entries spent_ordinal h.1, names_without name listing.entries h.2)
+without_body links name (link path) h = h
 
-pub without_within : (o id : ℕ) (now : Time) (name : List ℕ) (x : Inode) → IsWithin o id x → IsWithin o id (without_entry now name x)
-without_within o id now name x h = record {
-  fileid = h.fileid;
-  links = h.links;
-  body = without_body o id x.links name x.body h.body;
-}
+pub without_limited : (now : Time) (name : List ℕ) (x : Inode) → IsLimited x → IsLimited (without_entry now name x)
+without_limited now name x h = record { links = h.links; body = without_body x.links name x.body h.body }
 
-parent_body : (o id links parent : ℕ) (body : Body) → (id ≡ root_id → parent ≡ root_id)
-    → BodyIsWithin o id links body → BodyIsWithin o id links (with_listing (λ listing. record listing { parent = parent }) body)
-parent_body o id links parent (file bytes) own h = h
-parent_body o id links parent (directory listing) own h = (h.0, h.1, h.2, own)
-parent_body o id links parent (link path) own h = h
+parent_body : (links parent : ℕ) (body : Body) → BodyIsLimited links body → BodyIsLimited links (with_listing (λ listing. record listing { parent = parent }) body)
+parent_body links parent (file bytes) h = h
+parent_body links parent (directory listing) h = h
+parent_body links parent (link path) h = h
 
-pub parent_within : (o id parent : ℕ) (x : Inode) → (id ≡ root_id → parent ≡ root_id) → IsWithin o id x → IsWithin o id (with_parent parent x)
-parent_within o id parent x own h = record {
-  fileid = h.fileid;
-  links = h.links;
-  body = parent_body o id x.links parent x.body own h.body;
-}
+pub parent_limited : (parent : ℕ) (x : Inode) → IsLimited x → IsLimited (with_parent parent x)
+parent_limited parent x h = record { links = h.links; body = parent_body x.links parent x.body h.body }
 
 -- Links --------------------------------------------------------------------------------------------------------------------
 
-links_body : (o id links other : ℕ) (body : Body) → (IsFalse (is_directory_body body) → 1 ≤ links → 1 ≤ other) → BodyIsWithin o id links body → BodyIsWithin o id other body
-links_body o id links other (file bytes) least h = (least refl h.0, h.1)
-links_body o id links other (directory listing) least h = h
-links_body o id links other (link path) least h = (least refl h.0, h.1)
+links_body : (links other : ℕ) (body : Body) → (IsFalse (is_directory_body body) → 1 ≤ links → 1 ≤ other) → BodyIsLimited links body → BodyIsLimited other body
+links_body links other (file bytes) least h = (least refl h.0, h.1)
+links_body links other (directory listing) least h = h
+links_body links other (link path) least h = (least refl h.0, h.1)
 
-pub link_within : (o id : ℕ) (now : Time) (x : Inode) → x.links < most_links → IsWithin o id x → IsWithin o id (with_link now x)
-link_within o id now x lt h = record {
-  fileid = h.fileid;
-  links = omega arith;
-  body = links_body o id x.links (x.links + 1) x.body (λ is least. omega arith) h.body;
-}
+pub link_limited : (now : Time) (x : Inode) → x.links < most_links → IsLimited x → IsLimited (with_link now x)
+link_limited now x lt h = record { links = omega arith; body = links_body x.links (x.links + 1) x.body (λ is least. omega arith) h.body }
 
 -- of a directory, or of what has a link left
-pub link_less_within : (o id : ℕ) (now : Time) (x : Inode) → (IsFalse (is_directory_body x.body) → 2 ≤ x.links) → IsWithin o id x → IsWithin o id (with_link_less now x)
-link_less_within o id now x many h = let most : x.links ≤ most_links = h.links in record {
-  fileid = h.fileid;
+pub link_less_limited : (now : Time) (x : Inode) → (IsFalse (is_directory_body x.body) → 2 ≤ x.links) → IsLimited x → IsLimited (with_link_less now x)
+link_less_limited now x many h = let most : x.links ≤ most_links = h.links in record {
   links = omega arith;
-  body = links_body o id x.links (x.links - 1) x.body (λ is least. let more : 2 ≤ x.links = many is in omega arith) h.body;
+  body = links_body x.links (x.links - 1) x.body (λ is least. let more : 2 ≤ x.links = many is in omega arith) h.body;
 }
 
-pub ctime_within : (o id : ℕ) (now : Time) (x : Inode) → IsWithin o id x → IsWithin o id (with_ctime now x)
-ctime_within o id now x h = record { fileid = h.fileid; links = h.links; body = h.body }
+pub ctime_limited : (now : Time) (x : Inode) → IsLimited x → IsLimited (with_ctime now x)
+ctime_limited now x h = record { links = h.links; body = h.body }
 
 -- Bytes --------------------------------------------------------------------------------------------------------------------
 
@@ -144,42 +98,29 @@ overwritten_most offset written bytes most end =
     overwritten_by (length written == 0) (take offset (filled_to offset bytes)) written (drop (offset + length written) bytes) bytes offset
     (omega (arith, length-take offset (filled_to offset bytes))) (length-drop (offset + length written) bytes) most end
 
-overwritten_within : (o id links offset : ℕ) (written : List ℕ) (body : Body) → offset + length written ≤ most_file_bytes
-    → BodyIsWithin o id links body → BodyIsWithin o id links (overwritten_body offset written body)
-overwritten_within o id links offset written (file bytes) end h = (h.0, overwritten_most offset written bytes h.1 end)
-overwritten_within o id links offset written (directory listing) end h = h
-overwritten_within o id links offset written (link path) end h = h
+bytes_body : (links offset : ℕ) (written : List ℕ) (body : Body) → offset + length written ≤ most_file_bytes → BodyIsLimited links body → BodyIsLimited links (overwritten_body offset written body)
+bytes_body links offset written (file bytes) end h = (h.0, overwritten_most offset written bytes h.1 end)
+bytes_body links offset written (directory listing) end h = h
+bytes_body links offset written (link path) end h = h
 
-pub bytes_within : (o id : ℕ) (now : Time) (offset : ℕ) (written : List ℕ) (x : Inode) → offset + length written ≤ most_file_bytes → IsWithin o id x → IsWithin o id (with_bytes now offset written x)
-bytes_within o id now offset written x end h = record {
-  fileid = h.fileid;
-  links = h.links;
-  body = overwritten_within o id x.links offset written x.body end h.body;
-}
+pub bytes_limited : (now : Time) (offset : ℕ) (written : List ℕ) (x : Inode) → offset + length written ≤ most_file_bytes → IsLimited x → IsLimited (with_bytes now offset written x)
+bytes_limited now offset written x end h = record { links = h.links; body = bytes_body x.links offset written x.body end h.body }
 
-resized_within : (o id links size : ℕ) (body : Body) → AllPassed (size_refusals body (Some size)) → BodyIsWithin o id links body → BodyIsWithin o id links (resized_body size body)
-resized_within o id links size (file bytes) passed h = let most : size ≤ most_file_bytes = ltb-false most_file_bytes size passed.0 in (h.0, omega (arith, resized_most size bytes))
-resized_within o id links size (directory listing) passed h = h
-resized_within o id links size (link path) passed h = h
+resized_limited : (links size : ℕ) (body : Body) (allowed : ⊤) → checked (size_refusals body (Some size)) ≡ Ok allowed → BodyIsLimited links body → BodyIsLimited links (resized_body size body)
+resized_limited links size (file bytes) allowed passed h =
+    let most : size ≤ most_file_bytes = ltb-false most_file_bytes size (fails (nat_lt most_file_bytes size) ((nat_lt most_file_bytes size, fbig) ∷ []) allowed passed (inl refl)) in
+    (h.0, omega (arith, resized_most size bytes))
+resized_limited links size (directory listing) allowed passed h = h
+resized_limited links size (link path) allowed passed h = h
 
-sized_within : (o id : ℕ) (now : Time) (size : Option ℕ) (x : Inode) → AllPassed (size_refusals x.body size) → IsWithin o id x → IsWithin o id (with_size now size x)
-sized_within o id now None x passed h = h
-sized_within o id now (Some size) x passed h = record {
-  fileid = h.fileid;
-  links = h.links;
-  body = resized_within o id x.links size x.body passed h.body;
-}
+sized_limited : (now : Time) (size : Option ℕ) (x : Inode) (allowed : ⊤) → checked (size_refusals x.body size) ≡ Ok allowed → IsLimited x → IsLimited (with_size now size x)
+sized_limited now None x allowed passed h = h
+sized_limited now (Some size) x allowed passed h = record { links = h.links; body = resized_limited x.links size x.body allowed passed h.body }
 
-pub settings_within : (o id : ℕ) (now : Time) (settings : Settings) (x : Inode) → AllPassed (size_refusals x.body settings.size) → IsWithin o id x → IsWithin o id (with_settings now settings x)
-settings_within o id now settings x passed h = let sized = sized_within o id now settings.size x passed h in record {
-  fileid = sized.fileid;
-  links = sized.links;
-  body = sized.body;
-}
+pub settings_limited : (now : Time) (settings : Settings) (x : Inode) (allowed : ⊤) → checked (size_refusals x.body settings.size) ≡ Ok allowed → IsLimited x → IsLimited (with_settings now settings x)
+settings_limited now settings x allowed passed h = let sized = sized_limited now settings.size x allowed passed h in record { links = sized.links; body = sized.body }
 
--- New inodes ---------------------------------------------------------------------------------------------------------------
+-- A new tree ---------------------------------------------------------------------------------------------------------------
 
--- a call's ordinal is the fileid of the inode that it makes
-pub new_within : (o n : ℕ) (now : Time) (caller : Credential) (settings : Settings) (permissions links : ℕ) (body : Body) → first_ordinal ≤ o → o < n → links ≤ most_links
-    → BodyIsWithin n o links body → IsWithin n o (new_inode now caller settings permissions links body)
-new_within o n now caller settings permissions links body first lt most h = record { fileid = (omega arith, lt); links = most; body = h }
+pub new_is_limited : AreLimited new_tree
+new_is_limited = each_inserted (λ id x. IsLimited x) empty (λ id inode there. absurd (cc (got_of_none id))) root_id new_root (record { links = omega arith; body = (omega arith, tt, tt) })

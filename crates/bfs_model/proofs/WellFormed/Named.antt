@@ -1,13 +1,14 @@
 -- What is named by an entry is named in the whole.
-use Rattle.std.proofs.Common.{◌≡◌, ℕ, ◌+◌, ◌≤◌, Bool, true, false, cond, List, [], ◌∷◌, Option, Some, refl, sym, ap, subst, ◌∙◌, arith}
+use Rattle.std.proofs.Common.{◌≡◌, ℕ, ◌+◌, ◌≤◌, Bool, true, false, cond, List, [], ◌∷◌, length, nat_le, Option, Some, refl, sym, ap, subst, ◌∙◌, arith}
 use Rattle.std.specs.Prelude.{◌==◌, sum_by, bytes_eq}
 use Rattle.std.specs.Ordering.{nat_cmp, eq_by_cmp}
 use Rattle.std.specs.FinMap.{find, get, entries, get-entries}
-use Rattle.std.proofs.lemmas.Bool.{eq-eqb}
+use Rattle.std.proofs.lemmas.Bool.{eq-eqb, leb-false}
 use Rattle.std.proofs.lemmas.List.Sums.{sum_by-cons}
 use Rattle.std.proofs.lemmas.Option.{same_Some}
-use Rattle.bfs_model.specs.Tree.{Entry, Inode, Inodes, entries_in}
+use Rattle.bfs_model.specs.Tree.{Entry, Body, file, directory, link, Inode, Inodes, entries_in, entries_at}
 use Rattle.bfs_model.specs.Directories.{entry_named}
+use Rattle.bfs_model.specs.Procedures.Removing.{has_entries}
 use Rattle.bfs_model.specs.WellFormed.{times, named}
 
 -- what is found in a list counts in its sum
@@ -32,3 +33,16 @@ child_by false first entry further rest e le = let least : 1 ≤ rest = le e in 
 pub found_named : (name : List ℕ) (entries : List Entry) (entry : Entry) → entry_named name entries ≡ Some entry → 1 ≤ times entry.child entries
 found_named name [] entry e = absurd cc
 found_named name (first ∷ entries) entry e = child_by (bytes_eq first.name name) first entry (entry_named name entries) (times entry.child entries) e (found_named name entries entry)
+
+pub held_there : (m : Inodes) (dir : ℕ) (x : Inode) (name : List ℕ) (entry : Entry) → get m dir ≡ Some x → entry_named name (entries_in x.body) ≡ Some entry → 1 ≤ times entry.child (entries_at (get m dir))
+held_there m dir x name entry there found = subst (λ o. 1 ≤ times entry.child (entries_at o)) (sym there) (found_named name (entries_in x.body) entry found)
+
+-- what RMDIR and RENAME take for empty has no entries
+no_length : (es : List Entry) → nat_le 1 (length es) ≡ false → es ≡ []
+no_length [] is = refl
+no_length (e ∷ es) is = absurd (let few = leb-false 1 (length (e ∷ es)) is in omega arith)
+
+pub bare_of : (b : Body) → has_entries b ≡ false → entries_in b ≡ []
+bare_of (file bytes) is = refl
+bare_of (directory l) is = no_length l.entries is
+bare_of (link path) is = refl

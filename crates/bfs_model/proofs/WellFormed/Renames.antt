@@ -1,18 +1,26 @@
 -- What RENAME does to the inodes keeps a tree.
-use Rattle.std.proofs.Common.{◌≡◌, ℕ, ◌+◌, ◌≤◌, Bool, true, false, cond, ◌||◌, eqb, leb, IsTrue, IsFalse, List, [], ◌∷◌, ◌++◌, Option, Some, None, bytes_eq, inl, inr, refl, sym, ap, subst, ◌∙◌, arith}
+use Rattle.std.proofs.Common.{◌≡◌, ℕ, ◌+◌, ◌≤◌, ◌==◌, ◌&&◌, Bool, true, false, not, cond, ◌||◌, eqb, leb, IsTrue, IsFalse, List, [], ◌∷◌, ◌++◌, Option, Some, None, Ok, bytes_eq, inl, inr, refl, sym, ap, subst, ◌∙◌, arith}
+use Rattle.std.specs.Bool.{⊤}
 use Rattle.std.specs.Option.{option_map_or}
 use Rattle.std.specs.FinMap.{get, insert, remove}
-use Rattle.std.proofs.lemmas.Bool.{cases_eq, cases_Bool, ne_eqb, eq-eqb, eqb-false, cond-true, cond-false}
+use Rattle.std.proofs.lemmas.Bool.{cases_eq, cases_Bool, ne_eqb, eq-eqb, eqb-true, eqb-false, cond-true, cond-false}
 use Rattle.std.proofs.lemmas.Option.{same_Some}
 use Rattle.bfs_model.specs.Tree.{Time, Entry, Listing, Body, file, directory, link, Inode, Inodes, root_id, is_directory_body, is_directory, entries_in, entries_at, parent_in, parent_at, parent_of}
+use Rattle.bfs_model.specs.Context.{Context}
+use Rattle.bfs_model.specs.Replies.{Status}
 use Rattle.bfs_model.specs.Directories.{entry_named, without_name}
 use Rattle.bfs_model.specs.Changes.{with_listing, with_entry, without_entry, with_parent, with_link, with_link_less, with_ctime, changed, link_lost, link_lost_of}
-use Rattle.bfs_model.specs.Procedures.Renaming.{replaced_by_kind, name_cleared, moved_below}
+use Rattle.bfs_model.specs.Refusals.{FoundInode, FoundDirectory, checked}
+use Rattle.bfs_model.specs.Procedures.Making.{entry_made, with_name}
+use Rattle.bfs_model.specs.Procedures.Removing.{has_entries}
+use Rattle.bfs_model.specs.Procedures.Renaming.{Renaming, Replaced, is_below, moves_directory, onto_entries, renaming_refusals, name_lost, name_cleared, moved_below, renamed, renaming_of}
 use Rattle.bfs_model.specs.WellFormed.{times, named, ReachesRoot}
+use Rattle.bfs_model.proofs.Found.{fails, IsRenamed, IsOnto, onto_none, onto_entry}
 use Rattle.bfs_model.proofs.WellFormed.Sums.{one, above, hit, under, links_at, own, Owing, WellFormed, nothing, none_loose, cut, get-set_here, get-set_other, reaches_along}
 use Rattle.bfs_model.proofs.WellFormed.Changes.{read_kept, parent_other, settle, reparent}
-use Rattle.bfs_model.proofs.WellFormed.Steps.{Alike, one_here, times-push, kind_listed, parent_listed, entries_listed, no_entries, no_parent, changed_there, alike_kept, entry_added, entry_taken, firm, folder_linked, folder_unlinked}
-use Rattle.bfs_model.proofs.WellFormed.Named.{found_named}
+use Rattle.bfs_model.proofs.WellFormed.Walks.{not_below}
+use Rattle.bfs_model.proofs.WellFormed.Steps.{Alike, one_here, times-push, kind_listed, parent_listed, entries_listed, no_parent, changed_there, alike_kept, entry_added, entry_taken, firm, folder_linked, folder_unlinked}
+use Rattle.bfs_model.proofs.WellFormed.Named.{held_there, bare_of}
 use Rattle.bfs_model.proofs.WellFormed.Facts.{named_at_least, root_unnamed, holder, childless}
 use Rattle.bfs_model.proofs.WellFormed.Effects.{added_kind, added_entries, taken_kind, taken_entries, removed_keeps, removed_directory_keeps}
 
@@ -51,13 +59,16 @@ taken_view now name x = pair _ _ _ _ (taken_kind now name x) (parent_listed (λ 
 added_view : (now : Time) (e : Entry) (x : Inode) → view (Some (with_entry now e x)) ≡ view (Some x)
 added_view now e x = pair _ _ _ _ (added_kind now e x) (parent_listed (λ l. record l { entries = l.entries ++ e ∷ [] }) x.body (λ l. refl))
 
-replaced_view : (m : Inodes) (now : Time) (d k q : ℕ) (b : Bool) → (k ≡ q → ⊥) → view (get (replaced_by_kind m now d k b) q) ≡ view (get m q)
-replaced_view m now d k q true apart = changed_read view (remove m k) d (with_link_less now) (λ x. refl) q ∙ ap view (get-set_other m k None q apart)
-replaced_view m now d k q false apart = link_lost_view m now k q apart
+-- what an entry that goes names, as RENAME sees it
+abbrev named_by : Entry → Inode → Replaced
+named_by e y = record { id = e.child; is_directory = is_directory_body y.body; has_entries = has_entries y.body }
 
-name_cleared_view : (m : Inodes) (now : Time) (d : ℕ) (name : List ℕ) (e : Entry) (q : ℕ) → (e.child ≡ q → ⊥) → view (get (name_cleared m now d name (Some e)) q) ≡ view (get m q)
-name_cleared_view m now d name e q apart =
-    replaced_view (changed m d (without_entry now name)) now d e.child q (is_directory (get m e.child)) apart ∙ changed_read view m d (without_entry now name) (taken_view now name) q
+lost_view : (m : Inodes) (c : Context) (d k q : ℕ) (b : Bool) → (k ≡ q → ⊥) → view (get (name_lost m c d k b) q) ≡ view (get m q)
+lost_view m c d k q true apart = changed_read view (remove m k) d (with_link_less c.time) (λ x. refl) q ∙ ap view (get-set_other m k None q apart)
+lost_view m c d k q false apart = link_lost_view m c.time k q apart
+
+cleared_view : (m : Inodes) (c : Context) (d : ℕ) (name : List ℕ) (k : Replaced) (q : ℕ) → (k.id ≡ q → ⊥) → view (get (name_cleared m c d name (Some k)) q) ≡ view (get m q)
+cleared_view m c d name k q apart = lost_view (changed m d (without_entry c.time name)) c d k.id q k.is_directory apart ∙ changed_read view m d (without_entry c.time name) (taken_view c.time name) q
 
 view_parent : (m n : Inodes) (q : ℕ) → view (get n q) ≡ view (get m q) → parent_of n q ≡ parent_of m q
 view_parent m n q same = ap (λ (v : Bool × Option ℕ). cond (eqb q root_id) None v.1) same
@@ -80,18 +91,16 @@ changed_kept {m} {owed} {spare} {more} {less} {loose} w k f alike = by_there (ge
     by_there (Some x) there = alike_kept w k x (f x) there (alike x)
 
 -- the entry that has the new name goes, with a link of what it names
-cleared_keeps : {m : Inodes} {owed : ℕ → ℕ} {loose : ℕ → Bool} → Owing m owed nothing nothing nothing loose → (d : ℕ) (x : Inode) (now : Time) (name : List ℕ) (e : Entry) (y : Inode)
-    → get m d ≡ Some x → IsTrue (is_directory_body x.body) → entry_named name (entries_in x.body) ≡ Some e → get m e.child ≡ Some y
-    → (IsTrue (is_directory_body y.body) → (entries_in y.body ≡ []) × (e.child ≡ root_id → ⊥) × (parent_of m e.child ≡ Some d) × ((c : ℕ) → parent_of m c ≡ Some e.child → ⊥))
-    → Owing (name_cleared m now d name (Some e)) owed nothing nothing nothing loose
-cleared_keeps {m} {owed} {loose} w d x now name e y there folder found here can =
-    let m1 : Inodes = insert m d (without_entry now name x) in
-    subst (λ n. Owing (replaced_by_kind n now d e.child (is_directory (get m e.child))) owed nothing nothing nothing loose) (sym (changed_there m d (without_entry now name) x there))
-    (subst (λ o. Owing (replaced_by_kind m1 now d e.child (is_directory o)) owed nothing nothing nothing loose) (sym here) (by_kind (is_directory_body y.body) refl))
+cleared_keeps : {m : Inodes} {owed : ℕ → ℕ} {loose : ℕ → Bool} → Owing m owed nothing nothing nothing loose → (c : Context) (d : ℕ) (x : Inode) (name : List ℕ) (e : Entry) (y : Inode)
+    → get m d ≡ Some x → IsTrue (is_directory_body x.body) → entry_named name (entries_in x.body) ≡ Some e → get m e.child ≡ Some y → entries_in y.body ≡ []
+    → (IsTrue (is_directory_body y.body) → (e.child ≡ root_id → ⊥) × (parent_of m e.child ≡ Some d) × ((q : ℕ) → parent_of m q ≡ Some e.child → ⊥))
+    → Owing (name_cleared m c d name (Some (named_by e y))) owed nothing nothing nothing loose
+cleared_keeps {m} {owed} {loose} w c d x name e y there folder found here bare can =
+    subst (λ n. Owing (name_lost n c d e.child (is_directory_body y.body)) owed nothing nothing nothing loose) (sym (changed_there m d (without_entry c.time name) x there)) (by_kind (is_directory_body y.body) refl)
   where
-    by_kind : (b : Bool) → is_directory_body y.body ≡ b → Owing (replaced_by_kind (insert m d (without_entry now name x)) now d e.child b) owed nothing nothing nothing loose
-    by_kind true is = let facts = can is in removed_directory_keeps w d x now name e y there folder found here is facts.0 facts.1 facts.2 facts.3
-    by_kind false is = removed_keeps w d x now name e y there folder found here is
+    by_kind : (b : Bool) → is_directory_body y.body ≡ b → Owing (name_lost (insert m d (without_entry c.time name x)) c d e.child b) owed nothing nothing nothing loose
+    by_kind true is = let facts = can is in removed_directory_keeps w d x c.time name e y there folder found here is bare facts.0 facts.1 facts.2
+    by_kind false is = removed_keeps w d x c.time name e y there folder found here is
 
 cut_parts : (above : ℕ → Option ℕ) (k q p : ℕ) → cut above k q ≡ Some p → (k ≡ q → ⊥) × (above q ≡ Some p)
 cut_parts above k q p up = by_key (eqb q k) refl up
@@ -142,37 +151,37 @@ changed_added {m} {owed} {spare} {more} {less} {loose} w d now e folder =
     subst (λ n. Owing n owed (λ c. spare c + one e.child c) more less loose) (sym (changed_there m d (with_entry now e) x.0 x.1)) (entry_added w d x.0 now e x.1 x.2)
 
 -- a directory comes from below one directory to below another
-moved_keeps : {m : Inodes} {owed : ℕ → ℕ} {loose : ℕ → Bool} → Owing m owed nothing nothing nothing loose → (now : Time) (from to k : ℕ)
+moved_keeps : {m : Inodes} {owed : ℕ → ℕ} {loose : ℕ → Bool} → Owing m owed nothing nothing nothing loose → (c : Context) (from to k : ℕ)
     → (k ≡ root_id → ⊥) → IsTrue (is_directory (get m k)) → IsTrue (is_directory (get m from)) → IsTrue (is_directory (get m to)) → parent_of m k ≡ Some from → IsTrue (loose k)
-    → ReachesRoot (cut (parent_of m) k) to → Owing (moved_below m now from to k true) owed nothing nothing nothing loose
-moved_keeps {m} {owed} {loose} w now from to k not_root folder from_folder to_folder below free way =
+    → ReachesRoot (cut (parent_of m) k) to → Owing (moved_below m c from to k true) owed nothing nothing nothing loose
+moved_keeps {m} {owed} {loose} w c from to k not_root folder from_folder to_folder below free way =
     let x = folder_there (get m k) folder in
     let m1 : Inodes = changed m k (with_parent to) in
-    let m2 : Inodes = changed m1 to (with_link now) in
-    let w1 : Owing m1 owed nothing (λ c. 0 + one from c) (λ c. 0 + one to c) loose =
-    subst (λ n. Owing n owed nothing (λ c. 0 + one from c) (λ c. 0 + one to c) loose) (sym (changed_there m k (with_parent to) x.0 x.1)) (raised_keeps w from to k x.0 x.1 not_root x.2 below free way) in
+    let m2 : Inodes = changed m1 to (with_link c.time) in
+    let w1 : Owing m1 owed nothing (λ q. 0 + one from q) (λ q. 0 + one to q) loose =
+    subst (λ n. Owing n owed nothing (λ q. 0 + one from q) (λ q. 0 + one to q) loose) (sym (changed_there m k (with_parent to) x.0 x.1)) (raised_keeps w from to k x.0 x.1 not_root x.2 below free way) in
     let kinds : (q : ℕ) → is_directory (get m1 q) ≡ is_directory (get m q) = changed_read is_directory m k (with_parent to) (λ y. kind_listed (λ l. record l { parent = to }) y.body) in
-    let w2 : Owing m2 owed nothing (λ c. 0 + one from c) nothing loose = settle (changed_linked w1 to now (kinds to ∙ to_folder)) (λ c. refl) (λ c. omega arith) (λ c p up is_firm was. absurd cc) in
-    let w3 = changed_unlinked w2 from now (changed_read is_directory m1 to (with_link now) (λ y. refl) from ∙ kinds from ∙ from_folder) refl in
-    settle w3 (λ c. refl) (λ c. omega arith) (λ c p up is_firm was. absurd cc)
+    let w2 : Owing m2 owed nothing (λ q. 0 + one from q) nothing loose = settle (changed_linked w1 to c.time (kinds to ∙ to_folder)) (λ q. refl) (λ q. omega arith) (λ c p up is_firm was. absurd cc) in
+    let w3 = changed_unlinked w2 from c.time (changed_read is_directory m1 to (with_link c.time) (λ y. refl) from ∙ kinds from ∙ from_folder) refl in
+    settle w3 (λ q. refl) (λ q. omega arith) (λ c p up is_firm was. absurd cc)
 
-moved_kind : (m : Inodes) (now : Time) (from to k q : ℕ) (b : Bool) → is_directory (get (moved_below m now from to k b) q) ≡ is_directory (get m q)
-moved_kind m now from to k q false = refl
-moved_kind m now from to k q true =
+moved_kind : (m : Inodes) (c : Context) (from to k q : ℕ) (b : Bool) → is_directory (get (moved_below m c from to k b) q) ≡ is_directory (get m q)
+moved_kind m c from to k q false = refl
+moved_kind m c from to k q true =
     let m1 : Inodes = changed m k (with_parent to) in
-    let m2 : Inodes = changed m1 to (with_link now) in
-    changed_read is_directory m2 from (with_link_less now) (λ x. refl) q ∙ changed_read is_directory m1 to (with_link now) (λ x. refl) q
+    let m2 : Inodes = changed m1 to (with_link c.time) in
+    changed_read is_directory m2 from (with_link_less c.time) (λ x. refl) q ∙ changed_read is_directory m1 to (with_link c.time) (λ x. refl) q
     ∙ changed_read is_directory m k (with_parent to) (λ x. kind_listed (λ l. record l { parent = to }) x.body) q
 
-moved_parent : (m : Inodes) (now : Time) (from to k : ℕ) → (k ≡ root_id → ⊥) → IsTrue (is_directory (get m k)) → parent_of (moved_below m now from to k true) k ≡ Some to
-moved_parent m now from to k not_root folder =
+moved_parent : (m : Inodes) (c : Context) (from to k : ℕ) → (k ≡ root_id → ⊥) → IsTrue (is_directory (get m k)) → parent_of (moved_below m c from to k true) k ≡ Some to
+moved_parent m c from to k not_root folder =
     let m1 : Inodes = changed m k (with_parent to) in
-    let m2 : Inodes = changed m1 to (with_link now) in
+    let m2 : Inodes = changed m1 to (with_link c.time) in
     let there = folder_there (get m k) folder in
     let yk : Inode = with_parent to there.0 in
     let at_k : parent_at (get (changed m k (with_parent to)) k) ≡ Some to = ap (λ n. parent_at (get n k)) (changed_there m k (with_parent to) there.0 there.1) ∙ ap parent_at (get-set_here m k (Some yk)) ∙ raised_parent to there.0 there.2 in
-    let last : parent_at (get (changed m2 from (with_link_less now)) k) ≡ Some to = changed_read parent_at m2 from (with_link_less now) (λ x. refl) k ∙ changed_read parent_at m1 to (with_link now) (λ x. refl) k ∙ at_k in
-    cond-false (eqb k root_id) None (parent_at (get (changed m2 from (with_link_less now)) k)) (ne_eqb k root_id not_root) ∙ last
+    let last : parent_at (get (changed m2 from (with_link_less c.time)) k) ≡ Some to = changed_read parent_at m2 from (with_link_less c.time) (λ x. refl) k ∙ changed_read parent_at m1 to (with_link c.time) (λ x. refl) k ∙ at_k in
+    cond-false (eqb k root_id) None (parent_at (get (changed m2 from (with_link_less c.time)) k)) (ne_eqb k root_id not_root) ∙ last
 
 -- Names of one directory -------------------------------------------------------------------------------------------------
 
@@ -197,24 +206,15 @@ found_still name other (d ∷ es) c e found at apart =
 
 -- The whole ------------------------------------------------------------------------------------------------------------
 
+-- nothing has the new name, or an entry of another inode, which has no entries
+data CanGo (m : Inodes) (name : List ℕ) (entries : List Entry) (moved : ℕ) : Option Replaced → Type 0 where
+  none_goes : CanGo m name entries moved None
+  goes : {e : Entry} (y : Inode) → entry_named name entries ≡ Some e → get m e.child ≡ Some y → (e.child ≡ moved → ⊥) → entries_in y.body ≡ [] → CanGo m name entries moved (Some (named_by e y))
+
 -- whether an inode goes with the entry that has the new name
-abbrev Gone : Option Entry → (id : ℕ) → Type 0
+abbrev Gone : Option Replaced → (id : ℕ) → Type 0
 Gone None id = ⊥
-Gone (Some e) id = e.child ≡ id
-
--- what may have the new name: an entry of another inode, no directory or an empty one
-abbrev pub CanGo : Inodes → (name : List ℕ) → (to_inode : Inode) → (moved : ℕ) → Option Entry → Type 0
-CanGo m name to_inode moved None = Unit {0}
-CanGo m name to_inode moved (Some e) =
-    (y : Inode) × (get m e.child ≡ Some y) × (entry_named name (entries_in to_inode.body) ≡ Some e) × (moved ≡ e.child → ⊥) × (IsTrue (is_directory_body y.body) → entries_in y.body ≡ [])
-
--- a directory comes below another one only where that is not below it
-abbrev pub CanMove : Inodes → (from to moved : ℕ) → Inode → Bool → Type 0
-CanMove m from to moved moved_inode true = IsTrue (is_directory_body moved_inode.body) × ReachesRoot (cut (parent_of m) moved) to
-CanMove m from to moved moved_inode false = IsTrue (is_directory_body moved_inode.body) → from ≡ to
-
-bare_in : (y : Inode) → (IsTrue (is_directory_body y.body) → entries_in y.body ≡ []) → entries_in y.body ≡ []
-bare_in y bare = elim (cases_Bool (is_directory_body y.body)) [ inl is ↦ bare is | inr is ↦ no_entries y.body is ]
+Gone (Some k) id = k.id ≡ id
 
 -- what has an entry is not what has none
 holds_not : (m : Inodes) (d k : ℕ) (x y : Inode) (name : List ℕ) (c : Entry) → get m d ≡ Some x → entry_named name (entries_in x.body) ≡ Some c → get m k ≡ Some y → entries_in y.body ≡ [] → k ≡ d → ⊥
@@ -223,133 +223,187 @@ holds_not m d k x y name c there found here bare is =
     let not_found : entry_named name (entries_in x.body) ≡ None = ap (entry_named name) none in
     cc
 
-module _ (m : Inodes) (w : WellFormed m) (now : Time) (from to : ℕ) (from_name to_name : List ℕ) (x z v : Inode) (c : Entry) (there : get m from ≡ Some x) (folder : IsTrue (is_directory_body x.body))
-    (to_there : get m to ≡ Some z) (to_folder : IsTrue (is_directory_body z.body)) (found : entry_named from_name (entries_in x.body) ≡ Some c) (here : get m c.child ≡ Some v) where
+plain_above : (x : Inode) (b : Bool) (p : ℕ) → cond b None (parent_in x.body) ≡ Some p → IsFalse (is_directory_body x.body) → ⊥
+plain_above x true p up plain = cc
+plain_above x false p up plain = let none : parent_in x.body ≡ None = no_parent x.body plain in cc
+
+module _ (m : Inodes) (w : WellFormed m) (c : Context) (from : Option ℕ) (from_name : List ℕ) (to : Option ℕ) (to_name : List ℕ)
+    (a b : FoundDirectory) (entry : Entry) (moved : FoundInode) (at : IsRenamed m from from_name to to_name a b entry moved) where
+  abbrev k : ℕ
+  k = moved.id
+
   abbrev taken : Inodes
-  taken = insert m from (without_entry now from_name x)
+  taken = changed m a.id (without_entry c.time from_name)
 
-  abbrev cleared : Option Entry → Inodes
-  cleared old = name_cleared taken now to to_name old
+  abbrev cleared : Option Replaced → Inodes
+  cleared old = name_cleared taken c b.id to_name old
 
-  abbrev moved : Option Entry → Bool → Inodes
-  moved old b = moved_below (cleared old) now from to c.child b
+  abbrev below : Option Replaced → (moves : Bool) → Inodes
+  below old moves = moved_below (cleared old) c a.id b.id k moves
 
-  taken_owing : Owing taken (λ q. 0 + one c.child q) nothing nothing nothing (λ q. eqb c.child q || false)
-  taken_owing = entry_taken w from x now from_name c there folder found
+  -- a tree but for the entry to come
+  abbrev IsUnnamed : Inodes → Type 0
+  IsUnnamed n = Owing n (λ q. 0 + one k q) nothing nothing nothing (λ q. eqb k q || false)
+
+  abbrev Goes : Option Replaced → Type 0
+  Goes old = CanGo m to_name (entries_in b.inode.body) k old
+
+  -- a directory comes below another one only where that is not below it
+  abbrev CanMove : (moves : Bool) → Type 0
+  CanMove true = IsTrue (is_directory_body moved.inode.body) × ReachesRoot (cut (parent_of m) k) b.id
+  CanMove false = IsTrue (is_directory_body moved.inode.body) → a.id ≡ b.id
+
+  from_folder : IsTrue (is_directory_body a.inode.body)
+  from_folder = ap is_directory_body at.from_at.holds
+
+  to_folder : IsTrue (is_directory_body b.inode.body)
+  to_folder = ap is_directory_body at.to_at.holds
+
+  found : entry_named from_name (entries_in a.inode.body) ≡ Some entry
+  found = ap (λ body. entry_named from_name (entries_in body)) at.from_at.holds ∙ at.named
+
+  taken_is : taken ≡ insert m a.id (without_entry c.time from_name a.inode)
+  taken_is = changed_there m a.id (without_entry c.time from_name) a.inode at.from_at.there
+
+  taken_owing : IsUnnamed taken
+  taken_owing = subst IsUnnamed (sym taken_is)
+      (subst (λ j. Owing (insert m a.id (without_entry c.time from_name a.inode)) (λ q. 0 + one j q) nothing nothing nothing (λ q. eqb j q || false)) (sym at.is)
+      (entry_taken w a.id a.inode c.time from_name entry at.from_at.there from_folder found))
 
   taken_same : (q : ℕ) → view (get taken q) ≡ view (get m q)
-  taken_same = read_kept view m from (Some (without_entry now from_name x)) (taken_view now from_name x ∙ ap view (sym there))
+  taken_same q = changed_read view m a.id (without_entry c.time from_name) (taken_view c.time from_name) q
 
-  held_before : 1 ≤ times c.child (entries_at (get m from))
-  held_before = subst (λ o. 1 ≤ times c.child (entries_at o)) (sym there) (found_named from_name (entries_in x.body) c found)
+  taken_other : (q : ℕ) → (a.id ≡ q → ⊥) → get taken q ≡ get m q
+  taken_other q other = ap (λ n. get n q) taken_is ∙ get-set_other m a.id (Some (without_entry c.time from_name a.inode)) q other
 
-  moved_not_root : c.child ≡ root_id → ⊥
-  moved_not_root = let held = held_before in let least = named_at_least m from c.child in root_unnamed m w c.child (omega arith)
+  held_before : 1 ≤ times k (entries_at (get m a.id))
+  held_before = subst (λ j. 1 ≤ times j (entries_at (get m a.id))) (sym at.is) (held_there m a.id a.inode from_name entry at.from_at.there found)
+
+  moved_not_root : k ≡ root_id → ⊥
+  moved_not_root = let held = held_before in let least = named_at_least m a.id k in root_unnamed m w k (omega arith)
 
   -- the entry that has the new name is still found, where both are in one directory too
-  to_taken : (e : Entry) → entry_named to_name (entries_in z.body) ≡ Some e → (c.child ≡ e.child → ⊥)
-      → (y : Inode) × (get taken to ≡ Some y) × IsTrue (is_directory_body y.body) × (entry_named to_name (entries_in y.body) ≡ Some e)
-  to_taken e at apart =
-      elim (cases_eq from to) [
+  to_taken : (e : Entry) → entry_named to_name (entries_in b.inode.body) ≡ Some e → (e.child ≡ k → ⊥)
+      → (y : Inode) × (get taken b.id ≡ Some y) × IsTrue (is_directory_body y.body) × (entry_named to_name (entries_in y.body) ≡ Some e)
+  to_taken e has apart =
+      elim (cases_eq a.id b.id) [
         | inl is ↦
-            let y : Inode = without_entry now from_name x in
-            let same : entries_in z.body ≡ entries_in x.body = ap entries_at (sym to_there ∙ ap (get m) (sym is) ∙ there) in
-            let still : entry_named to_name (without_name from_name (entries_in x.body)) ≡ Some e = found_still from_name to_name (entries_in x.body) c e found (subst (λ es. entry_named to_name es ≡ Some e) same at) apart in
-            (y, subst (λ q. get taken q ≡ Some y) is (get-set_here m from (Some y)), taken_kind now from_name x ∙ folder, subst (λ es. entry_named to_name es ≡ Some e) (sym (taken_entries now from_name x folder)) still)
-        | inr other ↦ (z, get-set_other m from (Some (without_entry now from_name x)) to other ∙ to_there, to_folder, at)
+            let y : Inode = without_entry c.time from_name a.inode in
+            let same : entries_in b.inode.body ≡ entries_in a.inode.body = ap entries_at (sym at.to_at.there ∙ ap (get m) (sym is) ∙ at.from_at.there) in
+            let still : entry_named to_name (without_name from_name (entries_in a.inode.body)) ≡ Some e =
+            found_still from_name to_name (entries_in a.inode.body) entry e found (subst (λ es. entry_named to_name es ≡ Some e) same has) (λ equal. apart (sym equal ∙ sym at.is)) in (
+              y,
+              subst (λ q. get taken q ≡ Some y) is (ap (λ n. get n a.id) taken_is ∙ get-set_here m a.id (Some y)),
+              taken_kind c.time from_name a.inode ∙ from_folder,
+              subst (λ es. entry_named to_name es ≡ Some e) (sym (taken_entries c.time from_name a.inode from_folder)) still,
+            )
+        | inr other ↦ (b.inode, taken_other b.id other ∙ at.to_at.there, to_folder, has)
       ]
 
-  cleared_owing : (old : Option Entry) → CanGo m to_name z c.child old → Owing (cleared old) (λ q. 0 + one c.child q) nothing nothing nothing (λ q. eqb c.child q || false)
-  cleared_owing None go = taken_owing
-  cleared_owing (Some e) go =
-      let y = go.0 in
-      let k = e.child in
-      let at = to_taken e go.2 go.3 in
-      let bare : entries_in y.body ≡ [] = bare_in y go.4 in
-      let still : get taken k ≡ Some y = get-set_other m from (Some (without_entry now from_name x)) k (λ is. holds_not m from k x y from_name c there found go.1 bare (sym is)) ∙ go.1 in
-      let held : 1 ≤ times k (entries_at (get m to)) = subst (λ o. 1 ≤ times k (entries_at o)) (sym to_there) (found_named to_name (entries_in z.body) e go.2) in
-      let least : times k (entries_at (get m to)) ≤ named m k = named_at_least m to k in
-      cleared_keeps taken_owing to at.0 now to_name e y at.1 at.2 at.3 still (λ is. (
-        bare,
-        root_unnamed m w k (omega arith),
-        view_parent m taken k (taken_same k) ∙ holder m w to k y go.1 is held,
-        λ q up. childless m w k (ap entries_at go.1 ∙ bare) q (sym (view_parent m taken q (taken_same q)) ∙ up),
+  cleared_owing : {old : Option Replaced} → Goes old → IsUnnamed (cleared old)
+  cleared_owing none_goes = taken_owing
+  cleared_owing (goes {e} y has there apart bare) =
+      let in_it = to_taken e has apart in
+      let still : get taken e.child ≡ Some y = taken_other e.child (λ is. holds_not m a.id e.child a.inode y from_name entry at.from_at.there found there bare (sym is)) ∙ there in
+      let held : 1 ≤ times e.child (entries_at (get m b.id)) = held_there m b.id b.inode to_name e at.to_at.there has in
+      let least : times e.child (entries_at (get m b.id)) ≤ named m e.child = named_at_least m b.id e.child in
+      cleared_keeps taken_owing c b.id in_it.0 to_name e y in_it.1 in_it.2 in_it.3 still bare (λ is. (
+        root_unnamed m w e.child (omega arith),
+        view_parent m taken e.child (taken_same e.child) ∙ holder m w b.id e.child y there is held,
+        λ q up. childless m w e.child (ap entries_at there ∙ bare) q (sym (view_parent m taken q (taken_same q)) ∙ up),
       ))
 
-  cleared_same : (old : Option Entry) (q : ℕ) → (Gone old q → ⊥) → view (get (cleared old) q) ≡ view (get m q)
+  cleared_same : (old : Option Replaced) (q : ℕ) → (Gone old q → ⊥) → view (get (cleared old) q) ≡ view (get m q)
   cleared_same None q stays = taken_same q
-  cleared_same (Some e) q stays = name_cleared_view taken now to to_name e q stays ∙ taken_same q
+  cleared_same (Some gone) q stays = cleared_view taken c b.id to_name gone q stays ∙ taken_same q
 
   -- the directories and what is moved stay
-  from_stays : (old : Option Entry) → CanGo m to_name z c.child old → Gone old from → ⊥
-  from_stays None go gone = gone
-  from_stays (Some e) go gone = holds_not m from e.child x go.0 from_name c there found go.1 (bare_in go.0 go.4) gone
+  from_stays : {old : Option Replaced} → Goes old → Gone old a.id → ⊥
+  from_stays none_goes gone = gone
+  from_stays (goes {e} y has there apart bare) gone = holds_not m a.id e.child a.inode y from_name entry at.from_at.there found there bare gone
 
-  to_stays : (old : Option Entry) → CanGo m to_name z c.child old → Gone old to → ⊥
-  to_stays None go gone = gone
-  to_stays (Some e) go gone = holds_not m to e.child z go.0 to_name e to_there go.2 go.1 (bare_in go.0 go.4) gone
+  to_stays : {old : Option Replaced} → Goes old → Gone old b.id → ⊥
+  to_stays none_goes gone = gone
+  to_stays (goes {e} y has there apart bare) gone = holds_not m b.id e.child b.inode y to_name e at.to_at.there has there bare gone
 
-  moved_stays : (old : Option Entry) → CanGo m to_name z c.child old → Gone old c.child → ⊥
-  moved_stays None go gone = gone
-  moved_stays (Some e) go gone = go.3 (sym gone)
+  moved_stays : {old : Option Replaced} → Goes old → Gone old k → ⊥
+  moved_stays none_goes gone = gone
+  moved_stays (goes y has there apart bare) gone = apart gone
 
   -- nothing is below what goes
-  parents_stay : (old : Option Entry) → CanGo m to_name z c.child old → (q p : ℕ) → parent_of m q ≡ Some p → Gone old p → ⊥
-  parents_stay None go q p up gone = gone
-  parents_stay (Some e) go q p up gone = childless m w e.child (ap entries_at go.1 ∙ bare_in go.0 go.4) q (up ∙ ap Some (sym gone))
+  parents_stay : {old : Option Replaced} → Goes old → (q p : ℕ) → parent_of m q ≡ Some p → Gone old p → ⊥
+  parents_stay none_goes q p up gone = gone
+  parents_stay (goes {e} y has there apart bare) q p up gone = childless m w e.child (ap entries_at there ∙ bare) q (up ∙ ap Some (sym gone))
 
-  way_stays : (old : Option Entry) → CanGo m to_name z c.child old → ReachesRoot (cut (parent_of m) c.child) to → ReachesRoot (cut (parent_of (cleared old)) c.child) to
-  way_stays old go way =
-      reaches_along (cut (parent_of m) c.child) (cut (parent_of (cleared old)) c.child) (λ q. Gone old q → ⊥)
-      (λ q p stays up. inl (ap (cond (eqb q c.child) None) (view_parent m (cleared old) q (cleared_same old q stays)) ∙ up, parents_stay old go q p (cut_parts (parent_of m) c.child q p up).1))
-      to way (to_stays old go)
+  module _ (old : Option Replaced) (go : Goes old) where
+    to_same : is_directory (get (cleared old) b.id) ≡ true
+    to_same = view_kind m (cleared old) b.id (cleared_same old b.id (to_stays go)) ∙ ap is_directory at.to_at.there ∙ to_folder
 
-  moved_owing : (old : Option Entry) (b : Bool) → CanGo m to_name z c.child old → CanMove m from to c.child v b → Owing (moved old b) (λ q. 0 + one c.child q) nothing nothing nothing (λ q. eqb c.child q || false)
-  moved_owing old false go move = cleared_owing old go
-  moved_owing old true go move =
-      moved_keeps (cleared_owing old go) now from to c.child moved_not_root
-      (view_kind m (cleared old) c.child (cleared_same old c.child (moved_stays old go)) ∙ ap is_directory here ∙ move.0)
-      (view_kind m (cleared old) from (cleared_same old from (from_stays old go)) ∙ ap is_directory there ∙ folder)
-      (view_kind m (cleared old) to (cleared_same old to (to_stays old go)) ∙ ap is_directory to_there ∙ to_folder)
-      (view_parent m (cleared old) c.child (cleared_same old c.child (moved_stays old go)) ∙ holder m w from c.child v here move.0 held_before)
-      (ap (λ t. t || false) (eq-eqb c.child c.child refl))
-      (way_stays old go move.1)
+    moved_same : view (get (cleared old) k) ≡ view (get m k)
+    moved_same = cleared_same old k (moved_stays go)
 
-  plain_above : (b : Bool) (p : ℕ) → cond b None (parent_in v.body) ≡ Some p → IsFalse (is_directory_body v.body) → ⊥
-  plain_above true p up plain = cc
-  plain_above false p up plain = let none : parent_in v.body ≡ None = no_parent v.body plain in cc
+    moved_folder : IsTrue (is_directory_body moved.inode.body) → IsTrue (is_directory (get (cleared old) k))
+    moved_folder is = view_kind m (cleared old) k moved_same ∙ ap is_directory at.there ∙ is
 
-  -- what is moved is below the directory that it comes to, if it is a directory
-  moved_below_to : (old : Option Entry) (b : Bool) → CanGo m to_name z c.child old → CanMove m from to c.child v b → (p : ℕ) → parent_of (moved old b) c.child ≡ Some p → p ≡ to
-  moved_below_to old false go move p up =
-      let up_before : parent_of m c.child ≡ Some p = sym (view_parent m (cleared old) c.child (cleared_same old c.child (moved_stays old go))) ∙ up in
-      elim (cases_Bool (is_directory_body v.body)) [
-        | inl is ↦ same_Some p from (sym up_before ∙ holder m w from c.child v here is held_before) ∙ move is
-        | inr is ↦ absurd (plain_above (eqb c.child root_id) p (ap (above c.child) (sym here) ∙ up_before) is)
-      ]
-  moved_below_to old true go move p up =
-      same_Some p to (sym up ∙ moved_parent (cleared old) now from to c.child moved_not_root (view_kind m (cleared old) c.child (cleared_same old c.child (moved_stays old go)) ∙ ap is_directory here ∙ move.0))
+    way_stays : ReachesRoot (cut (parent_of m) k) b.id → ReachesRoot (cut (parent_of (cleared old)) k) b.id
+    way_stays way =
+        reaches_along (cut (parent_of m) k) (cut (parent_of (cleared old)) k) (λ q. Gone old q → ⊥)
+        (λ q p stays up. inl (ap (cond (eqb q k) None) (view_parent m (cleared old) q (cleared_same old q stays)) ∙ up, parents_stay go q p (cut_parts (parent_of m) k q p up).1))
+        b.id way (to_stays go)
 
-  to_folder_then : (old : Option Entry) (b : Bool) → CanGo m to_name z c.child old → IsTrue (is_directory (get (moved old b) to))
-  to_folder_then old b go = moved_kind (cleared old) now from to c.child to b ∙ view_kind m (cleared old) to (cleared_same old to (to_stays old go)) ∙ ap is_directory to_there ∙ to_folder
+    below_owing : (moves : Bool) → CanMove moves → IsUnnamed (below old moves)
+    below_owing false move = cleared_owing go
+    below_owing true move =
+        moved_keeps (cleared_owing go) c a.id b.id k moved_not_root (moved_folder move.0)
+        (view_kind m (cleared old) a.id (cleared_same old a.id (from_stays go)) ∙ ap is_directory at.from_at.there ∙ from_folder)
+        to_same (view_parent m (cleared old) k moved_same ∙ holder m w a.id k moved.inode at.there move.0 held_before)
+        (ap (λ t. t || false) (eq-eqb k k refl)) (way_stays move.1)
 
-  named_owing : (old : Option Entry) (b : Bool) (e : Entry) → e.child ≡ c.child → CanGo m to_name z c.child old → CanMove m from to c.child v b → WellFormed (changed (moved old b) to (with_entry now e))
-  named_owing old b e is go move =
-      let n : Inodes = changed (moved old b) to (with_entry now e) in
-      let folder_then = to_folder_then old b go in
-      let added = changed_added (moved_owing old b go move) to now e folder_then in
-      let settled : Owing n nothing nothing nothing nothing (λ q. eqb c.child q || none_loose q) = settle added (λ q. let same : one e.child q ≡ one c.child q = ap (λ j. one j q) is in omega arith) (λ q. refl) (λ q p up is_firm was. absurd cc) in
-      let at = folder_there (get (moved old b) to) folder_then in
-      let after : entries_at (get n to) ≡ entries_in at.0.body ++ e ∷ [] = ap (λ i. entries_at (get i to)) (changed_there (moved old b) to (with_entry now e) at.0 at.1) ∙ ap entries_at (get-set_here (moved old b) to (Some (with_entry now e at.0))) ∙ added_entries now e at.0 at.2 in
-      let held : 1 ≤ times c.child (entries_at (get n to)) =
-      let counts : times c.child (entries_at (get n to)) ≡ times c.child (entries_in at.0.body ++ e ∷ []) = ap (times c.child) after in
-      let more = times-push c.child (entries_in at.0.body) e in
-      let itself : one e.child c.child ≡ 1 = ap (λ j. one j c.child) is ∙ one_here c.child in
-      omega arith in
-      firm c.child settled (λ p up.
-      let up_before : parent_of (moved old b) c.child ≡ Some p = sym (view_parent (moved old b) n c.child (changed_read view (moved old b) to (with_entry now e) (added_view now e) c.child)) ∙ up in
-      subst (λ q. 1 ≤ times c.child (entries_at (get n q))) (sym (moved_below_to old b go move p up_before)) held)
+    -- what is moved is below the directory that it comes to, if it is a directory
+    moved_below_to : (moves : Bool) → CanMove moves → (p : ℕ) → parent_of (below old moves) k ≡ Some p → p ≡ b.id
+    moved_below_to false move p up =
+        let before : parent_of m k ≡ Some p = sym (view_parent m (cleared old) k moved_same) ∙ up in
+        elim (cases_Bool (is_directory_body moved.inode.body)) [
+          | inl is ↦ same_Some p a.id (sym before ∙ holder m w a.id k moved.inode at.there is held_before) ∙ move is
+          | inr is ↦ absurd (plain_above moved.inode (eqb k root_id) p (ap (above k) (sym at.there) ∙ before) is)
+        ]
+    moved_below_to true move p up = same_Some p b.id (sym up ∙ moved_parent (cleared old) c a.id b.id k moved_not_root (moved_folder move.0))
 
-  pub renamed_keeps : (old : Option Entry) (b : Bool) (e : Entry) → e.child ≡ c.child → CanGo m to_name z c.child old → CanMove m from to c.child v b
-      → WellFormed (changed (changed (moved old b) to (with_entry now e)) c.child (with_ctime now))
-  renamed_keeps old b e is go move = changed_kept (named_owing old b e is go move) c.child (with_ctime now) (λ y. record { links = refl; kind = refl; parent = refl; entries = refl })
+    named_keeps : (moves : Bool) → CanMove moves → WellFormed (changed (below old moves) b.id (with_name c to_name k))
+    named_keeps moves move =
+        let e : Entry = entry_made c to_name k in
+        let before : Inodes = below old moves in
+        let after : Inodes = changed before b.id (with_entry c.time e) in
+        let folder : IsTrue (is_directory (get before b.id)) = moved_kind (cleared old) c a.id b.id k b.id moves ∙ to_same in
+        let settled : Owing after nothing nothing nothing nothing (λ q. eqb k q || none_loose q) =
+        settle (changed_added (below_owing moves move) b.id c.time e folder) (λ q. omega arith) (λ q. refl) (λ q p up is_firm was. absurd cc) in
+        let dir = folder_there (get before b.id) folder in
+        let entries : entries_at (get after b.id) ≡ entries_in dir.0.body ++ e ∷ [] =
+        ap (λ n. entries_at (get n b.id)) (changed_there before b.id (with_entry c.time e) dir.0 dir.1) ∙ ap entries_at (get-set_here before b.id (Some (with_entry c.time e dir.0))) ∙ added_entries c.time e dir.0 dir.2 in
+        let held : 1 ≤ times k (entries_at (get after b.id)) =
+        let counts : times k (entries_at (get after b.id)) ≡ times k (entries_in dir.0.body ++ e ∷ []) = ap (times k) entries in
+        let more = times-push k (entries_in dir.0.body) e in
+        let itself = one_here k in
+        omega arith in
+        firm k settled (λ p up.
+        let up_before : parent_of before k ≡ Some p = sym (view_parent before after k (changed_read view before b.id (with_entry c.time e) (added_view c.time e) k)) ∙ up in
+        subst (λ q. 1 ≤ times k (entries_at (get after q))) (sym (moved_below_to moves move p up_before)) held)
+
+  can_go : {existing : Option Entry} {replaced : Option Replaced} → entry_named to_name b.listing.entries ≡ existing → IsOnto m moved existing replaced → onto_entries (renaming_of a b moved replaced) ≡ false → Goes replaced
+  can_go has onto_none empty = none_goes
+  can_go has (onto_entry y apart there) empty = goes y (ap (λ body. entry_named to_name (entries_in body)) at.to_at.holds ∙ has) there apart (bare_of y.body empty)
+
+  -- by whether what is moved is a directory, and whether it stays in its directory
+  can_move : (is_folder same : Bool) → is_directory_body moved.inode.body ≡ is_folder → (a.id == b.id) ≡ same → ((is_folder && not same) && is_below m b.id k) ≡ false → CanMove (is_folder && not same)
+  can_move true true is equal passed = λ folder. eqb-true a.id b.id equal
+  can_move true false is equal passed = (is, not_below m w b.id k (ap is_directory at.to_at.there ∙ to_folder) passed)
+  can_move false same is equal passed = λ folder. absurd cc
+
+  pub renamed_keeps : (replaced : Option Replaced) (allowed : ⊤) → IsOnto m moved (entry_named to_name b.listing.entries) replaced → checked (renaming_refusals m c (renaming_of a b moved replaced)) ≡ Ok allowed
+      → WellFormed (renamed m c from_name to_name (renaming_of a b moved replaced))
+  renamed_keeps replaced allowed onto passed =
+      let r : Renaming = renaming_of a b moved replaced in
+      let rows : List (Bool × Status) = renaming_refusals m c r in
+      let go = can_go refl onto (fails (onto_entries r) rows allowed passed (search (inl, inr) depth 9)) in
+      let move = can_move r.is_directory (r.from == r.to) refl refl (fails (moves_directory r && is_below m r.to r.moved) rows allowed passed (search inl depth 9)) in
+      changed_kept (named_keeps replaced go (moves_directory r) move) k (with_ctime c.time) (λ y. record { links = refl; kind = refl; parent = refl; entries = refl })

@@ -1,0 +1,58 @@
+-- What the tests of a new name say, and what a fresh ordinal says of the directories that are written.
+use Rattle.std.proofs.Common.{◌≡◌, ℕ, ◌+◌, ◌<◌, Bool, false, IsFalse, List, [], ◌∷◌, ◌++◌, length, Option, Some, None, is_some, Ok, inl, inr, refl, subst}
+use Rattle.std.specs.Bool.{⊤}
+use Rattle.std.specs.Prelude.{All}
+use Rattle.std.specs.List.{AllByRecursion}
+use Rattle.std.proofs.lemmas.Bool.{both_ways, leb-false}
+use Rattle.bfs_model.specs.Limits.{most_entries}
+use Rattle.bfs_model.specs.Tree.{Listing, Body, Inode, Inodes, entries_in, entries_at}
+use Rattle.bfs_model.specs.Context.{Context}
+use Rattle.bfs_model.specs.Replies.{Status}
+use Rattle.bfs_model.specs.Directories.{is_bad_name, entry_named}
+use Rattle.bfs_model.specs.Refusals.{FoundDirectory, checked, is_spent, is_full}
+use Rattle.bfs_model.specs.Procedures.Making.{new_name_refusals}
+use Rattle.bfs_model.specs.Footprints.{Footprint, ids_in, IsNewAt, IsNewIn, IsFreshFor}
+use Rattle.bfs_model.proofs.Found.{fails, IsDirectoryAt}
+
+-- What the tests say -------------------------------------------------------------------------------------------------------
+
+pub none_from : {X : Type 0} (found : Option X) → is_some found ≡ false → found ≡ None
+none_from None e = refl
+none_from (Some x) e = absurd cc
+
+-- a name that may come to a directory
+pub record IsNewName (c : Context) (listing : Listing) (name : List ℕ) : Type 0 where
+  pub good : IsFalse (is_bad_name name)
+  pub free : entry_named name listing.entries ≡ None
+  pub left : is_spent c.ordinal ≡ false
+  pub fewer : length listing.entries < most_entries
+
+pub new_name : (c : Context) (listing : Listing) (name : List ℕ) (more : List (Bool × Status)) (allowed : ⊤) → checked (new_name_refusals c listing name ++ more) ≡ Ok allowed → IsNewName c listing name
+new_name c listing name more allowed passed = record {
+  good = fails (is_bad_name name) (new_name_refusals c listing name ++ more) allowed passed (inl refl);
+  free = none_from (entry_named name listing.entries) (fails (is_some (entry_named name listing.entries)) (new_name_refusals c listing name ++ more) allowed passed (search (inl, inr) depth 9));
+  left = fails (is_spent c.ordinal) (new_name_refusals c listing name ++ more) allowed passed (search (inl, inr) depth 9);
+  fewer = leb-false most_entries (length listing.entries) (fails (is_full (length listing.entries)) (new_name_refusals c listing name ++ more) allowed passed (search (inl, inr) depth 9));
+}
+
+-- What a fresh ordinal says ------------------------------------------------------------------------------------------------
+
+pub front_of : (P : ℕ → Type 0) (xs ys : List ℕ) → AllByRecursion P (xs ++ ys) → AllByRecursion P xs
+front_of P [] ys each = tt
+front_of P (x ∷ xs) ys each = (each.0, front_of P xs ys each.1)
+
+pub back_of : (P : ℕ → Type 0) (xs ys : List ℕ) → AllByRecursion P (xs ++ ys) → AllByRecursion P ys
+back_of P [] ys each = each
+back_of P (x ∷ xs) ys each = back_of P xs ys each.1
+
+pub led_of : (P : ℕ → Type 0) (handle : Option ℕ) (id : ℕ) → handle ≡ Some id → AllByRecursion P (ids_in handle) → P id
+led_of P handle id is each = (subst (λ h. AllByRecursion P (ids_in h)) is each).0
+
+pub new_where_left : (m : Inodes) (o : ℕ) (footprint : Footprint) → is_spent o ≡ false → IsFreshFor m o footprint → IsNewIn m o footprint
+new_where_left m o footprint left (inl spent) = absurd (both_ways (is_spent o) left spent)
+new_where_left m o footprint left (inr new) = new
+
+-- the cookies of a directory that is written are below a new ordinal
+pub cookies_below : (m : Inodes) (o : ℕ) (handle : Option ℕ) (dir : FoundDirectory) → IsDirectoryAt m handle dir → IsNewAt m o dir.id → All (λ entry. entry.cookie < o) dir.listing.entries
+cookies_below m o handle dir at new =
+    subst (λ (body : Body). All (λ entry. entry.cookie < o) (entries_in body)) at.holds (subst (λ (found : Option Inode). All (λ entry. entry.cookie < o) (entries_at found)) at.there new.1)
