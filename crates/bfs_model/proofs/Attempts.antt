@@ -24,7 +24,7 @@ use Rattle.bfs_model.specs.Procedures.Names.{child_named, page_listed}
 use Rattle.bfs_model.specs.Procedures.Data.{path_in}
 use Rattle.bfs_model.specs.Procedures.Making.{new_name_refusals, with_name, new_file, new_directory, new_symbolic_link}
 use Rattle.bfs_model.specs.Procedures.Removing.{child_found, has_entries}
-use Rattle.bfs_model.specs.Procedures.Renaming.{Renaming, Replaced, renaming_refusals, renamed, replaced_by, moves_directory, renaming_of, renaming_planned}
+use Rattle.bfs_model.specs.Procedures.Renaming.{Renaming, Replaced, renaming_refusals, renamed, replaced_by, moves_directory, renaming_of, renaming_found, if_allowed, renaming_planned}
 use Rattle.bfs_model.specs.Procedures.Status.{used_blocks}
 use Rattle.bfs_model.proofs.Found.{fails, was_there, inode_at, directory_at, child_at, IsChildAt, IsRenamed, IsOnto, IsPlanned, planned_was}
 
@@ -98,7 +98,7 @@ module _ (m n : Inodes) where
   LooksAlike (create handle name settings) = SameAt handle
   LooksAlike (remove_file handle name) = SameAt handle × ChildIsSame handle name
   LooksAlike (rename from from_name to to_name) = SameAt from × SameAt to × ChildIsSame from from_name × ChildIsSame to to_name
-      × ((a b : FoundDirectory) (entry : Entry) (moved : FoundInode) → IsRenamed m from from_name to to_name a b entry moved → (replaced : Option Replaced) → IsTrue (moves_directory (renaming_of a b moved replaced)) → n ≡ m)
+      × ((r : Renaming) → renaming_found m from from_name to to_name ≡ Ok (Some r) → IsTrue (moves_directory r) → n ≡ m)
   LooksAlike (make_link handle in_directory name) = SameAt handle × SameAt in_directory
   LooksAlike (make_symbolic_link handle name target settings) = SameAt handle
   LooksAlike (make_directory handle name settings) = SameAt handle
@@ -107,48 +107,35 @@ module _ (m n : Inodes) where
   LooksAlike (file_system_status handle) = n ≡ m
 
   -- RENAME is planned alike
-  module _ (c : Context) (a b : FoundDirectory) (moved : FoundInode) (above : (replaced : Option Replaced) → IsTrue (moves_directory (renaming_of a b moved replaced)) → n ≡ m) where
-    rows_same : (replaced : Option Replaced) (moves : Bool) → moves_directory (renaming_of a b moved replaced) ≡ moves
-        → renaming_refusals n c (renaming_of a b moved replaced) ≡ renaming_refusals m c (renaming_of a b moved replaced)
-    rows_same replaced true is = ap (λ k. renaming_refusals k c (renaming_of a b moved replaced)) (above replaced is)
-    rows_same replaced false is = rw is refl
+  onto_same : (a b : FoundDirectory) (moved : FoundInode) (existing : Option Entry) → SameAt (option_map (λ entry. entry.child) existing) → (same : Bool)
+      → (if same then Ok None else (replaced_by n existing >>= λ replaced. Ok (Some (renaming_of a b moved replaced)))) ≡ (if same then Ok None else (replaced_by m existing >>= λ replaced. Ok (Some (renaming_of a b moved replaced))))
+  onto_same a b moved existing there true = refl
+  onto_same a b moved None there false = refl
+  onto_same a b moved (Some entry) there false =
+      ap (λ at. (at >>= λ x. Ok (Some (record { id = x.id; is_directory = is_directory_body x.inode.body; has_entries = has_entries x.inode.body }))) >>= λ replaced. Ok (Some (renaming_of a b moved replaced))) (inode_same (Some entry.child) there)
 
-    abbrev Allowed : Inodes → Option Replaced → Result (Option Renaming) Status
-    Allowed k replaced = checked (renaming_refusals k c (renaming_of a b moved replaced)) >>= λ allowed. Ok (Some (renaming_of a b moved replaced))
+  found_same : (from : Option ℕ) (from_name : List ℕ) (to : Option ℕ) (to_name : List ℕ) → LooksAlike (rename from from_name to to_name) → renaming_found n from from_name to to_name ≡ renaming_found m from from_name to to_name
+  found_same from from_name to to_name looks =
+      then_same (directory_found m from) _ _ _ (directory_same from looks.0) (λ a a_is.
+      then_same (directory_found m to) _ _ _ (directory_same to looks.1) (λ b b_is.
+      then_same (checked ((is_bad_name from_name, perm) ∷ (is_bad_name to_name, perm) ∷ [])) _ _ _ refl (λ good passed.
+      then_same (ok_or (entry_named from_name a.listing.entries) noent) _ _ _ refl (λ entry held.
+      let named : entry_named from_name a.listing.entries ≡ Some entry = was_there (entry_named from_name a.listing.entries) noent entry held in
+      then_same (inode_found m (Some entry.child)) _ _ _ (inode_same (Some entry.child) (λ id is. looks.2 a a_is id (ap (option_map (λ e. e.child)) named ∙ is))) (λ moved found_it.
+      onto_same a b moved (entry_named to_name b.listing.entries) (looks.3 b b_is) _)))))
 
-    allowed_same : (replaced : Option Replaced) → Allowed n replaced ≡ Allowed m replaced
-    allowed_same replaced = ap (λ rows. checked rows >>= λ allowed. Ok (Some (renaming_of a b moved replaced))) (rows_same replaced (moves_directory (renaming_of a b moved replaced)) refl)
+  rows_same : (c : Context) (r : Renaming) (moves : Bool) → moves_directory r ≡ moves → (IsTrue (moves_directory r) → n ≡ m) → renaming_refusals n c r ≡ renaming_refusals m c r
+  rows_same c r true is above = ap (λ k. renaming_refusals k c r) (above is)
+  rows_same c r false is above = rw is refl
 
-    onto_same : (existing : Option Entry) → SameAt (option_map (λ entry. entry.child) existing) → (same : Bool)
-        → (if same then Ok None else (replaced_by n existing >>= Allowed n)) ≡ (if same then Ok None else (replaced_by m existing >>= Allowed m))
-    onto_same existing there true = refl
-    onto_same None there false = allowed_same None
-    onto_same (Some entry) there false =
-        then_same (replaced_by m (Some entry)) _ _ _ (ap (λ at. at >>= λ x. Ok (Some (record { id = x.id; is_directory = is_directory_body x.inode.body; has_entries = has_entries x.inode.body }))) (inode_same (Some entry.child) there))
-        (λ replaced is. allowed_same replaced)
+  allowed_same : (c : Context) (held : Option Renaming) → ((r : Renaming) → held ≡ Some r → IsTrue (moves_directory r) → n ≡ m) → if_allowed n c held ≡ if_allowed m c held
+  allowed_same c None above = refl
+  allowed_same c (Some r) above = ap (λ rows. checked rows >>= λ allowed. Ok (Some r)) (rows_same c r (moves_directory r) refl (above r refl))
 
   planned_same : (c : Context) (from : Option ℕ) (from_name : List ℕ) (to : Option ℕ) (to_name : List ℕ) → LooksAlike (rename from from_name to to_name)
       → renaming_planned n c from from_name to to_name ≡ renaming_planned m c from from_name to to_name
   planned_same c from from_name to to_name looks =
-      let rows : List (Bool × Status) = (is_bad_name from_name, perm) ∷ (is_bad_name to_name, perm) ∷ [] in
-      then_same (directory_found m from) _ _ _ (directory_same from looks.0) (λ a a_is.
-      then_same (directory_found m to) _ _ _ (directory_same to looks.1) (λ b b_is.
-      then_same (checked rows) _ _ _ refl (λ good passed.
-      then_same (ok_or (entry_named from_name a.listing.entries) noent) _ _ _ refl (λ entry held.
-      let named : entry_named from_name a.listing.entries ≡ Some entry = was_there (entry_named from_name a.listing.entries) noent entry held in
-      then_same (inode_found m (Some entry.child)) _ _ _ (inode_same (Some entry.child) (λ id is. looks.2 a a_is id (ap (option_map (λ e. e.child)) named ∙ is))) (λ moved found_it.
-      let there = inode_at m (Some entry.child) moved found_it in
-      onto_same c a b moved
-      (looks.4 a b entry moved (record {
-        from_at = directory_at m from a a_is;
-        to_at = directory_at m to b b_is;
-        from_good = fails (is_bad_name from_name) rows good passed (inl refl);
-        to_good = fails (is_bad_name to_name) rows good passed (inr (inl refl));
-        named = named;
-        is = sym (same_Some entry.child moved.id there.led);
-        there = there.there;
-      }))
-      (entry_named to_name b.listing.entries) (looks.3 b b_is) _)))))
+      then_same (renaming_found m from from_name to to_name) _ _ _ (found_same from from_name to to_name looks) (λ held is. allowed_same c held (λ r same moves. looks.4 r (is ∙ ap Ok same) moves))
 
   -- What is done -------------------------------------------------------------------------------------------------------
 
@@ -273,7 +260,7 @@ module _ (m : Inodes) (c : Context) where
   looks_itself (write handle offset written) = λ id is. refl
   looks_itself (create handle name settings) = λ id is. refl
   looks_itself (remove_file handle name) = (λ id is. refl, λ dir at id is. refl)
-  looks_itself (rename from from_name to to_name) = (λ id is. refl, λ id is. refl, λ dir at id is. refl, λ dir at id is. refl, λ a b entry moved at replaced moves. refl)
+  looks_itself (rename from from_name to to_name) = (λ id is. refl, λ id is. refl, λ dir at id is. refl, λ dir at id is. refl, λ r is moves. refl)
   looks_itself (make_link handle in_directory name) = (λ id is. refl, λ id is. refl)
   looks_itself (make_symbolic_link handle name target settings) = λ id is. refl
   looks_itself (make_directory handle name settings) = λ id is. refl

@@ -10,7 +10,7 @@ use Rattle.bfs_model.specs.Tree.{Entry, Listing, Body, file, directory, link, In
 use Rattle.bfs_model.specs.Replies.{Status, perm, noent, notdir, stale}
 use Rattle.bfs_model.specs.Directories.{is_bad_name, entry_named}
 use Rattle.bfs_model.specs.Procedures.Removing.{child_found, has_entries}
-use Rattle.bfs_model.specs.Procedures.Renaming.{Renaming, Replaced, renaming_refusals, replaced_by, renaming_of, renaming_planned}
+use Rattle.bfs_model.specs.Procedures.Renaming.{Renaming, Replaced, renaming_refusals, replaced_by, renaming_of, renaming_found, if_allowed, renaming_planned}
 use Rattle.bfs_model.specs.Refusals.{FoundInode, FoundDirectory, FoundFile, checked, inode_found, directory_found, bytes_in, file_found}
 
 -- Tests by their name ------------------------------------------------------------------------------------------------
@@ -157,31 +157,48 @@ IsPlan m c to_name a b moved (Some r) = IsAllowed m c to_name a b moved r
 some_is : (x y : Renaming) → ◌≡◌ {A = Result (Option Renaming) Status} (Ok (Some x)) (Ok (Some y)) → x ≡ y
 some_is x y is = let both : ◌≡◌ {A = Option Renaming} (Some x) (Some y) = the_same (Some x) (Some y) is in same_Some x y both
 
-module _ (m : Inodes) (c : Context) (a b : FoundDirectory) (moved : FoundInode) (to_name : List ℕ) where
-  allowed_was : (replaced : Option Replaced) (plan : Option Renaming) → IsOnto m moved (entry_named to_name b.listing.entries) replaced
-      → (checked (renaming_refusals m c (renaming_of a b moved replaced)) >>= λ allowed. Ok (Some (renaming_of a b moved replaced))) ≡ Ok plan → IsPlan m c to_name a b moved plan
-  allowed_was replaced None onto is = tt
-  allowed_was replaced (Some r) onto is =
-      let at = then_was (checked (renaming_refusals m c (renaming_of a b moved replaced))) _ (Some r) is in
-      record { replaced = replaced; onto = onto; allowed = at.0; passed = at.1; is = some_is (renaming_of a b moved replaced) r at.2 }
+-- what is found, before its refusals
+pub record IsFoundPlan (m : Inodes) (to_name : List ℕ) (a b : FoundDirectory) (moved : FoundInode) (r : Renaming) : Type 0 where
+  pub replaced : Option Replaced
+  pub onto : IsOnto m moved (entry_named to_name b.listing.entries) replaced
+  pub is : renaming_of a b moved replaced ≡ r
 
-  onto_entry_was : (old : Entry) (same : Bool) (plan : Option Renaming) → (old.child == moved.id) ≡ same → entry_named to_name b.listing.entries ≡ Some old
-      → (if same then Ok None else (replaced_by m (Some old) >>= λ replaced. checked (renaming_refusals m c (renaming_of a b moved replaced)) >>= λ allowed. Ok (Some (renaming_of a b moved replaced)))) ≡ Ok plan
-      → IsPlan m c to_name a b moved plan
+abbrev IsFound : Inodes → (to_name : List ℕ) → (a b : FoundDirectory) → FoundInode → Option Renaming → Type 0
+IsFound m to_name a b moved None = Unit {0}
+IsFound m to_name a b moved (Some r) = IsFoundPlan m to_name a b moved r
+
+allowed_was : (m : Inodes) (c : Context) (to_name : List ℕ) (a b : FoundDirectory) (moved : FoundInode) (held plan : Option Renaming) → IsFound m to_name a b moved held → if_allowed m c held ≡ Ok plan → IsPlan m c to_name a b moved plan
+allowed_was m c to_name a b moved None None found_it is = tt
+allowed_was m c to_name a b moved None (Some r) found_it is = absurd (let both : ◌≡◌ {A = Option Renaming} None (Some r) = the_same None (Some r) is in cc)
+allowed_was m c to_name a b moved (Some held) None found_it is = tt
+allowed_was m c to_name a b moved (Some held) (Some r) found_it is =
+    let at = then_was (checked (renaming_refusals m c held)) _ (Some r) is in
+    record {
+      replaced = found_it.replaced;
+      onto = found_it.onto;
+      allowed = at.0;
+      passed = subst (λ k. checked (renaming_refusals m c k) ≡ Ok at.0) (sym found_it.is) at.1;
+      is = found_it.is ∙ some_is held r at.2;
+    }
+
+module _ (m : Inodes) (a b : FoundDirectory) (moved : FoundInode) (to_name : List ℕ) where
+  onto_found : (replaced : Option Replaced) (held : Option Renaming) → IsOnto m moved (entry_named to_name b.listing.entries) replaced
+      → ◌≡◌ {A = Result (Option Renaming) Status} (Ok (Some (renaming_of a b moved replaced))) (Ok held) → IsFound m to_name a b moved held
+  onto_found replaced None onto is = tt
+  onto_found replaced (Some r) onto is = record { replaced = replaced; onto = onto; is = some_is (renaming_of a b moved replaced) r is }
+
+  onto_entry_was : (old : Entry) (same : Bool) (held : Option Renaming) → (old.child == moved.id) ≡ same → entry_named to_name b.listing.entries ≡ Some old
+      → (if same then Ok None else (replaced_by m (Some old) >>= λ replaced. Ok (Some (renaming_of a b moved replaced)))) ≡ Ok held → IsFound m to_name a b moved held
   onto_entry_was old true None other existing is = tt
-  onto_entry_was old true (Some r) other existing is = absurd (none_is r is)
-    where
-      none_is : (r : Renaming) → ◌≡◌ {A = Result (Option Renaming) Status} (Ok None) (Ok (Some r)) → ⊥
-      none_is r is = let both : ◌≡◌ {A = Option Renaming} None (Some r) = the_same None (Some r) is in cc
-  onto_entry_was old false plan other existing is =
-      let at = then_was (replaced_by m (Some old)) _ plan is in
-      allowed_was at.0 plan (subst (λ held. IsOnto m moved held at.0) (sym existing) (replaced_is m moved old at.0 (λ equal. absurd (cc (eq-eqb old.child moved.id equal))) at.1)) at.2
+  onto_entry_was old true (Some r) other existing is = absurd (let both : ◌≡◌ {A = Option Renaming} None (Some r) = the_same None (Some r) is in cc)
+  onto_entry_was old false held other existing is =
+      let at = then_was (replaced_by m (Some old)) _ held is in
+      onto_found at.0 held (subst (λ there. IsOnto m moved there at.0) (sym existing) (replaced_is m moved old at.0 (λ equal. absurd (cc (eq-eqb old.child moved.id equal))) at.1)) at.2
 
-  onto_was : (existing : Option Entry) (plan : Option Renaming) → entry_named to_name b.listing.entries ≡ existing
-      → (if option_map_or (λ other. other.child == moved.id) existing false then Ok None else (replaced_by m existing >>= λ replaced. checked (renaming_refusals m c (renaming_of a b moved replaced)) >>= λ allowed. Ok (Some (renaming_of a b moved replaced)))) ≡ Ok plan
-      → IsPlan m c to_name a b moved plan
-  onto_was None plan existing is = allowed_was None plan (subst (λ held. IsOnto m moved held None) (sym existing) onto_none) is
-  onto_was (Some old) plan existing is = onto_entry_was old (old.child == moved.id) plan refl existing is
+  onto_was : (existing : Option Entry) (held : Option Renaming) → entry_named to_name b.listing.entries ≡ existing
+      → (if option_map_or (λ other. other.child == moved.id) existing false then Ok None else (replaced_by m existing >>= λ replaced. Ok (Some (renaming_of a b moved replaced)))) ≡ Ok held → IsFound m to_name a b moved held
+  onto_was None held existing is = onto_found None held (subst (λ there. IsOnto m moved there None) (sym existing) onto_none) is
+  onto_was (Some old) held existing is = onto_entry_was old (old.child == moved.id) held refl existing is
 
 pub record IsPlanned (m : Inodes) (c : Context) (from : Option ℕ) (from_name : List ℕ) (to : Option ℕ) (to_name : List ℕ) (plan : Option Renaming) : Type 0 where
   pub a : FoundDirectory
@@ -196,11 +213,12 @@ pub planned_was : (m : Inodes) (c : Context) (from : Option ℕ) (from_name : Li
     → renaming_planned m c from from_name to to_name ≡ Ok plan → IsPlanned m c from from_name to to_name plan
 planned_was m c from from_name to to_name plan is =
     let rows : List (Bool × Status) = (is_bad_name from_name, perm) ∷ (is_bad_name to_name, perm) ∷ [] in
-    let a = then_was (directory_found m from) _ plan is in
-    let b = then_was (directory_found m to) _ plan a.2 in
-    let good = then_was (checked rows) _ plan b.2 in
-    let entry = then_was (ok_or (entry_named from_name a.0.listing.entries) noent) _ plan good.2 in
-    let moved = then_was (inode_found m (Some entry.0.child)) _ plan entry.2 in
+    let held = then_was (renaming_found m from from_name to to_name) _ plan is in
+    let a = then_was (directory_found m from) _ held.0 held.1 in
+    let b = then_was (directory_found m to) _ held.0 a.2 in
+    let good = then_was (checked rows) _ held.0 b.2 in
+    let entry = then_was (ok_or (entry_named from_name a.0.listing.entries) noent) _ held.0 good.2 in
+    let moved = then_was (inode_found m (Some entry.0.child)) _ held.0 entry.2 in
     let there = inode_at m (Some entry.0.child) moved.0 moved.1 in
     record {
       a = a.0;
@@ -217,5 +235,5 @@ planned_was m c from from_name to to_name plan is =
         is = sym (same_Some entry.0.child moved.0.id there.led);
         there = there.there;
       };
-      planned = onto_was m c a.0 b.0 moved.0 to_name (entry_named to_name b.0.listing.entries) plan refl moved.2;
+      planned = allowed_was m c to_name a.0 b.0 moved.0 held.0 plan (onto_was m a.0 b.0 moved.0 to_name (entry_named to_name b.0.listing.entries) held.0 refl moved.2) held.2;
     }

@@ -103,9 +103,9 @@ abbrev pub renaming_of : (from to : FoundDirectory) → (moved : FoundInode) →
 renaming_of from to moved replaced =
     record { from = from.id; to = to.id; entries = length to.listing.entries; links = to.inode.links; moved = moved.id; is_directory = is_directory_body moved.inode.body; replaced = replaced }
 
--- what is to be done: nothing, where both names lead to the same inode
-abbrev pub renaming_planned : Inodes → Context → (from : Option ℕ) → (from_name : List ℕ) → (to : Option ℕ) → (to_name : List ℕ) → Result (Option Renaming) Status
-renaming_planned inodes context from_handle from_name to_handle to_name = do
+-- what is renamed: nothing, where both names lead to the same inode
+abbrev pub renaming_found : Inodes → (from : Option ℕ) → (from_name : List ℕ) → (to : Option ℕ) → (to_name : List ℕ) → Result (Option Renaming) Status
+renaming_found inodes from_handle from_name to_handle to_name = do
   from ← directory_found inodes from_handle
   to ← directory_found inodes to_handle
   good ← checked ((is_bad_name from_name, perm) ∷ (is_bad_name to_name, perm) ∷ [])
@@ -114,8 +114,19 @@ renaming_planned inodes context from_handle from_name to_handle to_name = do
   let existing = entry_named to_name to.listing.entries in
       if option_map_or (λ other. other.child == moved.id) existing false then Ok None else (do
         replaced ← replaced_by inodes existing
-        allowed ← checked (renaming_refusals inodes context (renaming_of from to moved replaced))
         Ok (Some (renaming_of from to moved replaced)))
+
+abbrev pub if_allowed : Inodes → Context → Option Renaming → Result (Option Renaming) Status
+if_allowed inodes context None = Ok None
+if_allowed inodes context (Some r) = do
+  allowed ← checked (renaming_refusals inodes context r)
+  Ok (Some r)
+
+-- what is to be done
+abbrev pub renaming_planned : Inodes → Context → (from : Option ℕ) → (from_name : List ℕ) → (to : Option ℕ) → (to_name : List ℕ) → Result (Option Renaming) Status
+renaming_planned inodes context from from_name to to_name = do
+  found ← renaming_found inodes from from_name to to_name
+  if_allowed inodes context found
 
 abbrev pub entry_renamed : Inodes → Context → (from : Option ℕ) → (from_name : List ℕ) → (to : Option ℕ) → (to_name : List ℕ) → Result Outcome Status
 entry_renamed inodes context from from_name to to_name = do
