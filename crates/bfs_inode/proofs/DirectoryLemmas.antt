@@ -1,24 +1,19 @@
 -- What holds of a directory's entries still holds with one more at their end, and without that of a name.
 use Rattle.std.proofs.Common.{◌≡◌, ℕ, ◌+◌, ◌<◌, Bool, true, false, cond, List, [], ◌∷◌, ◌++◌, length, Option, Some, None, refl, sym, subst, ◌∙◌, arith}
 use Rattle.std.specs.Prelude.{◌≤◌, bytes_eq, find}
-use Rattle.std.specs.List.{All, AllByRecursion}
+use Rattle.std.specs.List.{All}
 use Rattle.std.proofs.lemmas.Bool.{both_ways, false_from_ne_true}
 use Rattle.std.proofs.lemmas.List.{length-append}
-use Rattle.std.proofs.lemmas.List.Elements.{recursion_from_All}
 use Rattle.std.proofs.lemmas.List.Folds.{find-append}
 use Rattle.std.proofs.lemmas.Slice.Eq.{bytes_eq-Decides}
 use Rattle.bfs_model.specs.Limits.{most_entries}
 use Rattle.bfs_model.specs.Tree.{Entry, spent_ordinal}
 use Rattle.bfs_model.specs.Directories.{entry_named, without_name}
 use Rattle.bfs_model.specs.WellFormed.{IsRising, NamesDiffer}
-use Rattle.bfs_model.proofs.WellFormed.Entries.{rising_pushed, rising_without, none_without, no_longer}
+use Rattle.bfs_model.proofs.WellFormed.Entries.{rising_pushed, rising_without, differ_without, no_longer}
 use Rattle.bfs_inode.specs.Directories.{AreEntries}
 
 -- One more -------------------------------------------------------------------------------------------------------------
-
-rising_below : (least n m : ℕ) (es : List Entry) → AllByRecursion (λ e. e.cookie < m) es → IsRising least es n → IsRising least es m
-rising_below least n m [] below h = tt
-rising_below least n m (e ∷ es) below h = (h.0, below.0, rising_below (e.cookie + 1) n m es below.1 h.2)
 
 -- where none of a name is found, the first has another one, and there is none further on
 none_further : (test : Bool) (e : Entry) (found : Option Entry) → cond test (Some e) found ≡ None → (test ≡ false) × (found ≡ None)
@@ -37,19 +32,11 @@ differ_pushed (e ∷ es) last free h =
 pub entry_added : (es : List Entry) (last : Entry) → length es < most_entries → last.cookie < spent_ordinal → All (λ e. e.cookie < last.cookie) es → entry_named last.name es ≡ None → AreEntries es → AreEntries (es ++ last ∷ [])
 entry_added es last room spent above free h = record {
   few = omega (arith, length-append es (last ∷ []));
-  rising = rising_pushed 0 es last spent_ordinal (omega arith) spent (rising_below 0 spent_ordinal last.cookie es (recursion_from_All (λ e. e.cookie < last.cookie) es above) h.rising);
+  rising = rising_pushed 0 es last spent_ordinal (omega arith) spent above h.rising;
   differ = differ_pushed es last free h.differ;
 }
 
 -- One less -------------------------------------------------------------------------------------------------------------
-
-differ_by : (test : Bool) (es left : List Entry) → NamesDiffer es → NamesDiffer left → NamesDiffer (cond test es left)
-differ_by true es left h further = h
-differ_by false es left h further = further
-
-differ_without : (name : List ℕ) (es : List Entry) → NamesDiffer es → NamesDiffer (without_name name es)
-differ_without name [] h = tt
-differ_without name (e ∷ es) h = differ_by (bytes_eq e.name name) es (e ∷ without_name name es) h.1 (none_without e.name name es h.0, differ_without name es h.1)
 
 pub entry_dropped : (name : List ℕ) (es : List Entry) → AreEntries es → AreEntries (without_name name es)
 entry_dropped name es h = let few : length es ≤ most_entries = h.few in record {

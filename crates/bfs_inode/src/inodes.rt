@@ -4,9 +4,7 @@ ghost use Rattle.bfs_model.specs.Tree.{new_root, is_directory_body, listing_in, 
 ghost use Rattle.bfs_model.specs.Attributes.{attributes_of, blocks_of, size_of};
 ghost use Rattle.bfs_model.specs.Limits.{most_path_bytes, most_file_bytes, most_links};
 ghost use Rattle.bfs_model.specs.Changes.{new_inode, permission_bits, time_or};
-ghost use Rattle.bfs_model.specs.Procedures.OfFiles.{new_file};
-ghost use Rattle.bfs_model.specs.Procedures.OfDirectories.{new_directory};
-ghost use Rattle.bfs_model.specs.Procedures.OfLinks.{new_symbolic_link};
+ghost use Rattle.bfs_model.specs.Procedures.Making.{new_file, new_directory, new_symbolic_link};
 ghost use Rattle.bfs_model.specs.WellFormed.{IsRising, NamesDiffer};
 ghost use Rattle.bfs_inode.specs.Inodes.{body_of, file_in, path_in, most_blocks};
 
@@ -15,7 +13,7 @@ mod changes;
 use crate::bodies::{Body, FileData};
 use crate::directories::Directory;
 use bfs_types::{
-    Attributes, BLOCK_SIZE, Cred, FileId, LinkPath, MOST_PERMISSIONS, Memory, SetTime, Settings,
+    Attributes, BLOCK_SIZE, Context, FileId, LinkPath, MOST_PERMISSIONS, Memory, SetTime, Settings,
     Time,
 };
 use std::alloc::Global;
@@ -67,53 +65,49 @@ impl Inode {
     /// is set, it belongs to the caller. `Memory` if memory runs out.
     pub fn new_file(
         alloc: Global,
-        now: Time,
-        caller: Cred,
+        context: &Context,
         settings: &Settings,
     ) -> Result<Inode, Memory>
         requires { unwrap_or settings.now.size 0 ≤ most_file_bytes }
-        ensures { IfOk result (λ inode. inode ≡ new_file now caller settings.now) }
+        ensures { IfOk result (λ inode. inode ≡ new_file context.now settings.now) }
     {
         let bytes = FileData::zeros(alloc, settings.size.unwrap_or(0) as usize)?;
         let permissions = permissions_set(settings.mode, 0o644);
-        Ok(Inode::made(now, caller, settings, permissions, 1, Body::File(bytes)))
+        Ok(Inode::made(context, settings, permissions, 1, Body::File(bytes)))
     }
 
     /// A new directory with two links and no entries, below the one of that fileid. If no mode is set, it has mode 0755; if no
     /// owner is set, it belongs to the caller.
     pub fn new_directory(
         alloc: Global,
-        now: Time,
-        caller: Cred,
+        context: &Context,
         settings: &Settings,
         parent: FileId,
     ) -> Inode
-        ensures { result ≡ new_directory now caller settings.now parent }
+        ensures { result ≡ new_directory context.now settings.now parent }
     {
         let permissions = permissions_set(settings.mode, 0o755);
         let body = Body::Directory(Directory::new(alloc, parent));
-        Inode::made(now, caller, settings, permissions, 2, body)
+        Inode::made(context, settings, permissions, 2, body)
     }
 
     /// A new symbolic link with one link and mode 0777, which holds that path. If no owner is set, it belongs to the caller.
     /// `Memory` if memory runs out.
     pub fn new_symbolic_link(
         alloc: Global,
-        now: Time,
-        caller: Cred,
+        context: &Context,
         settings: &Settings,
         target: &[u8],
     ) -> Result<Inode, Memory>
         requires { length target.now ≤ most_path_bytes }
-        ensures { IfOk result (λ inode. inode ≡ new_symbolic_link now caller settings.now target.now) }
+        ensures { IfOk result (λ inode. inode ≡ new_symbolic_link context.now settings.now target.now) }
     {
         let body = Body::Link(LinkPath::new(alloc, target)?);
-        Ok(Inode::made(now, caller, settings, 0o777, 1, body))
+        Ok(Inode::made(context, settings, 0o777, 1, body))
     }
 
     fn made(
-        now: Time,
-        caller: Cred,
+        context: &Context,
         settings: &Settings,
         permissions: u32,
         links: u32,
@@ -121,16 +115,16 @@ impl Inode {
     ) -> Inode
         requires bits { permissions ≤ MOST_PERMISSIONS }
         requires few { links ≤ most_links }
-        ensures { result ≡ new_inode now caller settings.now permissions links (body_of body) }
+        ensures { result ≡ new_inode context.now.time context.now.caller settings.now permissions links (body_of body) }
     {
         Inode {
             permissions,
             links,
-            uid: settings.uid.unwrap_or(caller.uid),
-            gid: settings.gid.unwrap_or(caller.gid),
-            atime: time_set(now, settings.atime, now),
-            mtime: time_set(now, settings.mtime, now),
-            ctime: now,
+            uid: settings.uid.unwrap_or(context.caller.uid),
+            gid: settings.gid.unwrap_or(context.caller.gid),
+            atime: time_set(context.time, settings.atime, context.time),
+            mtime: time_set(context.time, settings.mtime, context.time),
+            ctime: context.time,
             body,
         }
     }

@@ -1,3 +1,3 @@
-pub mod LinkLemmas
-pub mod Moves
-pub mod Plans
+pub mod Fresh
+pub mod Links
+pub mod CarryingOut

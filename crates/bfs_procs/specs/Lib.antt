@@ -1,5 +1,2 @@
-pub mod Files
-pub mod Finding
+pub mod Answers
 pub mod Renaming
-pub mod Moves
-pub mod Plans

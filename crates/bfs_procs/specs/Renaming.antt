@@ -1,47 +1,44 @@
--- RENAME in two parts: what is to be done, found on the inodes before, and the steps that do it.
-use Rattle.std.specs.Prelude.{◌==◌, ◌&&◌, Bool, true, false, not, List, [], ◌∷◌, length, nat_le}
+-- What RENAME's steps rest on.
+use Rattle.std.specs.Prelude.{◌≡◌, ℕ, ◌<◌, ◌≤◌, IsTrue, List, length, Option, Some, None, Result, Ok, Err}
+use Rattle.std.specs.FinMap.{get}
+use Rattle.std.specs.Option.{ForSome}
+use Rattle.bfs_model.specs.Items.{◌>>=◌}
+use Rattle.bfs_model.specs.Changes.{changed, with_parent, without_entry}
+use Rattle.bfs_model.specs.Context.{Context}
 use Rattle.bfs_model.specs.Limits.{most_entries, most_links}
-use Rattle.bfs_model.specs.Procedures.Renaming as model
-use Rattle.bfs_model.specs.Replies.{Status, perm, notdir, isdir, nospc, notempty}
-use Rattle.bfs_model.specs.Tree.{Body, file, directory, link, Inodes, spent_ordinal}
-use Rattle.bfs_procs.specs.declared.renaming.refusals.Renaming.{Renaming}
-use Rattle.bfs_procs.specs.declared.renaming.refusals.Replaced.{Replaced}
-use Rattle.bfs_procs.specs.declared.renaming.refusals.Replaced.TheVariants.{Nothing, Other, Directory}
+use Rattle.bfs_model.specs.Procedures.Removing.{has_entries}
+use Rattle.bfs_model.specs.Procedures.Renaming.{Renaming, Replaced, moves_directory, name_cleared, unnamed}
+use Rattle.bfs_model.specs.Refusals.{FoundDirectory, directory_found, inode_found}
+use Rattle.bfs_model.specs.Replies as replies
+use Rattle.bfs_model.specs.Tree.{Inode, Inodes, is_directory_body, spent_ordinal}
+use Rattle.bfs_model.specs.WellFormed.{NamesDiffer}
+use Rattle.bfs_model.proofs.WellFormed.RenamingRoom.{HasRoomFor}
+use Rattle.bfs_tree.specs.Reach.{Reach}
 
--- The refusals -----------------------------------------------------------------------------------------------------------
+-- what a fileid, if there is one, leads to as what is replaced
+abbrev pub replaced_at : Inodes → Option ℕ → Result (Option Replaced) replies.Status
+replaced_at inodes None = Ok None
+replaced_at inodes (Some id) = do
+  found ← inode_found inodes (Some id)
+  Ok (Some (record { id = found.id; is_directory = is_directory_body found.inode.body; has_entries = has_entries found.inode.body }))
 
-abbrev pub is_new : Replaced → Bool
-is_new Nothing = true
-is_new Other = false
-is_new (Directory has_entries) = false
+-- where something is planned, the directory that it comes to keeps the limits of its kind
+pub record IsWithin (to : FoundDirectory) : Type 0 where
+  pub few : length to.listing.entries ≤ most_entries
+  pub differ : NamesDiffer to.listing.entries
+  pub links : to.inode.links ≤ most_links
 
-abbrev pub is_onto_directory : Replaced → Bool
-is_onto_directory Nothing = false
-is_onto_directory Other = false
-is_onto_directory (Directory has_entries) = true
+abbrev pub KeepsLimits : {X E : Type 0} → Inodes → Result (Option X) E → (to : Option ℕ) → Type 0
+KeepsLimits inodes (Ok (Some plan)) to = (found : FoundDirectory) → directory_found inodes to ≡ Ok found → IsWithin found
+KeepsLimits inodes other to = Unit {0}
 
-abbrev pub is_onto_entries : Replaced → Bool
-is_onto_entries Nothing = false
-is_onto_entries Other = false
-is_onto_entries (Directory has_entries) = has_entries
-
--- what has the new name already, by what it holds
-abbrev pub replaced_in : Body → Replaced
-replaced_in (file bytes) = Other
-replaced_in (directory listing) = Directory (nat_le 1 (length listing.entries))
-replaced_in (link path) = Other
-
--- whether a directory comes below another one
-abbrev pub moves_directory : Renaming → Bool
-moves_directory r = r.is_directory && not (r.from == r.to)
-
-abbrev pub refusals : Inodes → Renaming → Replaced → List (Bool × Status)
-refusals inodes r replaced =
-    (moves_directory r && model.is_below inodes r.to r.moved, perm)
-    ∷ (is_onto_directory replaced && not r.is_directory, isdir)
-    ∷ (r.is_directory && not (is_new replaced) && not (is_onto_directory replaced), notdir)
-    ∷ (is_onto_entries replaced, notempty)
-    ∷ (nat_le spent_ordinal r.ordinal, nospc)
-    ∷ (is_new replaced && not (r.from == r.to) && nat_le most_entries r.entries, nospc)
-    ∷ (is_new replaced && moves_directory r && nat_le most_links r.links, nospc)
-    ∷ []
+-- a store can carry out a renaming: it may change all inodes that change, and there is room at each step
+pub record CanCarryOut (inodes : Inodes) (reach : Reach) (context : Context) (from_name to_name : List ℕ) (r : Renaming) : Type 0 where
+  pub from : IsTrue (reach.owned r.from)
+  pub to : IsTrue (reach.owned r.to)
+  pub moved : IsTrue (reach.owned r.moved)
+  pub replaced : ForSome r.replaced (λ replaced. IsTrue (reach.owned replaced.id))
+  pub unspent : context.ordinal < spent_ordinal
+  pub few : IsTrue (moves_directory r)
+      → ForSome (get (changed (name_cleared (changed inodes r.from (without_entry context.time from_name)) context r.to to_name r.replaced) r.moved (with_parent r.to)) r.to) (λ inode. inode.links < most_links)
+  pub room : ForSome (get (unnamed inodes context from_name to_name r) r.to) (HasRoomFor context.ordinal to_name)

@@ -1,66 +1,70 @@
-ghost use Rattle.std.specs.Prelude.{◌≡◌, IfOk, IsTrue};
-ghost use Rattle.std.specs.Option.{ForSome, option_map};
-ghost use Rattle.bfs_model.specs.Steps.{first_of};
-ghost use Rattle.bfs_model.specs.Procedures.OfAttributes.{attributes_got, attributes_set, size_refusals};
-ghost use Rattle.bfs_wire.specs.Replies.{reply_of, status_of};
+// GETATTR and SETATTR.
+ghost use Rattle.std.specs.Prelude.{◌≡◌};
+ghost use Rattle.std.specs.Option.{option_map};
+ghost use Rattle.std.specs.Result.{result_map_both};
+ghost use Rattle.bfs_model.specs.Arguments as call;
+ghost use Rattle.bfs_model.specs.Footprints.{footprint};
+ghost use Rattle.bfs_model.specs.Refusals.{checked};
+ghost use Rattle.bfs_model.specs.Procedures.Attributes.{attributes_got, attributes_set, size_refusals};
+ghost use Rattle.bfs_procs.specs.Answers.{Answers};
+ghost use Rattle.bfs_tree.specs.Reach.{Knows};
+ghost use Rattle.bfs_wire.specs.Replies.{status_of};
 
-use crate::limits::MOST_BYTES;
-use bfs_inode::{FileId, Inode, Time};
+use crate::not_done::NotDone;
+use bfs_inode::{FileId, Inode};
 use bfs_tree::Store;
-use bfs_types::{Memory, Settings};
+use bfs_types::{Context, MOST_FILE_BYTES, Settings};
 use bfs_wire::{NfsReply, Status};
 
 /// GETATTR (RFC 1094 section 2.2.2).
-pub(crate) fn get_attributes<S: Store>(store: &S, file: Option<FileId>) -> NfsReply
-    requires { ForSome file (λ id. IsTrue ((S.reach store.now).known id)) }
-    ensures { (S.inodes store.now, reply_of result) ≡ attributes_got (S.inodes store.now) file }
-{
-    let Some(id) = file else {
-        return NfsReply::Refused(Status::Stale);
-    };
-    match store.get(id) {
-        None => NfsReply::Refused(Status::Stale),
-        Some(inode) => NfsReply::Attributes(inode.attributes(id)),
-    }
-}
-
-/// SETATTR (RFC 1094 section 2.2.3). `Memory` where there is no room for a file's new size.
-#[tactic(auto, using(bfs_tree::proofs::Laws::insert_same))]
-pub(crate) fn set_attributes<S: Store>(
-    store: &mut S,
-    now: Time,
+pub(crate) fn get_attributes<S: Store>(
+    store: &S,
+    context: &Context,
     file: Option<FileId>,
-    settings: &Settings,
-) -> Result<NfsReply, Memory>
-    requires { ForSome file (λ id. IsTrue ((S.reach store.old).owned id)) }
-    ensures done { IfOk result (λ reply. (S.inodes store.new, reply_of reply) ≡ attributes_set (S.inodes store.old) now file settings.now) }
-    ensures reach { S.reach store.new ≡ S.reach store.old }
+) -> Result<NfsReply, NotDone>
+    requires { Knows (S.reach store.now) (footprint (S.inodes store.now) context.now (call.get_attributes file)) }
+    ensures { Answers (S.inodes store.now) (S.inodes store.now) result (attributes_got (S.inodes store.now) context.now file) }
 {
-    let Some(id) = file else {
-        return Ok(NfsReply::Refused(Status::Stale));
-    };
-    let Some(inode) = store.get_mut(id) else {
-        return Ok(NfsReply::Refused(Status::Stale));
-    };
-    if let Some(status) = size_refusal(inode, settings.size) {
-        return Ok(NfsReply::Refused(status));
-    }
-    inode.set_attributes(now, settings)?;
+    let id = file.ok_or(Status::Stale)?;
+    let inode = store.get(id).ok_or(Status::Stale)?;
     Ok(NfsReply::Attributes(inode.attributes(id)))
 }
 
-// why an inode doesn't take a size
-fn size_refusal(inode: &Inode, size: Option<u32>) -> Option<Status>
-    ensures { option_map status_of result ≡ first_of (size_refusals inode.now.body size) }
+/// SETATTR (RFC 1094 section 2.2.3).
+#[tactic(auto, using(bfs_tree::proofs::Laws::insert_same))]
+pub(crate) fn set_attributes<S: Store>(
+    store: &mut S,
+    context: &Context,
+    file: Option<FileId>,
+    settings: &Settings,
+) -> Result<NfsReply, NotDone>
+    requires { Knows (S.reach store.old) (footprint (S.inodes store.old) context.now (call.set_attributes file settings.now)) }
+    ensures done { Answers (S.inodes store.old) (S.inodes store.new) result (attributes_set (S.inodes store.old) context.now file settings.now) }
+    ensures reach { S.reach store.new ≡ S.reach store.old }
 {
-    let size = size?;
+    let id = file.ok_or(Status::Stale)?;
+    let Some(inode) = store.get_mut(id) else {
+        return Err(NotDone::Refused(Status::Stale));
+    };
+    takes_size(inode, settings.size)?;
+    inode.set_attributes(context.time, settings)?;
+    Ok(NfsReply::Attributes(inode.attributes(id)))
+}
+
+// whether an inode takes a size, or why it does not
+fn takes_size(inode: &Inode, size: Option<u32>) -> Result<(), Status>
+    ensures { result_map_both (λ _. tt) status_of result ≡ checked (size_refusals inode.now.body size) }
+{
+    let Some(size) = size else {
+        return Ok(());
+    };
     if inode.is_directory() {
-        Some(Status::IsDir)
+        Err(Status::IsDir)
     } else if inode.is_link() {
-        Some(Status::Perm)
-    } else if size as usize > MOST_BYTES {
-        Some(Status::FBig)
+        Err(Status::Perm)
+    } else if size as usize > MOST_FILE_BYTES {
+        Err(Status::FBig)
     } else {
-        None
+        Ok(())
     }
 }

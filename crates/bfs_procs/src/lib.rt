@@ -1,21 +1,17 @@
 //! The procedures of NFS version 2 (RFC 1094 section 2.2), and the way from the bytes of a request to those of its reply.
 #![tactic(auto)]
 
-mod answering;
 mod attributes;
-mod context;
-mod directories;
-mod file_system;
-mod files;
-mod finding;
-mod limits;
-mod links;
-mod listing;
+mod calls;
+mod data;
 mod making;
+mod names;
+mod not_done;
 mod removing;
 mod renaming;
-mod running;
+mod requests;
+mod status;
 mod steps;
 
-pub use answering::answer;
-pub use running::run;
+pub use calls::run;
+pub use requests::answer;

@@ -1,48 +1,209 @@
-ghost use Rattle.std.specs.Prelude.{◌≡◌, ◌≤◌, ◌++◌, length, IfOk, IsTrue};
-ghost use Rattle.std.specs.List.{AllByRecursion};
-ghost use Rattle.bfs_model.specs.Limits.{most_name_bytes};
-ghost use Rattle.bfs_model.specs.Touched.{ids_in, new_ids};
-ghost use Rattle.bfs_model.specs.Procedures.OfDirectories.{directory_made};
-ghost use Rattle.bfs_wire.specs.Replies.{reply_of};
+// CREATE, MKDIR, SYMLINK and LINK, and the new name that each makes.
+ghost use Rattle.std.specs.Prelude.{◌≡◌, ◌<◌, ◌≤◌, ◌∷◌, [], ◌++◌, None, length, nat_lt, unwrap_or, IfOk};
+ghost use Rattle.std.specs.Result.{result_map_both};
+ghost use Rattle.bfs_model.specs.Arguments as call;
+ghost use Rattle.bfs_model.specs.Attributes.{attributes_of};
+ghost use Rattle.bfs_model.specs.Directories.{entry_named};
+ghost use Rattle.bfs_model.specs.Footprints.{footprint, IsFresh};
+ghost use Rattle.bfs_model.specs.Limits.{most_name_bytes, most_path_bytes, most_file_bytes, most_entries, most_links};
+ghost use Rattle.bfs_model.specs.Refusals.{checked, has_most_links};
+ghost use Rattle.bfs_model.specs.Replies as replies;
+ghost use Rattle.bfs_model.specs.Replies.{fbig, nospc};
+ghost use Rattle.bfs_model.specs.Tree.{spent_ordinal};
+ghost use Rattle.bfs_model.specs.Procedures.Making.{new_name_refusals, file_created, directory_made, symbolic_link_made, link_made};
+ghost use Rattle.bfs_procs.specs.Answers.{Answers};
+ghost use Rattle.bfs_tree.specs.Reach.{Knows};
+ghost use Rattle.bfs_wire.specs.Replies.{reply_of, status_of};
 
-use crate::context::Context;
-use crate::directories::found;
-use crate::finding::directory_at;
-use crate::links::new_name_of_links;
+use crate::not_done::NotDone;
 use crate::steps::{add_entry, add_link, put};
-use bfs_inode::{FileId, Inode};
+use bfs_inode::{Directory, FileId, Inode, is_bad_name};
 use bfs_tree::Store;
-use bfs_types::{Memory, Settings};
+use bfs_types::{Context, MOST_ENTRIES, MOST_FILE_BYTES, MOST_LINKS, Settings};
 use bfs_wire::{NfsReply, Status};
 use std::alloc::Global;
 
-/// MKDIR (RFC 1094 section 2.2.15). `Memory` where there is no room for the directory or for its entry.
-#[tactic(auto, using(bfs_model::proofs::WellFormed::Steps::insert_again, bfs_model::proofs::WellFormed::Each::got_put), unfolding(bfs_model::specs::Changes::changed))]
-pub(crate) fn make_directory<S: Store>(
+/// CREATE (RFC 1094 section 2.2.10).
+#[tactic(auto, using(crate::proofs::Fresh::above_first), unfolding(bfs_model::specs::Changes::changed))]
+pub(crate) fn create<S: Store>(
     alloc: Global,
     store: &mut S,
-    context: Context,
+    context: &Context,
     dir: Option<FileId>,
     name: &[u8],
     settings: &Settings,
-) -> Result<NfsReply, Memory>
-    requires owned { AllByRecursion (λ id. IsTrue ((S.reach store.old).owned id)) (ids_in dir ++ new_ids context.ordinal) }
+) -> Result<NfsReply, NotDone>
+    requires known { Knows (S.reach store.old) (footprint (S.inodes store.old) context.now (call.create dir name.now settings.now)) }
+    requires fresh { IsFresh (S.inodes store.old) context.now (call.create dir name.now settings.now) }
     requires short { length name.now ≤ most_name_bytes }
-    ensures done { IfOk result (λ reply. (S.inodes store.new, reply_of reply) ≡ directory_made (S.inodes store.old) context.ordinal context.time context.caller dir name.now settings.now) }
+    ensures done { Answers (S.inodes store.old) (S.inodes store.new) result (file_created (S.inodes store.old) context.now dir name.now settings.now) }
     ensures reach { S.reach store.new ≡ S.reach store.old }
 {
-    let (dir, inode, directory) = match directory_at(store, dir) {
-        Err(status) => return Ok(NfsReply::Refused(status)),
-        Ok(found) => found,
-    };
-    let id = match new_name_of_links(context.ordinal, directory, name, inode.links()) {
-        Err(status) => return Ok(NfsReply::Refused(status)),
-        Ok(id) => id,
-    };
-    let made = Inode::new_directory(alloc, context.time, context.caller, settings, dir);
-    let reply = found(id, &made);
-    add_entry(store, context.time, dir, id.number(), name, id)?;
-    add_link(store, context.time, dir);
-    put(store, id, made)?;
+    let dir = dir.ok_or(Status::Stale)?;
+    let inode = store.get(dir).ok_or(Status::Stale)?;
+    let directory = inode.directory().ok_or(Status::NotDir)?;
+    let id = new_file_id(context, directory, name, settings.size)?;
+    let file = Inode::new_file(alloc, context, settings)?;
+    let reply = made(id, &file);
+    add_entry(store, context, dir, name, id)?;
+    put(store, id, file)?;
     Ok(reply)
+}
+
+/// MKDIR (RFC 1094 section 2.2.15).
+#[tactic(auto, using(crate::proofs::Fresh::above_first, bfs_model::proofs::WellFormed::Steps::insert_again, bfs_model::proofs::Maps::got_put), unfolding(bfs_model::specs::Changes::changed))]
+pub(crate) fn make_directory<S: Store>(
+    alloc: Global,
+    store: &mut S,
+    context: &Context,
+    dir: Option<FileId>,
+    name: &[u8],
+    settings: &Settings,
+) -> Result<NfsReply, NotDone>
+    requires known { Knows (S.reach store.old) (footprint (S.inodes store.old) context.now (call.make_directory dir name.now settings.now)) }
+    requires fresh { IsFresh (S.inodes store.old) context.now (call.make_directory dir name.now settings.now) }
+    requires short { length name.now ≤ most_name_bytes }
+    ensures done { Answers (S.inodes store.old) (S.inodes store.new) result (directory_made (S.inodes store.old) context.now dir name.now settings.now) }
+    ensures reach { S.reach store.new ≡ S.reach store.old }
+{
+    let dir = dir.ok_or(Status::Stale)?;
+    let inode = store.get(dir).ok_or(Status::Stale)?;
+    let directory = inode.directory().ok_or(Status::NotDir)?;
+    let id = new_name_of_links(context, directory, name, inode.links())?;
+    let new = Inode::new_directory(alloc, context, settings, dir);
+    let reply = made(id, &new);
+    add_entry(store, context, dir, name, id)?;
+    add_link(store, context.time, dir);
+    put(store, id, new)?;
+    Ok(reply)
+}
+
+/// SYMLINK (RFC 1094 section 2.2.14).
+#[tactic(auto, using(crate::proofs::Fresh::above_first), unfolding(bfs_model::specs::Changes::changed))]
+pub(crate) fn make_symbolic_link<S: Store>(
+    alloc: Global,
+    store: &mut S,
+    context: &Context,
+    dir: Option<FileId>,
+    name: &[u8],
+    path: &[u8],
+    settings: &Settings,
+) -> Result<NfsReply, NotDone>
+    requires known { Knows (S.reach store.old) (footprint (S.inodes store.old) context.now (call.make_symbolic_link dir name.now path.now settings.now)) }
+    requires fresh { IsFresh (S.inodes store.old) context.now (call.make_symbolic_link dir name.now path.now settings.now) }
+    requires short { length name.now ≤ most_name_bytes }
+    requires short_path { length path.now ≤ most_path_bytes }
+    ensures done { Answers (S.inodes store.old) (S.inodes store.new) result (symbolic_link_made (S.inodes store.old) context.now dir name.now path.now settings.now) }
+    ensures reach { S.reach store.new ≡ S.reach store.old }
+{
+    let dir = dir.ok_or(Status::Stale)?;
+    let inode = store.get(dir).ok_or(Status::Stale)?;
+    let directory = inode.directory().ok_or(Status::NotDir)?;
+    let id = new_name(context, directory, name)?;
+    let link = Inode::new_symbolic_link(alloc, context, settings, path)?;
+    add_entry(store, context, dir, name, id)?;
+    put(store, id, link)?;
+    Ok(NfsReply::Done)
+}
+
+/// LINK (RFC 1094 section 2.2.13).
+#[tactic(auto, using(crate::proofs::Fresh::above_second), unfolding(bfs_model::specs::Changes::changed))]
+pub(crate) fn link<S: Store>(
+    store: &mut S,
+    context: &Context,
+    file: Option<FileId>,
+    dir: Option<FileId>,
+    name: &[u8],
+) -> Result<NfsReply, NotDone>
+    requires known { Knows (S.reach store.old) (footprint (S.inodes store.old) context.now (call.make_link file dir name.now)) }
+    requires fresh { IsFresh (S.inodes store.old) context.now (call.make_link file dir name.now) }
+    requires short { length name.now ≤ most_name_bytes }
+    ensures done { Answers (S.inodes store.old) (S.inodes store.new) result (link_made (S.inodes store.old) context.now file dir name.now) }
+    ensures reach { S.reach store.new ≡ S.reach store.old }
+{
+    let id = file.ok_or(Status::Stale)?;
+    let linked = store.get(id).ok_or(Status::Stale)?;
+    if linked.is_directory() {
+        return Err(NotDone::Refused(Status::IsDir));
+    }
+    let dir = dir.ok_or(Status::Stale)?;
+    let inode = store.get(dir).ok_or(Status::Stale)?;
+    let directory = inode.directory().ok_or(Status::NotDir)?;
+    new_name_of_links(context, directory, name, linked.links())?;
+    add_entry(store, context, dir, name, id)?;
+    add_link(store, context.time, id);
+    Ok(NfsReply::Done)
+}
+
+// what is answered with the inode that was made under that fileid
+fn made(id: FileId, inode: &Inode) -> NfsReply
+    ensures { reply_of result ≡ replies.found id (attributes_of id inode.now) }
+{
+    NfsReply::Found {
+        file: id,
+        attributes: inode.attributes(id),
+    }
+}
+
+// the fileid for a new name in a directory, or why there is none
+fn new_name(context: &Context, directory: &Directory, name: &[u8]) -> Result<FileId, Status>
+    ensures checked { result_map_both (λ _. tt) status_of result ≡ checked (new_name_refusals context.now directory.now name.now) }
+    ensures value { IfOk result (λ id. id ≡ context.now.ordinal) }
+    ensures unspent { IfOk result (λ id. context.now.ordinal < spent_ordinal) }
+    ensures room { IfOk result (λ id. length directory.now.entries < most_entries) }
+    ensures free { IfOk result (λ id. entry_named name.now directory.now.entries ≡ None) }
+{
+    if is_bad_name(name) {
+        return Err(Status::Perm);
+    }
+    if directory.entry(name).is_some() {
+        return Err(Status::Exist);
+    }
+    let id = context.ordinal.file_id().ok_or(Status::NoSpc)?;
+    if directory.len() >= MOST_ENTRIES {
+        return Err(Status::NoSpc);
+    }
+    Ok(id)
+}
+
+// .. of a file of that size
+fn new_file_id(
+    context: &Context,
+    directory: &Directory,
+    name: &[u8],
+    size: Option<u32>,
+) -> Result<FileId, Status>
+    ensures checked { result_map_both (λ _. tt) status_of result ≡ checked (new_name_refusals context.now directory.now name.now ++ (nat_lt most_file_bytes (unwrap_or size 0), fbig) ∷ []) }
+    ensures value { IfOk result (λ id. id ≡ context.now.ordinal) }
+    ensures unspent { IfOk result (λ id. context.now.ordinal < spent_ordinal) }
+    ensures room { IfOk result (λ id. length directory.now.entries < most_entries) }
+    ensures free { IfOk result (λ id. entry_named name.now directory.now.entries ≡ None) }
+    ensures small { IfOk result (λ id. unwrap_or size 0 ≤ most_file_bytes) }
+{
+    let id = new_name(context, directory, name)?;
+    if size.unwrap_or(0) as usize > MOST_FILE_BYTES {
+        return Err(Status::FBig);
+    }
+    Ok(id)
+}
+
+// .. which makes one link more of an inode that has so many
+fn new_name_of_links(
+    context: &Context,
+    directory: &Directory,
+    name: &[u8],
+    links: u32,
+) -> Result<FileId, Status>
+    ensures checked { result_map_both (λ _. tt) status_of result ≡ checked (new_name_refusals context.now directory.now name.now ++ (has_most_links links, nospc) ∷ []) }
+    ensures value { IfOk result (λ id. id ≡ context.now.ordinal) }
+    ensures unspent { IfOk result (λ id. context.now.ordinal < spent_ordinal) }
+    ensures room { IfOk result (λ id. length directory.now.entries < most_entries) }
+    ensures free { IfOk result (λ id. entry_named name.now directory.now.entries ≡ None) }
+    ensures few { IfOk result (λ id. links < most_links) }
+{
+    let id = new_name(context, directory, name)?;
+    if links >= MOST_LINKS {
+        return Err(Status::NoSpc);
+    }
+    Ok(id)
 }

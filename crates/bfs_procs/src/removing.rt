@@ -1,76 +1,91 @@
-ghost use Rattle.std.specs.Prelude.{◌≡◌, ◌∷◌, [], not, ◌++◌, IsTrue};
-ghost use Rattle.std.specs.Option.{option_map};
-ghost use Rattle.std.specs.List.{AllByRecursion};
-ghost use Rattle.bfs_model.specs.Tree.{is_directory_body};
+// REMOVE and RMDIR.
+ghost use Rattle.std.specs.Prelude.{◌≡◌, ◌∷◌, [], not, Option, Ok};
+ghost use Rattle.std.specs.Option.{ok_or};
+ghost use Rattle.std.specs.Result.{result_map_both};
+ghost use Rattle.bfs_model.specs.Arguments as call;
+ghost use Rattle.bfs_model.specs.Footprints.{footprint};
+ghost use Rattle.bfs_model.specs.Refusals.{checked};
 ghost use Rattle.bfs_model.specs.Replies.{notdir, notempty};
-ghost use Rattle.bfs_model.specs.Steps.{first_of};
-ghost use Rattle.bfs_model.specs.Touched.{ids_in, child_at};
-ghost use Rattle.bfs_model.specs.Procedures.OfFiles.{file_removed};
-ghost use Rattle.bfs_model.specs.Procedures.OfDirectories.{directory_removed, has_entries};
-ghost use Rattle.bfs_wire.specs.Replies.{reply_of, status_of};
+ghost use Rattle.bfs_model.specs.Tree.{is_directory_body};
+ghost use Rattle.bfs_model.specs.Procedures.Removing.{file_removed, directory_removed, has_entries};
+ghost use Rattle.bfs_procs.specs.Answers.{Answers, name_leads};
+ghost use Rattle.bfs_tree.specs.Reach.{Knows};
+ghost use Rattle.bfs_wire.specs.Replies.{status_of};
 
-use crate::finding::child_at;
+use crate::not_done::NotDone;
 use crate::steps::{drop_entry, lose_link, lose_name};
-use bfs_inode::{FileId, Inode, Time};
+use bfs_inode::{Directory, FileId, Inode, is_bad_name};
 use bfs_tree::Store;
+use bfs_types::Context;
 use bfs_wire::{NfsReply, Status};
 
 /// REMOVE (RFC 1094 section 2.2.11).
 #[tactic(auto, unfolding(bfs_model::specs::Changes::changed))]
 pub(crate) fn remove<S: Store>(
     store: &mut S,
-    now: Time,
+    context: &Context,
     dir: Option<FileId>,
     name: &[u8],
-) -> NfsReply
-    requires { AllByRecursion (λ id. IsTrue ((S.reach store.old).owned id)) (ids_in dir ++ ids_in (child_at (S.inodes store.old) dir name.now)) }
-    ensures done { (S.inodes store.new, reply_of result) ≡ file_removed (S.inodes store.old) now dir name.now }
+) -> Result<NfsReply, NotDone>
+    requires { Knows (S.reach store.old) (footprint (S.inodes store.old) context.now (call.remove dir name.now)) }
+    ensures done { Answers (S.inodes store.old) (S.inodes store.new) result (file_removed (S.inodes store.old) context.now dir name.now) }
     ensures reach { S.reach store.new ≡ S.reach store.old }
 {
-    let (dir, id, child) = match child_at(store, dir, name) {
-        Err(status) => return NfsReply::Refused(status),
-        Ok(found) => found,
-    };
+    let dir = dir.ok_or(Status::Stale)?;
+    let inode = store.get(dir).ok_or(Status::Stale)?;
+    let directory = inode.directory().ok_or(Status::NotDir)?;
+    let id = child_of(directory, name)?;
+    let child = store.get(id).ok_or(Status::Stale)?;
     if child.is_directory() {
-        return NfsReply::Refused(Status::IsDir);
+        return Err(NotDone::Refused(Status::IsDir));
     }
-    drop_entry(store, now, dir, name);
-    lose_name(store, now, id);
-    NfsReply::Done
+    drop_entry(store, context.time, dir, name);
+    lose_name(store, context.time, id);
+    Ok(NfsReply::Done)
 }
 
 /// RMDIR (RFC 1094 section 2.2.16).
 #[tactic(auto, unfolding(bfs_model::specs::Changes::changed))]
 pub(crate) fn remove_directory<S: Store>(
     store: &mut S,
-    now: Time,
+    context: &Context,
     dir: Option<FileId>,
     name: &[u8],
-) -> NfsReply
-    requires { AllByRecursion (λ id. IsTrue ((S.reach store.old).owned id)) (ids_in dir ++ ids_in (child_at (S.inodes store.old) dir name.now)) }
-    ensures done { (S.inodes store.new, reply_of result) ≡ directory_removed (S.inodes store.old) now dir name.now }
+) -> Result<NfsReply, NotDone>
+    requires { Knows (S.reach store.old) (footprint (S.inodes store.old) context.now (call.remove_directory dir name.now)) }
+    ensures done { Answers (S.inodes store.old) (S.inodes store.new) result (directory_removed (S.inodes store.old) context.now dir name.now) }
     ensures reach { S.reach store.new ≡ S.reach store.old }
 {
-    let (dir, id, child) = match child_at(store, dir, name) {
-        Err(status) => return NfsReply::Refused(status),
-        Ok(found) => found,
-    };
-    if let Some(status) = removal_refusal(child) {
-        return NfsReply::Refused(status);
-    }
-    drop_entry(store, now, dir, name);
+    let dir = dir.ok_or(Status::Stale)?;
+    let inode = store.get(dir).ok_or(Status::Stale)?;
+    let directory = inode.directory().ok_or(Status::NotDir)?;
+    let id = child_of(directory, name)?;
+    is_empty_directory(store.get(id).ok_or(Status::Stale)?)?;
+    drop_entry(store, context.time, dir, name);
     store.remove(id);
-    lose_link(store, now, dir);
-    NfsReply::Done
+    lose_link(store, context.time, dir);
+    Ok(NfsReply::Done)
 }
 
-// why an inode is no directory that can be removed
-fn removal_refusal(inode: &Inode) -> Option<Status>
-    ensures { option_map status_of result ≡ first_of ((not (is_directory_body inode.now.body), notdir) ∷ (has_entries inode.now.body, notempty) ∷ []) }
+/// The fileid of what a name that may go leads to. `Perm` if the name is a bad one, and `NoEnt` if no entry has it.
+pub(crate) fn child_of(directory: &Directory, name: &[u8]) -> Result<FileId, Status>
+    ensures { result_map_both (λ id. id) status_of result ≡ name_leads directory.now name.now }
 {
-    match inode.directory() {
-        None => Some(Status::NotDir),
-        Some(directory) if !directory.is_empty() => Some(Status::NotEmpty),
-        Some(_) => None,
+    if is_bad_name(name) {
+        return Err(Status::Perm);
+    }
+    let entry = directory.entry(name).ok_or(Status::NoEnt)?;
+    Ok(entry.child)
+}
+
+// whether an inode is a directory that can be removed, or why it is none
+fn is_empty_directory(inode: &Inode) -> Result<(), Status>
+    ensures { result_map_both (λ _. tt) status_of result ≡ checked ((not (is_directory_body inode.now.body), notdir) ∷ (has_entries inode.now.body, notempty) ∷ []) }
+{
+    let directory = inode.directory().ok_or(Status::NotDir)?;
+    if directory.is_empty() {
+        Ok(())
+    } else {
+        Err(Status::NotEmpty)
     }
 }

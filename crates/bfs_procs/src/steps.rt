@@ -1,17 +1,19 @@
 // What procedures do to the inode of one fileid, where it is there.
-ghost use Rattle.std.specs.Prelude.{◌≡◌, ◌<◌, ◌≤◌, length, IsTrue, IfOk};
+ghost use Rattle.std.specs.Prelude.{◌≡◌, ◌<◌, ◌≤◌, None, length, IsTrue, IfOk};
+ghost use Rattle.std.specs.List.{All};
 ghost use Rattle.std.specs.Option.{ForSome};
 ghost use Rattle.std.specs.FinMap.{get, insert};
 ghost use Rattle.bfs_model.specs.Limits.{most_name_bytes, most_entries, most_links};
-ghost use Rattle.bfs_model.specs.Changes.{changed, link_lost, with_ctime, with_entry, with_link, with_link_less, with_parent, without_entry};
-ghost use Rattle.bfs_model.specs.Procedures.OfFiles.{entry_made};
-ghost use Rattle.bfs_model.specs.Tree.{entries_at};
+ghost use Rattle.bfs_model.specs.Changes.{changed, link_lost, with_ctime, with_link, with_link_less, with_parent, without_entry};
+ghost use Rattle.bfs_model.specs.Directories.{entry_named};
+ghost use Rattle.bfs_model.specs.Procedures.Making.{with_name};
+ghost use Rattle.bfs_model.specs.Tree.{entries_at, spent_ordinal};
 
 use bfs_inode::{FileId, Inode, Time};
 use bfs_tree::Store;
-use bfs_types::Memory;
+use bfs_types::{Context, Memory};
 
-/// Takes the entry of that name out of a directory.
+/// Removes the entry of that name from a directory.
 #[tactic(auto, unfolding(bfs_model::specs::Changes::changed))]
 pub(crate) fn drop_entry<S: Store>(store: &mut S, now: Time, dir: FileId, name: &[u8])
     requires { IsTrue ((S.reach store.old).owned dir) }
@@ -23,29 +25,32 @@ pub(crate) fn drop_entry<S: Store>(store: &mut S, now: Time, dir: FileId, name: 
     }
 }
 
-/// Puts an entry more in a directory. `Memory` where there is no room for it.
+/// Adds an entry to a directory, whose cookie is the call's ordinal. `Memory` if memory runs out.
 #[tactic(auto, unfolding(bfs_model::specs::Changes::changed))]
 pub(crate) fn add_entry<S: Store>(
     store: &mut S,
-    now: Time,
+    context: &Context,
     dir: FileId,
-    cookie: u32,
     name: &[u8],
     child: FileId,
 ) -> Result<(), Memory>
     requires owned { IsTrue ((S.reach store.old).owned dir) }
+    requires unspent { context.now.ordinal < spent_ordinal }
     requires room { length (entries_at (get (S.inodes store.old) dir)) < most_entries }
+    requires above { All (λ entry. entry.cookie < context.now.ordinal) (entries_at (get (S.inodes store.old) dir)) }
+    requires free { entry_named name.now (entries_at (get (S.inodes store.old) dir)) ≡ None }
     requires short { length name.now ≤ most_name_bytes }
-    ensures done { IfOk result (λ _. S.inodes store.new ≡ changed (S.inodes store.old) dir (with_entry now (entry_made cookie name.now child))) }
+    ensures done { IfOk result (λ _. S.inodes store.new ≡ changed (S.inodes store.old) dir (with_name context.now name.now child)) }
     ensures reach { S.reach store.new ≡ S.reach store.old }
 {
+    let cookie = context.ordinal.number() as u32;
     if let Some(inode) = store.get_mut(dir) {
-        inode.add_entry(now, cookie, name, child)?;
+        inode.add_entry(context.time, cookie, name, child)?;
     }
     Ok(())
 }
 
-/// Puts an inode at a fileid. `Memory` where there is no room for it.
+/// Puts an inode at a fileid. `Memory` if memory runs out.
 pub(crate) fn put<S: Store>(store: &mut S, id: FileId, inode: Inode) -> Result<(), Memory>
     requires { IsTrue ((S.reach store.old).owned id) }
     ensures done { IfOk result (λ _. S.inodes store.new ≡ insert (S.inodes store.old) id inode) }
@@ -69,7 +74,7 @@ pub(crate) fn set_parent<S: Store>(store: &mut S, parent: FileId, dir: FileId)
     }
 }
 
-/// Counts a name more of an inode.
+/// Counts one more link of an inode.
 #[tactic(auto, unfolding(bfs_model::specs::Changes::changed))]
 pub(crate) fn add_link<S: Store>(store: &mut S, now: Time, id: FileId)
     requires owned { IsTrue ((S.reach store.old).owned id) }
@@ -82,7 +87,7 @@ pub(crate) fn add_link<S: Store>(store: &mut S, now: Time, id: FileId)
     }
 }
 
-/// Counts a name less of an inode, which stays.
+/// Counts one link less of an inode, which stays.
 #[tactic(auto, unfolding(bfs_model::specs::Changes::changed))]
 pub(crate) fn lose_link<S: Store>(store: &mut S, now: Time, id: FileId)
     requires { IsTrue ((S.reach store.old).owned id) }
@@ -94,7 +99,7 @@ pub(crate) fn lose_link<S: Store>(store: &mut S, now: Time, id: FileId)
     }
 }
 
-/// Says that an inode has changed now.
+/// Sets the time at which an inode last changed.
 #[tactic(auto, unfolding(bfs_model::specs::Changes::changed))]
 pub(crate) fn set_ctime<S: Store>(store: &mut S, now: Time, id: FileId)
     requires { IsTrue ((S.reach store.old).owned id) }
@@ -106,7 +111,7 @@ pub(crate) fn set_ctime<S: Store>(store: &mut S, now: Time, id: FileId)
     }
 }
 
-/// Counts a name less of a file or a symbolic link, which goes with its last.
+/// Counts one link less of a file or a symbolic link, which goes with its last.
 #[tactic(auto, unfolding(bfs_model::specs::Changes::link_lost, bfs_model::specs::Changes::changed))]
 pub(crate) fn lose_name<S: Store>(store: &mut S, now: Time, id: FileId)
     requires { IsTrue ((S.reach store.old).owned id) }

@@ -1,7 +1,7 @@
 -- Which fileids a store knows, and which it may change.
 use Rattle.std.specs.Prelude.{ℕ, Bool, true, IsTrue}
 use Rattle.std.specs.List.{AllByRecursion}
-use Rattle.bfs_model.specs.Touched as model
+use Rattle.bfs_model.specs.Footprints as model
 
 pub record Reach : Type 0 where
   -- those that it answers for

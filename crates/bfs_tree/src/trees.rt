@@ -3,7 +3,7 @@ ghost use Rattle.std.specs.Option.{option_copied};
 ghost use Rattle.std.specs.FinMap.{entries, get, keys};
 ghost use Rattle.std.specs.List.Sorted.{IsStrictlyIncreasing};
 ghost use Rattle.bfs_model.specs.Tree.{Inodes, new_tree};
-ghost use Rattle.bfs_model.specs.Procedures.OfStatus.{used_blocks};
+ghost use Rattle.bfs_model.specs.Procedures.Status.{used_blocks};
 ghost use Rattle.bfs_tree.specs.Maps.{map_of};
 ghost use Rattle.bfs_tree.specs.Reach.{Reach, everywhere};
 ghost use Rattle.bfs_tree.specs.Tree.{at_home};

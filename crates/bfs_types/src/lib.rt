@@ -4,6 +4,7 @@
 
 mod attributes;
 mod bytes;
+mod context;
 mod cred;
 mod file_id;
 mod limits;
@@ -14,6 +15,7 @@ mod time;
 
 pub use attributes::{Attributes, FileType};
 pub use bytes::{Bytes, LinkPath, Name};
+pub use context::Context;
 pub use cred::Cred;
 pub use file_id::FileId;
 pub use limits::{

@@ -1,114 +1,105 @@
-ghost use Rattle.std.specs.Prelude.{◌≡◌, ◌++◌, IsTrue};
-ghost use Rattle.std.specs.List.{AllByRecursion};
-ghost use Rattle.std.specs.Option.{ForSome};
-ghost use Rattle.bfs_model.specs.Directories.{entry_named};
-ghost use Rattle.bfs_model.specs.Procedures.Renaming as model;
-ghost use Rattle.bfs_model.specs.Touched.{ids_in, child_at, moves_a_directory};
-ghost use Rattle.bfs_model.specs.Tree.{Time};
-ghost use Rattle.bfs_model.specs.Steps.{first_of};
-ghost use Rattle.bfs_procs.specs.Plans.{IsPlan, IsSeen, IsUnlessRefused, move_by};
-ghost use Rattle.bfs_procs.specs.Renaming.{moves_directory, refusals};
+// What RENAME is to do, found on the inodes as they are.
+ghost use Rattle.std.specs.Prelude.{◌≡◌, ◌∷◌, [], IfOk, IsTrue};
+ghost use Rattle.std.specs.Option.{ForSome, option_map};
+ghost use Rattle.std.specs.Result.{result_map_both};
+ghost use Rattle.bfs_model.specs.Arguments as call;
+ghost use Rattle.bfs_model.specs.Directories.{is_bad_name};
+ghost use Rattle.bfs_model.specs.Footprints.{footprint};
+ghost use Rattle.bfs_model.specs.Refusals.{checked};
+ghost use Rattle.bfs_model.specs.Replies.{perm};
+ghost use Rattle.bfs_model.specs.Procedures.Renaming.{moves_directory, renaming_found, renaming_planned};
+ghost use Rattle.bfs_procs.specs.Renaming.{KeepsLimits, replaced_at};
+ghost use Rattle.bfs_tree.specs.Reach.{Knows};
+ghost use Rattle.bfs_wire.specs.Replies.{status_of};
 
-use crate::finding::directory_at;
-use crate::renaming::moves::Move;
 use crate::renaming::refusals::{Renaming, Replaced};
-use bfs_inode::{Directory, FileId, is_bad_name};
+use bfs_inode::{FileId, is_bad_name};
 use bfs_tree::Store;
-use bfs_types::Ordinal;
+use bfs_types::Context;
 use bfs_wire::Status;
 
-// what comes of a call
-pub(super) enum Plan {
-    Refuse(Status),
-    // both names are of one inode
-    Leave,
-    Carry(Move),
-}
-
-// what is to be done, as the inodes are
+/// What is to be done, or nothing if both names lead to the same inode, or why it may not be.
 pub(super) fn planned<S: Store>(
     store: &S,
-    ordinal: Ordinal,
+    context: &Context,
     from: Option<FileId>,
     from_name: &[u8],
     to: Option<FileId>,
     to_name: &[u8],
-) -> Plan
-    requires owned { AllByRecursion (λ id. IsTrue ((S.reach store.now).owned id)) (ids_in from ++ ids_in to ++ ids_in (child_at (S.inodes store.now) from from_name.now) ++ ids_in (child_at (S.inodes store.now) to to_name.now)) }
-    requires whole { IsTrue (moves_a_directory (S.inodes store.now) from from_name.now to) → IsTrue ((S.reach store.now).whole) }
-    ensures { (now : Time) → IsPlan (S.inodes store.now) (S.reach store.now) ordinal now from_name.now to_name.now result (model.entry_renamed (S.inodes store.now) ordinal now from from_name.now to to_name.now) }
+) -> Result<Option<Renaming>, Status>
+    requires { Knows (S.reach store.now) (footprint (S.inodes store.now) context.now (call.rename from from_name.now to to_name.now)) }
+    ensures plan { result_map_both (λ plan. plan) status_of result ≡ renaming_planned (S.inodes store.now) context.now from from_name.now to to_name.now }
+    ensures within { KeepsLimits (S.inodes store.now) result to }
 {
-    let (from, _, directory) = match directory_at(store, from) {
-        Err(status) => return Plan::Refuse(status),
-        Ok(found) => found,
-    };
-    let (to, to_inode, to_directory) = match directory_at(store, to) {
-        Err(status) => return Plan::Refuse(status),
-        Ok(found) => found,
-    };
-    if is_bad_name(from_name) || is_bad_name(to_name) {
-        return Plan::Refuse(Status::Perm);
+    let plan = found(store, context, from, from_name, to, to_name)?;
+    if let Some(renaming) = plan {
+        renaming.is_allowed(store, context)?;
     }
-    let Some(entry) = directory.entry(from_name) else {
-        return Plan::Refuse(Status::NoEnt);
-    };
-    let moved = entry.child;
-    let Some(moved_inode) = store.get(moved) else {
-        return Plan::Refuse(Status::Stale);
-    };
-    let renaming = Renaming {
-        ordinal,
+    Ok(plan)
+}
+
+// what is renamed, before it is known whether that may be
+fn found<S: Store>(
+    store: &S,
+    context: &Context,
+    from: Option<FileId>,
+    from_name: &[u8],
+    to: Option<FileId>,
+    to_name: &[u8],
+) -> Result<Option<Renaming>, Status>
+    requires { Knows (S.reach store.now) (footprint (S.inodes store.now) context.now (call.rename from from_name.now to to_name.now)) }
+    ensures plan { result_map_both (λ plan. plan) status_of result ≡ renaming_found (S.inodes store.now) from from_name.now to to_name.now }
+    ensures within { KeepsLimits (S.inodes store.now) result to }
+    ensures whole { IfOk result (λ plan. ForSome plan (λ renaming. IsTrue (moves_directory renaming) → IsTrue ((S.reach store.now).whole))) }
+{
+    let from = from.ok_or(Status::Stale)?;
+    let from_inode = store.get(from).ok_or(Status::Stale)?;
+    let from_directory = from_inode.directory().ok_or(Status::NotDir)?;
+    let to = to.ok_or(Status::Stale)?;
+    let to_inode = store.get(to).ok_or(Status::Stale)?;
+    let to_directory = to_inode.directory().ok_or(Status::NotDir)?;
+    are_good(from_name, to_name)?;
+    let moved = from_directory.entry(from_name).ok_or(Status::NoEnt)?.child;
+    let moved_inode = store.get(moved).ok_or(Status::Stale)?;
+    let existing = to_directory.entry(to_name).map(|entry| entry.child);
+    if existing == Some(moved) {
+        return Ok(None);
+    }
+    Ok(Some(Renaming {
         from,
         to,
         entries: to_directory.len(),
         links: to_inode.links(),
         moved,
         is_directory: moved_inode.is_directory(),
-    };
-    onto(store, renaming, to_directory, to_name)
+        replaced: replaced_at(store, existing)?,
+    }))
 }
 
-// by what has the new name already
-fn onto<S: Store>(store: &S, renaming: Renaming, directory: &Directory, name: &[u8]) -> Plan
-    requires from { IsTrue ((S.reach store.now).owned renaming.from) }
-    requires to { IsTrue ((S.reach store.now).owned renaming.to) }
-    requires moved { IsTrue ((S.reach store.now).owned renaming.moved) }
-    requires existing { ForSome (entry_named name.now directory.now.entries) (λ entry. IsTrue ((S.reach store.now).owned entry.child)) }
-    requires whole { IsTrue (moves_directory renaming) → IsTrue ((S.reach store.now).whole) }
-    ensures { (r : model.Renaming) → IsSeen (S.inodes store.now) renaming r (entry_named name.now directory.now.entries) → IsPlan (S.inodes store.now) (S.reach store.now) r.ordinal r.now r.from_name r.to_name result (model.renamed_onto (S.inodes store.now) r (entry_named name.now directory.now.entries)) }
+// whether both names are ones that a call may take and make
+fn are_good(from_name: &[u8], to_name: &[u8]) -> Result<(), Status>
+    ensures { result_map_both (λ _. tt) status_of result ≡ checked ((is_bad_name from_name.now, perm) ∷ (is_bad_name to_name.now, perm) ∷ []) }
 {
-    let Some(entry) = directory.entry(name) else {
-        return unless_refused(store, renaming, Replaced::Nothing, None);
-    };
-    let id = entry.child;
-    if id == renaming.moved {
-        return Plan::Leave;
-    }
-    match store.get(id) {
-        None => Plan::Refuse(Status::Stale),
-        Some(inode) => unless_refused(store, renaming, Replaced::by(inode), Some(id)),
+    if is_bad_name(from_name) || is_bad_name(to_name) {
+        Err(Status::Perm)
+    } else {
+        Ok(())
     }
 }
 
-// the move, or why it may not be
-fn unless_refused<S: Store>(
-    store: &S,
-    renaming: Renaming,
-    kind: Replaced,
-    replaced: Option<FileId>,
-) -> Plan
-    requires { IsTrue (moves_directory renaming) → IsTrue ((S.reach store.now).whole) }
-    ensures { IsUnlessRefused (first_of (refusals (S.inodes store.now) renaming kind)) (move_by renaming replaced) result }
+// what has the new name already
+fn replaced_at<S: Store>(store: &S, id: Option<FileId>) -> Result<Option<Replaced>, Status>
+    requires { ForSome id (λ id. IsTrue ((S.reach store.now).known id)) }
+    ensures { result_map_both (option_map (λ replaced. replaced)) status_of result ≡ replaced_at (S.inodes store.now) id }
 {
-    if let Some(status) = renaming.refusal(store, kind) {
-        return Plan::Refuse(status);
-    }
-    let moves_directory = renaming.moves_directory();
-    Plan::Carry(Move {
-        from: renaming.from,
-        to: renaming.to,
-        moved: renaming.moved,
-        replaced,
-        moves_directory,
-    })
+    let Some(id) = id else {
+        return Ok(None);
+    };
+    let inode = store.get(id).ok_or(Status::Stale)?;
+    let has_entries = inode.directory().is_some_and(|directory| !directory.is_empty());
+    Ok(Some(Replaced {
+        id,
+        is_directory: inode.is_directory(),
+        has_entries,
+    }))
 }

@@ -1,14 +1,11 @@
 -- What is planned can be carried out.
+use Rattle.std.proofs.Common.{◌≡◌, Ok, sym, ap, ◌∙◌}
+use Rattle.bfs_procs.proofs.CarryingOut.{can_carry_out}
 use Rattle.bfs_procs.proofs.renaming.rename.Goals as goal
 
-pub carry_out-requires-clause-owned : goal.carry_out-requires-clause-owned
-carry_out-requires-clause-owned g c = (c.in-Carry.ensures c.args.context.time).can.owned
-
-pub carry_out-requires-clause-unspent : goal.carry_out-requires-clause-unspent
-carry_out-requires-clause-unspent g c = (c.in-Carry.ensures c.args.context.time).can.unspent
-
-pub carry_out-requires-clause-few : goal.carry_out-requires-clause-few
-carry_out-requires-clause-few g c = (c.in-Carry.ensures c.args.context.time).can.few
-
-pub carry_out-requires-clause-room : goal.carry_out-requires-clause-room
-carry_out-requires-clause-room g c = (c.in-Carry.ensures c.args.context.time).can.room
+pub carry_out-requires-clause-can : goal.carry_out-requires-clause-can
+carry_out-requires-clause-can g c =
+    can_carry_out _ _ _ _ _ _ _ _
+    (sym c.in_ok-renaming.ensures.plan ∙ ap (λ plan. Ok plan) c.in-Some.is)
+    (rw c.in-Some.is at c.in_ok-renaming.ensures.within)
+    c.requires.fresh c.requires.known (g.met.S.Store.owns_all c.args.store.now)

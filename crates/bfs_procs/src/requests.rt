@@ -2,12 +2,12 @@ ghost use Rattle.std.specs.Prelude.{◌≡◌, IfOk};
 ghost use Rattle.bfs_model.specs.Call as model;
 ghost use Rattle.bfs_model.specs.Replies.{results, success};
 ghost use Rattle.bfs_model.specs.Serial.{answer, answer_call};
-ghost use Rattle.bfs_model.specs.Touched.{footprint_of, footprint_of_call};
+ghost use Rattle.bfs_model.specs.Footprints.{footprint_of, footprint_of_call, IsFreshFor};
 ghost use Rattle.bfs_tree.specs.Reach.{Knows};
 ghost use Rattle.bfs_rpc.specs.Calls.{request_of};
 ghost use Rattle.bfs_wire.specs.Replies.{reply_of};
 
-use crate::running::run;
+use crate::calls::run;
 use bfs_inode::Time;
 use bfs_rpc::{Call, parse_call, put_success, write_garbage, write_reject};
 use bfs_tree::Store;
@@ -15,9 +15,9 @@ use bfs_types::{Memory, Ordinal};
 use bfs_wire::{NfsReply, parse_args, put_reply};
 use std::alloc::Global;
 
-/// Answers the request that the bytes spell, under its ordinal and at the time of its batch: the bytes of the reply,
-/// none where the request can't be answered (RFC 5531 section 9). After want of memory it is not said what the store
-/// holds; which fileids it knows stays.
+/// Answers the request that the bytes spell, under its ordinal and at the time of its batch: gives the bytes of the reply,
+/// none if the request can't be answered (RFC 5531 section 9). The store knows what the request touches, and the ordinal is
+/// fresh for it. `Memory` if memory runs out: what the store holds then is unspecified, and which fileids it knows stays.
 #[tactic(auto, unfolding(bfs_model::specs::Serial::answer))]
 pub fn answer<S: Store>(
     alloc: Global,
@@ -26,7 +26,8 @@ pub fn answer<S: Store>(
     time: Time,
     request: &[u8],
 ) -> Result<Vec<u8>, Memory>
-    requires { Knows (S.reach store.old) (footprint_of (S.inodes store.old) ordinal request.now) }
+    requires known { Knows (S.reach store.old) (footprint_of (S.inodes store.old) ordinal time request.now) }
+    requires fresh { IsFreshFor (S.inodes store.old) ordinal (footprint_of (S.inodes store.old) ordinal time request.now) }
     ensures done { IfOk result (λ reply. (S.inodes store.new, reply.items) ≡ answer (S.inodes store.old) ordinal time request.now) }
     ensures reach { S.reach store.new ≡ S.reach store.old }
 {
@@ -43,7 +44,8 @@ fn answer_call<S: Store>(
     time: Time,
     call: &Call,
 ) -> Result<Vec<u8>, Memory>
-    requires { Knows (S.reach store.old) (footprint_of_call (S.inodes store.old) ordinal (Ok (request_of call.now))) }
+    requires known { Knows (S.reach store.old) (footprint_of_call (S.inodes store.old) ordinal time (Ok (request_of call.now))) }
+    requires fresh { IsFreshFor (S.inodes store.old) ordinal (footprint_of_call (S.inodes store.old) ordinal time (Ok (request_of call.now))) }
     ensures done { IfOk result (λ reply. (S.inodes store.new, reply.items) ≡ answer_call (S.inodes store.old) ordinal time (Ok (request_of call.now))) }
     ensures reach { S.reach store.new ≡ S.reach store.old }
 {

@@ -1,0 +1,25 @@
+-- What a procedure of the code answers, beside the model's.
+use Rattle.std.specs.Prelude.{◌≡◌, ℕ, List, [], ◌∷◌, Result, Ok, Err}
+use Rattle.std.specs.Option.{ok_or}
+use Rattle.bfs_model.specs.Items.{◌>>=◌}
+use Rattle.bfs_model.specs.Directories.{is_bad_name, entry_named}
+use Rattle.bfs_model.specs.Tree.{Listing, Inodes}
+use Rattle.bfs_model.specs.Replies.{Status, perm, noent}
+use Rattle.bfs_model.specs.Refusals.{Outcome, checked}
+use Rattle.bfs_procs.specs.declared.not_done.NotDone.{NotDone}
+use Rattle.bfs_procs.specs.declared.not_done.NotDone.TheVariants.{Refused, Memory}
+use Rattle.bfs_wire.specs.declared.reply.NfsReply.{NfsReply}
+use Rattle.bfs_wire.specs.Replies.{reply_of, status_of}
+
+-- it is done as the model does it, or refused as the model refuses it, with nothing changed; if memory ran out, nothing is said
+abbrev pub Answers : (before after : Inodes) → Result NfsReply NotDone → Result Outcome Status → Type 0
+Answers before after (Ok reply) attempted = attempted ≡ Ok (after, reply_of reply)
+Answers before after (Err (Refused status)) attempted = (attempted ≡ Err (status_of status)) × (after ≡ before)
+Answers before after (Err Memory) attempted = Unit {0}
+
+-- the fileid of what a name that may go leads to
+abbrev pub name_leads : Listing → (name : List ℕ) → Result ℕ Status
+name_leads listing name = do
+  good ← checked ((is_bad_name name, perm) ∷ [])
+  entry ← ok_or (entry_named name listing.entries) noent
+  Ok entry.child

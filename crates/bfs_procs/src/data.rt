@@ -1,0 +1,110 @@
+// READ, READLINK and WRITE.
+ghost use Rattle.std.specs.Prelude.{◌≡◌, ◌+◌, ◌≤◌, length, nat_lt};
+ghost use Rattle.std.specs.Result.{result_map_both};
+ghost use Rattle.bfs_model.specs.Arguments as call;
+ghost use Rattle.bfs_model.specs.Bytes as model;
+ghost use Rattle.bfs_model.specs.Footprints.{footprint};
+ghost use Rattle.bfs_model.specs.Limits.{most_file_bytes, most_data_bytes};
+ghost use Rattle.bfs_model.specs.Refusals.{bytes_in};
+ghost use Rattle.bfs_model.specs.Procedures.Data.{file_read, file_written, link_read};
+ghost use Rattle.bfs_procs.specs.Answers.{Answers};
+ghost use Rattle.bfs_tree.specs.Reach.{Knows};
+ghost use Rattle.bfs_wire.specs.Replies.{status_of};
+
+use crate::not_done::NotDone;
+use bfs_inode::{FileId, Inode};
+use bfs_tree::Store;
+use bfs_types::{Context, LinkPath, MOST_DATA_BYTES, MOST_FILE_BYTES};
+use bfs_wire::{FileBytes, NfsReply, Status};
+use std::alloc::Global;
+
+/// READ (RFC 1094 section 2.2.7).
+pub(crate) fn read<S: Store>(
+    alloc: Global,
+    store: &S,
+    context: &Context,
+    file: Option<FileId>,
+    offset: u32,
+    count: u32,
+) -> Result<NfsReply, NotDone>
+    requires { Knows (S.reach store.now) (footprint (S.inodes store.now) context.now (call.read file offset count)) }
+    ensures { Answers (S.inodes store.now) (S.inodes store.now) result (file_read (S.inodes store.now) context.now file offset count) }
+{
+    let id = file.ok_or(Status::Stale)?;
+    let inode = store.get(id).ok_or(Status::Stale)?;
+    let bytes = bytes_of(inode)?;
+    Ok(NfsReply::Contents {
+        attributes: inode.attributes(id),
+        bytes: FileBytes::new(alloc, bytes_from(bytes, offset, count))?,
+    })
+}
+
+/// READLINK (RFC 1094 section 2.2.6).
+pub(crate) fn read_link<S: Store>(
+    alloc: Global,
+    store: &S,
+    context: &Context,
+    file: Option<FileId>,
+) -> Result<NfsReply, NotDone>
+    requires { Knows (S.reach store.now) (footprint (S.inodes store.now) context.now (call.read_link file)) }
+    ensures { Answers (S.inodes store.now) (S.inodes store.now) result (link_read (S.inodes store.now) context.now file) }
+{
+    let id = file.ok_or(Status::Stale)?;
+    let inode = store.get(id).ok_or(Status::Stale)?;
+    let path = inode.link().ok_or(Status::Perm)?;
+    Ok(NfsReply::Path(LinkPath::new(alloc, path)?))
+}
+
+/// WRITE (RFC 1094 section 2.2.9).
+#[tactic(auto, using(bfs_tree::proofs::Laws::insert_same))]
+pub(crate) fn write<S: Store>(
+    store: &mut S,
+    context: &Context,
+    file: Option<FileId>,
+    offset: u32,
+    bytes: &[u8],
+) -> Result<NfsReply, NotDone>
+    requires { Knows (S.reach store.old) (footprint (S.inodes store.old) context.now (call.write file offset bytes.now)) }
+    ensures done { Answers (S.inodes store.old) (S.inodes store.new) result (file_written (S.inodes store.old) context.now file offset bytes.now) }
+    ensures reach { S.reach store.new ≡ S.reach store.old }
+{
+    let id = file.ok_or(Status::Stale)?;
+    let Some(inode) = store.get_mut(id) else {
+        return Err(NotDone::Refused(Status::Stale));
+    };
+    bytes_of(inode)?;
+    if is_past_limit(offset, bytes) {
+        return Err(NotDone::Refused(Status::FBig));
+    }
+    inode.write(context.time, offset, bytes)?;
+    Ok(NfsReply::Attributes(inode.attributes(id)))
+}
+
+// the bytes of a file, or why it is none
+fn bytes_of(inode: &Inode) -> Result<&[u8], Status>
+    ensures { result_map_both (λ bytes. bytes.now) status_of result ≡ bytes_in inode.now.body }
+{
+    match inode.file() {
+        Some(bytes) => Ok(bytes),
+        None if inode.is_directory() => Err(Status::IsDir),
+        None => Err(Status::Perm),
+    }
+}
+
+// whether bytes that are written at that offset make a file too large
+fn is_past_limit(offset: u32, bytes: &[u8]) -> bool
+    ensures { result ≡ nat_lt most_file_bytes (offset + length bytes.now) }
+{
+    offset as usize + bytes.len() > MOST_FILE_BYTES
+}
+
+// those that a READ gives
+fn bytes_from(bytes: &[u8], offset: u32, count: u32) -> &[u8]
+    ensures value { result.now ≡ model.bytes_from offset count bytes.now }
+    ensures short { length result.now ≤ most_data_bytes }
+{
+    let start = bytes.len().min(offset as usize);
+    let rest = &bytes[start..];
+    let most = MOST_DATA_BYTES.min(count as usize);
+    &rest[..rest.len().min(most)]
+}

@@ -1,0 +1,96 @@
+// LOOKUP and READDIR.
+ghost use Rattle.std.specs.Prelude.{◌≡◌, ◌≤◌, length, IfOk};
+ghost use Rattle.bfs_model.specs.Arguments as call;
+ghost use Rattle.bfs_model.specs.Footprints.{footprint};
+ghost use Rattle.bfs_model.specs.Limits.{most_name_bytes};
+ghost use Rattle.bfs_model.specs.Replies as replies;
+ghost use Rattle.bfs_model.specs.Procedures.Names as model;
+ghost use Rattle.bfs_model.specs.Procedures.Names.{looked_up, directory_read};
+ghost use Rattle.bfs_inode.specs.Pages.{listed_of};
+ghost use Rattle.bfs_procs.specs.Answers.{Answers};
+ghost use Rattle.bfs_tree.specs.Reach.{Knows};
+ghost use Rattle.bfs_wire.specs.Replies.{reply_of};
+
+use crate::not_done::NotDone;
+use bfs_inode::{Directory, FileId, Listed, Page, is_no_name};
+use bfs_tree::Store;
+use bfs_types::{Context, Memory, Name};
+use bfs_wire::{ListedEntries, ListedEntry, NfsReply, Status};
+use std::alloc::Global;
+
+/// LOOKUP (RFC 1094 section 2.2.5).
+pub(crate) fn look_up<S: Store>(
+    store: &S,
+    context: &Context,
+    dir: Option<FileId>,
+    name: &[u8],
+) -> Result<NfsReply, NotDone>
+    requires { Knows (S.reach store.now) (footprint (S.inodes store.now) context.now (call.look_up dir name.now)) }
+    ensures { Answers (S.inodes store.now) (S.inodes store.now) result (looked_up (S.inodes store.now) context.now dir name.now) }
+{
+    let dir = dir.ok_or(Status::Stale)?;
+    let inode = store.get(dir).ok_or(Status::Stale)?;
+    let directory = inode.directory().ok_or(Status::NotDir)?;
+    if is_no_name(name) {
+        return Err(NotDone::Refused(Status::Perm));
+    }
+    let file = child_named(dir, directory, name).ok_or(Status::NoEnt)?;
+    let child = store.get(file).ok_or(Status::Stale)?;
+    let attributes = child.attributes(file);
+    Ok(NfsReply::Found { file, attributes })
+}
+
+// the fileid of a name: `.` is the directory itself, `..` the one above
+fn child_named(dir: FileId, directory: &Directory, name: &[u8]) -> Option<FileId>
+    ensures { result ≡ model.child_named dir directory.now name.now }
+{
+    if name == b".".as_slice() {
+        Some(dir)
+    } else if name == b"..".as_slice() {
+        Some(directory.parent())
+    } else {
+        directory.entry(name).map(|entry| entry.child)
+    }
+}
+
+/// READDIR (RFC 1094 section 2.2.17).
+pub(crate) fn read_directory<S: Store>(
+    alloc: Global,
+    store: &S,
+    context: &Context,
+    dir: Option<FileId>,
+    cookie: u32,
+    count: u32,
+) -> Result<NfsReply, NotDone>
+    requires { Knows (S.reach store.now) (footprint (S.inodes store.now) context.now (call.read_directory dir cookie count)) }
+    ensures { Answers (S.inodes store.now) (S.inodes store.now) result (directory_read (S.inodes store.now) context.now dir cookie count) }
+{
+    let id = dir.ok_or(Status::Stale)?;
+    let inode = store.get(id).ok_or(Status::Stale)?;
+    let directory = inode.directory().ok_or(Status::NotDir)?;
+    Ok(list(alloc, directory.page(id, cookie, count))?)
+}
+
+fn list(alloc: Global, mut page: Page) -> Result<NfsReply, Memory>
+    ensures { IfOk result (λ reply. reply_of reply ≡ replies.listed page.entry.listed page.entry.all) }
+{
+    let mut entries = ListedEntries::new(alloc);
+    while let Some(listed) = page.next_entry() {
+        entries.push(entry_of(alloc, &listed)?)?;
+    }
+    Ok(NfsReply::Listed {
+        entries,
+        all: page.is_last(),
+    })
+}
+
+fn entry_of(alloc: Global, listed: &Listed) -> Result<ListedEntry, Memory>
+    requires { length listed.now.name.now ≤ most_name_bytes }
+    ensures { IfOk result (λ entry. entry ≡ listed_of listed.now) }
+{
+    Ok(ListedEntry {
+        cookie: listed.cookie,
+        name: Name::new(alloc, listed.name)?,
+        child: listed.child,
+    })
+}
