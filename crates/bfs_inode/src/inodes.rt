@@ -63,11 +63,7 @@ impl Inode {
 
     /// A new file with one link, and as many zeros as the size that is set. If no mode is set, it has mode 0644; if no owner
     /// is set, it belongs to the caller. `Memory` if memory runs out.
-    pub fn new_file(
-        alloc: Global,
-        context: &Context,
-        settings: &Settings,
-    ) -> Result<Inode, Memory>
+    pub fn new_file(alloc: Global, context: &Context, settings: &Settings) -> Result<Inode, Memory>
         requires { unwrap_or settings.now.size 0 ≤ most_file_bytes }
         ensures { IfOk result (λ inode. inode ≡ new_file context.now settings.now) }
     {

@@ -81,7 +81,7 @@ module _ (m : Inodes) (c : Context) (from : Option ℕ) (from_name : List ℕ) (
       let mine = owned reach knows owns in
       let within = limits p.b p.to_is in
       let below : All (λ entry. entry.cookie < c.ordinal) p.b.listing.entries =
-          subst (λ listed. All (λ (entry : Entry). entry.cookie < c.ordinal) listed) (ap entries_at at.to_at.there ∙ ap entries_in at.to_at.holds) (at_to (IsNewAt m c.ordinal) (new fresh unspent) p.b.id at.to_at.led).1 in
+      subst (λ listed. All (λ (entry : Entry). entry.cookie < c.ordinal) listed) (ap entries_at at.to_at.there ∙ ap entries_in at.to_at.holds) (at_to (IsNewAt m c.ordinal) (new fresh unspent) p.b.id at.to_at.led).1 in
       let can : CanRename c.ordinal p.b = record { few = within.few; differ = within.differ; below = below; links = within.links } in
       let moved_is : child_at m from from_name ≡ Some p.moved.id = named_is m from from_name p.a p.entry at.from_at at.named ∙ ap Some (sym at.is) in
       subst (CanCarryOut m reach c from_name to_name) q.is (record {

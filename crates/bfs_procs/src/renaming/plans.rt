@@ -96,7 +96,9 @@ fn replaced_at<S: Store>(store: &S, id: Option<FileId>) -> Result<Option<Replace
         return Ok(None);
     };
     let inode = store.get(id).ok_or(Status::Stale)?;
-    let has_entries = inode.directory().is_some_and(|directory| !directory.is_empty());
+    let has_entries = inode
+        .directory()
+        .is_some_and(|directory| !directory.is_empty());
     Ok(Some(Replaced {
         id,
         is_directory: inode.is_directory(),

@@ -69,13 +69,7 @@ fn clear_name<S: Store>(
 }
 
 // a directory that comes below another one has it as its parent, and the links of both directories are new
-fn move_below<S: Store>(
-    store: &mut S,
-    context: &Context,
-    from: FileId,
-    to: FileId,
-    moved: FileId,
-)
+fn move_below<S: Store>(store: &mut S, context: &Context, from: FileId, to: FileId, moved: FileId)
     requires from { IsTrue ((S.reach store.old).owned from) }
     requires to { IsTrue ((S.reach store.old).owned to) }
     requires moved { IsTrue ((S.reach store.old).owned moved) }
