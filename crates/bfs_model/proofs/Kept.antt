@@ -1,5 +1,6 @@
 -- What calls and requests keep of a file system.
 use Rattle.std.proofs.Common.{◌≡◌, ℕ, suc, ◌≤◌, List, [], ◌∷◌, length, Option, Some, None, Result, Ok, Err, refl, sym, subst, arith, lit≤}
+use Rattle.bfs_model.specs.Limits.{most_reply_bytes}
 use Rattle.bfs_model.specs.Tree.{Time, Inodes, FileSystem, first_ordinal, spent_ordinal, new_tree, new_file_system}
 use Rattle.bfs_model.specs.Call.{Request, Refusal, call_of}
 use Rattle.bfs_model.specs.Arguments.{Call, arguments_of}
@@ -11,6 +12,7 @@ use Rattle.bfs_model.specs.Short.{IsShort}
 use Rattle.bfs_model.specs.WellFormed.{IsWellFormed, IsWellFormedTree}
 use Rattle.bfs_model.specs.ProcedureLaws.{CallsKeepTreesWellFormed, CallsKeepFilesWellFormed}
 use Rattle.bfs_model.proofs.Short.{arguments_are_short}
+use Rattle.bfs_model.proofs.ReplyLengths.{short_replies}
 use Rattle.bfs_model.proofs.WellFormed.Words.{new_tree_formed}
 use Rattle.bfs_model.proofs.WellFormed.Trees.{tree_kept}
 use Rattle.bfs_model.proofs.WellFormed.Limits.{new_is_limited}
@@ -102,3 +104,19 @@ new_is_well_formed = record { tree = new_tree_is_well_formed; numbered = new_is_
 -- the tree of a well-formed file system
 pub its_tree : (files : FileSystem) → IsWellFormed files → IsWellFormedTree files.tree
 its_tree files formed = formed.tree
+
+-- One request after another --------------------------------------------------------------------------------------------------
+
+abbrev at : Inodes → (o : ℕ) → Time → FileSystem
+at m o t = record { tree = m; next_ordinal = o; last_time = t }
+
+pub next_is_fresh : (m : Inodes) (o : ℕ) (t : Time) (bytes : List ℕ) → IsWellFormed (at m o t) → IsFreshFor m o (footprint_of m o t bytes)
+next_is_fresh m o t bytes formed = fresh_for_request m o t bytes (servable (at m o t) formed)
+
+pub request_keeps : (m n : Inodes) (o : ℕ) (t : Time) (bytes reply : List ℕ) → IsWellFormed (at m o t) → ◌≡◌ {A = Inodes × List ℕ} (n, reply) (answer m o t bytes) → IsWellFormed (at n (ordinal_after o 1) t)
+request_keeps m n o t bytes reply formed is =
+    subst (λ (after : Inodes × List ℕ). IsWellFormed (at after.0 (ordinal_after o 1) t)) (sym is) (formed_again (answer m o t bytes).0 (ordinal_after o 1) t (answer_keeps m o t bytes (servable (at m o t) formed)))
+
+pub reply_is_short : (m n : Inodes) (o : ℕ) (t : Time) (bytes reply : List ℕ) → IsWellFormed (at m o t) → ◌≡◌ {A = Inodes × List ℕ} (n, reply) (answer m o t bytes) → length reply ≤ most_reply_bytes
+reply_is_short m n o t bytes reply formed is =
+    subst (λ (after : Inodes × List ℕ). length after.1 ≤ most_reply_bytes) (sym is) (short_replies m o t bytes formed.tree.limited)

@@ -2,8 +2,8 @@
 use Rattle.std.specs.Prelude.{ℕ}
 use Rattle.bfs_serial.specs.declared.batches.PushError.{PushError}
 use Rattle.bfs_serial.specs.declared.batches.PushError.TheVariants as push
-use Rattle.bfs_serial.specs.declared.executing.ExecError.{ExecError}
-use Rattle.bfs_serial.specs.declared.executing.ExecError.TheVariants as exec
+use Rattle.bfs_serial.specs.declared.executor.ExecError.{ExecError}
+use Rattle.bfs_serial.specs.declared.executor.ExecError.TheVariants as exec
 
 abbrev pub push_code_of : PushError → ℕ
 push_code_of push.RequestTooLong = 12

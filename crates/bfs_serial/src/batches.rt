@@ -1,17 +1,14 @@
+ghost use Rattle.std.specs.List.{All};
 ghost use Rattle.std.specs.Prelude.{◌≡◌, ◌+◌, ◌<◌, ◌≤◌, ◌↔◌, [], ◌∷◌, ◌++◌, length, slice_get, Some, IsTrue, OnOk, OnErr, IsErrOf};
+ghost use Rattle.bfs_model.specs.Limits.{most_request_bytes, most_requests};
+ghost use Rattle.bfs_model.specs.Stored.{AreBytes};
 ghost use Rattle.bfs_model.specs.Tree.{epoch};
 ghost use Rattle.bfs_serial.specs.Errors.{push_code_of};
 
-use bfs_types::Time;
+use bfs_types::{MOST_REQUEST_BYTES, MOST_REQUESTS, Time};
 use std::alloc::Global;
 use std::marker::Model;
 use thiserror::Error;
-
-/// The most bytes of a request.
-pub const MAX_REQUEST_BYTES: usize = 16_384;
-
-/// The most requests of a batch.
-pub const MAX_REQUESTS: usize = 1_024;
 
 /// Why a batch does not take a request. It is then as it was.
 #[derive(Clone, Copy, Debug, PartialEq, Eq, Error)]
@@ -40,7 +37,7 @@ impl PushError {
     }
 }
 
-/// The bytes of one request: at most 16,384.
+/// The bytes of one request: at most `MOST_REQUEST_BYTES`.
 #[derive(Debug, Drop)]
 pub struct Request {
     bytes: Vec<u8>,
@@ -48,12 +45,13 @@ pub struct Request {
 
 impl Model for Request {
     ghost use Rattle.std.specs.Prelude.{ℕ, List, ◌≤◌, length};
+    ghost use Rattle.bfs_model.specs.Limits.{most_request_bytes};
 
     ghost Value = { List ℕ };
 
     ghost view = { λ request. request.bytes.items };
 
-    ghost invariant = { λ request. length request.bytes.items ≤ 16384 };
+    ghost invariant = { λ request. length request.bytes.items ≤ most_request_bytes };
 }
 
 impl Request {
@@ -65,8 +63,8 @@ impl Request {
     }
 }
 
-/// At most 1,024 requests of at most 16,384 bytes each, whatever these are, to be executed one after another, and the
-/// time that is proposed for it.
+/// At most `MOST_REQUESTS` requests of at most `MOST_REQUEST_BYTES` bytes each, whatever these are, to be executed one after
+/// another, and the time that is proposed for it.
 #[derive(Debug, Drop)]
 pub struct Batch {
     alloc: Global,
@@ -75,14 +73,17 @@ pub struct Batch {
 }
 
 impl Model for Batch {
+    ghost use Rattle.std.specs.List.{All};
     ghost use Rattle.std.specs.Prelude.{◌≤◌, length};
+    ghost use Rattle.bfs_model.specs.Limits.{most_requests};
     ghost use Rattle.bfs_model.specs.Serial as model;
+    ghost use Rattle.bfs_model.specs.Stored.{AreBytes};
 
     ghost Value = { model.Batch };
 
     ghost view = { λ batch. record { time = batch.time; requests = batch.requests.items } };
 
-    ghost invariant = { λ batch. length batch.requests.items ≤ 1024 };
+    ghost invariant = { λ batch. (length batch.requests.items ≤ most_requests) × All AreBytes batch.requests.items };
 }
 
 impl Batch {
@@ -98,16 +99,17 @@ impl Batch {
     }
 
     /// Puts a copy of the request's bytes at the end.
+    #[tactic(auto, using(crate::proofs::Bytes::and_one_more))]
     pub fn push(&mut self, request: &[u8]) -> Result<(), PushError>
         ensures ok { OnOk result (self.new ≡ record self.old { requests = self.old.requests ++ request.now ∷ [] }) }
         ensures err { OnErr result (self.new ≡ self.old) }
-        ensures too_long { IsErrOf result PushError.RequestTooLong ↔ (16384 < length request.now) }
-        ensures full { IsErrOf result PushError.BatchFull ↔ ((length request.now ≤ 16384) × (length self.old.requests ≡ 1024)) }
+        ensures too_long { IsErrOf result PushError.RequestTooLong ↔ (most_request_bytes < length request.now) }
+        ensures full { IsErrOf result PushError.BatchFull ↔ ((length request.now ≤ most_request_bytes) × (length self.old.requests ≡ most_requests)) }
     {
-        if request.len() > MAX_REQUEST_BYTES {
+        if request.len() > MOST_REQUEST_BYTES {
             return Err(PushError::RequestTooLong);
         }
-        if self.requests.len() == MAX_REQUESTS {
+        if self.requests.len() == MOST_REQUESTS {
             return Err(PushError::BatchFull);
         }
         let Ok(bytes) = request.to_vec(self.alloc) else {
@@ -122,7 +124,7 @@ impl Batch {
     /// How many requests there are.
     pub fn len(&self) -> usize
         ensures value { result ≡ length self.now.requests }
-        ensures within { result ≤ 1024 }
+        ensures within { result ≤ most_requests }
     {
         self.requests.len()
     }
@@ -142,9 +144,10 @@ impl Batch {
         self.requests[index].as_slice()
     }
 
-    /// All requests, in order.
+    /// All requests, in order; they are bytes.
     pub fn requests(&self) -> &[Request]
-        ensures { result.now ≡ self.now.requests }
+        ensures value { result.now ≡ self.now.requests }
+        ensures bytes { All AreBytes self.now.requests }
     {
         self.requests.as_slice()
     }

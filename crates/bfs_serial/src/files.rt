@@ -1,6 +1,8 @@
-ghost use Rattle.std.specs.Prelude.{◌≡◌, ◌↔◌, IsTrue, IfOk, Some, None, is_some};
-ghost use Rattle.std.specs.Option.{option_map, option_copied};
+ghost use Rattle.std.specs.Prelude.{◌≡◌, ◌↔◌, IsTrue, IfOk, IfSome, Some, None, is_some};
+ghost use Rattle.std.specs.Option.{ForSome, option_map};
+ghost use Rattle.bfs_model.specs.Stored.{IsLive};
 ghost use Rattle.bfs_model.specs.Tree.{new_file_system};
+ghost use Rattle.bfs_tree.specs.Tree.{at_home, reach_of};
 
 use bfs_tree::Tree;
 use bfs_types::{Memory, Ordinal, Time};
@@ -25,14 +27,15 @@ impl Model for Live {
 
     ghost coded = { Prim.hlevel (codes, kept.the_row.coded) };
 
-    ghost use Rattle.bfs_model.specs.WellFormed.{IsWellFormed};
+    ghost use Rattle.bfs_model.specs.Stored.{IsLive};
+    ghost use Rattle.bfs_tree.specs.Tree.{at_home};
 
-    ghost view = { λ live. record { tree = live.tree; next_ordinal = live.next_ordinal; last_time = live.last_time } };
+    ghost view = { λ live. record { tree = at_home live.tree; next_ordinal = live.next_ordinal; last_time = live.last_time } };
 
-    ghost invariant = { λ live. IsWellFormed (record { tree = live.tree; next_ordinal = live.next_ordinal; last_time = live.last_time }) };
+    ghost invariant = { λ live. IsLive (record { tree = at_home live.tree; next_ordinal = live.next_ordinal; last_time = live.last_time }) };
 }
 
-/// A file system, which is live until it fails for want of memory. A live one is well formed.
+/// A file system, which is live until it fails because memory ran out. A live one is well formed, and can be stored.
 #[derive(Debug, Drop)]
 pub struct FileSystem {
     live: Option<Live>,
@@ -60,14 +63,21 @@ impl FileSystem {
         Ok(FileSystem { live: Some(live) })
     }
 
-    /// Whether it has not failed.
+    /// Whether it has not failed. A live file system is well formed and can be stored: `IsLive` says what that means.
     pub fn is_live(&self) -> bool
-        ensures { result ≡ is_some self.now }
+        ensures value { result ≡ is_some self.now }
+        ensures live { IsTrue result → ForSome self.now IsLive }
     {
-        self.live.is_some()
+        match &self.live {
+            Some(live) => {
+                live.is_live();
+                true
+            }
+            None => false,
+        }
     }
 
-    /// The ordinal of the next request, from 3 to 4,294,967,296, or `None` where it has failed.
+    /// The ordinal of the next request, from 3 to 4,294,967,296, or `None` if it has failed.
     pub fn next_ordinal(&self) -> Option<u64>
         ensures { result ≡ option_map (λ files. files.next_ordinal) self.now }
     {
@@ -77,7 +87,7 @@ impl FileSystem {
         }
     }
 
-    /// The time of the last batch, or `None` where it has failed.
+    /// The time of the last batch, or `None` if it has failed.
     pub fn last_time(&self) -> Option<Time>
         ensures { result ≡ option_map (λ files. files.last_time) self.now }
     {
@@ -87,12 +97,17 @@ impl FileSystem {
         }
     }
 
-    /// The inodes, or `None` where it has failed.
+    /// The inodes, or `None` if it has failed. The tree is whole, and the file system is live: well formed, and it can be stored.
     pub fn tree(&self) -> Option<&Tree>
-        ensures { option_copied result ≡ option_map (λ files. files.tree) self.now }
+        ensures value { option_map (λ tree. at_home tree.now) result ≡ option_map (λ files. files.tree) self.now }
+        ensures whole { IfSome result (λ tree. IsTrue ((reach_of tree.now).whole)) }
+        ensures live { IfSome result (λ _. ForSome self.now IsLive) }
     {
         match &self.live {
-            Some(live) => Some(live.tree()),
+            Some(live) => {
+                live.is_live();
+                Some(live.tree())
+            }
             None => None,
         }
     }
@@ -113,7 +128,6 @@ impl FileSystem {
 }
 
 impl Live {
-    #[tactic(auto, using(bfs_model::proofs::Kept::new_is_well_formed))]
     fn new(alloc: Global) -> Result<Live, Memory>
         ensures { IfOk result (λ live. live ≡ new_file_system) }
     {
@@ -137,8 +151,15 @@ impl Live {
     }
 
     fn tree(&self) -> &Tree
-        ensures { result.now ≡ self.now.tree }
+        ensures { at_home result.now ≡ self.now.tree }
     {
         &self.tree
+    }
+
+    // what is said is the contract
+    fn is_live(&self)
+        ensures { IsLive self.now }
+    {
+        let _ = &self.tree;
     }
 }

@@ -2,11 +2,11 @@
 #![tactic(auto)]
 
 mod batches;
-mod executing;
+mod executor;
 mod files;
 mod replies;
 
 pub use batches::{Batch, PushError};
-pub use executing::{ExecError, execute_serial};
+pub use executor::{ExecError, execute_serial};
 pub use files::FileSystem;
 pub use replies::Replies;

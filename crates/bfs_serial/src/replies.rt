@@ -1,4 +1,5 @@
-ghost use Rattle.std.specs.Prelude.{◌≡◌, ◌<◌, ◌↔◌, [], ◌∷◌, ◌++◌, length, slice_get, Some, IsTrue, OnOk, OnErr};
+ghost use Rattle.bfs_model.specs.Limits.{most_reply_bytes};
+ghost use Rattle.std.specs.Prelude.{◌≡◌, ◌<◌, ◌≤◌, ◌↔◌, [], ◌∷◌, ◌++◌, length, slice_get, Some, IsTrue, OnOk, OnErr};
 
 use bfs_types::Memory;
 use std::alloc::Global;
@@ -10,22 +11,26 @@ struct Reply {
 }
 
 impl Model for Reply {
-    ghost use Rattle.std.specs.Prelude.{ℕ, List};
+    ghost use Rattle.std.specs.Prelude.{ℕ, List, ◌≤◌, length};
+    ghost use Rattle.bfs_model.specs.Limits.{most_reply_bytes};
 
     ghost Value = { List ℕ };
 
     ghost view = { λ reply. reply.bytes.items };
+
+    ghost invariant = { λ reply. length reply.bytes.items ≤ most_reply_bytes };
 }
 
 impl Reply {
     fn as_slice(&self) -> &[u8]
-        ensures { result.now ≡ self.now }
+        ensures value { result.now ≡ self.now }
+        ensures within { length result.now ≤ most_reply_bytes }
     {
         self.bytes.as_slice()
     }
 }
 
-/// The bytes of the replies to a batch's requests, in their order; none of a request that can't be answered.
+/// The replies to a batch's requests, in their order, as bytes; a request that can't be answered has a reply of no bytes.
 #[derive(Debug, Drop)]
 pub struct Replies {
     replies: Vec<Reply>,
@@ -40,7 +45,8 @@ impl Model for Replies {
 }
 
 impl Replies {
-    pub(crate) fn new(alloc: Global) -> Replies
+    /// No replies yet. This and `push` are for executors.
+    pub fn new(alloc: Global) -> Replies
         ensures { result ≡ [] }
     {
         Replies {
@@ -48,7 +54,10 @@ impl Replies {
         }
     }
 
-    pub(crate) fn push(&mut self, bytes: Vec<u8>) -> Result<(), Memory>
+    /// Puts the reply to the next request last: at most `MOST_REPLY_BYTES` bytes, none if the request can't be answered. `Memory` if
+    /// memory runs out; then nothing changes.
+    pub fn push(&mut self, bytes: Vec<u8>) -> Result<(), Memory>
+        requires { length bytes.items ≤ most_reply_bytes }
         ensures ok { OnOk result (self.new ≡ self.old ++ bytes.items ∷ []) }
         ensures err { OnErr result (self.new ≡ self.old) }
     {
@@ -70,10 +79,11 @@ impl Replies {
         self.replies.is_empty()
     }
 
-    /// The bytes of the reply to the request at that place, from 0 on.
+    /// The bytes of the reply to the request at that place, from 0 on: at most `MOST_REPLY_BYTES`.
     pub fn get(&self, index: usize) -> &[u8]
         requires { index < length self.now }
-        ensures { slice_get self.now index ≡ Some result.now }
+        ensures value { slice_get self.now index ≡ Some result.now }
+        ensures within { length result.now ≤ most_reply_bytes }
     {
         self.replies[index].as_slice()
     }

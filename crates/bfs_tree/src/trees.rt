@@ -5,8 +5,8 @@ ghost use Rattle.std.specs.List.Sorted.{IsStrictlyIncreasing};
 ghost use Rattle.bfs_model.specs.Tree.{Inodes, new_tree};
 ghost use Rattle.bfs_model.specs.Procedures.Status.{used_blocks};
 ghost use Rattle.bfs_tree.specs.Maps.{map_of};
-ghost use Rattle.bfs_tree.specs.Reach.{Reach, everywhere};
-ghost use Rattle.bfs_tree.specs.Tree.{at_home};
+ghost use Rattle.bfs_tree.specs.Reach.{Reach};
+ghost use Rattle.bfs_tree.specs.Tree.{at_home, reach_of};
 
 use crate::store::Store;
 use bfs_inode::Inode;
@@ -67,7 +67,7 @@ impl Tree {
 impl Store for Tree {
     ghost inodes = { at_home };
 
-    ghost reach = { λ _. everywhere };
+    ghost reach = { reach_of };
 
     ghost knows_owned = { λ _ _ _. refl };
 

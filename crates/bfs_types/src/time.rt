@@ -1,5 +1,6 @@
 ghost use Rattle.std.specs.Prelude.{◌≡◌, ◌<◌};
 ghost use Rattle.std.specs.Option.{SomeIff};
+ghost use Rattle.bfs_model.specs.Stored.{IsTime};
 ghost use Rattle.bfs_model.specs.Tree as model;
 ghost use Rattle.bfs_model.specs.Serial.{is_after, next_microsecond, effective_time};
 
@@ -61,6 +62,14 @@ impl Time {
         ensures below_a_second { result < 1000000 }
     {
         self.useconds
+    }
+
+    /// Its seconds and microseconds are words of 32 bits, and there are fewer than 1,000,000 microseconds. The body does nothing:
+    /// what is said is its contract.
+    pub fn is_in_range(self)
+        ensures { IsTime self }
+    {
+        let _ = self.seconds;
     }
 
     /// Whether it is later than the other.

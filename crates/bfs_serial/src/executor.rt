@@ -1,6 +1,8 @@
-ghost use Rattle.std.specs.Prelude.{◌≡◌, ◌↔◌, length, IsTrue, IfOk, IsErrOf, Some, None};
+ghost use Rattle.std.specs.Prelude.{◌≡◌, ◌≤◌, ◌↔◌, length, IsTrue, IfOk, IsErrOf, Some, None};
 ghost use Rattle.bfs_model.specs.Serial as model;
-ghost use Rattle.bfs_model.specs.Serial.{execute, inodes_after, replies_to};
+ghost use Rattle.bfs_model.specs.Limits.{most_reply_bytes};
+ghost use Rattle.bfs_model.specs.Serial.{execute, inodes_after, ordinal_after, replies_to};
+ghost use Rattle.bfs_model.specs.WellFormed.{IsWellFormed};
 ghost use Rattle.bfs_serial.specs.Errors.{exec_code_of};
 ghost use Rattle.bfs_serial.specs.Executed.{Executed};
 
@@ -19,7 +21,7 @@ pub enum ExecError {
     /// The file system had failed before; nothing was executed.
     #[error("the file system has failed")]
     Failed,
-    /// Memory ran out in the midst of it, and the file system has failed.
+    /// Memory ran out while it was executed, and the file system has failed.
     #[error("out of memory")]
     Memory,
 }
@@ -70,7 +72,9 @@ fn execute_live(alloc: Global, live: Live, batch: &Batch) -> Result<(Live, Repli
         next_ordinal,
         last_time,
     } = live;
-    let time = batch.time().effective_after(last_time);
+    let proposed = batch.time();
+    proposed.is_in_range();
+    let time = proposed.effective_after(last_time);
     let replies = answer_each(alloc, &mut tree, next_ordinal, time, batch.requests())?;
     let next_ordinal = next_ordinal.after(batch.len() as u64);
     let live = Live {
@@ -89,7 +93,8 @@ fn answer_each<S: Store>(
     time: Time,
     requests: &[Request],
 ) -> Result<Replies, Memory>
-    requires { IsTrue ((S.reach store.old).whole) }
+    requires whole { IsTrue ((S.reach store.old).whole) }
+    requires formed { IsWellFormed (record { tree = S.inodes store.old; next_ordinal = first; last_time = time }) }
     ensures inodes { IfOk result (λ _. S.inodes store.new ≡ inodes_after (S.inodes store.old) first time requests.now) }
     ensures replies { IfOk result (λ replies. replies ≡ replies_to (S.inodes store.old) first time requests.now) }
 {
@@ -103,8 +108,8 @@ fn answer_each<S: Store>(
     Ok(replies)
 }
 
-// a store that is whole knows what any request reads
-#[tactic(auto, using(crate::proofs::Whole::knows_all_touched))]
+// a store that is whole knows what any request touches, and the next ordinal is fresh
+#[tactic(auto, using(crate::proofs::Whole::knows_all_touched, bfs_model::proofs::Kept::next_is_fresh))]
 fn answer_whole<S: Store>(
     alloc: Global,
     store: &mut S,
@@ -112,8 +117,11 @@ fn answer_whole<S: Store>(
     time: Time,
     request: &[u8],
 ) -> Result<Vec<u8>, Memory>
-    requires { IsTrue ((S.reach store.old).whole) }
+    requires whole { IsTrue ((S.reach store.old).whole) }
+    requires formed { IsWellFormed (record { tree = S.inodes store.old; next_ordinal = ordinal; last_time = time }) }
     ensures done { IfOk result (λ reply. (S.inodes store.new, reply.items) ≡ model.answer (S.inodes store.old) ordinal time request.now) }
+    ensures formed { IfOk result (λ _. IsWellFormed (record { tree = S.inodes store.new; next_ordinal = ordinal_after ordinal 1; last_time = time })) }
+    ensures short { IfOk result (λ reply. length reply.items ≤ most_reply_bytes) }
     ensures reach { S.reach store.new ≡ S.reach store.old }
 {
     answer(alloc, store, ordinal, time, request)
