@@ -1,1 +1,2 @@
 pub mod NewOrdinals
+pub mod NumberedEntries

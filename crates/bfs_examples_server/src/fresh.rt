@@ -1,6 +1,6 @@
 //! Which ordinals are fresh, on a new tree and on trees that were made by hand.
 ghost use Rattle.std.specs.Prelude.{◌<◌, ℕ, ◌↔◌, IsTrue, IfOk};
-ghost use Rattle.std.specs.List.{All, AllByRecursion};
+ghost use Rattle.std.specs.List.{All};
 ghost use Rattle.std.specs.FinMap.{keys};
 ghost use Rattle.bfs_model.specs.Footprints.{Footprint, IsFreshFor, IsNewAt};
 ghost use Rattle.bfs_model.specs.Tree.{entries_in, first_ordinal};
@@ -12,7 +12,7 @@ use bfs_types::{Memory, Ordinal};
 use std::alloc::Global;
 
 /// A tree with the root alone, on which the first ordinal is fresh, whatever is touched.
-#[tactic(auto, using(bfs_model::proofs::WellFormed::Numbered::fresh_where_numbered, bfs_model::proofs::WellFormed::Numbered::new_is_numbered))]
+#[tactic(auto, using(crate::proofs::NewOrdinals::first_is_fresh))]
 pub(crate) fn new_tree(alloc: Global) -> Result<Tree, Memory>
     ensures { IfOk result (λ tree. (footprint : Footprint) → IsFreshFor (at_home tree) first_ordinal footprint) }
 {
@@ -28,19 +28,16 @@ pub(crate) fn is_fresh(alloc: Global, tree: &Tree, ordinal: Ordinal) -> Result<b
     Ok(ordinal.is_spent() || is_new(alloc, tree, ordinal)?)
 }
 
+// whether that holds at each inode
 fn is_new(alloc: Global, tree: &Tree, ordinal: Ordinal) -> Result<bool, Memory>
-    ensures { IfOk result (λ new. IsTrue new → AllByRecursion (IsNewAt (at_home tree.now) ordinal) (keys (at_home tree.now))) }
+    ensures { IfOk result (λ new. IsTrue new ↔ All (IsNewAt (at_home tree.now) ordinal) (keys (at_home tree.now))) }
 {
-    for id in tree.ids(alloc)?.iter() {
-        if !is_new_at(tree, ordinal, *id) {
-            return Ok(false);
-        }
-    }
-    Ok(true)
+    let ids = tree.ids(alloc)?;
+    Ok(ids.iter().all(|id| is_new_at(tree, ordinal, *id)))
 }
 
 fn is_new_at(tree: &Tree, ordinal: Ordinal, id: FileId) -> bool
-    ensures { IsTrue result → IsNewAt (at_home tree.now) ordinal id }
+    ensures { IsTrue result ↔ IsNewAt (at_home tree.now) ordinal id }
 {
     match tree.get(id) {
         Some(inode) => id.number() as u64 != ordinal.number() && is_above(inode, ordinal),

@@ -1,11 +1,11 @@
 //! What is refused where ordinals, links or entries are at their end.
-ghost use Rattle.std.specs.Prelude.{◌≡◌, ◌<◌, None, length, IsTrue};
-ghost use Rattle.std.specs.List.{All};
-ghost use Rattle.bfs_model.specs.Directories.{entry_named};
+ghost use Rattle.std.specs.Prelude.{◌≡◌, ◌+◌, ◌<◌, [], OnOk};
 ghost use Rattle.bfs_model.specs.Limits.{most_entries};
+ghost use Rattle.bfs_model.specs.Tree.{entries_in};
+ghost use Rattle.bfs_examples_server.specs.Entries.{AreNumbered};
 
 use crate::steps::{Step, runs};
-use bfs_inode::{Directory, FileId, Inode};
+use bfs_inode::{FileId, Inode};
 use bfs_testing::numbers::{
     CREATE, FBIG, GETATTR, LINK, LOOKUP, MKDIR, NOENT, NOSPC, OK, READDIR, REMOVE, RENAME, RMDIR,
     SYMLINK,
@@ -107,29 +107,36 @@ fn makes_no_link_beyond_the_last(rt: HostRuntime) -> Result<(), Fail> {
     runs_on(rt.alloc(), &mut tree, 6, BEYOND_THE_LAST)
 }
 
-// gives a directory as many entries as it may have, all of them names of a file
+// gives a directory without entries as many as it may have, all of them names of a file
 fn add_all_entries(tree: &mut Tree, directory: FileId, file: FileId) -> Result<(), Fail> {
     let inode = tree.get_mut(directory).ok_or("a directory")?;
-    for index in 0..65_536 {
-        let (cookie, name) = (4 + index, letters(index));
-        match inode.directory() {
-            Some(directory) if takes(directory, cookie, &name) => {}
-            _ => return Err(Fail::new("no room for the entry")),
-        }
-        inode.add_entry(Time::epoch(), cookie, &name, file)?;
+    match inode.directory() {
+        Some(directory) if directory.is_empty() => {}
+        _ => return Err(Fail::new("a directory without entries")),
+    }
+    fill(inode, file)?;
+    Ok(())
+}
+
+// so many entries that it is full
+#[tactic(auto, using(crate::proofs::NumberedEntries::none_numbered))]
+fn fill(inode: &mut Inode, file: FileId) -> Result<(), Memory>
+    requires { entries_in inode.old.body ≡ [] }
+{
+    for number in 0..65_536 {
+        add_numbered(inode, number, file)?;
     }
     Ok(())
 }
 
-// whether an entry of that cookie and that name can be added to a directory
-fn takes(directory: &Directory, cookie: u32, name: &[u8]) -> bool
-    ensures room { IsTrue result → length directory.now.entries < most_entries }
-    ensures above { IsTrue result → All (λ entry. entry.cookie < cookie) directory.now.entries }
-    ensures free { IsTrue result → entry_named name.now directory.now.entries ≡ None }
+// puts the entry of a number behind those of the lower numbers
+#[tactic(auto, using(crate::proofs::NumberedEntries::above_numbered, crate::proofs::NumberedEntries::free_numbered, crate::proofs::NumberedEntries::numbered_further))]
+fn add_numbered(inode: &mut Inode, number: u32, file: FileId) -> Result<(), Memory>
+    requires few { number < most_entries }
+    requires lower { AreNumbered number (entries_in inode.old.body) }
+    ensures { OnOk result (AreNumbered (number + 1) (entries_in inode.new.body)) }
 {
-    directory.len() < 65_536
-        && directory.iter().all(|entry| entry.cookie < cookie)
-        && directory.entry(name).is_none()
+    inode.add_entry(Time::epoch(), 4 + number, &letters(number), file)
 }
 
 const FULL: &[u32] = &[

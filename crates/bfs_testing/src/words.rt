@@ -1,4 +1,7 @@
 //! Requests and replies as the words that they are spelled in.
+ghost use Rattle.std.specs.Prelude.{◌≡◌, ◌+◌, ◌%◌};
+ghost use Rattle.bfs_testing.specs.Letters.{number_of};
+
 use crate::asserts::compared;
 use bfs_types::Memory;
 use bfs_xdr::put_words;
@@ -105,7 +108,9 @@ pub fn spells(alloc: Global, given: &[u8], wanted: &str) -> Result<(), Fail> {
 }
 
 /// Four letters by a number's digits: `aaaa`, `aaab` and so on, `pppp` for 65,535.
-pub fn letters(number: u32) -> [u8; 4] {
+pub fn letters(number: u32) -> [u8; 4]
+    ensures { number_of result ≡ number % 65536 }
+{
     [
         letter(number / 4096),
         letter(number / 256),
@@ -114,6 +119,8 @@ pub fn letters(number: u32) -> [u8; 4] {
     ]
 }
 
-fn letter(digit: u32) -> u8 {
+fn letter(digit: u32) -> u8
+    ensures { result ≡ 97 + digit % 16 }
+{
     b'a' + (digit % 16) as u8
 }
