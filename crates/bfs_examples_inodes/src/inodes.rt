@@ -1,5 +1,5 @@
 //! Inodes, directories and stores, one call at a time.
-use crate::growing::{add_link, same_ids};
+use crate::growing::{add_link, context, same_ids};
 use bfs_inode::{Directory, FileData, FileId, Inode};
 use bfs_testing::{holds, same};
 use bfs_tree::{Store, Tree};
@@ -45,7 +45,7 @@ fn makes_the_root(rt: HostRuntime) {
 }
 
 fn file(alloc: Global) -> Result<Inode, Memory> {
-    Inode::new_file(alloc, first_second(), CALLER, &UNSET)
+    Inode::new_file(alloc, &context(first_second(), CALLER), &UNSET)
 }
 
 #[test]
@@ -162,7 +162,7 @@ fn parent_of(inode: &Inode) -> Option<FileId> {
 }
 
 fn directory_below(alloc: Global, parent: FileId) -> Inode {
-    Inode::new_directory(alloc, first_second(), CALLER, &UNSET, parent)
+    Inode::new_directory(alloc, &context(first_second(), CALLER), &UNSET, parent)
 }
 
 #[test]
@@ -177,8 +177,8 @@ fn makes_directories(rt: HostRuntime) {
 
 #[test]
 fn makes_symbolic_links(rt: HostRuntime) -> Result<(), Fail> {
-    let now = first_second();
-    let link = Inode::new_symbolic_link(rt.alloc(), now, CALLER, &UNSET, b"a/b")?;
+    let context = context(first_second(), CALLER);
+    let link = Inode::new_symbolic_link(rt.alloc(), &context, &UNSET, b"a/b")?;
     holds!(rt; link.is_link());
     holds!(rt; link.link() == Some(b"a/b".as_slice()));
     let attributes = link.attributes(FileId::new(3));
@@ -198,7 +198,7 @@ fn add_second_link(tree: &mut Tree, id: FileId) -> bool {
 }
 
 fn put_file(alloc: Global, tree: &mut Tree, id: FileId) -> Result<bool, Memory> {
-    let file = Inode::new_file(alloc, Time::epoch(), SUPERUSER, &UNSET)?;
+    let file = Inode::new_file(alloc, &context(Time::epoch(), SUPERUSER), &UNSET)?;
     Ok(tree.insert(id, file).is_ok())
 }
 
@@ -239,11 +239,11 @@ fn counts_inodes_and_blocks(rt: HostRuntime) -> Result<(), Fail> {
     let alloc = rt.alloc();
     let mut tree = Tree::new(alloc)?;
     same!(rt; count_and_used_blocks(&tree), Some((1, 1)));
-    let file = Inode::new_file(alloc, Time::epoch(), SUPERUSER, &TWO_BLOCKS)?;
+    let file = Inode::new_file(alloc, &context(Time::epoch(), SUPERUSER), &TWO_BLOCKS)?;
     same!(rt; file.blocks(), 2);
     tree.insert(FileId::new(9), file)?;
     same!(rt; count_and_used_blocks(&tree), Some((2, 3)));
-    same_ids(&rt, &tree, &[2, 9]);
+    same_ids(&rt, alloc, &tree, &[FileId::root(), FileId::new(9)])?;
     Ok(())
 }
 

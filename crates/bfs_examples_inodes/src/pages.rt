@@ -1,4 +1,5 @@
 //! Pages of a directory's entries.
+use crate::growing::takes;
 use bfs_inode::{Directory, FileId, Page};
 use bfs_testing::words::letters;
 use bfs_testing::{holds, same};
@@ -9,8 +10,9 @@ use std::test::Fail;
 fn add_thousand(rt: &impl Abort, alloc: Global) -> Result<Directory, Fail> {
     let mut directory = Directory::new(alloc, FileId::root());
     for index in 0..1000 {
-        assert!(rt; directory.len() < 65_536);
-        directory.add(3 + index, &letters(index), FileId::new(3 + index))?;
+        let (cookie, name) = (3 + index, letters(index));
+        assert!(rt; takes(&directory, cookie, &name));
+        directory.add(cookie, &name, FileId::new(cookie))?;
     }
     Ok(directory)
 }

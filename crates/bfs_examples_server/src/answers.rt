@@ -1,15 +1,18 @@
 //! Answers to calls, one at a time (RFC 5531 section 9, RFC 1094 section 2.2).
 ghost use Rattle.std.specs.Prelude.{◌≡◌, IsTrue};
+ghost use Rattle.bfs_model.specs.Footprints.{Footprint, IsFreshFor};
+ghost use Rattle.bfs_model.specs.Tree.{first_ordinal};
 ghost use Rattle.bfs_model.specs.Short.{IsShort};
 ghost use Rattle.bfs_wire.specs.Calls.{call_of};
 
+use crate::fresh::new_tree;
 use crate::steps::run_whole;
 use bfs_inode::FileId;
 use bfs_procs::answer;
 use bfs_rpc::Cred;
 use bfs_testing::words::ROOT_REQUEST;
 use bfs_testing::{holds, same};
-use bfs_tree::{Store, Tree};
+use bfs_tree::Store;
 use bfs_types::{Attributes, FileType, Memory, Ordinal, Time};
 use bfs_wire::{NfsCall, NfsReply, Status};
 use std::alloc::Global;
@@ -57,10 +60,11 @@ static REFUSED: &[(&str, &str, &str)] = &[
     ),
 ];
 
-// a whole store knows what any request reads
+// a whole store knows what any request reads, and the first ordinal is fresh
 #[tactic(auto, using(bfs_serial::proofs::Whole::knows_all_touched))]
 fn answer_whole<S: Store>(alloc: Global, store: &mut S, request: &[u8]) -> Result<Vec<u8>, Memory>
-    requires { IsTrue ((S.reach store.old).whole) }
+    requires whole { IsTrue ((S.reach store.old).whole) }
+    requires fresh { (footprint : Footprint) → IsFreshFor (S.inodes store.old) first_ordinal footprint }
     ensures { S.reach store.new ≡ S.reach store.old }
 {
     answer(alloc, store, Ordinal::first(), Time::epoch(), request)
@@ -69,7 +73,7 @@ fn answer_whole<S: Store>(alloc: Global, store: &mut S, request: &[u8]) -> Resul
 // of a new tree, in hexadecimal
 fn answer_to(alloc: Global, request: &str) -> Result<String, Fail> {
     let request = hex::decode(alloc, request)?;
-    let mut tree = Tree::new(alloc)?;
+    let mut tree = new_tree(alloc)?;
     let reply = answer_whole(alloc, &mut tree, request.as_slice())?;
     Ok(hex::encode(alloc, reply.as_slice())?)
 }
@@ -98,7 +102,7 @@ const SOMEBODY: Cred = Cred {
 fn reply_to(alloc: Global, call: &NfsCall) -> Result<NfsReply, Memory>
     requires { IsShort (call_of call.now) }
 {
-    let mut tree = Tree::new(alloc)?;
+    let mut tree = new_tree(alloc)?;
     run_whole(
         alloc,
         &mut tree,

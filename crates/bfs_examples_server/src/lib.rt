@@ -9,6 +9,8 @@ mod directories;
 #[cfg(test)]
 mod files;
 #[cfg(test)]
+mod fresh;
+#[cfg(test)]
 mod limits;
 #[cfg(test)]
 mod links;

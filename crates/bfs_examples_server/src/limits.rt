@@ -1,6 +1,11 @@
 //! What is refused where ordinals, links or entries are at their end.
+ghost use Rattle.std.specs.Prelude.{◌≡◌, ◌<◌, None, length, IsTrue};
+ghost use Rattle.std.specs.List.{All};
+ghost use Rattle.bfs_model.specs.Directories.{entry_named};
+ghost use Rattle.bfs_model.specs.Limits.{most_entries};
+
 use crate::steps::{Step, runs};
-use bfs_inode::{FileId, Inode};
+use bfs_inode::{Directory, FileId, Inode};
 use bfs_testing::numbers::{
     CREATE, FBIG, GETATTR, LINK, LOOKUP, MKDIR, NOENT, NOSPC, OK, READDIR, REMOVE, RENAME, RMDIR,
     SYMLINK,
@@ -106,13 +111,25 @@ fn makes_no_link_beyond_the_last(rt: HostRuntime) -> Result<(), Fail> {
 fn add_all_entries(tree: &mut Tree, directory: FileId, file: FileId) -> Result<(), Fail> {
     let inode = tree.get_mut(directory).ok_or("a directory")?;
     for index in 0..65_536 {
+        let (cookie, name) = (4 + index, letters(index));
         match inode.directory() {
-            Some(directory) if directory.len() < 65_536 => {}
+            Some(directory) if takes(directory, cookie, &name) => {}
             _ => return Err(Fail::new("no room for the entry")),
         }
-        inode.add_entry(Time::epoch(), 4 + index, &letters(index), file)?;
+        inode.add_entry(Time::epoch(), cookie, &name, file)?;
     }
     Ok(())
+}
+
+// whether an entry of that cookie and that name can be added to a directory
+fn takes(directory: &Directory, cookie: u32, name: &[u8]) -> bool
+    ensures room { IsTrue result → length directory.now.entries < most_entries }
+    ensures above { IsTrue result → All (λ entry. entry.cookie < cookie) directory.now.entries }
+    ensures free { IsTrue result → entry_named name.now directory.now.entries ≡ None }
+{
+    directory.len() < 65_536
+        && directory.iter().all(|entry| entry.cookie < cookie)
+        && directory.entry(name).is_none()
 }
 
 const FULL: &[u32] = &[

@@ -1,5 +1,6 @@
 //! Names of a file, one or more, and symbolic links.
 use crate::steps::{Step, executes, has_ids, serves};
+use bfs_inode::FileId;
 use bfs_testing::numbers::{
     CREATE, GETATTR, LINK, LOOKUP, MKDIR, NOTDIR, OK, PERM, READLINK, REMOVE, RMDIR, SETATTR,
     STALE, SYMLINK,
@@ -67,7 +68,7 @@ static PATH_HELD: &[&[Step]] = &[&[
 fn holds_a_path_in_a_symbolic_link(rt: HostRuntime) -> Result<(), Fail> {
     let files = executes(rt.alloc(), PATH_HELD)?;
     let tree = files.tree().ok_or("a live file system")?;
-    holds!(rt; has_ids(tree, &[2, 3]));
+    holds!(rt; has_ids(rt.alloc(), tree, &[FileId::root(), FileId::new(3)])?);
     same!(rt; files.last_time(), Time::new(1, 0));
     Ok(())
 }

@@ -1,5 +1,6 @@
 //! A whole session: all procedures on one file system.
 use crate::steps::{Step, executes, has_ids, runs};
+use bfs_inode::FileId;
 use bfs_testing::numbers::{
     CREATE, GETATTR, LINK, LOOKUP, MKDIR, NOTEMPTY, NULL, OK, PERM, READ, READDIR, READLINK,
     REMOVE, RENAME, RMDIR, SETATTR, STALE, STATFS, SYMLINK, WRITE, WRITECACHE,
@@ -139,7 +140,7 @@ fn serves_a_session(rt: HostRuntime) -> Result<(), Fail> {
     let files = executes(rt.alloc(), &[MAKING, MOVING, REMOVING])?;
     same!(rt; files.next_ordinal(), Some(49));
     let tree = files.tree().ok_or("a live file system")?;
-    holds!(rt; has_ids(tree, &[2]));
+    holds!(rt; has_ids(rt.alloc(), tree, &[FileId::root()])?);
     Ok(())
 }
 

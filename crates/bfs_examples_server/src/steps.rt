@@ -1,8 +1,11 @@
 //! Calls one after another, each with the results that it is to get.
 ghost use Rattle.std.specs.Prelude.{◌≡◌, IsTrue};
+ghost use Rattle.bfs_model.specs.Footprints.{Footprint, IsFreshFor};
 ghost use Rattle.bfs_model.specs.Short.{IsShort};
 ghost use Rattle.bfs_wire.specs.Calls.{call_of};
 
+use crate::fresh::is_fresh;
+use bfs_inode::FileId;
 use bfs_procs::run;
 use bfs_rpc::Cred;
 use bfs_serial::{Batch, FileSystem, Replies, execute_serial};
@@ -117,6 +120,9 @@ fn run_words(
     ordinal: Ordinal,
     step: &Step,
 ) -> Result<Vec<u8>, Fail> {
+    if !is_fresh(alloc, tree, ordinal)? {
+        return Err(Fail::new("a fresh ordinal"));
+    }
     let Step(procedure, arguments, _) = step;
     let arguments = spelled(alloc, arguments)?;
     match parse_args(*procedure, arguments.as_slice()) {
@@ -129,7 +135,8 @@ fn run_words(
     }
 }
 
-/// Carries out a call on a whole store, which knows what any call reads and owns what it writes.
+/// Carries out a call on a whole store, which knows what any call reads and owns what it writes, under an ordinal that is fresh
+/// whatever is touched.
 #[tactic(auto, using(bfs_serial::proofs::Whole::knows_all_touched))]
 pub(crate) fn run_whole<S: Store>(
     alloc: Global,
@@ -140,6 +147,7 @@ pub(crate) fn run_whole<S: Store>(
     call: &NfsCall,
 ) -> Result<NfsReply, Memory>
     requires whole { IsTrue ((S.reach store.old).whole) }
+    requires fresh { (footprint : Footprint) → IsFreshFor (S.inodes store.old) ordinal footprint }
     requires short { IsShort (call_of call.now) }
     ensures { S.reach store.new ≡ S.reach store.old }
 {
@@ -147,6 +155,6 @@ pub(crate) fn run_whole<S: Store>(
 }
 
 /// Whether a tree's inodes have these fileids.
-pub(crate) fn has_ids(tree: &Tree, wanted: &[u32]) -> bool {
-    tree.ids().eq(wanted)
+pub(crate) fn has_ids(alloc: Global, tree: &Tree, wanted: &[FileId]) -> Result<bool, Memory> {
+    Ok(tree.ids(alloc)?.as_slice() == wanted)
 }
