@@ -1,5 +1,5 @@
 -- An ordinal that is new at each inode is fresh, whatever is touched.
-use Rattle.std.proofs.Common.{◌≡◌, ℕ, ◌<◌, Bool, true, false, IsTrue, List, [], ◌∷◌, Option, Some, None, is_some, refl, sym, ap, inr, ◌∙◌}
+use Rattle.std.proofs.Common.{◌≡◌, ℕ, ◌<◌, Bool, true, false, IsTrue, List, [], ◌∷◌, Option, Some, None, is_some, refl, sym, subst, ◌||◌, ap, inr, ◌∙◌}
 use Rattle.std.specs.Prelude.{All}
 use Rattle.std.specs.List.{AllByRecursion, list_any}
 use Rattle.std.specs.Ordering.{nat_cmp, eq_by_cmp}
@@ -20,7 +20,7 @@ found_among m o id (first ∷ ids) any each = by (eq_by_cmp nat_cmp id first) re
   where
     by : (b : Bool) → eq_by_cmp nat_cmp id first ≡ b → IsNewAt m o id
     by true is = rw (tells_apart nat_cmp-IsAntisymmetric id first is) each.0
-    by false is = found_among m o id ids (rw is in any) each.1
+    by false is = found_among m o id ids (subst (λ b. (b || list_any (eq_by_cmp nat_cmp id) ids) ≡ true) is any) each.1
 
 new_at : (m : Inodes) (o : ℕ) → AllByRecursion (IsNewAt m o) (keys m) → (id : ℕ) → IsNewAt m o id
 new_at m o each id = by (list_any (eq_by_cmp nat_cmp id) (keys m)) refl
