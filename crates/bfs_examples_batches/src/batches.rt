@@ -2,7 +2,7 @@
 use bfs_serial::{Batch, ExecError, FileSystem, PushError, Replies, execute_serial};
 use bfs_testing::words::{ROOT_REQUEST, spells};
 use bfs_testing::{holds, same};
-use bfs_types::Time;
+use bfs_types::{Memory, Time};
 use std::alloc::Global;
 use std::process::Abort;
 use std::test::Fail;
@@ -31,6 +31,24 @@ fn executes_one_request(rt: HostRuntime) -> Result<(), Fail> {
     holds!(rt; files.tree().is_some());
     assert_eq!(rt; replies.len(), 1);
     spells(rt.alloc(), replies.get(0), ROOT_REPLY)
+}
+
+fn pushed(alloc: Global) -> Result<Replies, Memory> {
+    let mut replies = Replies::new(alloc);
+    replies.push(Vec::new(alloc))?;
+    replies.push(vec![in alloc; 7u8; 8_800]?)?;
+    Ok(replies)
+}
+
+#[test]
+fn keeps_replies_in_their_order(rt: HostRuntime) -> Result<(), Fail> {
+    holds!(rt; Replies::new(rt.alloc()).is_empty());
+    let replies = pushed(rt.alloc())?;
+    assert_eq!(rt; replies.len(), 2);
+    same!(rt; replies.get(0).len(), 0);
+    same!(rt; replies.get(1).len(), 8_800);
+    same!(rt; replies.get(1).last().copied(), Some(7));
+    Ok(())
 }
 
 fn front(bytes: &[u8], count: usize) -> &[u8] {

@@ -1,7 +1,7 @@
 -- What holds of every call on every finite map of inodes, well formed or not.
 use Rattle.std.specs.Prelude.{◌≡◌, ℕ, Bool, true, false, IsTrue, Some, None, is_some}
 use Rattle.std.specs.FinMap.{get}
-use Rattle.bfs_model.specs.Tree.{Time, Inode, Inodes, FileSystem}
+use Rattle.bfs_model.specs.Tree.{Inode, Inodes, FileSystem}
 use Rattle.bfs_model.specs.Attributes.{type_of}
 use Rattle.bfs_model.specs.Context.{Context}
 use Rattle.bfs_model.specs.Arguments.{Call, null, get_attributes, set_attributes, root, look_up, read_link, read, write_cache, write, create, remove, rename, make_link, make_symbolic_link, make_directory, remove_directory, read_directory, file_system_status}

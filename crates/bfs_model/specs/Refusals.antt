@@ -1,5 +1,5 @@
 -- Why a procedure is not done: what a file handle does not lead to, and tests in their order.
-use Rattle.std.specs.Prelude.{ℕ, Bool, List, [], ◌∷◌, Option, Some, None, Result, Ok, Err, ⊤, nat_le, length, if◌then◌else◌}
+use Rattle.std.specs.Prelude.{ℕ, Bool, List, [], ◌∷◌, Option, Result, Ok, Err, ⊤, nat_le, if◌then◌else◌}
 use Rattle.std.specs.Option.{ok_or}
 use Rattle.std.specs.FinMap.{get}
 use Rattle.bfs_model.specs.Items.{◌>>=◌}

@@ -4,7 +4,6 @@ use Rattle.bfs_model.specs.Tree.{Time, Inodes, FileSystem, spent_ordinal}
 use Rattle.bfs_model.specs.Call.{Request, Refusal, call_of}
 use Rattle.bfs_model.specs.Arguments.{Call, arguments_of}
 use Rattle.bfs_model.specs.Replies.{results, success, garbage, refusal}
-use Rattle.bfs_model.specs.Context.{Context}
 use Rattle.bfs_model.specs.Refusals.{Outcome}
 use Rattle.bfs_model.specs.Procedures.{procedure}
 

@@ -1,5 +1,5 @@
 -- What RENAME's steps rest on.
-use Rattle.std.specs.Prelude.{◌≡◌, ℕ, ◌<◌, ◌≤◌, IsTrue, List, length, Option, Some, None, Result, Ok, Err}
+use Rattle.std.specs.Prelude.{◌≡◌, ℕ, ◌<◌, ◌≤◌, IsTrue, List, length, Option, Some, None, Result, Ok}
 use Rattle.std.specs.FinMap.{get}
 use Rattle.std.specs.Option.{ForSome}
 use Rattle.bfs_model.specs.Items.{◌>>=◌}
@@ -10,7 +10,7 @@ use Rattle.bfs_model.specs.Procedures.Removing.{has_entries}
 use Rattle.bfs_model.specs.Procedures.Renaming.{Renaming, Replaced, moves_directory, name_cleared, unnamed}
 use Rattle.bfs_model.specs.Refusals.{FoundDirectory, directory_found, inode_found}
 use Rattle.bfs_model.specs.Replies as replies
-use Rattle.bfs_model.specs.Tree.{Inode, Inodes, is_directory_body, spent_ordinal}
+use Rattle.bfs_model.specs.Tree.{Inodes, is_directory_body, spent_ordinal}
 use Rattle.bfs_model.specs.WellFormed.{NamesDiffer}
 use Rattle.bfs_model.proofs.WellFormed.RenamingRoom.{HasRoomFor}
 use Rattle.bfs_tree.specs.Reach.{Reach}

@@ -1,5 +1,5 @@
 -- Each inode stays numbered by ordinals, the call's among them; and under the next ordinal every call is fresh.
-use Rattle.std.proofs.Common.{◌≡◌, ℕ, ◌+◌, ◌<◌, ◌≤◌, false, List, [], ◌∷◌, ◌++◌, Option, Some, None, inr, refl, ap, ◌∙◌, arith}
+use Rattle.std.proofs.Common.{◌≡◌, ℕ, ◌<◌, ◌≤◌, false, List, [], ◌∷◌, ◌++◌, Option, Some, None, inr, refl, ap, ◌∙◌, arith}
 use Rattle.std.specs.Prelude.{All, bytes_eq}
 use Rattle.std.specs.List.{AllByRecursion}
 use Rattle.std.specs.FinMap.{get, empty}
@@ -8,7 +8,7 @@ use Rattle.std.proofs.lemmas.List.Elements.{All-nil, All-weaker, All-from_recurs
 use Rattle.bfs_model.specs.Tree.{Entry, Listing, Body, file, directory, link, Inode, Inodes, root_id, first_ordinal, spent_ordinal, new_root, new_tree, entries_in, entries_at, parent_in}
 use Rattle.bfs_model.specs.Context.{Context}
 use Rattle.bfs_model.specs.Directories.{without_name}
-use Rattle.bfs_model.specs.Arguments.{Call, root}
+use Rattle.bfs_model.specs.Arguments.{Call}
 use Rattle.bfs_model.specs.Changes.{with_listing, without_entry, with_parent}
 use Rattle.bfs_model.specs.Refusals.{is_spent}
 use Rattle.bfs_model.specs.Procedures.{procedure}
@@ -18,7 +18,7 @@ use Rattle.bfs_model.specs.Serial.{ordinal_after}
 use Rattle.bfs_model.specs.WellFormed.{IsWellFormedTree, IsNumbered}
 use Rattle.bfs_model.specs.Short.{IsShort}
 use Rattle.bfs_model.proofs.Maps.{got_of_none}
-use Rattle.bfs_model.proofs.WellFormed.Each.{Each, each_inserted}
+use Rattle.bfs_model.proofs.WellFormed.Each.{each_inserted}
 use Rattle.bfs_model.proofs.WellFormed.Entries.{either_by}
 use Rattle.bfs_model.proofs.WellFormed.KeptEach.{IsKeptBy, each_kept}
 

@@ -4,7 +4,7 @@ use Rattle.std.specs.Option.{option_map_or}
 use Rattle.std.specs.FinMap.{insert}
 use Rattle.bfs_model.specs.Items.{◌>>=◌}
 use Rattle.bfs_model.specs.Limits.{most_file_bytes}
-use Rattle.bfs_model.specs.Tree.{Time, Entry, Listing, file, directory, link, Inode, Inodes, is_directory_body}
+use Rattle.bfs_model.specs.Tree.{Entry, Listing, file, directory, link, Inode, Inodes, is_directory_body}
 use Rattle.bfs_model.specs.Context.{Context}
 use Rattle.bfs_model.specs.Attributes.{attributes_of}
 use Rattle.bfs_model.specs.Arguments.{Settings}

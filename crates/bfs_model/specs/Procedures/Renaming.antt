@@ -1,9 +1,9 @@
 -- RENAME (RFC 1094 section 2.2.12).
 use Rattle.std.specs.Prelude.{ℕ, zero, suc, ◌==◌, ◌&&◌, ◌||◌, Bool, true, false, not, List, [], ◌∷◌, length, Option, Some, None, is_some, Result, Ok, if◌then◌else◌}
 use Rattle.std.specs.Option.{ok_or, option_map_or}
-use Rattle.std.specs.FinMap.{get, remove, len}
+use Rattle.std.specs.FinMap.{remove, len}
 use Rattle.bfs_model.specs.Items.{◌>>=◌}
-use Rattle.bfs_model.specs.Tree.{Entry, Inode, Inodes, is_directory_body, is_directory, parent_of}
+use Rattle.bfs_model.specs.Tree.{Entry, Inodes, is_directory_body, parent_of}
 use Rattle.bfs_model.specs.Context.{Context}
 use Rattle.bfs_model.specs.Replies.{Status, perm, noent, notdir, isdir, nospc, notempty, done}
 use Rattle.bfs_model.specs.Directories.{is_bad_name, entry_named}

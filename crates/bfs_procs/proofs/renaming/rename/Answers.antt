@@ -1,5 +1,5 @@
 -- What is planned can be carried out.
-use Rattle.std.proofs.Common.{◌≡◌, Ok, sym, ap, ◌∙◌}
+use Rattle.std.proofs.Common.{Ok, sym, ap, ◌∙◌}
 use Rattle.bfs_procs.proofs.CarryingOut.{can_carry_out}
 use Rattle.bfs_procs.proofs.renaming.rename.Goals as goal
 

@@ -6,7 +6,6 @@ use Rattle.std.proofs.lemmas.Iterator.Consumers.{YieldsList-at, YieldsList-from_
 use Rattle.std.proofs.lemmas.List.Sums.{length-filter, count_by-le-length}
 use Rattle.bfs_model.specs.Limits.{most_entries}
 use Rattle.bfs_model.specs.Tree.{Entry, is_directory}
-use Rattle.bfs_model.specs.WellFormed.{directories_among}
 use Rattle.bfs_tree.proofs.WellFormed.Lists.{directories_counted}
 use Rattle.bfs_tree.proofs.well_formed.directories_among.Goals as goal
 

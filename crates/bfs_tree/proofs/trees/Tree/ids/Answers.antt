@@ -5,7 +5,6 @@ use Rattle.std.proofs.lemmas.Iterator.{items_from_drains, YieldsList-from_map}
 use Rattle.std.proofs.lemmas.Iterator.Consumers.{YieldsList-at, YieldsList-from_rest}
 use Rattle.std.proofs.lemmas.List.{map-id}
 use Rattle.std.proofs.lemmas.Map.Keys.{IsStrictlyIncreasing-from_sorted}
-use Rattle.bfs_tree.specs.Maps.{map_of}
 use Rattle.bfs_tree.proofs.MapLemmas.{entries-map_of}
 use Rattle.bfs_tree.proofs.trees.Tree.ids.Goals as goal
 
