@@ -28,7 +28,7 @@ pub(crate) fn is_fresh(alloc: Global, tree: &Tree, ordinal: Ordinal) -> Result<b
     Ok(ordinal.is_spent() || is_new(alloc, tree, ordinal)?)
 }
 
-// whether that holds at each inode
+// whether it is new at each inode
 fn is_new(alloc: Global, tree: &Tree, ordinal: Ordinal) -> Result<bool, Memory>
     ensures { IfOk result (λ new. IsTrue new ↔ All (IsNewAt (at_home tree.now) ordinal) (keys (at_home tree.now))) }
 {
