@@ -111,7 +111,7 @@ child_at m handle name dir child is =
       named.0,
       subst (λ (found : FoundDirectory × FoundInode). IsChildAt m handle name found.0 named.0 found.1) both (record {
         in_it = directory_at m handle at.0 at.1;
-        good = fails (is_bad_name name) ((is_bad_name name, perm) ∷ []) good.0 good.1 (inl refl);
+        good = fails (is_bad_name name) ((is_bad_name name, perm) ∷ []) good.0 good.1 (search (inl, inr) depth 9);
         named = was_there (entry_named name at.0.listing.entries) noent named.0 named.1;
         is = sym (same_Some named.0.child held.0.id there.led);
         there = there.there;
@@ -163,7 +163,7 @@ pub record IsFoundPlan (m : Inodes) (to_name : List ℕ) (a b : FoundDirectory) 
   pub onto : IsOnto m moved (entry_named to_name b.listing.entries) replaced
   pub is : renaming_of a b moved replaced ≡ r
 
-abbrev IsFound : Inodes → (to_name : List ℕ) → (a b : FoundDirectory) → FoundInode → Option Renaming → Type 0
+abbrev pub IsFound : Inodes → (to_name : List ℕ) → (a b : FoundDirectory) → FoundInode → Option Renaming → Type 0
 IsFound m to_name a b moved None = Unit {0}
 IsFound m to_name a b moved (Some r) = IsFoundPlan m to_name a b moved r
 
@@ -200,25 +200,33 @@ module _ (m : Inodes) (a b : FoundDirectory) (moved : FoundInode) (to_name : Lis
   onto_was None held existing is = onto_found None held (subst (λ there. IsOnto m moved there None) (sym existing) onto_none) is
   onto_was (Some old) held existing is = onto_entry_was old (old.child == moved.id) held refl existing is
 
-pub record IsPlanned (m : Inodes) (c : Context) (from : Option ℕ) (from_name : List ℕ) (to : Option ℕ) (to_name : List ℕ) (plan : Option Renaming) : Type 0 where
+-- what RENAME found: the directories, what is moved, and that which is known of them
+pub record IsFoundBy (m : Inodes) (from : Option ℕ) (from_name : List ℕ) (to : Option ℕ) (to_name : List ℕ) (IsKnown : FoundDirectory → FoundDirectory → FoundInode → Type 0) : Type 0 where
   pub a : FoundDirectory
   pub b : FoundDirectory
   pub entry : Entry
   pub moved : FoundInode
   pub to_is : directory_found m to ≡ Ok b
   pub renamed_it : IsRenamed m from from_name to to_name a b entry moved
-  pub planned : IsPlan m c to_name a b moved plan
+  pub planned : IsKnown a b moved
 
-pub planned_was : (m : Inodes) (c : Context) (from : Option ℕ) (from_name : List ℕ) (to : Option ℕ) (to_name : List ℕ) (plan : Option Renaming)
-    → renaming_planned m c from from_name to to_name ≡ Ok plan → IsPlanned m c from from_name to to_name plan
-planned_was m c from from_name to to_name plan is =
+-- .. before its refusals
+abbrev pub IsHeld : Inodes → Option ℕ → List ℕ → Option ℕ → List ℕ → Option Renaming → Type 0
+IsHeld m from from_name to to_name held = IsFoundBy m from from_name to to_name (λ a b moved. IsFound m to_name a b moved held)
+
+-- .. and once they are passed
+abbrev pub IsPlanned : Inodes → Context → Option ℕ → List ℕ → Option ℕ → List ℕ → Option Renaming → Type 0
+IsPlanned m c from from_name to to_name plan = IsFoundBy m from from_name to to_name (λ a b moved. IsPlan m c to_name a b moved plan)
+
+pub found_was : (m : Inodes) (from : Option ℕ) (from_name : List ℕ) (to : Option ℕ) (to_name : List ℕ) (held : Option Renaming)
+    → renaming_found m from from_name to to_name ≡ Ok held → IsHeld m from from_name to to_name held
+found_was m from from_name to to_name held is =
     let rows : List (Bool × Status) = (is_bad_name from_name, perm) ∷ (is_bad_name to_name, perm) ∷ [] in
-    let held = then_was (renaming_found m from from_name to to_name) _ plan is in
-    let a = then_was (directory_found m from) _ held.0 held.1 in
-    let b = then_was (directory_found m to) _ held.0 a.2 in
-    let good = then_was (checked rows) _ held.0 b.2 in
-    let entry = then_was (ok_or (entry_named from_name a.0.listing.entries) noent) _ held.0 good.2 in
-    let moved = then_was (inode_found m (Some entry.0.child)) _ held.0 entry.2 in
+    let a = then_was (directory_found m from) _ held is in
+    let b = then_was (directory_found m to) _ held a.2 in
+    let good = then_was (checked rows) _ held b.2 in
+    let entry = then_was (ok_or (entry_named from_name a.0.listing.entries) noent) _ held good.2 in
+    let moved = then_was (inode_found m (Some entry.0.child)) _ held entry.2 in
     let there = inode_at m (Some entry.0.child) moved.0 moved.1 in
     record {
       a = a.0;
@@ -229,11 +237,18 @@ planned_was m c from from_name to to_name plan is =
       renamed_it = record {
         from_at = directory_at m from a.0 a.1;
         to_at = directory_at m to b.0 b.1;
-        from_good = fails (is_bad_name from_name) rows good.0 good.1 (inl refl);
-        to_good = fails (is_bad_name to_name) rows good.0 good.1 (inr (inl refl));
+        from_good = fails (is_bad_name from_name) rows good.0 good.1 (search (inl, inr) depth 9);
+        to_good = fails (is_bad_name to_name) rows good.0 good.1 (search (inl, inr) depth 9);
         named = was_there (entry_named from_name a.0.listing.entries) noent entry.0 entry.1;
         is = sym (same_Some entry.0.child moved.0.id there.led);
         there = there.there;
       };
-      planned = allowed_was m c to_name a.0 b.0 moved.0 held.0 plan (onto_was m a.0 b.0 moved.0 to_name (entry_named to_name b.0.listing.entries) held.0 refl moved.2) held.2;
+      planned = onto_was m a.0 b.0 moved.0 to_name (entry_named to_name b.0.listing.entries) held refl moved.2;
     }
+
+pub planned_was : (m : Inodes) (c : Context) (from : Option ℕ) (from_name : List ℕ) (to : Option ℕ) (to_name : List ℕ) (plan : Option Renaming)
+    → renaming_planned m c from from_name to to_name ≡ Ok plan → IsPlanned m c from from_name to to_name plan
+planned_was m c from from_name to to_name plan is =
+    let held = then_was (renaming_found m from from_name to to_name) _ plan is in
+    let at = found_was m from from_name to to_name held.0 held.1 in
+    record { a = at.a; b = at.b; entry = at.entry; moved = at.moved; to_is = at.to_is; renamed_it = at.renamed_it; planned = allowed_was m c to_name at.a at.b at.moved held.0 plan at.planned held.2 }

@@ -1,4 +1,4 @@
--- Of a call that makes an inode: its ordinal is not spent, and where it is fresh no inode has it.
+-- Where the ordinal of a call that makes an inode is fresh, no inode has it.
 use Rattle.std.proofs.Common.{◌≡◌, ℕ, Bool, false, inl, inr, List, [], ◌++◌, Option, Some, None, Ok, refl}
 use Rattle.std.specs.Bool.{⊤}
 use Rattle.std.specs.FinMap.{get}
@@ -8,10 +8,7 @@ use Rattle.bfs_model.specs.Replies.{Status}
 use Rattle.bfs_model.specs.Refusals.{checked, is_spent}
 use Rattle.bfs_model.specs.Procedures.Making.{new_name_refusals}
 use Rattle.bfs_model.specs.Footprints.{known, ids_in, new_ids, IsFreshFor}
-use Rattle.bfs_model.proofs.Found.{fails}
-
-pub not_spent : (c : Context) (listing : Listing) (name : List ℕ) (more : List (Bool × Status)) (allowed : ⊤) → checked (new_name_refusals c listing name ++ more) ≡ Ok allowed → is_spent c.ordinal ≡ false
-not_spent c listing name more allowed passed = fails (is_spent c.ordinal) (new_name_refusals c listing name ++ more) allowed passed (search (inl, inr) depth 9)
+use Rattle.bfs_model.proofs.WellFormed.NewNames.{new_name}
 
 -- what is fresh where a call writes a directory and a new inode
 pub new_is_none : (m : Inodes) (ordinal : ℕ) (handle : Option ℕ) → is_spent ordinal ≡ false → IsFreshFor m ordinal (known [] (ids_in handle ++ new_ids ordinal)) → get m ordinal ≡ None
@@ -21,4 +18,4 @@ new_is_none m ordinal (Some dir) left (inr new) = (rw left at new).1.0.0 refl
 
 pub made_is_none : (m : Inodes) (c : Context) (handle : Option ℕ) (listing : Listing) (name : List ℕ) (more : List (Bool × Status)) (allowed : ⊤)
     → IsFreshFor m c.ordinal (known [] (ids_in handle ++ new_ids c.ordinal)) → checked (new_name_refusals c listing name ++ more) ≡ Ok allowed → get m c.ordinal ≡ None
-made_is_none m c handle listing name more allowed fresh passed = new_is_none m c.ordinal handle (not_spent c listing name more allowed passed) fresh
+made_is_none m c handle listing name more allowed fresh passed = new_is_none m c.ordinal handle (new_name c listing name more allowed passed).left fresh

@@ -34,3 +34,4 @@ pub mod Live
 pub mod ReadingRows
 pub mod Pages
 pub mod Kept
+pub mod Footprints

@@ -6,7 +6,7 @@ use Rattle.bfs_model.specs.Tree.{Inode, Inodes, new_tree, new_file_system}
 use Rattle.bfs_model.specs.Call.{call_of, header_of, opaque_auth_at, credential_of}
 use Rattle.bfs_model.specs.Arguments.{create, get_attributes, read, write, handle, handle_id, handle_at, file_at, read_at, write_at, settings_at, named_with_settings_at, fields_at, arguments_of}
 use Rattle.bfs_model.specs.Replies.{found, attributes, contents, refused, nospc, fbig, results, success}
-use Rattle.bfs_model.specs.Attributes.{Attributes, attributes_of}
+use Rattle.bfs_model.specs.Attributes.{Attributes, attributes_of, blocks_of}
 use Rattle.bfs_model.specs.Limits.{most_file_bytes}
 use Rattle.bfs_model.specs.Bytes.{overwritten}
 use Rattle.bfs_model.specs.Procedures.{procedure}
@@ -42,8 +42,12 @@ not_made_at_spent_ordinal = simp inode_gets
 
 -- The longest file -----------------------------------------------------------------------------------------------------------
 
-not_made_so_long : (size : ℕ) → size ≡ 1048577 → procedure new_tree (under 3 (at 1)) (create (Some 2) (codes "a") (record unset { size = Some size })) ≡ (new_tree, refused fbig)
+not_made_so_long : (size : ℕ) → size ≡ most_file_bytes + 1 → procedure new_tree (under 3 (at 1)) (create (Some 2) (codes "a") (record unset { size = Some size })) ≡ (new_tree, refused fbig)
 not_made_so_long size is = let past : nat_lt most_file_bytes size ≡ true = rw is refl in simp (inode_gets, past)
+
+-- the place of the last byte of the longest file
+abbrev last_place : ℕ
+last_place = most_file_bytes - 1
 
 -- so many zeros and an `a`
 pub zeros_and_a : ℕ → List ℕ
@@ -76,31 +80,31 @@ with_a inode = holding ((2, the_root 2 1 1 (entry 3 (codes "a") 3 ∷ [])) ∷ (
 a_made : procedure new_tree (under 3 (at 1)) (create (Some 2) (codes "a") unset) ≡ (with_a (a_file 1 1 1 1 []), found 3 (attributes_of 3 (a_file 1 1 1 1 [])))
 a_made = simp inode_gets (same (simp inode_entries) refl)
 
-too_long : (offset : ℕ) → offset ≡ 1048575 → procedure (with_a (a_file 1 1 1 1 [])) (under 4 (at 2)) (write (Some 3) offset (codes "aa")) ≡ (with_a (a_file 1 1 1 1 []), refused fbig)
+too_long : (offset : ℕ) → offset ≡ last_place → procedure (with_a (a_file 1 1 1 1 [])) (under 4 (at 2)) (write (Some 3) offset (codes "aa")) ≡ (with_a (a_file 1 1 1 1 []), refused fbig)
 too_long offset is = let past : nat_lt most_file_bytes (offset + 2) ≡ true = rw is refl in simp (inode_gets, past)
 
 -- the attributes of the longest file
 abbrev of_longest : Attributes
-of_longest = record (attributes_of 3 (a_file 1 1 2 2 [])) { size = 1048576 }
+of_longest = record (attributes_of 3 (a_file 1 1 2 2 [])) { size = most_file_bytes }
 
-longest_told : (n : ℕ) → n ≡ 1048575 → attributes_of 3 (a_file 1 1 2 2 (zeros_and_a n)) ≡ of_longest
+longest_told : (n : ℕ) → n ≡ last_place → attributes_of 3 (a_file 1 1 2 2 (zeros_and_a n)) ≡ of_longest
 longest_told n is = rw (length-zeros_and_a n, is) refl
 
-long_enough : (offset : ℕ) → offset ≡ 1048575 → procedure (with_a (a_file 1 1 1 1 [])) (under 5 (at 2)) (write (Some 3) offset (codes "a")) ≡ (with_a (a_file 1 1 2 2 (zeros_and_a offset)), attributes of_longest)
+long_enough : (offset : ℕ) → offset ≡ last_place → procedure (with_a (a_file 1 1 1 1 [])) (under 5 (at 2)) (write (Some 3) offset (codes "a")) ≡ (with_a (a_file 1 1 2 2 (zeros_and_a offset)), attributes of_longest)
 long_enough offset is =
     let fits : nat_lt most_file_bytes (offset + 1) ≡ false = rw is refl in
     simp (inode_gets, fits, a_written_at) (same (simp inode_entries) (ap attributes (longest_told offset is)))
 
-end_read : (n : ℕ) → suc n ≡ 1048575 → procedure (with_a (a_file 1 1 2 2 (zeros_and_a (suc n)))) (under 6 (at 2)) (read (Some 3) n 8) ≡ (with_a (a_file 1 1 2 2 (zeros_and_a (suc n))), contents of_longest (0 ∷ 0x61 ∷ []))
+end_read : (n : ℕ) → suc n ≡ last_place → procedure (with_a (a_file 1 1 2 2 (zeros_and_a (suc n)))) (under 6 (at 2)) (read (Some 3) n 8) ≡ (with_a (a_file 1 1 2 2 (zeros_and_a (suc n))), contents of_longest (0 ∷ 0x61 ∷ []))
 end_read n is = simp (inode_gets, drop-zeros_and_a, longest_told (suc n) is)
 
-file_of_the_limit : execute (record { tree = with_a (a_file 1 1 1 1 []); next_ordinal = 4; last_time = at 1 }) (record { time = at 2; requests = writes 1 3 1048575 2 0x61610000 ∷ writes 2 3 1048575 1 0x61000000 ∷ calls 3 6 (of_file 3 ++ 1048574 ∷ 8 ∷ 0 ∷ []) ∷ [] })
+file_of_the_limit : execute (record { tree = with_a (a_file 1 1 1 1 []); next_ordinal = 4; last_time = at 1 }) (record { time = at 2; requests = writes 1 3 last_place 2 0x61610000 ∷ writes 2 3 last_place 1 0x61000000 ∷ calls 3 6 (of_file 3 ++ (last_place - 1) ∷ 8 ∷ 0 ∷ []) ∷ [] })
     ≡ (
-      record { tree = with_a (a_file 1 1 2 2 (zeros_and_a 1048575)); next_ordinal = 7; last_time = at 2 },
+      record { tree = with_a (a_file 1 1 2 2 (zeros_and_a last_place)); next_ordinal = 7; last_time = at 2 },
       succeeds 1 (27 ∷ [])
-          ∷ succeeds 2 (0 ∷ told 1 0x81a4 1 65534 65534 1048576 256 3 1 2 2)
-          ∷ succeeds 3 (0 ∷ told 1 0x81a4 1 65534 65534 1048576 256 3 1 2 2 ++ 2 ∷ 0x00610000 ∷ [])
+          ∷ succeeds 2 (0 ∷ told 1 0x81a4 1 65534 65534 most_file_bytes (blocks_of most_file_bytes) 3 1 2 2)
+          ∷ succeeds 3 (0 ∷ told 1 0x81a4 1 65534 65534 most_file_bytes (blocks_of most_file_bytes) 3 1 2 2 ++ 2 ∷ 0x00610000 ∷ [])
           ∷ [],
     )
 unfolding call_of header_of opaque_auth_at credential_of opaque_at fixed_at bytes_at word_at word handle arguments_of fields_at write_at read_at handle_at handle_id success results fixed counted
-file_of_the_limit = executed _ _ (next refl refl (too_long 1048575 refl) (next refl refl (long_enough 1048575 refl) (next refl refl (end_read 1048574 refl) (ends _ _ _))))
+file_of_the_limit = executed _ _ (next refl refl (too_long last_place refl) (next refl refl (long_enough last_place refl) (next refl refl (end_read (last_place - 1) refl) (ends _ _ _))))

@@ -1,5 +1,5 @@
 -- Where refusals stand: which of two that fit is answered, and from which number on a limit holds.
-use Rattle.std.proofs.Common.{◌≡◌, ℕ, List, [], ◌∷◌, length, Some, None, true, false, ◌+◌, nat_le, nat_lt, refl, codes, take}
+use Rattle.std.proofs.Common.{◌≡◌, ℕ, List, [], ◌∷◌, length, Some, None, true, false, ◌+◌, ◌-◌, nat_le, nat_lt, refl, codes, take}
 use Rattle.bfs_model.specs.Tree.{Entry, Inode, Inodes, link}
 use Rattle.bfs_model.specs.Arguments.{set_attributes, look_up, write, create, remove, rename, make_link, make_symbolic_link, make_directory, remove_directory, read_directory}
 use Rattle.bfs_model.specs.Replies.{found, done, refused, listed, perm, exist, notdir, isdir, nospc, notempty, stale, fbig}
@@ -7,7 +7,7 @@ use Rattle.bfs_model.specs.Attributes.{attributes_of}
 use Rattle.bfs_model.specs.Bytes.{bytes_from}
 use Rattle.bfs_model.specs.Directories.{entry_named}
 use Rattle.bfs_model.specs.Changes.{changed}
-use Rattle.bfs_model.specs.Limits.{most_file_bytes, most_entries}
+use Rattle.bfs_model.specs.Limits.{most_file_bytes, most_entries, most_links, most_data_bytes}
 use Rattle.bfs_model.specs.Procedures.{procedure}
 use Rattle.bfs_model.specs.Procedures.Renaming.{is_within}
 use Rattle.bfs_model.proofs.Maps.{inode_gets, inode_entries, same}
@@ -34,7 +34,7 @@ itself_and_above_listed : procedure tree (under 8 (at 2)) (read_directory (Some 
 itself_and_above_listed = simp inode_gets
 
 -- a READ gives at most 8,192 bytes
-read_at_most : (bytes : List ℕ) → bytes_from 0 10000 bytes ≡ take 8192 bytes
+read_at_most : (bytes : List ℕ) → bytes_from 0 10000 bytes ≡ take most_data_bytes bytes
 read_at_most bytes = refl
 
 -- a bad name before a name that isn't there or is there, and a full or spent directory after it
@@ -123,18 +123,18 @@ empty_write_past_the_limit offset past = simp (inode_gets, past)
 abbrev many_links : ℕ → Inodes
 many_links links = holding ((2, the_root links 1 1 []) ∷ (4, a_file links 1 1 1 []) ∷ [])
 
-links_all_used : procedure (many_links 32767) (under 8 (at 2)) (make_link (Some 4) (Some 2) (codes "g")) ≡ (many_links 32767, refused nospc)
+links_all_used : procedure (many_links most_links) (under 8 (at 2)) (make_link (Some 4) (Some 2) (codes "g")) ≡ (many_links most_links, refused nospc)
 links_all_used = simp inode_gets
 
-last_link : procedure (many_links 32766) (under 8 (at 2)) (make_link (Some 4) (Some 2) (codes "g")) ≡ (holding ((2, the_root 32766 2 2 (entry 8 (codes "g") 4 ∷ [])) ∷ (4, a_file 32767 1 1 2 []) ∷ []), done)
+last_link : procedure (many_links (most_links - 1)) (under 8 (at 2)) (make_link (Some 4) (Some 2) (codes "g")) ≡ (holding ((2, the_root (most_links - 1) 2 2 (entry 8 (codes "g") 4 ∷ [])) ∷ (4, a_file most_links 1 1 2 []) ∷ []), done)
 unfolding changed
 last_link = simp inode_gets (same (simp inode_entries) refl)
 
-directories_all_made : procedure (many_links 32767) (under 8 (at 2)) (make_directory (Some 2) (codes "g") unset) ≡ (many_links 32767, refused nospc)
+directories_all_made : procedure (many_links most_links) (under 8 (at 2)) (make_directory (Some 2) (codes "g") unset) ≡ (many_links most_links, refused nospc)
 directories_all_made = simp inode_gets
 
-last_directory : procedure (many_links 32766) (under 8 (at 2)) (make_directory (Some 2) (codes "g") unset)
-    ≡ (holding ((2, the_root 32767 2 2 (entry 8 (codes "g") 8 ∷ [])) ∷ (4, a_file 32766 1 1 1 []) ∷ (8, a_directory 2 2 2 2 2 []) ∷ []), found 8 (attributes_of 8 (a_directory 2 2 2 2 2 [])))
+last_directory : procedure (many_links (most_links - 1)) (under 8 (at 2)) (make_directory (Some 2) (codes "g") unset)
+    ≡ (holding ((2, the_root most_links 2 2 (entry 8 (codes "g") 8 ∷ [])) ∷ (4, a_file (most_links - 1) 1 1 1 []) ∷ (8, a_directory 2 2 2 2 2 []) ∷ []), found 8 (attributes_of 8 (a_directory 2 2 2 2 2 [])))
 last_directory = simp inode_gets (same (simp inode_entries) refl)
 
 -- a root with entries of other names, of which only the number is known
@@ -144,6 +144,3 @@ rooted entries = holding ((2, the_root 2 1 1 entries) ∷ [])
 full_directory : (entries : List Entry) → entry_named (codes "g") entries ≡ None → nat_le most_entries (length entries) ≡ true
     → procedure (rooted entries) (under 8 (at 2)) (create (Some 2) (codes "g") unset) ≡ (rooted entries, refused nospc)
 full_directory entries other full = simp (inode_gets, other, full)
-
-entries_at_most : most_entries ≡ 65536
-entries_at_most = refl

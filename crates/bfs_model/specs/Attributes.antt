@@ -1,5 +1,6 @@
 -- The attributes of an inode (RFC 1094 section 2.3.5, fattr) and how large it is.
 use Rattle.std.specs.Prelude.{ℕ, ◌+◌, ◌*◌, ◌/◌, length}
+use Rattle.bfs_model.specs.Limits.{most_data_bytes}
 use Rattle.bfs_model.specs.Tree.{Time, Body, file, directory, link, Inode}
 
 -- the types of inodes that there are (RFC 1094 section 2.3.2, ftype)
@@ -46,9 +47,9 @@ blocks_of size = (size + 4095) / 4096
 
 -- Of the file system (RFC 1094 section 2.2.18) -----------------------------------------------------------------------
 
--- the bytes that a READ or WRITE moves at best
+-- the bytes that a READ or WRITE moves at best: as many as it may
 abbrev pub transfer_size : ℕ
-transfer_size = 8192
+transfer_size = most_data_bytes
 
 -- the blocks that there are, in all
 abbrev pub total_blocks : ℕ

@@ -22,3 +22,9 @@ pub mod Short
 pub mod ReplyReading
 pub mod StoredLaws
 pub mod Paging
+pub mod Conflicts
+pub mod FootprintLaws
+pub mod Groups
+pub mod Shares
+pub mod Events
+pub mod OvertakingLaw

@@ -230,7 +230,7 @@ module _ (m : Inodes) (c : Context) (P : ℕ → Inode → Type 0) (by : IsKeptB
   kept_where_changed tree write_cache fresh short = tt
   kept_where_changed tree (write handle offset written) fresh short = λ x small is passed.
       let there = (file_at m handle x is).there in let new = with_bytes c.time offset written x.inode in
-      let end = ltb-false most_file_bytes (offset + length written) (fails (nat_lt most_file_bytes (offset + length written)) ((nat_lt most_file_bytes (offset + length written), fbig) ∷ []) small passed (inl refl)) in (
+      let end = ltb-false most_file_bytes (offset + length written) (fails (nat_lt most_file_bytes (offset + length written)) ((nat_lt most_file_bytes (offset + length written), fbig) ∷ []) small passed (search (inl, inr) depth 9)) in (
         each_inserted (λ id y. IsLimited y) m limited x.id new (bytes_limited c.time offset written x.inode end (limited x.id x.inode there)),
         each_inserted P m own x.id new (by.alike x.id x.inode new (same_written offset written x.inode.body) (own x.id x.inode there)),
       )

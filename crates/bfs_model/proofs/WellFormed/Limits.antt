@@ -1,5 +1,5 @@
 -- The limits of one inode, and how they go through what procedures do to it.
-use Rattle.std.proofs.Common.{◌≡◌, ℕ, ◌+◌, ◌-◌, ◌<◌, ◌≤◌, Bool, true, false, cond, IsFalse, List, [], ◌∷◌, ◌++◌, length, take, drop, replicate, Option, Some, None, Ok, inl, refl, arith}
+use Rattle.std.proofs.Common.{◌≡◌, ℕ, ◌+◌, ◌-◌, ◌<◌, ◌≤◌, Bool, true, false, cond, IsFalse, List, [], ◌∷◌, ◌++◌, length, take, drop, replicate, Option, Some, None, Ok, inl, inr, refl, arith}
 use Rattle.std.specs.Bool.{⊤}
 use Rattle.std.specs.Prelude.{◌==◌, nat_lt}
 use Rattle.std.specs.FinMap.{get, empty}
@@ -108,7 +108,7 @@ bytes_limited now offset written x end h = record { links = h.links; body = byte
 
 resized_limited : (links size : ℕ) (body : Body) (allowed : ⊤) → checked (size_refusals body (Some size)) ≡ Ok allowed → BodyIsLimited links body → BodyIsLimited links (resized_body size body)
 resized_limited links size (file bytes) allowed passed h =
-    let most : size ≤ most_file_bytes = ltb-false most_file_bytes size (fails (nat_lt most_file_bytes size) ((nat_lt most_file_bytes size, fbig) ∷ []) allowed passed (inl refl)) in
+    let most : size ≤ most_file_bytes = ltb-false most_file_bytes size (fails (nat_lt most_file_bytes size) ((nat_lt most_file_bytes size, fbig) ∷ []) allowed passed (search (inl, inr) depth 9)) in
     (h.0, omega (arith, resized_most size bytes))
 resized_limited links size (directory listing) allowed passed h = h
 resized_limited links size (link path) allowed passed h = h

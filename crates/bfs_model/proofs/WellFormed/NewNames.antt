@@ -29,7 +29,7 @@ pub record IsNewName (c : Context) (listing : Listing) (name : List ℕ) : Type 
 
 pub new_name : (c : Context) (listing : Listing) (name : List ℕ) (more : List (Bool × Status)) (allowed : ⊤) → checked (new_name_refusals c listing name ++ more) ≡ Ok allowed → IsNewName c listing name
 new_name c listing name more allowed passed = record {
-  good = fails (is_bad_name name) (new_name_refusals c listing name ++ more) allowed passed (inl refl);
+  good = fails (is_bad_name name) (new_name_refusals c listing name ++ more) allowed passed (search (inl, inr) depth 9);
   free = none_from (entry_named name listing.entries) (fails (is_some (entry_named name listing.entries)) (new_name_refusals c listing name ++ more) allowed passed (search (inl, inr) depth 9));
   left = fails (is_spent c.ordinal) (new_name_refusals c listing name ++ more) allowed passed (search (inl, inr) depth 9);
   fewer = leb-false most_entries (length listing.entries) (fails (is_full (length listing.entries)) (new_name_refusals c listing name ++ more) allowed passed (search (inl, inr) depth 9));

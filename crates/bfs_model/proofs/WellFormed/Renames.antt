@@ -82,7 +82,7 @@ folder_there (Some x) is = (x, refl, is)
 
 -- The steps ------------------------------------------------------------------------------------------------------------
 
-changed_kept : {m : Inodes} {owed spare more less : ℕ → ℕ} {loose : ℕ → Bool} → Owing m owed spare more less loose → (k : ℕ) (f : Inode → Inode) → ((x : Inode) → Alike x (f x)) → Owing (changed m k f) owed spare more less loose
+pub changed_kept : {m : Inodes} {owed spare more less : ℕ → ℕ} {loose : ℕ → Bool} → Owing m owed spare more less loose → (k : ℕ) (f : Inode → Inode) → ((x : Inode) → Alike x (f x)) → Owing (changed m k f) owed spare more less loose
 unfolding changed
 changed_kept {m} {owed} {spare} {more} {less} {loose} w k f alike = by_there (get m k) refl
   where
@@ -405,5 +405,5 @@ module _ (m : Inodes) (w : WellFormed m) (c : Context) (from : Option ℕ) (from
       let r : Renaming = renaming_of a b moved replaced in
       let rows : List (Bool × Status) = renaming_refusals m c r in
       let go = can_go refl onto (fails (onto_entries r) rows allowed passed (search (inl, inr) depth 9)) in
-      let move = can_move r.is_directory (r.from == r.to) refl refl (fails (moves_directory r && is_below m r.to r.moved) rows allowed passed (search inl depth 9)) in
+      let move = can_move r.is_directory (r.from == r.to) refl refl (fails (moves_directory r && is_below m r.to r.moved) rows allowed passed (search (inl, inr) depth 9)) in
       changed_kept (named_keeps replaced go (moves_directory r) move) k (with_ctime c.time) (λ y. record { links = refl; kind = refl; parent = refl; entries = refl })

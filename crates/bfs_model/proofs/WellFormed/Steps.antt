@@ -9,7 +9,8 @@ use Rattle.bfs_model.specs.Tree.{Time, Entry, Listing, Body, file, directory, li
 use Rattle.bfs_model.specs.Directories.{entry_named, without_name}
 use Rattle.bfs_model.specs.Changes.{with_listing, with_entry, without_entry, with_link, with_link_less, changed, link_lost, link_lost_of}
 use Rattle.bfs_model.specs.WellFormed.{times}
-use Rattle.bfs_model.proofs.WellFormed.Sums.{set_at, only, one, above, hit, hit_none, under, due_in, due, links_at, own, Owing, get-set_at, under-set}
+use Rattle.bfs_model.specs.Conflicts.{set_at}
+use Rattle.bfs_model.proofs.WellFormed.Sums.{only, one, above, hit, hit_none, under, due_in, due, links_at, own, Owing, get-set_at, under-set}
 use Rattle.bfs_model.proofs.WellFormed.Changes.{none_either, settle, alter, vanish}
 
 -- Numbers and bodies ---------------------------------------------------------------------------------------------------

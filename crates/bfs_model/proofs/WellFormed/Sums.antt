@@ -8,6 +8,7 @@ use Rattle.std.proofs.lemmas.List.Sums.{sum_by-cons}
 use Rattle.std.proofs.lemmas.Bool.{eq-eqb, ne_eqb, eqb-true, cond-true, cond-false}
 use Rattle.std.proofs.lemmas.Map.Views.{tells_apart}
 use Rattle.bfs_model.specs.Tree.{Body, file, directory, link, Inode, Inodes, root_id, is_directory_body, is_directory, entries_in, entries_at, parent_at, parent_of}
+use Rattle.bfs_model.specs.Conflicts.{set_at}
 use Rattle.bfs_model.specs.WellFormed.{times, named, ReachesRoot, at_root, step}
 
 -- Sums over a map ------------------------------------------------------------------------------------------------------
@@ -19,11 +20,6 @@ weigh f m = sum_by (λ e. f e.0 e.1) (entries m)
 abbrev pub weight_at : {X : Type 0} → (ℕ → X → ℕ) → ℕ → Option X → ℕ
 weight_at f k None = 0
 weight_at f k (Some x) = f k x
-
--- with that at its key, or nothing
-abbrev pub set_at : {X : Type 0} → FinMap nat_cmp X → ℕ → Option X → FinMap nat_cmp X
-set_at m k None = remove m k
-set_at m k (Some x) = insert m k x
 
 abbrev total : {X : Type 0} → (ℕ → X → ℕ) → List (ℕ × X) → ℕ
 total f [] = 0

@@ -95,14 +95,14 @@ changes_keep m c w (make_directory handle name settings) fresh = λ dir allowed 
 changes_keep m c w (make_link handle in_directory name) fresh = λ x plain dir allowed is no_directory dir_is passed.
     let at = directory_at m in_directory dir dir_is in
     linked_keeps m w dir.id dir.inode c.time (entry_made c name x.id) x.inode at.there (ap is_directory_body at.holds) (inode_at m handle x is).there
-    (fails (is_directory_body x.inode.body) ((is_directory_body x.inode.body, isdir) ∷ []) plain no_directory (search inl depth 9))
+    (fails (is_directory_body x.inode.body) ((is_directory_body x.inode.body, isdir) ∷ []) plain no_directory (search (inl, inr) depth 9))
 changes_keep m c w (remove handle name) fresh = λ dir entry child plain at passed.
-    file_goes m w c handle name dir entry child at (fails (is_directory_body child.inode.body) ((is_directory_body child.inode.body, isdir) ∷ []) plain passed (search inl depth 9))
+    file_goes m w c handle name dir entry child at (fails (is_directory_body child.inode.body) ((is_directory_body child.inode.body, isdir) ∷ []) plain passed (search (inl, inr) depth 9))
 changes_keep m c w (remove_directory handle name) fresh = λ dir entry child empty at passed.
     let body = child.inode.body in
     let rows : List (Bool × Status) = (not (is_directory_body body), notdir) ∷ (has_entries body, notempty) ∷ [] in
     directory_goes m w c handle name dir entry child at
-    (not-false (is_directory_body body) (fails (not (is_directory_body body)) rows empty passed (search inl depth 9)))
+    (not-false (is_directory_body body) (fails (not (is_directory_body body)) rows empty passed (search (inl, inr) depth 9)))
     (bare_of body (fails (has_entries body) rows empty passed (search (inl, inr) depth 9)))
 changes_keep m c w (rename from from_name to to_name) fresh = λ a b entry moved at. renamed_keeps m w c from from_name to to_name a b entry moved at
 changes_keep m c w call fresh = tt

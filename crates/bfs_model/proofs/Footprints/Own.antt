@@ -1,0 +1,102 @@
+-- A call has the same footprint where what it touches is the same, and after a call that writes no directory in which it
+-- resolves names.
+use Rattle.std.proofs.Common.{◌≡◌, ℕ, Bool, true, false, ◌&&◌, ◌||◌, not, List, [], ◌∷◌, ◌++◌, Option, Some, None, option_map, option_and_then, refl, ap, ◌∙◌, eqb, eq-eqb, if◌then◌else◌}
+use Rattle.std.specs.Option.{option_map_or}
+use Rattle.std.specs.FinMap.{get}
+use Rattle.std.proofs.lemmas.Bool.{or_left, or_right}
+use Rattle.bfs_model.specs.Tree.{Inodes, is_directory, entries_at, listing_at}
+use Rattle.bfs_model.specs.Context.{Context}
+use Rattle.bfs_model.specs.Directories.{entry_named}
+use Rattle.bfs_model.specs.Arguments.{Call, look_up, remove as remove_file, rename, remove_directory}
+use Rattle.bfs_model.specs.Procedures.Names.{child_named}
+use Rattle.bfs_model.specs.Footprints.{known, whole, ids_in, child_at, id_found, moves_a_directory, footprint}
+use Rattle.bfs_model.specs.Conflicts.{moved_by, among, is_touched, resolved_in, AgreeOn}
+use Rattle.bfs_model.specs.FootprintLaws.{FootprintsFollow, FootprintsAgree, ResolvedIsTouched}
+
+-- What is among ids --------------------------------------------------------------------------------------------------------
+
+by_head : (b : Bool) (xs ys : List ℕ) (id : ℕ) → (among xs id ≡ true → among (xs ++ ys) id ≡ true) → (b || among xs id) ≡ true → (b || among (xs ++ ys) id) ≡ true
+by_head true xs ys id rest is = refl
+by_head false xs ys id rest is = rest is
+
+pub among_left : (xs ys : List ℕ) (id : ℕ) → among xs id ≡ true → among (xs ++ ys) id ≡ true
+among_left [] ys id is = absurd cc
+among_left (x ∷ xs) ys id is = by_head (eqb x id) xs ys id (among_left xs ys id) is
+
+pub among_right : (xs ys : List ℕ) (id : ℕ) → among ys id ≡ true → among (xs ++ ys) id ≡ true
+among_right [] ys id is = is
+among_right (x ∷ xs) ys id is = or_right (eqb x id) (among (xs ++ ys) id) (among_right xs ys id is)
+
+pub itself_among : (id : ℕ) (ids : List ℕ) → among (id ∷ ids) id ≡ true
+itself_among id ids = or_left (eqb id id) (among ids id) (eq-eqb id id refl)
+
+-- The footprint depends on the directories in which names are resolved, and on whether RENAME moves a directory ------------
+
+module _ (m others : Inodes) where
+  abbrev AreSame : List ℕ → Type 0
+  AreSame ids = (id : ℕ) → among ids id ≡ true → get others id ≡ get m id
+
+  child_same : (dir : Option ℕ) (name : List ℕ) → AreSame (ids_in dir) → child_at others dir name ≡ child_at m dir name
+  child_same None name same = refl
+  child_same (Some dir) name same = ap (λ there. option_map (λ entry. entry.child) (entry_named name (entries_at there))) (same dir (itself_among dir []))
+
+  found_same : (dir : Option ℕ) (name : List ℕ) → AreSame (ids_in dir) → id_found others dir name ≡ id_found m dir name
+  found_same None name same = refl
+  found_same (Some dir) name same = ap (λ there. option_and_then (λ listing. child_named dir listing name) (listing_at there)) (same dir (itself_among dir []))
+
+  abbrev pub IsSameKind : Option ℕ → Type 0
+  IsSameKind child = is_directory (option_and_then (get others) child) ≡ is_directory (option_and_then (get m) child)
+
+  moves_same : (from : Option ℕ) (from_name : List ℕ) (to : Option ℕ) → AreSame (ids_in from) → IsSameKind (child_at m from from_name) → moves_a_directory others from from_name to ≡ moves_a_directory m from from_name to
+  moves_same None from_name to same kind = refl
+  moves_same (Some from) from_name to same kind =
+      ap (λ b. b && option_map_or (λ other. not (eqb from other)) to true) (ap (λ child. is_directory (option_and_then (get others) child)) (child_same (Some from) from_name same) ∙ kind)
+
+  pub footprint_same : (c : Context) (call : Call) → AreSame (resolved_in call) → IsSameKind (moved_by m call) → footprint others c call ≡ footprint m c call
+  footprint_same c (look_up dir name) same kind = ap (λ child. known (ids_in dir ++ ids_in child) []) (found_same dir name same)
+  footprint_same c (remove_file dir name) same kind = ap (λ child. known [] (ids_in dir ++ ids_in child)) (child_same dir name same)
+  footprint_same c (rename from from_name to to_name) same kind =
+      let same_from : AreSame (ids_in from) = λ id is. same id (among_left (ids_in from) (ids_in to) id is) in
+      let same_to : AreSame (ids_in to) = λ id is. same id (among_right (ids_in from) (ids_in to) id is) in
+      λ i. if moves_same from from_name to same_from kind i then whole else known [] (ids_in from ++ ids_in to ++ ids_in (child_same from from_name same_from i) ++ ids_in (child_same to to_name same_to i))
+  footprint_same c (remove_directory dir name) same kind = ap (λ child. known [] (ids_in dir ++ ids_in child)) (child_same dir name same)
+  footprint_same c other same kind = refl
+
+-- Both are touched ---------------------------------------------------------------------------------------------------------
+
+all_touched : (moves : Bool) (writes : List ℕ) (id : ℕ) → among writes id ≡ true → is_touched (if moves then whole else known [] writes) id ≡ true
+all_touched true writes id is = refl
+all_touched false writes id is = is
+
+handles_touched : (from to rest more : List ℕ) (id : ℕ) → among (from ++ to) id ≡ true → among (from ++ to ++ rest ++ more) id ≡ true
+handles_touched from to rest more id is = among_left (from ++ to ++ rest) more id (among_left (from ++ to) rest id is)
+
+pub resolved_is_touched : ResolvedIsTouched
+resolved_is_touched m c (look_up dir name) id is = or_left (among (ids_in dir ++ ids_in (id_found m dir name)) id) false (among_left (ids_in dir) (ids_in (id_found m dir name)) id is)
+resolved_is_touched m c (remove_file dir name) id is = among_left (ids_in dir) (ids_in (child_at m dir name)) id is
+resolved_is_touched m c (rename from from_name to to_name) id is =
+    all_touched (moves_a_directory m from from_name to) (ids_in from ++ ids_in to ++ ids_in (child_at m from from_name) ++ ids_in (child_at m to to_name)) id
+    (handles_touched (ids_in from) (ids_in to) (ids_in (child_at m from from_name)) (ids_in (child_at m to to_name)) id is)
+resolved_is_touched m c (remove_directory dir name) id is = among_left (ids_in dir) (ids_in (child_at m dir name)) id is
+resolved_is_touched m c other id is = absurd cc
+
+-- what RENAME moves is among what it touches
+moved_is_touched : (m : Inodes) (c : Context) (from : Option ℕ) (from_name : List ℕ) (to : Option ℕ) (to_name : List ℕ) (id : ℕ) → among (ids_in (child_at m from from_name)) id ≡ true
+    → is_touched (footprint m c (rename from from_name to to_name)) id ≡ true
+moved_is_touched m c from from_name to to_name id is =
+    all_touched (moves_a_directory m from from_name to) (ids_in from ++ ids_in to ++ ids_in (child_at m from from_name) ++ ids_in (child_at m to to_name)) id
+    (among_left (ids_in from ++ ids_in to ++ ids_in (child_at m from from_name)) (ids_in (child_at m to to_name)) id (among_right (ids_in from ++ ids_in to) (ids_in (child_at m from from_name)) id is))
+
+kind_of : (m others : Inodes) (child : Option ℕ) → ((id : ℕ) → among (ids_in child) id ≡ true → get others id ≡ get m id) → IsSameKind m others child
+kind_of m others None same = refl
+kind_of m others (Some id) same = ap is_directory (same id (itself_among id []))
+
+moved_kind : (m others : Inodes) (c : Context) (call : Call) → AgreeOn (footprint m c call) m others → IsSameKind m others (moved_by m call)
+moved_kind m others c (rename from from_name to to_name) agree = kind_of m others (child_at m from from_name) (λ id is. agree id (moved_is_touched m c from from_name to to_name id is))
+moved_kind m others c other agree = refl
+
+pub footprints_agree : FootprintsAgree
+footprints_agree m others c call agree = footprint_same m others c call (λ id is. agree id (resolved_is_touched m c call id is)) (moved_kind m others c call agree)
+
+pub footprints_follow : FootprintsFollow
+footprints_follow m others c call same kind = footprint_same m others c call same kind
