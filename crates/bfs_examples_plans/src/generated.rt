@@ -1,0 +1,240 @@
+//! Plans of generated batches against a plain planner, which compares calls pair by pair.
+use crate::plans::{Asked, with_executed};
+use bfs_footprint::{Touch, conflicts, touch_of};
+use bfs_levels::{plan_group, runs};
+use bfs_serial::Batch;
+use bfs_testing::asserts::compared;
+use bfs_testing::numbers::{CREATE, MKDIR, SYMLINK};
+use bfs_testing::words::{
+    A, B, C, D, DOT, DOT_DOT, E, FOURTH, NO_NAME, ROOT, UNSET, call, put_parts,
+};
+use bfs_tree::Tree;
+use bfs_types::{FileId, Memory, Ordinal, Time};
+use std::alloc::Global;
+use std::test::Fail;
+
+// the same numbers each time
+#[derive(Drop)]
+struct Generator {
+    state: u64,
+}
+
+impl Generator {
+    fn next(&mut self) -> u32 {
+        self.state = self
+            .state
+            .wrapping_mul(6_364_136_223_846_793_005)
+            .wrapping_add(1_442_695_040_888_963_407);
+        (self.state >> 40) as u32
+    }
+
+    // one of a file's words: that of an inode which is there or isn't
+    fn fileid(&mut self) -> u32 {
+        self.next() % 9 + 1
+    }
+
+    fn name(&mut self) -> &'static [u32] {
+        match self.next() % 8 {
+            0 => A,
+            1 => B,
+            2 => C,
+            3 => D,
+            4 => E,
+            5 => DOT,
+            6 => DOT_DOT,
+            _ => NO_NAME,
+        }
+    }
+}
+
+fn put_handle(bytes: &mut Vec<u8>, generator: &mut Generator) -> Result<(), Memory> {
+    let fileid = generator.fileid();
+    put_parts(bytes, &[&[0x42465332, 1, fileid, 0, 0, 0, 0, 0]])
+}
+
+fn put_named(bytes: &mut Vec<u8>, generator: &mut Generator) -> Result<(), Memory> {
+    put_handle(bytes, generator)?;
+    put_parts(bytes, &[generator.name()])
+}
+
+// a call of any procedure, of a number that is none, or with a word too many
+fn request(alloc: Global, generator: &mut Generator) -> Result<Vec<u8>, Memory> {
+    let procedure = generator.next() % 19;
+    let mut bytes = call(alloc, 1, procedure)?;
+    match procedure {
+        1 | 5 | 17 => put_handle(&mut bytes, generator)?,
+        2 => {
+            put_handle(&mut bytes, generator)?;
+            put_parts(&mut bytes, &[UNSET])?;
+        }
+        4 | 10 | 15 => put_named(&mut bytes, generator)?,
+        6 => {
+            put_handle(&mut bytes, generator)?;
+            put_parts(&mut bytes, &[&[0, 8, 0]])?;
+        }
+        8 => {
+            put_handle(&mut bytes, generator)?;
+            put_parts(&mut bytes, &[&[0, 0, 0, 1, 0x61000000]])?;
+        }
+        9 | 14 => {
+            put_named(&mut bytes, generator)?;
+            put_parts(&mut bytes, &[UNSET])?;
+        }
+        11 => {
+            put_named(&mut bytes, generator)?;
+            put_named(&mut bytes, generator)?;
+        }
+        12 => {
+            put_handle(&mut bytes, generator)?;
+            put_named(&mut bytes, generator)?;
+        }
+        13 => {
+            put_named(&mut bytes, generator)?;
+            put_parts(&mut bytes, &[&[1, 0x62000000], UNSET])?;
+        }
+        16 => {
+            put_handle(&mut bytes, generator)?;
+            put_parts(&mut bytes, &[&[0, 100]])?;
+        }
+        _ => {}
+    }
+    if generator.next() % 16 == 0 {
+        put_parts(&mut bytes, &[&[7]])?;
+    }
+    Ok(bytes)
+}
+
+fn generated(alloc: Global, generator: &mut Generator) -> Result<Batch, Fail> {
+    let mut batch = Batch::new(alloc);
+    for _ in 0..24 {
+        batch.push(request(alloc, generator)?.as_slice())?;
+    }
+    Ok(batch)
+}
+
+// what the batch's requests touch, from that place on
+fn touches(
+    alloc: Global,
+    tree: &Tree,
+    ordinal: Ordinal,
+    batch: &Batch,
+    first: usize,
+) -> Result<Vec<Touch>, Memory> {
+    let mut touches = Vec::new(alloc);
+    let mut ordinal = ordinal;
+    for index in first..batch.len() {
+        touches.push(touch_of(alloc, tree, ordinal, batch.time(), batch.request(index))?)?;
+        ordinal = ordinal.next();
+    }
+    Ok(touches)
+}
+
+fn is_written(earlier: &Touch, dir: Option<FileId>) -> bool {
+    match dir {
+        Some(dir) => earlier.footprint.writes(dir),
+        None => false,
+    }
+}
+
+// whether two calls can't be in one group
+fn parts_groups(earlier: &Touch, later: &Touch) -> bool {
+    earlier.footprint.is_whole()
+        || later.footprint.is_whole()
+        || is_written(earlier, later.resolved.first)
+        || is_written(earlier, later.resolved.second)
+}
+
+fn parts_runs(earlier: &Touch, later: &Touch) -> bool {
+    conflicts(&earlier.footprint, &later.footprint)
+}
+
+fn is_parted(touches: &[Touch], count: usize, later: &Touch, groups: bool) -> bool {
+    let mut place = 0;
+    for earlier in touches {
+        if place >= count {
+            return false;
+        }
+        if groups && parts_groups(earlier, later) || !groups && parts_runs(earlier, later) {
+            return true;
+        }
+        place = place.saturating_add(1);
+    }
+    false
+}
+
+fn count_joined(touches: &[Touch], groups: bool) -> usize {
+    let mut count = 0;
+    for touch in touches {
+        if is_parted(touches, count, touch, groups) {
+            return count;
+        }
+        count = count.saturating_add(1);
+    }
+    count
+}
+
+fn level_behind(touches: &[Touch], levels: &[u32], later: &Touch) -> u32 {
+    let mut level = 0;
+    let mut place = 0;
+    for own in levels {
+        if let Some(earlier) = touches.get(place) {
+            if conflicts(&earlier.footprint, &later.footprint) {
+                level = level.max(own.saturating_add(1));
+            }
+        }
+        place = place.saturating_add(1);
+    }
+    level
+}
+
+fn levels_of(alloc: Global, touches: &[Touch], count: usize) -> Result<Vec<u32>, Memory> {
+    let mut levels = Vec::new(alloc);
+    for touch in touches {
+        if levels.len() >= count {
+            return Ok(levels);
+        }
+        let level = level_behind(touches, levels.as_slice(), touch);
+        levels.push(level)?;
+    }
+    Ok(levels)
+}
+
+fn compare_at(alloc: Global, tree: &Tree, batch: &Batch, first: usize) -> Result<(), Fail> {
+    let ordinal = Ordinal::first().after(8).after(first as u64);
+    let time = batch.time();
+    let touches = touches(alloc, tree, ordinal, batch, first)?;
+    let run = runs(alloc, tree, ordinal, time, batch, first)?;
+    compared(run.len(), count_joined(touches.as_slice(), false))?;
+    let group = plan_group(alloc, tree, ordinal, time, batch, first)?;
+    let count = count_joined(touches.as_slice(), true);
+    compared(group.len(), count)?;
+    let levels = levels_of(alloc, touches.as_slice(), count)?;
+    compared(group.level_of.as_slice() == levels.as_slice(), true)?;
+    Ok(())
+}
+
+const PATH: &[u32] = &[1, 0x62000000];
+
+// the files `a` and `b`, the directories `c` and `c/d`, and a symbolic link in each
+static MAKING: &[Asked] = &[
+    Asked(CREATE, &[ROOT, A, UNSET]),
+    Asked(MKDIR, &[ROOT, C, UNSET]),
+    Asked(CREATE, &[ROOT, B, UNSET]),
+    Asked(MKDIR, &[FOURTH, D, UNSET]),
+    Asked(SYMLINK, &[ROOT, E, PATH, UNSET]),
+    Asked(SYMLINK, &[FOURTH, E, PATH, UNSET]),
+];
+
+#[test]
+fn plans_generated_batches_as_pair_by_pair(rt: HostRuntime) -> Result<(), Fail> {
+    let alloc = rt.alloc();
+    let files = with_executed(alloc, MAKING)?;
+    let tree = files.tree().ok_or("a live file system")?;
+    let mut generator = Generator { state: 1 };
+    for _ in 0..500 {
+        let batch = generated(alloc, &mut generator)?;
+        compare_at(alloc, tree, &batch, 0)?;
+        compare_at(alloc, tree, &batch, generator.next() as usize % 24)?;
+    }
+    Ok(())
+}

@@ -1,0 +1,85 @@
+//! The runs, groups and levels of worked batches, planned on a file system with the files `a`, of fileid 3, and `b`, of fileid 4.
+use bfs_levels::{plan_group, runs};
+use bfs_serial::{Batch, FileSystem, execute_serial};
+use bfs_testing::numbers::{CREATE, LOOKUP, READ, REMOVE, STATFS, WRITE};
+use bfs_testing::same;
+use bfs_testing::words::{A, B, FOURTH, ROOT, THIRD, UNSET, call, put_parts};
+use bfs_types::{Ordinal, Time};
+use std::alloc::Global;
+use std::test::Fail;
+
+/// A procedure, and the words of its arguments.
+pub(crate) struct Asked(pub(crate) u32, pub(crate) &'static [&'static [u32]]);
+
+fn batch_of(alloc: Global, second: u32, calls: &[Asked]) -> Result<Batch, Fail> {
+    let mut batch = Batch::new(alloc);
+    batch.set_time(Time::new(second, 0).ok_or("a time")?);
+    for Asked(procedure, arguments) in calls {
+        let mut request = call(alloc, 1, *procedure)?;
+        put_parts(&mut request, arguments)?;
+        batch.push(request.as_slice())?;
+    }
+    Ok(batch)
+}
+
+static MAKING: &[Asked] = &[
+    Asked(CREATE, &[ROOT, A, UNSET]),
+    Asked(CREATE, &[ROOT, B, UNSET]),
+];
+
+/// A new file system on which that batch was executed.
+pub(crate) fn with_executed(alloc: Global, calls: &[Asked]) -> Result<FileSystem, Fail> {
+    let mut files = FileSystem::new(alloc)?;
+    let batch = batch_of(alloc, 1, calls)?;
+    execute_serial(alloc, &mut files, &batch)?;
+    Ok(files)
+}
+
+const BYTE: &[u32] = &[0, 0, 0, 1, 0x61000000];
+
+const PLACE: &[u32] = &[0, 8, 0];
+
+static WRITING: &[Asked] = &[
+    Asked(WRITE, &[THIRD, BYTE]),
+    Asked(READ, &[THIRD, PLACE]),
+    Asked(WRITE, &[FOURTH, BYTE]),
+    Asked(READ, &[THIRD, PLACE]),
+    Asked(WRITE, &[THIRD, BYTE]),
+];
+
+#[test]
+fn plans_writes_behind_reads(rt: HostRuntime) -> Result<(), Fail> {
+    let alloc = rt.alloc();
+    let files = with_executed(alloc, MAKING)?;
+    let tree = files.tree().ok_or("a live file system")?;
+    let ordinal = Ordinal::first().next().next();
+    let batch = batch_of(alloc, 2, WRITING)?;
+    same!(rt; runs(alloc, tree, ordinal, batch.time(), &batch, 0)?.len(), 1);
+    same!(rt; runs(alloc, tree, ordinal, batch.time(), &batch, 1)?.len(), 3);
+    same!(rt; runs(alloc, tree, ordinal, batch.time(), &batch, 4)?.len(), 1);
+    let group = plan_group(alloc, tree, ordinal, batch.time(), &batch, 0)?;
+    same!(rt; group.len(), 5);
+    same!(rt; group.level_of.as_slice(), [0, 1, 0, 1, 2].as_slice());
+    Ok(())
+}
+
+static REPLACING: &[Asked] = &[
+    Asked(REMOVE, &[ROOT, A]),
+    Asked(CREATE, &[ROOT, A, UNSET]),
+    Asked(LOOKUP, &[ROOT, A]),
+    Asked(STATFS, &[ROOT]),
+];
+
+#[test]
+fn cuts_before_a_look_up(rt: HostRuntime) -> Result<(), Fail> {
+    let alloc = rt.alloc();
+    let files = with_executed(alloc, MAKING)?;
+    let tree = files.tree().ok_or("a live file system")?;
+    let ordinal = Ordinal::first().next().next();
+    let batch = batch_of(alloc, 2, REPLACING)?;
+    let group = plan_group(alloc, tree, ordinal, batch.time(), &batch, 0)?;
+    same!(rt; group.level_of.as_slice(), [0, 1].as_slice());
+    same!(rt; plan_group(alloc, tree, ordinal, batch.time(), &batch, 2)?.len(), 1);
+    same!(rt; plan_group(alloc, tree, ordinal, batch.time(), &batch, 3)?.level_of.as_slice(), [0].as_slice());
+    Ok(())
+}

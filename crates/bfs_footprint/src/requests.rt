@@ -1,0 +1,59 @@
+ghost use Rattle.std.specs.Prelude.{◌≡◌, [], ◌++◌, IfOk};
+ghost use Rattle.bfs_model.specs.Conflicts.{resolved_of};
+ghost use Rattle.bfs_model.specs.Footprints.{known, ids_in, footprint_of};
+ghost use Rattle.bfs_footprint.specs.Seen.{footprint_seen};
+
+use crate::calls::footprint;
+use crate::footprints::Footprint;
+use crate::resolved::{ResolvedIn, resolved_in};
+use bfs_rpc::parse_call;
+use bfs_tree::Tree;
+use bfs_types::{Context, Memory, Ordinal, Time};
+use bfs_wire::parse_args;
+use std::alloc::Global;
+
+/// What a request touches, and where its call finds that out.
+#[derive(Debug, Drop)]
+pub struct Touch {
+    pub footprint: Footprint,
+    pub resolved: ResolvedIn,
+}
+
+/// What the request of these bytes touches under its ordinal, in a batch of that effective time, found on the inodes before it. A
+/// request that is refused, or whose arguments are garbage, touches nothing. `Memory` if memory runs out.
+pub fn touch_of(
+    alloc: Global,
+    tree: &Tree,
+    ordinal: Ordinal,
+    time: Time,
+    request: &[u8],
+) -> Result<Touch, Memory>
+    ensures footprint { IfOk result (λ touch. footprint_seen touch.footprint ≡ footprint_of tree.now ordinal time request.now) }
+    ensures resolved { IfOk result (λ touch. ids_in touch.resolved.first ++ ids_in touch.resolved.second ≡ resolved_of request.now) }
+{
+    let Ok(call) = parse_call(request) else {
+        return Ok(nothing(alloc));
+    };
+    let Ok(arguments) = parse_args(call.proc, call.args) else {
+        return Ok(nothing(alloc));
+    };
+    let context = Context {
+        ordinal,
+        time,
+        caller: call.cred,
+    };
+    Ok(Touch {
+        footprint: footprint(alloc, tree, &context, &arguments)?,
+        resolved: resolved_in(&arguments),
+    })
+}
+
+fn nothing(alloc: Global) -> Touch
+    ensures footprint { footprint_seen result.footprint ≡ known [] [] }
+    ensures resolved { ids_in result.resolved.first ++ ids_in result.resolved.second ≡ [] }
+{
+    Touch {
+        footprint: Footprint::none(alloc),
+        resolved: ResolvedIn::nowhere(),
+    }
+}

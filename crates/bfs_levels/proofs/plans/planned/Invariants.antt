@@ -1,0 +1,15 @@
+-- The calls of the plan and those that are left are all, and those that join it are so many as the plan lacks.
+use Rattle.std.proofs.Common.{◌≡◌, ◌+◌, [], ◌++◌, length, drop}
+use Rattle.bfs_model.specs.Groups.{footprints_at}
+use Rattle.bfs_levels.specs.Planning.{count_joined, parts, touches_at}
+use Rattle.bfs_levels.proofs.plans.planned.Given as goal
+
+abbrev pub invariant-loop-index : goal.invariant-loop-index
+invariant-loop-index l =
+    let left = drop l.index l.batch.requests in
+    let all = drop l.first l.batch.requests in
+    record {
+      place : length l.plan + l.first ≡ l.index;
+      kept : l.plan ++ footprints_at l.tree l.ordinal l.time left ≡ footprints_at l.tree l.fn.ordinal l.time all;
+      joined : count_joined (parts l.rule) l.plan (touches_at l.tree l.ordinal l.time left) + length l.plan ≡ count_joined (parts l.rule) [] (touches_at l.tree l.fn.ordinal l.time all);
+    }

@@ -1,0 +1,58 @@
+ghost use Rattle.std.specs.Prelude.{◌≡◌, drop, length, map, take, IfOk};
+ghost use Rattle.bfs_model.specs.Groups.{footprints_at};
+ghost use Rattle.bfs_footprint.specs.Seen.{footprint_seen};
+ghost use Rattle.bfs_levels.specs.Planning.{group_length, levels_of};
+
+use crate::plans::{Rule, planned};
+use bfs_footprint::Footprint;
+use bfs_serial::Batch;
+use bfs_tree::Tree;
+use bfs_types::{Memory, Ordinal, Time};
+use std::alloc::Global;
+
+/// Requests of a batch, one behind another, of which none resolves names in a directory that an earlier one writes; or one that
+/// may touch all inodes.
+#[derive(Debug, Drop)]
+pub struct Group {
+    /// The place of the first in the batch.
+    pub first: usize,
+    /// What each reads and writes, as the inodes are before the first.
+    pub footprints: Vec<Footprint>,
+    /// For each 0, or one more than the highest level of the earlier ones that conflict with it.
+    pub level_of: Vec<u32>,
+}
+
+impl Group {
+    /// How many they are.
+    pub fn len(&self) -> usize
+        ensures { result ≡ length self.now.footprints.items }
+    {
+        self.footprints.len()
+    }
+}
+
+/// The longest group of the batch's requests that begins with the one at that place, which has that ordinal.
+///
+/// It costs a few look-ups in a map of the inodes that the group touches for each request.
+#[tactic(auto, using(crate::proofs::Left::length_seen))]
+pub fn plan_group(
+    alloc: Global,
+    tree: &Tree,
+    ordinal: Ordinal,
+    time: Time,
+    batch: &Batch,
+    first: usize,
+) -> Result<Group, Memory>
+    ensures first { IfOk result (λ group. group.first ≡ first) }
+    ensures longest { IfOk result (λ group. let requests = drop first batch.now.requests in map footprint_seen group.footprints.items ≡ footprints_at tree.now ordinal time (take (group_length tree.now ordinal time requests) requests)) }
+    ensures count { IfOk result (λ group. length group.footprints.items ≡ group_length tree.now ordinal time (drop first batch.now.requests)) }
+    ensures levels { IfOk result (λ group. group.level_of.items ≡ levels_of (map footprint_seen group.footprints.items)) }
+{
+    let plan = planned(alloc, tree, ordinal, time, batch, first, Rule::Groups)?;
+    let (footprints, level_of) = plan.into_parts();
+    Ok(Group {
+        first,
+        footprints,
+        level_of,
+    })
+}

@@ -1,0 +1,48 @@
+ghost use Rattle.std.specs.Prelude.{◌≡◌, drop, length, map, take, IfOk};
+ghost use Rattle.bfs_model.specs.Groups.{footprints_at};
+ghost use Rattle.bfs_footprint.specs.Seen.{footprint_seen};
+ghost use Rattle.bfs_levels.specs.Planning.{run_length};
+
+use crate::plans::{Rule, planned};
+use bfs_footprint::Footprint;
+use bfs_serial::Batch;
+use bfs_tree::Tree;
+use bfs_types::{Memory, Ordinal, Time};
+use std::alloc::Global;
+
+/// Requests of a batch, one behind another, of which none conflicts with another.
+#[derive(Debug, Drop)]
+pub struct Run {
+    /// The place of the first in the batch.
+    pub first: usize,
+    /// What each reads and writes, as the inodes are before the first.
+    pub footprints: Vec<Footprint>,
+}
+
+impl Run {
+    /// How many they are.
+    pub fn len(&self) -> usize
+        ensures { result ≡ length self.now.footprints.items }
+    {
+        self.footprints.len()
+    }
+}
+
+/// The longest run of the batch's requests that begins with the one at that place, which has that ordinal.
+#[tactic(auto, using(crate::proofs::Left::length_seen))]
+pub fn runs(
+    alloc: Global,
+    tree: &Tree,
+    ordinal: Ordinal,
+    time: Time,
+    batch: &Batch,
+    first: usize,
+) -> Result<Run, Memory>
+    ensures first { IfOk result (λ run. run.first ≡ first) }
+    ensures longest { IfOk result (λ run. let requests = drop first batch.now.requests in map footprint_seen run.footprints.items ≡ footprints_at tree.now ordinal time (take (run_length tree.now ordinal time requests) requests)) }
+    ensures count { IfOk result (λ run. length run.footprints.items ≡ run_length tree.now ordinal time (drop first batch.now.requests)) }
+{
+    let plan = planned(alloc, tree, ordinal, time, batch, first, Rule::Runs)?;
+    let (footprints, _) = plan.into_parts();
+    Ok(Run { first, footprints })
+}
