@@ -1,6 +1,6 @@
 -- What holds of a directory's entries still holds with one more at their end, and without that of a name.
-use Rattle.std.proofs.Common.{◌≡◌, ℕ, ◌+◌, ◌<◌, Bool, true, false, cond, List, [], ◌∷◌, ◌++◌, length, Option, Some, None, refl, sym, subst, ◌∙◌, arith}
-use Rattle.std.specs.Prelude.{◌≤◌, bytes_eq, find}
+use Rattle.std.proofs.Common.{◌≡◌, ℕ, ◌<◌, Bool, true, false, cond, List, [], ◌∷◌, ◌++◌, length, Option, Some, None, refl, sym, subst, ◌∙◌, arith}
+use Rattle.std.specs.Prelude.{◌≤◌, bytes_eq}
 use Rattle.std.specs.List.{All}
 use Rattle.std.proofs.lemmas.Bool.{both_ways, false_from_ne_true}
 use Rattle.std.proofs.lemmas.List.{length-append}
@@ -9,7 +9,7 @@ use Rattle.std.proofs.lemmas.Slice.Eq.{bytes_eq-Decides}
 use Rattle.bfs_model.specs.Limits.{most_entries}
 use Rattle.bfs_model.specs.Tree.{Entry, spent_ordinal}
 use Rattle.bfs_model.specs.Directories.{entry_named, without_name}
-use Rattle.bfs_model.specs.WellFormed.{IsRising, NamesDiffer}
+use Rattle.bfs_model.specs.WellFormed.{NamesDiffer}
 use Rattle.bfs_model.proofs.WellFormed.Entries.{rising_pushed, rising_without, differ_without, no_longer}
 use Rattle.bfs_inode.specs.Directories.{AreEntries}
 

@@ -6,10 +6,10 @@ use Rattle.bfs_model.specs.Tree as model
 use Rattle.bfs_inode.specs.declared.bodies.Body.{Body}
 use Rattle.bfs_inode.specs.declared.bodies.Body.TheVariants.{File, Directory, Link}
 
-abbrev pub body_of : Body → model.Body
-body_of (File bytes) = model.file bytes
-body_of (Directory listing) = model.directory listing
-body_of (Link path) = model.link path
+abbrev pub body_seen : Body → model.Body
+body_seen (File bytes) = model.file bytes
+body_seen (Directory listing) = model.directory listing
+body_seen (Link path) = model.link path
 
 -- the bytes of a file
 abbrev pub file_in : model.Body → Option (List ℕ)

@@ -18,5 +18,5 @@ page_left room entries = record { listed = held_by room entries; all = length (h
 abbrev pub seen : Inside → Page
 seen page = page_left page.room (listed_behind page.cookie (drop page.place (all_listed page.id page.directory.now)))
 
-abbrev pub listed_of : Listed → Entry
-listed_of listed = record { cookie = listed.cookie; name = listed.name.now; child = listed.child }
+abbrev pub listed_seen : Listed → Entry
+listed_seen listed = record { cookie = listed.cookie; name = listed.name.now; child = listed.child }

@@ -4,10 +4,10 @@ use Rattle.bfs_model.specs.Limits.{most_links}
 use Rattle.bfs_model.specs.Tree as model
 use Rattle.bfs_types.specs.declared.limits.TheConstants.{MOST_PERMISSIONS}
 use Rattle.bfs_inode.specs.declared.inodes.Inode.TheInside.{Inside}
-use Rattle.bfs_inode.specs.Inodes.{body_of}
+use Rattle.bfs_inode.specs.Inodes.{body_seen}
 
 abbrev pub seen : Inside → model.Inode
-seen inode = record { permissions = inode.permissions; links = inode.links; uid = inode.uid; gid = inode.gid; atime = inode.atime; mtime = inode.mtime; ctime = inode.ctime; body = body_of inode.body }
+seen inode = record { permissions = inode.permissions; links = inode.links; uid = inode.uid; gid = inode.gid; atime = inode.atime; mtime = inode.mtime; ctime = inode.ctime; body = body_seen inode.body }
 
 -- its permissions are the twelve low bits of a mode, and its links within their limit
 abbrev pub IsWithin : Inside → Type 0

@@ -5,8 +5,8 @@ ghost use Rattle.bfs_model.specs.Attributes.{size_of, type_of};
 ghost use Rattle.bfs_model.specs.Limits.{most_name_bytes, most_file_bytes, most_entries};
 ghost use Rattle.bfs_model.specs.Changes.{overwritten_body, resized_body, with_listing};
 ghost use Rattle.bfs_model.specs.Directories.{entry_named, without_name};
-ghost use Rattle.bfs_types.specs.Attributes.{file_type_of};
-ghost use Rattle.bfs_inode.specs.Inodes.{body_of, file_in, most_size};
+ghost use Rattle.bfs_types.specs.Attributes.{file_type_seen};
+ghost use Rattle.bfs_inode.specs.Inodes.{body_seen, file_in, most_size};
 
 use crate::directories::Directory;
 use bfs_types::{Bytes, FileId, FileType, LinkPath, MOST_FILE_BYTES, Memory};
@@ -27,7 +27,7 @@ pub enum Body {
 
 impl Body {
     pub(crate) fn file_type(&self) -> FileType
-        ensures { file_type_of result ≡ type_of (body_of self.now) }
+        ensures { file_type_seen result ≡ type_of (body_seen self.now) }
     {
         match self {
             Body::File(_) => FileType::Regular,
@@ -38,7 +38,7 @@ impl Body {
 
     /// In bytes; a directory counts 32 for each entry, `.` and `..` among them.
     pub(crate) fn size(&self) -> u32
-        ensures value { result ≡ size_of (body_of self.now) }
+        ensures value { result ≡ size_of (body_seen self.now) }
         ensures within { result ≤ most_size }
     {
         match self {
@@ -50,9 +50,9 @@ impl Body {
 
     /// Of a file; what is no file stays.
     pub(crate) fn resize(&mut self, size: u32) -> Result<(), Memory>
-        requires { IsSome (file_in (body_of self.old)) → size ≤ most_file_bytes }
-        ensures ok { OnOk result (body_of self.new ≡ resized_body size (body_of self.old)) }
-        ensures err { OnErr result (body_of self.new ≡ body_of self.old) }
+        requires { IsSome (file_in (body_seen self.old)) → size ≤ most_file_bytes }
+        ensures ok { OnOk result (body_seen self.new ≡ resized_body size (body_seen self.old)) }
+        ensures err { OnErr result (body_seen self.new ≡ body_seen self.old) }
     {
         match self {
             Body::File(data) => data.resize(size as usize),
@@ -63,8 +63,8 @@ impl Body {
     /// Into a file; what is no file stays.
     pub(crate) fn write(&mut self, offset: u32, written: &[u8]) -> Result<(), Memory>
         requires { offset + length written.now ≤ most_file_bytes }
-        ensures ok { OnOk result (body_of self.new ≡ overwritten_body offset written.now (body_of self.old)) }
-        ensures err { OnErr result (body_of self.new ≡ body_of self.old) }
+        ensures ok { OnOk result (body_seen self.new ≡ overwritten_body offset written.now (body_seen self.old)) }
+        ensures err { OnErr result (body_seen self.new ≡ body_seen self.old) }
     {
         match self {
             Body::File(data) => data.write(offset as usize, written),
@@ -79,12 +79,12 @@ impl Body {
         name: &[u8],
         child: FileId,
     ) -> Result<(), Memory>
-        requires room { length (entries_in (body_of self.old)) < most_entries }
-        requires above { All (λ entry. entry.cookie < cookie) (entries_in (body_of self.old)) }
-        requires free { entry_named name.now (entries_in (body_of self.old)) ≡ None }
+        requires room { length (entries_in (body_seen self.old)) < most_entries }
+        requires above { All (λ entry. entry.cookie < cookie) (entries_in (body_seen self.old)) }
+        requires free { entry_named name.now (entries_in (body_seen self.old)) ≡ None }
         requires short { length name.now ≤ most_name_bytes }
-        ensures ok { OnOk result (body_of self.new ≡ with_listing (λ listing. record listing { entries = listing.entries ++ (record { cookie = cookie; name = name.now; child = child }) ∷ [] }) (body_of self.old)) }
-        ensures err { OnErr result (body_of self.new ≡ body_of self.old) }
+        ensures ok { OnOk result (body_seen self.new ≡ with_listing (λ listing. record listing { entries = listing.entries ++ (record { cookie = cookie; name = name.now; child = child }) ∷ [] }) (body_seen self.old)) }
+        ensures err { OnErr result (body_seen self.new ≡ body_seen self.old) }
     {
         match self {
             Body::Directory(directory) => directory.add(cookie, name, child),
@@ -94,7 +94,7 @@ impl Body {
 
     /// From a directory; what is no directory stays.
     pub(crate) fn drop_entry(&mut self, name: &[u8])
-        ensures { body_of self.new ≡ with_listing (λ listing. record listing { entries = without_name name.now listing.entries }) (body_of self.old) }
+        ensures { body_seen self.new ≡ with_listing (λ listing. record listing { entries = without_name name.now listing.entries }) (body_seen self.old) }
     {
         if let Body::Directory(directory) = self {
             directory.drop_entry(name);
@@ -103,7 +103,7 @@ impl Body {
 
     /// Of a directory; what is no directory stays.
     pub(crate) fn set_parent(&mut self, parent: FileId)
-        ensures { body_of self.new ≡ with_listing (λ listing. record listing { parent = parent }) (body_of self.old) }
+        ensures { body_seen self.new ≡ with_listing (λ listing. record listing { parent = parent }) (body_seen self.old) }
     {
         if let Body::Directory(directory) = self {
             directory.set_parent(parent);

@@ -2,6 +2,7 @@ ghost use Rattle.std.specs.Prelude.{◌≡◌, ◌≤◌, ◌↔◌, [], length,
 ghost use Rattle.std.specs.Option.{option_copied};
 ghost use Rattle.bfs_model.specs.Directories.{entry_named};
 ghost use Rattle.bfs_model.specs.Limits.{most_entries};
+ghost use Rattle.bfs_model.specs.Procedures.Names.{child_named};
 ghost use Rattle.bfs_model.specs.Tree.{spent_ordinal};
 ghost use Rattle.bfs_model.specs.WellFormed.{IsRising, NamesDiffer};
 
@@ -113,6 +114,20 @@ impl Directory {
         self.entries
             .iter()
             .find(|entry| entry.name.as_slice() == name)
+    }
+
+    /// The fileid that a name leads to (RFC 1094 section 2.2.5), or `None` if there is no such entry. `.` leads to the directory
+    /// itself, whose fileid is given, and `..` to the directory above.
+    pub fn child_named(&self, itself: FileId, name: &[u8]) -> Option<FileId>
+        ensures { result ≡ child_named itself self.now name.now }
+    {
+        if name == b".".as_slice() {
+            Some(itself)
+        } else if name == b"..".as_slice() {
+            Some(self.parent)
+        } else {
+            self.entry(name).map(|entry| entry.child)
+        }
     }
 
     /// The entry at a place, counted from 0 by rising cookie, or `None` if there are not that many.

@@ -6,7 +6,7 @@ ghost use Rattle.bfs_model.specs.Limits.{most_path_bytes, most_file_bytes, most_
 ghost use Rattle.bfs_model.specs.Changes.{new_inode, permission_bits, time_or};
 ghost use Rattle.bfs_model.specs.Procedures.Making.{new_file, new_directory, new_symbolic_link};
 ghost use Rattle.bfs_model.specs.WellFormed.{IsRising, NamesDiffer};
-ghost use Rattle.bfs_inode.specs.Inodes.{body_of, file_in, path_in, most_blocks};
+ghost use Rattle.bfs_inode.specs.Inodes.{body_seen, file_in, path_in, most_blocks};
 
 mod changes;
 
@@ -111,7 +111,7 @@ impl Inode {
     ) -> Inode
         requires bits { permissions ≤ MOST_PERMISSIONS }
         requires few { links ≤ most_links }
-        ensures { result ≡ new_inode context.now.time context.now.caller settings.now permissions links (body_of body) }
+        ensures { result ≡ new_inode context.now.time context.now.caller settings.now permissions links (body_seen body) }
     {
         Inode {
             permissions,
@@ -157,7 +157,7 @@ impl Inode {
 
     /// What it holds.
     pub fn body(&self) -> &Body
-        ensures { body_of result.now ≡ self.now.body }
+        ensures { body_seen result.now ≡ self.now.body }
     {
         &self.body
     }

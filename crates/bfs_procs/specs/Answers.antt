@@ -9,12 +9,12 @@ use Rattle.bfs_model.specs.Refusals.{Outcome, checked}
 use Rattle.bfs_procs.specs.declared.not_done.NotDone.{NotDone}
 use Rattle.bfs_procs.specs.declared.not_done.NotDone.TheVariants.{Refused, Memory}
 use Rattle.bfs_wire.specs.declared.reply.NfsReply.{NfsReply}
-use Rattle.bfs_wire.specs.Replies.{reply_of, status_of}
+use Rattle.bfs_wire.specs.Replies.{reply_seen, status_seen}
 
 -- it is done as the model does it, or refused as the model refuses it, with nothing changed; if memory ran out, nothing is said
 abbrev pub Answers : (before after : Inodes) → Result NfsReply NotDone → Result Outcome Status → Type 0
-Answers before after (Ok reply) attempted = attempted ≡ Ok (after, reply_of reply)
-Answers before after (Err (Refused status)) attempted = (attempted ≡ Err (status_of status)) × (after ≡ before)
+Answers before after (Ok reply) attempted = attempted ≡ Ok (after, reply_seen reply)
+Answers before after (Err (Refused status)) attempted = (attempted ≡ Err (status_seen status)) × (after ≡ before)
 Answers before after (Err Memory) attempted = Unit {0}
 
 -- the fileid of what a name that may go leads to

@@ -8,7 +8,7 @@ ghost use Rattle.bfs_model.specs.Refusals.{checked};
 ghost use Rattle.bfs_model.specs.Procedures.Attributes.{attributes_got, attributes_set, size_refusals};
 ghost use Rattle.bfs_procs.specs.Answers.{Answers};
 ghost use Rattle.bfs_tree.specs.Reach.{Knows};
-ghost use Rattle.bfs_wire.specs.Replies.{status_of};
+ghost use Rattle.bfs_wire.specs.Replies.{status_seen};
 
 use crate::not_done::NotDone;
 use bfs_inode::{FileId, Inode};
@@ -53,7 +53,7 @@ pub(crate) fn set_attributes<S: Store>(
 
 // whether an inode takes a size, or why it does not
 fn takes_size(inode: &Inode, size: Option<u32>) -> Result<(), Status>
-    ensures { result_map_both (λ _. tt) status_of result ≡ checked (size_refusals inode.now.body size) }
+    ensures { result_map_both (λ _. tt) status_seen result ≡ checked (size_refusals inode.now.body size) }
 {
     let Some(size) = size else {
         return Ok(());

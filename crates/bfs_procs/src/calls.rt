@@ -4,8 +4,8 @@ ghost use Rattle.bfs_model.specs.Procedures.{procedure, attempted};
 ghost use Rattle.bfs_model.specs.Short.{IsShort};
 ghost use Rattle.bfs_procs.specs.Answers.{Answers};
 ghost use Rattle.bfs_tree.specs.Reach.{Knows};
-ghost use Rattle.bfs_wire.specs.Calls.{call_of};
-ghost use Rattle.bfs_wire.specs.Replies.{reply_of};
+ghost use Rattle.bfs_wire.specs.Calls.{call_seen};
+ghost use Rattle.bfs_wire.specs.Replies.{reply_seen};
 
 use crate::attributes::{get_attributes, set_attributes};
 use crate::data::{read, read_link, write};
@@ -33,10 +33,10 @@ pub fn run<S: Store>(
     cred: &Cred,
     call: &NfsCall,
 ) -> Result<NfsReply, Memory>
-    requires known { Knows (S.reach store.old) (footprint (S.inodes store.old) (record { ordinal = ordinal; time = time; caller = cred.now }) (call_of call.now)) }
-    requires fresh { IsFresh (S.inodes store.old) (record { ordinal = ordinal; time = time; caller = cred.now }) (call_of call.now) }
-    requires short { IsShort (call_of call.now) }
-    ensures done { IfOk result (λ reply. (S.inodes store.new, reply_of reply) ≡ procedure (S.inodes store.old) (record { ordinal = ordinal; time = time; caller = cred.now }) (call_of call.now)) }
+    requires known { Knows (S.reach store.old) (footprint (S.inodes store.old) (record { ordinal = ordinal; time = time; caller = cred.now }) (call_seen call.now)) }
+    requires fresh { IsFresh (S.inodes store.old) (record { ordinal = ordinal; time = time; caller = cred.now }) (call_seen call.now) }
+    requires short { IsShort (call_seen call.now) }
+    ensures done { IfOk result (λ reply. (S.inodes store.new, reply_seen reply) ≡ procedure (S.inodes store.old) (record { ordinal = ordinal; time = time; caller = cred.now }) (call_seen call.now)) }
     ensures reach { S.reach store.new ≡ S.reach store.old }
 {
     let context = Context {
@@ -58,10 +58,10 @@ fn attempt<S: Store>(
     context: &Context,
     call: &NfsCall,
 ) -> Result<NfsReply, NotDone>
-    requires known { Knows (S.reach store.old) (footprint (S.inodes store.old) context.now (call_of call.now)) }
-    requires fresh { IsFresh (S.inodes store.old) context.now (call_of call.now) }
-    requires short { IsShort (call_of call.now) }
-    ensures done { Answers (S.inodes store.old) (S.inodes store.new) result (attempted (S.inodes store.old) context.now (call_of call.now)) }
+    requires known { Knows (S.reach store.old) (footprint (S.inodes store.old) context.now (call_seen call.now)) }
+    requires fresh { IsFresh (S.inodes store.old) context.now (call_seen call.now) }
+    requires short { IsShort (call_seen call.now) }
+    ensures done { Answers (S.inodes store.old) (S.inodes store.new) result (attempted (S.inodes store.old) context.now (call_seen call.now)) }
     ensures reach { S.reach store.new ≡ S.reach store.old }
 {
     match *call {

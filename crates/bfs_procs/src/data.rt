@@ -9,7 +9,7 @@ ghost use Rattle.bfs_model.specs.Refusals.{bytes_in};
 ghost use Rattle.bfs_model.specs.Procedures.Data.{file_read, file_written, link_read};
 ghost use Rattle.bfs_procs.specs.Answers.{Answers};
 ghost use Rattle.bfs_tree.specs.Reach.{Knows};
-ghost use Rattle.bfs_wire.specs.Replies.{status_of};
+ghost use Rattle.bfs_wire.specs.Replies.{status_seen};
 
 use crate::not_done::NotDone;
 use bfs_inode::{FileId, Inode};
@@ -82,7 +82,7 @@ pub(crate) fn write<S: Store>(
 
 // the bytes of a file, or why it is none
 fn bytes_of(inode: &Inode) -> Result<&[u8], Status>
-    ensures { result_map_both (λ bytes. bytes.now) status_of result ≡ bytes_in inode.now.body }
+    ensures { result_map_both (λ bytes. bytes.now) status_seen result ≡ bytes_in inode.now.body }
 {
     match inode.file() {
         Some(bytes) => Ok(bytes),

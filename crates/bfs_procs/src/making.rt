@@ -13,7 +13,7 @@ ghost use Rattle.bfs_model.specs.Tree.{spent_ordinal};
 ghost use Rattle.bfs_model.specs.Procedures.Making.{new_name_refusals, file_created, directory_made, symbolic_link_made, link_made};
 ghost use Rattle.bfs_procs.specs.Answers.{Answers};
 ghost use Rattle.bfs_tree.specs.Reach.{Knows};
-ghost use Rattle.bfs_wire.specs.Replies.{reply_of, status_of};
+ghost use Rattle.bfs_wire.specs.Replies.{reply_seen, status_seen};
 
 use crate::not_done::NotDone;
 use crate::steps::{add_entry, add_link, put};
@@ -137,7 +137,7 @@ pub(crate) fn link<S: Store>(
 
 // what is answered with the inode that was made under that fileid
 fn made(id: FileId, inode: &Inode) -> NfsReply
-    ensures { reply_of result ≡ replies.found id (attributes_of id inode.now) }
+    ensures { reply_seen result ≡ replies.found id (attributes_of id inode.now) }
 {
     NfsReply::Found {
         file: id,
@@ -147,7 +147,7 @@ fn made(id: FileId, inode: &Inode) -> NfsReply
 
 // the fileid for a new name in a directory, or why there is none
 fn new_name(context: &Context, directory: &Directory, name: &[u8]) -> Result<FileId, Status>
-    ensures checked { result_map_both (λ _. tt) status_of result ≡ checked (new_name_refusals context.now directory.now name.now) }
+    ensures checked { result_map_both (λ _. tt) status_seen result ≡ checked (new_name_refusals context.now directory.now name.now) }
     ensures value { IfOk result (λ id. id ≡ context.now.ordinal) }
     ensures unspent { IfOk result (λ id. context.now.ordinal < spent_ordinal) }
     ensures room { IfOk result (λ id. length directory.now.entries < most_entries) }
@@ -173,7 +173,7 @@ fn new_file_id(
     name: &[u8],
     size: Option<u32>,
 ) -> Result<FileId, Status>
-    ensures checked { result_map_both (λ _. tt) status_of result ≡ checked (new_name_refusals context.now directory.now name.now ++ (nat_lt most_file_bytes (unwrap_or size 0), fbig) ∷ []) }
+    ensures checked { result_map_both (λ _. tt) status_seen result ≡ checked (new_name_refusals context.now directory.now name.now ++ (nat_lt most_file_bytes (unwrap_or size 0), fbig) ∷ []) }
     ensures value { IfOk result (λ id. id ≡ context.now.ordinal) }
     ensures unspent { IfOk result (λ id. context.now.ordinal < spent_ordinal) }
     ensures room { IfOk result (λ id. length directory.now.entries < most_entries) }
@@ -194,7 +194,7 @@ fn new_name_of_links(
     name: &[u8],
     links: u32,
 ) -> Result<FileId, Status>
-    ensures checked { result_map_both (λ _. tt) status_of result ≡ checked (new_name_refusals context.now directory.now name.now ++ (has_most_links links, nospc) ∷ []) }
+    ensures checked { result_map_both (λ _. tt) status_seen result ≡ checked (new_name_refusals context.now directory.now name.now ++ (has_most_links links, nospc) ∷ []) }
     ensures value { IfOk result (λ id. id ≡ context.now.ordinal) }
     ensures unspent { IfOk result (λ id. context.now.ordinal < spent_ordinal) }
     ensures room { IfOk result (λ id. length directory.now.entries < most_entries) }

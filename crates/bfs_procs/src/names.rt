@@ -4,15 +4,14 @@ ghost use Rattle.bfs_model.specs.Arguments as call;
 ghost use Rattle.bfs_model.specs.Footprints.{footprint};
 ghost use Rattle.bfs_model.specs.Limits.{most_name_bytes};
 ghost use Rattle.bfs_model.specs.Replies as replies;
-ghost use Rattle.bfs_model.specs.Procedures.Names as model;
 ghost use Rattle.bfs_model.specs.Procedures.Names.{looked_up, directory_read};
-ghost use Rattle.bfs_inode.specs.Pages.{listed_of};
+ghost use Rattle.bfs_inode.specs.Pages.{listed_seen};
 ghost use Rattle.bfs_procs.specs.Answers.{Answers};
 ghost use Rattle.bfs_tree.specs.Reach.{Knows};
-ghost use Rattle.bfs_wire.specs.Replies.{reply_of};
+ghost use Rattle.bfs_wire.specs.Replies.{reply_seen};
 
 use crate::not_done::NotDone;
-use bfs_inode::{Directory, FileId, Listed, Page, is_no_name};
+use bfs_inode::{FileId, Listed, Page, is_no_name};
 use bfs_tree::Store;
 use bfs_types::{Context, Memory, Name};
 use bfs_wire::{ListedEntries, ListedEntry, NfsReply, Status};
@@ -34,23 +33,10 @@ pub(crate) fn look_up<S: Store>(
     if is_no_name(name) {
         return Err(NotDone::Refused(Status::Perm));
     }
-    let file = child_named(dir, directory, name).ok_or(Status::NoEnt)?;
+    let file = directory.child_named(dir, name).ok_or(Status::NoEnt)?;
     let child = store.get(file).ok_or(Status::Stale)?;
     let attributes = child.attributes(file);
     Ok(NfsReply::Found { file, attributes })
-}
-
-// the fileid of a name: `.` is the directory itself, `..` the one above
-fn child_named(dir: FileId, directory: &Directory, name: &[u8]) -> Option<FileId>
-    ensures { result ≡ model.child_named dir directory.now name.now }
-{
-    if name == b".".as_slice() {
-        Some(dir)
-    } else if name == b"..".as_slice() {
-        Some(directory.parent())
-    } else {
-        directory.entry(name).map(|entry| entry.child)
-    }
 }
 
 /// READDIR (RFC 1094 section 2.2.17).
@@ -72,7 +58,7 @@ pub(crate) fn read_directory<S: Store>(
 }
 
 fn list(alloc: Global, mut page: Page) -> Result<NfsReply, Memory>
-    ensures { IfOk result (λ reply. reply_of reply ≡ replies.listed page.entry.listed page.entry.all) }
+    ensures { IfOk result (λ reply. reply_seen reply ≡ replies.listed page.entry.listed page.entry.all) }
 {
     let mut entries = ListedEntries::new(alloc);
     while let Some(listed) = page.next_entry() {
@@ -86,7 +72,7 @@ fn list(alloc: Global, mut page: Page) -> Result<NfsReply, Memory>
 
 fn entry_of(alloc: Global, listed: &Listed) -> Result<ListedEntry, Memory>
     requires { length listed.now.name.now ≤ most_name_bytes }
-    ensures { IfOk result (λ entry. entry ≡ listed_of listed.now) }
+    ensures { IfOk result (λ entry. entry ≡ listed_seen listed.now) }
 {
     Ok(ListedEntry {
         cookie: listed.cookie,

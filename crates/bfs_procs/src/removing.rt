@@ -10,7 +10,7 @@ ghost use Rattle.bfs_model.specs.Tree.{is_directory_body};
 ghost use Rattle.bfs_model.specs.Procedures.Removing.{file_removed, directory_removed, has_entries};
 ghost use Rattle.bfs_procs.specs.Answers.{Answers, name_leads};
 ghost use Rattle.bfs_tree.specs.Reach.{Knows};
-ghost use Rattle.bfs_wire.specs.Replies.{status_of};
+ghost use Rattle.bfs_wire.specs.Replies.{status_seen};
 
 use crate::not_done::NotDone;
 use crate::steps::{drop_entry, lose_link, lose_name};
@@ -69,7 +69,7 @@ pub(crate) fn remove_directory<S: Store>(
 
 /// The fileid of what a name that may go leads to. `Perm` if the name is a bad one, and `NoEnt` if no entry has it.
 pub(crate) fn child_of(directory: &Directory, name: &[u8]) -> Result<FileId, Status>
-    ensures { result_map_both (λ id. id) status_of result ≡ name_leads directory.now name.now }
+    ensures { result_map_both (λ id. id) status_seen result ≡ name_leads directory.now name.now }
 {
     if is_bad_name(name) {
         return Err(Status::Perm);
@@ -80,7 +80,7 @@ pub(crate) fn child_of(directory: &Directory, name: &[u8]) -> Result<FileId, Sta
 
 // whether an inode is a directory that can be removed, or why it is none
 fn is_empty_directory(inode: &Inode) -> Result<(), Status>
-    ensures { result_map_both (λ _. tt) status_of result ≡ checked ((not (is_directory_body inode.now.body), notdir) ∷ (has_entries inode.now.body, notempty) ∷ []) }
+    ensures { result_map_both (λ _. tt) status_seen result ≡ checked ((not (is_directory_body inode.now.body), notdir) ∷ (has_entries inode.now.body, notempty) ∷ []) }
 {
     let directory = inode.directory().ok_or(Status::NotDir)?;
     if directory.is_empty() {

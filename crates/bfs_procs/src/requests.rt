@@ -4,8 +4,8 @@ ghost use Rattle.bfs_model.specs.Replies.{results, success};
 ghost use Rattle.bfs_model.specs.Serial.{answer, answer_call};
 ghost use Rattle.bfs_model.specs.Footprints.{footprint_of, footprint_of_call, IsFreshFor};
 ghost use Rattle.bfs_tree.specs.Reach.{Knows};
-ghost use Rattle.bfs_rpc.specs.Calls.{request_of};
-ghost use Rattle.bfs_wire.specs.Replies.{reply_of};
+ghost use Rattle.bfs_rpc.specs.Calls.{request_seen};
+ghost use Rattle.bfs_wire.specs.Replies.{reply_seen};
 
 use crate::calls::run;
 use bfs_inode::Time;
@@ -44,9 +44,9 @@ fn answer_call<S: Store>(
     time: Time,
     call: &Call,
 ) -> Result<Vec<u8>, Memory>
-    requires known { Knows (S.reach store.old) (footprint_of_call (S.inodes store.old) ordinal time (Ok (request_of call.now))) }
-    requires fresh { IsFreshFor (S.inodes store.old) ordinal (footprint_of_call (S.inodes store.old) ordinal time (Ok (request_of call.now))) }
-    ensures done { IfOk result (λ reply. (S.inodes store.new, reply.items) ≡ answer_call (S.inodes store.old) ordinal time (Ok (request_of call.now))) }
+    requires known { Knows (S.reach store.old) (footprint_of_call (S.inodes store.old) ordinal time (Ok (request_seen call.now))) }
+    requires fresh { IsFreshFor (S.inodes store.old) ordinal (footprint_of_call (S.inodes store.old) ordinal time (Ok (request_seen call.now))) }
+    ensures done { IfOk result (λ reply. (S.inodes store.new, reply.items) ≡ answer_call (S.inodes store.old) ordinal time (Ok (request_seen call.now))) }
     ensures reach { S.reach store.new ≡ S.reach store.old }
 {
     let Ok(arguments) = parse_args(call.proc, call.args) else {
@@ -59,7 +59,7 @@ fn answer_call<S: Store>(
 // the reply's results behind the header of a success, in one vector
 #[tactic(auto, unfolding(bfs_model::specs::Replies::success))]
 fn success_of(alloc: Global, xid: u32, reply: &NfsReply) -> Result<Vec<u8>, Memory>
-    ensures { IfOk result (λ bytes. bytes.items ≡ success xid (results (reply_of reply.now))) }
+    ensures { IfOk result (λ bytes. bytes.items ≡ success xid (results (reply_seen reply.now))) }
 {
     let mut bytes = Vec::new(alloc);
     put_success(&mut bytes, xid)?;

@@ -2,7 +2,7 @@ ghost use Rattle.std.specs.Prelude.{◌≡◌};
 ghost use Rattle.std.specs.Option.{option_map};
 ghost use Rattle.bfs_model.specs.Call as model;
 ghost use Rattle.bfs_xdr.specs.Reading.{Gives};
-ghost use Rattle.bfs_rpc.specs.Calls.{header_seen, request_of, refusal_of};
+ghost use Rattle.bfs_rpc.specs.Calls.{header_seen, request_seen, refusal_seen};
 
 use crate::cred::cred_of;
 use crate::reject::Reject;
@@ -53,7 +53,7 @@ const MAX_AUTH_BYTES: u32 = 400;
 /// it is the first in the order of `Reject`. The bytes of the padding may have any value.
 #[tactic(auto, unfolding(bfs_model::specs::Call::call_of))]
 pub fn parse_call(bytes: &[u8]) -> Result<Call<'_>, Reject>
-    ensures { Gives request_of refusal_of result (model.call_of bytes.now) }
+    ensures { Gives request_seen refusal_seen result (model.call_of bytes.now) }
 {
     let header = header_at(bytes).ok_or(Reject::Silent)?;
     let xid = header.xid;

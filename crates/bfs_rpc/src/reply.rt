@@ -1,7 +1,7 @@
 ghost use Rattle.std.specs.Prelude.{◌≡◌, [], ◌∷◌, ◌++◌, OnOk, OnErr, IfOk};
 ghost use Rattle.bfs_model.specs.Items.{words};
 ghost use Rattle.bfs_model.specs.Replies.{success, garbage, refusal};
-ghost use Rattle.bfs_rpc.specs.Calls.{refusal_of};
+ghost use Rattle.bfs_rpc.specs.Calls.{refusal_seen};
 
 use crate::reject::Reject;
 use bfs_types::Memory;
@@ -79,7 +79,7 @@ pub fn write_garbage(alloc: Global, xid: u32) -> Result<Vec<u8>, Memory>
 /// runs out.
 #[tactic(auto, unfolding(bfs_model::specs::Replies::refusal))]
 pub fn write_reject(alloc: Global, reject: &Reject) -> Result<Vec<u8>, Memory>
-    ensures { IfOk result (λ reply. reply.items ≡ refusal (refusal_of reject.now)) }
+    ensures { IfOk result (λ reply. reply.items ≡ refusal (refusal_seen reject.now)) }
 {
     let mut reply = Vec::new(alloc);
     let out = &mut reply;

@@ -1,5 +1,5 @@
 //! Assertions as calls: the proof of a test that makes them inline takes many times as long.
-ghost use Rattle.std.specs.Prelude.{◌≡◌, is_some, is_ok};
+ghost use Rattle.std.specs.Prelude.{◌≡◌, is_some, is_ok, IfErr};
 
 use std::fmt::Debug;
 
@@ -37,7 +37,8 @@ pub fn held(condition: bool) -> Option<()>
 
 /// Compares two values, and gives both back where they are not the same.
 pub fn compared<T: PartialEq + Debug + Drop>(given: T, wanted: T) -> Result<(), Differ<T>>
-    ensures { is_ok result ≡ T.eq given wanted }
+    ensures same { is_ok result ≡ T.eq given wanted }
+    ensures differ { IfErr result (λ differ. (differ.given ≡ given) × (differ.wanted ≡ wanted)) }
 {
     if given == wanted {
         Ok(())

@@ -1,5 +1,8 @@
 //! Requests and replies as the words that they are spelled in.
-ghost use Rattle.std.specs.Prelude.{◌≡◌, ◌+◌, ◌%◌};
+ghost use Rattle.std.specs.Prelude.{◌≡◌, ◌+◌, ◌%◌, ◌∷◌, [], ◌++◌, IfOk, OnOk};
+ghost use Rattle.std.specs.List.{flat_map};
+ghost use Rattle.bfs_model.specs.Items.{words};
+ghost use Rattle.hex.specs.Hex.{encode_lower};
 ghost use Rattle.bfs_testing.specs.Letters.{number_of};
 
 use crate::asserts::compared;
@@ -63,7 +66,7 @@ pub const NO_NAME: &[u32] = &[0];
 /// times are those of the last access, of the last change of what it holds, and of the last change of the inode.
 #[macro_export]
 macro_rules! attributes {
-    (file $id:literal, links $links:literal, size $size:literal, blocks $blocks:literal, times $atime:literal $mtime:literal $ctime:literal) => {
+    (file $id:literal, links $links:literal, size $size:expr, blocks $blocks:expr, times $atime:literal $mtime:literal $ctime:literal) => {
         &[
             1, 0x81a4, $links, 65534, 65534, $size, 4096, 0, $blocks, 1, $id, $atime, 0, $mtime, 0,
             $ctime, 0,
@@ -78,7 +81,9 @@ macro_rules! attributes {
 }
 
 /// Appends words that stand in parts.
-pub fn put_parts(bytes: &mut Vec<u8>, parts: &[&[u32]]) -> Result<(), Memory> {
+pub fn put_parts(bytes: &mut Vec<u8>, parts: &[&[u32]]) -> Result<(), Memory>
+    ensures { OnOk result (bytes.new.items ≡ bytes.old.items ++ flat_map (λ part. words part.now) parts.now) }
+{
     for part in parts {
         put_words(bytes, part)?;
     }
@@ -86,24 +91,34 @@ pub fn put_parts(bytes: &mut Vec<u8>, parts: &[&[u32]]) -> Result<(), Memory> {
 }
 
 /// The bytes of words that stand in parts.
-pub fn spelled(alloc: Global, parts: &[&[u32]]) -> Result<Vec<u8>, Memory> {
+pub fn spelled(alloc: Global, parts: &[&[u32]]) -> Result<Vec<u8>, Memory>
+    ensures { IfOk result (λ bytes. bytes.items ≡ flat_map (λ part. words part.now) parts.now) }
+{
     let mut bytes = Vec::new(alloc);
     put_parts(&mut bytes, parts)?;
     Ok(bytes)
 }
 
 /// The head of a call of RPC version 2 with no credential and no verifier.
-pub fn call(alloc: Global, xid: u32, procedure: u32) -> Result<Vec<u8>, Memory> {
-    spelled(alloc, &[&[xid, 0, 2, 100003, 2, procedure, 0, 0, 0, 0]])
+pub fn call(alloc: Global, xid: u32, procedure: u32) -> Result<Vec<u8>, Memory>
+    ensures { IfOk result (λ bytes. bytes.items ≡ words (xid ∷ 0 ∷ 2 ∷ 100003 ∷ 2 ∷ procedure ∷ 0 ∷ 0 ∷ 0 ∷ 0 ∷ [])) }
+{
+    let mut bytes = Vec::new(alloc);
+    put_words(&mut bytes, &[xid, 0, 2, 100003, 2, procedure, 0, 0, 0, 0])?;
+    Ok(bytes)
 }
 
 /// Compares bytes.
-pub fn same_bytes(alloc: Global, given: &[u8], wanted: &[u8]) -> Result<(), Fail> {
+pub fn same_bytes(alloc: Global, given: &[u8], wanted: &[u8]) -> Result<(), Fail>
+    ensures { OnOk result (given.now ≡ wanted.now) }
+{
     spells(alloc, given, hex::encode(alloc, wanted)?.as_str())
 }
 
 /// Compares bytes with a text in hexadecimal.
-pub fn spells(alloc: Global, given: &[u8], wanted: &str) -> Result<(), Fail> {
+pub fn spells(alloc: Global, given: &[u8], wanted: &str) -> Result<(), Fail>
+    ensures { OnOk result (encode_lower given.now ≡ wanted.now) }
+{
     Ok(compared(hex::encode(alloc, given)?.as_str(), wanted)?)
 }
 

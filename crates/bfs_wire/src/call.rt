@@ -2,16 +2,18 @@ ghost use Rattle.std.specs.Prelude.{◌≡◌, None, IfOk, IfSome, if◌then◌e
 ghost use Rattle.std.specs.Option.{option_map};
 ghost use Rattle.std.specs.Result.{result_ok};
 ghost use Rattle.bfs_model.specs.Arguments as model;
-ghost use Rattle.bfs_wire.specs.Calls.{call_of};
+ghost use Rattle.bfs_wire.specs.Calls.{call_seen, IsReadAs};
 ghost use Rattle.bfs_model.specs.Short.{IsShort};
 
-use crate::forms::{
-    create, file_system_status, get_attributes, link, look_up, make_directory, read,
-    read_directory, read_link, remove, remove_directory, rename, set_attributes, symbolic_link,
-    write,
-};
+use crate::arguments::Arguments;
+use crate::arguments::attributes::{get_attributes, set_attributes};
+use crate::arguments::data::{read, read_link, write};
+use crate::arguments::making::{create, link, make_directory, make_symbolic_link};
+use crate::arguments::names::{look_up, read_directory};
+use crate::arguments::removing::{remove, remove_directory};
+use crate::arguments::renaming::rename;
+use crate::arguments::status::file_system_status;
 use crate::garbage::GarbageArgs;
-use crate::parts::Arguments;
 use bfs_types::{FileId, Settings};
 
 /// A procedure with its arguments (RFC 1094 section 2.2). A file handle stands as the fileid that it leads to, or as `None` if
@@ -113,8 +115,8 @@ pub enum NfsCall<'a> {
 /// further bytes follow.
 #[tactic(auto, unfolding(bfs_model::specs::Arguments::arguments_of))]
 pub fn parse_args(procedure: u32, args: &[u8]) -> Result<NfsCall<'_>, GarbageArgs>
-    ensures value { option_map call_of (result_ok result) ≡ model.arguments_of procedure args.now }
-    ensures short { IfOk result (λ call. IsShort (call_of call)) }
+    ensures value { option_map call_seen (result_ok result) ≡ model.arguments_of procedure args.now }
+    ensures short { IfOk result (λ call. IsShort (call_seen call)) }
 {
     let mut arguments = Arguments::new(args);
     let Some(call) = fields(procedure, &mut arguments) else {
@@ -129,8 +131,7 @@ pub fn parse_args(procedure: u32, args: &[u8]) -> Result<NfsCall<'_>, GarbageArg
 // a procedure's arguments
 #[tactic(auto, unfolding(bfs_model::specs::Arguments::fields_at))]
 fn fields<'a>(procedure: u32, arguments: &mut Arguments<'a>) -> Option<NfsCall<'a>>
-    ensures value { option_map (λ call. (call_of call, arguments.new)) result ≡ model.fields_at procedure arguments.old }
-    ensures short { IfSome result (λ call. IsShort (call_of call)) }
+    ensures { IsReadAs (model.fields_at procedure arguments.old) result arguments.new }
 {
     match procedure {
         0 => Some(NfsCall::Null),
@@ -146,7 +147,7 @@ fn fields<'a>(procedure: u32, arguments: &mut Arguments<'a>) -> Option<NfsCall<'
         10 => remove(arguments),
         11 => rename(arguments),
         12 => link(arguments),
-        13 => symbolic_link(arguments),
+        13 => make_symbolic_link(arguments),
         14 => make_directory(arguments),
         15 => remove_directory(arguments),
         16 => read_directory(arguments),

@@ -1,13 +1,12 @@
 //! The calls of NFS version 2, read from bytes, and their results, written as bytes (RFC 1094).
 #![tactic(auto)]
 
+mod arguments;
 mod call;
 mod file_type;
-mod forms;
 mod garbage;
 mod handle;
 mod listing;
-mod parts;
 mod reply;
 mod status;
 

@@ -1,7 +1,7 @@
 ghost use Rattle.std.specs.Prelude.{◌≡◌, ◌++◌, take, length, OnOk, OnErr, IfOk};
 ghost use Rattle.bfs_model.specs.Attributes.{blocks_of as model_blocks_of};
 ghost use Rattle.bfs_model.specs.Replies as model;
-ghost use Rattle.bfs_wire.specs.Replies.{reply_of};
+ghost use Rattle.bfs_wire.specs.Replies.{reply_seen};
 
 use crate::file_type::{type_bits, type_number};
 use crate::handle::handle_bytes;
@@ -64,7 +64,7 @@ const FSID: u32 = 1;
 /// Appends the results of a procedure (RFC 1094 section 2.2), so that a reply can be built behind its header. `Memory` if
 /// memory runs out; then nothing is appended.
 pub fn put_reply(out: &mut Vec<u8>, reply: &NfsReply) -> Result<(), Memory>
-    ensures ok { OnOk result (out.new.items ≡ out.old.items ++ model.results (reply_of reply.now)) }
+    ensures ok { OnOk result (out.new.items ≡ out.old.items ++ model.results (reply_seen reply.now)) }
     ensures err { OnErr result (out.new.items ≡ out.old.items) }
 {
     let before = out.len();
@@ -77,7 +77,7 @@ pub fn put_reply(out: &mut Vec<u8>, reply: &NfsReply) -> Result<(), Memory>
 
 /// The results of a procedure (RFC 1094 section 2.2) as bytes of their own. `Memory` if memory runs out.
 pub fn write_reply(alloc: Global, reply: &NfsReply) -> Result<Vec<u8>, Memory>
-    ensures { IfOk result (λ bytes. bytes.items ≡ model.results (reply_of reply.now)) }
+    ensures { IfOk result (λ bytes. bytes.items ≡ model.results (reply_seen reply.now)) }
 {
     let mut bytes = Vec::new(alloc);
     put_reply(&mut bytes, reply)?;
@@ -87,7 +87,7 @@ pub fn write_reply(alloc: Global, reply: &NfsReply) -> Result<Vec<u8>, Memory>
 // the results, or some of them behind what was there
 #[tactic(auto, unfolding(bfs_model::specs::Replies::results))]
 fn put_results(out: &mut Vec<u8>, reply: &NfsReply) -> Result<(), Memory>
-    ensures ok { OnOk result (out.new.items ≡ out.old.items ++ model.results (reply_of reply.now)) }
+    ensures ok { OnOk result (out.new.items ≡ out.old.items ++ model.results (reply_seen reply.now)) }
     ensures err { OnErr result (take (length out.old.items) out.new.items ≡ out.old.items) }
 {
     match reply {

@@ -1,6 +1,6 @@
 ghost use Rattle.std.specs.Prelude.{◌≡◌};
 ghost use Rattle.bfs_model.specs.Replies.{status_number};
-ghost use Rattle.bfs_wire.specs.Replies.{status_of};
+ghost use Rattle.bfs_wire.specs.Replies.{status_seen};
 
 /// Why a procedure is not done (RFC 1094 section 2.3.1, stat).
 #[derive(Clone, Copy, Debug, PartialEq, Eq)]
@@ -28,7 +28,7 @@ pub enum Status {
 impl Status {
     /// The number that spells it (RFC 1094 section 2.3.1).
     pub fn number(self) -> u32
-        ensures { result ≡ status_number (status_of self) }
+        ensures { result ≡ status_number (status_seen self) }
     {
         match self {
             Status::Perm => 1,

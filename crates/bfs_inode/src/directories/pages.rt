@@ -2,7 +2,7 @@ ghost use Rattle.std.specs.Prelude.{◌≡◌, ◌+◌, ◌<◌, ◌≤◌, ◌=
 ghost use Rattle.bfs_model.specs.Tree as model;
 ghost use Rattle.bfs_model.specs.Limits.{most_name_bytes, most_entries};
 ghost use Rattle.bfs_model.specs.Directories.{all_listed, listed_behind, listed_size, page_of};
-ghost use Rattle.bfs_inode.specs.Pages.{listed_of};
+ghost use Rattle.bfs_inode.specs.Pages.{listed_seen};
 
 use crate::directories::{Directory, Entry};
 use bfs_types::{FileId, MOST_DATA_BYTES};
@@ -69,7 +69,7 @@ impl Directory {
 impl<'a> Page<'a> {
     /// The next entry of the page, or `None` behind its last one.
     pub fn next_entry(&mut self) -> Option<Listed<'a>>
-        ensures taken { MatchOption result ((self.old.listed ≡ []) × (self.new.listed ≡ [])) (λ listed. self.old.listed ≡ listed_of listed ∷ self.new.listed) }
+        ensures taken { MatchOption result ((self.old.listed ≡ []) × (self.new.listed ≡ [])) (λ listed. self.old.listed ≡ listed_seen listed ∷ self.new.listed) }
         ensures all { self.new.all ≡ self.old.all }
         ensures short { IfSome result (λ listed. length listed.name.now ≤ most_name_bytes) }
     {
@@ -96,7 +96,7 @@ impl<'a> Page<'a> {
 // the bytes that it takes in a reply
 fn size_listed(listed: &Listed) -> u32
     requires { length listed.now.name.now ≤ most_name_bytes }
-    ensures { result ≡ listed_size (listed_of listed.now) }
+    ensures { result ≡ listed_size (listed_seen listed.now) }
 {
     let length = listed.name.len() as u32;
     16 + length + (4 - length % 4) % 4
@@ -105,7 +105,7 @@ fn size_listed(listed: &Listed) -> u32
 // what is listed at a place: `.`, `..`, and then the entries
 fn listed_at(directory: &Directory, id: FileId, place: usize) -> Listed<'_>
     requires { place < length (all_listed id directory.now) }
-    ensures value { slice_get (all_listed id directory.now) place ≡ Some (listed_of result) }
+    ensures value { slice_get (all_listed id directory.now) place ≡ Some (listed_seen result) }
     ensures short { length result.name.now ≤ most_name_bytes }
 {
     match place {
@@ -124,7 +124,7 @@ fn listed_at(directory: &Directory, id: FileId, place: usize) -> Listed<'_>
 }
 
 fn listed_entry(entry: &Entry) -> Listed<'_>
-    ensures value { listed_of result ≡ entry.now }
+    ensures value { listed_seen result ≡ entry.now }
     ensures short { length result.name.now ≤ most_name_bytes }
 {
     Listed {

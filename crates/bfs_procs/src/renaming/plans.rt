@@ -10,7 +10,7 @@ ghost use Rattle.bfs_model.specs.Replies.{perm};
 ghost use Rattle.bfs_model.specs.Procedures.Renaming.{moves_directory, renaming_found, renaming_planned};
 ghost use Rattle.bfs_procs.specs.Renaming.{KeepsLimits, replaced_at};
 ghost use Rattle.bfs_tree.specs.Reach.{Knows};
-ghost use Rattle.bfs_wire.specs.Replies.{status_of};
+ghost use Rattle.bfs_wire.specs.Replies.{status_seen};
 
 use crate::renaming::refusals::{Renaming, Replaced};
 use bfs_inode::{FileId, is_bad_name};
@@ -28,7 +28,7 @@ pub(super) fn planned<S: Store>(
     to_name: &[u8],
 ) -> Result<Option<Renaming>, Status>
     requires { Knows (S.reach store.now) (footprint (S.inodes store.now) context.now (call.rename from from_name.now to to_name.now)) }
-    ensures plan { result_map_both (λ plan. plan) status_of result ≡ renaming_planned (S.inodes store.now) context.now from from_name.now to to_name.now }
+    ensures plan { result_map_both (λ plan. plan) status_seen result ≡ renaming_planned (S.inodes store.now) context.now from from_name.now to to_name.now }
     ensures within { KeepsLimits (S.inodes store.now) result to }
 {
     let plan = found(store, context, from, from_name, to, to_name)?;
@@ -48,7 +48,7 @@ fn found<S: Store>(
     to_name: &[u8],
 ) -> Result<Option<Renaming>, Status>
     requires { Knows (S.reach store.now) (footprint (S.inodes store.now) context.now (call.rename from from_name.now to to_name.now)) }
-    ensures plan { result_map_both (λ plan. plan) status_of result ≡ renaming_found (S.inodes store.now) from from_name.now to to_name.now }
+    ensures plan { result_map_both (λ plan. plan) status_seen result ≡ renaming_found (S.inodes store.now) from from_name.now to to_name.now }
     ensures within { KeepsLimits (S.inodes store.now) result to }
     ensures whole { IfOk result (λ plan. ForSome plan (λ renaming. IsTrue (moves_directory renaming) → IsTrue ((S.reach store.now).whole))) }
 {
@@ -78,7 +78,7 @@ fn found<S: Store>(
 
 // whether both names are ones that a call may take and make
 fn are_good(from_name: &[u8], to_name: &[u8]) -> Result<(), Status>
-    ensures { result_map_both (λ _. tt) status_of result ≡ checked ((is_bad_name from_name.now, perm) ∷ (is_bad_name to_name.now, perm) ∷ []) }
+    ensures { result_map_both (λ _. tt) status_seen result ≡ checked ((is_bad_name from_name.now, perm) ∷ (is_bad_name to_name.now, perm) ∷ []) }
 {
     if is_bad_name(from_name) || is_bad_name(to_name) {
         Err(Status::Perm)
@@ -90,7 +90,7 @@ fn are_good(from_name: &[u8], to_name: &[u8]) -> Result<(), Status>
 // what has the new name already
 fn replaced_at<S: Store>(store: &S, id: Option<FileId>) -> Result<Option<Replaced>, Status>
     requires { ForSome id (λ id. IsTrue ((S.reach store.now).known id)) }
-    ensures { result_map_both (option_map (λ replaced. replaced)) status_of result ≡ replaced_at (S.inodes store.now) id }
+    ensures { result_map_both (option_map (λ replaced. replaced)) status_seen result ≡ replaced_at (S.inodes store.now) id }
 {
     let Some(id) = id else {
         return Ok(None);

@@ -3,7 +3,7 @@ ghost use Rattle.std.specs.Prelude.{◌≡◌, ◌==◌, ◌&&◌, not, is_some,
 ghost use Rattle.std.specs.Result.{result_map_both};
 ghost use Rattle.bfs_model.specs.Procedures.Renaming as model;
 ghost use Rattle.bfs_model.specs.Refusals.{checked, is_full, has_most_links};
-ghost use Rattle.bfs_wire.specs.Replies.{status_of};
+ghost use Rattle.bfs_wire.specs.Replies.{status_seen};
 
 use bfs_inode::FileId;
 use bfs_tree::{Store, is_below};
@@ -56,7 +56,7 @@ impl Renaming {
     /// Whether it may be, or why not.
     pub(super) fn is_allowed<S: Store>(&self, store: &S, context: &Context) -> Result<(), Status>
         requires { IsTrue (model.moves_directory self.now) → IsTrue ((S.reach store.now).whole) }
-        ensures { result_map_both (λ _. tt) status_of result ≡ checked (model.renaming_refusals (S.inodes store.now) context.now self.now) }
+        ensures { result_map_both (λ _. tt) status_seen result ≡ checked (model.renaming_refusals (S.inodes store.now) context.now self.now) }
     {
         let is_spent = context.ordinal.file_id().is_none();
         if self.goes_below_itself(store) {

@@ -6,6 +6,14 @@ ghost use Rattle.bfs_model.specs.Arguments as model;
 ghost use Rattle.bfs_model.specs.Items.{opaque_at, word_at};
 ghost use Rattle.bfs_model.specs.Limits.{most_name_bytes, most_path_bytes, most_data_bytes};
 
+pub(crate) mod attributes;
+pub(crate) mod data;
+pub(crate) mod making;
+pub(crate) mod names;
+pub(crate) mod removing;
+pub(crate) mod renaming;
+pub(crate) mod status;
+
 use crate::handle::handle_id;
 use bfs_types::{FileId, MOST_DATA_BYTES, MOST_NAME_BYTES, MOST_PATH_BYTES, SetTime, Settings};
 use bfs_xdr::Reader;
