@@ -3,7 +3,7 @@ ghost use Rattle.std.specs.Prelude.{◌≡◌, IsTrue};
 ghost use Rattle.bfs_model.specs.Footprints.{Footprint, IsFreshFor};
 ghost use Rattle.bfs_model.specs.Tree.{first_ordinal};
 ghost use Rattle.bfs_model.specs.Short.{IsShort};
-ghost use Rattle.bfs_wire.specs.Calls.{call_of};
+ghost use Rattle.bfs_wire.specs.Calls.{call_seen};
 
 use crate::fresh::new_tree;
 use crate::steps::run_whole;
@@ -100,7 +100,7 @@ const SOMEBODY: Cred = Cred {
 
 // of a new tree
 fn reply_to(alloc: Global, call: &NfsCall) -> Result<NfsReply, Memory>
-    requires { IsShort (call_of call.now) }
+    requires { IsShort (call_seen call.now) }
 {
     let mut tree = new_tree(alloc)?;
     run_whole(
@@ -114,7 +114,7 @@ fn reply_to(alloc: Global, call: &NfsCall) -> Result<NfsReply, Memory>
 }
 
 fn is_void(alloc: Global, call: &NfsCall) -> Result<bool, Memory>
-    requires { IsShort (call_of call.now) }
+    requires { IsShort (call_seen call.now) }
 {
     Ok(matches!(reply_to(alloc, call)?, NfsReply::Void))
 }

@@ -3,6 +3,7 @@ use crate::steps::{Step, serves};
 use bfs_testing::attributes;
 use bfs_testing::numbers::{CREATE, FBIG, GETATTR, LOOKUP, NOENT, OK, READ, SETATTR, STALE, WRITE};
 use bfs_testing::words::{A, B, FOURTH, ROOT, THIRD, UNSET};
+use bfs_types::{BLOCK_SIZE, MOST_FILE_BYTES};
 use std::test::Fail;
 
 const MADE: &[u32] = attributes!(file 3, links 1, size 0, blocks 0, times 1 1 1);
@@ -60,20 +61,23 @@ fn reads_what_was_written(rt: HostRuntime) -> Result<(), Fail> {
     serves(rt.alloc(), WRITTEN_AND_READ)
 }
 
-const LONGEST: &[u32] = attributes!(file 3, links 1, size 1048576, blocks 256, times 1 2 2);
+const MOST: u32 = MOST_FILE_BYTES as u32;
+
+const LONGEST: &[u32] =
+    attributes!(file 3, links 1, size MOST, blocks MOST / BLOCK_SIZE, times 1 2 2);
 
 static FILLED: &[&[Step]] = &[
     &[Step(CREATE, &[ROOT, A, UNSET], &[OK, THIRD, MADE])],
     &[
-        Step(WRITE, &[THIRD, &[0, 1048575, 0, 2, 0x61610000]], &[FBIG]),
+        Step(WRITE, &[THIRD, &[0, MOST - 1, 0, 2, 0x61610000]], &[FBIG]),
         Step(
             WRITE,
-            &[THIRD, &[0, 1048575, 0, 1, 0x61000000]],
+            &[THIRD, &[0, MOST - 1, 0, 1, 0x61000000]],
             &[OK, LONGEST],
         ),
         Step(
             READ,
-            &[THIRD, &[1048574, 8, 0]],
+            &[THIRD, &[MOST - 2, 8, 0]],
             &[OK, LONGEST, &[2, 0x00610000]],
         ),
     ],

@@ -13,7 +13,7 @@ use bfs_testing::numbers::{
 use bfs_testing::words::{A, B, C, D, E, FIFTH, FOURTH, NINTH, ROOT, THIRD, UNSET, letters};
 use bfs_testing::{attributes, same};
 use bfs_tree::{Store, Tree};
-use bfs_types::{Memory, Ordinal, Time};
+use bfs_types::{MOST_FILE_BYTES, Memory, Ordinal, Time};
 use std::alloc::Global;
 use std::test::Fail;
 
@@ -63,8 +63,10 @@ fn makes_nothing_at_a_spent_ordinal(rt: HostRuntime) -> Result<(), Fail> {
     runs_on(rt.alloc(), &mut tree, 4_294_967_296, AT_THE_END)
 }
 
+const MORE: u32 = MOST_FILE_BYTES as u32 + 1;
+
 const TOO_LARGE: &[u32] = &[
-    0xffffffff, 0xffffffff, 0xffffffff, 1048577, 0xffffffff, 0xffffffff, 0xffffffff, 0xffffffff,
+    0xffffffff, 0xffffffff, 0xffffffff, MORE, 0xffffffff, 0xffffffff, 0xffffffff, 0xffffffff,
 ];
 
 static ABOVE_THE_LIMIT: &[Step] = &[Step(CREATE, &[ROOT, A, TOO_LARGE], &[FBIG])];

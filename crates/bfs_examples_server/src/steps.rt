@@ -2,7 +2,7 @@
 ghost use Rattle.std.specs.Prelude.{◌≡◌, IsTrue};
 ghost use Rattle.bfs_model.specs.Footprints.{Footprint, IsFreshFor};
 ghost use Rattle.bfs_model.specs.Short.{IsShort};
-ghost use Rattle.bfs_wire.specs.Calls.{call_of};
+ghost use Rattle.bfs_wire.specs.Calls.{call_seen};
 
 use crate::fresh::is_fresh;
 use bfs_inode::FileId;
@@ -148,7 +148,7 @@ pub(crate) fn run_whole<S: Store>(
 ) -> Result<NfsReply, Memory>
     requires whole { IsTrue ((S.reach store.old).whole) }
     requires fresh { (footprint : Footprint) → IsFreshFor (S.inodes store.old) ordinal footprint }
-    requires short { IsShort (call_of call.now) }
+    requires short { IsShort (call_seen call.now) }
     ensures { S.reach store.new ≡ S.reach store.old }
 {
     run(alloc, store, ordinal, time, caller, call)
