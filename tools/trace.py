@@ -1,0 +1,199 @@
+"""Traces, and what `replay` prints for them: what the tools beside this file share. docs/TRACE.md says what a line may be."""
+import os
+import re
+import signal
+import struct
+import subprocess
+import sys
+from typing import NamedTuple
+
+PROGRAM, VERSION = 100003, 2  # NFS version 2
+CLIENTS = 16  # the clients of a trace are the numbers below it
+MOST_REQUESTS = 1_024  # of a block
+MOST_BYTES = 16_384  # of a call, and of a reply
+SECOND = 1_000_000  # times are in microseconds
+TIMES = 2**32 * SECOND  # and below it
+UNSET = 0xFFFFFFFF
+
+# Every procedure: its verb, its arguments, and what follows the status 0, or `None` where there is no status. No server looks at
+# `unused` words.
+SETTINGS = "mode uid gid size atime mtime"
+PROCEDURES = (
+    ("null", "", None),
+    ("getattr", "handle", "attributes"),
+    ("setattr", "handle " + SETTINGS, "attributes"),
+    ("root", "", None),
+    ("lookup", "handle name", "handle attributes"),
+    ("readlink", "handle", "path"),
+    ("read", "handle offset count unused", "attributes data"),
+    ("writecache", "", None),
+    ("write", "handle unused offset unused data", "attributes"),
+    ("create", "handle name " + SETTINGS, "handle attributes"),
+    ("remove", "handle name", ""),
+    ("rename", "handle name handle name", ""),
+    ("link", "handle handle name", ""),
+    ("symlink", "handle name path " + SETTINGS, ""),
+    ("mkdir", "handle name " + SETTINGS, "handle attributes"),
+    ("rmdir", "handle name", ""),
+    ("readdir", "handle cookie count", "entries"),
+    ("statfs", "handle", "tsize bsize blocks bfree bavail"),
+)
+
+
+class Fault(Exception):
+    """What is wrong with a file, in words."""
+
+
+class Request(NamedTuple):
+    """A request: its line in the trace, its batch's effective time, its client and timestamp, and the bytes of its call."""
+
+    line: int
+    time: int
+    client: int
+    timestamp: int
+    call: bytes
+
+
+def pack(*numbers):
+    return struct.pack(f">{len(numbers)}I", *numbers)
+
+
+def opaque(data):
+    return pack(len(data)) + data + bytes(-len(data) % 4)
+
+
+def handle(fileid):
+    return b"BFS2" + pack(1, fileid) + bytes(20)
+
+
+def text(word):
+    """The bytes of a name or a path, in which `%` and two digits stand for any byte, and `%` alone for none."""
+    return b"" if word == "%" else re.sub(b"%(..)", lambda digits: bytes.fromhex(digits[1].decode()), word.encode())
+
+
+def setting(word, radix=10):
+    return pack(UNSET if word == "-" else int(word, radix))
+
+
+def time_setting(word):
+    return {"-": pack(UNSET, UNSET), "now": pack(0, SECOND)}.get(word) or pack(*map(int, word.split(".")))
+
+
+# How the word of an argument is written, and the bytes that it stands for. What is not here is a number below 2^32.
+NUMBER = r"\d+", lambda word: pack(int(word))
+TEXT = r"%|([!-$&-~]|%[\da-fA-F]{2})+", lambda word: opaque(text(word))
+ARGUMENTS = {
+    "handle": (r"#\d+", lambda word: handle(int(word[1:]))),
+    "name": TEXT,
+    "path": TEXT,
+    "data": (r"x[\da-fA-F]*", lambda word: opaque(bytes.fromhex(word[1:]))),
+    "mode": (r"-|[0-7]+", lambda word: setting(word, 8)),
+    **{label: (r"-|\d+", setting) for label in ("uid", "gid", "size")},
+    **{label: (r"-|now|\d+\.\d{6}", time_setting) for label in ("atime", "mtime")},
+}
+
+
+def argument(label, word):
+    pattern, build = ARGUMENTS.get(label, NUMBER)
+    try:
+        if re.fullmatch(pattern, word):
+            return build(word)
+    except (struct.error, ValueError):
+        pass  # a number is too large, or digits are odd
+    raise ValueError(f"{word[:40]!r} is no {label}")
+
+
+def is_hexadecimal(word):
+    return re.fullmatch(r"[\da-fA-F]+", word) and len(word) % 2 == 0
+
+
+def call_of(client, timestamp, verb, words):
+    """The bytes of the call that a verb and the words behind it spell; a ValueError says what is wrong with them."""
+    if verb == "raw" and len(words) == 1 and is_hexadecimal(words[0]):
+        return bytes.fromhex(words[0])
+    for procedure, (name, labels, _) in enumerate(PROCEDURES):
+        labels = labels.split()
+        if verb == name and len(words) == len(labels) - labels.count("unused"):
+            rest = iter(words)
+            arguments = [argument(label, "0" if label == "unused" else next(rest)) for label in labels]
+            credential = pack(0) + opaque(b"replay") + pack(1000 + client, 100, 0)
+            header = pack(timestamp % 2**32, 0, 2, PROGRAM, VERSION, procedure, 1) + opaque(credential) + pack(0, 0)
+            return header + b"".join(arguments)
+    raise ValueError(f"`{verb}` with what stands behind it spells no call")
+
+
+def lines(path):
+    """The lines of a file with their numbers, from 1."""
+    with open(path, "rb") as file:
+        content = file.read().decode("ascii", "replace")
+    return enumerate(content.removesuffix("\n").split("\n") if content else [], 1)
+
+
+def read_trace(path):
+    """The requests of a trace. Its first line that is at fault is a fault."""
+    requests, last, room = [], 0, None
+    for line, content in lines(path):
+        try:
+            if batch := re.fullmatch(r"batch (\d+)\.(\d{6})", content):
+                proposed = int(batch[1]) * SECOND + int(batch[2])
+                if proposed >= TIMES:
+                    raise ValueError("the seconds are not below 2^32")
+                last, room = proposed if proposed > last else min(last + 1, TIMES - 1), MOST_REQUESTS
+            elif request := re.fullmatch(r"(\d+) (\d+) ([a-z]+)(( [^ ]+)*)", content):
+                client, timestamp = int(request[1]), int(request[2])
+                if client >= CLIENTS or timestamp >= 2**64:
+                    raise ValueError(f"the client is not below {CLIENTS}, or the timestamp is not below 2^64")
+                if not room:
+                    raise ValueError("no batch is above it" if room is None else f"its batch has above {MOST_REQUESTS:,} requests")
+                call, room = call_of(client, timestamp, request[3], request[4].split(" ")[1:]), room - 1
+                if len(call) > MOST_BYTES:
+                    raise ValueError(f"the call has above {MOST_BYTES:,} bytes")
+                requests.append(Request(line, last, client, timestamp, call))
+            elif content and not content.startswith("#"):
+                raise ValueError("it is neither `batch S.UUUUUU` nor `CLIENT T VERB ..`")
+        except ValueError as error:
+            raise Fault(f"{path}: line {line}: {error}") from None
+    return requests
+
+
+def read_replies(path, requests):
+    """The replies to the requests of a trace, by their place in the output; `None` where a request got none."""
+    output, replies = list(lines(path)), []
+    for (line, content), request in zip(output, requests):
+        begin = f"c{request.client} t{request.timestamp} "
+        reply = content[len(begin) :]
+        if not content.startswith(begin) or reply != "-" and not is_hexadecimal(reply) or len(reply) > 2 * MOST_BYTES:
+            raise Fault(f"{path}: line {line}: no reply to line {request.line} of the trace, {begin.strip()}")
+        replies.append(None if reply == "-" else bytes.fromhex(reply))
+    if len(output) != len(requests):
+        raise Fault(f"{path}: {len(output)} lines, where the trace has {len(requests)} requests")
+    return replies
+
+
+def start(program, *words, **streams):
+    """Starts a program of Wireshark's."""
+    try:
+        return subprocess.Popen([program, *words], env={**os.environ, "TZ": "UTC"}, encoding="utf-8", errors="replace", **streams)
+    except FileNotFoundError:
+        raise Fault(f"{program} is not installed: apt-get install tshark") from None
+
+
+def run(main, usage):
+    """Runs a tool on its words. Its status is 2 where these are not as many as the usage has, and 1 where there is a fault."""
+    signal.signal(signal.SIGINT, signal.SIG_DFL)
+    words = sys.argv[1:]
+    if {"-h", "--help"} & set(words):
+        print("usage:", usage)
+    elif len(words) != len(usage.partition(" >")[0].split()) - 1:
+        print("usage:", usage, file=sys.stderr)
+        sys.exit(2)
+    else:
+        try:
+            main(*words)
+            sys.stdout.flush()
+        except BrokenPipeError:  # who reads the output wants no more
+            os.dup2(os.open(os.devnull, os.O_WRONLY), sys.stdout.fileno())
+        except OSError as error:
+            sys.exit(f"{sys.argv[0]}: {error.filename or 'standard output'}: {error.strerror}")
+        except Fault as fault:
+            sys.exit(f"{sys.argv[0]}: {fault}")
