@@ -92,7 +92,66 @@ def rename(trace):
     trace.blocks((11, place(i, round) + place(i, round + 1)) for round in range(5) for i in range(10_000))
 
 
-WORKLOADS = {"getattr": getattr, "write": write, "read": read, "create": create, "rename": rename}
+# Workloads of planning: the last block is a batch to be planned, and the blocks before it make what it touches.
+
+
+def make_files(trace, count):
+    trace.blocks((9, handle(2) + opaque(b"f%d" % i) + UNSET) for i in range(count))
+
+
+def write_in_turn(trace, files, length):
+    make_files(trace, files)
+    data = bytes(i % 251 for i in range(length))
+    trace.block((8, handle(FIRST + i % files) + words(0, 0, 0) + opaque(data)) for i in range(BATCH))
+
+
+def small_writes(trace):
+    """1,024 WRITEs of 8 bytes, each to a file of its own."""
+    write_in_turn(trace, BATCH, 8)
+
+
+def large_writes(trace):
+    """1,024 WRITEs of 8,192 bytes, each to a file of its own."""
+    write_in_turn(trace, BATCH, 8_192)
+
+
+def one_file(trace):
+    """1,024 WRITEs of 8 bytes to one file."""
+    write_in_turn(trace, 1, 8)
+
+
+def short_chains(trace):
+    """1,024 WRITEs of 8 bytes to 205 files in turn, so five to each."""
+    write_in_turn(trace, 205, 8)
+
+
+def long_chains(trace):
+    """1,024 WRITEs of 8 bytes to five files in turn, so 205 to each."""
+    write_in_turn(trace, 5, 8)
+
+
+def creates(trace):
+    """1,024 CREATEs of different names in the root of a new file system."""
+    make_files(trace, BATCH)
+
+
+def look_ups(trace):
+    """1,024 LOOKUPs in the root, one of each of its 1,024 names."""
+    make_files(trace, BATCH)
+    trace.block((4, handle(2) + opaque(b"f%d" % i)) for i in range(BATCH))
+
+
+TO_RUN = {"getattr": getattr, "write": write, "read": read, "create": create, "rename": rename}
+TO_PLAN = {
+    "small_writes": small_writes,
+    "large_writes": large_writes,
+    "one_file": one_file,
+    "short_chains": short_chains,
+    "long_chains": long_chains,
+    "creates": creates,
+    "look_ups": look_ups,
+}
+WORKLOADS = TO_RUN | TO_PLAN
 
 if __name__ == "__main__":
     if sys.argv[1:] == ["--list"]:

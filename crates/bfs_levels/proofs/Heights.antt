@@ -1,7 +1,7 @@
 -- The level of a call is told by the marks at its own fileids.
 use Rattle.std.proofs.Common.{◌≡◌, ℕ, ◌+◌, ◌==◌, ◌||◌, ◌≤◌, Bool, true, false, max, List, [], ◌∷◌, ◌++◌, if◌then◌else◌, refl, ap, sym, ◌∙◌, arith}
 use Rattle.std.specs.List.{list_any}
-use Rattle.std.specs.BTreeMap.{BTreeMap}
+use Rattle.std.specs.HashMap.{HashMap}
 use Rattle.std.proofs.lemmas.List.Folds.{list_any-append}
 use Rattle.bfs_model.specs.Footprints.{Footprint, known, whole}
 use Rattle.bfs_model.specs.Conflicts.{among, conflict, is_touched}
@@ -45,7 +45,7 @@ height_low p (call ∷ calls) = one_low (p call.0) (call.1 + 1) (height p calls)
 
 -- Over fileids ------------------------------------------------------------------------------------------------------------
 
-written_over : (marks : BTreeMap ℕ Mark) (calls : List (Footprint × ℕ)) (mark : Mark) (ids : List ℕ) → ((id : ℕ) → (mark_at marks id).written ≡ height (λ f. names_written f id) calls)
+written_over : {S : Type 0} (marks : HashMap ℕ Mark S) (calls : List (Footprint × ℕ)) (mark : Mark) (ids : List ℕ) → ((id : ℕ) → (mark_at marks id).written ≡ height (λ f. names_written f id) calls)
     → (highest_at marks mark ids).written ≡ max mark.written (height (λ f. list_any (names_written f) ids) calls)
 written_over marks calls mark [] is = let none = height_none calls in omega arith
 written_over marks calls mark (id ∷ ids) is =
@@ -53,7 +53,7 @@ written_over marks calls mark (id ∷ ids) is =
     let both = height_or (λ f. names_written f id) (λ f. list_any (names_written f) ids) calls in
     let first = is id in omega arith
 
-touched_over : (marks : BTreeMap ℕ Mark) (calls : List (Footprint × ℕ)) (mark : Mark) (ids : List ℕ) → ((id : ℕ) → (mark_at marks id).touched ≡ height (λ f. names_touched f id) calls)
+touched_over : {S : Type 0} (marks : HashMap ℕ Mark S) (calls : List (Footprint × ℕ)) (mark : Mark) (ids : List ℕ) → ((id : ℕ) → (mark_at marks id).touched ≡ height (λ f. names_touched f id) calls)
     → (highest_at marks mark ids).touched ≡ max mark.touched (height (λ f. list_any (names_touched f) ids) calls)
 touched_over marks calls mark [] is = let none = height_none calls in omega arith
 touched_over marks calls mark (id ∷ ids) is =

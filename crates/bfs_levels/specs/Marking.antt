@@ -1,7 +1,6 @@
 -- The marks by which a call's level is found from its own fileids.
-use Rattle.std.specs.Prelude.{◌≡◌, ℕ, Bool, true, false, ◌||◌, max, List, [], ◌∷◌, length, ◌≤◌, unwrap_or, if◌then◌else◌}
-use Rattle.std.specs.Ordering.{nat_cmp}
-use Rattle.std.specs.BTreeMap.{BTreeMap, get}
+use Rattle.std.specs.Prelude.{◌≡◌, ℕ, nat_eq, Bool, true, false, ◌||◌, max, List, [], ◌∷◌, length, ◌≤◌, unwrap_or, if◌then◌else◌}
+use Rattle.std.specs.HashMap.{HashMap, get}
 use Rattle.bfs_model.specs.Footprints.{Footprint, known, whole}
 use Rattle.bfs_model.specs.Conflicts.{among}
 use Rattle.bfs_model.specs.Conflicts.{is_whole}
@@ -21,8 +20,8 @@ names_touched whole id = false
 abbrev pub no_mark : Mark
 no_mark = record { written = 0; touched = 0 }
 
-abbrev pub mark_at : BTreeMap ℕ Mark → ℕ → Mark
-mark_at marks id = unwrap_or (get nat_cmp marks id) no_mark
+abbrev pub mark_at : {S : Type 0} → HashMap ℕ Mark S → ℕ → Mark
+mark_at marks id = unwrap_or (get nat_eq marks id) no_mark
 
 abbrev pub higher : Mark → Mark → Mark
 higher mark other = record { written = max mark.written other.written; touched = max mark.touched other.touched }
@@ -31,7 +30,7 @@ abbrev pub raised : Mark → Bool → Mark → Mark
 raised by is_raised mark = if is_raised then higher mark by else mark
 
 -- the highest of a mark and those at fileids
-abbrev pub highest_at : BTreeMap ℕ Mark → Mark → List ℕ → Mark
+abbrev pub highest_at : {S : Type 0} → HashMap ℕ Mark S → Mark → List ℕ → Mark
 highest_at marks mark [] = mark
 highest_at marks mark (id ∷ ids) = highest_at marks (higher mark (mark_at marks id)) ids
 

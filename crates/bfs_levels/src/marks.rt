@@ -1,5 +1,5 @@
 // How high the calls so far stand, by the inodes that they touch.
-ghost use Rattle.std.specs.Prelude.{◌≡◌, ℕ, ◌+◌, ◌<◌, ◌≤◌, ◌==◌, ◌^◌, [], ◌∷◌, length, List, IfOk, OnOk};
+ghost use Rattle.std.specs.Prelude.{◌≡◌, ℕ, ◌+◌, ◌<◌, ◌≤◌, ◌==◌, ◌^◌, [], ◌∷◌, length, List, OnOk};
 ghost use Rattle.bfs_model.specs.Conflicts.{among};
 ghost use Rattle.bfs_model.specs.Footprints.{Footprint as ModelFootprint, ids_in};
 ghost use Rattle.bfs_footprint.specs.Seen.{footprint_seen};
@@ -10,7 +10,7 @@ ghost use Rattle.bfs_levels.specs.Marking.{IsMarked, mark_at, higher, highest_at
 use bfs_footprint::{Footprint, Touch};
 use bfs_types::{FileId, Memory};
 use std::alloc::Global;
-use std::collections::BTreeMap;
+use std::collections::HashMap;
 
 // one more than the highest level of a call that writes an inode, and of one that reads or writes it; 0 where none does
 #[derive(Clone, Copy, Debug)]
@@ -42,7 +42,7 @@ impl Mark {
 // the marks of the inodes that the calls so far name, of those that have all inodes, and of all
 #[derive(Debug, Drop)]
 pub(crate) struct Marks {
-    pub(crate) by_id: BTreeMap<u32, Mark>,
+    pub(crate) by_id: HashMap<u32, Mark>,
     pub(crate) whole: u32,
     pub(crate) any: u32,
 }
@@ -52,7 +52,7 @@ impl Marks {
         ensures { IsMarked result [] }
     {
         Marks {
-            by_id: BTreeMap::new(alloc),
+            by_id: HashMap::new(alloc),
             whole: 0,
             any: 0,
         }
@@ -86,10 +86,10 @@ impl Marks {
         }
     }
 
-    // with one more call, of that level
-    pub(crate) fn with(mut self, footprint: &Footprint, level: u32) -> Result<Marks, Memory>
+    // puts one more call to those so far, of that level
+    pub(crate) fn add(&mut self, footprint: &Footprint, level: u32) -> Result<(), Memory>
         requires { level + 1 < 2 ^ 32 }
-        ensures { IfOk result (λ marks. (earlier : List (ModelFootprint × ℕ)) → level ≤ length earlier → IsMarked self earlier → IsMarked marks ((footprint_seen footprint.now, level) ∷ earlier)) }
+        ensures { OnOk result ((earlier : List (ModelFootprint × ℕ)) → level ≤ length earlier → IsMarked self.old earlier → IsMarked self.new ((footprint_seen footprint.now, level) ∷ earlier)) }
     {
         let height = level + 1;
         match footprint {
@@ -108,11 +108,11 @@ impl Marks {
             Footprint::Whole => self.whole = self.whole.max(height),
         }
         self.any = self.any.max(height);
-        Ok(self)
+        Ok(())
     }
 }
 
-fn mark_at(marks: &BTreeMap<u32, Mark>, id: FileId) -> Mark
+fn mark_at(marks: &HashMap<u32, Mark>, id: FileId) -> Mark
     ensures { result ≡ mark_at marks.now id }
 {
     match marks.get(&id.number()) {
@@ -121,7 +121,7 @@ fn mark_at(marks: &BTreeMap<u32, Mark>, id: FileId) -> Mark
     }
 }
 
-fn mark_in(marks: &BTreeMap<u32, Mark>, dir: Option<FileId>) -> Mark
+fn mark_in(marks: &HashMap<u32, Mark>, dir: Option<FileId>) -> Mark
     ensures { result ≡ highest_at marks.now no_mark (ids_in dir) }
 {
     match dir {
@@ -130,7 +130,7 @@ fn mark_in(marks: &BTreeMap<u32, Mark>, dir: Option<FileId>) -> Mark
     }
 }
 
-fn highest_at(marks: &BTreeMap<u32, Mark>, ids: &[FileId]) -> Mark
+fn highest_at(marks: &HashMap<u32, Mark>, ids: &[FileId]) -> Mark
     ensures { result ≡ highest_at marks.now no_mark ids.now }
 {
     let mut mark = Mark::none();
@@ -140,7 +140,7 @@ fn highest_at(marks: &BTreeMap<u32, Mark>, ids: &[FileId]) -> Mark
     mark
 }
 
-fn raise(marks: &mut BTreeMap<u32, Mark>, ids: &[FileId], by: Mark) -> Result<(), Memory>
+fn raise(marks: &mut HashMap<u32, Mark>, ids: &[FileId], by: Mark) -> Result<(), Memory>
     ensures { OnOk result ((id : ℕ) → mark_at marks.new id ≡ raised by (among ids.now id) (mark_at marks.old id)) }
 {
     for id in ids {
@@ -150,7 +150,7 @@ fn raise(marks: &mut BTreeMap<u32, Mark>, ids: &[FileId], by: Mark) -> Result<()
 }
 
 #[tactic(auto, using(crate::proofs::Marked::mark_at_inserted))]
-fn raise_one(marks: &mut BTreeMap<u32, Mark>, id: FileId, by: Mark) -> Result<(), Memory>
+fn raise_one(marks: &mut HashMap<u32, Mark>, id: FileId, by: Mark) -> Result<(), Memory>
     ensures { OnOk result ((other : ℕ) → mark_at marks.new other ≡ raised by (id == other) (mark_at marks.old other)) }
 {
     let mark = mark_at(marks, id).higher(by);

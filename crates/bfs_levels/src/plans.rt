@@ -69,7 +69,7 @@ impl Plan {
         ensures { IfOk result (λ plan. plan ≡ self ++ footprint_seen footprint ∷ []) }
     {
         let level = self.marks.level(&footprint);
-        self.marks = self.marks.with(&footprint, level)?;
+        self.marks.add(&footprint, level)?;
         self.level_of.push(level)?;
         self.footprints.push(footprint)?;
         Ok(self)

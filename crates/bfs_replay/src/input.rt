@@ -1,4 +1,4 @@
-ghost use Rattle.std.specs.Prelude.{◌≡◌, ◌≢◌, ◌↔◌, ◌≤◌, length, IfOk, IfErr, IfSome};
+ghost use Rattle.std.specs.Prelude.{◌≡◌, ◌≢◌, ◌↔◌, ◌<◌, ◌≤◌, length, IfOk, IfErr, IfSome, IsTrue};
 ghost use Rattle.std.specs.IoError.{error_kind};
 
 use crate::failure::Failure;
@@ -21,10 +21,16 @@ pub fn read_input<R: Read + Drop>(alloc: Global, reader: R) -> Result<Vec<u8>, F
     if let Err(error) = limited.read_to_end(&mut bytes) {
         return Err(read_error(error));
     }
-    if bytes.len() > MOST_TRACE_BYTES {
+    if is_too_long(bytes.as_slice()) {
         return Err(Failure::Input);
     }
     Ok(bytes)
+}
+
+fn is_too_long(bytes: &[u8]) -> bool
+    ensures { IsTrue result ↔ (MOST_TRACE_BYTES < length bytes.now) }
+{
+    bytes.len() > MOST_TRACE_BYTES
 }
 
 // memory may run out in a reader too
