@@ -97,6 +97,7 @@ fn answer_each<S: Store>(
     requires formed { IsWellFormed (record { tree = S.inodes store.old; next_ordinal = first; last_time = time }) }
     ensures inodes { IfOk result (λ _. S.inodes store.new ≡ inodes_after (S.inodes store.old) first time requests.now) }
     ensures replies { IfOk result (λ replies. replies ≡ replies_to (S.inodes store.old) first time requests.now) }
+    ensures reach { S.reach store.new ≡ S.reach store.old }
 {
     let mut ordinal = first;
     let mut replies = Replies::new(alloc);

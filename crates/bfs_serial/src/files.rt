@@ -21,18 +21,19 @@ pub(crate) struct Live {
 impl Model for Live {
     ghost use Rattle.bfs_model.specs.Tree as model;
     ghost use Rattle.std.specs.Coded.{codes};
-    ghost use Rattle.bfs_tree.specs.contracts.trees.Tree as kept;
+    ghost use Rattle.bfs_serial.specs.Codes.{inodes_code};
 
     ghost Value = { model.FileSystem };
 
-    ghost coded = { Prim.hlevel (codes, kept.the_row.coded) };
+    ghost coded = { Prim.hlevel (codes, inodes_code) };
 
+    ghost use Rattle.std.specs.Prelude.{IsTrue};
     ghost use Rattle.bfs_model.specs.Stored.{IsLive};
-    ghost use Rattle.bfs_tree.specs.Tree.{at_home};
+    ghost use Rattle.bfs_tree.specs.Tree.{at_home, reach_of};
 
     ghost view = { λ live. record { tree = at_home live.tree; next_ordinal = live.next_ordinal; last_time = live.last_time } };
 
-    ghost invariant = { λ live. IsLive (record { tree = at_home live.tree; next_ordinal = live.next_ordinal; last_time = live.last_time }) };
+    ghost invariant = { λ live. IsTrue ((reach_of live.tree).whole) × IsLive (record { tree = at_home live.tree; next_ordinal = live.next_ordinal; last_time = live.last_time }) };
 }
 
 /// A file system, which is live until it fails because memory ran out. A live one is well formed, and can be stored.
@@ -45,11 +46,11 @@ impl Model for FileSystem {
     ghost use Rattle.std.specs.Prelude.{Option};
     ghost use Rattle.bfs_model.specs.Tree as model;
     ghost use Rattle.std.specs.Coded.{codes};
-    ghost use Rattle.bfs_tree.specs.contracts.trees.Tree as kept;
+    ghost use Rattle.bfs_serial.specs.Codes.{inodes_code};
 
     ghost Value = { Option model.FileSystem };
 
-    ghost coded = { Prim.hlevel (codes, kept.the_row.coded) };
+    ghost coded = { Prim.hlevel (codes, inodes_code) };
 
     ghost view = { λ files. files.live };
 }
@@ -151,7 +152,8 @@ impl Live {
     }
 
     fn tree(&self) -> &Tree
-        ensures { at_home result.now ≡ self.now.tree }
+        ensures value { at_home result.now ≡ self.now.tree }
+        ensures whole { IsTrue ((reach_of result.now).whole) }
     {
         &self.tree
     }
