@@ -5,7 +5,7 @@ use Rattle.bfs_model.specs.Limits.{most_reply_bytes}
 use Rattle.bfs_model.specs.Serial.{ordinal_after}
 use Rattle.bfs_model.specs.WellFormed.{IsWellFormed}
 use Rattle.bfs_model.proofs.Kept.{request_keeps, reply_is_short}
-use Rattle.bfs_serial.proofs.executor.answer_whole.Goals as goal
+use Rattle.bfs_serial.proofs.executor.answer_next.Goals as goal
 
 pub returns-clause-formed : goal.returns-clause-formed
 returns-clause-formed g c =
