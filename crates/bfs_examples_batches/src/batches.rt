@@ -7,14 +7,14 @@ use std::alloc::Global;
 use std::process::Abort;
 use std::test::Fail;
 
-const ROOT_REPLY: &str =
+pub(crate) const ROOT_REPLY: &str =
     "0000000100000001000000000000000000000000000000000000000000000002000041ed000000020000000000000000000000400000100000000000000000010000000100000002000000000000000000000000000000000000000000000000";
 
 // GETATTR of the root as a message of type 1, which is a reply
 const NO_CALL: &str =
     "000000010000000100000002000186a30000000200000001000000000000000000000000000000004246533200000001000000020000000000000000000000000000000000000000";
 
-fn one_request(alloc: Global) -> Result<Batch, Fail> {
+pub(crate) fn one_request(alloc: Global) -> Result<Batch, Fail> {
     let mut batch = Batch::new(alloc);
     batch.set_time(Time::new(1, 0).ok_or("a time")?);
     batch.push(hex::decode(alloc, ROOT_REQUEST)?.as_slice())?;

@@ -5,3 +5,5 @@
 mod batches;
 #[cfg(test)]
 mod many;
+#[cfg(test)]
+mod parts;

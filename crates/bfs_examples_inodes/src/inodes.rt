@@ -1,4 +1,7 @@
 //! Inodes, directories and stores, one call at a time.
+ghost use Rattle.std.specs.Prelude.{◌≡◌, IsTrue};
+ghost use Rattle.bfs_tree.specs.Tree.{reach_of};
+
 use crate::growing::{add_link, context, same_ids};
 use bfs_inode::{Directory, FileData, FileId, Inode};
 use bfs_testing::{holds, same};
@@ -187,7 +190,11 @@ fn makes_symbolic_links(rt: HostRuntime) -> Result<(), Fail> {
     Ok(())
 }
 
-fn add_second_link(tree: &mut Tree, id: FileId) -> bool {
+#[tactic(auto, using(bfs_tree::specs::Knowing::knows_all))]
+fn add_second_link(tree: &mut Tree, id: FileId) -> bool
+    requires whole { IsTrue ((reach_of tree.old).whole) }
+    ensures reach { reach_of tree.new ≡ reach_of tree.old }
+{
     match tree.get_mut(id) {
         Some(inode) if inode.links() == 1 => {
             inode.add_link(Time::epoch());
@@ -197,12 +204,17 @@ fn add_second_link(tree: &mut Tree, id: FileId) -> bool {
     }
 }
 
-fn put_file(alloc: Global, tree: &mut Tree, id: FileId) -> Result<bool, Memory> {
+#[tactic(auto, using(bfs_tree::specs::Knowing::knows_all))]
+fn put_file(alloc: Global, tree: &mut Tree, id: FileId) -> Result<bool, Memory>
+    requires whole { IsTrue ((reach_of tree.old).whole) }
+    ensures reach { reach_of tree.new ≡ reach_of tree.old }
+{
     let file = Inode::new_file(alloc, &context(Time::epoch(), SUPERUSER), &UNSET)?;
     Ok(tree.insert(id, file).is_ok())
 }
 
 #[test]
+#[tactic(auto, using(bfs_tree::specs::Knowing::knows_all))]
 fn keeps_inodes_by_their_fileids(rt: HostRuntime) -> Result<(), Fail> {
     let id = FileId::new(3);
     let mut tree = Tree::new(rt.alloc())?;
@@ -225,7 +237,10 @@ fn count_and_used_blocks<S: Store>(store: &S) -> Option<(usize, u64)> {
     }
 }
 
-fn links_at(tree: &Tree, id: FileId) -> Option<u32> {
+#[tactic(auto, using(bfs_tree::specs::Knowing::knows_all))]
+fn links_at(tree: &Tree, id: FileId) -> Option<u32>
+    requires whole { IsTrue ((reach_of tree.now).whole) }
+{
     Some(tree.get(id)?.links())
 }
 
@@ -235,6 +250,7 @@ const TWO_BLOCKS: Settings = Settings {
 };
 
 #[test]
+#[tactic(auto, using(bfs_tree::specs::Knowing::knows_all))]
 fn counts_inodes_and_blocks(rt: HostRuntime) -> Result<(), Fail> {
     let alloc = rt.alloc();
     let mut tree = Tree::new(alloc)?;

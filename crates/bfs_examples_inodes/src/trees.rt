@@ -1,4 +1,7 @@
 //! Which trees are well formed.
+ghost use Rattle.std.specs.Prelude.{◌≡◌, IfOk, IsTrue};
+ghost use Rattle.bfs_tree.specs.Tree.{reach_of};
+
 use crate::growing::{add_entry, add_link, context};
 use crate::inodes::UNSET;
 use bfs_inode::{FileId, Inode};
@@ -38,16 +41,29 @@ const NOBODY: Cred = Cred {
     gid: 65534,
 };
 
-/// A new tree, with what is planted into it.
-pub(crate) fn grown(alloc: Global, planted: &[Planted]) -> Result<Tree, Fail> {
+/// A new tree, with what is planted into it. It is whole.
+pub(crate) fn grown(alloc: Global, planted: &[Planted]) -> Result<Tree, Fail>
+    ensures { IfOk result (λ tree. IsTrue ((reach_of tree).whole)) }
+{
     let mut tree = Tree::new(alloc)?;
-    for inode in planted {
-        plant(alloc, &mut tree, inode)?;
-    }
+    plant_all(alloc, &mut tree, planted)?;
     Ok(tree)
 }
 
-fn plant(alloc: Global, tree: &mut Tree, planted: &Planted) -> Result<(), Fail> {
+fn plant_all(alloc: Global, tree: &mut Tree, planted: &[Planted]) -> Result<(), Fail>
+    requires whole { IsTrue ((reach_of tree.old).whole) }
+    ensures reach { reach_of tree.new ≡ reach_of tree.old }
+{
+    for inode in planted {
+        plant(alloc, tree, inode)?;
+    }
+    Ok(())
+}
+
+fn plant(alloc: Global, tree: &mut Tree, planted: &Planted) -> Result<(), Fail>
+    requires whole { IsTrue ((reach_of tree.old).whole) }
+    ensures reach { reach_of tree.new ≡ reach_of tree.old }
+{
     match planted {
         Planted::Root { links, entries } => put(tree, 2, Inode::root(alloc), *links, entries),
         Planted::Directory {
@@ -74,7 +90,11 @@ fn file(alloc: Global) -> Result<Inode, Memory> {
 }
 
 // with that many links more, and those entries
-fn put(tree: &mut Tree, id: u32, inode: Inode, links: u32, entries: &[Entry]) -> Result<(), Fail> {
+#[tactic(auto, using(bfs_tree::specs::Knowing::knows_all))]
+fn put(tree: &mut Tree, id: u32, inode: Inode, links: u32, entries: &[Entry]) -> Result<(), Fail>
+    requires whole { IsTrue ((reach_of tree.old).whole) }
+    ensures reach { reach_of tree.new ≡ reach_of tree.old }
+{
     tree.insert(FileId::new(id), filled(inode, links, entries)?)?;
     Ok(())
 }
@@ -97,9 +117,7 @@ struct Stage<'a>(&'a [Planted<'a>], bool);
 fn judges(rt: &impl Abort, alloc: Global, stages: &[Stage]) -> Result<(), Fail> {
     let mut tree = Tree::new(alloc)?;
     for Stage(planted, well_formed) in stages {
-        for inode in *planted {
-            plant(alloc, &mut tree, inode)?;
-        }
+        plant_all(alloc, &mut tree, planted)?;
         same!(rt; tree.well_formed(), *well_formed);
     }
     Ok(())

@@ -1,4 +1,7 @@
 //! Plans of generated batches against a plain planner, which compares calls pair by pair.
+ghost use Rattle.std.specs.Prelude.{IsTrue};
+ghost use Rattle.bfs_tree.specs.Tree.{reach_of};
+
 use crate::plans::{Asked, with_executed};
 use bfs_footprint::{Touch, conflicts, touch_of};
 use bfs_levels::{plan_group, runs};
@@ -119,7 +122,9 @@ fn touches(
     ordinal: Ordinal,
     batch: &Batch,
     first: usize,
-) -> Result<Vec<Touch>, Memory> {
+) -> Result<Vec<Touch>, Memory>
+    requires whole { IsTrue ((reach_of tree.now).whole) }
+{
     let mut touches = Vec::new(alloc);
     let mut ordinal = ordinal;
     for index in first..batch.len() {
@@ -199,7 +204,9 @@ fn levels_of(alloc: Global, touches: &[Touch], count: usize) -> Result<Vec<u32>,
     Ok(levels)
 }
 
-fn compare_at(alloc: Global, tree: &Tree, batch: &Batch, first: usize) -> Result<(), Fail> {
+fn compare_at(alloc: Global, tree: &Tree, batch: &Batch, first: usize) -> Result<(), Fail>
+    requires whole { IsTrue ((reach_of tree.now).whole) }
+{
     let ordinal = Ordinal::first().after(8).after(first as u64);
     let time = batch.time();
     let touches = touches(alloc, tree, ordinal, batch, first)?;

@@ -1,7 +1,8 @@
 //! What is refused where ordinals, links or entries are at their end.
-ghost use Rattle.std.specs.Prelude.{◌≡◌, ◌+◌, ◌<◌, [], OnOk};
+ghost use Rattle.std.specs.Prelude.{◌≡◌, ◌+◌, ◌<◌, [], IfOk, IsTrue, OnOk};
 ghost use Rattle.bfs_model.specs.Limits.{most_entries};
 ghost use Rattle.bfs_model.specs.Tree.{entries_in};
+ghost use Rattle.bfs_tree.specs.Tree.{reach_of};
 ghost use Rattle.bfs_examples_server.specs.Entries.{AreNumbered};
 
 use crate::steps::{Step, runs};
@@ -33,14 +34,18 @@ const E_MADE: &[u32] = attributes!(directory 5, links 2, size 64, times 1 1 1);
 // the path `b`
 const PATH: &[u32] = &[1, 0x62000000];
 
-fn made(alloc: Global) -> Result<Tree, Fail> {
+fn made(alloc: Global) -> Result<Tree, Fail>
+    ensures { IfOk result (λ tree. IsTrue ((reach_of tree).whole)) }
+{
     let mut tree = Tree::new(alloc)?;
     runs(alloc, &mut tree, Ordinal::first(), MADE)?;
     Ok(tree)
 }
 
 // under that ordinal and those behind it
-fn runs_on(alloc: Global, tree: &mut Tree, ordinal: u64, steps: &[Step]) -> Result<(), Fail> {
+fn runs_on(alloc: Global, tree: &mut Tree, ordinal: u64, steps: &[Step]) -> Result<(), Fail>
+    requires whole { IsTrue ((reach_of tree.old).whole) }
+{
     let first = Ordinal::new(ordinal).ok_or("an ordinal")?;
     runs(alloc, tree, first, steps)
 }
@@ -79,7 +84,11 @@ fn makes_no_file_above_the_limit(rt: HostRuntime) -> Result<(), Fail> {
 }
 
 // gives an inode as many links as it may have, and counts them
-fn add_all_links(tree: &mut Tree, id: FileId) -> Result<u32, Fail> {
+#[tactic(auto, using(bfs_tree::specs::Knowing::knows_all))]
+fn add_all_links(tree: &mut Tree, id: FileId) -> Result<u32, Fail>
+    requires whole { IsTrue ((reach_of tree.old).whole) }
+    ensures reach { reach_of tree.new ≡ reach_of tree.old }
+{
     let inode = tree.get_mut(id).ok_or("an inode")?;
     for _link in 0..32_767 {
         if inode.links() < 32_767 {
@@ -103,14 +112,17 @@ static BEYOND_THE_LAST: &[Step] = &[
 #[test]
 fn makes_no_link_beyond_the_last(rt: HostRuntime) -> Result<(), Fail> {
     let mut tree = made(rt.alloc())?;
-    for id in [FileId::root(), FileId::new(3)] {
-        same!(rt; add_all_links(&mut tree, id)?, 32_767);
-    }
+    same!(rt; add_all_links(&mut tree, FileId::root())?, 32_767);
+    same!(rt; add_all_links(&mut tree, FileId::new(3))?, 32_767);
     runs_on(rt.alloc(), &mut tree, 6, BEYOND_THE_LAST)
 }
 
 // gives a directory without entries as many as it may have, all of them names of a file
-fn add_all_entries(tree: &mut Tree, directory: FileId, file: FileId) -> Result<(), Fail> {
+#[tactic(auto, using(bfs_tree::specs::Knowing::knows_all))]
+fn add_all_entries(tree: &mut Tree, directory: FileId, file: FileId) -> Result<(), Fail>
+    requires whole { IsTrue ((reach_of tree.old).whole) }
+    ensures reach { reach_of tree.new ≡ reach_of tree.old }
+{
     let inode = tree.get_mut(directory).ok_or("a directory")?;
     match inode.directory() {
         Some(directory) if directory.is_empty() => {}

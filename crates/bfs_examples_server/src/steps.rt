@@ -2,6 +2,7 @@
 ghost use Rattle.std.specs.Prelude.{◌≡◌, IsTrue};
 ghost use Rattle.bfs_model.specs.Footprints.{Footprint, IsFreshFor};
 ghost use Rattle.bfs_model.specs.Short.{IsShort};
+ghost use Rattle.bfs_tree.specs.Tree.{reach_of};
 ghost use Rattle.bfs_wire.specs.Calls.{call_seen};
 
 use crate::fresh::is_fresh;
@@ -86,14 +87,17 @@ fn reply(alloc: Global, xid: u32, step: &Step) -> Result<Vec<u8>, Memory> {
     Ok(bytes)
 }
 
-/// Carries out calls on a tree, the first under that ordinal, at one second and for somebody without a credential, and
+/// Carries out calls on a whole tree, the first under that ordinal, at one second and for somebody without a credential, and
 /// compares the words of each one's results.
 pub(crate) fn runs(
     alloc: Global,
     tree: &mut Tree,
     first: Ordinal,
     steps: &[Step],
-) -> Result<(), Fail> {
+) -> Result<(), Fail>
+    requires whole { IsTrue ((reach_of tree.old).whole) }
+    ensures reach { reach_of tree.new ≡ reach_of tree.old }
+{
     let mut ordinal = first;
     for step in steps {
         runs_one(alloc, tree, ordinal, step)?;
@@ -107,19 +111,20 @@ const NOBODY: Cred = Cred {
     gid: 65534,
 };
 
-fn runs_one(alloc: Global, tree: &mut Tree, ordinal: Ordinal, step: &Step) -> Result<(), Fail> {
+fn runs_one(alloc: Global, tree: &mut Tree, ordinal: Ordinal, step: &Step) -> Result<(), Fail>
+    requires whole { IsTrue ((reach_of tree.old).whole) }
+    ensures reach { reach_of tree.new ≡ reach_of tree.old }
+{
     let Step(_, _, results) = step;
     let given = run_words(alloc, tree, ordinal, step)?;
     let wanted = spelled(alloc, results)?;
     same_bytes(alloc, given.as_slice(), wanted.as_slice())
 }
 
-fn run_words(
-    alloc: Global,
-    tree: &mut Tree,
-    ordinal: Ordinal,
-    step: &Step,
-) -> Result<Vec<u8>, Fail> {
+fn run_words(alloc: Global, tree: &mut Tree, ordinal: Ordinal, step: &Step) -> Result<Vec<u8>, Fail>
+    requires whole { IsTrue ((reach_of tree.old).whole) }
+    ensures reach { reach_of tree.new ≡ reach_of tree.old }
+{
     if !is_fresh(alloc, tree, ordinal)? {
         return Err(Fail::new("a fresh ordinal"));
     }

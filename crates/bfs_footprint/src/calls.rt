@@ -1,10 +1,11 @@
-ghost use Rattle.std.specs.Prelude.{◌≡◌, IfOk};
+ghost use Rattle.std.specs.Prelude.{◌≡◌, IfOk, IsTrue};
 ghost use Rattle.std.specs.Option.{option_copied};
 ghost use Rattle.std.specs.FinMap.{get};
 ghost use Rattle.bfs_model.specs.Arguments.{rename};
 ghost use Rattle.bfs_model.specs.Footprints as model;
 ghost use Rattle.bfs_model.specs.Tree.{listing_at};
 ghost use Rattle.bfs_wire.specs.Calls.{call_seen};
+ghost use Rattle.bfs_tree.specs.Tree.{at_home, reach_of};
 ghost use Rattle.bfs_footprint.specs.Seen.{footprint_seen};
 
 use crate::file_ids::FileIds;
@@ -15,14 +16,15 @@ use bfs_types::{Context, FileId, Memory};
 use bfs_wire::NfsCall;
 use std::alloc::Global;
 
-/// What a call reads and writes, found on the inodes before it. `Memory` if memory runs out.
+/// What a call reads and writes, found on the inodes before it. The tree is whole. `Memory` if memory runs out.
 pub fn footprint(
     alloc: Global,
     tree: &Tree,
     context: &Context,
     call: &NfsCall,
 ) -> Result<Footprint, Memory>
-    ensures { IfOk result (λ footprint. footprint_seen footprint ≡ model.footprint tree.now context.now (call_seen call.now)) }
+    requires whole { IsTrue ((reach_of tree.now).whole) }
+    ensures { IfOk result (λ footprint. footprint_seen footprint ≡ model.footprint (at_home tree.now) context.now (call_seen call.now)) }
 {
     let none = FileIds::none(alloc);
     match *call {
@@ -67,7 +69,8 @@ fn of_rename(
     to: Option<FileId>,
     to_name: &[u8],
 ) -> Result<Footprint, Memory>
-    ensures { IfOk result (λ footprint. footprint_seen footprint ≡ model.footprint tree.now context.now (rename from from_name.now to to_name.now)) }
+    requires whole { IsTrue ((reach_of tree.now).whole) }
+    ensures { IfOk result (λ footprint. footprint_seen footprint ≡ model.footprint (at_home tree.now) context.now (rename from from_name.now to to_name.now)) }
 {
     if moves_a_directory(tree, from, from_name, to) {
         return Ok(Footprint::Whole);
@@ -79,15 +82,18 @@ fn of_rename(
     Ok(Footprint::of_writes(alloc, writes))
 }
 
+#[tactic(auto, using(bfs_tree::specs::Knowing::knows_all))]
 fn directory_at(tree: &Tree, id: FileId) -> Option<&Directory>
-    ensures { option_copied result ≡ listing_at (get tree.now id) }
+    requires whole { IsTrue ((reach_of tree.now).whole) }
+    ensures { option_copied result ≡ listing_at (get (at_home tree.now) id) }
 {
     tree.get(id)?.directory()
 }
 
 // what has that name in a directory
 fn child_at(tree: &Tree, dir: Option<FileId>, name: &[u8]) -> Option<FileId>
-    ensures { result ≡ model.child_at tree.now dir name.now }
+    requires whole { IsTrue ((reach_of tree.now).whole) }
+    ensures { result ≡ model.child_at (at_home tree.now) dir name.now }
 {
     let entry = directory_at(tree, dir?)?.entry(name)?;
     Some(entry.child)
@@ -95,20 +101,23 @@ fn child_at(tree: &Tree, dir: Option<FileId>, name: &[u8]) -> Option<FileId>
 
 // what LOOKUP finds
 fn id_found(tree: &Tree, dir: Option<FileId>, name: &[u8]) -> Option<FileId>
-    ensures { result ≡ model.id_found tree.now dir name.now }
+    requires whole { IsTrue ((reach_of tree.now).whole) }
+    ensures { result ≡ model.id_found (at_home tree.now) dir name.now }
 {
     let dir = dir?;
     directory_at(tree, dir)?.child_named(dir, name)
 }
 
 // whether a directory is renamed out of the directory that holds it
+#[tactic(auto, using(bfs_tree::specs::Knowing::knows_all))]
 fn moves_a_directory(
     tree: &Tree,
     from: Option<FileId>,
     from_name: &[u8],
     to: Option<FileId>,
 ) -> bool
-    ensures { result ≡ model.moves_a_directory tree.now from from_name.now to }
+    requires whole { IsTrue ((reach_of tree.now).whole) }
+    ensures { result ≡ model.moves_a_directory (at_home tree.now) from from_name.now to }
 {
     let Some(moved) = child_at(tree, from, from_name) else {
         return false;

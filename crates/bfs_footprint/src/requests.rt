@@ -1,6 +1,7 @@
-ghost use Rattle.std.specs.Prelude.{◌≡◌, [], ◌++◌, IfOk};
+ghost use Rattle.std.specs.Prelude.{◌≡◌, [], ◌++◌, IfOk, IsTrue};
 ghost use Rattle.bfs_model.specs.Conflicts.{resolved_of};
 ghost use Rattle.bfs_model.specs.Footprints.{known, ids_in, footprint_of};
+ghost use Rattle.bfs_tree.specs.Tree.{at_home, reach_of};
 ghost use Rattle.bfs_footprint.specs.Seen.{footprint_seen};
 
 use crate::calls::footprint;
@@ -20,7 +21,7 @@ pub struct Touch {
 }
 
 /// What the request of these bytes touches under its ordinal, in a batch of that effective time, found on the inodes before it. A
-/// request that is refused, or whose arguments are garbage, touches nothing. `Memory` if memory runs out.
+/// request that is refused, or whose arguments are garbage, touches nothing. The tree is whole. `Memory` if memory runs out.
 pub fn touch_of(
     alloc: Global,
     tree: &Tree,
@@ -28,7 +29,8 @@ pub fn touch_of(
     time: Time,
     request: &[u8],
 ) -> Result<Touch, Memory>
-    ensures footprint { IfOk result (λ touch. footprint_seen touch.footprint ≡ footprint_of tree.now ordinal time request.now) }
+    requires whole { IsTrue ((reach_of tree.now).whole) }
+    ensures footprint { IfOk result (λ touch. footprint_seen touch.footprint ≡ footprint_of (at_home tree.now) ordinal time request.now) }
     ensures resolved { IfOk result (λ touch. ids_in touch.resolved.first ++ ids_in touch.resolved.second ≡ resolved_of request.now) }
 {
     let Ok(call) = parse_call(request) else {

@@ -1,9 +1,8 @@
 -- The first calls are without a parted one just if they are no more than are counted.
-use Rattle.std.proofs.Common.{◌≡◌, ℕ, ◌+◌, ◌≤◌, ◌↔◌, ◌==◌, ◌||◌, Bool, true, false, if◌then◌else◌, IsTrue, IsFalse, List, [], ◌∷◌, ◌++◌, zero, suc, length, take, refl, ap, sym, subst, ◌∙◌, arith}
+use Rattle.std.proofs.Common.{◌≡◌, ℕ, ◌+◌, ◌≤◌, ◌↔◌, ◌||◌, Bool, true, false, if◌then◌else◌, IsFalse, List, [], ◌∷◌, ◌++◌, zero, suc, length, take, refl, ap, sym, subst, ◌∙◌, arith}
 use Rattle.std.specs.List.{AllByRecursion, list_any}
 use Rattle.std.proofs.lemmas.List.Folds.{list_any-append}
-use Rattle.std.proofs.lemmas.Bool.{eqb-true}
-use Rattle.bfs_model.specs.Conflicts.{conflict, among, is_written, resolved_of}
+use Rattle.bfs_model.specs.Conflicts.{conflict, is_written, resolved_of}
 use Rattle.bfs_model.specs.Groups.{footprints_at, AreDisjoint, IsCut, IsCutBefore}
 use Rattle.bfs_model.specs.Serial.{ordinal_after}
 use Rattle.bfs_model.specs.Footprints.{Footprint, footprint_of}

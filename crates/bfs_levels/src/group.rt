@@ -1,5 +1,6 @@
-ghost use Rattle.std.specs.Prelude.{◌≡◌, drop, length, map, take, IfOk};
+ghost use Rattle.std.specs.Prelude.{◌≡◌, drop, length, map, take, IfOk, IsTrue};
 ghost use Rattle.bfs_model.specs.Groups.{footprints_at};
+ghost use Rattle.bfs_tree.specs.Tree.{at_home, reach_of};
 ghost use Rattle.bfs_footprint.specs.Seen.{footprint_seen};
 ghost use Rattle.bfs_levels.specs.Planning.{group_length, levels_of};
 
@@ -31,7 +32,7 @@ impl Group {
     }
 }
 
-/// The longest group of the batch's requests that begins with the one at that place, which has that ordinal.
+/// The longest group of the batch's requests that begins with the one at that place, which has that ordinal. The tree is whole.
 ///
 /// It costs a few look-ups in a map of the inodes that the group touches for each request.
 #[tactic(auto, using(crate::proofs::Left::length_seen))]
@@ -43,9 +44,10 @@ pub fn plan_group(
     batch: &Batch,
     first: usize,
 ) -> Result<Group, Memory>
+    requires whole { IsTrue ((reach_of tree.now).whole) }
     ensures first { IfOk result (λ group. group.first ≡ first) }
-    ensures longest { IfOk result (λ group. let requests = drop first batch.now.requests in map footprint_seen group.footprints.items ≡ footprints_at tree.now ordinal time (take (group_length tree.now ordinal time requests) requests)) }
-    ensures count { IfOk result (λ group. length group.footprints.items ≡ group_length tree.now ordinal time (drop first batch.now.requests)) }
+    ensures longest { IfOk result (λ group. let requests = drop first batch.now.requests in map footprint_seen group.footprints.items ≡ footprints_at (at_home tree.now) ordinal time (take (group_length (at_home tree.now) ordinal time requests) requests)) }
+    ensures count { IfOk result (λ group. length group.footprints.items ≡ group_length (at_home tree.now) ordinal time (drop first batch.now.requests)) }
     ensures levels { IfOk result (λ group. group.level_of.items ≡ levels_of (map footprint_seen group.footprints.items)) }
 {
     let plan = planned(alloc, tree, ordinal, time, batch, first, Rule::Groups)?;

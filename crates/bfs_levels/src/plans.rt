@@ -1,7 +1,8 @@
 // Calls planned one after another.
-ghost use Rattle.std.specs.Prelude.{◌≡◌, ◌+◌, ◌<◌, ◌^◌, [], ◌∷◌, ◌++◌, drop, length, map, take, IfOk};
+ghost use Rattle.std.specs.Prelude.{◌≡◌, ◌+◌, ◌<◌, ◌^◌, [], ◌∷◌, ◌++◌, drop, length, map, take, IfOk, IsTrue};
 ghost use Rattle.std.specs.List.{list_any};
 ghost use Rattle.bfs_model.specs.Groups.{footprints_at};
+ghost use Rattle.bfs_tree.specs.Tree.{at_home, reach_of};
 ghost use Rattle.bfs_footprint.specs.Seen.{footprint_seen};
 ghost use Rattle.bfs_levels.specs.Planning.{levels_of, count_joined, parts, touches_at};
 ghost use Rattle.bfs_levels.specs.Touching.{touch_seen};
@@ -94,8 +95,9 @@ pub(crate) fn planned(
     first: usize,
     rule: Rule,
 ) -> Result<Plan, Memory>
-    ensures joined { IfOk result (λ plan. let requests = drop first batch.now.requests in plan ≡ footprints_at tree.now ordinal time (take (count_joined (parts rule) [] (touches_at tree.now ordinal time requests)) requests)) }
-    ensures count { IfOk result (λ plan. length plan ≡ count_joined (parts rule) [] (touches_at tree.now ordinal time (drop first batch.now.requests))) }
+    requires whole { IsTrue ((reach_of tree.now).whole) }
+    ensures joined { IfOk result (λ plan. let requests = drop first batch.now.requests in plan ≡ footprints_at (at_home tree.now) ordinal time (take (count_joined (parts rule) [] (touches_at (at_home tree.now) ordinal time requests)) requests)) }
+    ensures count { IfOk result (λ plan. length plan ≡ count_joined (parts rule) [] (touches_at (at_home tree.now) ordinal time (drop first batch.now.requests))) }
 {
     let mut ordinal = ordinal;
     let mut plan = Plan::new(alloc);

@@ -1,5 +1,6 @@
-ghost use Rattle.std.specs.Prelude.{◌≡◌, drop, length, map, take, IfOk};
+ghost use Rattle.std.specs.Prelude.{◌≡◌, drop, length, map, take, IfOk, IsTrue};
 ghost use Rattle.bfs_model.specs.Groups.{footprints_at};
+ghost use Rattle.bfs_tree.specs.Tree.{at_home, reach_of};
 ghost use Rattle.bfs_footprint.specs.Seen.{footprint_seen};
 ghost use Rattle.bfs_levels.specs.Planning.{run_length};
 
@@ -28,7 +29,7 @@ impl Run {
     }
 }
 
-/// The longest run of the batch's requests that begins with the one at that place, which has that ordinal.
+/// The longest run of the batch's requests that begins with the one at that place, which has that ordinal. The tree is whole.
 #[tactic(auto, using(crate::proofs::Left::length_seen))]
 pub fn runs(
     alloc: Global,
@@ -38,9 +39,10 @@ pub fn runs(
     batch: &Batch,
     first: usize,
 ) -> Result<Run, Memory>
+    requires whole { IsTrue ((reach_of tree.now).whole) }
     ensures first { IfOk result (λ run. run.first ≡ first) }
-    ensures longest { IfOk result (λ run. let requests = drop first batch.now.requests in map footprint_seen run.footprints.items ≡ footprints_at tree.now ordinal time (take (run_length tree.now ordinal time requests) requests)) }
-    ensures count { IfOk result (λ run. length run.footprints.items ≡ run_length tree.now ordinal time (drop first batch.now.requests)) }
+    ensures longest { IfOk result (λ run. let requests = drop first batch.now.requests in map footprint_seen run.footprints.items ≡ footprints_at (at_home tree.now) ordinal time (take (run_length (at_home tree.now) ordinal time requests) requests)) }
+    ensures count { IfOk result (λ run. length run.footprints.items ≡ run_length (at_home tree.now) ordinal time (drop first batch.now.requests)) }
 {
     let plan = planned(alloc, tree, ordinal, time, batch, first, Rule::Runs)?;
     let (footprints, _) = plan.into_parts();

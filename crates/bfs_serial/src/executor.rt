@@ -7,7 +7,7 @@ ghost use Rattle.bfs_serial.specs.Errors.{exec_code_of};
 ghost use Rattle.bfs_serial.specs.Executed.{Executed};
 
 use crate::batches::{Batch, Request};
-use crate::files::{FileSystem, Live};
+use crate::files::FileSystem;
 use crate::replies::Replies;
 use bfs_procs::answer;
 use bfs_tree::Store;
@@ -39,7 +39,7 @@ impl ExecError {
 }
 
 /// Executes the batch's requests one after another, at the batch's effective time, and gives their replies.
-#[tactic(auto, using(bfs_model::proofs::Counts::replies_counted))]
+#[tactic(auto, unfolding(bfs_model::specs::Serial::execute))]
 pub fn execute_serial(
     alloc: Global,
     files: &mut FileSystem,
@@ -51,38 +51,20 @@ pub fn execute_serial(
     ensures fails { IsErrOf result ExecError.Memory → files.new ≡ None }
     ensures stays_failed { files.old ≡ None → files.new ≡ None }
 {
-    let Some(live) = files.take() else {
+    let Some((mut tree, next_ordinal, last_time)) = files.take_parts() else {
         return Err(ExecError::Failed);
     };
-    match execute_live(alloc, live, batch) {
-        Ok((live, replies)) => {
-            files.revive(live);
+    let proposed = batch.time();
+    proposed.is_in_range();
+    let time = proposed.effective_after(last_time);
+    match answer_each(alloc, &mut tree, next_ordinal, time, batch.requests()) {
+        Ok(replies) => {
+            let next_ordinal = next_ordinal.after(batch.len() as u64);
+            files.put_parts(tree, next_ordinal, time);
             Ok(replies)
         }
         Err(Memory) => Err(ExecError::Memory),
     }
-}
-
-#[tactic(auto, unfolding(bfs_model::specs::Serial::execute))]
-fn execute_live(alloc: Global, live: Live, batch: &Batch) -> Result<(Live, Replies), Memory>
-    ensures { IfOk result (λ done. (done.0, done.1) ≡ execute live batch.now) }
-{
-    let Live {
-        mut tree,
-        next_ordinal,
-        last_time,
-    } = live;
-    let proposed = batch.time();
-    proposed.is_in_range();
-    let time = proposed.effective_after(last_time);
-    let replies = answer_each(alloc, &mut tree, next_ordinal, time, batch.requests())?;
-    let next_ordinal = next_ordinal.after(batch.len() as u64);
-    let live = Live {
-        tree,
-        next_ordinal,
-        last_time: time,
-    };
-    Ok((live, replies))
 }
 
 // the replies to the requests, the first of which has that ordinal
@@ -97,20 +79,24 @@ fn answer_each<S: Store>(
     requires formed { IsWellFormed (record { tree = S.inodes store.old; next_ordinal = first; last_time = time }) }
     ensures inodes { IfOk result (λ _. S.inodes store.new ≡ inodes_after (S.inodes store.old) first time requests.now) }
     ensures replies { IfOk result (λ replies. replies ≡ replies_to (S.inodes store.old) first time requests.now) }
+    ensures reach { S.reach store.new ≡ S.reach store.old }
 {
     let mut ordinal = first;
     let mut replies = Replies::new(alloc);
     for request in requests {
-        let reply = answer_whole(alloc, store, ordinal, time, request.as_slice())?;
+        let reply = answer_next(alloc, store, ordinal, time, request.as_slice())?;
         replies.push(reply)?;
         ordinal = ordinal.next();
     }
     Ok(replies)
 }
 
-// a store that is whole knows what any request touches, and the next ordinal is fresh
+/// Carries out the next request of a file system whose inodes are in the store, which is whole, and gives its reply's bytes: at most
+/// `MOST_REPLY_BYTES`, none if it can't be answered. It is for executors. `ordinal` is that of the request, and `time` the effective
+/// time of its batch; with these the inodes are well formed, and then with the next ordinal. `Memory` if memory runs out; what the
+/// inodes are then is unspecified.
 #[tactic(auto, using(crate::proofs::Whole::knows_all_touched, bfs_model::proofs::Kept::next_is_fresh))]
-fn answer_whole<S: Store>(
+pub fn answer_next<S: Store>(
     alloc: Global,
     store: &mut S,
     ordinal: Ordinal,

@@ -2,6 +2,7 @@ ghost use Rattle.std.specs.Prelude.{◌≡◌, ◌↔◌, IsTrue, IfOk, IfSome, 
 ghost use Rattle.std.specs.Option.{ForSome, option_map};
 ghost use Rattle.bfs_model.specs.Stored.{IsLive};
 ghost use Rattle.bfs_model.specs.Tree.{new_file_system};
+ghost use Rattle.bfs_serial.specs.Held.{held};
 ghost use Rattle.bfs_tree.specs.Tree.{at_home, reach_of};
 
 use bfs_tree::Tree;
@@ -21,18 +22,20 @@ pub(crate) struct Live {
 impl Model for Live {
     ghost use Rattle.bfs_model.specs.Tree as model;
     ghost use Rattle.std.specs.Coded.{codes};
-    ghost use Rattle.bfs_tree.specs.contracts.trees.Tree as kept;
+    ghost use Rattle.bfs_serial.specs.Codes.{inodes_code};
 
     ghost Value = { model.FileSystem };
 
-    ghost coded = { Prim.hlevel (codes, kept.the_row.coded) };
+    ghost coded = { Prim.hlevel (codes, inodes_code) };
 
+    ghost use Rattle.std.specs.Prelude.{IsTrue};
     ghost use Rattle.bfs_model.specs.Stored.{IsLive};
-    ghost use Rattle.bfs_tree.specs.Tree.{at_home};
+    ghost use Rattle.bfs_serial.specs.Held.{held};
+    ghost use Rattle.bfs_tree.specs.Tree.{reach_of};
 
-    ghost view = { λ live. record { tree = at_home live.tree; next_ordinal = live.next_ordinal; last_time = live.last_time } };
+    ghost view = { λ live. held live.tree live.next_ordinal live.last_time };
 
-    ghost invariant = { λ live. IsLive (record { tree = at_home live.tree; next_ordinal = live.next_ordinal; last_time = live.last_time }) };
+    ghost invariant = { λ live. IsTrue ((reach_of live.tree).whole) × IsLive (held live.tree live.next_ordinal live.last_time) };
 }
 
 /// A file system, which is live until it fails because memory ran out. A live one is well formed, and can be stored.
@@ -45,11 +48,11 @@ impl Model for FileSystem {
     ghost use Rattle.std.specs.Prelude.{Option};
     ghost use Rattle.bfs_model.specs.Tree as model;
     ghost use Rattle.std.specs.Coded.{codes};
-    ghost use Rattle.bfs_tree.specs.contracts.trees.Tree as kept;
+    ghost use Rattle.bfs_serial.specs.Codes.{inodes_code};
 
     ghost Value = { Option model.FileSystem };
 
-    ghost coded = { Prim.hlevel (codes, kept.the_row.coded) };
+    ghost coded = { Prim.hlevel (codes, inodes_code) };
 
     ghost view = { λ files. files.live };
 }
@@ -112,18 +115,45 @@ impl FileSystem {
         }
     }
 
-    // what it holds, which is then put back by `revive`, or it has failed
-    pub(crate) fn take(&mut self) -> Option<Live>
-        ensures value { result ≡ self.old }
+    /// Takes out what it holds, to be carried on elsewhere and put back by `put_parts`: its tree, the ordinal of the next request, and
+    /// the time of the last batch. It has failed from then on. `None` if it has failed before. It takes no memory.
+    pub fn take_parts(&mut self) -> Option<(Tree, Ordinal, Time)>
+        ensures value { option_map (λ parts. held parts.0 parts.1 parts.2) result ≡ self.old }
+        ensures whole { IfSome result (λ parts. IsTrue ((reach_of parts.0).whole)) }
+        ensures live { IfSome result (λ parts. IsLive (held parts.0 parts.1 parts.2)) }
         ensures failed { self.new ≡ None }
     {
-        self.live.take()
+        let Live {
+            tree,
+            next_ordinal,
+            last_time,
+        } = self.live.take()?;
+        Some((tree, next_ordinal, last_time))
     }
 
-    pub(crate) fn revive(&mut self, live: Live)
-        ensures { self.new ≡ Some live }
+    /// It holds these from then on, and is live, whether it had failed or not. The tree is whole, and the three are those of a live
+    /// file system. It takes no memory.
+    pub fn put_parts(&mut self, tree: Tree, next_ordinal: Ordinal, last_time: Time)
+        requires whole { IsTrue ((reach_of tree).whole) }
+        requires live { IsLive (held tree next_ordinal last_time) }
+        ensures { self.new ≡ Some (held tree next_ordinal last_time) }
     {
-        self.live = Some(live);
+        *self = FileSystem::from_parts(tree, next_ordinal, last_time);
+    }
+
+    /// A live file system that holds these. The tree is whole, and the three are those of a live file system. It takes no memory.
+    pub fn from_parts(tree: Tree, next_ordinal: Ordinal, last_time: Time) -> FileSystem
+        requires whole { IsTrue ((reach_of tree).whole) }
+        requires live { IsLive (held tree next_ordinal last_time) }
+        ensures { result ≡ Some (held tree next_ordinal last_time) }
+    {
+        FileSystem {
+            live: Some(Live {
+                tree,
+                next_ordinal,
+                last_time,
+            }),
+        }
     }
 }
 
@@ -151,7 +181,8 @@ impl Live {
     }
 
     fn tree(&self) -> &Tree
-        ensures { at_home result.now ≡ self.now.tree }
+        ensures value { at_home result.now ≡ self.now.tree }
+        ensures whole { IsTrue ((reach_of result.now).whole) }
     {
         &self.tree
     }

@@ -7,6 +7,6 @@ mod files;
 mod replies;
 
 pub use batches::{Batch, PushError};
-pub use executor::{ExecError, execute_serial};
+pub use executor::{ExecError, answer_next, execute_serial};
 pub use files::FileSystem;
 pub use replies::Replies;

@@ -1,5 +1,9 @@
 pub mod Reach
 pub mod Lending
-pub mod Tree
 pub mod Maps
+pub mod Slots
+pub mod SlotLending
+pub mod PlaceLending
+pub mod Tree
+pub mod Knowing
 pub mod WellFormed

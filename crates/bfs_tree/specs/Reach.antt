@@ -1,6 +1,7 @@
 -- Which fileids a store knows, and which it may change.
-use Rattle.std.specs.Prelude.{ℕ, Bool, true, IsTrue}
+use Rattle.std.specs.Prelude.{ℕ, Bool, List, IsTrue}
 use Rattle.std.specs.List.{AllByRecursion}
+use Rattle.bfs_model.specs.Tree.{Inodes}
 use Rattle.bfs_model.specs.Footprints as model
 
 pub record Reach : Type 0 where
@@ -10,9 +11,9 @@ pub record Reach : Type 0 where
   pub owned : ℕ → Bool
   -- whether these are all
   pub whole : Bool
-
-abbrev pub everywhere : Reach
-everywhere = record { known = λ _. true; owned = λ _. true; whole = true }
+  -- the fileids whose inodes it was handed, and the inodes that it borrows for the others, where it is no tree: both stay
+  pub handed : List ℕ
+  pub borrowed : Inodes
 
 -- the store answers for all that a call reads, and may change all that it writes
 abbrev pub Knows : Reach → model.Footprint → Type 0

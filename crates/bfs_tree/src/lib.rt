@@ -2,6 +2,9 @@
 #![tactic(auto)]
 
 mod ancestry;
+mod inodes;
+mod places;
+mod slots;
 mod store;
 mod trees;
 mod well_formed;

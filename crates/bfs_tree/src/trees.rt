@@ -1,121 +1,204 @@
-ghost use Rattle.std.specs.Prelude.{◌≡◌, IfOk, true, refl};
+ghost use Rattle.std.specs.Prelude.{◌≡◌, IfOk, OnOk, OnErr, IsTrue};
 ghost use Rattle.std.specs.Option.{option_copied};
-ghost use Rattle.std.specs.FinMap.{entries, get, keys};
+ghost use Rattle.std.specs.FinMap.{contains_key, entries, get, insert, keys};
 ghost use Rattle.std.specs.List.Sorted.{IsStrictlyIncreasing};
 ghost use Rattle.bfs_model.specs.Tree.{Inodes, new_tree};
 ghost use Rattle.bfs_model.specs.Procedures.Status.{used_blocks};
-ghost use Rattle.bfs_tree.specs.Maps.{map_of};
 ghost use Rattle.bfs_tree.specs.Reach.{Reach};
-ghost use Rattle.bfs_tree.specs.Tree.{at_home, reach_of};
+ghost use Rattle.bfs_tree.specs.Tree.{at_home, brought, lent, reach_of, reserved};
+ghost use Rattle.bfs_tree.specs.declared.slots.Slot.TheVariants as slot;
+ghost use Rattle.bfs_tree.specs.Knowing.{knows_all};
 
+use crate::inodes::Inodes;
+use crate::places::Places;
+use crate::slots::Slot;
 use crate::store::Store;
 use bfs_inode::Inode;
 use bfs_types::{FileId, Memory};
 use std::alloc::Global;
-use std::collections::BTreeMap;
-use std::collections::btree_map::Iter;
 use std::marker::Model;
 
-/// The inodes of a file system by their fileids.
+/// The inodes of a file system by their fileids. Some may be lent out, to be changed elsewhere and brought home; the tree knows and
+/// owns all fileids but theirs.
 #[derive(Debug, Drop)]
 pub struct Tree {
-    inodes: BTreeMap<u32, Inode>,
+    places: Places,
 }
 
 impl Model for Tree {
     ghost use Rattle.std.specs.FinMap as map;
     ghost use Rattle.std.specs.Coded.{coded_ℕ};
-    ghost use Rattle.bfs_model.specs.Tree.{Inodes};
-    ghost use Rattle.bfs_inode.specs.contracts.inodes.Inode as inode;
+    ghost use Rattle.bfs_tree.specs.Slots.{Slots};
+    ghost use Rattle.bfs_tree.specs.contracts.slots.Slot as slot;
 
-    ghost Value = { Inodes };
+    ghost Value = { Slots };
 
-    ghost coded = { map.code coded_ℕ inode.the_row.coded };
+    ghost coded = { map.code coded_ℕ slot.the_row.coded };
 
-    ghost use Rattle.bfs_tree.specs.Maps.{map_of};
-
-    ghost view = { λ tree. map_of tree.inodes };
+    ghost view = { λ tree. tree.places };
 }
 
 impl Tree {
     /// A tree with the root alone. `Memory` if memory runs out.
+    #[tactic(auto, using(crate::proofs::SlotLemmas::home_insert, crate::proofs::SlotLemmas::home_empty, crate::proofs::SlotLemmas::one_is_whole))]
     pub fn new(alloc: Global) -> Result<Tree, Memory>
-        ensures { IfOk result (λ tree. at_home tree ≡ new_tree) }
+        ensures value { IfOk result (λ tree. at_home tree ≡ new_tree) }
+        ensures whole { IfOk result (λ tree. IsTrue ((reach_of tree).whole)) }
     {
-        let mut inodes = BTreeMap::new(alloc);
-        inodes.insert(FileId::root().number(), Inode::root(alloc))?;
-        Ok(Tree { inodes })
+        let mut places = Places::new(alloc);
+        match places.insert(FileId::root(), Slot::Home(Inode::root(alloc))) {
+            Ok(()) => Ok(Tree { places }),
+            Err(_) => Err(Memory),
+        }
     }
 
-    /// The fileids of the inodes, rising. `Memory` if memory runs out.
+    /// Makes a place for what may come to a fileid, so that it can be lent out though no inode has it. `Memory` if memory runs out;
+    /// then nothing changes.
+    pub fn reserve(&mut self, id: FileId) -> Result<(), Memory>
+        ensures ok { OnOk result (self.new ≡ reserved self.old id) }
+        ensures err { OnErr result (self.new ≡ self.old) }
+    {
+        if self.places.get(id).is_some() {
+            return Ok(());
+        }
+        match self.places.insert(id, Slot::Free) {
+            Ok(()) => Ok(()),
+            Err(_) => Err(Memory),
+        }
+    }
+
+    /// Takes the inode of a fileid out of its place, or `None` if no inode has it, until it is brought home. It takes no memory.
+    #[tactic(auto, using(crate::proofs::SlotLemmas::home_at, crate::proofs::SlotLemmas::no_home_at))]
+    pub fn lend_out(&mut self, id: FileId) -> Option<Inode>
+        requires place { IsTrue (contains_key self.old id) }
+        requires home { IsTrue ((reach_of self.old).owned id) }
+        ensures value { result ≡ get (at_home self.old) id }
+        ensures lent { self.new ≡ insert self.old id slot.Lent }
+    {
+        match self.places.get_mut(id) {
+            Some(slot) => slot.lend(),
+            None => None,
+        }
+    }
+
+    /// Puts an inode back in the place that was lent out. `None` says that no inode has the fileid from then on. It takes no memory.
+    pub fn bring_home(&mut self, id: FileId, inode: Option<Inode>)
+        requires { IsTrue (contains_key (lent self.old) id) }
+        ensures { self.new ≡ brought self.old id inode }
+    {
+        match inode {
+            Some(inode) => {
+                if let Some(slot) = self.places.get_mut(id) {
+                    *slot = Slot::Home(inode);
+                }
+            }
+            None => {
+                self.places.remove(id);
+            }
+        }
+    }
+
+    /// The fileids of the inodes at home, rising. `Memory` if memory runs out.
+    #[tactic(auto, using(crate::proofs::MapLemmas::keys_rise))]
     pub fn ids(&self, alloc: Global) -> Result<Vec<FileId>, Memory>
         ensures value { IfOk result (λ ids. ids.items ≡ keys (at_home self.now)) }
         ensures rising { IfOk result (λ ids. IsStrictlyIncreasing ids.items) }
     {
-        let ids = self.inodes.keys().map(|id| FileId::new(*id));
+        self.collected_ids(alloc)
+    }
+
+    fn collected_ids(&self, alloc: Global) -> Result<Vec<FileId>, Memory>
+        ensures { IfOk result (λ ids. ids.items ≡ keys (at_home self.now)) }
+    {
+        let ids = self.iter().map(|(id, _)| FileId::new(*id));
         Ok(ids.collect(alloc)?)
     }
 
-    /// The inodes by the numbers of their fileids, which rise.
-    pub(crate) fn iter(&self) -> Iter<'_, u32, Inode>
+    // the inode of a fileid, if it is at home
+    #[tactic(auto, using(crate::proofs::SlotLemmas::home_at, crate::proofs::SlotLemmas::no_home_at))]
+    pub(crate) fn home(&self, id: FileId) -> Option<&Inode>
+        ensures { option_copied result ≡ get (at_home self.now) id }
+    {
+        self.places.get(id)?.inode()
+    }
+
+    /// The inodes at home by the numbers of their fileids, which rise.
+    pub(crate) fn iter(&self) -> Inodes<'_>
         ensures { result ≡ entries (at_home self.now) }
     {
-        self.inodes.iter()
+        Inodes::of(&self.places)
     }
 }
 
 impl Store for Tree {
-    ghost inodes = { at_home };
+    ghost inodes = { λ tree. at_home tree };
 
-    ghost reach = { reach_of };
+    ghost reach = { λ tree. reach_of tree };
 
-    ghost knows_owned = { λ _ _ _. refl };
+    ghost knows_owned = { λ _ _ owned. owned };
 
-    ghost knows_all = { λ _ _ _. refl };
+    ghost knows_all = { λ tree whole id. knows_all (lent tree) whole id };
 
-    ghost owns_all = { λ _ _ _. refl };
+    ghost owns_all = { λ tree whole id. knows_all (lent tree) whole id };
 
+    #[tactic(auto, using(crate::proofs::SlotLemmas::whole_is))]
     fn is_whole(&self) -> bool {
-        true
+        !self.places.any_lent()
     }
 
+    #[tactic(auto, using(crate::proofs::SlotLemmas::counted))]
     fn count(&self) -> usize {
-        self.inodes.len()
+        self.places.count_home()
     }
 
     fn used_blocks(&self) -> u64 {
-        blocks_in_all(&self.inodes)
+        blocks_in_all(self)
     }
 
-    fn knows(&self, _id: FileId) -> bool {
-        true
-    }
-
-    fn get(&self, id: FileId) -> Option<&Inode> {
-        self.inodes.get(&id.number())
-    }
-
-    fn get_mut(&mut self, id: FileId) -> Option<&mut Inode> {
-        self.inodes.get_mut(&id.number())
-    }
-
-    fn insert(&mut self, id: FileId, inode: Inode) -> Result<(), Inode> {
-        match self.inodes.insert(id.number(), inode) {
-            Ok(_) => Ok(()),
-            Err(refused) => Err(refused.value.1),
+    #[tactic(auto, using(crate::proofs::SlotLemmas::loan_at, crate::proofs::SlotLemmas::no_loan_at))]
+    fn knows(&self, id: FileId) -> bool {
+        match self.places.get(id) {
+            Some(slot) => !slot.is_lent(),
+            None => true,
         }
     }
 
+    fn get(&self, id: FileId) -> Option<&Inode> {
+        self.home(id)
+    }
+
+    fn get_mut(&mut self, id: FileId) -> Option<&mut Inode> {
+        match self.places.get_mut(id) {
+            Some(slot) => slot.inode_mut(),
+            None => None,
+        }
+    }
+
+    #[tactic(auto, using(crate::proofs::SlotLemmas::home_insert, crate::proofs::SlotLemmas::reach_insert))]
+    fn insert(&mut self, id: FileId, inode: Inode) -> Result<(), Inode> {
+        match self.places.insert(id, Slot::Home(inode)) {
+            Ok(()) => Ok(()),
+            Err(refused) => match refused.into_inode() {
+                Some(inode) => Err(inode),
+                None => Ok(()),
+            },
+        }
+    }
+
+    #[tactic(auto, using(crate::proofs::SlotLemmas::home_remove, crate::proofs::SlotLemmas::reach_remove, crate::proofs::SlotLemmas::home_at, crate::proofs::SlotLemmas::no_home_at))]
     fn remove(&mut self, id: FileId) -> Option<Inode> {
-        self.inodes.remove(&id.number())
+        match self.places.remove(id) {
+            Some(slot) => slot.into_inode(),
+            None => None,
+        }
     }
 }
 
-fn blocks_in_all(inodes: &BTreeMap<u32, Inode>) -> u64
-    ensures { result ≡ used_blocks (map_of inodes.now) }
+fn blocks_in_all(tree: &Tree) -> u64
+    ensures { result ≡ used_blocks (at_home tree.now) }
 {
     let mut blocks = 0;
-    for (id, inode) in inodes.iter() {
+    for (id, inode) in tree.iter() {
         // there are no more inodes before this one than fileids below its own
         prove!(blocks <= u32::MAX as u64 * *id as u64);
         blocks += inode.blocks() as u64;

@@ -2,14 +2,14 @@ ghost use Rattle.std.specs.Prelude.{◌≡◌, ◌==◌, ◌≤◌, ◌↔◌, I
 ghost use Rattle.std.specs.List.{list_all, AllByRecursion};
 ghost use Rattle.std.specs.FinMap.{get, entries};
 ghost use Rattle.bfs_model.specs.Limits.{most_entries};
-ghost use Rattle.bfs_model.specs.Tree.{entries_at, entries_in};
+ghost use Rattle.bfs_model.specs.Tree.{entries_at, entries_in, is_directory};
 ghost use Rattle.bfs_model.specs.WellFormed as model;
-ghost use Rattle.bfs_tree.specs.Tree.{at_home};
+ghost use Rattle.bfs_tree.specs.Tree.{at_home, reach_of};
 ghost use Rattle.bfs_tree.specs.WellFormed as place;
 
 mod limits;
 
-use crate::ancestry::{is_below, is_directory};
+use crate::ancestry::is_below;
 use crate::store::Store;
 use crate::trees::Tree;
 use bfs_inode::{Directory, Inode};
@@ -17,7 +17,7 @@ use bfs_types::FileId;
 use limits::is_limited;
 
 impl Tree {
-    /// Whether the tree is well formed:
+    /// Whether the tree is whole and well formed:
     ///
     /// - The root is a directory, and no entry names it.
     /// - Each entry names an inode of the tree.
@@ -33,13 +33,27 @@ impl Tree {
     /// parent, and a look-up for each directory above it. That the names of a directory differ and its cookies rise costs
     /// nothing, since every `Directory` keeps it so.
     pub fn well_formed(&self) -> bool
-        ensures { IsTrue result ↔ model.IsWellFormedTree (at_home self.now) }
+        ensures { IsTrue result ↔ (IsTrue ((reach_of self.now).whole) × model.IsWellFormedTree (at_home self.now)) }
     {
+        if !self.is_whole() {
+            return false;
+        }
         is_directory(self, FileId::root()) && are_in_order(self)
     }
 }
 
+// whether a directory has that fileid
+fn is_directory(tree: &Tree, id: FileId) -> bool
+    ensures { result ≡ is_directory (get (at_home tree.now) id) }
+{
+    match tree.home(id) {
+        Some(inode) => inode.is_directory(),
+        None => false,
+    }
+}
+
 fn are_in_order(tree: &Tree) -> bool
+    requires { IsTrue ((reach_of tree.now).whole) }
     ensures { IsTrue result ↔ AllByRecursion (place.IsInOrder (at_home tree.now)) (entries (at_home tree.now)) }
 {
     for (id, inode) in tree.iter() {
@@ -52,6 +66,7 @@ fn are_in_order(tree: &Tree) -> bool
 
 // whether an inode has its links, and a directory its place
 fn is_in_place(tree: &Tree, id: FileId, inode: &Inode) -> bool
+    requires { IsTrue ((reach_of tree.now).whole) }
     ensures { result ≡ place.is_in_place (at_home tree.now) id inode.now.links inode.now.body }
 {
     match inode.directory() {
@@ -61,6 +76,7 @@ fn is_in_place(tree: &Tree, id: FileId, inode: &Inode) -> bool
 }
 
 fn is_directory_in_place(tree: &Tree, id: FileId, links: u32, directory: &Directory) -> bool
+    requires { IsTrue ((reach_of tree.now).whole) }
     ensures { result ≡ place.is_directory_in_place (at_home tree.now) id links directory.now }
 {
     are_children(tree, id, directory)
@@ -81,7 +97,7 @@ fn are_children(tree: &Tree, dir: FileId, directory: &Directory) -> bool
 fn is_child(tree: &Tree, dir: FileId, child: FileId) -> bool
     ensures { result ≡ place.is_child (at_home tree.now) dir child }
 {
-    let Some(inode) = tree.get(child) else {
+    let Some(inode) = tree.home(child) else {
         return false;
     };
     match inode.directory() {
@@ -119,7 +135,7 @@ fn has_names(tree: &Tree, id: FileId, count: u32) -> bool
 fn has_one_name_in(tree: &Tree, dir: FileId, id: FileId) -> bool
     ensures { result ≡ (model.times id (entries_at (get (at_home tree.now) dir)) == 1) }
 {
-    match tree.get(dir) {
+    match tree.home(dir) {
         Some(inode) => names_in(inode, id) == 1,
         None => false,
     }

@@ -7,6 +7,7 @@ use Rattle.bfs_serial.proofs.executor.answer_each.Given as goal
 abbrev pub invariant-loop-request : goal.invariant-loop-request
 invariant-loop-request g l =
     ((g.S.Store.reach l.store).whole ≡ true)
+    × (g.S.Store.reach l.store ≡ g.S.Store.reach l.fn.store)
     × IsWellFormed (record { tree = g.S.Store.inodes l.store; next_ordinal = l.ordinal; last_time = l.time })
     × (inodes_after (g.S.Store.inodes l.store) l.ordinal l.time (drop l.request-index l.requests) ≡ inodes_after (g.S.Store.inodes l.fn.store) l.fn.first l.fn.time l.fn.requests)
     × (l.replies ++ replies_to (g.S.Store.inodes l.store) l.ordinal l.time (drop l.request-index l.requests) ≡ replies_to (g.S.Store.inodes l.fn.store) l.fn.first l.fn.time l.fn.requests)

@@ -1,7 +1,8 @@
--- The entries of the `BTreeMap` are those of the finite map.
+-- The inodes of the slots are those at home.
 use Rattle.std.proofs.Common.{sym, ◌∙◌}
-use Rattle.bfs_tree.proofs.MapLemmas.{entries-map_of}
+use Rattle.bfs_tree.specs.Slots.{inode_in}
+use Rattle.bfs_tree.proofs.Picking.{entries-picked}
 use Rattle.bfs_tree.proofs.trees.Tree.iter.Goals as goal
 
 pub returns : goal.returns
-returns c = rw (← c.self.view_is) (c.iter.ensures.rest ∙ sym (entries-map_of _ c.iter.ensures.ordered))
+returns c = rw (← c.self.view_is) (c.of.ensures ∙ sym (entries-picked inode_in _))
