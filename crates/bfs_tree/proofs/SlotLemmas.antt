@@ -1,21 +1,24 @@
 -- What the changes of the slots do to what is at home and to what is lent out.
-use Rattle.std.proofs.Common.{◌≡◌, ℕ, Bool, true, false, not, List, [], ◌∷◌, cond, Option, Some, None, is_some, length, suc, refl, ap, sym, ◌∙◌, arith, true≢false, ne_eqb}
-use Rattle.std.specs.Prelude.{⊤, ◌==◌, ◌||◌, IsTrue}
-use Rattle.std.specs.Option.{option_and_then, ForSome, ForNone}
+use Rattle.std.proofs.Common.{◌≡◌, ℕ, ◌+◌, ◌≤◌, Bool, true, false, not, cond, Option, Some, None, is_some, refl, ap, sym, ◌∙◌, arith, true≢false}
+use Rattle.std.specs.Prelude.{⊤, ◌==◌, IsTrue}
+use Rattle.std.specs.Option.{option_and_then, option_copied_mut, ForSome, ForNone}
 use Rattle.std.specs.Borrow.{MutBor}
+use Rattle.std.specs.BTreeMap.{BTreeMap, btree_map_len, IsOrdered}
 use Rattle.std.specs.Ordering.{nat_cmp, eq_by_cmp}
-use Rattle.std.specs.List.{list_any, filter}
-use Rattle.std.specs.FinMap.{FinMap, get, insert, remove, len, entries, get-remove, empty, get-empty, len-empty, same_map, nat_cmp-IsAntisymmetric}
+use Rattle.std.specs.FinMap.{FinMap, contains_key, get, insert, remove, len, get-remove, empty, get-empty, len-empty, same_map, nat_cmp-IsAntisymmetric}
 use Rattle.std.proofs.lemmas.Cmp.{nat_cmp_total}
+use Rattle.std.proofs.lemmas.Option.{none-some}
 use Rattle.std.proofs.lemmas.Map.Views.{tells_apart}
 use Rattle.bfs_model.specs.Tree.{Inode}
 use Rattle.bfs_tree.specs.declared.slots.Slot.{Slot}
 use Rattle.bfs_tree.specs.declared.slots.Slot.TheVariants.{Home, Free, Lent}
-use Rattle.bfs_tree.specs.Maps.{picked_entries, with_picked, picked}
-use Rattle.bfs_tree.specs.Slots.{Slots, inode_in, loan_in}
+use Rattle.bfs_tree.specs.declared.counts.Counts.{Counts}
+use Rattle.bfs_tree.specs.Maps.{map_of, picked}
+use Rattle.bfs_tree.specs.Slots.{Slots, inode_in, loan_in, one_if_some}
 use Rattle.bfs_tree.specs.Tree.{at_home, lent, reach_of, reach_without}
-use Rattle.bfs_tree.proofs.Laws.{insert_same}
-use Rattle.bfs_tree.proofs.Picking.{get-picked, picked-insert, picked-none, picked-remove, len-picked}
+use Rattle.bfs_tree.specs.Places.{AreCounted}
+use Rattle.bfs_tree.proofs.MapLemmas.{len-map_of}
+use Rattle.bfs_tree.proofs.Picking.{few_picked, get-picked, picked-insert, picked-none, picked-remove, len-picked-insert, len-picked-remove}
 
 absent_at : {X : Type 0} (m : FinMap nat_cmp X) (k q : ℕ) (b : Bool) → get m k ≡ None → eq_by_cmp nat_cmp q k ≡ b → cond b None (get m q) ≡ get m q
 absent_at m k q true none e = sym none ∙ ap (get m) (sym (tells_apart nat_cmp-IsAntisymmetric q k e))
@@ -41,6 +44,14 @@ loan_at s k slot is = get-picked loan_in s k ∙ ap (option_and_then loan_in) is
 
 pub no_loan_at : (s : Slots) (k : ℕ) → get s k ≡ None → get (lent s) k ≡ None
 no_loan_at s k is = get-picked loan_in s k ∙ ap (option_and_then loan_in) is
+
+has_place : (s : Slots) (k : ℕ) (o : Option Slot) → get s k ≡ o → IsTrue (contains_key (lent s) k) → IsTrue (contains_key s k)
+has_place s k None is loan = absurd (true≢false (sym loan ∙ ap is_some (no_loan_at s k is)))
+has_place s k (Some slot) is loan = ap is_some is
+
+-- what is lent out has its place
+pub loan_has_place : (s : Slots) (k : ℕ) → IsTrue (contains_key (lent s) k) → IsTrue (contains_key s k)
+loan_has_place s k loan = has_place s k (get s k) refl loan
 
 pub home_insert : (s : Slots) (k : ℕ) (x : Inode) → at_home (insert s k (Home x)) ≡ insert (at_home s) k x
 home_insert s k x = picked-insert inode_in s k (Home x) x refl
@@ -73,38 +84,43 @@ reach_insert s k x owned = ap reach_without (lent_insert s k x ∙ remove_absent
 pub reach_remove : (s : Slots) (k : ℕ) → IsTrue ((reach_of s).owned k) → reach_of (remove s k) ≡ reach_of s
 reach_remove s k owned = ap reach_without (lent_remove s k ∙ remove_absent (lent s) k (none_of (get (lent s) k) owned))
 
--- whether any is lent out, and how many are at home --------------------------------------------------------------------
-
-not_not : (b : Bool) → b ≡ not (not b)
-not_not true = refl
-not_not false = refl
-
-any_with : {X : Type 0} (key : ℕ) (o : Option X) (es : List (ℕ × X)) → (length (with_picked key o es) == 0) ≡ not (is_some o || not (length es == 0))
-any_with key None es = not_not (length es == 0)
-any_with key (Some x) es = ne_eqb (suc (length es)) 0 (λ (e : suc (length es) ≡ 0). absurd (omega arith))
-
-not_any : (es : List (ℕ × Slot)) → (length (picked_entries loan_in es) == 0) ≡ not (list_any (λ e. is_some (loan_in e.1)) es)
-not_any [] = refl
-not_any (e ∷ es) = any_with e.0 (loan_in e.1) (picked_entries loan_in es) ∙ ap (λ b. not (is_some (loan_in e.1) || b)) (ap not (not_any es) ∙ sym (not_not _))
-
-pub whole_is : (s : Slots) → not (list_any (λ e. is_some (loan_in e.1)) (entries s)) ≡ (len (lent s) == 0)
-whole_is s = sym (ap (λ n. n == 0) (len-picked loan_in s) ∙ not_any (entries s))
-
 -- what a lent inode leaves of the reach
-pub reach_back : (s : Slots) (k : ℕ) (was after : Slot) (r : Option (MutBor Inode)) (w : Inode) → get s k ≡ Some was → IsTrue ((reach_of s).owned k) → ForSome r (λ _. after ≡ Home w) × ForNone r (after ≡ was) → reach_of (insert s k after) ≡ reach_of s
-reach_back s k was after (Some x) w at owned h = ap (λ l. reach_of (insert s k l)) (h.0 x refl) ∙ reach_insert s k w owned
-reach_back s k was after None w at owned h = ap (λ l. reach_of (insert s k l)) (h.1 refl) ∙ ap reach_of (insert_same s k was at)
+pub reach_back : (s after : Slots) (k : ℕ) (r : Option (MutBor Inode)) (w : Inode) → IsTrue ((reach_of s).owned k) → ForSome r (λ _. after ≡ insert s k (Home w)) × ForNone r (after ≡ s) → reach_of after ≡ reach_of s
+reach_back s after k (Some x) w owned h = ap reach_of (h.0 x refl) ∙ reach_insert s k w owned
+reach_back s after k None w owned h = ap reach_of (h.1 refl)
 
-count_with : (e : ℕ × Slot) (o : Option Inode) (es : List (ℕ × Inode)) (kept : List (ℕ × Slot)) → length es ≡ length kept → length (with_picked e.0 o es) ≡ length (cond (is_some o) (e ∷ kept) kept)
-count_with e None es kept so = so
-count_with e (Some x) es kept so = ap suc so
+-- the counts: no more than there are slots, and after the changes of the slots
+pub few_home : (m : BTreeMap ℕ Slot) (counts : Counts) → IsOrdered nat_cmp m → AreCounted (map_of m) counts → counts.home ≤ btree_map_len m
+few_home m counts ordered are = omega (arith, are.0, few_picked inode_in (map_of m), len-map_of m ordered)
 
-count_picked : (es : List (ℕ × Slot)) → length (picked_entries inode_in es) ≡ length (filter (λ e. is_some (inode_in e.1)) es)
-count_picked [] = refl
-count_picked (e ∷ es) = count_with e (inode_in e.1) _ _ (count_picked es)
+pub few_lent : (m : BTreeMap ℕ Slot) (counts : Counts) → IsOrdered nat_cmp m → AreCounted (map_of m) counts → counts.lent ≤ btree_map_len m
+few_lent m counts ordered are = omega (arith, are.1, few_picked loan_in (map_of m), len-map_of m ordered)
 
-pub counted : (s : Slots) → length (filter (λ e. is_some (inode_in e.1)) (entries s)) ≡ len (at_home s)
-counted s = sym (len-picked inode_in s ∙ count_picked (entries s))
+pub counted_insert : (s : Slots) (k : ℕ) (slot : Slot) (before after : Counts) → AreCounted s before
+    → after.home + one_if_some (option_and_then inode_in (get s k)) ≡ before.home + one_if_some (inode_in slot)
+    → after.lent + one_if_some (option_and_then loan_in (get s k)) ≡ before.lent + one_if_some (loan_in slot) → AreCounted (insert s k slot) after
+counted_insert s k slot before after are home loan = (omega (arith, are.0, home, len-picked-insert inode_in s k slot), omega (arith, are.1, loan, len-picked-insert loan_in s k slot))
+
+pub counted_remove : (s : Slots) (k : ℕ) (before after : Counts) → AreCounted s before
+    → after.home + one_if_some (option_and_then inode_in (get s k)) ≡ before.home
+    → after.lent + one_if_some (option_and_then loan_in (get s k)) ≡ before.lent → AreCounted (remove s k) after
+counted_remove s k before after are home loan = (omega (arith, are.0, home, len-picked-remove inode_in s k), omega (arith, are.1, loan, len-picked-remove loan_in s k))
+
+-- what a lent inode leaves in its slot is counted as it was
+same_kind : (was after : Slot) (r : Option (MutBor Inode)) (w : Inode) → option_copied_mut r ≡ inode_in was → ForSome r (λ _. after ≡ Home w) × ForNone r (after ≡ was)
+    → (one_if_some (inode_in after) ≡ one_if_some (inode_in was)) × (one_if_some (loan_in after) ≡ one_if_some (loan_in was))
+same_kind (Home x) after (Some y) w is h = (ap (λ l. one_if_some (inode_in l)) (h.0 y refl), ap (λ l. one_if_some (loan_in l)) (h.0 y refl))
+same_kind Free after (Some y) w is h = absurd (none-some _ (sym is))
+same_kind Lent after (Some y) w is h = absurd (none-some _ (sym is))
+same_kind was after None w is h = (ap (λ l. one_if_some (inode_in l)) (h.1 refl), ap (λ l. one_if_some (loan_in l)) (h.1 refl))
+
+pub counted_back : (s : Slots) (k : ℕ) (was after : Slot) (r : Option (MutBor Inode)) (w : Inode) (counts : Counts) → get s k ≡ Some was → option_copied_mut r ≡ inode_in was
+    → ForSome r (λ _. after ≡ Home w) × ForNone r (after ≡ was) → AreCounted s counts → AreCounted (insert s k after) counts
+counted_back s k was after r w counts at is h are =
+    let same = same_kind was after r w is h in
+    counted_insert s k after counts counts are
+    (ap (λ o. counts.home + one_if_some (option_and_then inode_in o)) at ∙ ap (λ n. counts.home + n) (sym same.0))
+    (ap (λ o. counts.lent + one_if_some (option_and_then loan_in o)) at ∙ ap (λ n. counts.lent + n) (sym same.1))
 
 same_empty : {X Y : Type 0} (pick : X → Option Y) → picked pick empty ≡ empty
 same_empty pick = same_map nat_cmp_total nat_cmp-IsAntisymmetric _ _ (λ q. get-picked pick empty q ∙ ap (option_and_then pick) (get-empty nat_cmp q) ∙ sym (get-empty nat_cmp q))
@@ -118,3 +134,9 @@ lent_empty = same_empty loan_in
 -- with one inode at home none is lent out
 pub one_is_whole : (k : ℕ) (x : Inode) → IsTrue ((reach_of (insert empty k (Home x))).whole)
 one_is_whole k x = ap (λ m. len m == 0) (lent_insert empty k x ∙ ap (λ m. remove m k) lent_empty ∙ remove_absent empty k (get-empty nat_cmp k)) ∙ ap (λ n. n == 0) (len-empty nat_cmp ⊤)
+
+pub none_counted : (s : Slots) (counts : Counts) → s ≡ empty → counts.home ≡ 0 → counts.lent ≡ 0 → AreCounted s counts
+none_counted s counts is home loan = (
+  home ∙ sym (ap (λ m. len (at_home m)) is ∙ ap len home_empty ∙ len-empty nat_cmp Inode),
+  loan ∙ sym (ap (λ m. len (lent m)) is ∙ ap len lent_empty ∙ len-empty nat_cmp ⊤),
+)

@@ -5,5 +5,6 @@ pub mod Slots
 pub mod SlotLending
 pub mod PlaceLending
 pub mod Tree
+pub mod Places
 pub mod Knowing
 pub mod WellFormed

@@ -1,5 +1,5 @@
 -- What a tree keeps at its fileids: inodes, and the places of those that are lent out.
-use Rattle.std.specs.Prelude.{⊤, Option, Some, None}
+use Rattle.std.specs.Prelude.{ℕ, ⊤, Option, Some, None}
 use Rattle.std.specs.Ordering.{nat_cmp}
 use Rattle.std.specs.FinMap.{FinMap}
 use Rattle.bfs_model.specs.Tree.{Inode}
@@ -18,3 +18,7 @@ abbrev pub loan_in : Slot → Option ⊤
 loan_in (Home inode) = None
 loan_in Free = None
 loan_in Lent = Some tt
+
+abbrev pub one_if_some : {X : Type 0} → Option X → ℕ
+one_if_some None = 0
+one_if_some (Some value) = 1
