@@ -1,8 +1,7 @@
 -- What the changes of the slots do to what is at home and to what is lent out.
 use Rattle.std.proofs.Common.{◌≡◌, ℕ, ◌+◌, ◌≤◌, Bool, true, false, not, cond, Option, Some, None, is_some, refl, ap, sym, ◌∙◌, arith, true≢false}
 use Rattle.std.specs.Prelude.{⊤, ◌==◌, IsTrue}
-use Rattle.std.specs.Option.{option_and_then, option_copied_mut, ForSome, ForNone}
-use Rattle.std.specs.Borrow.{MutBor}
+use Rattle.std.specs.Option.{option_and_then}
 use Rattle.std.specs.BTreeMap.{BTreeMap, btree_map_len, IsOrdered}
 use Rattle.std.specs.Ordering.{nat_cmp, eq_by_cmp}
 use Rattle.std.specs.FinMap.{FinMap, contains_key, get, insert, remove, len, get-remove, empty, get-empty, len-empty, same_map, nat_cmp-IsAntisymmetric}
@@ -14,9 +13,10 @@ use Rattle.bfs_tree.specs.declared.slots.Slot.{Slot}
 use Rattle.bfs_tree.specs.declared.slots.Slot.TheVariants.{Home, Free, Lent}
 use Rattle.bfs_tree.specs.declared.counts.Counts.{Counts}
 use Rattle.bfs_tree.specs.Maps.{map_of, picked}
-use Rattle.bfs_tree.specs.Slots.{Slots, inode_in, loan_in, one_if_some}
-use Rattle.bfs_tree.specs.Tree.{at_home, lent, reach_of, reach_without}
+use Rattle.bfs_tree.specs.Slots.{Slots, inode_in, loan_in, one_if_some, with_inode}
+use Rattle.bfs_tree.specs.Tree.{at_home, lent, reach_of, reach_without, with_inode_at, with_inode_in}
 use Rattle.bfs_tree.specs.Places.{AreCounted}
+use Rattle.bfs_tree.proofs.Laws.{insert_same}
 use Rattle.bfs_tree.proofs.MapLemmas.{len-map_of}
 use Rattle.bfs_tree.proofs.Picking.{few_picked, get-picked, picked-insert, picked-none, picked-remove, len-picked-insert, len-picked-remove}
 
@@ -84,10 +84,24 @@ reach_insert s k x owned = ap reach_without (lent_insert s k x ∙ remove_absent
 pub reach_remove : (s : Slots) (k : ℕ) → IsTrue ((reach_of s).owned k) → reach_of (remove s k) ≡ reach_of s
 reach_remove s k owned = ap reach_without (lent_remove s k ∙ remove_absent (lent s) k (none_of (get (lent s) k) owned))
 
--- what a lent inode leaves of the reach
-pub reach_back : (s after : Slots) (k : ℕ) (r : Option (MutBor Inode)) (w : Inode) → IsTrue ((reach_of s).owned k) → ForSome r (λ _. after ≡ insert s k (Home w)) × ForNone r (after ≡ s) → reach_of after ≡ reach_of s
-reach_back s after k (Some x) w owned h = ap reach_of (h.0 x refl) ∙ reach_insert s k w owned
-reach_back s after k None w owned h = ap reach_of (h.1 refl)
+-- what a lent inode leaves of what is at home, and of the reach
+home_with : (s : Slots) (k : ℕ) (o : Option Slot) (x w : Inode) → get s k ≡ o → get (at_home s) k ≡ Some x → at_home (with_inode_in s k o w) ≡ insert (at_home s) k w
+home_with s k (Some (Home y)) x w is at = home_insert s k w
+home_with s k (Some Free) x w is at = absurd (none-some x (sym (home_at s k Free is) ∙ at))
+home_with s k (Some Lent) x w is at = absurd (none-some x (sym (home_at s k Lent is) ∙ at))
+home_with s k None x w is at = absurd (none-some x (sym (no_home_at s k is) ∙ at))
+
+pub home_back : (s : Slots) (k : ℕ) (x w : Inode) → get (at_home s) k ≡ Some x → at_home (with_inode_at s k w) ≡ insert (at_home s) k w
+home_back s k x w at = home_with s k (get s k) x w refl at
+
+reach_with : (s : Slots) (k : ℕ) (o : Option Slot) (w : Inode) → get s k ≡ o → reach_of (with_inode_in s k o w) ≡ reach_of s
+reach_with s k (Some (Home x)) w is = ap reach_without (lent_insert s k w ∙ remove_absent (lent s) k (loan_at s k (Home x) is))
+reach_with s k (Some Free) w is = ap reach_of (insert_same s k Free is)
+reach_with s k (Some Lent) w is = ap reach_of (insert_same s k Lent is)
+reach_with s k None w is = refl
+
+pub reach_back : (s : Slots) (k : ℕ) (w : Inode) → reach_of (with_inode_at s k w) ≡ reach_of s
+reach_back s k w = reach_with s k (get s k) w refl
 
 -- the counts: no more than there are slots, and after the changes of the slots
 pub few_home : (m : BTreeMap ℕ Slot) (counts : Counts) → IsOrdered nat_cmp m → AreCounted (map_of m) counts → counts.home ≤ btree_map_len m
@@ -106,21 +120,18 @@ pub counted_remove : (s : Slots) (k : ℕ) (before after : Counts) → AreCounte
     → after.lent + one_if_some (option_and_then loan_in (get s k)) ≡ before.lent → AreCounted (remove s k) after
 counted_remove s k before after are home loan = (omega (arith, are.0, home, len-picked-remove inode_in s k), omega (arith, are.1, loan, len-picked-remove loan_in s k))
 
--- what a lent inode leaves in its slot is counted as it was
-same_kind : (was after : Slot) (r : Option (MutBor Inode)) (w : Inode) → option_copied_mut r ≡ inode_in was → ForSome r (λ _. after ≡ Home w) × ForNone r (after ≡ was)
-    → (one_if_some (inode_in after) ≡ one_if_some (inode_in was)) × (one_if_some (loan_in after) ≡ one_if_some (loan_in was))
-same_kind (Home x) after (Some y) w is h = (ap (λ l. one_if_some (inode_in l)) (h.0 y refl), ap (λ l. one_if_some (loan_in l)) (h.0 y refl))
-same_kind Free after (Some y) w is h = absurd (none-some _ (sym is))
-same_kind Lent after (Some y) w is h = absurd (none-some _ (sym is))
-same_kind was after None w is h = (ap (λ l. one_if_some (inode_in l)) (h.1 refl), ap (λ l. one_if_some (loan_in l)) (h.1 refl))
+-- with another inode a slot is counted as before
+same_kind : (slot : Slot) (w : Inode) → (one_if_some (inode_in slot) ≡ one_if_some (inode_in (with_inode slot w))) × (one_if_some (loan_in slot) ≡ one_if_some (loan_in (with_inode slot w)))
+same_kind (Home x) w = (refl, refl)
+same_kind Free w = (refl, refl)
+same_kind Lent w = (refl, refl)
 
-pub counted_back : (s : Slots) (k : ℕ) (was after : Slot) (r : Option (MutBor Inode)) (w : Inode) (counts : Counts) → get s k ≡ Some was → option_copied_mut r ≡ inode_in was
-    → ForSome r (λ _. after ≡ Home w) × ForNone r (after ≡ was) → AreCounted s counts → AreCounted (insert s k after) counts
-counted_back s k was after r w counts at is h are =
-    let same = same_kind was after r w is h in
-    counted_insert s k after counts counts are
-    (ap (λ o. counts.home + one_if_some (option_and_then inode_in o)) at ∙ ap (λ n. counts.home + n) (sym same.0))
-    (ap (λ o. counts.lent + one_if_some (option_and_then loan_in o)) at ∙ ap (λ n. counts.lent + n) (sym same.1))
+pub counted_back : (s : Slots) (k : ℕ) (slot : Slot) (w : Inode) (counts : Counts) → get s k ≡ Some slot → AreCounted s counts → AreCounted (insert s k (with_inode slot w)) counts
+counted_back s k slot w counts at are =
+    let same = same_kind slot w in
+    counted_insert s k (with_inode slot w) counts counts are
+    (ap (λ o. counts.home + one_if_some (option_and_then inode_in o)) at ∙ ap (λ n. counts.home + n) same.0)
+    (ap (λ o. counts.lent + one_if_some (option_and_then loan_in o)) at ∙ ap (λ n. counts.lent + n) same.1)
 
 same_empty : {X Y : Type 0} (pick : X → Option Y) → picked pick empty ≡ empty
 same_empty pick = same_map nat_cmp_total nat_cmp-IsAntisymmetric _ _ (λ q. get-picked pick empty q ∙ ap (option_and_then pick) (get-empty nat_cmp q) ∙ sym (get-empty nat_cmp q))

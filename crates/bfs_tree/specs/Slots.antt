@@ -19,6 +19,13 @@ loan_in (Home inode) = None
 loan_in Free = None
 loan_in Lent = Some tt
 
+-- with another inode in the place of one that it holds
+abbrev pub with_inode : Slot → Inode → Slot
+with_inode (Home inode) left = Home left
+with_inode Free left = Free
+with_inode Lent left = Lent
+
+-- how many it counts for
 abbrev pub one_if_some : {X : Type 0} → Option X → ℕ
 one_if_some None = 0
 one_if_some (Some value) = 1

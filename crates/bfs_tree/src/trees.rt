@@ -19,7 +19,8 @@ use std::alloc::Global;
 use std::marker::Model;
 
 /// The inodes of a file system by their fileids. Some may be lent out, to be changed elsewhere and brought home; the tree knows and
-/// owns all fileids but theirs.
+/// owns all fileids but theirs. It keeps counts of the inodes at home and of the fileids lent out, so that `is_whole` and `count` cost
+/// no walk; `used_blocks` walks over all inodes.
 #[derive(Debug, Drop)]
 pub struct Tree {
     places: Places,
