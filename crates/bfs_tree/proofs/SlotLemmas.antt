@@ -13,9 +13,9 @@ use Rattle.bfs_tree.specs.declared.slots.Slot.{Slot}
 use Rattle.bfs_tree.specs.declared.slots.Slot.TheVariants.{Home, Free, Lent}
 use Rattle.bfs_tree.specs.declared.counts.Counts.{Counts}
 use Rattle.bfs_tree.specs.Maps.{map_of, picked}
-use Rattle.bfs_tree.specs.Slots.{Slots, inode_in, loan_in, one_if_some, with_inode}
+use Rattle.bfs_tree.specs.Slots.{Slots, inode_in, loan_in, with_inode}
 use Rattle.bfs_tree.specs.Tree.{at_home, lent, reach_of, reach_without, with_inode_at, with_inode_in}
-use Rattle.bfs_tree.specs.Places.{AreCounted}
+use Rattle.bfs_tree.specs.Counting.{Adds, AreCounted, Includes, inodes_in, loans_in}
 use Rattle.bfs_tree.proofs.Laws.{insert_same}
 use Rattle.bfs_tree.proofs.MapLemmas.{len-map_of}
 use Rattle.bfs_tree.proofs.Picking.{few_picked, get-picked, picked-insert, picked-none, picked-remove, len-picked-insert, len-picked-remove}
@@ -104,34 +104,36 @@ pub reach_back : (s : Slots) (k : ℕ) (w : Inode) → reach_of (with_inode_at s
 reach_back s k w = reach_with s k (get s k) w refl
 
 -- the counts: no more than there are slots, and after the changes of the slots
-pub few_home : (m : BTreeMap ℕ Slot) (counts : Counts) → IsOrdered nat_cmp m → AreCounted (map_of m) counts → counts.home ≤ btree_map_len m
-few_home m counts ordered are = omega (arith, are.0, few_picked inode_in (map_of m), len-map_of m ordered)
+pub few_counted : (m : BTreeMap ℕ Slot) (counts : Counts) → IsOrdered nat_cmp m → AreCounted (map_of m) counts → (counts.home ≤ btree_map_len m) × (counts.lent ≤ btree_map_len m)
+few_counted m counts ordered are =
+    let all = len-map_of m ordered in
+    (omega (arith, are.0, few_picked inode_in (map_of m), all), omega (arith, are.1, few_picked loan_in (map_of m), all))
 
-pub few_lent : (m : BTreeMap ℕ Slot) (counts : Counts) → IsOrdered nat_cmp m → AreCounted (map_of m) counts → counts.lent ≤ btree_map_len m
-few_lent m counts ordered are = omega (arith, are.1, few_picked loan_in (map_of m), len-map_of m ordered)
+pub counted_insert : (s : Slots) (k : ℕ) (slot : Slot) (was : Option Slot) (before more : Counts) → get s k ≡ was → AreCounted s before → Adds before (Some slot) more
+    → Includes more was × ((after : Counts) → Adds after was more → AreCounted (insert s k slot) after)
+counted_insert s k slot was before more is are adds =
+    let home = ap inodes_in is in
+    let loan = ap loans_in is in (
+      (omega (arith, home, are.0, adds.0, len-picked-insert inode_in s k slot), omega (arith, loan, are.1, adds.1, len-picked-insert loan_in s k slot)),
+      λ after less. (omega (arith, home, are.0, adds.0, less.0, len-picked-insert inode_in s k slot), omega (arith, loan, are.1, adds.1, less.1, len-picked-insert loan_in s k slot)),
+    )
 
-pub counted_insert : (s : Slots) (k : ℕ) (slot : Slot) (before after : Counts) → AreCounted s before
-    → after.home + one_if_some (option_and_then inode_in (get s k)) ≡ before.home + one_if_some (inode_in slot)
-    → after.lent + one_if_some (option_and_then loan_in (get s k)) ≡ before.lent + one_if_some (loan_in slot) → AreCounted (insert s k slot) after
-counted_insert s k slot before after are home loan = (omega (arith, are.0, home, len-picked-insert inode_in s k slot), omega (arith, are.1, loan, len-picked-insert loan_in s k slot))
+pub counted_remove : (s : Slots) (k : ℕ) (was : Option Slot) (before : Counts) → get s k ≡ was → AreCounted s before → Includes before was × ((after : Counts) → Adds after was before → AreCounted (remove s k) after)
+counted_remove s k was before is are =
+    let home = ap inodes_in is in
+    let loan = ap loans_in is in (
+      (omega (arith, home, are.0, len-picked-remove inode_in s k), omega (arith, loan, are.1, len-picked-remove loan_in s k)),
+      λ after less. (omega (arith, home, are.0, less.0, len-picked-remove inode_in s k), omega (arith, loan, are.1, less.1, len-picked-remove loan_in s k)),
+    )
 
-pub counted_remove : (s : Slots) (k : ℕ) (before after : Counts) → AreCounted s before
-    → after.home + one_if_some (option_and_then inode_in (get s k)) ≡ before.home
-    → after.lent + one_if_some (option_and_then loan_in (get s k)) ≡ before.lent → AreCounted (remove s k) after
-counted_remove s k before after are home loan = (omega (arith, are.0, home, len-picked-remove inode_in s k), omega (arith, are.1, loan, len-picked-remove loan_in s k))
-
--- with another inode a slot is counted as before
-same_kind : (slot : Slot) (w : Inode) → (one_if_some (inode_in slot) ≡ one_if_some (inode_in (with_inode slot w))) × (one_if_some (loan_in slot) ≡ one_if_some (loan_in (with_inode slot w)))
-same_kind (Home x) w = (refl, refl)
-same_kind Free w = (refl, refl)
-same_kind Lent w = (refl, refl)
+-- with another inode a slot counts for as much as before
+same_kind : (counts : Counts) (slot : Slot) (w : Inode) → Adds counts (Some slot) (record { home = counts.home + inodes_in (Some (with_inode slot w)); lent = counts.lent + loans_in (Some (with_inode slot w)) })
+same_kind counts (Home x) w = (refl, refl)
+same_kind counts Free w = (refl, refl)
+same_kind counts Lent w = (refl, refl)
 
 pub counted_back : (s : Slots) (k : ℕ) (slot : Slot) (w : Inode) (counts : Counts) → get s k ≡ Some slot → AreCounted s counts → AreCounted (insert s k (with_inode slot w)) counts
-counted_back s k slot w counts at are =
-    let same = same_kind slot w in
-    counted_insert s k (with_inode slot w) counts counts are
-    (ap (λ o. counts.home + one_if_some (option_and_then inode_in o)) at ∙ ap (λ n. counts.home + n) same.0)
-    (ap (λ o. counts.lent + one_if_some (option_and_then loan_in o)) at ∙ ap (λ n. counts.lent + n) same.1)
+counted_back s k slot w counts at are = (counted_insert s k (with_inode slot w) (Some slot) counts _ at are (refl, refl)).1 counts (same_kind counts slot w)
 
 same_empty : {X Y : Type 0} (pick : X → Option Y) → picked pick empty ≡ empty
 same_empty pick = same_map nat_cmp_total nat_cmp-IsAntisymmetric _ _ (λ q. get-picked pick empty q ∙ ap (option_and_then pick) (get-empty nat_cmp q) ∙ sym (get-empty nat_cmp q))
@@ -146,8 +148,8 @@ lent_empty = same_empty loan_in
 pub one_is_whole : (k : ℕ) (x : Inode) → IsTrue ((reach_of (insert empty k (Home x))).whole)
 one_is_whole k x = ap (λ m. len m == 0) (lent_insert empty k x ∙ ap (λ m. remove m k) lent_empty ∙ remove_absent empty k (get-empty nat_cmp k)) ∙ ap (λ n. n == 0) (len-empty nat_cmp ⊤)
 
-pub none_counted : (s : Slots) (counts : Counts) → s ≡ empty → counts.home ≡ 0 → counts.lent ≡ 0 → AreCounted s counts
-none_counted s counts is home loan = (
-  home ∙ sym (ap (λ m. len (at_home m)) is ∙ ap len home_empty ∙ len-empty nat_cmp Inode),
-  loan ∙ sym (ap (λ m. len (lent m)) is ∙ ap len lent_empty ∙ len-empty nat_cmp ⊤),
+pub none_counted : (s : Slots) → s ≡ empty → AreCounted s (record { home = 0; lent = 0 })
+none_counted s is = (
+  sym (ap (λ m. len (at_home m)) is ∙ ap len home_empty ∙ len-empty nat_cmp Inode),
+  sym (ap (λ m. len (lent m)) is ∙ ap len lent_empty ∙ len-empty nat_cmp ⊤),
 )

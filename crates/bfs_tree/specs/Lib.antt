@@ -3,6 +3,6 @@ pub mod Lending
 pub mod Maps
 pub mod Slots
 pub mod Tree
-pub mod Places
+pub mod Counting
 pub mod Knowing
 pub mod WellFormed

@@ -1,5 +1,5 @@
 -- What a tree keeps at its fileids: inodes, and the places of those that are lent out.
-use Rattle.std.specs.Prelude.{ℕ, ⊤, Option, Some, None}
+use Rattle.std.specs.Prelude.{⊤, Option, Some, None}
 use Rattle.std.specs.Ordering.{nat_cmp}
 use Rattle.std.specs.FinMap.{FinMap}
 use Rattle.bfs_model.specs.Tree.{Inode}
@@ -24,8 +24,3 @@ abbrev pub with_inode : Slot → Inode → Slot
 with_inode (Home inode) left = Home left
 with_inode Free left = Free
 with_inode Lent left = Lent
-
--- how many it counts for
-abbrev pub one_if_some : {X : Type 0} → Option X → ℕ
-one_if_some None = 0
-one_if_some (Some value) = 1

@@ -1,6 +1,6 @@
-ghost use Rattle.std.specs.Prelude.{◌≡◌, ◌+◌, ◌^◌, ◌<◌, ◌≤◌};
-ghost use Rattle.std.specs.Option.{option_and_then, option_copied};
-ghost use Rattle.bfs_tree.specs.Slots.{inode_in, loan_in, one_if_some};
+ghost use Rattle.std.specs.Prelude.{◌^◌, ◌<◌, Some};
+ghost use Rattle.std.specs.Option.{option_copied};
+ghost use Rattle.bfs_tree.specs.Counting.{Adds, Includes};
 
 use crate::slots::Slot;
 
@@ -16,8 +16,7 @@ impl Counts {
     pub(crate) fn with(self, slot: &Slot) -> Counts
         requires home { self.home < 2 ^ 63 }
         requires lent { self.lent < 2 ^ 63 }
-        ensures home { result.home ≡ self.home + one_if_some (inode_in slot.now) }
-        ensures lent { result.lent ≡ self.lent + one_if_some (loan_in slot.now) }
+        ensures { Adds self (Some slot.now) result }
     {
         match slot {
             Slot::Home(_) => Counts {
@@ -34,10 +33,8 @@ impl Counts {
 
     /// The counts with one slot less, or as they are where there was none.
     pub(crate) fn without(self, slot: Option<&Slot>) -> Counts
-        requires home { one_if_some (option_and_then inode_in (option_copied slot)) ≤ self.home }
-        requires lent { one_if_some (option_and_then loan_in (option_copied slot)) ≤ self.lent }
-        ensures home { result.home + one_if_some (option_and_then inode_in (option_copied slot.entry)) ≡ self.home }
-        ensures lent { result.lent + one_if_some (option_and_then loan_in (option_copied slot.entry)) ≡ self.lent }
+        requires { Includes self (option_copied slot) }
+        ensures { Adds result (option_copied slot.entry) self }
     {
         match slot {
             Some(Slot::Home(_)) => Counts {
