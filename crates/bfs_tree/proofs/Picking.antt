@@ -1,14 +1,16 @@
 -- What is picked out of a finite map, and the changes of the map.
-use Rattle.std.proofs.Common.{◌≡◌, ℕ, Bool, true, false, T, List, [], ◌∷◌, cond, Option, Some, None, length, refl, ap, sym, subst, ◌∙◌}
+use Rattle.std.proofs.Common.{◌≡◌, ℕ, zero, suc, ◌+◌, ◌-◌, ◌<◌, ◌≤◌, Bool, true, false, T, List, [], ◌∷◌, cond, Option, Some, None, is_some, length, refl, ap, sym, subst, ◌∙◌, arith}
 use Rattle.std.specs.Option.{option_and_then}
 use Rattle.std.specs.Ordering.{nat_cmp, eq_by_cmp, is_lt, is_eq}
 use Rattle.std.specs.declared.cmp.Ordering.{Ordering}
 use Rattle.std.specs.declared.cmp.Ordering.TheVariants.{Less, Equal, Greater}
 use Rattle.std.specs.FinMap.Entries.{below_all}
-use Rattle.std.specs.FinMap.{FinMap, find, get, get-entries, insert, remove, entries, entries_sorted, len, len-entries, from_entries, from_sorted, entries-from_sorted, get-from_sorted, is_sorted, get-from_entries, get-insert, get-remove, same_map, nat_cmp-IsAntisymmetric}
+use Rattle.std.specs.FinMap.{FinMap, find, get, get-entries, insert, remove, entries, entries_sorted, len, len-entries, len-insert, len-remove, empty_of_len, get-empty, from_entries, from_sorted, entries-from_sorted, get-from_sorted, is_sorted, get-from_entries, get-insert, get-remove, same_map, nat_cmp-IsAntisymmetric}
 use Rattle.std.proofs.lemmas.Cmp.{nat_cmp_total}
+use Rattle.std.proofs.lemmas.Option.{none-some}
 use Rattle.bfs_tree.proofs.MapLemmas.{first, second, both}
 use Rattle.bfs_tree.specs.Maps.{with_picked, picked_entries, picked}
+use Rattle.bfs_tree.specs.Counting.{one_if_some}
 
 not_less : (o : Ordering) → T (is_lt o) → is_eq o ≡ false
 not_less Less h = refl
@@ -23,6 +25,19 @@ equal Greater h = absurd h
 -- what ties with a key is not above it
 less_apart : (q key k : ℕ) → q ≡ key → T (is_lt (nat_cmp key k)) → eq_by_cmp nat_cmp q k ≡ false
 less_apart q key k is lt = ap (λ n. eq_by_cmp nat_cmp n k) is ∙ not_less (nat_cmp key k) lt
+
+-- how many entries there are after a change
+len_inserted : {X : Type 0} (m : FinMap nat_cmp X) (k : ℕ) (v : X) (was : Option X) → get m k ≡ was → len (insert m k v) + one_if_some was ≡ len m + 1
+len_inserted m k v None is = omega (arith, len-insert nat_cmp_total m k v ∙ ap (λ o. cond (is_some o) (len m) (len m + 1)) is)
+len_inserted m k v (Some x) is = omega (arith, len-insert nat_cmp_total m k v ∙ ap (λ o. cond (is_some o) (len m) (len m + 1)) is)
+
+some_there : {X : Type 0} (m : FinMap nat_cmp X) (k : ℕ) (x : X) (n : ℕ) → get m k ≡ Some x → len m ≡ n → 0 < n
+some_there m k x zero is none = absurd (none-some x (sym (ap (λ m. get m k) (empty_of_len m none) ∙ get-empty nat_cmp k) ∙ is))
+some_there m k x (suc n) is more = omega arith
+
+len_removed : {X : Type 0} (m : FinMap nat_cmp X) (k : ℕ) (was : Option X) → get m k ≡ was → len (remove m k) + one_if_some was ≡ len m
+len_removed m k None is = omega (arith, len-remove nat_cmp_total m k ∙ ap (λ o. cond (is_some o) (len m - 1) (len m)) is)
+len_removed m k (Some x) is = omega (arith, some_there m k x (len m) is refl, len-remove nat_cmp_total m k ∙ ap (λ o. cond (is_some o) (len m - 1) (len m)) is)
 
 module _ {X Y : Type 0} (pick : X → Option Y) where
   below_with : (k key : ℕ) (o : Option Y) (es : List (ℕ × Y)) → T (is_lt (nat_cmp k key)) → T (below_all nat_cmp k es) → T (below_all nat_cmp k (with_picked key o es))
@@ -96,5 +111,29 @@ module _ {X Y : Type 0} (pick : X → Option Y) where
       get-picked (remove m k) q ∙ ap (option_and_then pick) (get-remove nat_cmp_total m k q) ∙ out (eq_by_cmp nat_cmp q k) (get m q)
       ∙ sym (get-remove nat_cmp_total (picked pick m) k q ∙ ap (cond (eq_by_cmp nat_cmp q k) None) (get-picked m q)))
 
-  pub len-picked : (m : FinMap nat_cmp X) → len (picked pick m) ≡ length (picked_entries pick (entries m))
-  len-picked m = len-entries (picked pick m) ∙ ap length (entries-picked m)
+  -- how many are picked of the changed map
+  len_with : (m : FinMap nat_cmp X) (k : ℕ) (x : X) (o : Option Y) → pick x ≡ o → len (picked pick (insert m k x)) + one_if_some (option_and_then pick (get m k)) ≡ len (picked pick m) + one_if_some o
+  len_with m k x None is = ap (λ n. len n + one_if_some (option_and_then pick (get m k))) (picked-none m k x is) ∙ len_removed (picked pick m) k _ (get-picked m k) ∙ omega arith
+  len_with m k x (Some y) is = ap (λ n. len n + one_if_some (option_and_then pick (get m k))) (picked-insert m k x y is) ∙ len_inserted (picked pick m) k y _ (get-picked m k)
+
+  pub len-picked-insert : (m : FinMap nat_cmp X) (k : ℕ) (x : X) → len (picked pick (insert m k x)) + one_if_some (option_and_then pick (get m k)) ≡ len (picked pick m) + one_if_some (pick x)
+  len-picked-insert m k x = len_with m k x (pick x) refl
+
+  pub len-picked-remove : (m : FinMap nat_cmp X) (k : ℕ) → len (picked pick (remove m k)) + one_if_some (option_and_then pick (get m k)) ≡ len (picked pick m)
+  len-picked-remove m k = ap (λ n. len n + one_if_some (option_and_then pick (get m k))) (picked-remove m k) ∙ len_removed (picked pick m) k _ (get-picked m k)
+
+  length_with : (key : ℕ) (o : Option Y) (es : List (ℕ × Y)) (n : ℕ) → length es ≤ n → length (with_picked key o es) ≤ n + 1
+  length_with key None es n le = omega arith
+  length_with key (Some value) es n le = omega arith
+
+  length_picked : (es : List (ℕ × X)) → length (picked_entries pick es) ≤ length es
+  length_picked [] = omega arith
+  length_picked (e ∷ es) = omega (arith, length_with e.0 (pick e.1) (picked_entries pick es) (length es) (length_picked es))
+
+  -- no more are picked than there are
+  pub few_picked : (m : FinMap nat_cmp X) → len (picked pick m) ≤ len m
+  few_picked m =
+      let picked_len = len-entries (picked pick m) ∙ ap length (entries-picked m) in
+      let all = len-entries m in
+      let few = length_picked (entries m) in
+      omega (arith, picked_len, all, few)

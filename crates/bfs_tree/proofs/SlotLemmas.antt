@@ -1,21 +1,24 @@
 -- What the changes of the slots do to what is at home and to what is lent out.
-use Rattle.std.proofs.Common.{◌≡◌, ℕ, Bool, true, false, not, List, [], ◌∷◌, cond, Option, Some, None, is_some, length, suc, refl, ap, sym, ◌∙◌, arith, true≢false, ne_eqb}
-use Rattle.std.specs.Prelude.{⊤, ◌==◌, ◌||◌, IsTrue}
-use Rattle.std.specs.Option.{option_and_then, ForSome, ForNone}
-use Rattle.std.specs.Borrow.{MutBor}
+use Rattle.std.proofs.Common.{◌≡◌, ℕ, ◌+◌, ◌≤◌, Bool, true, false, not, cond, Option, Some, None, is_some, refl, ap, sym, ◌∙◌, arith, true≢false}
+use Rattle.std.specs.Prelude.{⊤, ◌==◌, IsTrue}
+use Rattle.std.specs.Option.{option_and_then}
+use Rattle.std.specs.BTreeMap.{BTreeMap, btree_map_len, IsOrdered}
 use Rattle.std.specs.Ordering.{nat_cmp, eq_by_cmp}
-use Rattle.std.specs.List.{list_any, filter}
-use Rattle.std.specs.FinMap.{FinMap, get, insert, remove, len, entries, get-remove, empty, get-empty, len-empty, same_map, nat_cmp-IsAntisymmetric}
+use Rattle.std.specs.FinMap.{FinMap, contains_key, get, insert, remove, len, get-remove, empty, get-empty, len-empty, same_map, nat_cmp-IsAntisymmetric}
 use Rattle.std.proofs.lemmas.Cmp.{nat_cmp_total}
+use Rattle.std.proofs.lemmas.Option.{none-some}
 use Rattle.std.proofs.lemmas.Map.Views.{tells_apart}
 use Rattle.bfs_model.specs.Tree.{Inode}
 use Rattle.bfs_tree.specs.declared.slots.Slot.{Slot}
 use Rattle.bfs_tree.specs.declared.slots.Slot.TheVariants.{Home, Free, Lent}
-use Rattle.bfs_tree.specs.Maps.{picked_entries, with_picked, picked}
-use Rattle.bfs_tree.specs.Slots.{Slots, inode_in, loan_in}
-use Rattle.bfs_tree.specs.Tree.{at_home, lent, reach_of, reach_without}
+use Rattle.bfs_tree.specs.declared.counts.Counts.{Counts}
+use Rattle.bfs_tree.specs.Maps.{map_of, picked}
+use Rattle.bfs_tree.specs.Slots.{Slots, inode_in, loan_in, with_inode}
+use Rattle.bfs_tree.specs.Tree.{at_home, lent, reach_of, reach_without, with_inode_at, with_inode_in}
+use Rattle.bfs_tree.specs.Counting.{Adds, AreCounted, Includes, inodes_in, loans_in}
 use Rattle.bfs_tree.proofs.Laws.{insert_same}
-use Rattle.bfs_tree.proofs.Picking.{get-picked, picked-insert, picked-none, picked-remove, len-picked}
+use Rattle.bfs_tree.proofs.MapLemmas.{len-map_of}
+use Rattle.bfs_tree.proofs.Picking.{few_picked, get-picked, picked-insert, picked-none, picked-remove, len-picked-insert, len-picked-remove}
 
 absent_at : {X : Type 0} (m : FinMap nat_cmp X) (k q : ℕ) (b : Bool) → get m k ≡ None → eq_by_cmp nat_cmp q k ≡ b → cond b None (get m q) ≡ get m q
 absent_at m k q true none e = sym none ∙ ap (get m) (sym (tells_apart nat_cmp-IsAntisymmetric q k e))
@@ -41,6 +44,14 @@ loan_at s k slot is = get-picked loan_in s k ∙ ap (option_and_then loan_in) is
 
 pub no_loan_at : (s : Slots) (k : ℕ) → get s k ≡ None → get (lent s) k ≡ None
 no_loan_at s k is = get-picked loan_in s k ∙ ap (option_and_then loan_in) is
+
+has_place : (s : Slots) (k : ℕ) (o : Option Slot) → get s k ≡ o → IsTrue (contains_key (lent s) k) → IsTrue (contains_key s k)
+has_place s k None is loan = absurd (true≢false (sym loan ∙ ap is_some (no_loan_at s k is)))
+has_place s k (Some slot) is loan = ap is_some is
+
+-- what is lent out has its place
+pub loan_has_place : (s : Slots) (k : ℕ) → IsTrue (contains_key (lent s) k) → IsTrue (contains_key s k)
+loan_has_place s k loan = has_place s k (get s k) refl loan
 
 pub home_insert : (s : Slots) (k : ℕ) (x : Inode) → at_home (insert s k (Home x)) ≡ insert (at_home s) k x
 home_insert s k x = picked-insert inode_in s k (Home x) x refl
@@ -73,38 +84,56 @@ reach_insert s k x owned = ap reach_without (lent_insert s k x ∙ remove_absent
 pub reach_remove : (s : Slots) (k : ℕ) → IsTrue ((reach_of s).owned k) → reach_of (remove s k) ≡ reach_of s
 reach_remove s k owned = ap reach_without (lent_remove s k ∙ remove_absent (lent s) k (none_of (get (lent s) k) owned))
 
--- whether any is lent out, and how many are at home --------------------------------------------------------------------
+-- what a lent inode leaves of what is at home, and of the reach
+home_with : (s : Slots) (k : ℕ) (o : Option Slot) (x w : Inode) → get s k ≡ o → get (at_home s) k ≡ Some x → at_home (with_inode_in s k o w) ≡ insert (at_home s) k w
+home_with s k (Some (Home y)) x w is at = home_insert s k w
+home_with s k (Some Free) x w is at = absurd (none-some x (sym (home_at s k Free is) ∙ at))
+home_with s k (Some Lent) x w is at = absurd (none-some x (sym (home_at s k Lent is) ∙ at))
+home_with s k None x w is at = absurd (none-some x (sym (no_home_at s k is) ∙ at))
 
-not_not : (b : Bool) → b ≡ not (not b)
-not_not true = refl
-not_not false = refl
+pub home_back : (s : Slots) (k : ℕ) (x w : Inode) → get (at_home s) k ≡ Some x → at_home (with_inode_at s k w) ≡ insert (at_home s) k w
+home_back s k x w at = home_with s k (get s k) x w refl at
 
-any_with : {X : Type 0} (key : ℕ) (o : Option X) (es : List (ℕ × X)) → (length (with_picked key o es) == 0) ≡ not (is_some o || not (length es == 0))
-any_with key None es = not_not (length es == 0)
-any_with key (Some x) es = ne_eqb (suc (length es)) 0 (λ (e : suc (length es) ≡ 0). absurd (omega arith))
+reach_with : (s : Slots) (k : ℕ) (o : Option Slot) (w : Inode) → get s k ≡ o → reach_of (with_inode_in s k o w) ≡ reach_of s
+reach_with s k (Some (Home x)) w is = ap reach_without (lent_insert s k w ∙ remove_absent (lent s) k (loan_at s k (Home x) is))
+reach_with s k (Some Free) w is = ap reach_of (insert_same s k Free is)
+reach_with s k (Some Lent) w is = ap reach_of (insert_same s k Lent is)
+reach_with s k None w is = refl
 
-not_any : (es : List (ℕ × Slot)) → (length (picked_entries loan_in es) == 0) ≡ not (list_any (λ e. is_some (loan_in e.1)) es)
-not_any [] = refl
-not_any (e ∷ es) = any_with e.0 (loan_in e.1) (picked_entries loan_in es) ∙ ap (λ b. not (is_some (loan_in e.1) || b)) (ap not (not_any es) ∙ sym (not_not _))
+pub reach_back : (s : Slots) (k : ℕ) (w : Inode) → reach_of (with_inode_at s k w) ≡ reach_of s
+reach_back s k w = reach_with s k (get s k) w refl
 
-pub whole_is : (s : Slots) → not (list_any (λ e. is_some (loan_in e.1)) (entries s)) ≡ (len (lent s) == 0)
-whole_is s = sym (ap (λ n. n == 0) (len-picked loan_in s) ∙ not_any (entries s))
+-- the counts: no more than there are slots, and after the changes of the slots
+pub few_counted : (m : BTreeMap ℕ Slot) (counts : Counts) → IsOrdered nat_cmp m → AreCounted (map_of m) counts → (counts.home ≤ btree_map_len m) × (counts.lent ≤ btree_map_len m)
+few_counted m counts ordered are =
+    let all = len-map_of m ordered in
+    (omega (arith, are.0, few_picked inode_in (map_of m), all), omega (arith, are.1, few_picked loan_in (map_of m), all))
 
--- what a lent inode leaves of the reach
-pub reach_back : (s : Slots) (k : ℕ) (was after : Slot) (r : Option (MutBor Inode)) (w : Inode) → get s k ≡ Some was → IsTrue ((reach_of s).owned k) → ForSome r (λ _. after ≡ Home w) × ForNone r (after ≡ was) → reach_of (insert s k after) ≡ reach_of s
-reach_back s k was after (Some x) w at owned h = ap (λ l. reach_of (insert s k l)) (h.0 x refl) ∙ reach_insert s k w owned
-reach_back s k was after None w at owned h = ap (λ l. reach_of (insert s k l)) (h.1 refl) ∙ ap reach_of (insert_same s k was at)
+pub counted_insert : (s : Slots) (k : ℕ) (slot : Slot) (was : Option Slot) (before more : Counts) → get s k ≡ was → AreCounted s before → Adds before (Some slot) more
+    → Includes more was × ((after : Counts) → Adds after was more → AreCounted (insert s k slot) after)
+counted_insert s k slot was before more is are adds =
+    let home = ap inodes_in is in
+    let loan = ap loans_in is in (
+      (omega (arith, home, are.0, adds.0, len-picked-insert inode_in s k slot), omega (arith, loan, are.1, adds.1, len-picked-insert loan_in s k slot)),
+      λ after less. (omega (arith, home, are.0, adds.0, less.0, len-picked-insert inode_in s k slot), omega (arith, loan, are.1, adds.1, less.1, len-picked-insert loan_in s k slot)),
+    )
 
-count_with : (e : ℕ × Slot) (o : Option Inode) (es : List (ℕ × Inode)) (kept : List (ℕ × Slot)) → length es ≡ length kept → length (with_picked e.0 o es) ≡ length (cond (is_some o) (e ∷ kept) kept)
-count_with e None es kept so = so
-count_with e (Some x) es kept so = ap suc so
+pub counted_remove : (s : Slots) (k : ℕ) (was : Option Slot) (before : Counts) → get s k ≡ was → AreCounted s before → Includes before was × ((after : Counts) → Adds after was before → AreCounted (remove s k) after)
+counted_remove s k was before is are =
+    let home = ap inodes_in is in
+    let loan = ap loans_in is in (
+      (omega (arith, home, are.0, len-picked-remove inode_in s k), omega (arith, loan, are.1, len-picked-remove loan_in s k)),
+      λ after less. (omega (arith, home, are.0, less.0, len-picked-remove inode_in s k), omega (arith, loan, are.1, less.1, len-picked-remove loan_in s k)),
+    )
 
-count_picked : (es : List (ℕ × Slot)) → length (picked_entries inode_in es) ≡ length (filter (λ e. is_some (inode_in e.1)) es)
-count_picked [] = refl
-count_picked (e ∷ es) = count_with e (inode_in e.1) _ _ (count_picked es)
+-- with another inode a slot counts for as much as before
+same_kind : (counts : Counts) (slot : Slot) (w : Inode) → Adds counts (Some slot) (record { home = counts.home + inodes_in (Some (with_inode slot w)); lent = counts.lent + loans_in (Some (with_inode slot w)) })
+same_kind counts (Home x) w = (refl, refl)
+same_kind counts Free w = (refl, refl)
+same_kind counts Lent w = (refl, refl)
 
-pub counted : (s : Slots) → length (filter (λ e. is_some (inode_in e.1)) (entries s)) ≡ len (at_home s)
-counted s = sym (len-picked inode_in s ∙ count_picked (entries s))
+pub counted_back : (s : Slots) (k : ℕ) (slot : Slot) (w : Inode) (counts : Counts) → get s k ≡ Some slot → AreCounted s counts → AreCounted (insert s k (with_inode slot w)) counts
+counted_back s k slot w counts at are = (counted_insert s k (with_inode slot w) (Some slot) counts _ at are (refl, refl)).1 counts (same_kind counts slot w)
 
 same_empty : {X Y : Type 0} (pick : X → Option Y) → picked pick empty ≡ empty
 same_empty pick = same_map nat_cmp_total nat_cmp-IsAntisymmetric _ _ (λ q. get-picked pick empty q ∙ ap (option_and_then pick) (get-empty nat_cmp q) ∙ sym (get-empty nat_cmp q))
@@ -118,3 +147,9 @@ lent_empty = same_empty loan_in
 -- with one inode at home none is lent out
 pub one_is_whole : (k : ℕ) (x : Inode) → IsTrue ((reach_of (insert empty k (Home x))).whole)
 one_is_whole k x = ap (λ m. len m == 0) (lent_insert empty k x ∙ ap (λ m. remove m k) lent_empty ∙ remove_absent empty k (get-empty nat_cmp k)) ∙ ap (λ n. n == 0) (len-empty nat_cmp ⊤)
+
+pub none_counted : (s : Slots) → s ≡ empty → AreCounted s (record { home = 0; lent = 0 })
+none_counted s is = (
+  sym (ap (λ m. len (at_home m)) is ∙ ap len home_empty ∙ len-empty nat_cmp Inode),
+  sym (ap (λ m. len (lent m)) is ∙ ap len lent_empty ∙ len-empty nat_cmp ⊤),
+)

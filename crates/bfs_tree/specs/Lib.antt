@@ -2,8 +2,7 @@ pub mod Reach
 pub mod Lending
 pub mod Maps
 pub mod Slots
-pub mod SlotLending
-pub mod PlaceLending
 pub mod Tree
+pub mod Counting
 pub mod Knowing
 pub mod WellFormed

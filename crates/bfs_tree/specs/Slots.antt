@@ -18,3 +18,9 @@ abbrev pub loan_in : Slot → Option ⊤
 loan_in (Home inode) = None
 loan_in Free = None
 loan_in Lent = Some tt
+
+-- with another inode in the place of one that it holds
+abbrev pub with_inode : Slot → Inode → Slot
+with_inode (Home inode) left = Home left
+with_inode Free left = Free
+with_inode Lent left = Lent

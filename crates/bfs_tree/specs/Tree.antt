@@ -7,7 +7,7 @@ use Rattle.bfs_tree.specs.declared.slots.Slot.{Slot}
 use Rattle.bfs_tree.specs.declared.slots.Slot.TheVariants.{Home, Free}
 use Rattle.bfs_tree.specs.Maps.{picked}
 use Rattle.bfs_tree.specs.Reach.{Reach}
-use Rattle.bfs_tree.specs.Slots.{Slots, inode_in, loan_in}
+use Rattle.bfs_tree.specs.Slots.{Slots, inode_in, loan_in, with_inode}
 
 -- the inodes that are in it
 abbrev pub at_home : Slots → Inodes
@@ -36,3 +36,11 @@ reserved_in slots id None = insert slots id Free
 
 abbrev pub reserved : Slots → (id : ℕ) → Slots
 reserved slots id = reserved_in slots id (get slots id)
+
+-- with another inode in the place of one that is at home
+abbrev pub with_inode_in : Slots → (id : ℕ) → Option Slot → Inode → Slots
+with_inode_in slots id (Some slot) left = insert slots id (with_inode slot left)
+with_inode_in slots id None left = slots
+
+abbrev pub with_inode_at : Slots → (id : ℕ) → Inode → Slots
+with_inode_at slots id = with_inode_in slots id (get slots id)

@@ -2,6 +2,7 @@
 #![tactic(auto)]
 
 mod ancestry;
+mod counts;
 mod inodes;
 mod places;
 mod slots;

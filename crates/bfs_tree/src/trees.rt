@@ -19,7 +19,8 @@ use std::alloc::Global;
 use std::marker::Model;
 
 /// The inodes of a file system by their fileids. Some may be lent out, to be changed elsewhere and brought home; the tree knows and
-/// owns all fileids but theirs.
+/// owns all fileids but theirs. It keeps counts of the inodes at home and of the fileids lent out, so that `is_whole` and `count` cost
+/// no walk; `used_blocks` walks over all inodes.
 #[derive(Debug, Drop)]
 pub struct Tree {
     places: Places,
@@ -47,7 +48,7 @@ impl Tree {
     {
         let mut places = Places::new(alloc);
         match places.insert(FileId::root(), Slot::Home(Inode::root(alloc))) {
-            Ok(()) => Ok(Tree { places }),
+            Ok(_) => Ok(Tree { places }),
             Err(_) => Err(Memory),
         }
     }
@@ -62,7 +63,7 @@ impl Tree {
             return Ok(());
         }
         match self.places.insert(id, Slot::Free) {
-            Ok(()) => Ok(()),
+            Ok(_) => Ok(()),
             Err(_) => Err(Memory),
         }
     }
@@ -75,22 +76,18 @@ impl Tree {
         ensures value { result ≡ get (at_home self.old) id }
         ensures lent { self.new ≡ insert self.old id slot.Lent }
     {
-        match self.places.get_mut(id) {
-            Some(slot) => slot.lend(),
-            None => None,
-        }
+        self.places.replace(id, Slot::Lent)?.into_inode()
     }
 
     /// Puts an inode back in the place that was lent out. `None` says that no inode has the fileid from then on. It takes no memory.
+    #[tactic(auto, using(crate::proofs::SlotLemmas::loan_has_place))]
     pub fn bring_home(&mut self, id: FileId, inode: Option<Inode>)
         requires { IsTrue (contains_key (lent self.old) id) }
         ensures { self.new ≡ brought self.old id inode }
     {
         match inode {
             Some(inode) => {
-                if let Some(slot) = self.places.get_mut(id) {
-                    *slot = Slot::Home(inode);
-                }
+                self.places.replace(id, Slot::Home(inode));
             }
             None => {
                 self.places.remove(id);
@@ -141,14 +138,12 @@ impl Store for Tree {
 
     ghost owns_all = { λ tree whole id. knows_all (lent tree) whole id };
 
-    #[tactic(auto, using(crate::proofs::SlotLemmas::whole_is))]
     fn is_whole(&self) -> bool {
-        !self.places.any_lent()
+        self.places.counts().lent == 0
     }
 
-    #[tactic(auto, using(crate::proofs::SlotLemmas::counted))]
     fn count(&self) -> usize {
-        self.places.count_home()
+        self.places.counts().home
     }
 
     fn used_blocks(&self) -> u64 {
@@ -168,16 +163,13 @@ impl Store for Tree {
     }
 
     fn get_mut(&mut self, id: FileId) -> Option<&mut Inode> {
-        match self.places.get_mut(id) {
-            Some(slot) => slot.inode_mut(),
-            None => None,
-        }
+        self.places.inode_mut(id)
     }
 
     #[tactic(auto, using(crate::proofs::SlotLemmas::home_insert, crate::proofs::SlotLemmas::reach_insert))]
     fn insert(&mut self, id: FileId, inode: Inode) -> Result<(), Inode> {
         match self.places.insert(id, Slot::Home(inode)) {
-            Ok(()) => Ok(()),
+            Ok(_) => Ok(()),
             Err(refused) => match refused.into_inode() {
                 Some(inode) => Err(inode),
                 None => Ok(()),
