@@ -5,16 +5,18 @@ use Rattle.std.specs.Prelude.{⊤, replicate, is_ok}
 use Rattle.std.specs.List.{flat_map}
 use Rattle.hex.proofs.OnLiterals.{hex_on_literals}
 use Rattle.bfs_replay.specs.Events.{Request}
-use Rattle.bfs_replay.specs.Lines.{call_spelled, line_spelled, time_spelled}
+use Rattle.bfs_replay.specs.Lines.{call_spelled, line_spelled}
+use Rattle.bfs_replay.specs.Operands.{time_spelled}
 use Rattle.bfs_replay.specs.Output.{reply_line}
 use Rattle.bfs_replay.specs.Trace.{is_passed_over, read_lines, trace_spelled}
-use Rattle.bfs_replay.specs.Words.{number_spelled, parts}
+use Rattle.bfs_replay.specs.Verbs.{procedure_named}
+use Rattle.bfs_replay.specs.Words.{digits_spelled, parts}
 use Rattle.bfs_replay.specs.declared.events.Event.{Event}
 use Rattle.bfs_replay.specs.declared.events.Event.TheVariants as event
 
 -- what computes what a text says
 unfoldable pub read_on_literals : ⊤
-unfolding hex_on_literals parts number_spelled time_spelled call_spelled line_spelled is_passed_over read_lines
+unfolding hex_on_literals parts digits_spelled time_spelled procedure_named call_spelled line_spelled is_passed_over read_lines
 read_on_literals = tt
 
 abbrev pub block_at : (seconds useconds : ℕ) → List Request → Event
