@@ -4,5 +4,7 @@ pub mod Digits
 pub mod Headers
 pub mod ReplyLines
 pub mod Rows
+pub mod SentArguments
+pub mod SentHeaders
 pub mod Takes
 pub mod Usages

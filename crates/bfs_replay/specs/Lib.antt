@@ -4,6 +4,7 @@ pub mod Texts
 pub mod Operands
 pub mod Verbs
 pub mod Messages
+pub mod SentCalls
 pub mod Events
 pub mod Lines
 pub mod Trace

@@ -14,6 +14,7 @@ mod operands;
 mod parser;
 mod replies;
 mod run;
+pub mod sent_calls;
 mod texts;
 mod times;
 mod trace;
