@@ -87,9 +87,10 @@ impl<'a> Words<'a> {
     pub(crate) fn end(&self) -> Result<(), Fault>
         ensures { Reads (λ end. end) result (unless_more self.now tt) }
     {
-        if !self.is_at_end() {
-            return Err(Fault::Bad);
+        if self.is_at_end() {
+            Ok(())
+        } else {
+            Err(Fault::Bad)
         }
-        Ok(())
     }
 }
