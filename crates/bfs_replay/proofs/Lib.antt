@@ -1,5 +1,6 @@
 pub mod CommandLine
 pub mod Cuts
+pub mod Decoded
 pub mod Digits
 pub mod Headers
 pub mod ReplyLines

@@ -1,13 +1,13 @@
 // The words behind a verb.
 ghost use Rattle.std.specs.Prelude.{◌≤◌, length, IfOk};
 ghost use Rattle.bfs_model.specs.Limits.{most_request_bytes};
-ghost use Rattle.bfs_replay.specs.Operands.{data_in, file_in, file_spelled, most_number, mode_in, number_in, number_setting_in, settings_in, text_in, time_setting_in};
+ghost use Rattle.bfs_replay.specs.Operands.{file_in, file_spelled, most_number, mode_in, number_in, number_setting_in, settings_in, text_in, time_setting_in};
 ghost use Rattle.bfs_replay.specs.Reading.{Reads};
 ghost use Rattle.bfs_replay.specs.Words.{number_spelled};
 
 use crate::fault::Fault;
 use crate::numbers::{parse_number, parse_octal};
-use crate::texts::{parse_data, parse_text};
+use crate::texts::parse_text;
 use crate::times::parse_set_time;
 use crate::words::Words;
 use bfs_types::{FileId, SetTime, Settings};
@@ -56,15 +56,6 @@ impl<'a> Words<'a> {
     {
         let word = self.word()?;
         parse_text(alloc, word)
-    }
-
-    /// Reads `BYTES` of a file.
-    pub(crate) fn data(&mut self, alloc: Global) -> Result<Vec<u8>, Fault>
-        ensures value { Reads (λ bytes. (bytes.items, self.new)) result (data_in self.old) }
-        ensures within { IfOk result (λ bytes. length bytes.items ≤ most_request_bytes) }
-    {
-        let word = self.word()?;
-        parse_data(alloc, word)
     }
 
     #[tactic(auto, unfolding(crate::specs::Operands::mode_in))]

@@ -1,4 +1,7 @@
-ghost use Rattle.std.specs.Prelude.{◌≡◌, ◌≤◌, ◌++◌, length, IfOk, option_map};
+ghost use Rattle.std.specs.Prelude.{◌≡◌, ◌≤◌, ◌*◌, ◌++◌, length, replicate, IfOk, OnOk, option_map};
+ghost use Rattle.std.specs.Result.{result_ok};
+ghost use Rattle.hex.specs.Hex.{decode_of};
+ghost use Rattle.bfs_model.specs.Items.{counted, padding_of};
 ghost use Rattle.bfs_model.specs.Limits.{most_request_bytes};
 ghost use Rattle.bfs_replay.specs.Reading.{Reads};
 ghost use Rattle.bfs_replay.specs.Texts.{are_printable, data_spelled, escape_spelled, text_in_parts, text_spelled};
@@ -6,8 +9,9 @@ ghost use Rattle.bfs_replay.specs.Words.{parts};
 
 use crate::fault::Fault;
 use crate::words::Words;
-use bfs_types::MOST_REQUEST_BYTES;
-use hex::{FromHex, FromHexError};
+use bfs_types::{MOST_REQUEST_BYTES, Memory};
+use bfs_xdr::put_u32;
+use hex::FromHex;
 use std::alloc::Global;
 
 // printable ASCII, but for the space
@@ -73,11 +77,40 @@ pub(crate) fn parse_text(alloc: Global, word: &[u8]) -> Result<Vec<u8>, Fault>
     Ok(text)
 }
 
-/// Reads the `BYTES` of a file: `x`, and two hexadecimal digits for each byte.
-#[tactic(auto, unfolding(crate::specs::Texts::data_spelled), using(crate::proofs::Digits::half))]
-pub(crate) fn parse_data(alloc: Global, word: &[u8]) -> Result<Vec<u8>, Fault>
-    ensures value { Reads (λ bytes. bytes.items) result (data_spelled word.now) }
-    ensures within { IfOk result (λ bytes. length bytes.items ≤ most_request_bytes) }
+// appends the bytes that hexadecimal digits spell
+fn push_decoded(digits: &[u8], out: &mut Vec<u8>) -> Result<(), Fault>
+    ensures { Reads (λ _. out.new.items) result (option_map (λ bytes. out.old.items ++ bytes) (result_ok (decode_of digits.now))) }
+{
+    let start = out.len();
+    out.resize(start + digits.len() / 2, 0)?;
+    let (_, room) = out.as_mut_slice().split_at_mut(start);
+    hex::decode_to_slice(digits, room).map_err(|_| Fault::Bad)
+}
+
+// appends zeros behind so many bytes, up to a multiple of four (RFC 4506 section 4.10)
+fn put_padding(count: usize, out: &mut Vec<u8>) -> Result<(), Memory>
+    ensures { OnOk result (out.new.items ≡ out.old.items ++ replicate (padding_of count) 0) }
+{
+    out.resize(out.len() + (4 - count % 4) % 4, 0)?;
+    Ok(())
+}
+
+// appends the bytes that hexadecimal digits spell, behind their length
+fn put_decoded(digits: &[u8], out: &mut Vec<u8>) -> Result<(), Fault>
+    requires { length digits.now ≤ 2 * most_request_bytes }
+    ensures { Reads (λ _. out.new.items) result (option_map (λ bytes. out.old.items ++ counted bytes) (result_ok (decode_of digits.now))) }
+{
+    let count = digits.len() / 2;
+    put_u32(out, count as u32)?;
+    push_decoded(digits, out)?;
+    put_padding(count, out)?;
+    Ok(())
+}
+
+/// Appends the `BYTES` of a file behind their length: `x`, and two hexadecimal digits for each byte. They are decoded in their place.
+#[tactic(auto, unfolding(crate::specs::Texts::data_spelled))]
+pub(crate) fn put_data(word: &[u8], out: &mut Vec<u8>) -> Result<(), Fault>
+    ensures { Reads (λ _. out.new.items) result (option_map (λ bytes. out.old.items ++ counted bytes) (data_spelled word.now)) }
 {
     let [b'x', digits @ ..] = word else {
         return Err(Fault::Bad);
@@ -85,9 +118,5 @@ pub(crate) fn parse_data(alloc: Global, word: &[u8]) -> Result<Vec<u8>, Fault>
     if digits.len() > 2 * MOST_REQUEST_BYTES {
         return Err(Fault::Bad);
     }
-    match hex::decode(alloc, digits) {
-        Ok(bytes) => Ok(bytes),
-        Err(FromHexError::OutOfMemory) => Err(Fault::Memory),
-        Err(_) => Err(Fault::Bad),
-    }
+    put_decoded(digits, out)
 }

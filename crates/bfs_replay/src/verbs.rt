@@ -88,7 +88,7 @@ pub(crate) fn put_arguments(
         5 => read_link(words, out),
         6 => read(words, out),
         7 => words.end(),
-        8 => write(alloc, words, out),
+        8 => write(words, out),
         9 => create(alloc, words, out),
         10 => remove(alloc, words, out),
         11 => rename(alloc, words, out),

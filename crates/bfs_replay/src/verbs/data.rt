@@ -5,9 +5,9 @@ ghost use Rattle.bfs_replay.specs.Verbs.{file_words, read_words, write_words};
 
 use crate::fault::Fault;
 use crate::items::put_handle;
+use crate::texts::put_data;
 use crate::words::Words;
-use bfs_xdr::{put_opaque, put_words};
-use std::alloc::Global;
+use bfs_xdr::put_words;
 
 /// `readlink H`
 #[tactic(auto, unfolding(crate::specs::Verbs::file_words, crate::specs::Messages::arguments), using(std::proofs::lemmas::List::append_assoc))]
@@ -36,15 +36,14 @@ pub(crate) fn read(words: &mut Words<'_>, out: &mut Vec<u8>) -> Result<(), Fault
 
 /// `write H OFFSET BYTES`, with a begin offset and a total count of 0
 #[tactic(auto, unfolding(crate::specs::Verbs::write_words, crate::specs::Messages::arguments), using(std::proofs::lemmas::List::append_assoc))]
-pub(crate) fn write(alloc: Global, words: &mut Words<'_>, out: &mut Vec<u8>) -> Result<(), Fault>
+pub(crate) fn write(words: &mut Words<'_>, out: &mut Vec<u8>) -> Result<(), Fault>
     ensures { AppendsCall result out.old.items out.new.items (write_words words.old) }
 {
     let file = words.file()?;
     let offset = words.number()?;
-    let bytes = words.data(alloc)?;
-    words.end()?;
+    let word = words.word()?;
     put_handle(out, file)?;
     put_words(out, &[0, offset, 0])?;
-    put_opaque(out, bytes.as_slice())?;
-    Ok(())
+    put_data(word, out)?;
+    words.end()
 }
