@@ -7,5 +7,6 @@ pub mod ReplyLines
 pub mod Rows
 pub mod SentArguments
 pub mod SentHeaders
+pub mod SpelledCalls
 pub mod Takes
 pub mod Usages

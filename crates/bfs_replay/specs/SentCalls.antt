@@ -6,6 +6,7 @@ use Rattle.bfs_model.specs.Limits.{most_data_bytes, most_name_bytes, most_path_b
 use Rattle.bfs_model.specs.Stored.{IsWord}
 use Rattle.bfs_model.specs.Tree.{Time}
 use Rattle.bfs_replay.specs.Messages.{arguments, call_header, seconds_word, setting_word, useconds_word}
+use Rattle.bfs_replay.specs.Verbs.{call_in_words}
 
 -- The header -----------------------------------------------------------------------------------------------------------
 
@@ -94,3 +95,23 @@ FitsItems (file_system_status file) = IsFile file
 -- the arguments of a call are read as that call
 abbrev pub ArgumentsAreRead : Type 0
 ArgumentsAreRead = (call : Call) → FitsItems call → arguments_of (procedure_of call) (arguments call) ≡ Some (call_read call)
+
+-- Words ----------------------------------------------------------------------------------------------------------------
+
+-- names, a path and data that are no longer than RFC 1094 section 2.3.1 allows
+abbrev pub KeepsLimits : Call → Type 0
+KeepsLimits (look_up dir name) = IsName name
+KeepsLimits (write file offset bytes) = length bytes ≤ most_data_bytes
+KeepsLimits (create dir name settings) = IsName name
+KeepsLimits (remove dir name) = IsName name
+KeepsLimits (rename from from_name to to_name) = IsName from_name × IsName to_name
+KeepsLimits (make_link file dir name) = IsName name
+KeepsLimits (make_symbolic_link dir name path settings) = IsName name × (length path ≤ most_path_bytes)
+KeepsLimits (make_directory dir name settings) = IsName name
+KeepsLimits (remove_directory dir name) = IsName name
+KeepsLimits call = Unit {0}
+
+-- the arguments of a call that words spell are read as those of that call
+abbrev pub SpelledCallsAreRead : Type 0
+SpelledCallsAreRead = (procedure : ℕ) (words : List (List ℕ)) (call : Call) → call_in_words procedure words ≡ Some call → KeepsLimits call
+    → arguments_of procedure (arguments call) ≡ Some (call_read call)
