@@ -3,3 +3,5 @@
 
 #[cfg(test)]
 mod traces;
+#[cfg(test)]
+mod verbs;

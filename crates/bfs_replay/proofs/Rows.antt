@@ -4,17 +4,23 @@ use Rattle.std.specs.Fmt.{digits}
 use Rattle.std.specs.Prelude.{⊤, replicate, is_ok}
 use Rattle.std.specs.List.{flat_map}
 use Rattle.hex.proofs.OnLiterals.{hex_on_literals}
+use Rattle.bfs_model.specs.Arguments.{handle}
+use Rattle.bfs_model.specs.Items.{counted, fixed, word}
 use Rattle.bfs_replay.specs.Events.{Request}
-use Rattle.bfs_replay.specs.Lines.{call_spelled, line_spelled, time_spelled}
+use Rattle.bfs_replay.specs.Lines.{call_spelled, line_spelled}
+use Rattle.bfs_replay.specs.Operands.{file_spelled, mode_in, number_setting_in, set_time_spelled, settings_in, time_setting_in, time_spelled}
+use Rattle.bfs_replay.specs.Messages.{arguments, call_header, credential_body, settings_item}
 use Rattle.bfs_replay.specs.Output.{reply_line}
 use Rattle.bfs_replay.specs.Trace.{is_passed_over, read_lines, trace_spelled}
-use Rattle.bfs_replay.specs.Words.{number_spelled, parts}
+use Rattle.bfs_replay.specs.Texts.{data_spelled, escape_spelled, text_after, text_spelled}
+use Rattle.bfs_replay.specs.Verbs.{call_in_words, named_with_settings_words, named_words, procedure_named, rename_words, set_attributes_words, symbolic_link_words, write_words}
+use Rattle.bfs_replay.specs.Words.{digits_spelled, parts}
 use Rattle.bfs_replay.specs.declared.events.Event.{Event}
 use Rattle.bfs_replay.specs.declared.events.Event.TheVariants as event
 
 -- what computes what a text says
 unfoldable pub read_on_literals : ⊤
-unfolding hex_on_literals parts number_spelled time_spelled call_spelled line_spelled is_passed_over read_lines
+unfolding hex_on_literals parts digits_spelled time_spelled procedure_named call_spelled line_spelled is_passed_over read_lines
 read_on_literals = tt
 
 abbrev pub block_at : (seconds useconds : ℕ) → List Request → Event
@@ -104,6 +110,43 @@ row-full_block = refl
 pub row-request_too_many : trace_spelled (requests_behind_batch 1025) ≡ Err 1026
 unfolding read_on_literals
 row-request_too_many = refl
+
+-- Verbs, by the bytes that the encoders of `rpcgen` and libtirpc write of their calls ----------------------------------
+
+-- what computes the call that words spell
+unfoldable pub calls_on_literals : ⊤
+unfolding read_on_literals call_in_words digits_spelled file_spelled text_spelled escape_spelled text_after data_spelled settings_in mode_in number_setting_in time_setting_in set_time_spelled named_words named_with_settings_words set_attributes_words write_words rename_words symbolic_link_words arguments settings_item call_header credential_body handle counted fixed word
+calls_on_literals = tt
+
+-- octal digits, and both kinds of time
+pub row-set_attributes : line_spelled (codes "0 3 setattr #3 644 1001 0 4294967294 now 7.250000")
+    ≡ line_spelled (codes "0 3 raw 000000030000000000000002000186a30000000200000002000000010000001c00000000000000067265706c61790000000003e8000000640000000000000000000000004246533200000001000000030000000000000000000000000000000000000000000001a4000003e900000000fffffffe00000000000f4240000000070003d090")
+unfolding calls_on_literals
+row-set_attributes = refl
+
+-- a name with bytes by their digits
+pub row-look_up : line_spelled (codes "0 4 lookup #02 a%20b%25%fF~!")
+    ≡ line_spelled (codes "0 4 raw 000000040000000000000002000186a30000000200000004000000010000001c00000000000000067265706c61790000000003e80000006400000000000000000000000042465332000000010000000200000000000000000000000000000000000000000000000761206225ff7e2100")
+unfolding calls_on_literals
+row-look_up = refl
+
+-- bytes of a file, with their padding
+pub row-write : line_spelled (codes "0 8 write #3 1048576 x00aBCdEF10")
+    ≡ line_spelled (codes "0 8 raw 000000080000000000000002000186a30000000200000008000000010000001c00000000000000067265706c61790000000003e80000006400000000000000000000000042465332000000010000000300000000000000000000000000000000000000000000000000100000000000000000000500abcdef10000000")
+unfolding calls_on_literals
+row-write = refl
+
+-- two names
+pub row-rename : line_spelled (codes "0 11 rename #2 f #4 gamma")
+    ≡ line_spelled (codes "0 11 raw 0000000b0000000000000002000186a3000000020000000b000000010000001c00000000000000067265706c61790000000003e8000000640000000000000000000000004246533200000001000000020000000000000000000000000000000000000000000000016600000042465332000000010000000400000000000000000000000000000000000000000000000567616d6d61000000")
+unfolding calls_on_literals
+row-rename = refl
+
+-- what is not set
+pub row-make_symbolic_link : line_spelled (codes "0 13 symlink #2 s d/b%20c - - - - 1.000002 -")
+    ≡ line_spelled (codes "0 13 raw 0000000d0000000000000002000186a3000000020000000d000000010000001c00000000000000067265706c61790000000003e8000000640000000000000000000000004246533200000001000000020000000000000000000000000000000000000000000000017300000000000005642f622063000000ffffffffffffffffffffffffffffffff0000000100000002ffffffffffffffff")
+unfolding calls_on_literals
+row-make_symbolic_link = refl
 
 -- Events and replies -----------------------------------------------------------------------------------------------
 

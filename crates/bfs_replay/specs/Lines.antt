@@ -4,24 +4,14 @@ use Rattle.std.specs.Result.{result_ok}
 use Rattle.hex.specs.Hex.{decode_of}
 use Rattle.bfs_model.specs.Call.{◌>>=◌}
 use Rattle.bfs_model.specs.Limits.{most_request_bytes}
-use Rattle.bfs_model.specs.Tree.{Time}
+use Rattle.bfs_replay.specs.Messages.{message}
+use Rattle.bfs_replay.specs.Operands.{time_spelled}
+use Rattle.bfs_replay.specs.Texts.{within_request}
+use Rattle.bfs_replay.specs.Verbs.{call_in_words, procedure_named}
 use Rattle.bfs_replay.specs.Words.{number_spelled, only_word, parts}
 use Rattle.bfs_replay.specs.declared.lines.TheConstants.{CLIENTS}
 use Rattle.bfs_replay.specs.declared.lines.Line.{Line}
 use Rattle.bfs_replay.specs.declared.lines.Line.TheVariants as line
-
--- `S.UUUUUU`: seconds below 2^32, and the microseconds by six digits
-abbrev pub time_in : List (List ℕ) → Option Time
-time_in [] = None
-time_in (seconds ∷ rest) = do
-  useconds ← only_word rest
-  if length useconds == 6 then (do
-    s ← number_spelled 4294967295 seconds
-    u ← number_spelled 999999 useconds
-    Some (record { seconds = s; useconds = u })) else None
-
-unfoldable pub time_spelled : List ℕ → Option Time
-time_spelled word = time_in (parts 46 word)
 
 -- `HEX`: from 1 to 16,384 bytes by two hexadecimal digits each, of both cases
 unfoldable pub call_spelled : List ℕ → Option (List ℕ)
@@ -31,10 +21,17 @@ call_spelled word = if length word == 0 || nat_lt (2 * most_request_bytes) (leng
 abbrev pub raw_call : List (List ℕ) → Option (List ℕ)
 raw_call words = only_word words >>= call_spelled
 
--- a verb, and the words that it takes
-abbrev pub call_by_verb : List (List ℕ) → Option (List ℕ)
-call_by_verb [] = None
-call_by_verb (verb ∷ words) = if bytes_eq verb (codes "raw") then raw_call words else None
+-- what stands behind another verb: the words of its call
+abbrev pub verb_call : (client timestamp : ℕ) → (verb : List ℕ) → List (List ℕ) → Option (List ℕ)
+verb_call client timestamp verb words = do
+  procedure ← procedure_named verb
+  call ← call_in_words procedure words
+  within_request (message client timestamp procedure call)
+
+-- the bytes of the call that a verb and the words behind it spell
+abbrev pub call_by_verb : (client timestamp : ℕ) → List (List ℕ) → Option (List ℕ)
+call_by_verb client timestamp [] = None
+call_by_verb client timestamp (verb ∷ words) = if bytes_eq verb (codes "raw") then raw_call words else verb_call client timestamp verb words
 
 -- what stands behind `batch`: `S.UUUUUU`
 abbrev pub batch_line : List (List ℕ) → Option Line
@@ -49,7 +46,7 @@ request_line client [] = None
 request_line client (timestamp ∷ words) = do
   c ← number_spelled (CLIENTS - 1) client
   t ← number_spelled 18446744073709551615 timestamp
-  call ← call_by_verb words
+  call ← call_by_verb c t words
   Some (line.Request (record { client = c; timestamp = t; call = call }))
 
 abbrev pub line_in : List (List ℕ) → Option Line

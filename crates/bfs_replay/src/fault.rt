@@ -1,3 +1,8 @@
+ghost use Rattle.std.specs.Prelude.{◌≡◌};
+
+use bfs_types::Memory;
+use std::alloc::AllocError;
+
 /// Why a line is not read.
 #[derive(Clone, Copy)]
 pub(crate) enum Fault {
@@ -5,4 +10,24 @@ pub(crate) enum Fault {
     Bad,
     /// Memory ran out.
     Memory,
+}
+
+impl From<AllocError> for Fault {
+    ghost use Rattle.bfs_replay.specs.declared.fault.Fault.TheVariants as fault;
+
+    ghost from_gives = { λ error given. given ≡ fault.Memory };
+
+    fn from(_error: AllocError) -> Fault {
+        Fault::Memory
+    }
+}
+
+impl From<Memory> for Fault {
+    ghost use Rattle.bfs_replay.specs.declared.fault.Fault.TheVariants as fault;
+
+    ghost from_gives = { λ error given. given ≡ fault.Memory };
+
+    fn from(_error: Memory) -> Fault {
+        Fault::Memory
+    }
 }

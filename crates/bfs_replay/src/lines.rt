@@ -1,11 +1,14 @@
-ghost use Rattle.std.specs.Prelude.{◌≡◌, ◌≤◌, length, IfOk};
+ghost use Rattle.std.specs.Prelude.{◌≡◌, ◌<◌, ◌≤◌, length, IfOk};
 ghost use Rattle.bfs_model.specs.Limits.{most_request_bytes};
-ghost use Rattle.bfs_replay.specs.Lines.{batch_line, call_by_verb, call_spelled, line_spelled, raw_call, request_line, time_spelled};
+ghost use Rattle.bfs_replay.specs.Lines.{batch_line, call_by_verb, call_spelled, line_spelled, raw_call, request_line, verb_call};
 ghost use Rattle.bfs_replay.specs.Reading.{Reads};
 
 use crate::events::Request;
 use crate::fault::Fault;
+use crate::header::put_header;
 use crate::numbers::parse_number;
+use crate::times::parse_time;
+use crate::verbs::{procedure_named, put_arguments};
 use crate::words::Words;
 use bfs_types::{MOST_REQUEST_BYTES, Time};
 use hex::FromHexError;
@@ -21,22 +24,6 @@ pub(crate) enum Line {
     Batch(Time),
     /// A request of the block before it.
     Request(Request),
-}
-
-/// Reads `S.UUUUUU`.
-#[tactic(auto, unfolding(crate::specs::Lines::time_spelled))]
-fn parse_time(word: &[u8]) -> Option<Time>
-    ensures { result ≡ time_spelled word.now }
-{
-    let mut parts = Words::new(word, b'.');
-    let seconds = parts.next_word()?;
-    let useconds = parts.last_word()?;
-    if useconds.len() != 6 {
-        return None;
-    }
-    let seconds = parse_number(u32::MAX as u64, seconds)?;
-    let useconds = parse_number(999_999, useconds)?;
-    Time::new(seconds as u32, useconds as u32)
 }
 
 /// Reads the bytes of a call from their hexadecimal digits.
@@ -64,16 +51,44 @@ fn parse_raw(alloc: Global, words: &mut Words<'_>) -> Result<Vec<u8>, Fault>
     parse_call(alloc, digits)
 }
 
-/// Reads a verb and the words behind it, which spell a call.
-fn parse_verb(alloc: Global, words: &mut Words<'_>) -> Result<Vec<u8>, Fault>
-    ensures value { Reads (λ bytes. bytes.items) result (call_by_verb words.old) }
+/// Writes the call that a verb and the words behind it spell.
+fn parse_call_of_verb(
+    alloc: Global,
+    client: u32,
+    timestamp: u64,
+    verb: &[u8],
+    words: &mut Words<'_>,
+) -> Result<Vec<u8>, Fault>
+    requires { client < CLIENTS }
+    ensures value { Reads (λ bytes. bytes.items) result (verb_call client timestamp verb.now words.old) }
     ensures within { IfOk result (λ bytes. length bytes.items ≤ most_request_bytes) }
 {
-    let verb = words.next_word().ok_or(Fault::Bad)?;
+    let procedure = procedure_named(verb).ok_or(Fault::Bad)?;
+    let mut call = Vec::new(alloc);
+    put_header(alloc, client, timestamp, procedure, &mut call)?;
+    put_arguments(alloc, procedure, words, &mut call)?;
+    if call.len() > MOST_REQUEST_BYTES {
+        return Err(Fault::Bad);
+    }
+    Ok(call)
+}
+
+/// Reads a verb and the words behind it, which spell the call of that client under that timestamp.
+fn parse_verb(
+    alloc: Global,
+    client: u32,
+    timestamp: u64,
+    words: &mut Words<'_>,
+) -> Result<Vec<u8>, Fault>
+    requires { client < CLIENTS }
+    ensures value { Reads (λ bytes. bytes.items) result (call_by_verb client timestamp words.old) }
+    ensures within { IfOk result (λ bytes. length bytes.items ≤ most_request_bytes) }
+{
+    let verb = words.word()?;
     if verb == b"raw".as_slice() {
         parse_raw(alloc, words)
     } else {
-        Err(Fault::Bad)
+        parse_call_of_verb(alloc, client, timestamp, verb, words)
     }
 }
 
@@ -90,11 +105,11 @@ fn parse_batch(words: &mut Words<'_>) -> Result<Line, Fault>
 fn parse_request(alloc: Global, client: &[u8], words: &mut Words<'_>) -> Result<Line, Fault>
     ensures { Reads (λ line. line) result (request_line client.now words.old) }
 {
-    let client = parse_number(CLIENTS - 1, client).ok_or(Fault::Bad)?;
-    let timestamp = words.next_word().ok_or(Fault::Bad)?;
+    let timestamp = words.word()?;
+    let client = parse_number(CLIENTS - 1, client).ok_or(Fault::Bad)? as u32;
     let timestamp = parse_number(u64::MAX, timestamp).ok_or(Fault::Bad)?;
-    let call = parse_verb(alloc, words)?;
-    Ok(Line::Request(Request::new(client as u32, timestamp, call)))
+    let call = parse_verb(alloc, client, timestamp, words)?;
+    Ok(Line::Request(Request::new(client, timestamp, call)))
 }
 
 /// Reads a line that is neither empty nor a comment.

@@ -1,26 +1,31 @@
 ghost use Rattle.std.specs.Prelude.{◌≡◌, ◌≤◌, IfSome};
-ghost use Rattle.bfs_replay.specs.Words.{with_digit, number_spelled};
+ghost use Rattle.bfs_replay.specs.Words.{digits_spelled, number_spelled, with_digit};
 
-/// The number with a decimal digit behind it, or `None` where the byte is no digit or the number is above `max`.
+const DECIMAL: u32 = 10;
+
+const OCTAL: u32 = 8;
+
+/// The number with a digit behind it, or `None` where the byte is no digit of the radix or the number is above `max`.
 #[tactic(auto, unfolding(crate::specs::Words::with_digit))]
-fn with_digit(max: u64, value: u64, digit: u8) -> Option<u64>
-    ensures value { result ≡ with_digit max value digit }
+fn with_digit(radix: u32, max: u64, value: u64, digit: u8) -> Option<u64>
+    requires least { 2 ≤ radix }
+    requires most { radix ≤ 10 }
+    ensures value { result ≡ with_digit radix max value digit }
     ensures bound { IfSome result (λ n. n ≤ max) }
 {
-    if !digit.is_ascii_digit() {
-        return None;
-    }
-    let longer = value.checked_mul(10)?.checked_add((digit - b'0') as u64)?;
+    let digit = char::from(digit).to_digit(radix)?;
+    let longer = value.checked_mul(radix as u64)?.checked_add(digit as u64)?;
     if longer > max {
         return None;
     }
     Some(longer)
 }
 
-/// The number that one or more decimal digits spell, or `None` where it is above `max` or the word is no number.
 #[tactic(auto, unfolding(crate::proofs::Digits::number_after), using(crate::proofs::Digits::number_by_digits, crate::proofs::Digits::number_of_nothing, std::proofs::lemmas::List::at_drop_more, std::proofs::lemmas::List::at_drop_all))]
-pub(crate) fn parse_number(max: u64, word: &[u8]) -> Option<u64>
-    ensures value { result ≡ number_spelled max word.now }
+fn parse_digits(radix: u32, max: u64, word: &[u8]) -> Option<u64>
+    requires least { 2 ≤ radix }
+    requires most { radix ≤ 10 }
+    ensures value { result ≡ digits_spelled radix max word.now }
     ensures bound { IfSome result (λ n. n ≤ max) }
 {
     if word.is_empty() {
@@ -28,7 +33,23 @@ pub(crate) fn parse_number(max: u64, word: &[u8]) -> Option<u64>
     }
     let mut value = 0;
     for digit in word {
-        value = with_digit(max, value, *digit)?;
+        value = with_digit(radix, max, value, *digit)?;
     }
     Some(value)
+}
+
+/// The number that one or more decimal digits spell, or `None` where it is above `max` or the word is no number.
+pub(crate) fn parse_number(max: u64, word: &[u8]) -> Option<u64>
+    ensures value { result ≡ number_spelled max word.now }
+    ensures bound { IfSome result (λ n. n ≤ max) }
+{
+    parse_digits(DECIMAL, max, word)
+}
+
+/// The number that one or more octal digits spell, or `None` where it is above `max` or the word is no such number.
+pub(crate) fn parse_octal(max: u64, word: &[u8]) -> Option<u64>
+    ensures value { result ≡ digits_spelled 8 max word.now }
+    ensures bound { IfSome result (λ n. n ≤ max) }
+{
+    parse_digits(OCTAL, max, word)
 }

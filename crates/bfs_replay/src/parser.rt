@@ -32,10 +32,11 @@ fn read_line(alloc: Global, text: &[u8], trace: &mut Trace) -> Result<(), Fault>
 /// Reads a trace: lines of words with one space between two words, where empty lines and lines that begin with `#` are
 /// passed over. A line ends with a newline, which the last may lack.
 ///
-/// `batch S.UUUUUU` begins a block at a time in seconds and microseconds since the beginning of 1970. `CLIENT T raw HEX` is a
-/// request of the block before it: a client below 16, its timestamp below 2^64, and the 1 to 16,384 bytes of the call. A block
-/// has at most 1,024 requests. All of the text is read before the answer, and `TraceError::BadLine` has the first line that
-/// breaks this grammar.
+/// `batch S.UUUUUU` begins a block at a time in seconds and microseconds since the beginning of 1970. `CLIENT T VERB ..` is a
+/// request of the block before it: a client below 16, its timestamp below 2^64, and a call of at most 16,384 bytes. `raw HEX` is
+/// the whole call; each other verb is a procedure of RFC 1094 section 2.2, and the words behind it spell its arguments, as
+/// `getattr #2` or `read #2 0 64`. A block has at most 1,024 requests. All of the text is read before the answer, and
+/// `TraceError::BadLine` has the first line that breaks this grammar.
 #[tactic(auto, unfolding(crate::specs::Trace::read_lines))]
 pub fn parse_trace(alloc: Global, text: &[u8]) -> Result<Trace, TraceError>
     ensures { ReadsTrace result (trace_spelled text.now) }

@@ -1,6 +1,8 @@
 ghost use Rattle.std.specs.Prelude.{◌≡◌, ◌∷◌, ◌<◌, ◌↔◌, [], length, IsTrue, IfSome, IfNone, option_map};
-ghost use Rattle.bfs_replay.specs.Words.{only_word, parts, parts_left};
+ghost use Rattle.bfs_replay.specs.Reading.{Reads};
+ghost use Rattle.bfs_replay.specs.Words.{only_word, parts, parts_left, unless_more, word_in};
 
+use crate::fault::Fault;
 use std::marker::Model;
 
 /// The first part of a text between the bytes `at`, and what is behind the byte that ends the part, if one does.
@@ -54,6 +56,13 @@ impl<'a> Words<'a> {
         Some(word)
     }
 
+    /// Reads a word.
+    pub(crate) fn word(&mut self) -> Result<&'a [u8], Fault>
+        ensures { Reads (λ word. (word.now, self.new)) result (word_in self.old) }
+    {
+        self.next_word().ok_or(Fault::Bad)
+    }
+
     /// Whether all words are read.
     #[tactic(auto, using(crate::proofs::Cuts::parts_of_some_text))]
     pub(crate) fn is_at_end(&self) -> bool
@@ -72,5 +81,16 @@ impl<'a> Words<'a> {
             return None;
         }
         Some(word)
+    }
+
+    /// A fault where a word is left.
+    pub(crate) fn end(&self) -> Result<(), Fault>
+        ensures { Reads (λ end. end) result (unless_more self.now tt) }
+    {
+        if self.is_at_end() {
+            Ok(())
+        } else {
+            Err(Fault::Bad)
+        }
     }
 }
