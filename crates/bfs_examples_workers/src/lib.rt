@@ -1,0 +1,9 @@
+//! Jobs by several workers, as tests: that they overlap, and that each has its result once.
+#![tactic(auto)]
+
+#[cfg(test)]
+mod jobs;
+#[cfg(test)]
+mod overlap;
+#[cfg(test)]
+mod results;

@@ -1,0 +1,119 @@
+//! That jobs overlap: each test has a gate that holds a job back until another has come so far. It holds none back longer than
+//! 10,000,000 turns.
+ghost use Rattle.std.specs.Prelude.{⊤};
+
+use crate::jobs::{calls, each_once, jobs_of};
+use bfs_handover::{Done, Job, run_job};
+use bfs_testing::holds;
+use bfs_tree::Tree;
+use bfs_types::Memory;
+use bfs_workers::{Gate, Workers, run_split};
+use std::alloc::Global;
+use std::sync::atomic::{AtomicU64, Ordering};
+use std::test::Fail;
+use std::thread;
+
+// how many have come, and whether one waited in vain
+#[derive(Drop)]
+struct Meeting {
+    awaited: u64,
+    come: AtomicU64,
+    missed: AtomicU64,
+}
+
+impl Meeting {
+    fn of(awaited: u64) -> Meeting {
+        Meeting {
+            awaited,
+            come: AtomicU64::new(0),
+            missed: AtomicU64::new(0),
+        }
+    }
+
+    fn come(&self) {
+        self.come.fetch_add(1, Ordering::SeqCst);
+    }
+
+    fn wait(&self) {
+        for _ in 0..10_000_000 {
+            if self.come.load(Ordering::SeqCst) >= self.awaited {
+                return;
+            }
+            thread::yield_now();
+        }
+        self.missed.store(1, Ordering::SeqCst);
+    }
+
+    fn took_place(&self) -> bool {
+        self.missed.load(Ordering::SeqCst) == 0
+    }
+}
+
+// holds job 0 back until job 1 has its result
+#[derive(Drop)]
+struct FirstAfterSecond {
+    second: Meeting,
+}
+
+impl Gate for FirstAfterSecond {
+    ghost ran = { λ _ _. ⊤ };
+
+    fn run(&self, alloc: Global, tree: &Tree, job: Job<'_>) -> Result<Done, Memory> {
+        if job.number == 0 {
+            self.second.wait();
+            return run_job(alloc, tree, job);
+        }
+        let done = run_job(alloc, tree, job)?;
+        self.second.come();
+        Ok(done)
+    }
+}
+
+// holds each job back until all have come
+#[derive(Drop)]
+struct AllAtOnce {
+    all: Meeting,
+}
+
+impl Gate for AllAtOnce {
+    ghost ran = { λ _ _. ⊤ };
+
+    fn run(&self, alloc: Global, tree: &Tree, job: Job<'_>) -> Result<Done, Memory> {
+        self.all.come();
+        self.all.wait();
+        run_job(alloc, tree, job)
+    }
+}
+
+#[test]
+fn second_of_two_jobs_ends_first(rt: HostRuntime) -> Result<(), Fail> {
+    let alloc = rt.alloc();
+    let tree = Tree::new(alloc)?;
+    let requests = calls(alloc, 2)?;
+    let jobs = jobs_of(alloc, &tree, requests.as_slice())?;
+    let workers = Workers::new(2).ok_or("workers")?;
+    let gate = FirstAfterSecond {
+        second: Meeting::of(1),
+    };
+    let dones = run_split(&rt, alloc, workers, &tree, jobs, &gate)?;
+    holds!(rt; gate.second.took_place());
+    each_once(alloc, dones.as_slice(), 2)
+}
+
+#[test]
+fn as_many_jobs_as_workers_overlap(rt: HostRuntime) -> Result<(), Fail> {
+    let alloc = rt.alloc();
+    let tree = Tree::new(alloc)?;
+    for count in [2, 3, 64] {
+        let requests = calls(alloc, count)?;
+        let jobs = jobs_of(alloc, &tree, requests.as_slice())?;
+        let workers = Workers::new(count).ok_or("workers")?;
+        let gate = AllAtOnce {
+            all: Meeting::of(count as u64),
+        };
+        let dones = run_split(&rt, alloc, workers, &tree, jobs, &gate)?;
+        holds!(rt; gate.all.took_place());
+        each_once(alloc, dones.as_slice(), count)?;
+    }
+    Ok(())
+}

@@ -1,0 +1,6 @@
+pub mod LoanLemmas
+pub mod MoveLemmas
+pub mod SplitLemmas
+pub mod NumberLemmas
+pub mod MergeLemmas
+pub mod Homecoming

@@ -1,0 +1,7 @@
+-- The key of a result is its number.
+use Rattle.std.proofs.Common.{rules}
+use Rattle.std.proofs.lemmas.List.Sorted.{IsNonDecreasingBy-from_sort_by_key}
+use Rattle.bfs_handover.proofs.results.in_order.Goals as goal
+
+pub returns-clause-sorted : goal.returns-clause-sorted
+returns-clause-sorted c = IsNonDecreasingBy-from_sort_by_key (λ done. done.number) _ c.sort_unstable_by_key.ensures.sorted (λ a r q k. search rules)

@@ -1,0 +1,10 @@
+pub mod Loans
+pub mod LoanLending
+pub mod Laws
+pub mod Places
+pub mod Jobs
+pub mod Moves
+pub mod Splitting
+pub mod Preparing
+pub mod Merging
+pub mod Homecoming

@@ -1,0 +1,13 @@
+ghost use Rattle.bfs_handover.specs.Homecoming.{ResultsAreOut, ResultsComeHome};
+
+/// Results of jobs that were split off a tree may be merged into what stayed, whatever their order: the fileids of each are lent out to
+/// it alone.
+pub fn results_are_out()
+    ensures { ResultsAreOut }
+{}
+
+/// Where requests of which none conflicts with another are split off a tree, run on what stayed, in any order, and their results are
+/// merged, the inodes and the replies are those of the requests carried out one after another, and the tree is whole.
+pub fn results_come_home()
+    ensures { ResultsComeHome }
+{}

@@ -1,0 +1,17 @@
+//! The way of inodes from a tree to the jobs that change them, and back.
+#![tactic(auto)]
+
+mod job;
+mod laws;
+mod loans;
+mod moves;
+mod parts;
+mod results;
+mod share;
+
+pub use job::{Done, Job, run_job};
+pub use laws::{results_are_out, results_come_home};
+pub use loans::{Loan, Loans};
+pub use parts::split;
+pub use results::{MergeError, Reply, merge};
+pub use share::Share;

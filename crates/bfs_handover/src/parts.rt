@@ -1,0 +1,188 @@
+ghost use Rattle.std.specs.Prelude.{◌≡◌, ◌≤◌, ◌==◌, [], All, IfOk, IsTrue, OnErr, drop, length, map, take, vec_capacity};
+ghost use Rattle.std.specs.List.{AllZip, list_any};
+ghost use Rattle.bfs_model.specs.Conflicts.{among};
+ghost use Rattle.bfs_model.specs.Groups.{AreDisjoint, footprints_at};
+ghost use Rattle.bfs_model.specs.Shares.{moved_for};
+ghost use Rattle.bfs_footprint.specs.Seen.{footprint_seen};
+ghost use Rattle.bfs_tree.specs.Tree.{at_home, lent, reach_of};
+ghost use Rattle.bfs_handover.specs.Moves.{reserved_all};
+ghost use Rattle.bfs_handover.specs.Splitting.{CanBeSplit, IsSplit, footprints_for, part_of};
+ghost use Rattle.bfs_handover.specs.Preparing.{AreOnce, AreReady, IsPrepared, IsWithin, all_ids, all_out, jobs_of, part_seen};
+
+use crate::job::Job;
+use crate::loans::Loan;
+use crate::moves::{reserve, take};
+use bfs_footprint::Footprint;
+use bfs_serial::Batch;
+use bfs_tree::Tree;
+use bfs_types::{FileId, Memory, Ordinal, Time};
+use std::alloc::Global;
+
+/// Takes out of the tree what the requests of these numbers write, and makes a job of each. The footprints are those of the batch's
+/// requests from the place `first` on, as the inodes of the tree are; the request there has that ordinal. None of the requests
+/// conflicts with another. `Memory` if memory runs out; the tree is then whole, and its inodes are those before.
+pub fn split<'a>(
+    alloc: Global,
+    tree: &mut Tree,
+    batch: &'a Batch,
+    ordinal: Ordinal,
+    time: Time,
+    first: usize,
+    footprints: &[Footprint],
+    numbers: &[u32],
+) -> Result<Vec<Job<'a>>, Memory>
+    requires whole { IsTrue ((reach_of tree.old).whole) }
+    requires footprints { map footprint_seen footprints.now ≡ footprints_at (at_home tree.old) ordinal time (take (length footprints.now) (drop first batch.now.requests)) }
+    requires numbers { All (CanBeSplit (at_home tree.old) (part_of first ordinal time batch.now.requests (map footprint_seen footprints.now))) numbers.now }
+    requires disjoint { AreDisjoint (footprints_for (part_of first ordinal time batch.now.requests (map footprint_seen footprints.now)) numbers.now) }
+    ensures split { IfOk result (λ jobs. IsSplit tree.old tree.new (part_of first ordinal time batch.now.requests (map footprint_seen footprints.now)) numbers.now jobs.items) }
+    ensures whole { OnErr result (IsTrue ((reach_of tree.new).whole)) }
+    ensures home { OnErr result (at_home tree.new ≡ at_home tree.old) }
+{
+    // no ordinal is above the spent one, so that the first request has just that one
+    prove!(ordinal.number() <= u32::MAX as u64 + 1);
+    let part = Part {
+        batch,
+        ordinal,
+        time,
+        first,
+        footprints,
+    };
+    let room = Vec::with_capacity(alloc, numbers.len())?;
+    let prepared = prepare_all(alloc, tree, &part, numbers)?;
+    Ok(take_all(tree, prepared, room))
+}
+
+// Requests of a batch from a place on, of which the first has that ordinal, with what they touch.
+#[derive(Clone, Copy, Debug)]
+struct Part<'a, 'b> {
+    batch: &'a Batch,
+    ordinal: Ordinal,
+    time: Time,
+    first: usize,
+    footprints: &'b [Footprint],
+}
+
+// A job for which all memory is found: its inodes are yet to be taken.
+#[derive(Debug, Drop)]
+struct Prepared<'a> {
+    number: u32,
+    request: &'a [u8],
+    ordinal: Ordinal,
+    time: Time,
+    ids: Vec<FileId>,
+    // for their inodes
+    room: Vec<Loan>,
+}
+
+// Finds the memory of all jobs. No inode moves.
+fn prepare_all<'a>(
+    alloc: Global,
+    tree: &mut Tree,
+    part: &Part<'a, '_>,
+    numbers: &[u32],
+) -> Result<Vec<Prepared<'a>>, Memory>
+    requires { All (IsWithin (length part.now.batch.now.requests) (part_seen part.now)) numbers.now }
+    ensures prepared { IfOk result (λ prepared. AllZip (IsPrepared (part_seen part.now)) numbers.now prepared.items) }
+    ensures places { IfOk result (λ prepared. tree.new ≡ reserved_all (all_ids prepared.items) tree.old) }
+    ensures home { at_home tree.new ≡ at_home tree.old }
+    ensures lent { lent tree.new ≡ lent tree.old }
+{
+    let mut prepared = Vec::new(alloc);
+    for number in numbers {
+        prepared.push(prepare(alloc, tree, part, *number)?)?;
+    }
+    Ok(prepared)
+}
+
+// Finds the memory of the job of that number, and a place in the tree for each fileid that its request writes.
+fn prepare<'a>(
+    alloc: Global,
+    tree: &mut Tree,
+    part: &Part<'a, '_>,
+    number: u32,
+) -> Result<Prepared<'a>, Memory>
+    requires { IsWithin (length part.now.batch.now.requests) (part_seen part.now) number }
+    ensures prepared { IfOk result (λ one. IsPrepared (part_seen part.now) number one) }
+    ensures places { IfOk result (λ one. tree.new ≡ reserved_all one.ids.items tree.old) }
+    ensures home { at_home tree.new ≡ at_home tree.old }
+    ensures lent { lent tree.new ≡ lent tree.old }
+{
+    let place = number as usize - part.first;
+    let ids = written(alloc, &part.footprints[place])?;
+    let room = Vec::with_capacity(alloc, ids.len())?;
+    reserve(tree, ids.as_slice())?;
+    Ok(Prepared {
+        number,
+        request: part.batch.request(number as usize),
+        ordinal: part.ordinal.after(place as u64),
+        time: part.time,
+        ids,
+        room,
+    })
+}
+
+// The fileids that are written, each once.
+fn written(alloc: Global, footprint: &Footprint) -> Result<Vec<FileId>, Memory>
+    ensures { IfOk result (λ ids. AreOnce ids.items (moved_for (footprint_seen footprint.now))) }
+{
+    match footprint {
+        Footprint::Known { writes, .. } => distinct(alloc, writes.as_slice()),
+        Footprint::Whole => Ok(Vec::new(alloc)),
+    }
+}
+
+// These fileids, each once: there are four at most, so each is looked for among those before it.
+fn distinct(alloc: Global, ids: &[FileId]) -> Result<Vec<FileId>, Memory>
+    ensures { IfOk result (λ once. AreOnce once.items ids.now) }
+{
+    let mut once = Vec::new(alloc);
+    for id in ids {
+        if !is_among(once.as_slice(), *id) {
+            once.push(*id)?;
+        }
+    }
+    Ok(once)
+}
+
+fn is_among(ids: &[FileId], id: FileId) -> bool
+    ensures { result ≡ among ids.now id }
+{
+    is_any(ids, id)
+}
+
+fn is_any(ids: &[FileId], id: FileId) -> bool
+    ensures { result ≡ list_any (λ other. other == id) ids.now }
+{
+    ids.iter().any(|other| *other == id)
+}
+
+// Takes the inodes of all jobs out of the tree. It takes no memory.
+fn take_all<'a>(tree: &mut Tree, prepared: Vec<Prepared<'a>>, room: Vec<Job<'a>>) -> Vec<Job<'a>>
+    requires ready { AreReady tree.old prepared.items }
+    requires empty { room.items ≡ [] }
+    requires room { length prepared.items ≤ vec_capacity room }
+    ensures jobs { result.items ≡ jobs_of prepared.entry.items tree.old }
+    ensures out { tree.new ≡ all_out prepared.entry.items tree.old }
+{
+    let mut jobs = room;
+    for one in prepared {
+        let Prepared {
+            number,
+            request,
+            ordinal,
+            time,
+            ids,
+            room,
+        } = one;
+        let inodes = take(tree, ids.as_slice(), room);
+        jobs.push_reserved(Job {
+            number,
+            request,
+            ordinal,
+            time,
+            inodes,
+        });
+    }
+    jobs
+}

@@ -1,0 +1,21 @@
+-- The jobs in the hands of the workers.
+use Rattle.std.specs.Prelude.{ℕ, List, flat_map}
+use Rattle.std.specs.Global.{Global}
+use Rattle.std.specs.List.{All, AllZip}
+use Rattle.std.specs.declared.vec.Vec.{Vec}
+use Rattle.bfs_tree.specs.Slots.{Slots}
+use Rattle.bfs_handover.specs.Jobs.{CanRun}
+use Rattle.bfs_handover.specs.declared.job.Job.{Job}
+use Rattle.bfs_handover.specs.declared.job.Done.{Done}
+use Rattle.bfs_workers.specs.Results.{Gives}
+
+-- the jobs of all hands, hand after hand
+abbrev pub held : List (Vec Job Global) → List Job
+held hands = flat_map (λ hand. hand.items) hands
+
+pub record CanRunAll (tree : Slots) (jobs : List Job) : Type 0 where
+  pub each : All (CanRun tree) jobs
+
+-- the results are those of the jobs, in their order
+pub record GivesAll (ran : ℕ → List ℕ → Type 0) (tree : Slots) (jobs : List Job) (dones : List Done) : Type 0 where
+  pub each : AllZip (Gives ran tree) jobs dones
