@@ -67,7 +67,7 @@ answer_keeps m o t bytes good = answer_call_keeps m o t good (call_of bytes)
 ordinals : (o n : ℕ) → ordinal_after (ordinal_after o 1) n ≡ ordinal_after o (suc n)
 ordinals o n = omega arith
 
-requests_keep : (m : Inodes) (o : ℕ) (t : Time) (requests : List (List ℕ)) → IsServable m o → IsServable (inodes_after m o t requests) (ordinal_after o (length requests))
+pub requests_keep : (m : Inodes) (o : ℕ) (t : Time) (requests : List (List ℕ)) → IsServable m o → IsServable (inodes_after m o t requests) (ordinal_after o (length requests))
 requests_keep m o t [] good = let most : o ≤ spent_ordinal = good.most in subst (IsServable m) (omega arith) good
 requests_keep m o t (request ∷ requests) good =
     subst (IsServable (inodes_after (answer m o t request).0 (ordinal_after o 1) t requests)) (ordinals o (length requests))

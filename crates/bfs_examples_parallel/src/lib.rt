@@ -1,0 +1,7 @@
+//! Batches executed on threads, compared with the same batches executed one request after another.
+#![tactic(auto)]
+
+#[cfg(test)]
+mod batches;
+#[cfg(test)]
+mod requests;

@@ -1,0 +1,50 @@
+//! Requests of the tests.
+use bfs_testing::numbers::{CREATE, GETATTR, REMOVE, STATFS, WRITE};
+use bfs_testing::words::{ROOT, UNSET, call, put_parts};
+use bfs_types::Memory;
+use bfs_xdr::{put_opaque, put_words};
+use std::alloc::Global;
+
+fn put_name(bytes: &mut Vec<u8>, index: u32) -> Result<(), Memory> {
+    let letters = [b'a' + (index / 26 % 26) as u8, b'a' + (index % 26) as u8];
+    put_opaque(bytes, &letters)
+}
+
+/// CREATE of a file in the root, with a name of its own for each number below 676.
+pub(crate) fn create(alloc: Global, xid: u32, index: u32) -> Result<Vec<u8>, Memory> {
+    let mut bytes = call(alloc, xid, CREATE)?;
+    put_words(&mut bytes, ROOT)?;
+    put_name(&mut bytes, index)?;
+    put_words(&mut bytes, UNSET)?;
+    Ok(bytes)
+}
+
+/// REMOVE of that file.
+pub(crate) fn remove(alloc: Global, xid: u32, index: u32) -> Result<Vec<u8>, Memory> {
+    let mut bytes = call(alloc, xid, REMOVE)?;
+    put_words(&mut bytes, ROOT)?;
+    put_name(&mut bytes, index)?;
+    Ok(bytes)
+}
+
+/// WRITE of four bytes at the beginning of a file.
+pub(crate) fn write(alloc: Global, xid: u32, file: u32) -> Result<Vec<u8>, Memory> {
+    let mut bytes = call(alloc, xid, WRITE)?;
+    let handle = &[0x42465332, 1, file, 0, 0, 0, 0, 0];
+    put_parts(&mut bytes, &[handle, &[0, 0, 0, 4, xid]])?;
+    Ok(bytes)
+}
+
+/// GETATTR of a file.
+pub(crate) fn attributes(alloc: Global, xid: u32, file: u32) -> Result<Vec<u8>, Memory> {
+    let mut bytes = call(alloc, xid, GETATTR)?;
+    put_words(&mut bytes, &[0x42465332, 1, file, 0, 0, 0, 0, 0])?;
+    Ok(bytes)
+}
+
+/// STATFS of the root.
+pub(crate) fn status(alloc: Global, xid: u32) -> Result<Vec<u8>, Memory> {
+    let mut bytes = call(alloc, xid, STATFS)?;
+    put_words(&mut bytes, ROOT)?;
+    Ok(bytes)
+}

@@ -1,0 +1,108 @@
+-- What is left of a batch, run after run.
+use Rattle.std.proofs.Common.{◌≡◌, ℕ, zero, suc, ◌+◌, ◌-◌, ◌<◌, ◌≤◌, Bool, true, false, List, [], ◌∷◌, ◌++◌, length, take, drop, refl, ap, sym, subst, ◌∙◌, arith}
+use Rattle.std.specs.Prelude.{IsFalse, IsTrue}
+use Rattle.std.specs.List.{list_any}
+use Rattle.std.proofs.lemmas.List.{take-append-drop, length-take-le, length-drop, append_assoc}
+use Rattle.std.proofs.Math.ListN.{drop_of_length-le}
+use Rattle.bfs_model.specs.Tree.{Time, Inodes}
+use Rattle.bfs_model.specs.Serial.{ordinal_after, answer, inodes_after, replies_to}
+use Rattle.bfs_model.specs.Footprints.{Footprint}
+use Rattle.bfs_model.specs.Groups.{AreDisjoint, footprints_at}
+use Rattle.bfs_model.specs.WellFormed.{IsWellFormed}
+use Rattle.bfs_model.proofs.Kept.{servable, formed_again, requests_keep}
+use Rattle.bfs_model.proofs.Footprints.Parts.{parts_follow}
+use Rattle.bfs_levels.specs.Planning.{Touch, count_joined, parts_runs, run_length, touches_at}
+use Rattle.bfs_levels.proofs.Longest.{runs_are_longest}
+use Rattle.bfs_parallel.specs.Ran.{AllRan}
+
+nothing : {X : Type 0} (n : ℕ) → drop {A = X} n [] ≡ []
+nothing zero = refl
+nothing (suc n) = refl
+
+pub drop_more : {X : Type 0} (n k : ℕ) (xs : List X) → drop n (drop k xs) ≡ drop (k + n) xs
+drop_more n zero xs = ap (λ k. drop k xs) (let same : n ≡ 0 + n = omega arith in same)
+drop_more n (suc k) [] = nothing n ∙ sym (nothing (suc k + n))
+drop_more n (suc k) (x ∷ xs) = drop_more n k xs ∙ ap (λ i. drop i (x ∷ xs)) (let same : suc (k + n) ≡ suc k + n = omega arith in same)
+
+-- a run and what is left behind it
+parted : {X : Type 0} (n k : ℕ) (xs : List X) → drop k xs ≡ take n (drop k xs) ++ drop (k + n) xs
+parted n k xs = sym (take-append-drop n (drop k xs)) ∙ ap (λ rest. take n (drop k xs) ++ rest) (drop_more n k xs)
+
+few_left : {X : Type 0} (n k : ℕ) (xs : List X) → k + n ≤ length xs → length (take n (drop k xs)) ≡ n
+few_left n k xs within = length-take-le n (drop k xs) (let left : length (drop k xs) ≡ length xs - k = length-drop k xs in omega arith)
+
+module _ (m : Inodes) (o : ℕ) (t : Time) (requests : List (List ℕ)) (done n : ℕ) (formed : IsWellFormed (record { tree = m; next_ordinal = o; last_time = t })) (within : done + n ≤ length requests) where
+  abbrev run : List (List ℕ)
+  run = take n (drop done requests)
+
+  follow : (inodes_after m o t (run ++ drop (done + n) requests) ≡ inodes_after (inodes_after m o t run) (ordinal_after o n) t (drop (done + n) requests))
+      × (replies_to m o t (run ++ drop (done + n) requests) ≡ replies_to m o t run ++ replies_to (inodes_after m o t run) (ordinal_after o n) t (drop (done + n) requests))
+  follow = subst
+      (λ k. (inodes_after m o t (run ++ drop (done + n) requests) ≡ inodes_after (inodes_after m o t run) (ordinal_after o k) t (drop (done + n) requests))
+      × (replies_to m o t (run ++ drop (done + n) requests) ≡ replies_to m o t run ++ replies_to (inodes_after m o t run) (ordinal_after o k) t (drop (done + n) requests)))
+      (few_left n done requests within) (parts_follow m o t run (drop (done + n) requests) formed.ordinal.1)
+
+  pub inodes_left : inodes_after (inodes_after m o t (take n (drop done requests))) (ordinal_after o n) t (drop (done + n) requests) ≡ inodes_after m o t (drop done requests)
+  inodes_left = sym follow.0 ∙ ap (inodes_after m o t) (sym (parted n done requests))
+
+  pub replies_left : replies_to m o t (take n (drop done requests)) ++ replies_to (inodes_after m o t (take n (drop done requests))) (ordinal_after o n) t (drop (done + n) requests) ≡ replies_to m o t (drop done requests)
+  replies_left = sym follow.1 ∙ ap (replies_to m o t) (sym (parted n done requests))
+
+  pub formed_left : IsWellFormed (record { tree = inodes_after m o t (take n (drop done requests)); next_ordinal = ordinal_after o n; last_time = t })
+  formed_left = subst (λ k. IsWellFormed (record { tree = inodes_after m o t run; next_ordinal = ordinal_after o k; last_time = t })) (few_left n done requests within)
+      (formed_again (inodes_after m o t run) (ordinal_after o (length run)) t (requests_keep m o t run (servable (record { tree = m; next_ordinal = o; last_time = t }) formed)))
+
+-- What the gate has run ---------------------------------------------------------------------------------------------------
+
+pub all_ran_on : (ran : ℕ → List ℕ → Type 0) (number : ℕ) (first rest replies more : List (List ℕ)) → length replies ≡ length first
+    → AllRan ran number first replies → AllRan ran (number + length first) rest more → AllRan ran number (first ++ rest) (replies ++ more)
+all_ran_on ran number [] rest [] more same one two = subst (λ k. AllRan ran k rest more) (let n = number in omega arith) two
+all_ran_on ran number [] rest (reply ∷ replies) more same one two = absurd (omega arith)
+all_ran_on ran number (request ∷ first) rest [] more same one two = absurd (omega arith)
+all_ran_on ran number (request ∷ first) rest (reply ∷ replies) more same one two =
+    (one.0, all_ran_on ran (number + 1) first rest replies more (omega arith) one.1 (subst (λ k. AllRan ran k rest more) (omega arith) two))
+
+pub length-replies_to : (m : Inodes) (o : ℕ) (t : Time) (requests : List (List ℕ)) → length (replies_to m o t requests) ≡ length requests
+length-replies_to m o t [] = refl
+length-replies_to m o t (request ∷ requests) = ap suc (length-replies_to (answer m o t request).0 (ordinal_after o 1) t requests)
+
+-- what holds of the replies so far, whatever comes of the rest
+pub ran_further : (ran : ℕ → List ℕ → Type 0) (m : Inodes) (o : ℕ) (t : Time) (requests : List (List ℕ)) (done n : ℕ) (replies : List (List ℕ)) → done + n ≤ length requests
+    → AllRan ran done (take n (drop done requests)) (replies_to m o t (take n (drop done requests)))
+    → ((more : List (List ℕ)) → AllRan ran done (drop done requests) more → AllRan ran 0 requests (replies ++ more))
+    → (more : List (List ℕ)) → AllRan ran (done + n) (drop (done + n) requests) more → AllRan ran 0 requests ((replies ++ replies_to m o t (take n (drop done requests))) ++ more)
+ran_further ran m o t requests done n replies within here before more rest =
+    let run = take n (drop done requests) in
+    let now = replies_to m o t run in
+    subst (AllRan ran 0 requests) (sym (append_assoc replies now more))
+    (before (now ++ more) (subst (λ xs. AllRan ran done xs (now ++ more)) (sym (parted n done requests))
+    (all_ran_on ran done run (drop (done + n) requests) now more (length-replies_to m o t run) here (subst (λ k. AllRan ran (done + k) (drop (done + n) requests) more) (sym (few_left n done requests within)) rest))))
+
+pub ran_to_the_end : (ran : ℕ → List ℕ → Type 0) (requests replies : List (List ℕ)) (done : ℕ) → length requests ≤ done
+    → ((more : List (List ℕ)) → AllRan ran done (drop done requests) more → AllRan ran 0 requests (replies ++ more)) → AllRan ran 0 requests (replies ++ [])
+ran_to_the_end ran requests replies done all before = before [] (subst (λ xs. AllRan ran done xs []) (sym (drop_of_length-le requests all)) tt)
+
+-- The longest run ------------------------------------------------------------------------------------------------------------
+
+within_touches : (earlier : List Footprint) (calls : List Touch) → count_joined parts_runs earlier calls ≤ length calls
+within_touches earlier [] = omega arith
+within_touches earlier (call ∷ calls) = by_test (list_any (λ other. parts_runs other call) earlier) (within_touches (earlier ++ call.footprint ∷ []) calls)
+  where
+    by_test : (b : Bool) → count_joined parts_runs (earlier ++ call.footprint ∷ []) calls ≤ length calls
+        → Rattle.std.specs.Prelude.if◌then◌else◌ b 0 (count_joined parts_runs (earlier ++ call.footprint ∷ []) calls + 1) ≤ suc (length calls)
+    by_test true few = omega arith
+    by_test false few = omega arith
+
+length-touches_at : (m : Inodes) (o : ℕ) (t : Time) (requests : List (List ℕ)) → length (touches_at m o t requests) ≡ length requests
+length-touches_at m o t [] = refl
+length-touches_at m o t (request ∷ requests) = ap suc (length-touches_at m (ordinal_after o 1) t requests)
+
+pub run_within : (m : Inodes) (o : ℕ) (t : Time) (requests : List (List ℕ)) → run_length m o t requests ≤ length requests
+run_within m o t requests = let few = within_touches [] (touches_at m o t requests) in let all = length-touches_at m o t requests in omega (arith, few, all)
+
+pub run_of_some : (m : Inodes) (o : ℕ) (t : Time) (requests : List (List ℕ)) → 0 < length requests → 0 < run_length m o t requests
+run_of_some m o t [] some = absurd (omega arith)
+run_of_some m o t (request ∷ requests) some = omega arith
+
+pub run_is_disjoint : (m : Inodes) (o : ℕ) (t : Time) (requests : List (List ℕ)) → AreDisjoint (footprints_at m o t (take (run_length m o t requests) requests))
+run_is_disjoint m o t requests = (runs_are_longest m o t requests (run_length m o t requests) (run_within m o t requests)).1 (omega arith)

@@ -1,0 +1,21 @@
+-- What is put back after the batch is live still, and each request has its reply.
+use Rattle.std.proofs.Common.{subst}
+use Rattle.bfs_model.specs.Serial.{execute}
+use Rattle.bfs_model.specs.Stored.{IsTime}
+use Rattle.bfs_model.proofs.Counts.{replies_counted}
+use Rattle.bfs_model.proofs.Kept.{execute_keeps}
+use Rattle.bfs_model.proofs.Live.{batches_keep_live}
+use Rattle.bfs_serial.specs.Held.{held}
+use Rattle.bfs_parallel.proofs.executor.execute_parallel.Goals as goal
+
+pub put_parts-requires-clause-live : goal.put_parts-requires-clause-live
+unfolding execute
+put_parts-requires-clause-live g c =
+    rw (c.in-Ok.ensures.inodes, c.after-next_ordinal.ensures, c.effective_after-time.ensures, c.requests.ensures.value, c.time-proposed.ensures)
+    (batches_keep_live execute_keeps (held c.in-Some.tree c.in-Some.next_ordinal c.in-Some.last_time) c.args.batch.now (subst IsTime c.time-proposed.ensures c.is_in_range.ensures) c.requests.ensures.bytes c.in-Some.ensures.live)
+
+pub returns-in-Ok-clause-count : goal.returns-in-Ok-clause-count
+unfolding execute
+returns-in-Ok-clause-count g c =
+    rw (c.in-Ok.ensures.replies, c.effective_after-time.ensures, c.time-proposed.ensures)
+    (replies_counted (held c.in-Some.tree c.in-Some.next_ordinal c.in-Some.last_time) c.args.batch.now)

@@ -1,0 +1,10 @@
+//! Batches executed on threads, with the outcome of executing their requests one after another.
+#![tactic(auto)]
+
+mod engine;
+mod executor;
+mod rounds;
+mod steps;
+
+pub use engine::Engine;
+pub use executor::execute_parallel;
