@@ -23,15 +23,14 @@ pub trait Store {
     fn is_whole(&self) -> bool
         ensures { result ≡ (reach self.now).whole };
 
-    /// How many inodes there are, in a store that is whole.
+    /// How many inodes there are, in a store that is whole. In another one the number is unspecified.
     fn count(&self) -> usize
-        requires { IsTrue ((reach self.now).whole) }
-        ensures { result ≡ len (inodes self.now) };
+        ensures { IsTrue ((reach self.now).whole) → result ≡ len (inodes self.now) };
 
-    /// How many blocks, of `BLOCK_SIZE` bytes each, all inodes take, in a store that is whole.
+    /// How many blocks, of `BLOCK_SIZE` bytes each, all inodes take, in a store that is whole. In another one the number is
+    /// unspecified.
     fn used_blocks(&self) -> u64
-        requires { IsTrue ((reach self.now).whole) }
-        ensures { result ≡ used_blocks (inodes self.now) };
+        ensures { IsTrue ((reach self.now).whole) → result ≡ used_blocks (inodes self.now) };
 
     /// Whether it knows the fileid, that is, which inode has it or that none does.
     fn knows(&self, id: FileId) -> bool
