@@ -92,7 +92,7 @@ def rename(trace):
     trace.blocks((11, place(i, round) + place(i, round + 1)) for round in range(5) for i in range(10_000))
 
 
-# Workloads of planning: the last block is a batch to be planned, and the blocks before it make what it touches.
+# Workloads of one batch: the last block is what is planned or executed, and the blocks before it make what it touches.
 
 
 def make_files(trace, count):
@@ -120,6 +120,11 @@ def one_file(trace):
     write_in_turn(trace, 1, 8)
 
 
+def large_one_file(trace):
+    """1,024 WRITEs of 8,192 bytes to one file."""
+    write_in_turn(trace, 1, 8_192)
+
+
 def short_chains(trace):
     """1,024 WRITEs of 8 bytes to 205 files in turn, so five to each."""
     write_in_turn(trace, 205, 8)
@@ -128,6 +133,23 @@ def short_chains(trace):
 def long_chains(trace):
     """1,024 WRITEs of 8 bytes to five files in turn, so 205 to each."""
     write_in_turn(trace, 5, 8)
+
+
+def large_chains(trace):
+    """1,024 WRITEs of 8,192 bytes to five files in turn, so 205 to each."""
+    write_in_turn(trace, 5, 8_192)
+
+
+def pairs(trace):
+    """1,024 WRITEs of 8 bytes to two files: 512 runs of two."""
+    make_files(trace, 2)
+    trace.block((8, handle(FIRST + (i + 1) // 2 % 2) + words(0, 0, 0) + opaque(bytes(8))) for i in range(BATCH))
+
+
+def getattrs(trace):
+    """1,024 GETATTRs of 1,024 files."""
+    make_files(trace, BATCH)
+    trace.block((1, handle(FIRST + i)) for i in range(BATCH))
 
 
 def creates(trace):
@@ -142,16 +164,20 @@ def look_ups(trace):
 
 
 TO_RUN = {"getattr": getattr, "write": write, "read": read, "create": create, "rename": rename}
-TO_PLAN = {
+OF_ONE_BATCH = {
     "small_writes": small_writes,
     "large_writes": large_writes,
     "one_file": one_file,
+    "large_one_file": large_one_file,
     "short_chains": short_chains,
     "long_chains": long_chains,
+    "large_chains": large_chains,
+    "pairs": pairs,
+    "getattrs": getattrs,
     "creates": creates,
     "look_ups": look_ups,
 }
-WORKLOADS = TO_RUN | TO_PLAN
+WORKLOADS = TO_RUN | OF_ONE_BATCH
 
 if __name__ == "__main__":
     if sys.argv[1:] == ["--list"]:

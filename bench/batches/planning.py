@@ -13,7 +13,7 @@ name, program, trace = sys.argv[1:]
 
 
 def processor_time(work, times):
-    process = subprocess.Popen([program, work, str(times), trace], stdout=subprocess.DEVNULL)
+    process = subprocess.Popen([program, work, "1", str(times), trace], stdout=subprocess.DEVNULL)
     _, status, usage = os.wait4(process.pid, 0)
     if status != 0:
         sys.exit(f"{name}: {program} {work} ended with status {status}")
@@ -21,13 +21,13 @@ def processor_time(work, times):
 
 
 times = 64
-while processor_time("execute", times) - processor_time("nothing", times) < SECONDS:
+while processor_time("serial", times) - processor_time("nothing", times) < SECONDS:
     times *= 2
 least = {}
 for _ in range(5):
-    for work in ("nothing", "execute", "groups", "runs"):
+    for work in ("nothing", "serial", "groups", "runs"):
         least[work] = min(least.get(work, float("inf")), processor_time(work, times))
-executed, groups, runs = ((least[work] - least["nothing"]) / times for work in ("execute", "groups", "runs"))
+executed, groups, runs = ((least[work] - least["nothing"]) / times for work in ("serial", "groups", "runs"))
 print(
     f"{name}: executed {executed * 1e6:,.0f} us, groups {groups * 1e6:,.0f} us ({groups / executed:.2f}), "
     f"runs {runs * 1e6:,.0f} us ({runs / executed:.2f})"
