@@ -1,15 +1,15 @@
-ghost use Rattle.std.specs.Prelude.{◌≡◌, ◌≤◌, ◌+◌, [], ◌++◌, length, IfOk};
+ghost use Rattle.std.specs.Prelude.{◌≡◌, ◌≤◌, ◌+◌, [], ◌++◌, length};
 ghost use Rattle.bfs_model.specs.Conflicts.{among};
 ghost use Rattle.bfs_model.specs.Footprints.{ids_in};
 
-use bfs_types::{FileId, Memory};
-use std::alloc::Global;
+use arrayvec::ArrayVec;
+use bfs_types::FileId;
 use std::marker::Model;
 
 /// The fileids that a call names: at most four, in the order in which it names them, and one that it names twice stands twice.
 #[derive(Debug, Drop)]
 pub struct FileIds {
-    ids: Vec<FileId>,
+    ids: ArrayVec<FileId, 4>,
 }
 
 impl Model for FileIds {
@@ -24,24 +24,24 @@ impl Model for FileIds {
 
 impl FileIds {
     /// No fileids.
-    pub fn none(alloc: Global) -> FileIds
+    pub fn none() -> FileIds
         ensures { result ≡ [] }
     {
         FileIds {
-            ids: Vec::new(alloc),
+            ids: ArrayVec::new(),
         }
     }
 
     // these, and behind them the one that a handle leads to
-    pub(crate) fn with(mut self, handle: Option<FileId>) -> Result<FileIds, Memory>
+    pub(crate) fn with(mut self, handle: Option<FileId>) -> FileIds
         requires { length self ≤ 3 }
-        ensures value { IfOk result (λ ids. ids ≡ self ++ ids_in handle) }
-        ensures few { IfOk result (λ ids. length ids ≤ length self + 1) }
+        ensures value { result ≡ self ++ ids_in handle }
+        ensures few { length result ≤ length self + 1 }
     {
         if let Some(id) = handle {
-            self.ids.push(id)?;
+            self.ids.push(id);
         }
-        Ok(self)
+        self
     }
 
     /// The fileids, in order.

@@ -7,7 +7,7 @@ use Rattle.std.specs.FinMap.{get, contains_key, same_map, nat_cmp-IsAntisymmetri
 use Rattle.std.proofs.lemmas.Bool.{or_right, cond-false, false_from_ne_true}
 use Rattle.std.proofs.lemmas.Cmp.{nat_cmp_total}
 use Rattle.std.proofs.lemmas.List.Elements.{All-head, All-tail}
-use Rattle.std.proofs.lemmas.List.Sorted.{All-permutation}
+use Rattle.std.proofs.lemmas.List.Sorted.{All-permutation, IsPermutation-refl}
 use Rattle.bfs_model.specs.Tree.{Inode}
 use Rattle.bfs_model.specs.Conflicts.{among, set_at}
 use Rattle.bfs_model.proofs.WellFormed.Sums.{get-set_at}
@@ -147,6 +147,20 @@ module _ (ks : List ℕ) (dones order : List Done) (up : IsStrictlyIncreasing ks
     still_out = λ id. ap (λ slots. get (lent slots) id) moved ∙ get-lent_all order s id;
     replies_are = given;
   }
+
+-- one result
+pub one_is_lent : (done : Done) (s : Slots) → AreOut s (done ∷ []) → AreLent s done.inodes
+one_is_lent done s out = (are_all_lent (done ∷ []) s out.0 (refl, tt) out.1).0
+
+pub one_is_merged : (done : Done) (s t : Slots) → AreOut s (done ∷ []) → t ≡ brought_home done.inodes s → IsMerged s t (done.number ∷ []) (done ∷ []) (reply_in done ∷ [])
+one_is_merged done s t out moved = record {
+  order = done ∷ [];
+  each = IsPermutation-refl (done ∷ []);
+  numbers_are = refl;
+  home = ap at_home moved ∙ home_of_all (done ∷ []) s out.0 s out.1;
+  still_out = λ id. ap (λ slots. get (lent slots) id) moved ∙ get-lent_all (done ∷ []) s id;
+  replies_are = refl;
+}
 
 -- memory runs out only where nothing is refused
 pub out_of_memory : {A : Type 0} (r : Result A MergeError) (refused : Option MergeError) → IsErrAnd r (λ e. e ≡ Memory) → refused ≡ None → IfErr r (λ e. (refused ≡ Some e) ⊎ ((e ≡ Memory) × (refused ≡ None)))

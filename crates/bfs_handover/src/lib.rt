@@ -12,6 +12,6 @@ mod share;
 pub use job::{Done, Job, run_job};
 pub use laws::{results_are_out, results_come_home};
 pub use loans::{Loan, Loans};
-pub use parts::split;
-pub use results::{MergeError, Reply, merge};
+pub use parts::{split, split_one};
+pub use results::{MergeError, Reply, merge, merge_one};
 pub use share::Share;

@@ -1,13 +1,13 @@
-ghost use Rattle.std.specs.Prelude.{◌≡◌, ◌≤◌, ◌==◌, [], All, IfOk, IsTrue, OnErr, drop, length, map, take, vec_capacity};
+ghost use Rattle.std.specs.Prelude.{◌≡◌, ◌≤◌, ◌==◌, [], ◌∷◌, All, IfOk, IsTrue, OnErr, drop, length, map, take, vec_capacity};
 ghost use Rattle.std.specs.List.{AllZip, list_any};
 ghost use Rattle.bfs_model.specs.Conflicts.{among};
 ghost use Rattle.bfs_model.specs.Groups.{AreDisjoint, footprints_at};
 ghost use Rattle.bfs_model.specs.Shares.{moved_for};
 ghost use Rattle.bfs_footprint.specs.Seen.{footprint_seen};
 ghost use Rattle.bfs_tree.specs.Tree.{at_home, lent, reach_of};
-ghost use Rattle.bfs_handover.specs.Moves.{reserved_all};
+ghost use Rattle.bfs_handover.specs.Moves.{AreAtHome, lent_out, reserved_all};
 ghost use Rattle.bfs_handover.specs.Splitting.{CanBeSplit, IsSplit, footprints_for, part_of};
-ghost use Rattle.bfs_handover.specs.Preparing.{AreOnce, AreReady, IsPrepared, IsWithin, all_ids, all_out, jobs_of, part_seen};
+ghost use Rattle.bfs_handover.specs.Preparing.{AreOnce, AreReady, IsPrepared, IsWithin, all_ids, all_out, job_of, jobs_of, part_seen};
 
 use crate::job::Job;
 use crate::loans::Loan;
@@ -51,6 +51,37 @@ pub fn split<'a>(
     let room = Vec::with_capacity(alloc, numbers.len())?;
     let prepared = prepare_all(alloc, tree, &part, numbers)?;
     Ok(take_all(tree, prepared, room))
+}
+
+/// Takes out of the tree what the request of that number writes, and makes a job of it: what `split` does for this number alone, with
+/// less memory.
+pub fn split_one<'a>(
+    alloc: Global,
+    tree: &mut Tree,
+    batch: &'a Batch,
+    ordinal: Ordinal,
+    time: Time,
+    first: usize,
+    footprints: &[Footprint],
+    number: u32,
+) -> Result<Job<'a>, Memory>
+    requires whole { IsTrue ((reach_of tree.old).whole) }
+    requires footprints { map footprint_seen footprints.now ≡ footprints_at (at_home tree.old) ordinal time (take (length footprints.now) (drop first batch.now.requests)) }
+    requires number { CanBeSplit (at_home tree.old) (part_of first ordinal time batch.now.requests (map footprint_seen footprints.now)) number }
+    ensures split { IfOk result (λ job. IsSplit tree.old tree.new (part_of first ordinal time batch.now.requests (map footprint_seen footprints.now)) (number ∷ []) (job ∷ [])) }
+    ensures whole { OnErr result (IsTrue ((reach_of tree.new).whole)) }
+    ensures home { OnErr result (at_home tree.new ≡ at_home tree.old) }
+{
+    prove!(ordinal.number() <= u32::MAX as u64 + 1);
+    let part = Part {
+        batch,
+        ordinal,
+        time,
+        first,
+        footprints,
+    };
+    let one = prepare(alloc, tree, &part, number)?;
+    Ok(take_one(tree, one))
 }
 
 // Requests of a batch from a place on, of which the first has that ordinal, with what they touch.
@@ -167,22 +198,33 @@ fn take_all<'a>(tree: &mut Tree, prepared: Vec<Prepared<'a>>, room: Vec<Job<'a>>
 {
     let mut jobs = room;
     for one in prepared {
-        let Prepared {
-            number,
-            request,
-            ordinal,
-            time,
-            ids,
-            room,
-        } = one;
-        let inodes = take(tree, ids.as_slice(), room);
-        jobs.push_reserved(Job {
-            number,
-            request,
-            ordinal,
-            time,
-            inodes,
-        });
+        jobs.push_reserved(take_one(tree, one));
     }
     jobs
+}
+
+// Takes the inodes of a job out of the tree. It takes no memory.
+fn take_one<'a>(tree: &mut Tree, one: Prepared<'a>) -> Job<'a>
+    requires home { AreAtHome tree.old one.entry.ids.items }
+    requires empty { one.entry.room.items ≡ [] }
+    requires room { length one.entry.ids.items ≤ vec_capacity one.entry.room }
+    ensures job { result ≡ job_of one.entry tree.old }
+    ensures out { tree.new ≡ lent_out one.entry.ids.items tree.old }
+{
+    let Prepared {
+        number,
+        request,
+        ordinal,
+        time,
+        ids,
+        room,
+    } = one;
+    let inodes = take(tree, ids.as_slice(), room);
+    Job {
+        number,
+        request,
+        ordinal,
+        time,
+        inodes,
+    }
 }

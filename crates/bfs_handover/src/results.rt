@@ -1,4 +1,4 @@
-ghost use Rattle.std.specs.Prelude.{◌≡◌, ◌≤◌, ◌⊎◌, ◌↔◌, [], IfErr, IfOk, IsTrue, None, OnErr, OnOk, Some, length, map, not, vec_capacity};
+ghost use Rattle.std.specs.Prelude.{◌≡◌, ◌≤◌, ◌⊎◌, ◌↔◌, [], ◌∷◌, IfErr, IfOk, IsTrue, None, OnErr, OnOk, Some, length, map, not, vec_capacity};
 ghost use Rattle.std.specs.List.{list_any};
 ghost use Rattle.std.specs.List.Sorted.{IsNonDecreasingBy, IsPermutation, IsStrictlyIncreasing};
 ghost use Rattle.bfs_model.specs.Conflicts.{among};
@@ -69,6 +69,23 @@ pub fn merge(
     }
     let room = Vec::with_capacity(alloc, order.len())?;
     Ok(bring_all(tree, order, room))
+}
+
+/// Brings the inodes of one result home, and gives its reply: what `merge` does where one number was split, without memory.
+pub fn merge_one(tree: &mut Tree, done: Done) -> Reply
+    requires { AreOut tree.old (done ∷ []) }
+    ensures { IsMerged tree.old tree.new (done.number ∷ []) (done ∷ []) (result ∷ []) }
+{
+    let Done {
+        number,
+        reply,
+        inodes,
+    } = done;
+    bring(tree, inodes);
+    Reply {
+        number,
+        bytes: reply,
+    }
 }
 
 // The results in the order of their numbers.

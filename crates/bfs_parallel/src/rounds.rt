@@ -6,12 +6,22 @@ const ROUNDS: u32 = 8;
 // how many requests a run has that always gets threads
 const LONG: usize = 64;
 
-/// How many times threads may still be started in a batch for runs that are short. A start of threads costs more than a short run, and
-/// so a batch of many short runs would be slower by threads than without.
+// how many runs of a batch may turn out not to get threads before they are looked for less often
+const TRIES: u32 = 64;
+
+// how many requests are then executed one after another before a run is looked for again
+const PAUSE: usize = 64;
+
+/// Which requests of a batch are executed run after run on threads, and which one after another on the calling thread. Planning a run
+/// and starting threads cost more than a short run takes, and so a batch of many short runs would be slower by them than without.
 #[derive(Clone, Copy, Debug)]
 pub(crate) struct Rounds {
     workers: Workers,
+    // of threads, for runs that are short
     left: u32,
+    tries: u32,
+    // requests to be executed one after another before a run is looked for again
+    pause: usize,
 }
 
 impl Rounds {
@@ -19,18 +29,38 @@ impl Rounds {
         Rounds {
             workers,
             left: ROUNDS,
+            tries: TRIES,
+            pause: 0,
         }
     }
 
-    /// The workers of a run of so many requests: all of them, or the calling thread alone.
-    pub(crate) fn workers_for(&mut self, len: usize) -> Workers {
+    /// Whether the next requests may be a run that gets threads.
+    pub(crate) fn looks_for_a_run(&mut self) -> bool {
+        if self.workers.count() == 1 {
+            return false;
+        }
+        if self.pause > 0 {
+            self.pause -= 1;
+            return false;
+        }
+        true
+    }
+
+    /// Whether the run of so many requests that was found gets threads. Where it does not, its requests are executed one after another.
+    pub(crate) fn starts_threads(&mut self, len: usize) -> bool {
         if len >= LONG {
-            return self.workers;
+            return true;
         }
-        if len < 2 || self.left == 0 {
-            return Workers::one();
+        if len >= 2 && self.left > 0 {
+            self.left -= 1;
+            return true;
         }
-        self.left -= 1;
-        self.workers
+        self.pause = len.saturating_sub(1);
+        if self.tries > 0 {
+            self.tries -= 1;
+        } else {
+            self.pause = self.pause.max(PAUSE);
+        }
+        false
     }
 }
