@@ -128,7 +128,7 @@ among-append (x ∷ xs) ys q = ap (λ b. eqb x q || b) (among-append xs ys q) �
     assoc false b c = refl
 
 module _ (old new : Slots) (part : Part) where
-  job_numbers : (numbers : List ℕ) (jobs : List Job) → AllZip (IsJobOf old new part) numbers jobs → map (λ (job : Job). job.number) jobs ≡ numbers
+  pub job_numbers : (numbers : List ℕ) (jobs : List Job) → AllZip (IsJobOf old new part) numbers jobs → map (λ (job : Job). job.number) jobs ≡ numbers
   job_numbers [] [] all = refl
   job_numbers [] (job ∷ jobs) all = absurd all
   job_numbers (number ∷ numbers) [] all = absurd all
