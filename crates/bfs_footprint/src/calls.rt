@@ -1,4 +1,4 @@
-ghost use Rattle.std.specs.Prelude.{◌≡◌, IsTrue};
+ghost use Rattle.std.specs.Prelude.{◌≡◌, IfOk, IsTrue};
 ghost use Rattle.std.specs.Option.{option_copied};
 ghost use Rattle.std.specs.FinMap.{get};
 ghost use Rattle.bfs_model.specs.Arguments.{rename};
@@ -12,67 +12,74 @@ use crate::file_ids::FileIds;
 use crate::footprints::Footprint;
 use bfs_inode::Directory;
 use bfs_tree::{Store, Tree, is_directory};
-use bfs_types::{Context, FileId};
+use bfs_types::{Context, FileId, Memory};
 use bfs_wire::NfsCall;
+use std::alloc::Global;
 
-/// What a call reads and writes, found on the inodes before it. The tree is whole.
-pub fn footprint(tree: &Tree, context: &Context, call: &NfsCall) -> Footprint
+/// What a call reads and writes, found on the inodes before it. The tree is whole. `Memory` if memory runs out.
+pub fn footprint(
+    alloc: Global,
+    tree: &Tree,
+    context: &Context,
+    call: &NfsCall,
+) -> Result<Footprint, Memory>
     requires whole { IsTrue ((reach_of tree.now).whole) }
-    ensures { footprint_seen result ≡ model.footprint (at_home tree.now) context.now (call_seen call.now) }
+    ensures { IfOk result (λ footprint. footprint_seen footprint ≡ model.footprint (at_home tree.now) context.now (call_seen call.now)) }
 {
-    let none = FileIds::none();
+    let none = FileIds::none(alloc);
     match *call {
-        NfsCall::Null | NfsCall::Root | NfsCall::WriteCache => Footprint::none(),
+        NfsCall::Null | NfsCall::Root | NfsCall::WriteCache => Ok(Footprint::none(alloc)),
         NfsCall::GetAttr { file } | NfsCall::ReadLink { file } | NfsCall::Read { file, .. } => {
-            Footprint::of_reads(none.with(file))
+            Ok(Footprint::of_reads(alloc, none.with(file)?))
         }
         NfsCall::SetAttr { file, .. } | NfsCall::Write { file, .. } => {
-            Footprint::of_writes(none.with(file))
+            Ok(Footprint::of_writes(alloc, none.with(file)?))
         }
         NfsCall::LookUp { dir, name } => {
-            Footprint::of_reads(none.with(dir).with(id_found(tree, dir, name)))
+            Ok(Footprint::of_reads(alloc, none.with(dir)?.with(id_found(tree, dir, name))?))
         }
         NfsCall::Create { dir, .. }
         | NfsCall::SymbolicLink { dir, .. }
         | NfsCall::MakeDirectory { dir, .. } => {
-            Footprint::of_writes(none.with(dir).with(context.ordinal.file_id()))
+            Ok(Footprint::of_writes(alloc, none.with(dir)?.with(context.ordinal.file_id())?))
         }
         NfsCall::Remove { dir, name } | NfsCall::RemoveDirectory { dir, name } => {
-            Footprint::of_writes(none.with(dir).with(child_at(tree, dir, name)))
+            Ok(Footprint::of_writes(alloc, none.with(dir)?.with(child_at(tree, dir, name))?))
         }
         NfsCall::Rename {
             from,
             from_name,
             to,
             to_name,
-        } => of_rename(tree, context, from, from_name, to, to_name),
+        } => of_rename(alloc, tree, context, from, from_name, to, to_name),
         NfsCall::Link { file, dir, .. } => {
-            Footprint::of_writes(none.with(file).with(dir))
+            Ok(Footprint::of_writes(alloc, none.with(file)?.with(dir)?))
         }
-        NfsCall::ReadDirectory { dir, .. } => Footprint::of_reads(none.with(dir)),
-        NfsCall::FileSystemStatus { .. } => Footprint::Whole,
+        NfsCall::ReadDirectory { dir, .. } => Ok(Footprint::of_reads(alloc, none.with(dir)?)),
+        NfsCall::FileSystemStatus { .. } => Ok(Footprint::Whole),
     }
 }
 
 fn of_rename(
+    alloc: Global,
     tree: &Tree,
     context: &Context,
     from: Option<FileId>,
     from_name: &[u8],
     to: Option<FileId>,
     to_name: &[u8],
-) -> Footprint
+) -> Result<Footprint, Memory>
     requires whole { IsTrue ((reach_of tree.now).whole) }
-    ensures { footprint_seen result ≡ model.footprint (at_home tree.now) context.now (rename from from_name.now to to_name.now) }
+    ensures { IfOk result (λ footprint. footprint_seen footprint ≡ model.footprint (at_home tree.now) context.now (rename from from_name.now to to_name.now)) }
 {
     if moves_a_directory(tree, from, from_name, to) {
-        return Footprint::Whole;
+        return Ok(Footprint::Whole);
     }
     let moved = child_at(tree, from, from_name);
     let replaced = child_at(tree, to, to_name);
-    let directories = FileIds::none().with(from).with(to);
-    let writes = directories.with(moved).with(replaced);
-    Footprint::of_writes(writes)
+    let directories = FileIds::none(alloc).with(from)?.with(to)?;
+    let writes = directories.with(moved)?.with(replaced)?;
+    Ok(Footprint::of_writes(alloc, writes))
 }
 
 #[tactic(auto, using(bfs_tree::specs::Knowing::knows_all))]

@@ -1,15 +1,15 @@
-ghost use Rattle.std.specs.Prelude.{◌≡◌, ◌≤◌, ◌+◌, [], ◌++◌, length};
+ghost use Rattle.std.specs.Prelude.{◌≡◌, ◌≤◌, ◌+◌, [], ◌++◌, length, IfOk};
 ghost use Rattle.bfs_model.specs.Conflicts.{among};
 ghost use Rattle.bfs_model.specs.Footprints.{ids_in};
 
-use arrayvec::ArrayVec;
-use bfs_types::FileId;
+use bfs_types::{FileId, Memory};
+use std::alloc::Global;
 use std::marker::Model;
 
 /// The fileids that a call names: at most four, in the order in which it names them, and one that it names twice stands twice.
 #[derive(Debug, Drop)]
 pub struct FileIds {
-    ids: ArrayVec<FileId, 4>,
+    ids: Vec<FileId>,
 }
 
 impl Model for FileIds {
@@ -24,24 +24,24 @@ impl Model for FileIds {
 
 impl FileIds {
     /// No fileids.
-    pub fn none() -> FileIds
+    pub fn none(alloc: Global) -> FileIds
         ensures { result ≡ [] }
     {
         FileIds {
-            ids: ArrayVec::new(),
+            ids: Vec::new(alloc),
         }
     }
 
     // these, and behind them the one that a handle leads to
-    pub(crate) fn with(mut self, handle: Option<FileId>) -> FileIds
+    pub(crate) fn with(mut self, handle: Option<FileId>) -> Result<FileIds, Memory>
         requires { length self ≤ 3 }
-        ensures value { result ≡ self ++ ids_in handle }
-        ensures few { length result ≤ length self + 1 }
+        ensures value { IfOk result (λ ids. ids ≡ self ++ ids_in handle) }
+        ensures few { IfOk result (λ ids. length ids ≤ length self + 1) }
     {
         if let Some(id) = handle {
-            self.ids.push(id);
+            self.ids.push(id)?;
         }
-        self
+        Ok(self)
     }
 
     /// The fileids, in order.

@@ -1,4 +1,4 @@
-ghost use Rattle.std.specs.Prelude.{◌≡◌, [], ◌++◌, IsTrue};
+ghost use Rattle.std.specs.Prelude.{◌≡◌, [], ◌++◌, IfOk, IsTrue};
 ghost use Rattle.bfs_model.specs.Conflicts.{resolved_of};
 ghost use Rattle.bfs_model.specs.Footprints.{known, ids_in, footprint_of};
 ghost use Rattle.bfs_tree.specs.Tree.{at_home, reach_of};
@@ -9,8 +9,9 @@ use crate::footprints::Footprint;
 use crate::resolved::{ResolvedIn, resolved_in};
 use bfs_rpc::parse_call;
 use bfs_tree::Tree;
-use bfs_types::{Context, Ordinal, Time};
+use bfs_types::{Context, Memory, Ordinal, Time};
 use bfs_wire::parse_args;
+use std::alloc::Global;
 
 /// What a request touches, and where its call finds that out.
 #[derive(Debug, Drop)]
@@ -20,35 +21,41 @@ pub struct Touch {
 }
 
 /// What the request of these bytes touches under its ordinal, in a batch of that effective time, found on the inodes before it. A
-/// request that is refused, or whose arguments are garbage, touches nothing. The tree is whole.
-pub fn touch_of(tree: &Tree, ordinal: Ordinal, time: Time, request: &[u8]) -> Touch
+/// request that is refused, or whose arguments are garbage, touches nothing. The tree is whole. `Memory` if memory runs out.
+pub fn touch_of(
+    alloc: Global,
+    tree: &Tree,
+    ordinal: Ordinal,
+    time: Time,
+    request: &[u8],
+) -> Result<Touch, Memory>
     requires whole { IsTrue ((reach_of tree.now).whole) }
-    ensures footprint { footprint_seen result.footprint ≡ footprint_of (at_home tree.now) ordinal time request.now }
-    ensures resolved { ids_in result.resolved.first ++ ids_in result.resolved.second ≡ resolved_of request.now }
+    ensures footprint { IfOk result (λ touch. footprint_seen touch.footprint ≡ footprint_of (at_home tree.now) ordinal time request.now) }
+    ensures resolved { IfOk result (λ touch. ids_in touch.resolved.first ++ ids_in touch.resolved.second ≡ resolved_of request.now) }
 {
     let Ok(call) = parse_call(request) else {
-        return nothing();
+        return Ok(nothing(alloc));
     };
     let Ok(arguments) = parse_args(call.proc, call.args) else {
-        return nothing();
+        return Ok(nothing(alloc));
     };
     let context = Context {
         ordinal,
         time,
         caller: call.cred,
     };
-    Touch {
-        footprint: footprint(tree, &context, &arguments),
+    Ok(Touch {
+        footprint: footprint(alloc, tree, &context, &arguments)?,
         resolved: resolved_in(&arguments),
-    }
+    })
 }
 
-fn nothing() -> Touch
+fn nothing(alloc: Global) -> Touch
     ensures footprint { footprint_seen result.footprint ≡ known [] [] }
     ensures resolved { ids_in result.resolved.first ++ ids_in result.resolved.second ≡ [] }
 {
     Touch {
-        footprint: Footprint::none(),
+        footprint: Footprint::none(alloc),
         resolved: ResolvedIn::nowhere(),
     }
 }

@@ -205,9 +205,9 @@ fn take_all<'a>(tree: &mut Tree, prepared: Vec<Prepared<'a>>, room: Vec<Job<'a>>
 
 // Takes the inodes of a job out of the tree. It takes no memory.
 fn take_one<'a>(tree: &mut Tree, one: Prepared<'a>) -> Job<'a>
-    requires home { AreAtHome tree.old one.entry.ids.items }
-    requires empty { one.entry.room.items ≡ [] }
-    requires room { length one.entry.ids.items ≤ vec_capacity one.entry.room }
+    requires home { AreAtHome tree.old one.ids.items }
+    requires empty { one.room.items ≡ [] }
+    requires room { length one.ids.items ≤ vec_capacity one.room }
     ensures job { result ≡ job_of one.entry tree.old }
     ensures out { tree.new ≡ lent_out one.entry.ids.items tree.old }
 {

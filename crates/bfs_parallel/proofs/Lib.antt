@@ -1,3 +1,4 @@
 pub mod Progress
 pub mod Alone
 pub mod Runs
+mod Ones

@@ -31,9 +31,7 @@ use Rattle.bfs_handover.specs.declared.job.Done.{Done}
 use Rattle.bfs_handover.specs.declared.results.Reply.{Reply}
 use Rattle.bfs_workers.specs.Results.{Gives, EachOnce}
 use Rattle.bfs_workers.proofs.Numbers.{each_number_once}
-use Rattle.bfs_levels.specs.declared.run.Run.{Run}
 use Rattle.bfs_parallel.specs.Ran.{AllRan, bytes_of}
-use Rattle.bfs_parallel.specs.Requests.{requests_in}
 
 -- Numbers and footprints -------------------------------------------------------------------------------------------------------
 
@@ -145,13 +143,17 @@ module _ (ran : ℕ → List ℕ → Type 0) where
 
 -- A run that is split, run and merged ------------------------------------------------------------------------------------------------
 
--- a run whose footprints and whose numbers stand in lists
-pub record IsPlanned (old : Slots) (o : ℕ) (t : Time) (batch : List (List ℕ)) (run : Run) (footprints : List declared.Footprint) (numbers : List ℕ) : Type 0 where
+-- the requests of a run
+abbrev pub run_at : (first : ℕ) → List declared.Footprint → (batch : List (List ℕ)) → List (List ℕ)
+run_at first own batch = take (length own) (drop first batch)
+
+-- a run from that place on whose footprints and whose numbers stand in lists
+pub record IsPlanned (old : Slots) (o : ℕ) (t : Time) (batch : List (List ℕ)) (first : ℕ) (own : List declared.Footprint) (footprints : List declared.Footprint) (numbers : List ℕ) : Type 0 where
   pub formed : IsWellFormed (record { tree = at_home old; next_ordinal = o; last_time = t })
-  pub found : map footprint_seen run.footprints.items ≡ footprints_at (at_home old) o t (requests_in run batch)
-  pub disjoint : AreDisjoint (map footprint_seen run.footprints.items)
-  pub same : footprints ≡ run.footprints.items
-  pub numbered : numbers ≡ numbers_from run.first (length run.footprints.items)
+  pub found : map footprint_seen own ≡ footprints_at (at_home old) o t (run_at first own batch)
+  pub disjoint : AreDisjoint (map footprint_seen own)
+  pub same : footprints ≡ own
+  pub numbered : numbers ≡ numbers_from first (length own)
 
 -- what has come of it
 pub record IsExecuted (ran : ℕ → List ℕ → Type 0) (old : Slots) (o : ℕ) (t : Time) (first : ℕ) (requests : List (List ℕ)) (after : Slots) (replies : List Reply) : Type 0 where
@@ -161,35 +163,35 @@ pub record IsExecuted (ran : ℕ → List ℕ → Type 0) (old : Slots) (o : ℕ
   pub short : All (λ (reply : Reply). length reply.bytes.items ≤ most_reply_bytes) replies
   pub ran_all : AllRan ran first requests (replies_to (at_home old) o t requests)
 
-module _ (old : Slots) (o : ℕ) (t : Time) (batch : List (List ℕ)) (run : Run) (footprints : List declared.Footprint) (numbers : List ℕ) (planned : IsPlanned old o t batch run footprints numbers) where
+module _ (old : Slots) (o : ℕ) (t : Time) (batch : List (List ℕ)) (first : ℕ) (own : List declared.Footprint) (footprints : List declared.Footprint) (numbers : List ℕ) (planned : IsPlanned old o t batch first own footprints numbers) where
   abbrev seen : List Footprint
-  seen = map footprint_seen run.footprints.items
+  seen = map footprint_seen own
 
   abbrev part : List declared.Footprint → Part
-  part items = part_of run.first o t batch (map footprint_seen items)
+  part items = part_of first o t batch (map footprint_seen items)
 
-  as_many : length seen ≡ length run.footprints.items
-  as_many = length-map run.footprints.items footprint_seen
+  as_many : length seen ≡ length own
+  as_many = length-map own footprint_seen
 
-  all_numbers : numbers ≡ numbers_from run.first (length seen)
-  all_numbers = planned.numbered ∙ ap (numbers_from run.first) (sym as_many)
+  all_numbers : numbers ≡ numbers_from first (length seen)
+  all_numbers = planned.numbered ∙ ap (numbers_from first) (sym as_many)
 
   pub can_split : AllByRecursion (λ g. is_whole g ≡ false) seen → All (CanBeSplit (at_home old) (part footprints)) numbers
   can_split all = subst (λ ns. All (CanBeSplit (at_home old) (part footprints)) ns) (sym all_numbers)
-      (subst (λ items. All (CanBeSplit (at_home old) (part items)) (numbers_from run.first (length seen))) (sym planned.same)
-      (can_be_split (at_home old) run.first o t batch seen planned.formed all))
+      (subst (λ items. All (CanBeSplit (at_home old) (part items)) (numbers_from first (length seen))) (sym planned.same)
+      (can_be_split (at_home old) first o t batch seen planned.formed all))
 
   pub apart : AreDisjoint (footprints_for (part footprints) numbers)
   apart = subst (λ ns. AreDisjoint (footprints_for (part footprints) ns)) (sym all_numbers)
-      (subst (λ items. AreDisjoint (footprints_for (part items) (numbers_from run.first (length seen)))) (sym planned.same)
-      (subst AreDisjoint (sym (all_footprints (part run.footprints.items))) planned.disjoint))
+      (subst (λ items. AreDisjoint (footprints_for (part items) (numbers_from first (length seen)))) (sym planned.same)
+      (subst AreDisjoint (sym (all_footprints (part own))) planned.disjoint))
 
   pub rising : IsStrictlyIncreasing numbers
-  rising = subst IsStrictlyIncreasing (sym planned.numbered) (from_rise run.first (length run.footprints.items))
+  rising = subst IsStrictlyIncreasing (sym planned.numbered) (from_rise first (length own))
 
   module _ (ran : ℕ → List ℕ → Type 0) (new : Slots) (jobs : List Job) (dones : List Done) (split : IsSplit old new (part footprints) numbers jobs) (once : EachOnce ran new jobs dones) where
-    all_split : IsSplit old new (part run.footprints.items) (numbers_from run.first (length seen)) jobs
-    all_split = subst (λ ns. IsSplit old new (part run.footprints.items) ns jobs) all_numbers (subst (λ items. IsSplit old new (part items) numbers jobs) planned.same split)
+    all_split : IsSplit old new (part own) (numbers_from first (length seen)) jobs
+    all_split = subst (λ ns. IsSplit old new (part own) ns jobs) all_numbers (subst (λ items. IsSplit old new (part items) numbers jobs) planned.same split)
 
     pub out : AreOut new dones
     out = results_are_out old new (part footprints) numbers jobs once.order dones apart split once.permuted (all_done ran new once.order dones once.given)
@@ -197,20 +199,20 @@ module _ (old : Slots) (o : ℕ) (t : Time) (batch : List (List ℕ)) (run : Run
     pub one_each : IsPermutation numbers (numbers_in dones)
     one_each = subst (λ ns. IsPermutation ns (numbers_in dones)) (job_numbers old new (part footprints) numbers jobs split.each) (each_number_once ran new jobs dones once)
 
-    pub executed : (after : Slots) (replies : List Reply) → IsMerged new after numbers dones replies → IsExecuted ran old o t run.first (requests_in run batch) after replies
+    pub executed : (after : Slots) (replies : List Reply) → IsMerged new after numbers dones replies → IsExecuted ran old o t first (run_at first own batch) after replies
     executed after replies merged =
-        let all_merged : IsMerged new after (numbers_from run.first (length seen)) dones replies = subst (λ ns. IsMerged new after ns dones replies) all_numbers merged in
+        let all_merged : IsMerged new after (numbers_from first (length seen)) dones replies = subst (λ ns. IsMerged new after ns dones replies) all_numbers merged in
         let come =
-        results_come_home old new after (part run.footprints.items) jobs once.order dones replies planned.formed.ordinal.1
-        (subst (λ k. seen ≡ footprints_at (at_home old) o t (take k (drop run.first batch))) (sym as_many) planned.found) planned.disjoint all_split once.permuted
+        results_come_home old new after (part own) jobs once.order dones replies planned.formed.ordinal.1
+        (subst (λ k. seen ≡ footprints_at (at_home old) o t (take k (drop first batch))) (sym as_many) planned.found) planned.disjoint all_split once.permuted
         (all_done ran new once.order dones once.given) all_merged in
-        let replies_are : bytes_of replies ≡ replies_to (at_home old) o t (requests_in run batch) =
-        subst (λ k. bytes_of replies ≡ replies_to (at_home old) o t (take k (drop run.first batch))) as_many come.1 in
+        let replies_are : bytes_of replies ≡ replies_to (at_home old) o t (run_at first own batch) =
+        subst (λ k. bytes_of replies ≡ replies_to (at_home old) o t (take k (drop first batch))) as_many come.1 in
         record {
-          inodes = subst (λ k. at_home after ≡ inodes_after (at_home old) o t (take k (drop run.first batch))) as_many come.0;
+          inodes = subst (λ k. at_home after ≡ inodes_after (at_home old) o t (take k (drop first batch))) as_many come.0;
           whole = come.2;
           replies_are = replies_are;
-          short = merged_are_short (at_home old) o t (requests_in run batch) replies planned.formed replies_are;
-          ran_all = subst (AllRan ran run.first (requests_in run batch)) replies_are
-              (all_have_run ran new after run.first (requests_in run batch) (length seen) once.order dones replies once.given all_merged);
+          short = merged_are_short (at_home old) o t (run_at first own batch) replies planned.formed replies_are;
+          ran_all = subst (AllRan ran first (run_at first own batch)) replies_are
+              (all_have_run ran new after first (run_at first own batch) (length seen) once.order dones replies once.given all_merged);
         }

@@ -7,8 +7,7 @@ ghost use Rattle.bfs_parallel.specs.Ran.{AllRan};
 
 use crate::engine::Engine;
 use crate::rounds::Rounds;
-use crate::steps::execute_run;
-use bfs_levels::runs;
+use crate::steps::execute_next;
 use bfs_serial::{Batch, ExecError, FileSystem, Replies};
 use bfs_tree::Tree;
 use bfs_types::{Memory, Ordinal, Time};
@@ -86,22 +85,20 @@ fn execute_in_runs<R: Threads + Sync, G: Gate + Sync>(
     let mut ordinal = first;
     let mut done = 0;
     while done < batch.len() {
-        let run = runs(alloc, tree, ordinal, time, batch, done)?;
-        let workers = rounds.workers_for(run.len());
-        execute_run(
+        let count = execute_next(
             rt,
             alloc,
             tree,
             batch,
             ordinal,
             time,
-            &run,
-            workers,
+            done,
+            &mut rounds,
             gate,
             &mut replies,
         )?;
-        ordinal = ordinal.after(run.len() as u64);
-        done += run.len();
+        ordinal = ordinal.after(count as u64);
+        done += count;
     }
     Ok(replies)
 }

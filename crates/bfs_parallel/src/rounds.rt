@@ -46,14 +46,14 @@ impl Rounds {
         true
     }
 
-    /// Whether the run of so many requests that was found gets threads. Where it does not, its requests are executed one after another.
-    pub(crate) fn starts_threads(&mut self, len: usize) -> bool {
+    /// The workers of the run of so many requests that was found. `None` where its requests are executed one after another.
+    pub(crate) fn workers_for(&mut self, len: usize) -> Option<Workers> {
         if len >= LONG {
-            return true;
+            return Some(self.workers);
         }
         if len >= 2 && self.left > 0 {
             self.left -= 1;
-            return true;
+            return Some(self.workers);
         }
         self.pause = len.saturating_sub(1);
         if self.tries > 0 {
@@ -61,6 +61,6 @@ impl Rounds {
         } else {
             self.pause = self.pause.max(PAUSE);
         }
-        false
+        None
     }
 }

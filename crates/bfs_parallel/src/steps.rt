@@ -1,4 +1,4 @@
-ghost use Rattle.std.specs.Prelude.{◌≡◌, ◌<◌, ◌≤◌, ◌+◌, ◌++◌, IfOk, IsTrue, length, map};
+ghost use Rattle.std.specs.Prelude.{◌≡◌, ◌<◌, ◌≤◌, ◌+◌, ◌++◌, IfOk, IsTrue, drop, length, map, take};
 ghost use Rattle.std.specs.List.{All};
 ghost use Rattle.std.specs.List.Sorted.{IsPermutation, IsStrictlyIncreasing};
 ghost use Rattle.bfs_model.specs.Groups.{AreDisjoint, footprints_at};
@@ -12,8 +12,10 @@ ghost use Rattle.bfs_tree.specs.Tree.{at_home, reach_of};
 ghost use Rattle.bfs_parallel.specs.Ran.{AllRan, bytes_of};
 ghost use Rattle.bfs_parallel.specs.Requests.{requests_in};
 
-use bfs_handover::{Done, MergeError, Reply, merge, split};
-use bfs_levels::Run;
+use crate::rounds::Rounds;
+use bfs_footprint::touch_of;
+use bfs_handover::{Done, MergeError, Reply, merge, merge_one, split, split_one};
+use bfs_levels::{Run, runs};
 use bfs_serial::{Batch, Replies, answer_next};
 use bfs_tree::Tree;
 use bfs_types::{Memory, Ordinal, Time};
@@ -21,10 +23,93 @@ use bfs_workers::{Gate, Workers, run_split};
 use std::alloc::Global;
 use std::thread::Threads;
 
-/// Executes a run of the batch's requests, the first of which has that ordinal, and puts their replies behind the others: a request
-/// that may touch any inode on the whole tree, others each on its share of the tree. `Memory` if memory runs out; the tree may then
-/// not be whole.
-pub(crate) fn execute_run<R: Threads + Sync, G: Gate + Sync>(
+/// Executes the batch's requests from that place on, the first of which has that ordinal: a run of them on threads, or one on the calling
+/// thread. Puts their replies behind the others, and gives how many they are. `Memory` if memory runs out; the tree may then not be
+/// whole.
+pub(crate) fn execute_next<R: Threads + Sync, G: Gate + Sync>(
+    rt: &R,
+    alloc: Global,
+    tree: &mut Tree,
+    batch: &Batch,
+    ordinal: Ordinal,
+    time: Time,
+    place: usize,
+    rounds: &mut Rounds,
+    gate: &G,
+    replies: &mut Replies,
+) -> Result<usize, Memory>
+    requires whole { IsTrue ((reach_of tree.old).whole) }
+    requires formed { IsWellFormed (record { tree = at_home tree.old; next_ordinal = ordinal; last_time = time }) }
+    requires within { place < length batch.now.requests }
+    ensures some { IfOk result (λ count. 0 < count) }
+    ensures within { IfOk result (λ count. place + count ≤ length batch.now.requests) }
+    ensures inodes { IfOk result (λ count. at_home tree.new ≡ inodes_after (at_home tree.old) ordinal time (take count (drop place batch.now.requests))) }
+    ensures whole { IfOk result (λ _. IsTrue ((reach_of tree.new).whole)) }
+    ensures replies { IfOk result (λ count. replies.new ≡ replies.old ++ replies_to (at_home tree.old) ordinal time (take count (drop place batch.now.requests))) }
+    ensures ran { IfOk result (λ count. AllRan G.ran place (take count (drop place batch.now.requests)) (replies_to (at_home tree.old) ordinal time (take count (drop place batch.now.requests)))) }
+{
+    if rounds.looks_for_a_run() {
+        let run = runs(alloc, tree, ordinal, time, batch, place)?;
+        if let Some(workers) = rounds.workers_for(run.len()) {
+            execute_run(
+                rt, alloc, tree, batch, ordinal, time, &run, workers, gate, replies,
+            )?;
+            return Ok(run.len());
+        }
+    }
+    execute_one(alloc, tree, batch, ordinal, time, place, gate, replies)?;
+    Ok(1)
+}
+
+// Executes one request on the calling thread: by the gate on its share of the tree, or, where it may touch any inode, on the whole tree.
+fn execute_one<G: Gate>(
+    alloc: Global,
+    tree: &mut Tree,
+    batch: &Batch,
+    ordinal: Ordinal,
+    time: Time,
+    place: usize,
+    gate: &G,
+    replies: &mut Replies,
+) -> Result<(), Memory>
+    requires whole { IsTrue ((reach_of tree.old).whole) }
+    requires formed { IsWellFormed (record { tree = at_home tree.old; next_ordinal = ordinal; last_time = time }) }
+    requires within { place < length batch.now.requests }
+    ensures inodes { IfOk result (λ _. at_home tree.new ≡ inodes_after (at_home tree.old) ordinal time (take 1 (drop place batch.now.requests))) }
+    ensures whole { IfOk result (λ _. IsTrue ((reach_of tree.new).whole)) }
+    ensures replies { IfOk result (λ _. replies.new ≡ replies.old ++ replies_to (at_home tree.old) ordinal time (take 1 (drop place batch.now.requests))) }
+    ensures ran { IfOk result (λ _. AllRan G.ran place (take 1 (drop place batch.now.requests)) (replies_to (at_home tree.old) ordinal time (take 1 (drop place batch.now.requests)))) }
+{
+    let count = batch.len();
+    prove!(place < count);
+    let request = batch.request(place);
+    let footprint = touch_of(alloc, tree, ordinal, time, request)?.footprint;
+    let is_whole = footprint.is_whole();
+    let footprints = [footprint];
+    if is_whole {
+        let reply = answer_next(alloc, tree, ordinal, time, request)?;
+        replies.push(reply)?;
+        return Ok(());
+    }
+    let job = split_one(
+        alloc,
+        tree,
+        batch,
+        ordinal,
+        time,
+        place,
+        footprints.as_slice(),
+        place as u32,
+    )?;
+    let done = gate.run(alloc, tree, job)?;
+    let reply = merge_one(tree, done);
+    replies.push(reply.bytes)?;
+    Ok(())
+}
+
+// Executes a run of the batch's requests, the first of which has that ordinal, and puts their replies behind the others: a request
+// that may touch any inode on the whole tree, others each on its share of the tree.
+fn execute_run<R: Threads + Sync, G: Gate + Sync>(
     rt: &R,
     alloc: Global,
     tree: &mut Tree,

@@ -4,7 +4,7 @@ ghost use Rattle.bfs_model.specs.Tree.{root_id};
 use std::marker::Model;
 
 /// The number of an inode (RFC 1094 section 2.3.5, fileid). No other inode of the file system has it or ever had it.
-#[derive(Clone, Copy, Debug, Default, PartialEq, Eq, PartialOrd, Ord)]
+#[derive(Clone, Copy, Debug, PartialEq, Eq, PartialOrd, Ord)]
 pub struct FileId(u32);
 
 impl Model for FileId {

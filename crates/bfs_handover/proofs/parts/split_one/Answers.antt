@@ -1,14 +1,10 @@
 -- What was found for the number is ready to be taken, and what comes of it is split off.
-use Rattle.std.proofs.Common.{[], ◌∷◌, length, map, arith}
-use Rattle.std.specs.List.{All}
+use Rattle.std.proofs.Common.{[], ◌∷◌, length, map, arith, rules}
 use Rattle.std.proofs.lemmas.List.Elements.{All-from_recursion}
 use Rattle.bfs_footprint.specs.Seen.{footprint_seen}
-use Rattle.bfs_model.specs.Tree.{Time}
 use Rattle.bfs_tree.specs.Tree.{at_home}
-use Rattle.bfs_tree.specs.Slots.{Slots}
-use Rattle.bfs_handover.specs.Preparing.{IsPrepared}
-use Rattle.bfs_handover.specs.Splitting.{Part, CanBeSplit, part_of}
-use Rattle.bfs_handover.proofs.SplitLemmas.{AreFound, requested, ready_all, is_split}
+use Rattle.bfs_handover.specs.Splitting.{CanBeSplit, part_of}
+use Rattle.bfs_handover.proofs.SplitLemmas.{requested, ready_all, is_split}
 use Rattle.bfs_handover.proofs.parts.split_one.Goals as goal
 
 pub prepare-requires : goal.prepare-requires

@@ -24,35 +24,35 @@ returns-then-is_whole g c =
 
 pub split-requires-clause-numbers : goal.split-requires-clause-numbers
 split-requires-clause-numbers g c =
-    can_split c.args.tree.now c.args.ordinal c.args.time c.args.batch.now.requests c.args.run.now c.as_slice-footprints.result.now c.as_slice-numbers.result.now
+    can_split c.args.tree.now c.args.ordinal c.args.time c.args.batch.now.requests c.args.run.now.first c.args.run.now.footprints.items c.as_slice-footprints.result.now c.as_slice-numbers.result.now
     (record { formed = c.requires.formed; found = c.requires.footprints; disjoint = c.requires.disjoint; same = c.as_slice-footprints.ensures.value; numbered = c.as_slice-numbers.ensures.value ∙ c.in_ok-numbers.ensures ∙ ap (numbers_from c.args.run.now.first) c.len-2.ensures })
     (known_run c.args.run.now.footprints.items c.index.result.now c.index.ensures c.requires.some (sym c.is_whole.ensures ∙ c.if-is_whole.false) c.requires.disjoint)
 
 pub split-requires-clause-disjoint : goal.split-requires-clause-disjoint
 split-requires-clause-disjoint g c =
-    apart c.args.tree.now c.args.ordinal c.args.time c.args.batch.now.requests c.args.run.now c.as_slice-footprints.result.now c.as_slice-numbers.result.now
+    apart c.args.tree.now c.args.ordinal c.args.time c.args.batch.now.requests c.args.run.now.first c.args.run.now.footprints.items c.as_slice-footprints.result.now c.as_slice-numbers.result.now
     (record { formed = c.requires.formed; found = c.requires.footprints; disjoint = c.requires.disjoint; same = c.as_slice-footprints.ensures.value; numbered = c.as_slice-numbers.ensures.value ∙ c.in_ok-numbers.ensures ∙ ap (numbers_from c.args.run.now.first) c.len-2.ensures })
 
 pub merge_all-requires-clause-rising : goal.merge_all-requires-clause-rising
 merge_all-requires-clause-rising g c =
-    rising c.args.tree.now c.args.ordinal c.args.time c.args.batch.now.requests c.args.run.now c.as_slice-footprints.result.now c.as_slice-numbers.result.now
+    rising c.args.tree.now c.args.ordinal c.args.time c.args.batch.now.requests c.args.run.now.first c.args.run.now.footprints.items c.as_slice-footprints.result.now c.as_slice-numbers.result.now
     (record { formed = c.requires.formed; found = c.requires.footprints; disjoint = c.requires.disjoint; same = c.as_slice-footprints.ensures.value; numbered = c.as_slice-numbers.ensures.value ∙ c.in_ok-numbers.ensures ∙ ap (numbers_from c.args.run.now.first) c.len-2.ensures })
 
 pub merge_all-requires-clause-each : goal.merge_all-requires-clause-each
 merge_all-requires-clause-each g c =
-    one_each c.args.tree.now c.args.ordinal c.args.time c.args.batch.now.requests c.args.run.now c.as_slice-footprints.result.now c.as_slice-numbers.result.now
+    one_each c.args.tree.now c.args.ordinal c.args.time c.args.batch.now.requests c.args.run.now.first c.args.run.now.footprints.items c.as_slice-footprints.result.now c.as_slice-numbers.result.now
     (record { formed = c.requires.formed; found = c.requires.footprints; disjoint = c.requires.disjoint; same = c.as_slice-footprints.ensures.value; numbered = c.as_slice-numbers.ensures.value ∙ c.in_ok-numbers.ensures ∙ ap (numbers_from c.args.run.now.first) c.len-2.ensures })
     g.G.Gate.ran c.split.new.tree c.in_ok-jobs.jobs.items c.in_ok-dones.dones.items c.in_ok-jobs.ensures.split c.in_ok-dones.ensures
 
 pub merge_all-requires-clause-out : goal.merge_all-requires-clause-out
 merge_all-requires-clause-out g c =
-    out c.args.tree.now c.args.ordinal c.args.time c.args.batch.now.requests c.args.run.now c.as_slice-footprints.result.now c.as_slice-numbers.result.now
+    out c.args.tree.now c.args.ordinal c.args.time c.args.batch.now.requests c.args.run.now.first c.args.run.now.footprints.items c.as_slice-footprints.result.now c.as_slice-numbers.result.now
     (record { formed = c.requires.formed; found = c.requires.footprints; disjoint = c.requires.disjoint; same = c.as_slice-footprints.ensures.value; numbered = c.as_slice-numbers.ensures.value ∙ c.in_ok-numbers.ensures ∙ ap (numbers_from c.args.run.now.first) c.len-2.ensures })
     g.G.Gate.ran c.split.new.tree c.in_ok-jobs.jobs.items c.in_ok-dones.dones.items c.in_ok-jobs.ensures.split c.in_ok-dones.ensures
 
 pub put_replies-requires : goal.put_replies-requires
 put_replies-requires g c =
-    (executed c.args.tree.now c.args.ordinal c.args.time c.args.batch.now.requests c.args.run.now c.as_slice-footprints.result.now c.as_slice-numbers.result.now
+    (executed c.args.tree.now c.args.ordinal c.args.time c.args.batch.now.requests c.args.run.now.first c.args.run.now.footprints.items c.as_slice-footprints.result.now c.as_slice-numbers.result.now
     (record { formed = c.requires.formed; found = c.requires.footprints; disjoint = c.requires.disjoint; same = c.as_slice-footprints.ensures.value; numbered = c.as_slice-numbers.ensures.value ∙ c.in_ok-numbers.ensures ∙ ap (numbers_from c.args.run.now.first) c.len-2.ensures })
     g.G.Gate.ran c.split.new.tree c.in_ok-jobs.jobs.items c.in_ok-dones.dones.items c.in_ok-jobs.ensures.split c.in_ok-dones.ensures
     c.merge_all.new.tree c.in_ok-merged.merged.items c.in_ok-merged.ensures).short
@@ -60,7 +60,7 @@ put_replies-requires g c =
 pub returns : goal.returns
 returns g c =
     let done : IsExecuted g.G.Gate.ran c.args.tree.now c.args.ordinal c.args.time c.args.run.now.first (requests_in c.args.run.now c.args.batch.now.requests) c.merge_all.new.tree c.in_ok-merged.merged.items =
-    executed c.args.tree.now c.args.ordinal c.args.time c.args.batch.now.requests c.args.run.now c.as_slice-footprints.result.now c.as_slice-numbers.result.now
+    executed c.args.tree.now c.args.ordinal c.args.time c.args.batch.now.requests c.args.run.now.first c.args.run.now.footprints.items c.as_slice-footprints.result.now c.as_slice-numbers.result.now
     (record { formed = c.requires.formed; found = c.requires.footprints; disjoint = c.requires.disjoint; same = c.as_slice-footprints.ensures.value; numbered = c.as_slice-numbers.ensures.value ∙ c.in_ok-numbers.ensures ∙ ap (numbers_from c.args.run.now.first) c.len-2.ensures })
     g.G.Gate.ran c.split.new.tree c.in_ok-jobs.jobs.items c.in_ok-dones.dones.items c.in_ok-jobs.ensures.split c.in_ok-dones.ensures
     c.merge_all.new.tree c.in_ok-merged.merged.items c.in_ok-merged.ensures in
