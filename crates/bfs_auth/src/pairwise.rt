@@ -42,8 +42,8 @@ impl Model for Keys {
 
 impl Keys {
     /// The keys of a principal, where there are so many replicas, at most 31, and so many clients. The key from one principal to
-    /// another is the HMAC of their numbers under a secret of any length, which all know that derive keys. `Memory` if memory runs
-    /// out.
+    /// another is the HMAC of their two numbers, 4 bytes each, under a secret of any length, with which all of them are set up.
+    /// `Memory` if memory runs out.
     #[tactic(auto, using(crate::proofs::Numbered::as_many))]
     pub fn derive(
         alloc: Global,
