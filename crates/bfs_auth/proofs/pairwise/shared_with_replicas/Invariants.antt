@@ -1,0 +1,8 @@
+use Rattle.std.proofs.Common.{◌≡◌, map}
+use Rattle.std.specs.List.{range_with_len}
+use Rattle.bfs_auth.specs.Keys.{shared_keys}
+use Rattle.bfs_auth.specs.declared.principals.Principal.TheVariants.{Replica}
+use Rattle.bfs_auth.proofs.pairwise.shared_with_replicas.Given as goal
+
+abbrev pub invariant-loop-number : goal.invariant-loop-number
+invariant-loop-number l = l.all.items ≡ map (λ number. shared_keys l.secret l.me (Replica number)) (range_with_len 0 l.number)

@@ -1,0 +1,39 @@
+-- The keys that principals share: one for each direction between two.
+use Rattle.std.specs.Prelude.{ℕ, List, ◌++◌, map, Option, slice_get}
+use Rattle.std.specs.List.{range_with_len}
+use Rattle.bfs_model.specs.Items.{word}
+use Rattle.bfs_auth.specs.Hmac.{hmac_sha256}
+use Rattle.bfs_auth.specs.Principals.{number_of}
+use Rattle.bfs_auth.specs.declared.principals.Principal.{Principal}
+use Rattle.bfs_auth.specs.declared.principals.Principal.TheVariants.{Replica, Client}
+use Rattle.bfs_auth.specs.declared.pairwise.SharedKeys.{SharedKeys}
+
+-- of what one principal sends to another: their numbers, hashed under a secret
+abbrev pub key_from_to : (secret : List ℕ) → (from to : Principal) → List ℕ
+key_from_to secret from to = hmac_sha256 secret (word (number_of from) ++ word (number_of to))
+
+-- as the first of the two holds them
+abbrev pub shared_keys : (secret : List ℕ) → (me other : Principal) → SharedKeys
+shared_keys secret me other = record { sending = key_from_to secret me other; receiving = key_from_to secret other me }
+
+-- what one principal holds: the keys shared with each replica and with each client, by their numbers
+pub record Keys : Type 0 where
+  pub me : Principal
+  pub replicas : List SharedKeys
+  pub clients : List SharedKeys
+
+-- a client shares keys with replicas alone
+abbrev pub clients_known : Principal → (clients : ℕ) → ℕ
+clients_known (Replica _) clients = clients
+clients_known (Client _) clients = 0
+
+abbrev pub keys_of : (secret : List ℕ) → (me : Principal) → (replicas clients : ℕ) → Keys
+keys_of secret me replicas clients = record {
+  me = me;
+  replicas = map (λ number. shared_keys secret me (Replica number)) (range_with_len 0 replicas);
+  clients = map (λ number. shared_keys secret me (Client number)) (range_with_len 0 (clients_known me clients));
+}
+
+abbrev pub shared_with : Keys → Principal → Option SharedKeys
+shared_with keys (Replica number) = slice_get keys.replicas number
+shared_with keys (Client number) = slice_get keys.clients number

@@ -1,0 +1,29 @@
+-- What holds of keys that are derived from one secret.
+use Rattle.std.specs.Prelude.{◌≡◌, ◌<◌, ◌↔◌, ℕ, List, Some, IsTrue}
+use Rattle.bfs_auth.specs.Hmac.{hmac_sha256}
+use Rattle.bfs_auth.specs.Keys.{clients_known, key_from_to, keys_of}
+use Rattle.bfs_auth.specs.Authenticators.{entry_for, passes, signature, signature_for_client}
+use Rattle.bfs_auth.specs.declared.principals.Principal.{Principal}
+use Rattle.bfs_auth.specs.declared.principals.Principal.TheVariants.{Replica, Client}
+
+-- one principal shares keys with another one, where there are so many replicas and clients
+abbrev pub ShareKeys : (me other : Principal) → (replicas clients : ℕ) → Type 0
+ShareKeys me (Replica number) replicas clients = number < replicas
+ShareKeys me (Client number) replicas clients = number < clients_known me clients
+
+-- A text passes exactly where the two share keys and the receiver's own entry is the keyed hash under the key from the sender to
+-- the receiver
+abbrev pub OnlyTheSendersHashPasses : Type 0
+OnlyTheSendersHashPasses = (secret : List ℕ) (me sender : Principal) (replicas clients : ℕ) (text : List ℕ) (entries : List (List ℕ))
+    → IsTrue (passes (keys_of secret me replicas clients) sender text entries)
+    ↔ (ShareKeys me sender replicas clients × (entry_for me entries ≡ Some (hmac_sha256 (key_from_to secret sender me) text)))
+
+abbrev pub PassesAtReplicas : Type 0
+PassesAtReplicas = (secret : List ℕ) (sender : Principal) (receiver replicas clients : ℕ) (text : List ℕ)
+    → receiver < replicas → ShareKeys (Replica receiver) sender replicas clients
+    → IsTrue (passes (keys_of secret (Replica receiver) replicas clients) sender text (signature (keys_of secret sender replicas clients) text))
+
+abbrev pub PassesAtClients : Type 0
+PassesAtClients = (secret : List ℕ) (sender receiver replicas clients : ℕ) (text : List ℕ) (entries : List (List ℕ))
+    → sender < replicas → signature_for_client (keys_of secret (Replica sender) replicas clients) receiver text ≡ Some entries
+    → IsTrue (passes (keys_of secret (Client receiver) replicas clients) (Replica sender) text entries)

@@ -1,0 +1,65 @@
+ghost use Rattle.std.specs.Prelude.{◌≡◌, IfOk, map};
+ghost use Rattle.bfs_auth.specs.Authenticators.{passes};
+
+use crate::authenticators::Authenticator;
+use crate::keyed_hash::hmac;
+use crate::pairwise::Keys;
+use crate::principals::Principal;
+use bfs_types::Memory;
+use rayon::prelude::*;
+use std::alloc::{AllocError, Global};
+use std::thread::Threads;
+
+/// A text, and an authenticator that is claimed to be its sender's.
+#[derive(Debug, Drop)]
+pub struct Claimed {
+    pub sender: Principal,
+    pub text: Vec<u8>,
+    pub auth: Authenticator,
+}
+
+/// Whether the receiver's own entry is the keyed hash of the text under the key from the sender to the receiver, whose keys these
+/// are. `false` where they share no key, and where there is no entry for the receiver. It takes no memory, and its time depends on
+/// the bytes that it compares.
+pub fn check(keys: &Keys, sender: Principal, text: &[u8], auth: &Authenticator) -> bool
+    ensures { result ≡ passes keys.now sender text.now auth.now }
+{
+    let Some(shared) = keys.shared_with(sender) else {
+        return false;
+    };
+    let Some(entry) = auth.entry_for(keys.me()) else {
+        return false;
+    };
+    hmac(&shared.receiving, text).as_slice() == entry.as_slice()
+}
+
+/// What `check` answers of each, in their order, from as many threads as there are processors. `Memory` if memory runs out.
+pub fn check_all(
+    rt: &(impl Threads + Sync),
+    alloc: Global,
+    keys: &Keys,
+    items: &[Claimed],
+) -> Result<Vec<bool>, Memory>
+    ensures { IfOk result (λ answers. answers.items ≡ map (λ item. passes keys.now item.sender item.text.items item.auth) items.now) }
+{
+    Ok(checked(rt, alloc, keys, items)?)
+}
+
+fn checked(
+    rt: &(impl Threads + Sync),
+    alloc: Global,
+    keys: &Keys,
+    items: &[Claimed],
+) -> Result<Vec<bool>, AllocError>
+    ensures { IfOk result (λ answers. answers.items ≡ map (λ item. passes keys.now item.sender item.text.items item.auth) items.now) }
+{
+    items
+        .par_iter()
+        .with_min_len(1)
+        .map(
+            |item: &Claimed| -> bool
+                ensures { result ≡ passes keys.entry.now item.now.sender item.now.text.items item.now.auth }
+            { check(keys, item.sender, item.text.as_slice(), &item.auth) },
+        )
+        .collect(rt, alloc)
+}

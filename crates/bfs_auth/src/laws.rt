@@ -1,0 +1,13 @@
+ghost use Rattle.bfs_auth.specs.Laws.{OnlyTheSendersHashPasses, PassesAtClients, PassesAtReplicas};
+
+/// A text passes exactly where sender and receiver share keys and the receiver's own entry is the keyed hash under the key from
+/// the one to the other. The body is empty: what is said is its contract.
+pub fn only_the_senders_hash_passes()
+    ensures { OnlyTheSendersHashPasses }
+{}
+
+/// What a principal signs for the replicas passes at each of them, and what a replica signs for a client passes at that client.
+pub fn what_is_signed_passes()
+    ensures replicas { PassesAtReplicas }
+    ensures client { PassesAtClients }
+{}

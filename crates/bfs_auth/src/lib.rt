@@ -1,0 +1,19 @@
+//! Messages that their receivers can tell are the sender's: keyed hashes (RFC 2104), and authenticators, which have one such hash
+//! for each receiver, under a key that sender and receiver share.
+#![tactic(auto)]
+
+mod authenticators;
+mod checking;
+mod keyed_hash;
+mod laws;
+mod pairwise;
+mod principals;
+mod signing;
+
+pub use authenticators::{Authenticator, MOST_REPLICAS};
+pub use checking::{Claimed, check, check_all};
+pub use keyed_hash::hmac;
+pub use laws::{only_the_senders_hash_passes, what_is_signed_passes};
+pub use pairwise::Keys;
+pub use principals::Principal;
+pub use signing::{sign, sign_for_client};

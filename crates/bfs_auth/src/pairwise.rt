@@ -1,0 +1,181 @@
+ghost use Rattle.std.specs.Prelude.{◌≡◌, ◌+◌, ◌<◌, ◌≤◌, ◌^◌, ◌++◌, map, length, slice_get, Some, IfOk};
+ghost use Rattle.std.specs.List.{range_with_len};
+ghost use Rattle.std.specs.Option.{option_map};
+ghost use Rattle.bfs_model.specs.Items.{word};
+ghost use Rattle.bfs_auth.specs.Principals.{number_of};
+ghost use Rattle.bfs_auth.specs.Keys.{clients_known, key_from_to, keys_of, shared_keys, shared_with};
+
+use crate::keyed_hash::hmac;
+use crate::principals::Principal;
+use bfs_types::Memory;
+use std::alloc::Global;
+use std::marker::Model;
+
+/// The keys that two principals share, as one of them holds them.
+#[derive(Drop)]
+pub struct SharedKeys {
+    // of what it sends to the other one
+    pub(crate) sending: [u8; 32],
+    // of what it receives from the other one
+    pub(crate) receiving: [u8; 32],
+}
+
+/// The keys that one principal holds: a replica shares keys with all replicas, itself among them, and with all clients; a client
+/// shares keys with all replicas alone.
+#[derive(Drop)]
+pub struct Keys {
+    me: Principal,
+    replicas: Vec<SharedKeys>,
+    clients: Vec<SharedKeys>,
+}
+
+impl Model for Keys {
+    ghost use Rattle.std.specs.Prelude.{◌≤◌, length};
+    ghost use Rattle.bfs_auth.specs.Keys as model;
+
+    ghost Value = { model.Keys };
+
+    ghost view = { λ keys. record { me = keys.me; replicas = keys.replicas.items; clients = keys.clients.items } };
+
+    ghost invariant = { λ keys. length keys.replicas.items ≤ 31 };
+}
+
+impl Keys {
+    /// The keys of a principal, where there are so many replicas, at most 31, and so many clients. The key from one principal to
+    /// another is the HMAC of their two numbers, 4 bytes each, under a secret of any length, with which all of them are set up.
+    /// `Memory` if memory runs out.
+    #[tactic(auto, using(crate::proofs::Numbered::as_many))]
+    pub fn derive(
+        alloc: Global,
+        secret: &[u8],
+        me: Principal,
+        replicas: u32,
+        clients: u32,
+    ) -> Result<Keys, Memory>
+        requires me { number_of me < 2 ^ 32 }
+        requires replicas { replicas ≤ 31 }
+        requires clients { 4096 + clients ≤ 2 ^ 32 }
+        ensures { IfOk result (λ keys. keys ≡ keys_of secret.now me replicas clients) }
+    {
+        let clients = match me {
+            Principal::Replica(_) => clients,
+            Principal::Client(_) => 0,
+        };
+        Ok(Keys {
+            me,
+            replicas: shared_with_replicas(alloc, secret, me, replicas)?,
+            clients: shared_with_clients(alloc, secret, me, clients)?,
+        })
+    }
+
+    /// Whose keys they are.
+    pub fn me(&self) -> Principal
+        ensures { result ≡ self.now.me }
+    {
+        self.me
+    }
+
+    /// How many replicas it shares keys with.
+    pub fn replicas(&self) -> usize
+        ensures value { result ≡ length self.now.replicas }
+        ensures within { result ≤ 31 }
+    {
+        self.replicas.len()
+    }
+
+    /// How many clients it shares keys with; none where these are the keys of a client.
+    pub fn clients(&self) -> usize
+        ensures { result ≡ length self.now.clients }
+    {
+        self.clients.len()
+    }
+
+    // by their numbers
+    pub(crate) fn shared_with_each_replica(&self) -> &[SharedKeys]
+        ensures value { result.now ≡ self.now.replicas }
+        ensures within { length result.now ≤ 31 }
+    {
+        self.replicas.as_slice()
+    }
+
+    pub(crate) fn shared_with_client(&self, client: u32) -> &SharedKeys
+        requires { client < length self.now.clients }
+        ensures { slice_get self.now.clients client ≡ Some result.now }
+    {
+        &self.clients[client as usize]
+    }
+
+    // none where there are none
+    pub(crate) fn shared_with(&self, other: Principal) -> Option<&SharedKeys>
+        ensures { option_map (λ shared. shared.now) result ≡ shared_with self.now other }
+    {
+        match other {
+            Principal::Replica(number) => self.replicas.get(number as usize),
+            Principal::Client(number) => self.clients.get(number as usize),
+        }
+    }
+}
+
+#[tactic(auto, using(crate::proofs::Numbered::one_more))]
+fn shared_with_replicas(
+    alloc: Global,
+    secret: &[u8],
+    me: Principal,
+    replicas: u32,
+) -> Result<Vec<SharedKeys>, Memory>
+    requires me { number_of me < 2 ^ 32 }
+    ensures { IfOk result (λ all. all.items ≡ map (λ number. shared_keys secret.now me (Principal.Replica number)) (range_with_len 0 replicas)) }
+{
+    let mut all = Vec::new(alloc);
+    for number in 0..replicas {
+        all.push(shared_between(secret, me, Principal::Replica(number)))?;
+    }
+    Ok(all)
+}
+
+#[tactic(auto, using(crate::proofs::Numbered::one_more))]
+fn shared_with_clients(
+    alloc: Global,
+    secret: &[u8],
+    me: Principal,
+    clients: u32,
+) -> Result<Vec<SharedKeys>, Memory>
+    requires me { number_of me < 2 ^ 32 }
+    requires clients { 4096 + clients ≤ 2 ^ 32 }
+    ensures { IfOk result (λ all. all.items ≡ map (λ number. shared_keys secret.now me (Principal.Client number)) (range_with_len 0 clients)) }
+{
+    let mut all = Vec::new(alloc);
+    for number in 0..clients {
+        all.push(shared_between(secret, me, Principal::Client(number)))?;
+    }
+    Ok(all)
+}
+
+fn shared_between(secret: &[u8], me: Principal, other: Principal) -> SharedKeys
+    requires me { number_of me < 2 ^ 32 }
+    requires other { number_of other < 2 ^ 32 }
+    ensures { result ≡ shared_keys secret.now me other }
+{
+    SharedKeys {
+        sending: key_from_to(secret, me, other),
+        receiving: key_from_to(secret, other, me),
+    }
+}
+
+fn key_from_to(secret: &[u8], from: Principal, to: Principal) -> [u8; 32]
+    requires from { number_of from < 2 ^ 32 }
+    requires to { number_of to < 2 ^ 32 }
+    ensures { result ≡ key_from_to secret.now from to }
+{
+    hmac(secret, &both(from.number(), to.number()))
+}
+
+// the bytes of two numbers, the most significant first
+#[tactic(auto, unfolding(bfs_model::specs::Items::word))]
+fn both(first: u32, second: u32) -> [u8; 8]
+    ensures { result ≡ word first ++ word second }
+{
+    let [a, b, c, d] = first.to_be_bytes();
+    let [e, f, g, h] = second.to_be_bytes();
+    [a, b, c, d, e, f, g, h]
+}

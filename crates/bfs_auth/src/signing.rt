@@ -1,0 +1,34 @@
+ghost use Rattle.std.specs.Prelude.{◌≡◌, ◌<◌, [], ◌∷◌, length, Some, IfOk};
+ghost use Rattle.bfs_auth.specs.Authenticators.{signature, signature_for_client};
+
+use crate::authenticators::Authenticator;
+use crate::keyed_hash::hmac;
+use crate::pairwise::Keys;
+use bfs_types::Memory;
+use std::alloc::Global;
+
+/// The authenticator of a text for all replicas: an entry for each, the sender itself among them. `Memory` if memory runs out.
+pub fn sign(alloc: Global, keys: &Keys, text: &[u8]) -> Result<Authenticator, Memory>
+    ensures { IfOk result (λ auth. auth ≡ signature keys.now text.now) }
+{
+    let mut auth = Authenticator::new(alloc);
+    for shared in keys.shared_with_each_replica() {
+        auth.push(hmac(&shared.sending, text))?;
+    }
+    Ok(auth)
+}
+
+/// The authenticator of a replica's text for one client: a single entry. `Memory` if memory runs out.
+pub fn sign_for_client(
+    alloc: Global,
+    keys: &Keys,
+    client: u32,
+    text: &[u8],
+) -> Result<Authenticator, Memory>
+    requires { client < length keys.now.clients }
+    ensures { IfOk result (λ auth. signature_for_client keys.now client text.now ≡ Some auth) }
+{
+    let mut auth = Authenticator::new(alloc);
+    auth.push(hmac(&keys.shared_with_client(client).sending, text))?;
+    Ok(auth)
+}

@@ -1,0 +1,10 @@
+//! Keyed hashes, authenticators and the last replies, as tests whose expected values come from outside: the standards' own
+//! vectors, and hashes that Python's hmac made.
+#![tactic(auto)]
+
+#[cfg(test)]
+mod authenticators;
+#[cfg(test)]
+mod hashes;
+#[cfg(test)]
+mod replies;

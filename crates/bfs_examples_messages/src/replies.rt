@@ -1,0 +1,85 @@
+//! The last reply to each client.
+ghost use Rattle.std.specs.Prelude.{◌≤◌, length};
+
+use bfs_replies::{Class, MOST_CLIENTS, RecordError, ReplyTable};
+use bfs_testing::words::same_bytes;
+use bfs_testing::{holds, same};
+use bfs_types::MOST_REPLY_BYTES;
+use std::test::Fail;
+
+#[test]
+fn requests_are_classified_by_the_last_one(rt: HostRuntime) -> Result<(), Fail> {
+    let alloc = rt.alloc();
+    let mut table = ReplyTable::new(alloc, 16)?;
+    same!(rt; table.classify(0, 5), Class::New);
+    table.record(0, 5, b"five")?;
+    same!(rt; table.classify(0, 5), Class::Repeat);
+    same!(rt; table.classify(0, 4), Class::Old);
+    same!(rt; table.classify(0, 6), Class::New);
+    same!(rt; table.classify(16, 1), Class::Unknown);
+    same!(rt; table.record(0, 5, b"again"), Err(RecordError::NotNewer));
+    same!(rt; table.record(0, 4, b"earlier"), Err(RecordError::NotNewer));
+    table.record(0, 6, b"six")?;
+    let (timestamp, reply) = table.last(0).ok_or("a reply")?;
+    same!(rt; timestamp, 6);
+    same_bytes(alloc, reply, b"six")?;
+    holds!(rt; table.last(1).is_none());
+    holds!(rt; table.last(16).is_none());
+    Ok(())
+}
+
+#[test]
+fn a_copy_answers_alike(rt: HostRuntime) -> Result<(), Fail> {
+    let alloc = rt.alloc();
+    let mut table = ReplyTable::new(alloc, 2)?;
+    table.record(1, 7, b"seven")?;
+    let copy = table.copy()?;
+    table.record(1, 8, b"eight")?;
+    same!(rt; copy.clients(), 2);
+    same!(rt; copy.classify(0, 0), Class::New);
+    same!(rt; copy.classify(1, 6), Class::Old);
+    same!(rt; copy.classify(1, 7), Class::Repeat);
+    same!(rt; copy.classify(1, 8), Class::New);
+    same!(rt; copy.classify(2, 8), Class::Unknown);
+    holds!(rt; copy.last(0).is_none());
+    let (timestamp, reply) = copy.last(1).ok_or("a reply")?;
+    same!(rt; timestamp, 7);
+    same_bytes(alloc, reply, b"seven")
+}
+
+#[test]
+fn replies_grow_to_the_most(rt: HostRuntime) -> Result<(), Fail> {
+    let alloc = rt.alloc();
+    let mut table = ReplyTable::new(alloc, MOST_CLIENTS)?;
+    for client in 0..MOST_CLIENTS {
+        let size = 16 * (client as usize + 1);
+        let reply = Vec::from_elem(alloc, 7u8, size)?;
+        holds!(rt; client < table.clients());
+        put(&mut table, client, reply.as_slice())?;
+        holds!(rt; length_of_last(&table, client) == Some(size));
+    }
+    let copy = table.copy()?;
+    same!(rt; length_of_last(&copy, 0), Some(16));
+    same!(rt; length_of_last(&copy, 1_023), Some(MOST_REPLY_BYTES));
+    Ok(())
+}
+
+fn put(table: &mut ReplyTable, client: u32, reply: &[u8]) -> Result<(), RecordError>
+    requires { length reply.now ≤ 16384 }
+{
+    if client < table.clients() {
+        table.record(client, 18_446_744_073_709_551_615, reply)?;
+    }
+    Ok(())
+}
+
+fn length_of_last(table: &ReplyTable, client: u32) -> Option<usize> {
+    let (_, reply) = table.last(client)?;
+    Some(reply.len())
+}
+
+#[test]
+fn refusals_have_numbers(rt: HostRuntime) {
+    same!(rt; RecordError::NotNewer.code(), 33);
+    same!(rt; RecordError::Memory.code(), 40);
+}

@@ -1,0 +1,4 @@
+-- Definitions of reply tables.
+pub mod Classes
+pub mod Errors
+pub mod Tables

@@ -1,0 +1,6 @@
+//! The last reply to each client, by which a request that comes again gets its reply and is not executed again.
+#![tactic(auto)]
+
+mod tables;
+
+pub use tables::{Class, MOST_CLIENTS, RecordError, ReplyTable};

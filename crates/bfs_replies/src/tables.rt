@@ -1,0 +1,194 @@
+ghost use Rattle.std.specs.Prelude.{◌≡◌, ◌≤◌, ◌<◌, ◌↔◌, ◌≢◌, length, replicate, None, IfOk, OnOk, OnErr, IsErrOf};
+ghost use Rattle.std.specs.Option.{option_map};
+ghost use Rattle.bfs_replies.specs.Classes.{class_of};
+ghost use Rattle.bfs_replies.specs.Errors.{record_code_of};
+ghost use Rattle.bfs_replies.specs.Tables.{last_of, recorded};
+
+use bfs_types::{Bytes, MOST_REPLY_BYTES, Memory};
+use std::alloc::Global;
+use std::marker::Model;
+use thiserror::Error;
+
+/// The most clients of a table.
+pub const MOST_CLIENTS: u32 = 1_024;
+
+/// What a request is to its client's last one.
+#[derive(Clone, Copy, Debug, PartialEq, Eq)]
+pub enum Class {
+    /// Later than the last one, or the first of its client: to be executed.
+    New,
+    /// The last one once more: it gets the reply that was recorded.
+    Repeat,
+    /// Earlier than the last one: it gets no reply.
+    Old,
+    /// Of a client that there isn't.
+    Unknown,
+}
+
+/// Why a reply is not recorded. The table is then as it was.
+#[derive(Clone, Copy, Debug, PartialEq, Eq, Error)]
+pub enum RecordError {
+    /// The timestamp is not above the client's last one.
+    #[error("the client has a reply to a request as late")]
+    NotNewer,
+    /// Memory ran out.
+    #[error("out of memory")]
+    Memory,
+}
+
+impl RecordError {
+    /// The number of the refusal.
+    pub fn code(self) -> u32
+        ensures { result ≡ record_code_of self }
+    {
+        match self {
+            RecordError::NotNewer => 33,
+            RecordError::Memory => 40,
+        }
+    }
+}
+
+#[derive(Debug, Drop)]
+struct Last {
+    timestamp: u64,
+    reply: Bytes<MOST_REPLY_BYTES>,
+}
+
+impl Model for Last {
+    ghost use Rattle.bfs_replies.specs.Tables as model;
+
+    ghost Value = { model.Last };
+
+    ghost view = { λ last. record { timestamp = last.timestamp; reply = last.reply } };
+}
+
+/// Of each client, by their numbers from 0 on, the timestamp of its last request that was executed, and the bytes of the reply to
+/// it, at most `MOST_REPLY_BYTES` (OSDI 1999 section 4.1).
+#[derive(Debug, Drop)]
+pub struct ReplyTable {
+    alloc: Global,
+    clients: Vec<Option<Last>>,
+}
+
+impl Model for ReplyTable {
+    ghost use Rattle.std.specs.Prelude.{length, ◌≤◌};
+    ghost use Rattle.bfs_replies.specs.Tables as model;
+
+    ghost Value = { model.Table };
+
+    ghost view = { λ table. table.clients.items };
+
+    ghost invariant = { λ table. length table.clients.items ≤ 1024 };
+}
+
+impl ReplyTable {
+    /// A table of so many clients, with no replies. `Memory` if memory runs out.
+    pub fn new(alloc: Global, clients: u32) -> Result<ReplyTable, Memory>
+        requires { clients ≤ 1024 }
+        ensures { IfOk result (λ table. table ≡ replicate clients None) }
+    {
+        Ok(ReplyTable {
+            alloc,
+            clients: none_yet(alloc, clients)?,
+        })
+    }
+
+    /// How many clients there are: they have the numbers below.
+    pub fn clients(&self) -> u32
+        ensures value { result ≡ length self.now }
+        ensures within { result ≤ 1024 }
+    {
+        self.clients.len() as u32
+    }
+
+    /// What a client's request with that timestamp is to its last one. It takes no memory.
+    pub fn classify(&self, client: u32, timestamp: u64) -> Class
+        ensures { result ≡ class_of self.now client timestamp }
+    {
+        match self.clients.get(client as usize) {
+            None => Class::Unknown,
+            Some(None) => Class::New,
+            Some(Some(last)) => {
+                if last.timestamp < timestamp {
+                    Class::New
+                } else if last.timestamp == timestamp {
+                    Class::Repeat
+                } else {
+                    Class::Old
+                }
+            }
+        }
+    }
+
+    /// A client's last timestamp, with the reply to it; `None` where there is no reply to it yet, or no such client. It takes no
+    /// memory.
+    pub fn last(&self, client: u32) -> Option<(u64, &[u8])>
+        ensures { option_map (λ last. record { timestamp = last.0; reply = last.1.now }) result ≡ last_of self.now client }
+    {
+        match self.clients.get(client as usize) {
+            Some(Some(last)) => Some((last.timestamp, last.reply.as_slice())),
+            _ => None,
+        }
+    }
+
+    /// Puts a copy of a reply in the place of the client's last one. It is refused unless `classify` answers `New`.
+    pub fn record(&mut self, client: u32, timestamp: u64, reply: &[u8]) -> Result<(), RecordError>
+        requires known { client < length self.old }
+        requires short { length reply.now ≤ 16384 }
+        ensures ok { OnOk result (self.new ≡ recorded self.old client timestamp reply.now) }
+        ensures err { OnErr result (self.new ≡ self.old) }
+        ensures newer { IsErrOf result RecordError.NotNewer ↔ (class_of self.old client timestamp ≢ Class.New) }
+    {
+        if self.classify(client, timestamp) != Class::New {
+            return Err(RecordError::NotNewer);
+        }
+        let Ok(reply) = Bytes::new(self.alloc, reply) else {
+            return Err(RecordError::Memory);
+        };
+        self.clients[client as usize] = Some(Last { timestamp, reply });
+        Ok(())
+    }
+
+    /// An equal table. `Memory` if memory runs out.
+    pub fn copy(&self) -> Result<ReplyTable, Memory>
+        ensures { IfOk result (λ table. table ≡ self.now) }
+    {
+        Ok(ReplyTable {
+            alloc: self.alloc,
+            clients: copy_of_all(self.alloc, &self.clients)?,
+        })
+    }
+}
+
+#[tactic(auto, using(std::proofs::lemmas::List::replicate_more))]
+fn none_yet(alloc: Global, clients: u32) -> Result<Vec<Option<Last>>, Memory>
+    ensures { IfOk result (λ all. all.items ≡ replicate clients None) }
+{
+    let mut all = Vec::new(alloc);
+    for _ in 0..clients {
+        all.push(None)?;
+    }
+    Ok(all)
+}
+
+fn copy_of_all(alloc: Global, clients: &[Option<Last>]) -> Result<Vec<Option<Last>>, Memory>
+    ensures { IfOk result (λ copies. copies.items ≡ clients.now) }
+{
+    let mut copies = Vec::new(alloc);
+    for last in clients {
+        copies.push(copy_of(alloc, last)?)?;
+    }
+    Ok(copies)
+}
+
+fn copy_of(alloc: Global, last: &Option<Last>) -> Result<Option<Last>, Memory>
+    ensures { IfOk result (λ copy. copy ≡ last.now) }
+{
+    match last {
+        None => Ok(None),
+        Some(last) => Ok(Some(Last {
+            timestamp: last.timestamp,
+            reply: Bytes::new(alloc, last.reply.as_slice())?,
+        })),
+    }
+}
