@@ -5,10 +5,9 @@ ghost use Rattle.bfs_model.specs.Serial.{execute};
 ghost use Rattle.bfs_replay.specs.Errors.{replay_error_code};
 ghost use Rattle.bfs_replay.specs.Output.{as_batch, block_output, files_after, event_output, output_of};
 
-use crate::events::{Block, Event};
 use crate::replies::print_replies;
-use crate::trace::Trace;
 use bfs_serial::{Batch, ExecError, FileSystem, PushError, execute_serial};
+use bfs_trace::{Block, Event, Trace};
 use std::alloc::Global;
 use std::io::Write;
 use thiserror::Error;
