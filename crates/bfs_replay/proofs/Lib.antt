@@ -1,4 +1,5 @@
 pub mod CommandLine
+pub mod Counts
 pub mod ReplyLines
 pub mod Rows
 pub mod Takes

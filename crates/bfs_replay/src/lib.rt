@@ -2,15 +2,18 @@
 #![tactic(auto)]
 
 mod command_line;
+mod executor;
 mod failure;
 mod input;
 mod replies;
 mod run;
 mod usage;
 
+pub use bfs_parallel::Engine;
 pub use bfs_trace::{Block, Event, Request, Trace, TraceError, parse_trace, sent_calls};
+pub use bfs_workers::Workers;
 pub use command_line::options;
 pub use failure::Failure;
 pub use input::{MOST_TRACE_BYTES, read_input};
 pub use run::{Outcome, ReplayError, run_trace};
-pub use usage::{Engine, Options, UsageError};
+pub use usage::{Options, UsageError};
