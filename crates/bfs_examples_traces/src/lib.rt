@@ -1,4 +1,4 @@
-//! Worked examples of traces and of the command line, as tests whose expected values were written by hand.
+//! Worked examples of traces and their verbs, as tests whose expected values come from outside.
 #![tactic(auto)]
 
 #[cfg(test)]

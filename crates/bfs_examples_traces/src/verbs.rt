@@ -2,8 +2,8 @@
 //!
 //! The bytes of the calls are those of another implementation: `rpcgen` made the encoders of the arguments from the declarations of
 //! RFC 1094 section 2, and libtirpc's `xdr_callmsg` and `xdr_authunix_parms` wrote the header and the credential before them.
-use bfs_replay::{Event, Request, TraceError, parse_trace, run_trace};
-use bfs_testing::{holds, same};
+use bfs_testing::same;
+use bfs_trace::{Event, Request, TraceError, parse_trace};
 use std::alloc::Global;
 use std::test::Fail;
 
@@ -282,36 +282,5 @@ fn takes_calls_of_at_most_16384_bytes(rt: HostRuntime) -> Result<(), Fail> {
     same!(rt; length_of_call(alloc, longest.as_str()), Some(16_384));
     let longer = trace_of_long_word(alloc, "write #3 0 x", "61", 16_269, "")?;
     same!(rt; length_of_call(alloc, longer.as_str()), None);
-    Ok(())
-}
-
-/// What the run of a trace prints.
-fn output(rt: &HostRuntime, text: &str) -> Result<Vec<u8>, Fail> {
-    let trace = parse_trace(rt.alloc(), text.as_bytes())?;
-    let mut out = Vec::new(rt.alloc());
-    run_trace(rt, &trace, &mut out)?;
-    Ok(out)
-}
-
-const GARBAGE: &[u8] = b"c0 t1 000000010000000100000000000000000000000000000004\n";
-
-#[test]
-fn sends_what_is_longer_than_the_server_takes(rt: HostRuntime) -> Result<(), Fail> {
-    let alloc = rt.alloc();
-    let name = trace_of_long_word(alloc, "remove #2 ", "a", 256, "")?;
-    holds!(rt; output(&rt, name.as_str())?.as_slice() == GARBAGE);
-    let path = trace_of_long_word(alloc, "symlink #2 s ", "a", 1_025, " - - - - - -")?;
-    holds!(rt; output(&rt, path.as_str())?.as_slice() == GARBAGE);
-    let bytes = trace_of_long_word(alloc, "write #2 0 x", "00", 8_193, "")?;
-    holds!(rt; output(&rt, bytes.as_str())?.as_slice() == GARBAGE);
-    Ok(())
-}
-
-#[test]
-fn carries_out_the_calls_of_verbs(rt: HostRuntime) -> Result<(), Fail> {
-    let text =
-        "batch 1.000000\n0 1 create #2 f 600 - - - - -\n0 2 write #3 0 x6869\n0 3 read #3 0 9\n";
-    let out = output(&rt, text)?;
-    holds!(rt; out.as_slice().ends_with(b"0000000268690000\n"));
     Ok(())
 }

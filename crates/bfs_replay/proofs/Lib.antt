@@ -1,12 +1,6 @@
 pub mod CommandLine
-pub mod Cuts
-pub mod Decoded
-pub mod Digits
-pub mod Headers
+pub mod Counts
 pub mod ReplyLines
 pub mod Rows
-pub mod SentArguments
-pub mod SentHeaders
-pub mod SpelledCalls
 pub mod Takes
 pub mod Usages

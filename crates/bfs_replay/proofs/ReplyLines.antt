@@ -4,7 +4,7 @@ use Rattle.std.specs.List.{flat_map, slice_get, zip}
 use Rattle.std.proofs.lemmas.List.{flat_map_more, take_all, take_more}
 use Rattle.std.proofs.lemmas.Option.{get_or_from_slice_get}
 use Rattle.std.proofs.lemmas.Slice.Zip.{get_or-zip, length-zip}
-use Rattle.bfs_replay.specs.Events.{Request}
+use Rattle.bfs_trace.specs.Events.{Request}
 use Rattle.bfs_replay.specs.Output.{reply_line, reply_lines}
 
 abbrev pub printed : Request × List ℕ → List ℕ

@@ -4,8 +4,8 @@ use Rattle.bfs_replay.specs.declared.failure.Failure.{Failure}
 use Rattle.bfs_replay.specs.declared.failure.Failure.TheVariants.{Usage, Input, Output, Line, Memory}
 use Rattle.bfs_replay.specs.declared.run.ReplayError.{ReplayError}
 use Rattle.bfs_replay.specs.declared.run.ReplayError.TheVariants as run
-use Rattle.bfs_replay.specs.declared.trace.TraceError.{TraceError}
-use Rattle.bfs_replay.specs.declared.trace.TraceError.TheVariants as trace
+use Rattle.bfs_trace.specs.declared.trace.TraceError.{TraceError}
+use Rattle.bfs_trace.specs.declared.trace.TraceError.TheVariants as trace
 use Rattle.bfs_replay.specs.declared.usage.UsageError.{UsageError}
 use Rattle.bfs_replay.specs.declared.usage.UsageError.TheVariants as usage
 
@@ -13,10 +13,6 @@ abbrev pub replay_error_code : ReplayError → ℕ
 replay_error_code run.WriteFault = 39
 replay_error_code run.Memory = 40
 replay_error_code run.Failed = 41
-
-abbrev pub trace_error_code : TraceError → ℕ
-trace_error_code (trace.BadLine number) = 37
-trace_error_code trace.Memory = 40
 
 abbrev pub usage_error_code : UsageError → ℕ
 usage_error_code usage.Usage = 42

@@ -1,14 +1,4 @@
 -- What the contracts of bfs_replay cite.
-pub mod Words
-pub mod Texts
-pub mod Operands
-pub mod Verbs
-pub mod Messages
-pub mod SentCalls
-pub mod Events
-pub mod Lines
-pub mod Trace
-pub mod Reading
 pub mod Output
 pub mod CommandLine
 pub mod Errors

@@ -4,9 +4,9 @@ use Rattle.std.specs.List.{flat_map, fold, zip}
 use Rattle.hex.specs.Hex.{encode_lower}
 use Rattle.bfs_model.specs.Serial.{Batch, execute}
 use Rattle.bfs_model.specs.Tree.{FileSystem, new_file_system}
-use Rattle.bfs_replay.specs.Events.{Block, Request}
-use Rattle.bfs_replay.specs.declared.events.Event.{Event}
-use Rattle.bfs_replay.specs.declared.events.Event.TheVariants as event
+use Rattle.bfs_trace.specs.Events.{Block, Request}
+use Rattle.bfs_trace.specs.declared.events.Event.{Event}
+use Rattle.bfs_trace.specs.declared.events.Event.TheVariants as event
 
 -- a reply as it is printed: lower-case hexadecimal digits, or `-` for no bytes
 abbrev pub reply_text : List ℕ → List ℕ

@@ -1,20 +1,47 @@
-ghost use Rattle.std.specs.Prelude.{◌≡◌, ◌≢◌, ◌↔◌, [], map, option_map, IfOk, IfErr};
-ghost use Rattle.clap.specs.Words.{app_of, fault_of, found_of, kind_of, matches_of, rows_of};
-ghost use Rattle.bfs_replay.specs.CommandLine.{Asks, as_asked, asked_among, asked_by, engine_named, replay_app};
+ghost use Rattle.std.specs.Prelude.{◌≡◌, ◌≢◌, ◌↔◌, [], false, map, option_map, IfOk, IfErr};
+ghost use Rattle.clap.specs.Words.{app_of, fault_of, found_of, kind_of, matches_of, rows_of, rule_of};
+ghost use Rattle.bfs_replay.specs.CommandLine.{Asks, as_asked, asked_among, asked_by, engine_named, engine_rule, replay_app, workers_among, workers_rule};
 
-use crate::usage::{Engine, Options, UsageError};
+use crate::usage::{Options, UsageError};
+use bfs_parallel::Engine;
+use bfs_workers::{MOST_WORKERS, Workers};
 use clap::error::ErrorKind;
 use clap::{Arg, ArgMatches, Command};
 use std::alloc::{AllocError, Global};
 use std::convert::AsStr;
 
+/// `--workers N`
+fn workers_argument<'a>(alloc: Global) -> Arg<'a>
+    ensures rule { rule_of result ≡ workers_rule }
+    ensures local { result.global ≡ false }
+{
+    Arg::new(alloc, "workers")
+        .long("workers")
+        .default_value("4")
+        .value_parser(clap::value_parser!(u32).range(1..=MOST_WORKERS as i64))
+}
+
+/// `--engine NAME`
+fn engine_argument<'a>(alloc: Global) -> Arg<'a>
+    ensures rule { rule_of result ≡ engine_rule }
+    ensures local { result.global ≡ false }
+{
+    Arg::new(alloc, "engine")
+        .long("engine")
+        .default_value("runs")
+}
+
 /// The words that `replay` takes.
 fn command<'a>(alloc: Global) -> Result<Command<'a>, AllocError>
     ensures app { IfOk result (λ c. app_of c ≡ replay_app) }
 {
-    let engine = Arg::new(alloc, "engine").long("engine");
+    let workers = workers_argument(alloc);
+    let engine = engine_argument(alloc);
     let trace = Arg::new(alloc, "trace").required(true);
-    let command = Command::new(alloc, "replay").arg(engine)?.arg(trace)?;
+    let command = Command::new(alloc, "replay")
+        .arg(workers)?
+        .arg(engine)?
+        .arg(trace)?;
     Ok(command)
 }
 
@@ -44,13 +71,22 @@ fn matches<'a, S: AsStr>(alloc: Global, words: &'a [S]) -> Result<ArgMatches<'a>
     }
 }
 
-/// The engine of that name, or `Engine::Serial` where none is named.
-fn engine_named(name: Option<&str>) -> Option<Engine>
-    ensures { result ≡ engine_named (option_map (λ name. name.now) name.entry) }
+/// How many workers the matches ask for.
+fn workers_among(found: &ArgMatches<'_>) -> Option<Workers>
+    ensures { result ≡ workers_among (rows_of (found_of found.now)) }
+{
+    let count = found.get_one::<u32>("workers")?;
+    Workers::new(count)
+}
+
+/// What the engine of that name is, or the executor without one: `serial`.
+fn engine_named(name: &str) -> Option<Option<Engine>>
+    ensures { result ≡ engine_named name.now }
 {
     match name {
-        Some(name) if name != "serial" => None,
-        _ => Some(Engine::Serial),
+        "runs" => Some(Some(Engine::Runs)),
+        "serial" => Some(None),
+        _ => None,
     }
 }
 
@@ -59,17 +95,27 @@ fn engine_named(name: Option<&str>) -> Option<Engine>
 fn options_among<'a>(found: &ArgMatches<'a>) -> Option<Options<'a>>
     ensures { option_map as_asked result ≡ asked_among (rows_of (found_of found.now)) }
 {
-    let engine = engine_named(found.get_str("engine"))?;
+    let workers = workers_among(found)?;
+    let engine = engine_named(found.get_str("engine")?)?;
     let trace = found.get_str("trace")?;
-    Some(Options { trace, engine })
+    Some(Options {
+        workers,
+        engine,
+        trace,
+    })
 }
 
-/// Reads the words of the command line, the program's name first: `replay [--engine serial] TRACE`. Any other engine, any
-/// other option (`--help` and `--version` among them), no trace and two traces are `UsageError::Usage`.
+/// Reads the words of the command line, the program's name first: `replay [--workers N] [--engine runs|serial] TRACE`. N is a number
+/// from 1 to 64, in decimal digits behind a `+` or not, and 4 where there is none; the engine is `runs` where there is none. Any other
+/// number or engine, an option twice, any other option (`--help` and `--version` among them), no trace and two traces are
+/// `UsageError::Usage`.
 #[tactic(auto, using(crate::proofs::CommandLine::asked_where_taken, crate::proofs::CommandLine::none_where_refused))]
 pub fn options<'a, S: AsStr>(alloc: Global, words: &'a [S]) -> Result<Options<'a>, UsageError>
     ensures { Asks result (asked_by (map S.text words.now)) }
 {
     let found = matches(alloc, words)?;
-    options_among(&found).ok_or(UsageError::Usage)
+    match options_among(&found) {
+        Some(options) => Ok(options),
+        None => Err(UsageError::Usage),
+    }
 }

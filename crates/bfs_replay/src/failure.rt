@@ -2,8 +2,8 @@ ghost use Rattle.std.specs.Prelude.{◌≡◌};
 ghost use Rattle.bfs_replay.specs.Errors.{exit_status, failure_of_options, failure_of_run, failure_of_trace};
 
 use crate::run::ReplayError;
-use crate::trace::TraceError;
 use crate::usage::UsageError;
+use bfs_trace::TraceError;
 use thiserror::Error;
 
 /// Why the program ends without its work done. What is printed of it is what follows `replay: ` on standard error.

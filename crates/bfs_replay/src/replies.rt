@@ -3,9 +3,9 @@ ghost use Rattle.std.specs.Io.KnownBytes.{Appends};
 ghost use Rattle.std.specs.IoError.{error_kind};
 ghost use Rattle.bfs_replay.specs.Output.{reply_line, reply_lines};
 
-use crate::events::Request;
 use crate::run::ReplayError;
 use bfs_serial::Replies;
+use bfs_trace::Request;
 use std::alloc::Global;
 use std::io;
 use std::io::{ErrorKind, Write};

@@ -5,12 +5,15 @@ ghost use Rattle.bfs_model.specs.Serial.{execute};
 ghost use Rattle.bfs_replay.specs.Errors.{replay_error_code};
 ghost use Rattle.bfs_replay.specs.Output.{as_batch, block_output, files_after, event_output, output_of};
 
-use crate::events::{Block, Event};
+use crate::executor::Executor;
 use crate::replies::print_replies;
-use crate::trace::Trace;
-use bfs_serial::{Batch, ExecError, FileSystem, PushError, execute_serial};
+use bfs_parallel::Engine;
+use bfs_serial::{Batch, ExecError, FileSystem, PushError};
+use bfs_trace::{Block, Event, Trace};
+use bfs_workers::Workers;
 use std::alloc::Global;
 use std::io::Write;
+use std::thread::Threads;
 use thiserror::Error;
 
 /// How a run ended.
@@ -48,28 +51,34 @@ impl ReplayError {
 }
 
 /// Lets the events of a trace happen one after another on a new file system: the requests of a block are executed as one
-/// batch, and then a line is written for each of them: `c<client> t<timestamp> <reply>`, the reply in lower-case hexadecimal
-/// digits, or `-` where it has no bytes.
-pub fn run_trace<R: AllocGlobal, W: Write>(
+/// batch, by the workers as the engine says, or one after another where there is no engine; and then a line is written for each of
+/// them: `c<client> t<timestamp> <reply>`, the reply in lower-case hexadecimal digits, or `-` where it has no bytes. What is written
+/// depends on the trace alone.
+pub fn run_trace<R: AllocGlobal + Threads + Sync, W: Write>(
     rt: &R,
     trace: &Trace,
+    workers: Workers,
+    engine: Option<Engine>,
     writer: &mut W,
 ) -> Result<Outcome, ReplayError>
     ensures written { OnOk result (Appends (W.contents writer.old) (W.contents writer.new) (output_of trace.now)) }
     ensures live { IfErr result (λ e. e ≢ ReplayError.Failed) }
 {
+    let executor = Executor { workers, engine };
     let alloc = rt.alloc();
     let Ok(mut files) = FileSystem::new(alloc) else {
         return Err(ReplayError::Memory);
     };
     for event in trace.events() {
-        run_event(alloc, &mut files, event, writer)?;
+        run_event(rt, alloc, &executor, &mut files, event, writer)?;
     }
     Ok(Outcome::Agree)
 }
 
-fn run_event<W: Write>(
+fn run_event<R: Threads + Sync, W: Write>(
+    rt: &R,
     alloc: Global,
+    executor: &Executor,
     files: &mut FileSystem,
     event: &Event,
     writer: &mut W,
@@ -80,13 +89,15 @@ fn run_event<W: Write>(
     ensures fails { IfErr result (λ e. e ≢ ReplayError.Failed) }
 {
     match event {
-        Event::Block(block) => run_block(alloc, files, block, writer),
+        Event::Block(block) => run_block(rt, alloc, executor, files, block, writer),
     }
 }
 
 // executes the requests of a block as one batch, and writes a line for each
-fn run_block<W: Write>(
+fn run_block<R: Threads + Sync, W: Write>(
+    rt: &R,
     alloc: Global,
+    executor: &Executor,
     files: &mut FileSystem,
     block: &Block,
     writer: &mut W,
@@ -97,7 +108,7 @@ fn run_block<W: Write>(
     ensures fails { IfErr result (λ e. e ≢ ReplayError.Failed) }
 {
     let batch = make_batch(alloc, block)?;
-    match execute_serial(alloc, files, &batch) {
+    match executor.execute(rt, alloc, files, &batch) {
         Ok(replies) => print_replies(alloc, block.requests(), &replies, writer),
         Err(ExecError::Memory) => Err(ReplayError::Memory),
         Err(ExecError::Failed) => Err(ReplayError::Failed),

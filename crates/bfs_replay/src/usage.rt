@@ -1,29 +1,26 @@
 ghost use Rattle.std.specs.Prelude.{◌≡◌};
 ghost use Rattle.bfs_replay.specs.Errors.{usage_error_code};
 
+use bfs_parallel::Engine;
+use bfs_workers::Workers;
 use thiserror::Error;
-
-/// What executes the requests of a block.
-#[derive(Clone, Copy, Debug, PartialEq, Eq)]
-pub enum Engine {
-    /// One replica that executes them one after another.
-    Serial,
-}
 
 /// What the words of the command line ask for.
 #[derive(Clone, Copy, Debug, PartialEq, Eq)]
 pub struct Options<'a> {
+    /// The workers that execute the requests of a block, where there is an engine.
+    pub workers: Workers,
+    /// Which requests they execute at one time, or `None` where requests are executed one after another.
+    pub engine: Option<Engine>,
     /// The path of the trace.
     pub trace: &'a str,
-    /// What executes it.
-    pub engine: Engine,
 }
 
 /// Why the words of the command line are not taken.
 #[derive(Clone, Copy, Debug, PartialEq, Eq, Error)]
 pub enum UsageError {
-    /// The words are not of the form `replay [--engine serial] TRACE`.
-    #[error("usage: replay [--engine serial] TRACE")]
+    /// The words are not of the form `replay [--workers N] [--engine runs|serial] TRACE`.
+    #[error("usage: replay [--workers N] [--engine runs|serial] TRACE")]
     Usage,
     /// Memory ran out.
     #[error("out of memory")]

@@ -1,14 +1,16 @@
-//! Replays a trace of NFS calls: `replay [--engine serial] TRACE`. docs/TRACE.md says what a trace is and what is printed.
+//! Replays a trace of NFS calls: `replay [--workers N] [--engine runs|serial] TRACE`. docs/TRACE.md says what a trace is and what is printed.
 #![tactic(auto)]
 
-use bfs_replay::{Engine, Failure, Outcome, options, parse_trace, read_input, run_trace};
+use bfs_replay::{Failure, Outcome, options, parse_trace, read_input, run_trace};
 use std::fs::File;
 use std::io;
 use std::io::{BufWriter, ErrorKind, Write};
 use std::process::ExitCode;
+use std::rt::Runtime;
+use std::thread::Threads;
 
 fn main(rt: HostRuntime) -> ExitCode {
-    match replay(&rt) {
+    match replay(&rt, rt.stdout()) {
         Ok(Outcome::Agree) => ExitCode::SUCCESS,
         Err(failure) => {
             // where standard error refuses too, the status alone tells
@@ -19,7 +21,10 @@ fn main(rt: HostRuntime) -> ExitCode {
 }
 
 /// Faults come in this order: the words, reading the trace, its lines, and the run with its output.
-fn replay(rt: &HostRuntime) -> Result<Outcome, Failure> {
+fn replay<R: Runtime + AllocGlobal + Threads + Sync, W: Write>(
+    rt: &R,
+    output: W,
+) -> Result<Outcome, Failure> {
     let alloc = rt.alloc();
     let words: Vec<String> = std::env::args(rt)
         .map_err(|error| memory_or(error, Failure::Usage))?
@@ -29,10 +34,8 @@ fn replay(rt: &HostRuntime) -> Result<Outcome, Failure> {
     let file = File::open(rt, options.trace).map_err(|error| memory_or(error, Failure::Input))?;
     let text = read_input(alloc, file)?;
     let trace = parse_trace(alloc, text.as_slice())?;
-    let mut out = BufWriter::new(alloc, rt.stdout()).map_err(not_written)?;
-    let outcome = match options.engine {
-        Engine::Serial => run_trace(rt, &trace, &mut out)?,
-    };
+    let mut out = BufWriter::new(alloc, output).map_err(not_written)?;
+    let outcome = run_trace(rt, &trace, options.workers, options.engine, &mut out)?;
     out.flush().map_err(not_written)?;
     Ok(outcome)
 }

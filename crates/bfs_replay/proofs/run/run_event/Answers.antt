@@ -1,8 +1,8 @@
 -- An event is a block, and happens as that block does.
 use Rattle.std.proofs.Common.{◌≡◌, refl}
-use Rattle.bfs_replay.specs.Events.{Block}
-use Rattle.bfs_replay.specs.declared.events.Event.{Event}
-use Rattle.bfs_replay.specs.declared.events.Event.TheVariants as event
+use Rattle.bfs_trace.specs.Events.{Block}
+use Rattle.bfs_trace.specs.declared.events.Event.{Event}
+use Rattle.bfs_trace.specs.declared.events.Event.TheVariants as event
 use Rattle.bfs_replay.proofs.run.run_event.Goals as goal
 
 block_of : (e : Event) → (block : Block) × (e ≡ event.Block block)

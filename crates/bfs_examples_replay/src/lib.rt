@@ -1,0 +1,11 @@
+//! Worked examples of the command line and of runs of traces, as tests whose expected values come from outside.
+#![tactic(auto)]
+
+#[cfg(test)]
+mod command_line;
+#[cfg(test)]
+mod engines;
+#[cfg(test)]
+mod input;
+#[cfg(test)]
+mod output;

@@ -1,0 +1,58 @@
+-- The grammar of a line: words, with one space between two words.
+use Rattle.std.specs.Prelude.{ℕ, ◌-◌, ◌*◌, ◌==◌, ◌||◌, List, [], ◌∷◌, length, Option, Some, None, nat_lt, bytes_eq, codes, if◌then◌else◌}
+use Rattle.std.specs.Result.{result_ok}
+use Rattle.hex.specs.Hex.{decode_of}
+use Rattle.bfs_model.specs.Call.{◌>>=◌}
+use Rattle.bfs_model.specs.Limits.{most_request_bytes}
+use Rattle.bfs_trace.specs.Messages.{message}
+use Rattle.bfs_trace.specs.Operands.{time_spelled}
+use Rattle.bfs_trace.specs.Texts.{within_request}
+use Rattle.bfs_trace.specs.Verbs.{call_in_words, procedure_named}
+use Rattle.bfs_trace.specs.Words.{number_spelled, only_word, parts}
+use Rattle.bfs_trace.specs.declared.lines.TheConstants.{CLIENTS}
+use Rattle.bfs_trace.specs.declared.lines.Line.{Line}
+use Rattle.bfs_trace.specs.declared.lines.Line.TheVariants as line
+
+-- `HEX`: from 1 to 16,384 bytes by two hexadecimal digits each, of both cases
+unfoldable pub call_spelled : List ℕ → Option (List ℕ)
+call_spelled word = if length word == 0 || nat_lt (2 * most_request_bytes) (length word) then None else result_ok (decode_of word)
+
+-- what stands behind `raw`: `HEX`, the whole call
+abbrev pub raw_call : List (List ℕ) → Option (List ℕ)
+raw_call words = only_word words >>= call_spelled
+
+-- what stands behind another verb: the words of its call
+abbrev pub verb_call : (client timestamp : ℕ) → (verb : List ℕ) → List (List ℕ) → Option (List ℕ)
+verb_call client timestamp verb words = do
+  procedure ← procedure_named verb
+  call ← call_in_words procedure words
+  within_request (message client timestamp procedure call)
+
+-- the bytes of the call that a verb and the words behind it spell
+abbrev pub call_by_verb : (client timestamp : ℕ) → List (List ℕ) → Option (List ℕ)
+call_by_verb client timestamp [] = None
+call_by_verb client timestamp (verb ∷ words) = if bytes_eq verb (codes "raw") then raw_call words else verb_call client timestamp verb words
+
+-- what stands behind `batch`: `S.UUUUUU`
+abbrev pub batch_line : List (List ℕ) → Option Line
+batch_line words = do
+  word ← only_word words
+  time ← time_spelled word
+  Some (line.Batch time)
+
+-- `CLIENT T VERB ..`: a client below the number of clients, a timestamp below 2^64, and a call
+abbrev pub request_line : (client : List ℕ) → List (List ℕ) → Option Line
+request_line client [] = None
+request_line client (timestamp ∷ words) = do
+  c ← number_spelled (CLIENTS - 1) client
+  t ← number_spelled 18446744073709551615 timestamp
+  call ← call_by_verb c t words
+  Some (line.Request (record { client = c; timestamp = t; call = call }))
+
+abbrev pub line_in : List (List ℕ) → Option Line
+line_in [] = None
+line_in (first ∷ words) = if bytes_eq first (codes "batch") then batch_line words else request_line first words
+
+-- what a line says, or None where it breaks the grammar
+unfoldable pub line_spelled : List ℕ → Option Line
+line_spelled text = line_in (parts 32 text)

@@ -1,0 +1,142 @@
+ghost use Rattle.std.specs.Prelude.{◌≡◌, ◌≤◌, [], length};
+ghost use Rattle.bfs_model.specs.Limits.{most_request_bytes, most_requests};
+ghost use Rattle.bfs_trace.specs.Reading.{Reads};
+ghost use Rattle.bfs_trace.specs.Trace.{block_with, event_with};
+
+use crate::fault::Fault;
+use bfs_types::{MOST_REQUESTS, Time};
+use std::alloc::Global;
+use std::marker::Model;
+
+/// The call that a client sends under its timestamp. It has at most `MOST_REQUEST_BYTES` bytes.
+#[derive(Debug, Drop)]
+pub struct Request {
+    client: u32,
+    timestamp: u64,
+    call: Vec<u8>,
+}
+
+impl Model for Request {
+    ghost use Rattle.std.specs.Prelude.{◌≤◌, length};
+    ghost use Rattle.bfs_model.specs.Limits.{most_request_bytes};
+    ghost use Rattle.bfs_trace.specs.Events as model;
+
+    ghost Value = { model.Request };
+
+    ghost view = { λ request. record { client = request.client; timestamp = request.timestamp; call = request.call.items } };
+
+    ghost invariant = { λ request. length request.call.items ≤ most_request_bytes };
+}
+
+impl Request {
+    /// The request of that client with the bytes of a call message (RFC 5531 section 9).
+    pub(crate) fn new(client: u32, timestamp: u64, call: Vec<u8>) -> Request
+        requires { length call.items ≤ most_request_bytes }
+        ensures { result ≡ record { client = client; timestamp = timestamp; call = call.items } }
+    {
+        Request {
+            client,
+            timestamp,
+            call,
+        }
+    }
+
+    /// The number of the client, counted from 0.
+    pub fn client(&self) -> u32
+        ensures { result ≡ self.now.client }
+    {
+        self.client
+    }
+
+    /// The number by which the client tells its requests apart.
+    pub fn timestamp(&self) -> u64
+        ensures { result ≡ self.now.timestamp }
+    {
+        self.timestamp
+    }
+
+    /// The bytes of the call message (RFC 5531 section 9).
+    pub fn call(&self) -> &[u8]
+        ensures value { result.now ≡ self.now.call }
+        ensures within { length result.now ≤ most_request_bytes }
+    {
+        self.call.as_slice()
+    }
+}
+
+/// Requests that are executed as one batch, at one time. There are at most `MOST_REQUESTS` of them.
+#[derive(Debug, Drop)]
+pub struct Block {
+    time: Time,
+    requests: Vec<Request>,
+}
+
+impl Model for Block {
+    ghost use Rattle.std.specs.Prelude.{◌≤◌, length};
+    ghost use Rattle.bfs_model.specs.Limits.{most_requests};
+    ghost use Rattle.bfs_trace.specs.Events as model;
+
+    ghost Value = { model.Block };
+
+    ghost view = { λ block. record { time = block.time; requests = block.requests.items } };
+
+    ghost invariant = { λ block. length block.requests.items ≤ most_requests };
+}
+
+impl Block {
+    /// A block at that time that has no requests yet.
+    pub(crate) fn new(alloc: Global, time: Time) -> Block
+        ensures { result ≡ record { time = time; requests = [] } }
+    {
+        Block {
+            time,
+            requests: Vec::new(alloc),
+        }
+    }
+
+    /// Puts a request behind the others, if there is room for it.
+    pub(crate) fn push(&mut self, request: Request) -> Result<(), Fault>
+        ensures { Reads (λ _. self.new) result (block_with request self.old) }
+    {
+        if self.requests.len() == MOST_REQUESTS {
+            return Err(Fault::Bad);
+        }
+        match self.requests.push(request) {
+            Ok(()) => Ok(()),
+            Err(_) => Err(Fault::Memory),
+        }
+    }
+
+    /// The time that is proposed for the batch.
+    pub fn time(&self) -> Time
+        ensures { result ≡ self.now.time }
+    {
+        self.time
+    }
+
+    /// The requests in their order.
+    pub fn requests(&self) -> &[Request]
+        ensures value { result.now ≡ self.now.requests }
+        ensures within { length result.now ≤ most_requests }
+    {
+        self.requests.as_slice()
+    }
+}
+
+/// One thing that happens in a trace.
+#[derive(Debug, Drop)]
+pub enum Event {
+    /// Requests are executed as one batch.
+    Block(Block),
+}
+
+impl Event {
+    /// Puts a request behind the others of a block with room for it.
+    pub(crate) fn push_request(&mut self, request: Request) -> Result<(), Fault>
+        ensures { Reads (λ _. self.new) result (event_with request self.old) }
+    {
+        match self {
+            Event::Block(block) => block.push(request),
+        }
+    }
+}

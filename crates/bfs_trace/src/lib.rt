@@ -1,0 +1,21 @@
+//! Traces: what happens to a new file system, event by event, as lines of text tell it.
+#![tactic(auto)]
+
+mod events;
+mod fault;
+mod header;
+mod items;
+mod lines;
+mod numbers;
+mod operands;
+mod parser;
+pub mod sent_calls;
+mod texts;
+mod times;
+mod trace;
+mod verbs;
+mod words;
+
+pub use events::{Block, Event, Request};
+pub use parser::parse_trace;
+pub use trace::{Trace, TraceError};
