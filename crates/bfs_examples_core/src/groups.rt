@@ -1,0 +1,107 @@
+//! Groups of a batch on the machine, and what is compared.
+use bfs_core::{Core, CoreError, Event};
+use bfs_levels::{Group, plan_group};
+use bfs_serial::{Batch, FileSystem, execute_serial};
+use bfs_testing::asserts::compared;
+use bfs_testing::numbers::CREATE;
+use bfs_testing::words::{A, B, C, ROOT, UNSET, call, put_parts};
+use bfs_types::Time;
+use std::alloc::Global;
+use std::test::Fail;
+
+/// A procedure, and the words of its arguments.
+pub(crate) struct Asked(pub(crate) u32, pub(crate) &'static [&'static [u32]]);
+
+pub(crate) fn batch_of(alloc: Global, second: u32, calls: &[Asked]) -> Result<Batch, Fail> {
+    let mut batch = Batch::new(alloc);
+    batch.set_time(Time::new(second, 0).ok_or("a time")?);
+    for Asked(procedure, arguments) in calls {
+        let mut request = call(alloc, 1, *procedure)?;
+        put_parts(&mut request, arguments)?;
+        batch.push(request.as_slice())?;
+    }
+    Ok(batch)
+}
+
+static MAKING: &[Asked] = &[
+    Asked(CREATE, &[ROOT, A, UNSET]),
+    Asked(CREATE, &[ROOT, B, UNSET]),
+    Asked(CREATE, &[ROOT, C, UNSET]),
+];
+
+/// A file system with the files `a`, `b` and `c`, of the fileids 3, 4 and 5.
+pub(crate) fn with_files(alloc: Global) -> Result<FileSystem, Fail> {
+    let mut files = FileSystem::new(alloc)?;
+    let batch = batch_of(alloc, 1, MAKING)?;
+    execute_serial(alloc, &mut files, &batch)?;
+    Ok(files)
+}
+
+/// The requests of a batch from one place to another, as a batch of their own.
+pub(crate) fn part_of(alloc: Global, batch: &Batch, from: usize, to: usize) -> Result<Batch, Fail> {
+    let mut part = Batch::new(alloc);
+    part.set_time(batch.time());
+    for place in from..to.min(batch.len()) {
+        part.push(batch.request(place))?;
+    }
+    Ok(part)
+}
+
+/// The machine of the batch's group that begins with that request, on a file system on which those before it were executed.
+pub(crate) fn core_of<'a>(
+    alloc: Global,
+    files: &mut FileSystem,
+    batch: &'a Batch,
+    first: usize,
+) -> Result<Core<'a>, Fail> {
+    let (tree, ordinal, last) = files.take_parts().ok_or("a live file system")?;
+    let time = batch.time().effective_after(last);
+    let group = plan_group(alloc, &tree, ordinal, time, batch, first)?;
+    Ok(Core::new(alloc, tree, group, batch, ordinal, time)?)
+}
+
+/// The same, after these events.
+pub(crate) fn played<'a>(
+    alloc: Global,
+    files: &mut FileSystem,
+    batch: &'a Batch,
+    first: usize,
+    events: &[Event],
+) -> Result<Core<'a>, CoreError> {
+    let Some((tree, ordinal, last)) = files.take_parts() else {
+        return Err(CoreError::Failed);
+    };
+    let time = batch.time().effective_after(last);
+    let group = plan_group(alloc, &tree, ordinal, time, batch, first)?;
+    Core::play(alloc, tree, group, batch, ordinal, time, events)
+}
+
+/// The group of the batch's first requests.
+pub(crate) fn first_group(alloc: Global, files: &mut FileSystem, batch: &Batch) -> Result<Group, Fail> {
+    let (tree, ordinal, last) = files.take_parts().ok_or("a live file system")?;
+    let time = batch.time().effective_after(last);
+    Ok(plan_group(alloc, &tree, ordinal, time, batch, 0)?)
+}
+
+/// Compares a machine whose calls are all finished with a file system on which they are executed one after another.
+pub(crate) fn compare(
+    alloc: Global,
+    core: &Core,
+    files: &mut FileSystem,
+    batch: &Batch,
+    first: usize,
+    count: usize,
+) -> Result<(), Fail> {
+    let part = part_of(alloc, batch, first, first.saturating_add(count))?;
+    let replies = execute_serial(alloc, files, &part)?;
+    compared(replies.len(), count)?;
+    for place in 0..replies.len() {
+        let number = first.saturating_add(place) as u32;
+        compared(core.reply(number) == Some(replies.get(place)), true)?;
+    }
+    compared(core.finished(), true)?;
+    let tree = format!(in alloc; "{:?}", core.tree())?;
+    let wanted = format!(in alloc; "{:?}", files.tree())?;
+    compared(tree.as_str(), wanted.as_str())?;
+    Ok(())
+}
