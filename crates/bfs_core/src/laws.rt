@@ -1,4 +1,9 @@
-ghost use Rattle.bfs_core.specs.Laws.{EventsAreSteps, EventsOvertake};
+ghost use Rattle.bfs_core.specs.Laws.{EventsAreSteps, EventsOvertake, PlansAreGroups};
+
+/// Requests that were planned together are a group, of which a core can be made.
+pub fn plans_are_groups()
+    ensures { PlansAreGroups }
+{}
 
 /// Events that a core accepts are events of the overtaking law, and the core stands where they lead there.
 pub fn events_are_steps()

@@ -1,5 +1,5 @@
 //! Generated groups under generated lists of events, with the outcome of the calls one after another.
-use crate::groups::{compare, core_of, first_group, played, with_files};
+use crate::groups::{compare, core_of, count_of, played, with_files};
 use bfs_core::{Core, Event};
 use bfs_serial::Batch;
 use bfs_testing::numbers::{CREATE, GETATTR, LINK, MKDIR, READ, READDIR, REMOVE, RENAME, SETATTR, WRITE};
@@ -157,10 +157,10 @@ fn generated_events_give_the_replies_of_the_batch_in_order(rt: HostRuntime) -> R
     let mut long = 0u32;
     for _ in 0..300 {
         let batch = batch(alloc, &mut generator)?;
-        let count = first_group(alloc, &mut with_files(alloc)?, &batch)?.len();
+        let count = count_of(alloc, &mut with_files(alloc)?, &batch)?;
         let mut core = core_of(alloc, &mut with_files(alloc)?, &batch, 0)?;
-        let events = tried(alloc, &mut generator, &mut core, count as u32)?;
-        same!(rt; events.len(), count.saturating_mul(2));
+        let events = tried(alloc, &mut generator, &mut core, count)?;
+        same!(rt; events.len(), (count as usize).saturating_mul(2));
         compare(alloc, &core, &mut with_files(alloc)?, &batch, 0, count)?;
         let again = played(alloc, &mut with_files(alloc)?, &batch, 0, events.as_slice())?;
         compare(alloc, &again, &mut with_files(alloc)?, &batch, 0, count)?;

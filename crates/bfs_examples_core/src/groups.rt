@@ -1,6 +1,6 @@
 //! Groups of a batch on the machine, and what is compared.
 use bfs_core::{Core, CoreError, Event};
-use bfs_levels::{Group, plan_group};
+use bfs_levels::plan_group;
 use bfs_serial::{Batch, FileSystem, execute_serial};
 use bfs_testing::asserts::compared;
 use bfs_testing::numbers::CREATE;
@@ -38,10 +38,10 @@ pub(crate) fn with_files(alloc: Global) -> Result<FileSystem, Fail> {
 }
 
 /// The requests of a batch from one place to another, as a batch of their own.
-pub(crate) fn part_of(alloc: Global, batch: &Batch, from: usize, to: usize) -> Result<Batch, Fail> {
+pub(crate) fn part_of(alloc: Global, batch: &Batch, from: u32, to: u32) -> Result<Batch, Fail> {
     let mut part = Batch::new(alloc);
     part.set_time(batch.time());
-    for place in from..to.min(batch.len()) {
+    for place in from as usize..batch.len().min(to as usize) {
         part.push(batch.request(place))?;
     }
     Ok(part)
@@ -52,11 +52,13 @@ pub(crate) fn core_of<'a>(
     alloc: Global,
     files: &mut FileSystem,
     batch: &'a Batch,
-    first: usize,
-) -> Result<Core<'a>, Fail> {
-    let (tree, ordinal, last) = files.take_parts().ok_or("a live file system")?;
+    first: u32,
+) -> Result<Core<'a>, CoreError> {
+    let Some((tree, ordinal, last)) = files.take_parts() else {
+        return Err(CoreError::Failed);
+    };
     let time = batch.time().effective_after(last);
-    let group = plan_group(alloc, &tree, ordinal, time, batch, first)?;
+    let group = plan_group(alloc, &tree, ordinal, time, batch, first as usize)?;
     Ok(Core::new(alloc, tree, group, batch, ordinal, time)?)
 }
 
@@ -65,39 +67,41 @@ pub(crate) fn played<'a>(
     alloc: Global,
     files: &mut FileSystem,
     batch: &'a Batch,
-    first: usize,
+    first: u32,
     events: &[Event],
 ) -> Result<Core<'a>, CoreError> {
     let Some((tree, ordinal, last)) = files.take_parts() else {
         return Err(CoreError::Failed);
     };
     let time = batch.time().effective_after(last);
-    let group = plan_group(alloc, &tree, ordinal, time, batch, first)?;
+    let group = plan_group(alloc, &tree, ordinal, time, batch, first as usize)?;
     Core::play(alloc, tree, group, batch, ordinal, time, events)
 }
 
-/// The group of the batch's first requests.
-pub(crate) fn first_group(alloc: Global, files: &mut FileSystem, batch: &Batch) -> Result<Group, Fail> {
+/// How many calls the batch's first group has.
+pub(crate) fn count_of(alloc: Global, files: &mut FileSystem, batch: &Batch) -> Result<u32, Fail> {
     let (tree, ordinal, last) = files.take_parts().ok_or("a live file system")?;
     let time = batch.time().effective_after(last);
-    Ok(plan_group(alloc, &tree, ordinal, time, batch, 0)?)
+    let group = plan_group(alloc, &tree, ordinal, time, batch, 0)?;
+    Ok(u32::try_from(group.len())?)
 }
 
-/// Compares a machine whose calls are all finished with a file system on which they are executed one after another.
+/// Compares a machine, whose calls are so many and all finished, with a file system on which they are executed one after another.
 pub(crate) fn compare(
     alloc: Global,
     core: &Core,
     files: &mut FileSystem,
     batch: &Batch,
-    first: usize,
-    count: usize,
+    first: u32,
+    count: u32,
 ) -> Result<(), Fail> {
     let part = part_of(alloc, batch, first, first.saturating_add(count))?;
     let replies = execute_serial(alloc, files, &part)?;
-    compared(replies.len(), count)?;
+    compared(replies.len(), count as usize)?;
+    let mut number = first;
     for place in 0..replies.len() {
-        let number = first.saturating_add(place) as u32;
         compared(core.reply(number) == Some(replies.get(place)), true)?;
+        number = number.saturating_add(1);
     }
     compared(core.finished(), true)?;
     let tree = format!(in alloc; "{:?}", core.tree())?;

@@ -140,19 +140,19 @@ static REPLACING: &[Asked] = &[
 fn goes_group_after_group(rt: HostRuntime) -> Result<(), Fail> {
     let alloc = rt.alloc();
     let batch = batch_of(alloc, 2, REPLACING)?;
-    for (first, count) in [(0, 2), (2, 1), (3, 1), (4, 1)] {
+    for (first, count) in [(0u32, 2u32), (2, 1), (3, 1), (4, 1)] {
         let mut files = with_files(alloc)?;
         let mut others = with_files(alloc)?;
         let before = part_of(alloc, &batch, 0, first)?;
         execute_serial(alloc, &mut files, &before)?;
         execute_serial(alloc, &mut others, &before)?;
         let mut core = core_of(alloc, &mut files, &batch, first)?;
-        for place in 0..count {
-            let number = first.saturating_add(place) as u32;
+        let end = first.saturating_add(count);
+        for number in first..end {
             happens(&rt, &mut core, Event::Take(number), 0);
             happens(&rt, &mut core, Event::Finish(number), 0);
         }
-        happens(&rt, &mut core, Event::Take(first.saturating_add(count) as u32), 17);
+        happens(&rt, &mut core, Event::Take(end), 17);
         compare(alloc, &core, &mut others, &batch, first, count)?;
     }
     Ok(())
