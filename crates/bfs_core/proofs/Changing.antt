@@ -1,12 +1,12 @@
 -- The core after one of its calls is taken, or finished.
-use Rattle.std.proofs.Common.{◌≡◌, ℕ, zero, suc, ◌+◌, ◌-◌, ◌<◌, ◌≤◌, Bool, true, false, cond, not, ◌||◌, true≢false, List, [], ◌∷◌, length, map, set, take, drop, get_or, Vec, Option, Some, None, is_some, refl, ap, sym, subst, ◌∙◌, arith, eqb, inl, inr}
+use Rattle.std.proofs.Common.{◌≡◌, ℕ, zero, suc, ◌+◌, ◌-◌, ◌<◌, ◌≤◌, Bool, true, false, cond, not, ◌||◌, true≢false, List, [], ◌∷◌, length, map, set, drop, get_or, Vec, Option, Some, None, is_some, refl, ap, sym, subst, ◌∙◌, arith, eqb}
 use Rattle.std.specs.Prelude.{⊤, min}
 use Rattle.std.specs.Global.{Global}
 use Rattle.std.specs.Ordering.{nat_cmp}
-use Rattle.std.specs.List.{All, AllByRecursion, list_any, list_all, slice_get}
+use Rattle.std.specs.List.{list_any, list_all, slice_get}
 use Rattle.std.specs.FinMap.{get, len, empty, get-empty, get-retain_keys, len-empty, same_map, nat_cmp-IsAntisymmetric}
 use Rattle.std.proofs.lemmas.Cmp.{nat_cmp_total}
-use Rattle.std.proofs.lemmas.Bool.{cases_Bool, or_left, or_right}
+use Rattle.std.proofs.lemmas.Bool.{or_left}
 use Rattle.std.proofs.lemmas.List.{length-map, length-set, length-take, length-drop, map-set, get_or-take, get_or-drop}
 use Rattle.std.proofs.lemmas.List.Elements.{All-set}
 use Rattle.std.proofs.lemmas.Option.{slice_get_read, get_or_from_slice_get}
@@ -15,7 +15,7 @@ use Rattle.bfs_model.specs.Serial.{ordinal_after, answer}
 use Rattle.bfs_model.specs.Footprints.{Footprint, known, whole, IsFreshFor, footprint_of}
 use Rattle.bfs_model.specs.Conflicts.{among, is_whole, is_written, is_touched, put_back, closed}
 use Rattle.bfs_model.specs.Shares.{moved_for, without}
-use Rattle.bfs_model.specs.Events.{Slot, waiting, taken, finished, is_done, moved}
+use Rattle.bfs_model.specs.Events.{waiting, taken, finished, is_done, moved}
 use Rattle.bfs_model.specs.OvertakingLaw.{Asked, asked_at}
 use Rattle.bfs_model.proofs.Footprints.Agreement.{same_inodes, all_among, get-put_back, get-closed, written_is_touched}
 use Rattle.bfs_model.proofs.Footprints.Requests.{requests_keep_to_footprints}
@@ -24,7 +24,6 @@ use Rattle.bfs_footprint.specs.Seen.{footprint_seen}
 use Rattle.bfs_tree.specs.Reach.{Reach, Knows}
 use Rattle.bfs_tree.specs.Slots.{Slots}
 use Rattle.bfs_tree.specs.Tree.{at_home, lent, reach_of}
-use Rattle.bfs_handover.specs.Jobs.{CanRun}
 use Rattle.bfs_handover.specs.Loans.{ids_of, loaned, put_in, reach_with}
 use Rattle.bfs_handover.specs.Moves.{AreDistinct, AreOwned}
 use Rattle.bfs_handover.specs.declared.loans.Loan.{Loan}
@@ -33,12 +32,12 @@ use Rattle.bfs_handover.proofs.LoanLemmas.{get-put_in, get_owned, get_borrowed}
 use Rattle.bfs_core.specs.declared.calls.Call.{Call}
 use Rattle.bfs_core.specs.declared.calls.State.{State}
 use Rattle.bfs_core.specs.declared.calls.State.TheVariants.{Waiting, Taken, Finished}
-use Rattle.bfs_core.specs.Lent.{AreLentOut, IsOutFor, IsCarriedOut}
-use Rattle.bfs_core.specs.Machine.{Standing, Machine, standing_at, standing_of, away_in, is_complete, take_refusal, finish_refusal, after_take, outcome_of, after_finish}
+use Rattle.bfs_core.specs.Lent.{AreLentOut, IsCarriedOut}
+use Rattle.bfs_core.specs.Machine.{Standing, Machine, standing_of, away_in, is_complete, take_refusal, finish_refusal, after_take, outcome_of, after_finish}
 use Rattle.bfs_core.specs.Seen.{slot_seen, standing_seen, machine_seen, requests_from}
 use Rattle.bfs_core.specs.Running.{lent_for, HasItsOwn, OwnsWritten, IsRunning}
 use Rattle.bfs_core.specs.Reached.{IsReached}
-use Rattle.bfs_core.proofs.Standings.{CanTake, CanFinish, can_take, can_finish, both}
+use Rattle.bfs_core.proofs.Standings.{CanFinish, can_take, can_finish, both}
 use Rattle.bfs_core.proofs.Stepping.{reached_by_take, reached_by_finish}
 use Rattle.bfs_core.proofs.Sharing.{many, touches, fresh, most}
 use Rattle.bfs_core.proofs.Owning.{has, any_more, any_kept, any_there, none_left, none_but, standing_there, owns_there, waiting_none, not_out, owned, others_lack}

@@ -3,9 +3,8 @@ use Rattle.std.proofs.Common.{◌≡◌, ℕ, zero, suc, ◌<◌, length, get_or
 use Rattle.std.specs.FinMap.{get, insert, contains_key, get-insert}
 use Rattle.std.proofs.lemmas.Cmp.{nat_cmp_total}
 use Rattle.std.proofs.lemmas.Bool.{or_left, or_right}
-use Rattle.bfs_model.specs.Tree.{Inode, Inodes}
+use Rattle.bfs_model.specs.Tree.{Inode}
 use Rattle.bfs_model.specs.Conflicts.{among}
-use Rattle.bfs_model.specs.Shares.{without}
 use Rattle.bfs_model.proofs.Footprints.Agreement.{same_inodes}
 use Rattle.bfs_model.proofs.Footprints.Shared.{get-without}
 use Rattle.bfs_model.proofs.WellFormed.Sums.{itself}

@@ -1,37 +1,25 @@
 -- What the calls of the code have, before an event and after it.
-use Rattle.std.proofs.Common.{◌≡◌, ℕ, zero, suc, ◌+◌, ◌-◌, ◌<◌, ◌≤◌, Bool, true, false, cond, not, ◌||◌, true≢false, List, [], ◌∷◌, length, map, set, take, drop, get_or, Option, Some, None, is_some, option_map, refl, ap, sym, subst, ◌∙◌, arith, eqb, inl, inr}
-use Rattle.std.specs.Prelude.{⊤}
-use Rattle.std.specs.Ordering.{nat_cmp}
-use Rattle.std.specs.List.{All, AllByRecursion, list_any, slice_get}
-use Rattle.std.specs.FinMap.{get, len, empty, get-empty, len-empty, same_map, nat_cmp-IsAntisymmetric}
-use Rattle.std.proofs.lemmas.Cmp.{nat_cmp_total}
-use Rattle.std.proofs.lemmas.Bool.{cond-true, cond-false, cases_eq, cases_Bool, or_left, or_right}
-use Rattle.std.proofs.lemmas.List.{length-map, get_or-take, get_or-drop}
+use Rattle.std.proofs.Common.{◌≡◌, ℕ, zero, suc, ◌-◌, ◌<◌, Bool, true, false, not, ◌||◌, true≢false, List, [], ◌∷◌, length, map, set, Option, Some, None, is_some, option_map, refl, ap, sym, subst, ◌∙◌, arith, inl, inr}
+use Rattle.std.specs.List.{All, list_any, slice_get}
+use Rattle.std.specs.FinMap.{get}
+use Rattle.std.proofs.lemmas.Bool.{cases_eq, or_left, or_right}
+use Rattle.std.proofs.lemmas.List.{length-map}
 use Rattle.std.proofs.lemmas.Option.{get_or_from_slice_get, slice_get-map, slice_get_within}
-use Rattle.bfs_model.specs.Tree.{Time, Inodes, spent_ordinal}
-use Rattle.bfs_model.specs.Serial.{ordinal_after, answer}
-use Rattle.bfs_model.specs.Footprints.{Footprint, known, whole, IsFreshFor, footprint_of}
-use Rattle.bfs_model.specs.Conflicts.{among, is_written, is_touched, put_back, closed}
-use Rattle.bfs_model.specs.Shares.{moved_for, without}
-use Rattle.bfs_model.specs.Events.{Slot, waiting, taken, finished, is_done, is_begun, moved}
-use Rattle.bfs_model.specs.OvertakingLaw.{asked_at}
-use Rattle.bfs_model.proofs.Footprints.Agreement.{same_inodes, all_among, get-put_back, get-closed, written_is_touched}
-use Rattle.bfs_model.proofs.Footprints.Requests.{requests_keep_to_footprints}
+use Rattle.bfs_model.specs.Footprints.{Footprint, known, whole}
+use Rattle.bfs_model.specs.Conflicts.{among, is_written, is_touched}
+use Rattle.bfs_model.specs.Shares.{moved_for}
+use Rattle.bfs_model.specs.Events.{waiting, is_done, is_begun}
+use Rattle.bfs_model.proofs.Footprints.Agreement.{written_is_touched}
 use Rattle.bfs_model.proofs.Footprints.Shared.{moved_is_written}
 use Rattle.bfs_footprint.specs.Seen.{footprint_seen}
-use Rattle.bfs_tree.specs.Reach.{Knows}
 use Rattle.bfs_tree.specs.Slots.{Slots}
-use Rattle.bfs_tree.specs.Tree.{at_home, lent, reach_of}
-use Rattle.bfs_handover.specs.Loans.{ids_of, loaned, put_in, reach_with}
-use Rattle.bfs_handover.specs.Moves.{AreDistinct, AreOwned}
-use Rattle.bfs_handover.specs.declared.loans.Loan.{Loan}
-use Rattle.bfs_handover.proofs.LoanLemmas.{get-put_in, get_borrowed}
+use Rattle.bfs_tree.specs.Tree.{lent}
+use Rattle.bfs_handover.specs.Moves.{AreOwned}
 use Rattle.bfs_core.specs.declared.calls.Call.{Call}
 use Rattle.bfs_core.specs.declared.calls.State.{State}
 use Rattle.bfs_core.specs.declared.calls.State.TheVariants.{Waiting, Taken, Finished}
-use Rattle.bfs_core.specs.Machine.{Standing, Machine, standing_at, standing_of, away_in, take_refusal, finish_refusal}
-use Rattle.bfs_core.specs.Reached.{IsReached}
-use Rattle.bfs_core.specs.Seen.{slot_seen, standing_seen, machine_seen, requests_from}
+use Rattle.bfs_core.specs.Machine.{Standing, Machine, standing_at, standing_of, take_refusal, finish_refusal}
+use Rattle.bfs_core.specs.Seen.{slot_seen, standing_seen}
 use Rattle.bfs_core.specs.Running.{lent_for, HasItsOwn, OwnsWritten, IsRunning}
 use Rattle.bfs_core.proofs.Standings.{CanTake, CanFinish, can_take, can_finish}
 use Rattle.bfs_core.proofs.Sharing.{others_leave, free_apart, begun_apart, many}

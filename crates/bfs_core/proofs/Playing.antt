@@ -5,7 +5,7 @@ use Rattle.std.proofs.Math.Seq.{drop-cons}
 use Rattle.bfs_core.specs.declared.errors.CoreError.{CoreError}
 use Rattle.bfs_core.specs.declared.errors.CoreError.TheVariants as error
 use Rattle.bfs_core.specs.declared.events.Event.{Event}
-use Rattle.bfs_core.specs.Machine.{Machine, Happens, after_event, on_ok, played}
+use Rattle.bfs_core.specs.Machine.{Machine, Happens, on_ok, played}
 
 -- what is left of the events leads where all of them lead
 abbrev pub Leads : Option Machine → List Event → Result Machine CoreError → Type 0

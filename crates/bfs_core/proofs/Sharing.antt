@@ -1,29 +1,24 @@
 -- What the calls under way have is out, and what another call touches is at home.
-use Rattle.std.proofs.Common.{◌≡◌, ℕ, zero, suc, ◌-◌, ◌<◌, ◌≤◌, Bool, true, false, cond, not, ◌||◌, true≢false, List, [], ◌∷◌, length, map, set, get_or, Option, Some, None, is_some, option_map, refl, ap, sym, subst, ◌∙◌, arith, eqb, eqb-true, inl, inr}
-use Rattle.std.specs.List.{All, AllByRecursion, list_any, slice_get}
-use Rattle.std.specs.FinMap.{get, empty}
-use Rattle.std.proofs.lemmas.Bool.{cond-true, cond-false, cases_order, cases_Bool, or_left, or_right}
-use Rattle.std.proofs.lemmas.List.{length-map}
-use Rattle.std.proofs.lemmas.Option.{get_or_from_slice_get, slice_get-map, slice_get_within}
-use Rattle.bfs_model.specs.Tree.{Time, Inodes, FileSystem, spent_ordinal}
+use Rattle.std.proofs.Common.{◌≡◌, ℕ, zero, suc, ◌-◌, ◌<◌, ◌≤◌, true, false, List, [], ◌∷◌, length, ap, sym, subst, ◌∙◌, arith, inl, inr}
+use Rattle.std.proofs.lemmas.Bool.{cases_order}
+use Rattle.bfs_model.specs.Tree.{Time, Inodes, spent_ordinal}
 use Rattle.bfs_model.specs.Serial.{ordinal_after, answer}
-use Rattle.bfs_model.specs.Footprints.{Footprint, known, whole, IsFreshFor, footprint_of}
-use Rattle.bfs_model.specs.Conflicts.{among, is_written, is_touched, conflict, AgreeOn, put_back}
+use Rattle.bfs_model.specs.Footprints.{Footprint, IsFreshFor, footprint_of}
+use Rattle.bfs_model.specs.Conflicts.{is_written, is_touched, AgreeOn, put_back}
 use Rattle.bfs_model.specs.Shares.{moved_for}
 use Rattle.bfs_model.specs.Groups.{footprints_at, footprints_in_order}
-use Rattle.bfs_model.specs.Events.{Slot, waiting, taken, finished, is_done, is_begun, World, state}
-use Rattle.bfs_model.specs.OvertakingLaw.{Asked, answered, asked_at, plan, calls, at_first, IsGroup}
+use Rattle.bfs_model.specs.Events.{is_done, is_begun, World, state}
+use Rattle.bfs_model.specs.OvertakingLaw.{Asked, answered, asked_at, plan, calls, at_first}
 use Rattle.bfs_model.proofs.Kept.{IsServable, servable, fresh_for_request, answer_keeps}
-use Rattle.bfs_model.proofs.Footprints.Agreement.{same_inodes, written_is_touched}
 use Rattle.bfs_model.proofs.Footprints.Apart.{AreApart, apart, turned}
 use Rattle.bfs_model.proofs.Footprints.Grouped.{groups_keep_footprints}
 use Rattle.bfs_model.proofs.Footprints.Overtaking.{Kept, steps_keep, start_kept, handed}
 use Rattle.bfs_model.proofs.Footprints.OvertakingRequests.{shifted, its_own, local, holds_on}
 use Rattle.bfs_model.proofs.Footprints.Stable.{new_in}
-use Rattle.bfs_core.specs.Machine.{Standing, Machine, standing_at, standing_of, away_in}
+use Rattle.bfs_core.specs.Machine.{Machine, standing_at, standing_of, away_in}
 use Rattle.bfs_core.specs.Reached.{world_of, IsReached}
 use Rattle.bfs_core.proofs.Standings.{CanTake, CanFinish, not_held}
-use Rattle.bfs_core.proofs.Stepping.{own_plan, planned, as_many, may_begin}
+use Rattle.bfs_core.proofs.Stepping.{own_plan, planned, as_many}
 
 -- the inodes at a place of the batch serve its request
 servable_there : (n : ℕ) (feet : ℕ → Footprint) (m : Inodes) (o : ℕ) (t : Time) (requests : List (List ℕ)) (k : ℕ) → IsServable m o → k < length requests

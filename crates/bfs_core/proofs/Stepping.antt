@@ -1,21 +1,21 @@
 -- What an event makes of the machine is a step of the overtaking law.
-use Rattle.std.proofs.Common.{◌≡◌, ℕ, zero, suc, ◌-◌, ◌<◌, ◌≤◌, Bool, true, false, List, [], ◌∷◌, ◌++◌, length, map, Option, Some, None, Result, Ok, Err, refl, ap, sym, subst, ◌∙◌, arith}
+use Rattle.std.proofs.Common.{◌≡◌, ℕ, zero, suc, ◌-◌, ◌<◌, true, List, [], ◌∷◌, ◌++◌, length, map, Option, Some, None, Result, Ok, refl, ap, sym, subst, ◌∙◌, arith}
 use Rattle.std.specs.List.{list_all}
 use Rattle.std.proofs.lemmas.List.{length-map}
-use Rattle.bfs_model.specs.Tree.{Time, Inodes, FileSystem}
-use Rattle.bfs_model.specs.Serial.{ordinal_after, inodes_after, replies_to}
-use Rattle.bfs_model.specs.Footprints.{Footprint, known}
+use Rattle.bfs_model.specs.Tree.{Time, Inodes}
+use Rattle.bfs_model.specs.Serial.{ordinal_after}
+use Rattle.bfs_model.specs.Footprints.{Footprint}
 use Rattle.bfs_model.specs.Conflicts.{put_back}
 use Rattle.bfs_model.specs.Shares.{moved_for}
 use Rattle.bfs_model.specs.Groups.{footprints_at}
 use Rattle.bfs_model.specs.Events.{Slot, waiting, taken, finished, is_done, World, MayBegin, took, ended, Step, Steps}
 use Rattle.bfs_model.specs.Events as model
-use Rattle.bfs_model.specs.OvertakingLaw.{Asked, answered, asked_at, footprint_at, plan, calls, at_first, EventsLead, IsGroup, slots_of}
+use Rattle.bfs_model.specs.OvertakingLaw.{Asked, answered, asked_at, footprint_at, plan, calls, at_first, IsGroup, slots_of}
 use Rattle.bfs_model.proofs.Footprints.OvertakingRequests.{requests_overtake}
 use Rattle.bfs_core.specs.declared.errors.CoreError.{CoreError}
 use Rattle.bfs_core.specs.declared.events.Event.{Event}
 use Rattle.bfs_core.specs.declared.events.Event.TheVariants.{Take, Finish}
-use Rattle.bfs_core.specs.Machine.{Standing, Machine, at_start, standing_at, standing_of, away_in, is_complete, take_refusal, finish_refusal, after_take, after_finish, unless, on_ok, played}
+use Rattle.bfs_core.specs.Machine.{Standing, Machine, at_start, standing_at, standing_of, away_in, take_refusal, finish_refusal, after_take, after_finish, unless, on_ok, played}
 use Rattle.bfs_core.specs.Reached.{world_of, event_at, IsReached}
 use Rattle.bfs_core.specs.Laws.{EventsAreSteps, EventsOvertake}
 use Rattle.bfs_core.proofs.Standings.{world_with, footprints_with, footprint_there, CanTake, can_take, CanFinish, can_finish, not_held, both}

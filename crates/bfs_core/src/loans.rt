@@ -17,11 +17,7 @@ use bfs_types::{FileId, Memory};
 use std::alloc::Global;
 
 // Lends out of the tree what a call of that footprint writes.
-pub(crate) fn lend(
-    alloc: Global,
-    tree: &mut Tree,
-    footprint: &Footprint,
-) -> Result<Loans, Memory>
+pub(crate) fn lend(alloc: Global, tree: &mut Tree, footprint: &Footprint) -> Result<Loans, Memory>
     requires { AreOwned tree.old (moved_for (footprint_seen footprint.now)) }
     ensures { IfOk result (λ loans. AreLentOut tree.old tree.new (moved_for (footprint_seen footprint.now)) loans) }
 {

@@ -59,7 +59,9 @@ impl<'a> Core<'a> {
         ensures { IfOk result (λ core. core ≡ Some (at_start group.first ordinal time (requests_from group.first (length group.footprints.items) batch.now.requests) (at_home tree))) }
     {
         let Group {
-            first, footprints, ..
+            first,
+            footprints,
+            ..
         } = group;
         let calls = all_waiting(alloc, footprints)?;
         Ok(Core {

@@ -2,7 +2,9 @@
 use crate::groups::{compare, core_of, count_of, played, with_files};
 use bfs_core::{Core, Event};
 use bfs_serial::Batch;
-use bfs_testing::numbers::{CREATE, GETATTR, LINK, MKDIR, READ, READDIR, REMOVE, RENAME, SETATTR, WRITE};
+use bfs_testing::numbers::{
+    CREATE, GETATTR, LINK, MKDIR, READ, READDIR, REMOVE, RENAME, SETATTR, WRITE,
+};
 use bfs_testing::words::{A, B, C, D, E, F, UNSET, call, put_parts};
 use bfs_testing::{holds, same};
 use bfs_types::{Memory, Time};
@@ -112,7 +114,12 @@ fn batch(alloc: Global, generator: &mut Generator) -> Result<Batch, Fail> {
 }
 
 // events tried at random until all calls are finished: those that happened
-fn tried(alloc: Global, generator: &mut Generator, core: &mut Core, count: u32) -> Result<Vec<Event>, Fail> {
+fn tried(
+    alloc: Global,
+    generator: &mut Generator,
+    core: &mut Core,
+    count: u32,
+) -> Result<Vec<Event>, Fail> {
     let mut events = Vec::new(alloc);
     for _ in 0..10_000 {
         if core.finished() {

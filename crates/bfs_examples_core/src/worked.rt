@@ -65,7 +65,13 @@ fn refuses_events_out_of_turn(rt: HostRuntime) -> Result<(), Fail> {
         }
     }
     compare(alloc, &core, &mut with_files(alloc)?, &batch, 0, 3)?;
-    let again = played(alloc, &mut with_files(alloc)?, &batch, 0, accepted.as_slice())?;
+    let again = played(
+        alloc,
+        &mut with_files(alloc)?,
+        &batch,
+        0,
+        accepted.as_slice(),
+    )?;
     compare(alloc, &again, &mut with_files(alloc)?, &batch, 0, 3)?;
     Ok(())
 }

@@ -1,11 +1,11 @@
 -- What stands there the first time leaves the tree; what stands there again has left it.
-use Rattle.std.proofs.Common.{◌≡◌, ◌+◌, ◌++◌, ◌∷◌, [], ℕ, List, take, true, not, is_some, ap, sym, subst, ◌∙◌}
+use Rattle.std.proofs.Common.{◌≡◌, ◌+◌, ◌++◌, ◌∷◌, [], ℕ, take, true, not, is_some, ap, sym, subst, ◌∙◌}
 use Rattle.std.specs.FinMap.{get, contains_key}
 use Rattle.std.proofs.lemmas.List.{take_more}
 use Rattle.bfs_tree.specs.Slots.{Slots}
 use Rattle.bfs_tree.specs.Tree.{lent}
 use Rattle.bfs_core.specs.Lent.{AreLentOut}
-use Rattle.bfs_core.proofs.Leaving.{at_home_before, has_reserved, none_yet, one_more, passed_over, still_there, left_tree}
+use Rattle.bfs_core.proofs.Leaving.{at_home_before, has_reserved, none_yet, passed_over, still_there, left_tree}
 use Rattle.bfs_core.proofs.loans.lend_each.Goals.{then-not-owns+in_ok-reserve+in_ok-push, else-not-owns}
 use Rattle.bfs_core.proofs.loans.lend_each.Goals as goal
 

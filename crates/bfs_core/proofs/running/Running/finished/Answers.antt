@@ -1,10 +1,10 @@
 -- The call can be carried out, and when it has been, the core is one whose call is finished.
-use Rattle.std.proofs.Common.{◌≡◌, ap, sym, subst, ◌∙◌, refl, Vec, ℕ}
+use Rattle.std.proofs.Common.{ap, sym, subst, ◌∙◌, refl, Vec}
 use Rattle.bfs_model.specs.Tree.{Inodes}
 use Rattle.bfs_model.specs.Footprints.{IsFreshFor, footprint_of}
 use Rattle.bfs_tree.specs.Reach.{Knows}
 use Rattle.bfs_tree.specs.Slots.{Slots}
-use Rattle.bfs_tree.specs.Tree.{at_home, lent, reach_of}
+use Rattle.bfs_tree.specs.Tree.{reach_of}
 use Rattle.bfs_handover.specs.declared.job.Job.{Job}
 use Rattle.bfs_core.specs.Lent.{IsCarriedOut}
 use Rattle.bfs_core.specs.Machine.{after_finish, finish_refusal}

@@ -1,4 +1,4 @@
-use Rattle.std.proofs.Common.{ap, ◌∙◌, sym, subst}
+use Rattle.std.proofs.Common.{ap, ◌∙◌}
 use Rattle.bfs_core.specs.Machine.{is_complete}
 use Rattle.bfs_core.proofs.Changing.{whole_when_done}
 use Rattle.bfs_core.proofs.running.Running.tree.Goals as goal
