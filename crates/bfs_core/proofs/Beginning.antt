@@ -1,0 +1,87 @@
+-- A core none of whose calls is taken.
+use Rattle.std.proofs.Common.{◌≡◌, ℕ, Bool, true, false, not, true≢false, List, [], ◌∷◌, length, map, take, drop, is_some, refl, ap, sym, subst, ◌∙◌}
+use Rattle.std.specs.List.{All, AllByRecursion, list_any}
+use Rattle.std.specs.FinMap.{get}
+use Rattle.std.proofs.lemmas.List.{length-map}
+use Rattle.std.proofs.lemmas.List.Elements.{All-from_recursion}
+use Rattle.bfs_model.specs.Tree.{Time}
+use Rattle.bfs_model.specs.Footprints.{Footprint}
+use Rattle.bfs_model.specs.Events.{waiting}
+use Rattle.bfs_model.specs.Groups.{footprints_at, IsCut}
+use Rattle.bfs_model.specs.OvertakingLaw.{IsGroup}
+use Rattle.bfs_model.specs.Stored.{IsLive}
+use Rattle.bfs_levels.specs.Planning.{group_length}
+use Rattle.bfs_levels.proofs.Longest.{groups_are_cut}
+use Rattle.bfs_serial.specs.Held.{held}
+use Rattle.bfs_footprint.specs.Seen.{footprint_seen}
+use Rattle.bfs_footprint.specs.declared.footprints.Footprint as declared
+use Rattle.bfs_tree.specs.Knowing.{knows_all}
+use Rattle.bfs_tree.specs.Slots.{Slots}
+use Rattle.bfs_tree.specs.Tree.{at_home, lent, reach_of}
+use Rattle.bfs_core.specs.declared.calls.Call.{Call}
+use Rattle.bfs_core.specs.declared.calls.State.TheVariants.{Waiting}
+use Rattle.bfs_core.specs.Laws.{PlansAreGroups}
+use Rattle.bfs_core.specs.Machine.{Standing, at_start}
+use Rattle.bfs_core.specs.Reached.{IsReached}
+use Rattle.bfs_core.specs.Seen.{standing_seen, machine_seen, requests_from}
+use Rattle.bfs_core.specs.Running.{OwnsWritten, IsRunning}
+use Rattle.bfs_core.proofs.Stepping.{start_reached}
+use Rattle.bfs_core.proofs.Owning.{has}
+
+abbrev waits : declared.Footprint → Call
+waits footprint = record { footprint = footprint; state = Waiting }
+
+abbrev waits_there : Footprint → Standing
+waits_there footprint = record { footprint = footprint; slot = waiting }
+
+standings_seen : (fs : List declared.Footprint) → map standing_seen (map waits fs) ≡ map waits_there (map footprint_seen fs)
+standings_seen [] = refl
+standings_seen (f ∷ fs) = ap (λ xs. waits_there (footprint_seen f) ∷ xs) (standings_seen fs)
+
+none_has : (fs : List declared.Footprint) (q : ℕ) → list_any (has q) (map waits fs) ≡ false
+none_has [] q = refl
+none_has (f ∷ fs) q = none_has fs q
+
+all_own : (fs : List declared.Footprint) → AllByRecursion OwnsWritten (map waits fs)
+all_own [] = tt
+all_own (f ∷ fs) = (tt, all_own fs)
+
+module _ (first o : ℕ) (t : Time) (batch : List (List ℕ)) (tree : Slots) (fs : List declared.Footprint) (calls : List Call) (are : calls ≡ map waits fs)
+    (planned : map footprint_seen fs ≡ footprints_at (at_home tree) o t (requests_from first (length fs) batch)) where
+  pub new_seen : machine_seen first o t batch tree calls ≡ at_start first o t (requests_from first (length fs) batch) (at_home tree)
+  new_seen = λ i. record {
+    first = first;
+    ordinal = o;
+    time = t;
+    requests = requests_from first ((ap length are ∙ length-map fs waits) i) batch;
+    home = at_home tree;
+    standings = (ap (map standing_seen) are ∙ standings_seen fs ∙ ap (map waits_there) planned) i;
+  }
+
+  pub new_running : (reach_of tree).whole ≡ true → IsGroup (record { tree = at_home tree; next_ordinal = o; last_time = t }) t (requests_from first (length fs) batch) → IsRunning tree calls (machine_seen first o t batch tree calls)
+  new_running whole group = record {
+    reached = subst IsReached (sym new_seen) (start_reached first o t (requests_from first (length fs) batch) (at_home tree) group);
+    out = λ q. not_true (is_some (get (lent tree) q)) (knows_all (lent tree) whole q) ∙ sym (ap (list_any (has q)) are ∙ none_has fs q);
+    own = subst (All OwnsWritten) (sym are) (All-from_recursion OwnsWritten (map waits fs) (all_own fs));
+  }
+    where
+      not_true : (b : Bool) → not b ≡ true → b ≡ false
+      not_true true it = absurd (true≢false (sym it))
+      not_true false it = refl
+
+pub plans_are_groups : PlansAreGroups
+plans_are_groups files t batch first count formed is =
+    (formed, subst (λ n. IsCut (footprints_at files.tree files.next_ordinal t (take n (drop first batch))) (take n (drop first batch))) (sym is) (groups_are_cut files.tree files.next_ordinal t (drop first batch)))
+
+-- For callers: a group that was planned on the tree of a live file system ------------------------------------------------------
+
+module _ (tree : Slots) (o : ℕ) (last t : Time) (batch : List (List ℕ)) (first at : ℕ) (at_is : at ≡ first) (fs : List declared.Footprint) (count : length fs ≡ group_length (at_home tree) o t (drop first batch)) where
+  pub live_group : IsLive (held tree o last) → IsGroup (held tree o t) t (requests_from at (length fs) batch)
+  live_group live =
+      subst (λ k. IsGroup (held tree o t) t (requests_from k (length fs) batch)) (sym at_is)
+      (plans_are_groups (held tree o t) t batch first (length fs) (record { tree = live.formed.tree; numbered = live.formed.numbered; ordinal = live.formed.ordinal }) count)
+
+  pub planned_footprints : map footprint_seen fs ≡ footprints_at (at_home tree) o t (take (group_length (at_home tree) o t (drop first batch)) (drop first batch)) → map footprint_seen fs ≡ footprints_at (at_home tree) o t (requests_from at (length fs) batch)
+  planned_footprints are =
+      are ∙ ap (λ n. footprints_at (at_home tree) o t (take n (drop first batch))) (sym count)
+      ∙ ap (λ k. footprints_at (at_home tree) o t (requests_from k (length fs) batch)) (sym at_is)

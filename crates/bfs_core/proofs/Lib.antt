@@ -1,0 +1,10 @@
+pub mod Standings
+pub mod Stepping
+pub mod Sharing
+pub mod Owning
+pub mod Changing
+pub mod Leaving
+pub mod Refusing
+pub mod Bringing
+pub mod Beginning
+pub mod Playing

@@ -1,0 +1,17 @@
+ghost use Rattle.bfs_core.specs.Laws.{EventsAreSteps, EventsOvertake, PlansAreGroups};
+
+/// Requests that were planned together are a group, of which a core can be made.
+pub fn plans_are_groups()
+    ensures { PlansAreGroups }
+{}
+
+/// Events that a core accepts are events of the overtaking law, and the core stands where they lead there.
+pub fn events_are_steps()
+    ensures { EventsAreSteps }
+{}
+
+/// Whatever the events by which all calls of a group are finished, the inodes and the replies are those of the calls one after
+/// another, in the order of the batch.
+pub fn events_overtake()
+    ensures { EventsOvertake }
+{}

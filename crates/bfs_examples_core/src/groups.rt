@@ -1,0 +1,111 @@
+//! Groups of a batch on the machine, and what is compared.
+use bfs_core::{Core, CoreError, Event};
+use bfs_levels::plan_group;
+use bfs_serial::{Batch, FileSystem, execute_serial};
+use bfs_testing::asserts::compared;
+use bfs_testing::numbers::CREATE;
+use bfs_testing::words::{A, B, C, ROOT, UNSET, call, put_parts};
+use bfs_types::Time;
+use std::alloc::Global;
+use std::test::Fail;
+
+/// A procedure, and the words of its arguments.
+pub(crate) struct Asked(pub(crate) u32, pub(crate) &'static [&'static [u32]]);
+
+pub(crate) fn batch_of(alloc: Global, second: u32, calls: &[Asked]) -> Result<Batch, Fail> {
+    let mut batch = Batch::new(alloc);
+    batch.set_time(Time::new(second, 0).ok_or("a time")?);
+    for Asked(procedure, arguments) in calls {
+        let mut request = call(alloc, 1, *procedure)?;
+        put_parts(&mut request, arguments)?;
+        batch.push(request.as_slice())?;
+    }
+    Ok(batch)
+}
+
+static MAKING: &[Asked] = &[
+    Asked(CREATE, &[ROOT, A, UNSET]),
+    Asked(CREATE, &[ROOT, B, UNSET]),
+    Asked(CREATE, &[ROOT, C, UNSET]),
+];
+
+/// A file system with the files `a`, `b` and `c`, of the fileids 3, 4 and 5.
+pub(crate) fn with_files(alloc: Global) -> Result<FileSystem, Fail> {
+    let mut files = FileSystem::new(alloc)?;
+    let batch = batch_of(alloc, 1, MAKING)?;
+    execute_serial(alloc, &mut files, &batch)?;
+    Ok(files)
+}
+
+/// The requests of a batch from one place to another, as a batch of their own.
+pub(crate) fn part_of(alloc: Global, batch: &Batch, from: u32, to: u32) -> Result<Batch, Fail> {
+    let mut part = Batch::new(alloc);
+    part.set_time(batch.time());
+    for place in from as usize..batch.len().min(to as usize) {
+        part.push(batch.request(place))?;
+    }
+    Ok(part)
+}
+
+/// The machine of the batch's group that begins with that request, on a file system on which those before it were executed.
+pub(crate) fn core_of<'a>(
+    alloc: Global,
+    files: &mut FileSystem,
+    batch: &'a Batch,
+    first: u32,
+) -> Result<Core<'a>, CoreError> {
+    let Some((tree, ordinal, last)) = files.take_parts() else {
+        return Err(CoreError::Failed);
+    };
+    let time = batch.time().effective_after(last);
+    let group = plan_group(alloc, &tree, ordinal, time, batch, first as usize)?;
+    Ok(Core::new(alloc, tree, group, batch, ordinal, time)?)
+}
+
+/// The same, after these events.
+pub(crate) fn played<'a>(
+    alloc: Global,
+    files: &mut FileSystem,
+    batch: &'a Batch,
+    first: u32,
+    events: &[Event],
+) -> Result<Core<'a>, CoreError> {
+    let Some((tree, ordinal, last)) = files.take_parts() else {
+        return Err(CoreError::Failed);
+    };
+    let time = batch.time().effective_after(last);
+    let group = plan_group(alloc, &tree, ordinal, time, batch, first as usize)?;
+    Core::play(alloc, tree, group, batch, ordinal, time, events)
+}
+
+/// How many calls the batch's first group has.
+pub(crate) fn count_of(alloc: Global, files: &mut FileSystem, batch: &Batch) -> Result<u32, Fail> {
+    let (tree, ordinal, last) = files.take_parts().ok_or("a live file system")?;
+    let time = batch.time().effective_after(last);
+    let group = plan_group(alloc, &tree, ordinal, time, batch, 0)?;
+    Ok(u32::try_from(group.len())?)
+}
+
+/// Compares a machine, whose calls are so many and all finished, with a file system on which they are executed one after another.
+pub(crate) fn compare(
+    alloc: Global,
+    core: &Core,
+    files: &mut FileSystem,
+    batch: &Batch,
+    first: u32,
+    count: u32,
+) -> Result<(), Fail> {
+    let part = part_of(alloc, batch, first, first.saturating_add(count))?;
+    let replies = execute_serial(alloc, files, &part)?;
+    compared(replies.len(), count as usize)?;
+    let mut number = first;
+    for place in 0..replies.len() {
+        compared(core.reply(number) == Some(replies.get(place)), true)?;
+        number = number.saturating_add(1);
+    }
+    compared(core.finished(), true)?;
+    let tree = format!(in alloc; "{:?}", core.tree())?;
+    let wanted = format!(in alloc; "{:?}", files.tree())?;
+    compared(tree.as_str(), wanted.as_str())?;
+    Ok(())
+}
