@@ -21,7 +21,7 @@ fn main(rt: HostRuntime) -> ExitCode {
 }
 
 /// Faults come in this order: the words, reading the trace, its lines, and the run with its output.
-fn replay<R: Runtime + AllocGlobal + Threads + Sync, W: Write>(
+fn replay<R: Runtime + AllocGlobal + Threads + Sync, W: Write + Drop>(
     rt: &R,
     output: W,
 ) -> Result<Outcome, Failure> {
@@ -30,7 +30,10 @@ fn replay<R: Runtime + AllocGlobal + Threads + Sync, W: Write>(
         .map_err(|error| memory_or(error, Failure::Usage))?
         .collect(alloc)
         .map_err(|_| Failure::Memory)?;
-    let options = options(alloc, words.as_slice())?;
+    let options = match options(alloc, words.as_slice()) {
+        Ok(options) => options,
+        Err(error) => return Err(Failure::from(error)),
+    };
     let file = File::open(rt, options.trace).map_err(|error| memory_or(error, Failure::Input))?;
     let text = read_input(alloc, file)?;
     let trace = parse_trace(alloc, text.as_slice())?;
