@@ -56,7 +56,10 @@ static REFUSED: [&str; 26] = [
 /// Whether the words of a line ask for so many workers, that engine, and the trace `a.trace`.
 fn asks_for(alloc: Global, line: &str, workers: u32, engine: Option<Engine>) -> Result<bool, Fail> {
     let words: Vec<&str> = line.split(' ').collect(alloc)?;
-    let asked = options(alloc, words.as_slice())?;
+    let asked = match options(alloc, words.as_slice()) {
+        Ok(asked) => asked,
+        Err(_) => return Ok(false),
+    };
     Ok(asked.workers.count() == workers && asked.engine == engine && asked.trace == "a.trace")
 }
 
@@ -71,7 +74,7 @@ fn reads_the_command_line(rt: HostRuntime) -> Result<(), Fail> {
 /// Whether the words of a line are no usage of the program.
 fn is_refused(alloc: Global, line: &str) -> Result<bool, Fail> {
     let words: Vec<&str> = line.split(' ').collect(alloc)?;
-    Ok(options(alloc, words.as_slice()).err() == Some(UsageError::Usage))
+    Ok(matches!(options(alloc, words.as_slice()), Err(UsageError::Usage)))
 }
 
 #[test]

@@ -1,21 +1,16 @@
 //! Replays a trace of NFS calls: `replay [--workers N] [--engine runs|serial] TRACE`. docs/TRACE.md says what a trace is and what is printed.
 #![tactic(auto)]
 
-use bfs_replay::{
-    Engine, Failure, Outcome, Trace, Workers, options, parse_trace, read_input, run_trace,
-};
+use bfs_replay::{Failure, Outcome, options, parse_trace, read_input, run_trace};
 use std::fs::File;
 use std::io;
-use std::io::{BufWriter, ErrorKind, Stdout, Write};
+use std::io::{BufWriter, ErrorKind, Write};
 use std::process::ExitCode;
+use std::rt::Runtime;
 use std::thread::Threads;
 
 fn main(rt: HostRuntime) -> ExitCode {
-    let outcome = match read_all(&rt) {
-        Ok(asked) => carry_out(&rt, &asked, rt.stdout()),
-        Err(failure) => Err(failure),
-    };
-    match outcome {
+    match replay(&rt, rt.stdout()) {
         Ok(Outcome::Agree) => ExitCode::SUCCESS,
         Err(failure) => {
             // where standard error refuses too, the status alone tells
@@ -25,16 +20,11 @@ fn main(rt: HostRuntime) -> ExitCode {
     }
 }
 
-/// A trace, and what executes it.
-#[derive(Drop)]
-struct Asked {
-    trace: Trace,
-    workers: Workers,
-    engine: Option<Engine>,
-}
-
-/// Faults come in this order: the words, reading the trace, and its lines.
-fn read_all(rt: &HostRuntime) -> Result<Asked, Failure> {
+/// Faults come in this order: the words, reading the trace, its lines, and the run with its output.
+fn replay<R: Runtime + AllocGlobal + Threads + Sync, W: Write + Drop>(
+    rt: &R,
+    output: W,
+) -> Result<Outcome, Failure> {
     let alloc = rt.alloc();
     let words: Vec<String> = std::env::args(rt)
         .map_err(|error| memory_or(error, Failure::Usage))?
@@ -43,25 +33,13 @@ fn read_all(rt: &HostRuntime) -> Result<Asked, Failure> {
     // by `match`, since the prover's borrow checker has no rule for these options by value, as `?` takes them
     let options = match options(alloc, words.as_slice()) {
         Ok(options) => options,
-        Err(refused) => return Err(refused.into()),
+        Err(error) => return Err(Failure::from(error)),
     };
     let file = File::open(rt, options.trace).map_err(|error| memory_or(error, Failure::Input))?;
     let text = read_input(alloc, file)?;
-    Ok(Asked {
-        trace: parse_trace(alloc, text.as_slice())?,
-        workers: options.workers,
-        engine: options.engine,
-    })
-}
-
-/// Runs the trace, with its output behind a buffer.
-fn carry_out(
-    rt: &(impl AllocGlobal + Threads + Sync),
-    asked: &Asked,
-    stdout: Stdout,
-) -> Result<Outcome, Failure> {
-    let mut out = BufWriter::new(rt.alloc(), stdout).map_err(not_written)?;
-    let outcome = run_trace(rt, &asked.trace, asked.workers, asked.engine, &mut out)?;
+    let trace = parse_trace(alloc, text.as_slice())?;
+    let mut out = BufWriter::new(alloc, output).map_err(not_written)?;
+    let outcome = run_trace(rt, &trace, options.workers, options.engine, &mut out)?;
     out.flush().map_err(not_written)?;
     Ok(outcome)
 }
