@@ -17,14 +17,14 @@ use Rattle.bfs_tree.specs.Tree.{at_home, lent, brought}
 use Rattle.bfs_tree.proofs.SlotLemmas.{home_insert, home_remove, lent_insert, lent_remove}
 use Rattle.bfs_handover.specs.Loans.{ids_of, loaned, put_in}
 use Rattle.bfs_handover.specs.Moves.{AreDistinct, AreLent, brought_home}
-use Rattle.bfs_handover.specs.Merging.{AreAllLent, AreOut, IsMerged, IsOut, all_home, all_in, refusal, reply_in}
+use Rattle.bfs_handover.specs.Merging.{AreAllLent, AreOut, IsMerged, IsOut, all_home, all_in, numbers_in, refusal, reply_in}
 use Rattle.bfs_handover.specs.declared.job.Done.{Done}
 use Rattle.bfs_handover.specs.declared.loans.Loan.{Loan}
 use Rattle.bfs_handover.specs.declared.results.MergeError.{MergeError}
 use Rattle.bfs_handover.specs.declared.results.MergeError.TheVariants.{Memory}
 use Rattle.bfs_handover.specs.declared.results.Reply.{Reply}
 use Rattle.bfs_handover.proofs.LoanLemmas.{get-put_in}
-use Rattle.bfs_handover.proofs.NumberLemmas.{among_map, differ, numbers_are, numbers_in, refusal_moved, rises}
+use Rattle.bfs_handover.proofs.NumberLemmas.{among_map, differ, numbers_are, refusal_moved, rises}
 
 -- One fileid ---------------------------------------------------------------------------------------------------------------
 

@@ -8,13 +8,13 @@ use Rattle.std.proofs.lemmas.Bool.{cases_lt, not-false, true_from_ne_false, fals
 use Rattle.std.proofs.lemmas.List.{get_or-map, length-map}
 use Rattle.std.proofs.lemmas.List.Elements.{All-head, All-tail}
 use Rattle.std.proofs.lemmas.List.Kept.{AllPairs-from_increasing}
-use Rattle.std.proofs.lemmas.List.Sorted.{list_any-IsPermutation, sum_by-IsPermutation}
+use Rattle.std.proofs.lemmas.List.Sorted.{IsPermutation-map, list_any-IsPermutation, sum_by-IsPermutation}
 use Rattle.std.proofs.lemmas.List.Sums.{length-filter}
 use Rattle.bfs_model.specs.Conflicts.{among}
 use Rattle.bfs_model.proofs.Footprints.Apart.{none_hit}
 use Rattle.bfs_model.proofs.Footprints.Own.{itself_among}
 use Rattle.bfs_handover.specs.Moves.{AreDistinct}
-use Rattle.bfs_handover.specs.Merging.{refusal, results_of}
+use Rattle.bfs_handover.specs.Merging.{CompleteResultsAreTaken, numbers_in, refusal, results_of}
 use Rattle.bfs_handover.specs.declared.job.Done.{Done}
 use Rattle.bfs_handover.specs.declared.results.MergeError.{MergeError}
 use Rattle.bfs_handover.specs.declared.results.MergeError.TheVariants.{Stranger, Double, Missing}
@@ -161,6 +161,18 @@ once (n ∷ ns) up q = by_test (n == q) refl (once ns up.1 q)
         let none : times ns q ≡ 0 = never ns q (false_from_ne_true (among ns q) (λ is. let below : n < q = up.0 q is in absurd (omega arith))) in omega arith
     by_test false e rest = rest
 
+counted : (ns : List ℕ) (q : ℕ) → length (filter (λ n. n == q) ns) ≡ times ns q
+counted [] q = refl
+counted (n ∷ ns) q = by_test (n == q) (counted ns q)
+  where
+    by_test : (b : Bool) → length (filter (λ m. m == q) ns) ≡ times ns q → length (cond b (n ∷ filter (λ m. m == q) ns) (filter (λ m. m == q) ns)) ≡ cond b (suc (times ns q)) (times ns q)
+    by_test true rest = ap suc rest
+    by_test false rest = rest
+
+times_moved : (ks ns : List ℕ) (q : ℕ) → IsPermutation ks ns → times ns q ≡ times ks q
+times_moved ks ns q each =
+    sym (counted ns q) ∙ length-filter (λ n. n == q) ns ∙ sum_by-IsPermutation (λ n. cond (n == q) 1 0) ks ns each ∙ sym (length-filter (λ n. n == q) ks) ∙ counted ks q
+
 rise_once : (ns : List ℕ) → Climbs ns → ((q : ℕ) → among ns q ≡ true → times ns q ≤ 1) → Rises ns
 rise_once [] up most = tt
 rise_once (n ∷ ns) up most = (
@@ -176,9 +188,6 @@ rise_once (n ∷ ns) up most = (
 )
 
 -- Refusals -----------------------------------------------------------------------------------------------------------------
-
-abbrev pub numbers_in : List Done → List ℕ
-numbers_in dones = map (λ (done : Done). done.number) dones
 
 abbrev strange : (ks ns : List ℕ) → Bool
 strange ks ns = list_any (λ n. not (among ks n)) ns
@@ -209,14 +218,22 @@ refusal_is ks dones = λ i. verdict (any_number (λ n. not (among ks n)) dones i
 
 results_moved : (dones order : List Done) (q : ℕ) → IsPermutation dones order → results_of order q ≡ results_of dones q
 results_moved dones order q each =
-    length-filter (λ (done : Done). done.number == q) order
-    ∙ sum_by-IsPermutation (λ (done : Done). cond (done.number == q) 1 0) dones order each
-    ∙ sym (length-filter (λ (done : Done). done.number == q) dones)
+    times_of order q ∙ times_moved (numbers_in dones) (numbers_in order) q (IsPermutation-map (λ (done : Done). done.number) dones order each) ∙ sym (times_of dones q)
 
 -- a refusal does not depend on the order of the results
 pub refusal_moved : (ks : List ℕ) (dones order : List Done) → IsPermutation dones order → refusal ks order ≡ refusal ks dones
 refusal_moved ks dones order each = λ i.
     verdict (sym (list_any-IsPermutation (λ (done : Done). not (among ks done.number)) dones order each) i) (list_any (λ k. nat_lt 1 (results_moved dones order k each i)) ks) (list_any (λ k. results_moved dones order k each i == 0) ks)
+
+pub complete_results_are_taken : CompleteResultsAreTaken
+complete_results_are_taken ks dones up each =
+    let ns = numbers_in dones in
+    let known : strange ks ns ≡ false = sym (list_any-IsPermutation (λ n. not (among ks n)) ks ns each) ∙ any_false (λ n. not (among ks n)) ks (λ q is. ap not is) in
+    let single : doubled ks ns ≡ false =
+    any_false (λ k. nat_lt 1 (times ns k)) ks (λ q is. let most : times ks q ≤ 1 = once ks (rises ks up) q in le-ltb 1 (times ns q) (omega (arith, times_moved ks ns q each))) in
+    let there : missed ks ns ≡ false =
+    any_false (λ k. times ns k == 0) ks (λ q is. let some : 1 ≤ times ks q = there_once ks q is in ne_eqb (times ns q) 0 (λ e. absurd (omega (arith, times_moved ks ns q each)))) in
+    refusal_is ks dones ∙ (λ i. verdict (known i) (single i) (there i))
 
 no_refusal : (s d m : Bool) → verdict s d m ≡ None → (s ≡ false) × (d ≡ false) × (m ≡ false)
 no_refusal true d m none = absurd cc

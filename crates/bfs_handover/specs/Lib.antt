@@ -1,3 +1,4 @@
+pub mod Errors
 pub mod Loans
 pub mod LoanLending
 pub mod Laws

@@ -1,7 +1,7 @@
 -- When results can be merged, and what comes of it.
 use Rattle.std.specs.Prelude.{◌≡◌, ℕ, ⊤, not, ◌==◌, IsTrue, List, [], ◌∷◌, map, length, filter, nat_lt, Option, Some, None, All, if◌then◌else◌}
 use Rattle.std.specs.List.{list_any}
-use Rattle.std.specs.List.Sorted.{IsPermutation}
+use Rattle.std.specs.List.Sorted.{IsPermutation, IsStrictlyIncreasing}
 use Rattle.std.specs.FinMap.{get, contains_key}
 use Rattle.bfs_model.specs.Tree.{Inodes}
 use Rattle.bfs_model.specs.Conflicts.{among}
@@ -14,6 +14,9 @@ use Rattle.bfs_handover.specs.declared.results.Reply.{Reply}
 use Rattle.bfs_handover.specs.declared.results.MergeError.{MergeError}
 use Rattle.bfs_handover.specs.declared.results.MergeError.TheVariants.{Stranger, Double, Missing}
 
+abbrev pub numbers_in : List Done → List ℕ
+numbers_in dones = map (λ done. done.number) dones
+
 -- how many results have that number
 abbrev pub results_of : List Done → (number : ℕ) → ℕ
 results_of dones number = length (filter (λ done. done.number == number) dones)
@@ -24,6 +27,10 @@ refusal numbers dones =
     if list_any (λ done. not (among numbers done.number)) dones then Some Stranger else (
     if list_any (λ number. nat_lt 1 (results_of dones number)) numbers then Some Double else (
     if list_any (λ number. results_of dones number == 0) numbers then Some Missing else None))
+
+-- Nothing is refused where the results have just these numbers, each once
+abbrev pub CompleteResultsAreTaken : Type 0
+CompleteResultsAreTaken = (numbers : List ℕ) (dones : List Done) → IsStrictlyIncreasing numbers → IsPermutation numbers (numbers_in dones) → refusal numbers dones ≡ None
 
 -- the fileids of a result differ, are lent out, and are those of its number
 pub record IsOut (slots : Slots) (number_of : ℕ → ℕ) (done : Done) : Type 0 where
@@ -57,7 +64,7 @@ reply_in done = record { number = done.number; bytes = done.reply }
 pub record IsMerged (old new : Slots) (numbers : List ℕ) (dones : List Done) (replies : List Reply) : Type 0 where
   pub order : List Done
   pub each : IsPermutation dones order
-  pub numbers_are : map (λ (done : Done). done.number) order ≡ numbers
+  pub numbers_are : numbers_in order ≡ numbers
   pub home : at_home new ≡ all_in order (at_home old)
   pub still_out : (id : ℕ) → get (lent new) id ≡ (if list_any (λ (done : Done). among (ids_of done.inodes) id) order then None else get (lent old) id)
   pub replies_are : replies ≡ map reply_in order

@@ -1,5 +1,11 @@
 ghost use Rattle.bfs_handover.specs.Carrying.{SplitRequestsAreCarriedOut};
 ghost use Rattle.bfs_handover.specs.Homecoming.{ResultsAreOut, ResultsComeHome};
+ghost use Rattle.bfs_handover.specs.Merging.{CompleteResultsAreTaken};
+
+/// Results of which each number has just one are not refused: `merge` then fails only if memory runs out.
+pub fn complete_results_are_taken()
+    ensures { CompleteResultsAreTaken }
+{}
 
 /// Results of jobs that were split off a tree may be merged into what stayed, whatever their order: the fileids of each are lent out to
 /// it alone.

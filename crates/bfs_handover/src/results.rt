@@ -2,7 +2,8 @@ ghost use Rattle.std.specs.Prelude.{◌≡◌, ◌≤◌, ◌⊎◌, ◌↔◌, 
 ghost use Rattle.std.specs.List.{list_any};
 ghost use Rattle.std.specs.List.Sorted.{IsNonDecreasingBy, IsPermutation, IsStrictlyIncreasing};
 ghost use Rattle.bfs_model.specs.Conflicts.{among};
-ghost use Rattle.bfs_handover.specs.Merging.{AreAllLent, AreOut, IsMerged, all_home, refusal, reply_in};
+ghost use Rattle.bfs_handover.specs.Errors.{merge_code_of};
+ghost use Rattle.bfs_handover.specs.Merging.{AreAllLent, AreOut, IsMerged, all_home, numbers_in, refusal, reply_in};
 ghost use Rattle.bfs_handover.specs.declared.job.Done.{Done};
 ghost use Rattle.bfs_handover.specs.declared.results.MergeError.TheVariants as error;
 
@@ -27,6 +28,20 @@ pub enum MergeError {
     /// Memory ran out.
     #[error("out of memory")]
     Memory,
+}
+
+impl MergeError {
+    /// The number of the refusal.
+    pub fn code(self) -> u32
+        ensures { result ≡ merge_code_of self }
+    {
+        match self {
+            MergeError::Stranger => 18,
+            MergeError::Double => 19,
+            MergeError::Missing => 38,
+            MergeError::Memory => 40,
+        }
+    }
 }
 
 impl From<AllocError> for MergeError {
@@ -112,7 +127,7 @@ fn is_among(numbers: &[u32], number: u32) -> bool
 }
 
 fn are_rising(dones: &[Done]) -> bool
-    ensures { IsTrue result ↔ IsStrictlyIncreasing (map (λ (done : Done). done.number) dones.now) }
+    ensures { IsTrue result ↔ IsStrictlyIncreasing (numbers_in dones.now) }
 {
     dones.is_sorted_by(|done, next| done.number < next.number)
 }

@@ -6,7 +6,8 @@ use Rattle.std.proofs.lemmas.List.Sorted.{IsPermutation-map}
 use Rattle.bfs_tree.specs.Slots.{Slots}
 use Rattle.bfs_handover.specs.declared.job.Job.{Job}
 use Rattle.bfs_handover.specs.declared.job.Done.{Done}
-use Rattle.bfs_workers.specs.Laws.{numbers_of, numbers_in}
+use Rattle.bfs_handover.specs.Merging.{numbers_in}
+use Rattle.bfs_workers.specs.Laws.{numbers_of}
 use Rattle.bfs_workers.specs.Results.{EachOnce, Gives}
 
 numbers_given : (ran : ℕ → List ℕ → Type 0) (tree : Slots) (jobs : List Job) (dones : List Done) → AllZip (Gives ran tree) jobs dones → numbers_of jobs ≡ numbers_in dones

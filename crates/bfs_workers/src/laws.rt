@@ -2,7 +2,8 @@ ghost use Rattle.std.specs.Prelude.{List, IsPermutation};
 ghost use Rattle.bfs_tree.specs.Slots.{Slots};
 ghost use Rattle.bfs_handover.specs.declared.job.Job.{Job};
 ghost use Rattle.bfs_handover.specs.declared.job.Done.{Done};
-ghost use Rattle.bfs_workers.specs.Laws.{numbers_of, numbers_in};
+ghost use Rattle.bfs_handover.specs.Merging.{numbers_in};
+ghost use Rattle.bfs_workers.specs.Laws.{numbers_of};
 ghost use Rattle.bfs_workers.specs.Results.{EachOnce};
 
 use crate::gate::Gate;
