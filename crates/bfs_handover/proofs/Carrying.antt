@@ -20,7 +20,8 @@ use Rattle.bfs_handover.specs.declared.job.Job.{Job}
 use Rattle.bfs_handover.specs.declared.job.Done.{Done}
 use Rattle.bfs_handover.specs.declared.results.Reply.{Reply}
 use Rattle.bfs_handover.proofs.LoanLemmas.{get-put_in, get_owned}
-use Rattle.bfs_handover.proofs.Homecoming.{all_brought, gone_by, job_numbers, matched, none_lent, written_moved}
+use Rattle.bfs_handover.proofs.Homecoming.{all_brought, gone_by, job_numbers, matched, none_lent}
+use Rattle.bfs_handover.proofs.SplitLemmas.{written_is_moved}
 
 module _ (old new : Slots) (part : Part) where
   abbrev outcome : ℕ → Inodes × List ℕ
@@ -34,7 +35,7 @@ module _ (old new : Slots) (part : Part) where
       → put_in done.inodes left ≡ closed (footprint_for part number) (outcome number).0 left
   one_back number job done is run known left = same_inodes _ _ (λ q.
       let f = footprint_for part number in
-      let owned : is_written f q ≡ among (ids_of done.inodes) q = written_moved f q known ∙ sym (is.ids q) ∙ ap (λ ids. among ids q) (sym run.ids) in
+      let owned : is_written f q ≡ among (ids_of done.inodes) q = sym (written_is_moved f q known) ∙ sym (is.ids q) ∙ ap (λ ids. among ids q) (sym run.ids) in
       get-put_in done.inodes left q ∙ by_test q (among (ids_of done.inodes) q) refl ∙ ap (λ b. cond b (get (outcome number).0 q) (get left q)) (sym owned) ∙ sym (get-closed f (outcome number).0 left q))
     where
       by_test : (q : ℕ) (b : Bool) → among (ids_of done.inodes) q ≡ b → cond b (loaned done.inodes q) (get left q) ≡ cond b (get (outcome number).0 q) (get left q)

@@ -1,5 +1,5 @@
 -- What comes home of jobs that were split off a tree is what their requests leave one after another.
-use Rattle.std.proofs.Common.{◌≡◌, ℕ, zero, suc, ◌+◌, ◌-◌, ◌<◌, ◌≤◌, Bool, true, false, cond, ◌||◌, List, [], ◌∷◌, ◌++◌, map, length, get_or, take, drop, Option, Some, None, is_some, refl, ap, sym, subst, ◌∙◌, arith, inl, inr, eqb, true≢false}
+use Rattle.std.proofs.Common.{◌≡◌, ℕ, zero, suc, ◌+◌, ◌-◌, ◌<◌, ◌≤◌, Bool, true, false, cond, ◌||◌, List, [], ◌∷◌, map, length, get_or, take, drop, Option, Some, None, is_some, refl, ap, sym, subst, ◌∙◌, arith, inl, inr, eqb, true≢false}
 use Rattle.std.specs.Prelude.{⊤}
 use Rattle.std.specs.Ordering.{nat_cmp}
 use Rattle.std.specs.List.{All, AllByRecursion, AllZip, Contains, list_any, range_with_len}
@@ -12,6 +12,7 @@ use Rattle.std.proofs.lemmas.List.Elements.{All-cons, All-head, All-nil, All-tai
 use Rattle.std.proofs.lemmas.List.FromFn.{length-range_with_len, get_or-range_with_len, length-map-range_with_len, get_or-map-range_with_len}
 use Rattle.std.proofs.lemmas.List.Kept.{AllPairs-from_increasing}
 use Rattle.std.proofs.lemmas.List.Sorted.{All-permutation, Contains-permutation, IsPermutation-sym}
+use Rattle.std.proofs.lemmas.Slice.Zip.{AllZip-long}
 use Rattle.bfs_model.specs.Tree.{Time, Inodes, spent_ordinal}
 use Rattle.bfs_model.specs.Serial.{ordinal_after, answer, inodes_after, replies_to}
 use Rattle.bfs_model.specs.Footprints.{Footprint, known, whole, footprint_of}
@@ -36,16 +37,12 @@ use Rattle.bfs_handover.specs.declared.job.Job.{Job}
 use Rattle.bfs_handover.specs.declared.job.Done.{Done}
 use Rattle.bfs_handover.specs.declared.results.Reply.{Reply}
 use Rattle.bfs_handover.proofs.LoanLemmas.{get-put_in, get_owned}
+use Rattle.bfs_handover.proofs.MoveLemmas.{among_both}
+use Rattle.bfs_handover.proofs.SplitLemmas.{moved_written, step_after, written_is_moved}
 
 -- Two lists, place by place ------------------------------------------------------------------------------------------------
 
 module _ {A B : Type 0} (R : A → B → Type 0) where
-  zipped_length : (xs : List A) (ys : List B) → AllZip R xs ys → length xs ≡ length ys
-  zipped_length [] [] all = refl
-  zipped_length [] (y ∷ ys) all = absurd all
-  zipped_length (x ∷ xs) [] all = absurd all
-  zipped_length (x ∷ xs) (y ∷ ys) all = ap suc (zipped_length xs ys all.1)
-
   zipped_at : (xs : List A) (ys : List B) (k : ℕ) (d : A) (e : B) → AllZip R xs ys → k < length xs → R (get_or xs k d) (get_or ys k e)
   zipped_at [] ys k d e all lt = absurd (omega arith)
   zipped_at (x ∷ xs) [] k d e all lt = absurd all
@@ -72,7 +69,7 @@ module _ {A B : Type 0} (R : A → B → Type 0) where
 
     tied_in : (run : List A) (us : List B) (v : B) (d : A) → AllZip R run us → Contains us v → (x : A) × Contains run x × R x v
     tied_in run us v d all found =
-        let there : found.0 < length run = omega (arith, found.1, zipped_length run us all) in
+        let there : found.0 < length run = omega (arith, found.1, AllZip-long R run us all) in
         (get_or run found.0 d, Contains-get_or run found.0 d there, subst (R (get_or run found.0 d)) found.2 (zipped_at run us found.0 d v all there))
 
     in_place : (xs : List A) (vs : List B) (x : A) (k : ℕ) (d : A) (e : B) → IsStrictlyIncreasing (map f xs) → map g vs ≡ map f xs → Contains xs x → k < length xs → k < length vs
@@ -119,14 +116,6 @@ all_footprints part =
 
 -- Of split jobs ------------------------------------------------------------------------------------------------------------
 
-among-append : (xs ys : List ℕ) (q : ℕ) → among (xs ++ ys) q ≡ (among xs q || among ys q)
-among-append [] ys q = refl
-among-append (x ∷ xs) ys q = ap (λ b. eqb x q || b) (among-append xs ys q) ∙ assoc (eqb x q) (among xs q) (among ys q)
-  where
-    assoc : (a b c : Bool) → (a || (b || c)) ≡ ((a || b) || c)
-    assoc true b c = refl
-    assoc false b c = refl
-
 module _ (old new : Slots) (part : Part) where
   pub job_numbers : (numbers : List ℕ) (jobs : List Job) → AllZip (IsJobOf old new part) numbers jobs → map (λ (job : Job). job.number) jobs ≡ numbers
   job_numbers [] [] all = refl
@@ -144,13 +133,9 @@ module _ (old new : Slots) (part : Part) where
   all_brought (number ∷ numbers) (job ∷ jobs) [] q all run = absurd run
   all_brought (number ∷ numbers) (job ∷ jobs) (done ∷ dones) q all run =
       (λ i. (ap (λ ids. among ids q) run.0.ids ∙ all.0.ids q) i || all_brought numbers jobs dones q all.1 run.1 i)
-      ∙ sym (among-append (moved_for (footprint_for part number)) (all_moved (footprints_for part numbers)) q)
+      ∙ sym (among_both (moved_for (footprint_for part number)) (all_moved (footprints_for part numbers)) q)
 
 -- Results are out ----------------------------------------------------------------------------------------------------------
-
-moved_written : (f : Footprint) (q : ℕ) → among (moved_for f) q ≡ true → is_written f q ≡ true
-moved_written (known reads writes) q is = is
-moved_written whole q is = refl
 
 -- the number of the first job that has a fileid
 abbrev number_in : List Job → ℕ → ℕ
@@ -244,13 +229,6 @@ known_there : (reach : Reach) (f : Footprint) → reach.whole ≡ false → Know
 known_there reach (known reads writes) part knows = refl
 known_there reach whole part knows = absurd (true≢false (sym knows ∙ part))
 
-pub written_moved : (f : Footprint) (q : ℕ) → is_whole f ≡ false → is_written f q ≡ among (moved_for f) q
-written_moved (known reads writes) q is = refl
-written_moved whole q is = absurd (true≢false is)
-
-later : (o n m : ℕ) → n ≡ suc m → ordinal_after o n ≡ ordinal_after (ordinal_after o 1) m
-later o n m e = omega arith
-
 module _ (old new : Slots) (time : Time) where
   abbrev rest_of : (first ordinal : ℕ) → List (List ℕ) → List Footprint → Part
   rest_of first ordinal requests footprints = record { first = first; ordinal = ordinal; time = time; requests = requests; footprints = footprints }
@@ -263,7 +241,7 @@ module _ (old new : Slots) (time : Time) where
       let same : footprint_at (f ∷ fs) (number - first) ≡ footprint_at fs (number - (first + 1)) = ap (footprint_at (f ∷ fs)) on in record {
         number_is = is.number_is;
         request = is.request ∙ ap (λ k. get_or (request ∷ requests) k []) on;
-        ordinal = is.ordinal ∙ later o (number - first) (number - (first + 1)) on;
+        ordinal = is.ordinal ∙ ap (ordinal_after o) on ∙ sym (step_after o (number - (first + 1)));
         time = is.time;
         share = is.share ∙ ap (share_of (at_home old) (at_home new)) same;
         ids = λ id. is.ids id ∙ ap (λ g. among (moved_for g) id) same;
@@ -306,7 +284,7 @@ module _ (old new : Slots) (time : Time) where
       let left = (answer (share_of (at_home old) (at_home new) f) o time request).0 in
       let ends : put_in done.inodes (at_home new) ≡ left = ap (λ end. end.0) (run.answers ∙ sym (is.asks (share_of (at_home old) (at_home new) f) is.share)) in
       same_inodes (put_in done.inodes home) (closed f left home) (λ q.
-      let owned : is_written f q ≡ among (ids_of done.inodes) q = written_moved f q part ∙ sym (is.ids q) ∙ ap (λ ids. among ids q) (sym run.ids) in
+      let owned : is_written f q ≡ among (ids_of done.inodes) q = sym (written_is_moved f q part) ∙ sym (is.ids q) ∙ ap (λ ids. among ids q) (sym run.ids) in
       get-put_in done.inodes home q ∙ by_test left ends q (among (ids_of done.inodes) q) refl ∙ ap (λ b. cond b (get left q) (get home q)) (sym owned) ∙ sym (get-closed f left home q))
     where
       by_test : (left : Inodes) → put_in done.inodes (at_home new) ≡ left → (q : ℕ) (b : Bool) → among (ids_of done.inodes) q ≡ b → cond b (loaned done.inodes q) (get home q) ≡ cond b (get left q) (get home q)

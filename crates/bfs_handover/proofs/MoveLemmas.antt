@@ -6,13 +6,14 @@ use Rattle.std.specs.Ordering.{nat_cmp, eq_by_cmp}
 use Rattle.std.proofs.Math.Seq.{drop-cons}
 use Rattle.bfs_model.proofs.WellFormed.Sums.{itself, same_test}
 use Rattle.std.specs.FinMap.{get, insert, remove, contains_key, get-insert, same_map, nat_cmp-IsAntisymmetric}
+use Rattle.std.proofs.lemmas.Bool.{or_from, or_right}
 use Rattle.std.proofs.lemmas.Cmp.{nat_cmp_total}
 use Rattle.bfs_model.specs.Tree.{Inode, Inodes}
 use Rattle.bfs_tree.specs.Slots.{Slots}
-use Rattle.bfs_tree.specs.Tree.{at_home, lent, brought, reserved, reserved_in}
+use Rattle.bfs_tree.specs.Tree.{at_home, lent, reserved, reserved_in}
 use Rattle.bfs_tree.specs.declared.slots.Slot.{Slot}
 use Rattle.bfs_tree.specs.declared.slots.Slot.TheVariants.{Free, Lent}
-use Rattle.bfs_tree.proofs.SlotLemmas.{home_insert, home_remove, home_lent, lent_lent, home_free, lent_free, remove_absent, no_home_at, no_loan_at}
+use Rattle.bfs_tree.proofs.SlotLemmas.{home_lent, lent_lent, home_free, lent_free, remove_absent, no_home_at, no_loan_at}
 use Rattle.bfs_model.specs.Conflicts.{among, set_at}
 use Rattle.bfs_handover.specs.Loans.{ids_of, loaned, put_in}
 use Rattle.bfs_handover.specs.Moves.{AreAtHome, AreDistinct, AreOwned, lent_out, reserved_all, taken}
@@ -31,10 +32,6 @@ lent_reserved_in s id None is = lent_free s id ∙ remove_absent (lent s) id (no
 
 pub lent_reserved : (s : Slots) (id : ℕ) → lent (reserved s id) ≡ lent s
 lent_reserved s id = lent_reserved_in s id (get s id) refl
-
-home_brought : (s : Slots) (id : ℕ) (o : Option Inode) → at_home (brought s id o) ≡ set_at (at_home s) id o
-home_brought s id None = home_remove s id
-home_brought s id (Some x) = home_insert s id x
 
 back_at : (m : Inodes) (id q : ℕ) (b : Bool) → (id == q) ≡ b → cond b (get m id) (cond b None (get m q)) ≡ get m q
 back_at m id q true is = ap (get m) (eqb-true id q is)
@@ -80,10 +77,6 @@ has_all : (ids : List ℕ) (s : Slots) (q : ℕ) → among ids q ≡ true → co
 has_all [] s q member = absurd (true≢false (sym member))
 has_all (id ∷ ids) s q member = has_by id ids s q (id == q) refl member (has_all ids (reserved s id) q)
 
-or_right : (a : Bool) {b : Bool} → b ≡ true → (a || b) ≡ true
-or_right true is = refl
-or_right false is = is
-
 other : (id q : ℕ) (ids : List ℕ) (b : Bool) → eqb id q ≡ b → among ids id ≡ false → among ids q ≡ true → b ≡ false
 other id q ids true is apart member = absurd (true≢false (sym member ∙ ap (among ids) (sym (eqb-true id q is)) ∙ apart))
 other id q ids false is apart member = refl
@@ -96,8 +89,8 @@ are_at_home (id ∷ ids) s has owned distinct =
       has id first,
       owned id first,
       are_at_home ids (insert s id Lent)
-          (λ q member. ap is_some (get-insert nat_cmp_total s id Lent q) ∙ either (eq_by_cmp nat_cmp q id) Lent (get s q) (has q (or_right (id == q) member)))
-          (λ q member. ap (λ o. not (is_some o)) (ap (λ m. get m q) (lent_lent s id) ∙ get-insert nat_cmp_total (lent s) id tt q ∙ ap (λ b. cond b (Some tt) (get (lent s) q)) (same_test q id ∙ other id q ids (eqb id q) refl distinct.0 member)) ∙ owned q (or_right (id == q) member))
+          (λ q member. ap is_some (get-insert nat_cmp_total s id Lent q) ∙ either (eq_by_cmp nat_cmp q id) Lent (get s q) (has q (or_right (id == q) (among ids q) member)))
+          (λ q member. ap (λ o. not (is_some o)) (ap (λ m. get m q) (lent_lent s id) ∙ get-insert nat_cmp_total (lent s) id tt q ∙ ap (λ b. cond b (Some tt) (get (lent s) q)) (same_test q id ∙ other id q ids (eqb id q) refl distinct.0 member)) ∙ owned q (or_right (id == q) (among ids q) member))
           distinct.1,
     )
 
@@ -111,17 +104,14 @@ pub among_both : (xs ys : List ℕ) (q : ℕ) → among (xs ++ ys) q ≡ (among 
 among_both [] ys q = refl
 among_both (x ∷ xs) ys q = ap (λ b. (x == q) || b) (among_both xs ys q) ∙ sym (or_assoc (x == q) (among xs q) (among ys q))
 
-neither : (a b : Bool) → a ≡ false → b ≡ false → (a || b) ≡ false
-neither a b one two = ap (λ x. x || b) one ∙ two
-
 pub none_among : (xs ys : List ℕ) (q : ℕ) → among xs q ≡ false → among ys q ≡ false → among (xs ++ ys) q ≡ false
-none_among xs ys q one two = among_both xs ys q ∙ neither (among xs q) (among ys q) one two
+none_among xs ys q one two = among_both xs ys q ∙ or_from (among xs q) (among ys q) one two
 
 pub distinct_both : (xs ys : List ℕ) → AreDistinct xs → AreDistinct ys → ((q : ℕ) → among xs q ≡ true → among ys q ≡ false) → AreDistinct (xs ++ ys)
 distinct_both [] ys one two apart = two
 distinct_both (x ∷ xs) ys one two apart = (
   none_among xs ys x one.0 (apart x (ap (λ b. b || among xs x) (eq-eqb x x refl))),
-  distinct_both xs ys one.1 two (λ q is. apart q (or_right (x == q) is)),
+  distinct_both xs ys one.1 two (λ q is. apart q (or_right (x == q) (among xs q) is)),
 )
 
 pub reserved_both : (xs ys : List ℕ) (s : Slots) → reserved_all (xs ++ ys) s ≡ reserved_all ys (reserved_all xs s)

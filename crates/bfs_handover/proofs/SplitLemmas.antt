@@ -3,7 +3,8 @@ use Rattle.std.proofs.Common.{◌≡◌, ℕ, zero, suc, ◌+◌, ◌-◌, ◌<�
 use Rattle.std.specs.Prelude.{◌==◌, ◌||◌, slice_get, min}
 use Rattle.std.specs.List.{All, AllByRecursion, AllZip}
 use Rattle.std.specs.FinMap.{get}
-use Rattle.std.proofs.lemmas.Bool.{or_left, or_right}
+use Rattle.std.proofs.Math.Bool.{or-false, or_comm}
+use Rattle.std.proofs.lemmas.Bool.{false_from_ne_true, or_left, or_right}
 use Rattle.std.proofs.lemmas.List.{get_or-drop, get_or-take, length-drop, length-take}
 use Rattle.std.proofs.lemmas.List.Elements.{All-from_recursion, recursion_from_All}
 use Rattle.std.proofs.lemmas.Option.{get_or_from_slice_get}
@@ -39,11 +40,7 @@ use Rattle.bfs_handover.proofs.MoveLemmas.{among_both, none_among, distinct_both
 
 kept_by : (x q : ℕ) (xs : List ℕ) (b : Bool) → (x == q) ≡ b → among xs x ≡ true → among xs q ≡ (among xs q || (b || false))
 kept_by x q xs true is member = let there : among xs q ≡ true = ap (among xs) (sym (eqb-true x q is)) ∙ member in there ∙ sym (or_right (among xs q) true refl)
-kept_by x q xs false is member = or_false (among xs q)
-  where
-    or_false : (b : Bool) → b ≡ (b || false)
-    or_false true = refl
-    or_false false = refl
+kept_by x q xs false is member = sym (or-false (among xs q))
 
 pub once_kept : (once ids : List ℕ) (x : ℕ) → AreOnce once ids → among once x ≡ true → AreOnce once (ids ++ x ∷ [])
 once_kept once ids x are member = record {
@@ -76,7 +73,7 @@ footprint_is (first ∷ rest) (suc k) d less = footprint_is rest k d (omega arit
 first_after : (o : ℕ) → o ≤ spent_ordinal → o ≡ ordinal_after o 0
 first_after o most = omega arith
 
-step_after : (o k : ℕ) → ordinal_after (ordinal_after o 1) k ≡ ordinal_after o (suc k)
+pub step_after : (o k : ℕ) → ordinal_after (ordinal_after o 1) k ≡ ordinal_after o (suc k)
 step_after o k = omega arith
 
 -- a number of these requests is one of the batch
@@ -107,15 +104,11 @@ module _ (m : Inodes) (t : Time) where
 
 -- What is moved --------------------------------------------------------------------------------------------------------------
 
-not_true : (b : Bool) → (b ≡ true → ⊥) → b ≡ false
-not_true true never = absurd (never refl)
-not_true false never = refl
-
-moved_written : (f : Footprint) (q : ℕ) → among (moved_for f) q ≡ true → is_written f q ≡ true
+pub moved_written : (f : Footprint) (q : ℕ) → among (moved_for f) q ≡ true → is_written f q ≡ true
 moved_written (known reads writes) q is = is
 moved_written whole q is = refl
 
-written_is_moved : (f : Footprint) (q : ℕ) → is_whole f ≡ false → among (moved_for f) q ≡ is_written f q
+pub written_is_moved : (f : Footprint) (q : ℕ) → is_whole f ≡ false → among (moved_for f) q ≡ is_written f q
 written_is_moved (known reads writes) q is = refl
 written_is_moved whole q is = absurd (true≢false is)
 
@@ -124,7 +117,7 @@ apart_from_all : (f : Footprint) (gs : List Footprint) (q : ℕ) → AllByRecurs
 apart_from_all f [] q all is = refl
 apart_from_all f (g ∷ gs) q all is =
     none_among (moved_for g) (all_moved gs) q
-    (moved_is_written g q (not_true (is_written g q) (λ both. true≢false (sym (written_is_touched g q both) ∙ (apart f g all.0).first q (moved_written f q is)))))
+    (moved_is_written g q (false_from_ne_true (is_written g q) (λ both. true≢false (sym (written_is_touched g q both) ∙ (apart f g all.0).first q (moved_written f q is)))))
     (apart_from_all f gs q all.1 is)
 
 pub all_out_is : (ps : List Prepared) (s : Slots) → all_out ps s ≡ lent_out (all_ids ps) s
@@ -208,7 +201,7 @@ module _ (old new : Slots) (part : Part) where
     job_is n p s all.0 can.0.known (λ q is. same q (among_both p.ids.items (all_ids ps) q ∙ or_left (among p.ids.items q) (among (all_ids ps) q) is)),
     each_job ns ps (lent_out p.ids.items s) all.1 disjoint.1 can.1 (λ q is.
         home_out p.ids.items s q
-        ∙ ap (λ b. cond b None (get (at_home s) q)) (not_true (among p.ids.items q) (λ both. true≢false (sym is ∙ first_apart part n ns p ps q all disjoint both)))
+        ∙ ap (λ b. cond b None (get (at_home s) q)) (false_from_ne_true (among p.ids.items q) (λ both. true≢false (sym is ∙ first_apart part n ns p ps q all disjoint both)))
         ∙ same q (among_both p.ids.items (all_ids ps) q ∙ or_right (among p.ids.items q) (among (all_ids ps) q) is)),
   )
 
@@ -228,16 +221,10 @@ module _ (old new : Slots) (part : Part) where
       all_among (λ q. (among ids q || not (is_some (get (lent new) q))) ≡ true) reads (λ q read.
           ap (λ b. b || not (is_some (get (lent new) q))) (same q)
           ∙ ap (λ b. among writes q || not b) (out q)
-          ∙ turned (among writes q) (not (among (all_moved fs) q))
+          ∙ or_comm (among writes q) (not (among (all_moved fs) q))
           ∙ there q (or_left (among reads q) (among writes q) read)),
       all_among (λ q. among ids q ≡ true) writes (λ q written. same q ∙ written),
     )
-      where
-        turned : (a b : Bool) → (a || b) ≡ (b || a)
-        turned true true = refl
-        turned true false = refl
-        turned false true = refl
-        turned false false = refl
     knows whole ids is there same = absurd (true≢false is)
 
     fresh_on : (f : Footprint) (o : ℕ) (others : Inodes) → AgreeOn f (at_home old) others → IsFreshFor (at_home old) o f → IsFreshFor others o f

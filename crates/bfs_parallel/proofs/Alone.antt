@@ -1,39 +1,18 @@
 -- A request that may touch any inode is alone in its run.
-use Rattle.std.proofs.Common.{◌≡◌, ℕ, zero, suc, ◌+◌, ◌-◌, ◌<◌, ◌≤◌, true, false, true≢false, List, [], ◌∷◌, ◌++◌, Option, Some, None, is_some, Result, Ok, Err, slice_index_or, length, take, drop, map, refl, ap, sym, subst, ◌∙◌, arith, unwrap_or}
-use Rattle.std.specs.Prelude.{IsTrue, get_or}
-use Rattle.std.specs.List.{All, AllByRecursion, AllZip, slice_get, range_with_len}
-use Rattle.std.specs.List.Sorted.{IsStrictlyIncreasing}
-use Rattle.std.proofs.lemmas.List.{length-map, append_assoc}
-use Rattle.std.proofs.lemmas.List.Elements.{All-head, All-tail, All-from_recursion}
-use Rattle.std.proofs.lemmas.List.Sorted.{All-permutation}
-use Rattle.std.proofs.lemmas.List.FromFn.{length-range_with_len, get_or-range_with_len}
-use Rattle.bfs_model.specs.Tree.{Time, Inodes, spent_ordinal}
-use Rattle.bfs_model.specs.Limits.{most_reply_bytes}
-use Rattle.bfs_model.specs.Serial.{ordinal_after, answer, inodes_after, replies_to}
+use Rattle.std.proofs.Common.{◌≡◌, ℕ, zero, suc, ◌<◌, true, true≢false, List, [], ◌∷◌, Option, Some, None, is_some, Result, Ok, Err, slice_index_or, length, take, drop, map, refl, ap, sym, subst, ◌∙◌, arith, unwrap_or}
+use Rattle.std.specs.List.{slice_get}
+use Rattle.std.proofs.lemmas.List.{length-map}
+use Rattle.bfs_model.specs.Tree.{Time, Inodes}
+use Rattle.bfs_model.specs.Serial.{replies_to}
 use Rattle.bfs_model.specs.Call.{Request, Refusal, call_of}
 use Rattle.bfs_model.specs.Context.{Context}
 use Rattle.bfs_model.specs.Arguments.{Call, null, get_attributes, set_attributes, root, look_up, read_link, read, write_cache, write, create, remove, rename, make_link, make_symbolic_link, make_directory, remove_directory, read_directory, file_system_status, arguments_of}
 use Rattle.bfs_model.specs.Footprints.{Footprint, known, whole, footprint, footprint_of, footprint_of_arguments, footprint_of_call}
-use Rattle.bfs_model.specs.Conflicts.{is_whole, conflict}
+use Rattle.bfs_model.specs.Conflicts.{is_whole}
 use Rattle.bfs_model.specs.Groups.{AreDisjoint, footprints_at}
-use Rattle.bfs_model.specs.OvertakingLaw.{footprint_at}
-use Rattle.bfs_model.specs.WellFormed.{IsWellFormed}
-use Rattle.bfs_model.proofs.Kept.{servable, reply_is_short, answer_keeps, formed_again}
-use Rattle.bfs_model.proofs.WellFormed.Numbered.{fresh_where_numbered, numbered_older}
 use Rattle.bfs_footprint.specs.Seen.{footprint_seen}
 use Rattle.bfs_footprint.specs.declared.footprints.Footprint as declared
-use Rattle.bfs_tree.specs.Slots.{Slots}
-use Rattle.bfs_tree.specs.Tree.{at_home, reach_of}
-use Rattle.bfs_handover.specs.Jobs.{IsDone}
-use Rattle.bfs_handover.specs.Splitting.{Part, IsSplit, part_of, CanBeSplit, footprints_for}
-use Rattle.bfs_handover.specs.Merging.{AreOut, IsMerged, reply_in}
-use Rattle.bfs_handover.specs.Homecoming.{numbers_from}
-use Rattle.bfs_handover.proofs.Homecoming.{from_rise, all_footprints, results_are_out, results_come_home}
-use Rattle.bfs_handover.specs.declared.job.Job.{Job}
-use Rattle.bfs_handover.specs.declared.job.Done.{Done}
-use Rattle.bfs_handover.specs.declared.results.Reply.{Reply}
-use Rattle.bfs_workers.specs.Results.{Gives, EachOnce}
-use Rattle.bfs_parallel.specs.Ran.{AllRan, is_of_all, are_of_all, is_read_as_of_all, bytes_of}
+use Rattle.bfs_parallel.specs.Ran.{AllRan, is_of_all, are_of_all, is_read_as_of_all}
 
 pub one_left : (xs : List (List ℕ)) (k : ℕ) (x : List ℕ) → slice_get xs k ≡ Some x → take 1 (drop k xs) ≡ x ∷ []
 one_left [] zero x is = absurd (true≢false (sym (ap is_some is)))

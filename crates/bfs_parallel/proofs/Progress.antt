@@ -3,7 +3,6 @@ use Rattle.std.proofs.Common.{◌≡◌, ℕ, zero, suc, ◌+◌, ◌-◌, ◌<�
 use Rattle.std.specs.Prelude.{IsFalse, IsTrue}
 use Rattle.std.specs.List.{list_any}
 use Rattle.std.proofs.lemmas.List.{take-append-drop, length-take-le, length-drop, append_assoc}
-use Rattle.std.proofs.Math.ListN.{drop_of_length-le}
 use Rattle.bfs_model.specs.Tree.{Time, Inodes}
 use Rattle.bfs_model.specs.Serial.{ordinal_after, answer, inodes_after, replies_to}
 use Rattle.bfs_model.specs.Footprints.{Footprint}
@@ -77,10 +76,6 @@ ran_further ran m o t requests done n replies within here before more rest =
     subst (AllRan ran 0 requests) (sym (append_assoc replies now more))
     (before (now ++ more) (subst (λ xs. AllRan ran done xs (now ++ more)) (sym (parted n done requests))
     (all_ran_on ran done run (drop (done + n) requests) now more (length-replies_to m o t run) here (subst (λ k. AllRan ran (done + k) (drop (done + n) requests) more) (sym (few_left n done requests within)) rest))))
-
-pub ran_to_the_end : (ran : ℕ → List ℕ → Type 0) (requests replies : List (List ℕ)) (done : ℕ) → length requests ≤ done
-    → ((more : List (List ℕ)) → AllRan ran done (drop done requests) more → AllRan ran 0 requests (replies ++ more)) → AllRan ran 0 requests (replies ++ [])
-ran_to_the_end ran requests replies done all before = before [] (subst (λ xs. AllRan ran done xs []) (sym (drop_of_length-le requests all)) tt)
 
 -- The longest run ------------------------------------------------------------------------------------------------------------
 

@@ -1,7 +1,7 @@
 -- A run of requests of which it is known what they touch: split, run and merged.
-use Rattle.std.proofs.Common.{◌≡◌, ℕ, zero, suc, ◌+◌, ◌-◌, ◌<◌, ◌≤◌, true, false, true≢false, List, [], ◌∷◌, ◌++◌, Option, Some, None, is_some, Result, Ok, Err, slice_index_or, length, take, drop, map, refl, ap, sym, subst, ◌∙◌, arith, unwrap_or}
+use Rattle.std.proofs.Common.{◌≡◌, ℕ, zero, suc, ◌+◌, ◌-◌, ◌<◌, ◌≤◌, false, true≢false, List, [], ◌∷◌, ◌++◌, slice_index_or, length, take, drop, map, refl, ap, sym, subst, ◌∙◌, arith}
 use Rattle.std.specs.Prelude.{IsTrue, get_or}
-use Rattle.std.specs.List.{All, AllByRecursion, AllZip, slice_get, range_with_len}
+use Rattle.std.specs.List.{All, AllByRecursion, AllZip, range_with_len}
 use Rattle.std.specs.List.Sorted.{IsPermutation, IsStrictlyIncreasing}
 use Rattle.std.proofs.lemmas.List.{length-map, append_assoc}
 use Rattle.std.proofs.lemmas.List.Elements.{All-head, All-tail, All-from_recursion}
@@ -10,10 +10,7 @@ use Rattle.std.proofs.lemmas.List.FromFn.{length-range_with_len, get_or-range_wi
 use Rattle.bfs_model.specs.Tree.{Time, Inodes, spent_ordinal}
 use Rattle.bfs_model.specs.Limits.{most_reply_bytes}
 use Rattle.bfs_model.specs.Serial.{ordinal_after, answer, inodes_after, replies_to}
-use Rattle.bfs_model.specs.Call.{Request, Refusal, call_of}
-use Rattle.bfs_model.specs.Context.{Context}
-use Rattle.bfs_model.specs.Arguments.{Call, null, get_attributes, set_attributes, root, look_up, read_link, read, write_cache, write, create, remove, rename, make_link, make_symbolic_link, make_directory, remove_directory, read_directory, file_system_status, arguments_of}
-use Rattle.bfs_model.specs.Footprints.{Footprint, known, whole, footprint, footprint_of, footprint_of_arguments, footprint_of_call}
+use Rattle.bfs_model.specs.Footprints.{Footprint, known, whole}
 use Rattle.bfs_model.specs.Conflicts.{is_whole, conflict}
 use Rattle.bfs_model.specs.Groups.{AreDisjoint, footprints_at}
 use Rattle.bfs_model.specs.OvertakingLaw.{footprint_at}

@@ -7,6 +7,3 @@ all_zip_append R [] us [] vs first second = second
 all_zip_append R [] us (y ∷ ys) vs first second = absurd first
 all_zip_append R (x ∷ xs) us [] vs first second = absurd first
 all_zip_append R (x ∷ xs) us (y ∷ ys) vs first second = (first.0, all_zip_append R xs us ys vs first.1 second)
-
-pub all_zip_more : {A B : Type 0} (R : A → B → Type 0) (xs : List A) (ys : List B) (x : A) (y : B) → AllZip R xs ys → R x y → AllZip R (xs ++ x ∷ []) (ys ++ y ∷ [])
-all_zip_more R xs ys x y before here = all_zip_append R xs (x ∷ []) ys (y ∷ []) before (here, tt)

@@ -11,7 +11,7 @@ use std::alloc::Global;
 
 /// Runs the jobs one after another in the calling thread, and gives their results in the order of the jobs. `Memory` if memory
 /// runs out: the jobs behind are not run then, and the inodes of all jobs are lost.
-#[tactic(auto, using(crate::proofs::Zips::all_zip_more))]
+#[tactic(auto, using(std::proofs::lemmas::Slice::Zip::all_zipped_more))]
 pub fn run_here<G: Gate>(
     alloc: Global,
     tree: &Tree,

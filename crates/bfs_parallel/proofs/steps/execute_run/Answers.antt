@@ -1,5 +1,6 @@
 -- A request that may touch any inode is alone; others are split, run and merged, with the outcome of one after another.
 use Rattle.std.proofs.Common.{◌≡◌, ◌++◌, ◌∷◌, [], ℕ, List, take, drop, ap, sym, ◌∙◌, rules}
+use Rattle.bfs_model.specs.Serial.{answer}
 use Rattle.bfs_model.specs.Tree.{Inodes}
 use Rattle.bfs_tree.specs.Tree.{at_home}
 use Rattle.bfs_handover.specs.Homecoming.{numbers_from}
@@ -14,10 +15,11 @@ returns-then-is_whole g c =
     let batch = c.args.batch.now.requests in
     let one = one_whole run.footprints.items c.index.result.now c.index.ensures c.requires.some (sym c.is_whole.ensures ∙ c.if-is_whole.true) c.requires.disjoint in
     let only : requests_in run batch ≡ c.request.result.now ∷ [] = ap (λ k. take k (drop run.first batch)) one ∙ one_left batch run.first c.request.result.now c.request.ensures in
+    let answered = answer (at_home c.args.tree.now) c.args.ordinal c.args.time c.request.result.now in
     record {
-      inodes = rw only (ap (λ (p : Inodes × List ℕ). p.0) c.in_ok-reply.ensures.done);
+      inodes = rw only (ap (λ (p : Inodes × List ℕ). p.0) {y = answered} c.in_ok-reply.ensures.done);
       whole = search rules;
-      replies = rw only (c.in_ok-push.ensures.ok ∙ ap (λ (p : Inodes × List ℕ). c.args.replies.now ++ p.1 ∷ []) c.in_ok-reply.ensures.done);
+      replies = rw only (c.in_ok-push.ensures.ok ∙ ap (λ (p : Inodes × List ℕ). c.args.replies.now ++ p.1 ∷ []) {y = answered} c.in_ok-reply.ensures.done);
       ran = ran_alone g.G.Gate.ran (at_home c.args.tree.now) c.args.ordinal c.args.time run.first (drop run.first batch) run.footprints.items c.index.result.now c.index.ensures c.requires.some
           (sym c.is_whole.ensures ∙ c.if-is_whole.true) c.requires.disjoint c.requires.footprints;
     }

@@ -16,6 +16,6 @@ pub run_both-returns : goal.run_both-returns
 run_both-returns g t c =
     let ran = g.G.Gate.ran in
     let tree = c.args.tree.now in
-    let last = IfOk-at_ok (λ dones. GivesAll ran tree c.args.last.items dones.items) c.in_ok-one.was c.join-one.ensures.first in
-    let others = IfOk-at_ok (λ dones. GivesAll ran tree (held c.args.others.items) dones.items) c.in_ok-dones.was c.join-one.ensures.second in
+    let last = IfOk-at_ok (λ dones. GivesAll ran tree c.args.last.items dones.items) {r = c.join-one.result.0} c.in_ok-one.was c.join-one.ensures.first in
+    let others = IfOk-at_ok (λ dones. GivesAll ran tree (held c.args.others.items) dones.items) {r = c.join-one.result.1} c.in_ok-dones.was c.join-one.ensures.second in
     rw c.in_ok-append.ensures.items (record { each = all_zip_append (Gives ran tree) _ _ _ _ others.each last.each })

@@ -1,5 +1,5 @@
 -- The job is in the hand whose turn it was, and the turn goes round.
-use Rattle.std.proofs.Common.{◌≡◌, ◌∙◌, ◌<◌, length, arith}
+use Rattle.std.proofs.Common.{◌∙◌, ◌<◌, length, arith}
 use Rattle.std.proofs.lemmas.List.{length-set}
 use Rattle.bfs_workers.proofs.Dealing.{dealt}
 use Rattle.bfs_workers.proofs.split.deal.Goals as goal
