@@ -11,7 +11,7 @@ use Rattle.bfs_workers.specs.Hands.{CanRunAll, GivesAll}
 use Rattle.bfs_workers.specs.Results.{Gives}
 use Rattle.bfs_workers.specs.Rule.{TookOne, account}
 use Rattle.bfs_workers.specs.declared.rule.Account.{Account}
-use Rattle.bfs_workers.proofs.Zips.{all_zip_more}
+use Rattle.bfs_workers.proofs.Zips.{all_zip_append}
 
 -- what was taken can be run
 pub taken_can_run : (tree : Slots) (put : List Job) (v w : Account) (job : Job) → v.put ≡ put → CanRunAll tree put → TookOne v job w → CanRun tree job
@@ -36,4 +36,4 @@ same_but_taken parts put v w job same took =
 pub gives_more : (ran : ℕ → List ℕ → Type 0) (tree : Slots) (v w : Account) (job : Job) (dones : List Done) (done : Done) → TookOne v job w → GivesAll ran tree v.taken dones → Gives ran tree job done
     → GivesAll ran tree w.taken (dones ++ done ∷ [])
 gives_more ran tree v w job dones done took before here =
-    subst (λ jobs. GivesAll ran tree jobs (dones ++ done ∷ [])) (sym (ap (λ (pass : Account). pass.taken) took.taken)) (record { each = all_zip_more (Gives ran tree) v.taken dones job done before.each here })
+    subst (λ jobs. GivesAll ran tree jobs (dones ++ done ∷ [])) (sym (ap (λ (pass : Account). pass.taken) took.taken)) (record { each = all_zip_append (Gives ran tree) v.taken (job ∷ []) dones (done ∷ []) before.each (here, tt) })
