@@ -1,3 +1,8 @@
 pub mod Progress
 pub mod Alone
 pub mod Runs
+pub mod Carried
+pub mod Standing
+pub mod Places
+pub mod Levelled
+pub mod Groups

@@ -17,14 +17,15 @@ use bfs_levels::Run;
 use bfs_serial::{Batch, Replies, answer_next};
 use bfs_tree::Tree;
 use bfs_types::{Memory, Ordinal, Time};
-use bfs_workers::{Gate, Workers, run_split};
+use bfs_workers::{Gate, Workers, run_queue};
 use std::alloc::Global;
+use std::sync::Wait;
 use std::thread::Threads;
 
 /// Executes a run of the batch's requests, the first of which has that ordinal, and puts their replies behind the others: a request
 /// that may touch any inode on the whole tree, others each on its share of the tree. `Memory` if memory runs out; the tree may then
 /// not be whole.
-pub(crate) fn execute_run<R: Threads + Sync, G: Gate + Sync>(
+pub(crate) fn execute_run<R: Threads + Wait + Sync, G: Gate + Sync>(
     rt: &R,
     alloc: Global,
     tree: &mut Tree,
@@ -60,14 +61,14 @@ pub(crate) fn execute_run<R: Threads + Sync, G: Gate + Sync>(
     let jobs = split(
         alloc, tree, batch, ordinal, time, run.first, footprints, numbers,
     )?;
-    let dones = run_split(rt, alloc, workers, tree, jobs, gate)?;
+    let dones = run_queue(rt, alloc, workers, tree, jobs, gate)?;
     let merged = merge_all(alloc, tree, numbers, dones)?;
     put_replies(replies, merged)?;
     Ok(())
 }
 
 // brings the results home, of which each number has one, and gives their replies
-fn merge_all(
+pub(crate) fn merge_all(
     alloc: Global,
     tree: &mut Tree,
     numbers: &[u32],
