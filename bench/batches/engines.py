@@ -1,6 +1,6 @@
 #!/usr/bin/env python3
-"""`engines.py NAME PROGRAM TRACE` prints what executing the last batch of a trace takes, in microseconds: by the sequential executor, and run
-after run on 1, 2 and 4 workers.
+"""`engines.py NAME PROGRAM TRACE` prints what executing the last batch of a trace takes, in microseconds: by the sequential executor,
+and run after run and level after level on 1, 2 and 4 workers.
 
 Each is the time that passes while the program does it many times, without that of the program that does nothing so often: the least of seven
 rounds, in each of which all are run. The processor time of all threads stands beside it.
@@ -26,7 +26,7 @@ def run(work, workers, times):
 times = 64
 while run("serial", 1, times)[1] - run("nothing", 1, times)[1] < SECONDS:
     times *= 2
-works = [("nothing", 1), ("serial", 1), ("parallel", 1), ("parallel", 2), ("parallel", 4)]
+works = [("nothing", 1), ("serial", 1)] + [(engine, workers) for engine in ("by-runs", "by-levels") for workers in (1, 2, 4)]
 least = {work: (float("inf"), float("inf")) for work in works}
 for _ in range(7):
     for work in works:
@@ -35,5 +35,5 @@ nothing = least[works[0]]
 passed, used = zip(*[[(a - b) / times * 1e6 for a, b in zip(least[work], nothing)] for work in works[1:]])
 print(
     f"{name}: serial {passed[0]:,.0f} us; "
-    + ", ".join(f"{work[1]} workers {a:,.0f} us ({a / passed[0]:.2f}; processors {b / used[0]:.2f})" for work, a, b in zip(works[2:], passed[1:], used[1:]))
+    + ", ".join(f"{work[0]} {work[1]} {a:,.0f} us ({a / passed[0]:.2f}; processors {b / used[0]:.2f})" for work, a, b in zip(works[2:], passed[1:], used[1:]))
 )

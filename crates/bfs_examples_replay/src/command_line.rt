@@ -5,7 +5,7 @@ use std::alloc::Global;
 use std::test::Fail;
 
 // the words of a command line, and the workers and the engine that they ask for
-static TAKEN: [(&str, u32, Option<Engine>); 12] = [
+static TAKEN: [(&str, u32, Option<Engine>); 13] = [
     ("replay a.trace", 4, Some(Engine::Runs)),
     ("replay -- a.trace", 4, Some(Engine::Runs)),
     ("replay --engine runs a.trace", 4, Some(Engine::Runs)),
@@ -22,6 +22,7 @@ static TAKEN: [(&str, u32, Option<Engine>); 12] = [
         33,
         Some(Engine::Runs),
     ),
+    ("replay --engine levels a.trace", 4, Some(Engine::Levels)),
 ];
 
 static REFUSED: [&str; 26] = [
@@ -47,7 +48,7 @@ static REFUSED: [&str; 26] = [
     "replay --workers 2 --workers 2 a.trace",
     "replay a.trace --engine",
     "replay --engine= a.trace",
-    "replay --engine levels a.trace",
+    "replay --engine level a.trace",
     "replay --engine Runs a.trace",
     "replay --engine none a.trace",
     "replay --engine runs --engine runs a.trace",
@@ -90,7 +91,7 @@ fn tells_the_usage(rt: HostRuntime) -> Result<(), Fail> {
     let text = format!(in rt.alloc(); "{}", UsageError::Usage)?;
     same!(rt;
         text.as_str(),
-        "usage: replay [--workers N] [--engine runs|serial] TRACE"
+        "usage: replay [--workers N] [--engine runs|levels|serial] TRACE"
     );
     same!(rt; UsageError::Usage.code(), 42);
     same!(rt; Failure::from(UsageError::Usage).status(), 2);

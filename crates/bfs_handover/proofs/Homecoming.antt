@@ -83,7 +83,7 @@ module _ {A B : Type 0} (R : A → B → Type 0) where
         subst (λ y. R y (get_or vs k e)) here tied
 
     -- what is tied in some order is tied in the order of the keys, where these rise
-    matched : (xs run : List A) (us vs : List B) → IsStrictlyIncreasing (map f xs) → IsPermutation xs run → AllZip R run us → IsPermutation us vs → map g vs ≡ map f xs → AllZip R xs vs
+    pub matched : (xs run : List A) (us vs : List B) → IsStrictlyIncreasing (map f xs) → IsPermutation xs run → AllZip R run us → IsPermutation us vs → map g vs ≡ map f xs → AllZip R xs vs
     matched xs run us vs up moved all moved_too keys =
         let long : length xs ≡ length vs = sym (length-map xs f) ∙ sym (ap length keys) ∙ length-map vs g in
         zipped_from xs vs long (λ k d e lt.
@@ -124,7 +124,7 @@ module _ (old new : Slots) (part : Part) where
   job_numbers (number ∷ numbers) (job ∷ jobs) all = λ i. all.0.number_is i ∷ job_numbers numbers jobs all.1 i
 
   -- what all results bring home is what was moved
-  all_brought : (numbers : List ℕ) (jobs : List Job) (dones : List Done) (q : ℕ) → AllZip (IsJobOf old new part) numbers jobs → AllZip (IsDone new) jobs dones
+  pub all_brought : (numbers : List ℕ) (jobs : List Job) (dones : List Done) (q : ℕ) → AllZip (IsJobOf old new part) numbers jobs → AllZip (IsDone new) jobs dones
       → list_any (λ (done : Done). among (ids_of done.inodes) q) dones ≡ among (all_moved (footprints_for part numbers)) q
   all_brought [] [] [] q all run = refl
   all_brought [] [] (done ∷ dones) q all run = absurd run
@@ -342,11 +342,11 @@ none_there : {X : Type 0} (o : Option X) → is_some o ≡ false → o ≡ None
 none_there None is = refl
 none_there (Some x) is = absurd (true≢false is)
 
-gone_by : {X : Type 0} (b : Bool) (o : Option X) → is_some o ≡ b → cond b None o ≡ None
+pub gone_by : {X : Type 0} (b : Bool) (o : Option X) → is_some o ≡ b → cond b None o ≡ None
 gone_by true o is = refl
 gone_by false o is = none_there o is
 
-none_lent : (s : Slots) → ((q : ℕ) → get (lent s) q ≡ None) → (reach_of s).whole ≡ true
+pub none_lent : (s : Slots) → ((q : ℕ) → get (lent s) q ≡ None) → (reach_of s).whole ≡ true
 none_lent s none =
     let bare : lent s ≡ empty = same_map nat_cmp_total nat_cmp-IsAntisymmetric _ _ (λ q. none q ∙ sym (get-empty nat_cmp q)) in
     ap (λ m. eqb (len m) 0) bare ∙ ap (λ n. eqb n 0) (len-empty nat_cmp ⊤)

@@ -4,3 +4,4 @@ pub mod SplitLemmas
 pub mod NumberLemmas
 pub mod MergeLemmas
 pub mod Homecoming
+pub mod Carrying

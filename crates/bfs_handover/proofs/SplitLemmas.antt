@@ -30,7 +30,7 @@ use Rattle.bfs_handover.specs.Loans.{ids_of, loaned, put_in, reach_with}
 use Rattle.bfs_handover.specs.Jobs.{CanRun}
 use Rattle.bfs_handover.specs.Moves.{AreAtHome, AreDistinct, lent_out, reserved_all, taken}
 use Rattle.bfs_handover.specs.Preparing.{AreOnce, AreReady, IsPrepared, all_ids, all_out, job_of, jobs_of}
-use Rattle.bfs_handover.specs.Splitting.{CanBeSplit, IsJobOf, IsSplit, Part, footprint_for, footprints_for, ordinal_of, request_of}
+use Rattle.bfs_handover.specs.Splitting.{CanBeSplit, IsFoundOn, IsJobOf, IsSplit, Part, footprint_for, footprints_for, ordinal_of, request_of}
 use Rattle.bfs_handover.specs.declared.job.Job.{Job}
 use Rattle.bfs_handover.specs.declared.parts.Prepared.{Prepared}
 use Rattle.bfs_handover.proofs.LoanLemmas.{get-put_in}
@@ -76,16 +76,14 @@ first_after o most = omega arith
 pub step_after : (o k : ℕ) → ordinal_after (ordinal_after o 1) k ≡ ordinal_after o (suc k)
 step_after o k = omega arith
 
+-- a number of these requests is one of the batch
+pub requested : (first number : ℕ) (batch : List (List ℕ)) → first ≤ number → number < first + length (drop first batch) → number < length batch
+requested first number batch from within = omega (arith, length-drop first batch)
+
 module _ (m : Inodes) (t : Time) where
   pub length-footprints_at : (o : ℕ) (requests : List (List ℕ)) → length (footprints_at m o t requests) ≡ length requests
   length-footprints_at o [] = refl
   length-footprints_at o (request ∷ requests) = ap suc (length-footprints_at (ordinal_after o 1) requests)
-
-  -- a number of these requests is one of the batch
-  pub requested : (o first n number : ℕ) (batch : List (List ℕ)) (fs : List Footprint) → fs ≡ footprints_at m o t (take n (drop first batch)) → first ≤ number → number < first + length fs → number < length batch
-  requested o first n number batch fs are from within =
-      let long : length fs ≡ min n (length (drop first batch)) = ap length are ∙ length-footprints_at o (take n (drop first batch)) ∙ length-take n (drop first batch) in
-      omega (arith, length-drop first batch)
 
   found_at : (o : ℕ) (requests : List (List ℕ)) (k : ℕ) → o ≤ spent_ordinal → k < length requests → footprint_at (footprints_at m o t requests) k ≡ footprint_of m (ordinal_after o k) t (get_or requests k [])
   found_at o [] k most less = absurd (omega arith)
@@ -93,14 +91,16 @@ module _ (m : Inodes) (t : Time) where
   found_at o (request ∷ requests) (suc k) most less =
       found_at (ordinal_after o 1) requests k (omega arith) (omega arith) ∙ ap (λ p. footprint_of m p t (get_or requests k [])) (step_after o k)
 
-  -- what is known of a number is the footprint of its request
-  found : (part : Part) (n number : ℕ) → part.time ≡ t → part.ordinal ≤ spent_ordinal → part.footprints ≡ footprints_at m part.ordinal t (take n part.requests) → part.first ≤ number → number < part.first + length part.footprints
-      → footprint_of m (ordinal_of part number) t (request_of part number) ≡ footprint_for part number
-  found part n number at_time most are from within =
-      let k = number - part.first in
-      let long : length part.footprints ≡ min n (length part.requests) = ap length are ∙ length-footprints_at part.ordinal (take n part.requests) ∙ length-take n part.requests in
-      let there : k < length (take n part.requests) = subst (λ l. k < l) (sym (length-take n part.requests)) (omega arith) in
-      sym (ap (λ fs. footprint_at fs k) are ∙ found_at part.ordinal (take n part.requests) k most there ∙ ap (footprint_of m (ordinal_of part number) t) (get_or-take n part.requests k [] (omega arith)))
+  -- where the footprints were found on these inodes, each number's is its own
+  pub found : (first o n number : ℕ) (requests : List (List ℕ)) (fs : List Footprint) → o ≤ spent_ordinal → fs ≡ footprints_at m o t (take n requests) → first ≤ number → number < first + length fs
+      → IsFoundOn m (record { first = first; ordinal = o; time = t; requests = requests; footprints = fs }) number
+  found first o n number requests fs most are from within =
+      let k = number - first in
+      let long : length fs ≡ min n (length requests) = ap length are ∙ length-footprints_at o (take n requests) ∙ length-take n requests in
+      let there : k < length (take n requests) = subst (λ l. k < l) (sym (length-take n requests)) (omega arith) in record {
+        requested = omega arith;
+        own = sym (ap (λ gs. footprint_at gs k) are ∙ found_at o (take n requests) k most there ∙ ap (footprint_of m (ordinal_after o k) t) (get_or-take n requests k [] (omega arith)));
+      }
 
 -- What is moved --------------------------------------------------------------------------------------------------------------
 
@@ -155,6 +155,20 @@ module _ (part : Part) where
   ready_each (n ∷ ns) [] s all home = absurd all
   ready_each (n ∷ ns) (p ∷ ps) s all home = let both = at_home_both p.ids.items (all_ids ps) s home in (both.0, all.0.empty, all.0.room, ready_each ns ps (lent_out p.ids.items s) all.1 both.1)
 
+-- a share is the same as all inodes where its call looks
+pub share_seen : (m : Inodes) (f : Footprint) (fs : List Footprint) → ((q : ℕ) → is_touched f q ≡ true → is_there fs f q ≡ true) → AgreeOn f m (share_of m (without (all_moved fs) m) f)
+share_seen m f fs there q touched = get-closed f m (without (all_moved fs) m) q ∙ by_test (is_written f q) refl
+  where
+    left : (a b : Bool) → b ≡ false → (not a || b) ≡ true → a ≡ false
+    left true b none is = absurd (true≢false (sym is ∙ none))
+    left false b none is = refl
+
+    by_test : (b : Bool) → is_written f q ≡ b → cond b (get m q) (get (without (all_moved fs) m) q) ≡ get m q
+    by_test true is = refl
+    by_test false is =
+        get-without (all_moved fs) m q
+        ∙ ap (λ b. cond (not b) (get m q) None) (left (among (all_moved fs) q) (among (moved_for f) q) (moved_is_written f q is) (there q touched))
+
 -- What comes of it -----------------------------------------------------------------------------------------------------------
 
 module _ (old new : Slots) (part : Part) where
@@ -199,17 +213,7 @@ module _ (old new : Slots) (part : Part) where
 
     -- what a call touches is on its share as it was
     agrees : (f : Footprint) → IsThere f → AgreeOn f (at_home old) (share_of (at_home old) (at_home new) f)
-    agrees f there q touched = get-closed f (at_home old) (at_home new) q ∙ by_test (is_written f q) refl
-      where
-        stays : (a b : Bool) → b ≡ false → (not a || b) ≡ true → a ≡ false
-        stays true b none is = absurd (true≢false (sym is ∙ none))
-        stays false b none is = refl
-
-        by_test : (b : Bool) → is_written f q ≡ b → cond b (get (at_home old) q) (get (at_home new) q) ≡ get (at_home old) q
-        by_test true is = refl
-        by_test false is =
-            ap (λ m. get m q) home ∙ get-without (all_moved fs) (at_home old) q
-            ∙ ap (λ b. cond (not b) (get (at_home old) q) None) (stays (among (all_moved fs) q) (among (moved_for f) q) (moved_is_written f q is) (there q touched))
+    agrees f there = subst (λ h. AgreeOn f (at_home old) (share_of (at_home old) h f)) (sym home) (share_seen (at_home old) f fs there)
 
     -- and its share answers for it
     knows : (f : Footprint) (ids : List ℕ) → is_whole f ≡ false → IsThere f → ((q : ℕ) → among ids q ≡ among (moved_for f) q) → Knows (reach_with (lent new) (at_home new) ids) f
@@ -243,11 +247,11 @@ module _ (old new : Slots) (part : Part) where
         }
 
     can_run_each : (numbers : List ℕ) (jobs : List Job) → AllZip (IsJobOf old new part) numbers jobs → AllByRecursion (CanBeSplit (at_home old) part) numbers → AllByRecursion IsThere (footprints_for part numbers)
-        → ((number : ℕ) → CanBeSplit (at_home old) part number → footprint_of (at_home old) (ordinal_of part number) part.time (request_of part number) ≡ footprint_for part number) → AllByRecursion (CanRun new) jobs
+        → AllByRecursion (IsFoundOn (at_home old) part) numbers → AllByRecursion (CanRun new) jobs
     can_run_each [] [] are can there found = tt
     can_run_each [] (job ∷ jobs) are can there found = absurd are
     can_run_each (n ∷ ns) [] are can there found = absurd are
-    can_run_each (n ∷ ns) (job ∷ jobs) are can there found = (can_run n job are.0 can.0 there.0 (found n can.0), can_run_each ns jobs are.1 can.1 there.1 found)
+    can_run_each (n ∷ ns) (job ∷ jobs) are can there found = (can_run n job are.0 can.0 there.0 found.0.own, can_run_each ns jobs are.1 can.1 there.1 found.1)
 
 -- All together ---------------------------------------------------------------------------------------------------------------
 
@@ -264,9 +268,9 @@ pub ready_all : (old t : Slots) (part : Part) (numbers : List ℕ) (ps : List Pr
 ready_all old t part numbers ps are =
     ready_each part numbers ps t are.prepared (ready (all_ids ps) old t are.places are.lent (λ q _. knows_all (lent old) are.whole q) (all_distinct part numbers ps are.prepared are.disjoint))
 
-pub is_split : (old t new : Slots) (part : Part) (numbers : List ℕ) (ps : List Prepared) (jobs : List Job) (n : ℕ) → AreFound old t part numbers ps → All (CanBeSplit (at_home old) part) numbers → part.ordinal ≤ spent_ordinal
-    → part.footprints ≡ footprints_at (at_home old) part.ordinal part.time (take n part.requests) → new ≡ all_out ps t → jobs ≡ jobs_of ps t → IsSplit old new part numbers jobs
-is_split old t new part numbers ps jobs n are can most footprints new_is jobs_are =
+pub is_split : (old t new : Slots) (part : Part) (numbers : List ℕ) (ps : List Prepared) (jobs : List Job) → AreFound old t part numbers ps → All (CanBeSplit (at_home old) part) numbers
+    → All (IsFoundOn (at_home old) part) numbers → new ≡ all_out ps t → jobs ≡ jobs_of ps t → IsSplit old new part numbers jobs
+is_split old t new part numbers ps jobs are can found new_is jobs_are =
     let fs = footprints_for part numbers in
     let each_can = recursion_from_All (CanBeSplit (at_home old) part) numbers can in
     let out_is : new ≡ lent_out (all_ids ps) t = new_is ∙ all_out_is ps t in
@@ -283,7 +287,7 @@ is_split old t new part numbers ps jobs n are can most footprints new_is jobs_ar
       each = each;
       home = home;
       out = out;
-      can_run = All-from_recursion (CanRun new) jobs (can_run_each old new part fs home out numbers jobs each each_can (shares_know fs are.disjoint) (λ number one. found (at_home old) part.time part n number refl most footprints one.from one.within));
+      can_run = All-from_recursion (CanRun new) jobs (can_run_each old new part fs home out numbers jobs each each_can (shares_know fs are.disjoint) (recursion_from_All (IsFoundOn (at_home old) part) numbers found));
     }
   where
     turned : {X : Type 0} (b : Bool) (o : Option X) → cond b None o ≡ cond (not b) o None

@@ -9,3 +9,4 @@ pub mod Splitting
 pub mod Preparing
 pub mod Merging
 pub mod Homecoming
+pub mod Carrying

@@ -4,7 +4,7 @@ use Rattle.std.specs.List.{AllZip}
 use Rattle.std.specs.FinMap.{get}
 use Rattle.bfs_model.specs.Tree.{Time, Inodes}
 use Rattle.bfs_model.specs.Serial.{ordinal_after}
-use Rattle.bfs_model.specs.Footprints.{Footprint, IsFreshFor}
+use Rattle.bfs_model.specs.Footprints.{Footprint, IsFreshFor, footprint_of}
 use Rattle.bfs_model.specs.Conflicts.{among, is_whole}
 use Rattle.bfs_model.specs.OvertakingLaw.{footprint_at}
 use Rattle.bfs_model.specs.Shares.{moved_for, all_moved, without, share_of}
@@ -38,6 +38,11 @@ footprint_for part number = footprint_at part.footprints (number - part.first)
 
 abbrev pub footprints_for : Part → (numbers : List ℕ) → List Footprint
 footprints_for part numbers = map (footprint_for part) numbers
+
+-- the number of a request that has its footprint on these inodes
+pub record IsFoundOn (inodes : Inodes) (part : Part) (number : ℕ) : Type 0 where
+  pub requested : number < part.first + length part.requests
+  pub own : footprint_of inodes (ordinal_of part number) part.time (request_of part number) ≡ footprint_for part number
 
 -- a number of these requests, of which it is known what it touches, and whose ordinal is fresh for that
 pub record CanBeSplit (inodes : Inodes) (part : Part) (number : ℕ) : Type 0 where

@@ -1,3 +1,4 @@
+ghost use Rattle.bfs_handover.specs.Carrying.{SplitRequestsAreCarriedOut};
 ghost use Rattle.bfs_handover.specs.Homecoming.{ResultsAreOut, ResultsComeHome};
 ghost use Rattle.bfs_handover.specs.Merging.{CompleteResultsAreTaken};
 
@@ -16,4 +17,10 @@ pub fn results_are_out()
 /// merged, the inodes and the replies are those of the requests carried out one after another, and the tree is whole.
 pub fn results_come_home()
     ensures { ResultsComeHome }
+{}
+
+/// Where requests are split off a tree, run on what stayed, in any order, and their results are merged, each is carried out on its share,
+/// and the tree is whole.
+pub fn split_requests_are_carried_out()
+    ensures { SplitRequestsAreCarriedOut }
 {}

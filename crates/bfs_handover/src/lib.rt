@@ -10,7 +10,9 @@ mod results;
 mod share;
 
 pub use job::{Done, Job, run_job};
-pub use laws::{complete_results_are_taken, results_are_out, results_come_home};
+pub use laws::{
+    complete_results_are_taken, results_are_out, results_come_home, split_requests_are_carried_out,
+};
 pub use loans::{Loan, Loans};
 pub use parts::{split, split_one};
 pub use results::{MergeError, Reply, merge, merge_one};

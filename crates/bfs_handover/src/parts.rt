@@ -1,12 +1,12 @@
-ghost use Rattle.std.specs.Prelude.{◌≡◌, ◌≤◌, ◌==◌, [], ◌∷◌, All, IfOk, IsTrue, OnErr, drop, length, map, take, vec_capacity};
+ghost use Rattle.std.specs.Prelude.{◌≡◌, ◌≤◌, ◌==◌, [], ◌∷◌, All, IfOk, IsTrue, OnErr, length, map, vec_capacity};
 ghost use Rattle.std.specs.List.{AllZip, list_any};
 ghost use Rattle.bfs_model.specs.Conflicts.{among};
-ghost use Rattle.bfs_model.specs.Groups.{AreDisjoint, footprints_at};
+ghost use Rattle.bfs_model.specs.Groups.{AreDisjoint};
 ghost use Rattle.bfs_model.specs.Shares.{moved_for};
 ghost use Rattle.bfs_footprint.specs.Seen.{footprint_seen};
 ghost use Rattle.bfs_tree.specs.Tree.{at_home, lent, reach_of};
 ghost use Rattle.bfs_handover.specs.Moves.{AreAtHome, lent_out, reserved_all};
-ghost use Rattle.bfs_handover.specs.Splitting.{CanBeSplit, IsSplit, footprints_for, part_of};
+ghost use Rattle.bfs_handover.specs.Splitting.{CanBeSplit, IsFoundOn, IsSplit, footprints_for, part_of};
 ghost use Rattle.bfs_handover.specs.Preparing.{AreOnce, AreReady, IsPrepared, IsWithin, all_ids, all_out, job_of, jobs_of, part_seen};
 
 use crate::job::Job;
@@ -18,9 +18,9 @@ use bfs_tree::Tree;
 use bfs_types::{FileId, Memory, Ordinal, Time};
 use std::alloc::Global;
 
-/// Takes out of the tree what the requests of these numbers write, and makes a job of each. The footprints are those of the batch's
-/// requests from the place `first` on, as the inodes of the tree are; the request there has that ordinal. None of the requests
-/// conflicts with another. `Memory` if memory runs out; the tree is then whole, and its inodes are those before.
+/// Takes out of the tree what the requests of these numbers write, and makes a job of each. The footprints are of the batch's requests
+/// from the place `first` on, of which the first has that ordinal; those of these numbers are as the inodes of the tree are, and none
+/// of them conflicts with another. `Memory` if memory runs out; the tree is then whole, and its inodes are those before.
 pub fn split<'a>(
     alloc: Global,
     tree: &mut Tree,
@@ -32,15 +32,13 @@ pub fn split<'a>(
     numbers: &[u32],
 ) -> Result<Vec<Job<'a>>, Memory>
     requires whole { IsTrue ((reach_of tree.old).whole) }
-    requires footprints { map footprint_seen footprints.now ≡ footprints_at (at_home tree.old) ordinal time (take (length footprints.now) (drop first batch.now.requests)) }
+    requires footprints { All (IsFoundOn (at_home tree.old) (part_of first ordinal time batch.now.requests (map footprint_seen footprints.now))) numbers.now }
     requires numbers { All (CanBeSplit (at_home tree.old) (part_of first ordinal time batch.now.requests (map footprint_seen footprints.now))) numbers.now }
     requires disjoint { AreDisjoint (footprints_for (part_of first ordinal time batch.now.requests (map footprint_seen footprints.now)) numbers.now) }
     ensures split { IfOk result (λ jobs. IsSplit tree.old tree.new (part_of first ordinal time batch.now.requests (map footprint_seen footprints.now)) numbers.now jobs.items) }
     ensures whole { OnErr result (IsTrue ((reach_of tree.new).whole)) }
     ensures home { OnErr result (at_home tree.new ≡ at_home tree.old) }
 {
-    // no ordinal is above the spent one, so that the first request has just that one
-    prove!(ordinal.number() <= u32::MAX as u64 + 1);
     let part = Part {
         batch,
         ordinal,
@@ -66,13 +64,12 @@ pub fn split_one<'a>(
     number: u32,
 ) -> Result<Job<'a>, Memory>
     requires whole { IsTrue ((reach_of tree.old).whole) }
-    requires footprints { map footprint_seen footprints.now ≡ footprints_at (at_home tree.old) ordinal time (take (length footprints.now) (drop first batch.now.requests)) }
+    requires footprint { IsFoundOn (at_home tree.old) (part_of first ordinal time batch.now.requests (map footprint_seen footprints.now)) number }
     requires number { CanBeSplit (at_home tree.old) (part_of first ordinal time batch.now.requests (map footprint_seen footprints.now)) number }
     ensures split { IfOk result (λ job. IsSplit tree.old tree.new (part_of first ordinal time batch.now.requests (map footprint_seen footprints.now)) (number ∷ []) (job ∷ [])) }
     ensures whole { OnErr result (IsTrue ((reach_of tree.new).whole)) }
     ensures home { OnErr result (at_home tree.new ≡ at_home tree.old) }
 {
-    prove!(ordinal.number() <= u32::MAX as u64 + 1);
     let part = Part {
         batch,
         ordinal,

@@ -58,7 +58,7 @@ arguments_of_all : (m : Inodes) (o : ℕ) (t : Time) (request : Request) (call :
 arguments_of_all m o t request None is = absurd (true≢false (sym is))
 arguments_of_all m o t request (Some call) is = of_all m (record { ordinal = o; time = t; caller = request.credential }) call is
 
-call_of_all : (m : Inodes) (o : ℕ) (t : Time) (call : Result Request Refusal) → is_whole (footprint_of_call m o t call) ≡ true → is_read_as_of_all call ≡ true
+pub call_of_all : (m : Inodes) (o : ℕ) (t : Time) (call : Result Request Refusal) → is_whole (footprint_of_call m o t call) ≡ true → is_read_as_of_all call ≡ true
 call_of_all m o t (Err refusal) is = absurd (true≢false (sym is))
 call_of_all m o t (Ok request) is = arguments_of_all m o t request (arguments_of request.procedure request.arguments) is
 

@@ -2,3 +2,8 @@ pub mod Progress
 pub mod Alone
 pub mod Runs
 mod Ones
+pub mod Carried
+pub mod Standing
+pub mod Places
+pub mod Levelled
+pub mod Groups

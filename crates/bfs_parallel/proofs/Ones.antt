@@ -15,7 +15,7 @@ use Rattle.bfs_footprint.specs.declared.footprints.Footprint as declared
 use Rattle.bfs_tree.specs.Slots.{Slots}
 use Rattle.bfs_tree.specs.Tree.{at_home}
 use Rattle.bfs_handover.specs.Jobs.{CanRun}
-use Rattle.bfs_handover.specs.Splitting.{CanBeSplit, IsSplit, part_of}
+use Rattle.bfs_handover.specs.Splitting.{CanBeSplit, IsFoundOn, IsSplit, part_of}
 use Rattle.bfs_handover.specs.Merging.{AreOut, IsMerged}
 use Rattle.bfs_handover.specs.declared.job.Job.{Job}
 use Rattle.bfs_handover.specs.declared.job.Done.{Done}
@@ -23,7 +23,7 @@ use Rattle.bfs_handover.specs.declared.results.Reply.{Reply}
 use Rattle.bfs_workers.specs.Results.{Gives, EachOnce}
 use Rattle.bfs_parallel.specs.Ran.{AllRan}
 use Rattle.bfs_parallel.proofs.Alone.{one_left, ran_alone}
-use Rattle.bfs_parallel.proofs.Runs.{IsPlanned, IsExecuted, can_split, executed, out}
+use Rattle.bfs_parallel.proofs.Runs.{IsPlanned, IsExecuted, all_there, can_split, executed, out}
 
 module _ (old : Slots) (o : ℕ) (t : Time) (batch : List (List ℕ)) (place : ℕ) (request : List ℕ) (f : declared.Footprint) (footprints : List declared.Footprint)
     (formed : IsWellFormed (record { tree = at_home old; next_ordinal = o; last_time = t })) (at : slice_get batch place ≡ Some request)
@@ -38,6 +38,9 @@ module _ (old : Slots) (o : ℕ) (t : Time) (batch : List (List ℕ)) (place : �
   ran_on_all ran is = ran_alone ran (at_home old) o t place (drop place batch) (f ∷ []) f refl (let some : 0 < 1 = omega arith in some) is (tt, tt) found_alone
 
   module _ (known : is_whole (footprint_seen f) ≡ false) where
+    pub found_one : IsFoundOn (at_home old) (part_of place o t batch (map footprint_seen footprints)) place
+    found_one = All-head (IsFoundOn (at_home old) _) place [] (all_there old o t batch place (f ∷ []) footprints (place ∷ []) planned)
+
     pub can_split_one : CanBeSplit (at_home old) (part_of place o t batch (map footprint_seen footprints)) place
     can_split_one = All-head (CanBeSplit (at_home old) _) place [] (can_split old o t batch place (f ∷ []) footprints (place ∷ []) planned (known, tt))
 

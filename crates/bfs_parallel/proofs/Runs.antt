@@ -22,9 +22,10 @@ use Rattle.bfs_footprint.specs.declared.footprints.Footprint as declared
 use Rattle.bfs_tree.specs.Slots.{Slots}
 use Rattle.bfs_tree.specs.Tree.{at_home, reach_of}
 use Rattle.bfs_handover.specs.Jobs.{IsDone}
-use Rattle.bfs_handover.specs.Splitting.{Part, IsSplit, part_of, CanBeSplit, footprints_for}
+use Rattle.bfs_handover.specs.Splitting.{Part, IsSplit, part_of, CanBeSplit, IsFoundOn, footprints_for}
 use Rattle.bfs_handover.specs.Merging.{AreOut, IsMerged, numbers_in, reply_in}
 use Rattle.bfs_handover.specs.Homecoming.{numbers_from}
+use Rattle.bfs_handover.proofs.SplitLemmas.{found}
 use Rattle.bfs_handover.proofs.Homecoming.{from_rise, all_footprints, job_numbers, results_are_out, results_come_home}
 use Rattle.bfs_handover.specs.declared.job.Job.{Job}
 use Rattle.bfs_handover.specs.declared.job.Done.{Done}
@@ -95,6 +96,14 @@ can_be_split m first o t batch fs formed all k d within =
       known = known_at fs ((first + k) - first) all;
       fresh = fresh_where_numbered m (ordinal_after o ((first + k) - first)) (footprint_at fs ((first + k) - first)) (numbered_older m o (ordinal_after o ((first + k) - first)) (omega arith) formed.numbered);
     })
+
+pub all_found : (m : Inodes) (first o n : ℕ) (t : Time) (batch : List (List ℕ)) (fs : List Footprint) → IsWellFormed (record { tree = m; next_ordinal = o; last_time = t }) → fs ≡ footprints_at m o t (take n (drop first batch))
+    → All (IsFoundOn m (part_of first o t batch fs)) (numbers_from first (length fs))
+all_found m first o n t batch fs formed are k d within =
+    let long : length (range_with_len first (length fs)) ≡ length fs = length-range_with_len first (length fs) in
+    let few : k < length fs = omega arith in
+    let at : get_or (range_with_len first (length fs)) k d ≡ first + k = get_or-range_with_len first (length fs) k d few in
+    subst (IsFoundOn m (part_of first o t batch fs)) (sym at) (found m t first o n (first + k) (drop first batch) fs formed.ordinal.1 are (omega arith) (omega arith))
 
 -- What the gate has run ------------------------------------------------------------------------------------------------------------
 
@@ -180,6 +189,11 @@ module _ (old : Slots) (o : ℕ) (t : Time) (batch : List (List ℕ)) (first : �
   can_split all = subst (λ ns. All (CanBeSplit (at_home old) (part footprints)) ns) (sym all_numbers)
       (subst (λ items. All (CanBeSplit (at_home old) (part items)) (numbers_from first (length seen))) (sym planned.same)
       (can_be_split (at_home old) first o t batch seen planned.formed all))
+
+  pub all_there : All (IsFoundOn (at_home old) (part footprints)) numbers
+  all_there = subst (λ ns. All (IsFoundOn (at_home old) (part footprints)) ns) (sym all_numbers)
+      (subst (λ items. All (IsFoundOn (at_home old) (part items)) (numbers_from first (length seen))) (sym planned.same)
+      (all_found (at_home old) first o (length own) t batch seen planned.formed planned.found))
 
   pub apart : AreDisjoint (footprints_for (part footprints) numbers)
   apart = subst (λ ns. AreDisjoint (footprints_for (part footprints) ns)) (sym all_numbers)

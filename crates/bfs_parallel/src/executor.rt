@@ -6,19 +6,20 @@ ghost use Rattle.bfs_tree.specs.Tree.{at_home, reach_of};
 ghost use Rattle.bfs_parallel.specs.Ran.{AllRan};
 
 use crate::engine::Engine;
+use crate::parts::execute_part;
 use crate::rounds::Rounds;
-use crate::steps::execute_next;
 use bfs_serial::{Batch, ExecError, FileSystem, Replies};
 use bfs_tree::Tree;
 use bfs_types::{Memory, Ordinal, Time};
 use bfs_workers::{Gate, Workers};
 use std::alloc::Global;
+use std::sync::Wait;
 use std::thread::Threads;
 
 /// Executes the batch's requests on threads, at the batch's effective time, and gives their replies. Replies and file system are those
 /// of executing the requests one after another. Every request but those that `is_alone` names is run by the gate.
 #[tactic(auto, unfolding(bfs_model::specs::Serial::execute))]
-pub fn execute_parallel<R: Threads + Sync, G: Gate + Sync>(
+pub fn execute_parallel<R: Threads + Wait + Sync, G: Gate + Sync>(
     rt: &R,
     alloc: Global,
     files: &mut FileSystem,
@@ -40,18 +41,17 @@ pub fn execute_parallel<R: Threads + Sync, G: Gate + Sync>(
     let proposed = batch.time();
     proposed.is_in_range();
     let time = proposed.effective_after(last_time);
-    let replies = match engine {
-        Engine::Runs => execute_in_runs(
-            rt,
-            alloc,
-            &mut tree,
-            next_ordinal,
-            time,
-            batch,
-            workers,
-            gate,
-        ),
-    };
+    let replies = execute_in_parts(
+        rt,
+        alloc,
+        &mut tree,
+        next_ordinal,
+        time,
+        batch,
+        workers,
+        engine,
+        gate,
+    );
     match replies {
         Ok(replies) => {
             let next_ordinal = next_ordinal.after(batch.requests().len() as u64);
@@ -62,8 +62,8 @@ pub fn execute_parallel<R: Threads + Sync, G: Gate + Sync>(
     }
 }
 
-// the replies to the batch's requests, the first of which has that ordinal, run after run
-fn execute_in_runs<R: Threads + Sync, G: Gate + Sync>(
+// the replies to the batch's requests, the first of which has that ordinal, part after part
+fn execute_in_parts<R: Threads + Wait + Sync, G: Gate + Sync>(
     rt: &R,
     alloc: Global,
     tree: &mut Tree,
@@ -71,6 +71,7 @@ fn execute_in_runs<R: Threads + Sync, G: Gate + Sync>(
     time: Time,
     batch: &Batch,
     workers: Workers,
+    engine: Engine,
     gate: &G,
 ) -> Result<Replies, Memory>
     requires whole { IsTrue ((reach_of tree.old).whole) }
@@ -85,14 +86,15 @@ fn execute_in_runs<R: Threads + Sync, G: Gate + Sync>(
     let mut ordinal = first;
     let mut done = 0;
     while done < batch.len() {
-        let count = execute_next(
+        let count = execute_part(
             rt,
             alloc,
             tree,
-            batch,
             ordinal,
             time,
+            batch,
             done,
+            engine,
             &mut rounds,
             gate,
             &mut replies,

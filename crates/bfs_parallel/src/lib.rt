@@ -1,8 +1,11 @@
 //! Batches executed on threads, with the outcome of executing their requests one after another.
 #![tactic(auto)]
 
+mod carrying;
 mod engine;
 mod executor;
+mod levels;
+mod parts;
 mod rounds;
 mod steps;
 

@@ -1,9 +1,9 @@
 use bfs_workers::Workers;
 
-// how many runs of a batch get threads however short they are
+// how many runs, or levels, of a batch get threads however short they are
 const ROUNDS: u32 = 8;
 
-// how many requests a run has that always gets threads
+// how many requests a run, or a level, has that always gets threads
 const LONG: usize = 64;
 
 // how many runs of a batch may turn out not to get threads before they are looked for less often
@@ -12,12 +12,13 @@ const TRIES: u32 = 64;
 // how many requests are then executed one after another before a run is looked for again
 const PAUSE: usize = 64;
 
-/// Which requests of a batch are executed run after run on threads, and which one after another on the calling thread. Planning a run
-/// and starting threads cost more than a short run takes, and so a batch of many short runs would be slower by them than without.
+/// Which requests of a batch are executed on threads, run after run or level after level, and which one after another on the calling
+/// thread. Planning and starting threads cost more than a short run takes, and so a batch of many short runs would be slower by them
+/// than without.
 #[derive(Clone, Copy, Debug)]
 pub(crate) struct Rounds {
     workers: Workers,
-    // of threads, for runs that are short
+    // of threads, for runs or levels that are short
     left: u32,
     tries: u32,
     // requests to be executed one after another before a run is looked for again
@@ -62,5 +63,53 @@ impl Rounds {
             self.pause = self.pause.max(PAUSE);
         }
         None
+    }
+
+    /// What the levels of a group take of the rounds: the longest of the short ones, as many as are left.
+    pub(crate) fn for_levels(&mut self, levels: &[Vec<u32>]) -> LevelRounds {
+        let mut counts = [0; LONG];
+        for level in levels {
+            if let Some(count) = counts.get_mut(level.len()) {
+                *count = u32::saturating_add(*count, 1);
+            }
+        }
+        let mut rounds = LevelRounds {
+            workers: self.workers,
+            least: LONG,
+            ties: 0,
+        };
+        for len in (2..LONG).rev() {
+            let count = counts[len].min(self.left);
+            if count > 0 {
+                rounds.least = len;
+                rounds.ties = count;
+                self.left -= count;
+            }
+        }
+        rounds
+    }
+}
+
+/// Which levels of a group get threads.
+#[derive(Clone, Copy, Debug)]
+pub(crate) struct LevelRounds {
+    workers: Workers,
+    // how many requests the shortest of them has
+    least: usize,
+    // how many levels of just that length get threads
+    ties: u32,
+}
+
+impl LevelRounds {
+    /// The workers of a level of so many requests: all of them, or the calling thread alone.
+    pub(crate) fn workers_for(&mut self, len: usize) -> Workers {
+        if len > self.least || len >= LONG {
+            return self.workers;
+        }
+        if len < self.least || self.ties == 0 {
+            return Workers::one();
+        }
+        self.ties -= 1;
+        self.workers
     }
 }

@@ -12,57 +12,21 @@ ghost use Rattle.bfs_tree.specs.Tree.{at_home, reach_of};
 ghost use Rattle.bfs_parallel.specs.Ran.{AllRan, bytes_of};
 ghost use Rattle.bfs_parallel.specs.Requests.{requests_in};
 
-use crate::rounds::Rounds;
 use bfs_footprint::touch_of;
 use bfs_handover::{Done, MergeError, Reply, merge, merge_one, split, split_one};
-use bfs_levels::{Run, runs};
+use bfs_levels::Run;
 use bfs_serial::{Batch, Replies, answer_next};
 use bfs_tree::Tree;
 use bfs_types::{Memory, Ordinal, Time};
-use bfs_workers::{Gate, Workers, run_split};
+use bfs_workers::{Gate, Workers, run_queue};
 use std::alloc::Global;
+use std::sync::Wait;
 use std::thread::Threads;
 
-/// Executes the batch's requests from that place on, the first of which has that ordinal: a run of them on threads, or one on the calling
-/// thread. Puts their replies behind the others, and gives how many they are. `Memory` if memory runs out; the tree may then not be
-/// whole.
-pub(crate) fn execute_next<R: Threads + Sync, G: Gate + Sync>(
-    rt: &R,
-    alloc: Global,
-    tree: &mut Tree,
-    batch: &Batch,
-    ordinal: Ordinal,
-    time: Time,
-    place: usize,
-    rounds: &mut Rounds,
-    gate: &G,
-    replies: &mut Replies,
-) -> Result<usize, Memory>
-    requires whole { IsTrue ((reach_of tree.old).whole) }
-    requires formed { IsWellFormed (record { tree = at_home tree.old; next_ordinal = ordinal; last_time = time }) }
-    requires within { place < length batch.now.requests }
-    ensures some { IfOk result (λ count. 0 < count) }
-    ensures within { IfOk result (λ count. place + count ≤ length batch.now.requests) }
-    ensures inodes { IfOk result (λ count. at_home tree.new ≡ inodes_after (at_home tree.old) ordinal time (take count (drop place batch.now.requests))) }
-    ensures whole { IfOk result (λ _. IsTrue ((reach_of tree.new).whole)) }
-    ensures replies { IfOk result (λ count. replies.new ≡ replies.old ++ replies_to (at_home tree.old) ordinal time (take count (drop place batch.now.requests))) }
-    ensures ran { IfOk result (λ count. AllRan G.ran place (take count (drop place batch.now.requests)) (replies_to (at_home tree.old) ordinal time (take count (drop place batch.now.requests)))) }
-{
-    if rounds.looks_for_a_run() {
-        let run = runs(alloc, tree, ordinal, time, batch, place)?;
-        if let Some(workers) = rounds.workers_for(run.len()) {
-            execute_run(
-                rt, alloc, tree, batch, ordinal, time, &run, workers, gate, replies,
-            )?;
-            return Ok(run.len());
-        }
-    }
-    execute_one(alloc, tree, batch, ordinal, time, place, gate, replies)?;
-    Ok(1)
-}
-
-// Executes one request on the calling thread: by the gate on its share of the tree, or, where it may touch any inode, on the whole tree.
-fn execute_one<G: Gate>(
+/// Executes the batch's request at that place, which has that ordinal, on the calling thread, and puts its reply behind the others: by the
+/// gate on its share of the tree, or, where it may touch any inode, on the whole tree. `Memory` if memory runs out; the tree may then not
+/// be whole.
+pub(crate) fn execute_one<G: Gate>(
     alloc: Global,
     tree: &mut Tree,
     batch: &Batch,
@@ -107,9 +71,10 @@ fn execute_one<G: Gate>(
     Ok(())
 }
 
-// Executes a run of the batch's requests, the first of which has that ordinal, and puts their replies behind the others: a request
-// that may touch any inode on the whole tree, others each on its share of the tree.
-fn execute_run<R: Threads + Sync, G: Gate + Sync>(
+/// Executes a run of the batch's requests, the first of which has that ordinal, and puts their replies behind the others: a request
+/// that may touch any inode on the whole tree, others each on its share of the tree. `Memory` if memory runs out; the tree may then
+/// not be whole.
+pub(crate) fn execute_run<R: Threads + Wait + Sync, G: Gate + Sync>(
     rt: &R,
     alloc: Global,
     tree: &mut Tree,
@@ -145,14 +110,14 @@ fn execute_run<R: Threads + Sync, G: Gate + Sync>(
     let jobs = split(
         alloc, tree, batch, ordinal, time, run.first, footprints, numbers,
     )?;
-    let dones = run_split(rt, alloc, workers, tree, jobs, gate)?;
+    let dones = run_queue(rt, alloc, workers, tree, jobs, gate)?;
     let merged = merge_all(alloc, tree, numbers, dones)?;
     put_replies(replies, merged)?;
     Ok(())
 }
 
 // brings the results home, of which each number has one, and gives their replies
-fn merge_all(
+pub(crate) fn merge_all(
     alloc: Global,
     tree: &mut Tree,
     numbers: &[u32],

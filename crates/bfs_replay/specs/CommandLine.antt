@@ -1,4 +1,4 @@
--- What the words of the command line ask for: `replay [--workers N] [--engine runs|serial] TRACE`.
+-- What the words of the command line ask for: `replay [--workers N] [--engine runs|levels|serial] TRACE`.
 use Rattle.std.specs.Prelude.{◌≡◌, ◌==◌, ⊤, ℕ, List, [], ◌∷◌, true, Option, Some, None, Result, Ok, Err, bytes_eq, codes, if◌then◌else◌, pos}
 use Rattle.std.specs.Str.Parse.{without_leading_plus}
 use Rattle.clap.specs.Words.{App, Row, Rule, Text, Kinds, fault_of, first_of, matches_of, new_app, new_rule, one_of, with_rule}
@@ -50,7 +50,8 @@ workers_among rows = one_of (codes "workers") rows >>= workers_spelled
 abbrev pub engine_named : Text → Option (Option Engine)
 engine_named name =
     if bytes_eq name (codes "runs") then Some (Some engine.Runs) else (
-    if bytes_eq name (codes "serial") then Some None else None)
+    if bytes_eq name (codes "levels") then Some (Some engine.Levels) else (
+    if bytes_eq name (codes "serial") then Some None else None))
 
 abbrev pub asked_among : List Row → Option Asked
 asked_among rows = do

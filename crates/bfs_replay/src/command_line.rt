@@ -85,6 +85,7 @@ fn engine_named(name: &str) -> Option<Option<Engine>>
 {
     match name {
         "runs" => Some(Some(Engine::Runs)),
+        "levels" => Some(Some(Engine::Levels)),
         "serial" => Some(None),
         _ => None,
     }
@@ -105,7 +106,7 @@ fn options_among<'a>(found: &ArgMatches<'a>) -> Option<Options<'a>>
     })
 }
 
-/// Reads the words of the command line, the program's name first: `replay [--workers N] [--engine runs|serial] TRACE`. N is a number
+/// Reads the words of the command line, the program's name first: `replay [--workers N] [--engine runs|levels|serial] TRACE`. N is a number
 /// from 1 to 64, in decimal digits behind a `+` or not, and 4 where there is none; the engine is `runs` where there is none. Any other
 /// number or engine, an option twice, any other option (`--help` and `--version` among them), no trace and two traces are
 /// `UsageError::Usage`.

@@ -5,6 +5,7 @@ use bfs_parallel::{Engine, execute_parallel};
 use bfs_serial::{Batch, ExecError, FileSystem, Replies, execute_serial};
 use bfs_workers::{NoGate, Workers};
 use std::alloc::Global;
+use std::sync::Wait;
 use std::thread::Threads;
 
 /// What executes batches: workers by an engine, or the calling thread one request after another.
@@ -16,7 +17,7 @@ pub(crate) struct Executor {
 
 impl Executor {
     /// Executes the batch's requests, and gives their replies. `Failed` exactly where the file system had failed before.
-    pub(crate) fn execute<R: Threads + Sync>(
+    pub(crate) fn execute<R: Threads + Wait + Sync>(
         &self,
         rt: &R,
         alloc: Global,

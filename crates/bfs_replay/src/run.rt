@@ -13,6 +13,7 @@ use bfs_trace::{Block, Event, Trace};
 use bfs_workers::Workers;
 use std::alloc::Global;
 use std::io::Write;
+use std::sync::Wait;
 use std::thread::Threads;
 use thiserror::Error;
 
@@ -54,7 +55,7 @@ impl ReplayError {
 /// batch, by the workers as the engine says, or one after another where there is no engine; and then a line is written for each of
 /// them: `c<client> t<timestamp> <reply>`, the reply in lower-case hexadecimal digits, or `-` where it has no bytes. What is written
 /// depends on the trace alone.
-pub fn run_trace<R: AllocGlobal + Threads + Sync, W: Write>(
+pub fn run_trace<R: AllocGlobal + Threads + Wait + Sync, W: Write>(
     rt: &R,
     trace: &Trace,
     workers: Workers,
@@ -75,7 +76,7 @@ pub fn run_trace<R: AllocGlobal + Threads + Sync, W: Write>(
     Ok(Outcome::Agree)
 }
 
-fn run_event<R: Threads + Sync, W: Write>(
+fn run_event<R: Threads + Wait + Sync, W: Write>(
     rt: &R,
     alloc: Global,
     executor: &Executor,
@@ -94,7 +95,7 @@ fn run_event<R: Threads + Sync, W: Write>(
 }
 
 // executes the requests of a block as one batch, and writes a line for each
-fn run_block<R: Threads + Sync, W: Write>(
+fn run_block<R: Threads + Wait + Sync, W: Write>(
     rt: &R,
     alloc: Global,
     executor: &Executor,

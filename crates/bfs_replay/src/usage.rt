@@ -19,8 +19,8 @@ pub struct Options<'a> {
 /// Why the words of the command line are not taken.
 #[derive(Clone, Copy, Debug, PartialEq, Eq, Error)]
 pub enum UsageError {
-    /// The words are not of the form `replay [--workers N] [--engine runs|serial] TRACE`.
-    #[error("usage: replay [--workers N] [--engine runs|serial] TRACE")]
+    /// The words are not of the form `replay [--workers N] [--engine runs|levels|serial] TRACE`.
+    #[error("usage: replay [--workers N] [--engine runs|levels|serial] TRACE")]
     Usage,
     /// Memory ran out.
     #[error("out of memory")]

@@ -34,7 +34,7 @@ all_dealt tree jobs hands dealt can_run = record { each = All-permutation (CanRu
 
 -- One hand less --------------------------------------------------------------------------------------------------------
 
-both_parts : {A : Type 0} (P : A → Type 0) (xs ys : List A) → AllByRecursion P (xs ++ ys) → AllByRecursion P xs × AllByRecursion P ys
+pub both_parts : {A : Type 0} (P : A → Type 0) (xs ys : List A) → AllByRecursion P (xs ++ ys) → AllByRecursion P xs × AllByRecursion P ys
 both_parts P [] ys all = (tt, all)
 both_parts P (x ∷ xs) ys all = let rest = both_parts P xs ys all.1 in ((all.0, rest.0), rest.1)
 

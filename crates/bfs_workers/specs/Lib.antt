@@ -3,3 +3,4 @@ pub mod Workers
 pub mod Results
 pub mod Hands
 pub mod Laws
+pub mod Rule

@@ -1,4 +1,4 @@
-//! Replays a trace of NFS calls: `replay [--workers N] [--engine runs|serial] TRACE`. docs/TRACE.md says what a trace is and what is printed.
+//! Replays a trace of NFS calls: `replay [--workers N] [--engine runs|levels|serial] TRACE`. docs/TRACE.md says what a trace is and what is printed.
 #![tactic(auto)]
 
 use bfs_replay::{Failure, Outcome, options, parse_trace, read_input, run_trace};
@@ -7,6 +7,7 @@ use std::io;
 use std::io::{BufWriter, ErrorKind, Write};
 use std::process::ExitCode;
 use std::rt::Runtime;
+use std::sync::Wait;
 use std::thread::Threads;
 
 fn main(rt: HostRuntime) -> ExitCode {
@@ -21,7 +22,7 @@ fn main(rt: HostRuntime) -> ExitCode {
 }
 
 /// Faults come in this order: the words, reading the trace, its lines, and the run with its output.
-fn replay<R: Runtime + AllocGlobal + Threads + Sync, W: Write + Drop>(
+fn replay<R: Runtime + AllocGlobal + Threads + Wait + Sync, W: Write + Drop>(
     rt: &R,
     output: W,
 ) -> Result<Outcome, Failure> {

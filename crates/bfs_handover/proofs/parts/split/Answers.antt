@@ -15,7 +15,7 @@ prepare_all-requires c = λ k d less.
     record {
       from = can.from;
       within = can.within;
-      requested = requested (at_home a.tree.now) a.time a.ordinal a.first (length a.footprints.now) _ a.batch.now.requests (map footprint_seen a.footprints.now) c.requires.footprints can.from can.within;
+      requested = requested a.first _ a.batch.now.requests can.from (c.requires.footprints k d less).requested;
     }
 
 pub take_all-requires-clause-ready : goal.take_all-requires-clause-ready
@@ -41,11 +41,11 @@ pub returns-clause-split : goal.returns-clause-split
 returns-clause-split c =
     let a = c.args in
     let part = part_of a.first a.ordinal a.time a.batch.now.requests (map footprint_seen a.footprints.now) in
-    is_split a.tree.now c.prepare_all.new.tree c.take_all.new.tree part a.numbers.now c.in_ok-prepared.prepared.items c.take_all.result.items (length a.footprints.now) (record {
+    is_split a.tree.now c.prepare_all.new.tree c.take_all.new.tree part a.numbers.now c.in_ok-prepared.prepared.items c.take_all.result.items (record {
       whole = c.requires.whole;
       prepared = c.in_ok-prepared.ensures.prepared;
       disjoint = c.requires.disjoint;
       places = c.in_ok-prepared.ensures.places;
       home = c.prepare_all.ensures.home;
       lent = c.prepare_all.ensures.lent;
-    }) c.requires.numbers (omega (arith, c.number.ensures.value, c.number.ensures.at_most_spent)) c.requires.footprints c.take_all.ensures.out c.take_all.ensures.jobs
+    }) c.requires.numbers c.requires.footprints c.take_all.ensures.out c.take_all.ensures.jobs

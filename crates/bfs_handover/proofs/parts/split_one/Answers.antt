@@ -3,7 +3,7 @@ use Rattle.std.proofs.Common.{[], ◌∷◌, length, map, arith, rules}
 use Rattle.std.proofs.lemmas.List.Elements.{All-from_recursion}
 use Rattle.bfs_footprint.specs.Seen.{footprint_seen}
 use Rattle.bfs_tree.specs.Tree.{at_home}
-use Rattle.bfs_handover.specs.Splitting.{CanBeSplit, part_of}
+use Rattle.bfs_handover.specs.Splitting.{CanBeSplit, IsFoundOn, part_of}
 use Rattle.bfs_handover.proofs.SplitLemmas.{requested, ready_all, is_split}
 use Rattle.bfs_handover.proofs.parts.split_one.Goals as goal
 
@@ -14,7 +14,7 @@ prepare-requires c =
     record {
       from = can.from;
       within = can.within;
-      requested = requested (at_home a.tree.now) a.time a.ordinal a.first (length a.footprints.now) _ a.batch.now.requests (map footprint_seen a.footprints.now) c.requires.footprints can.from can.within;
+      requested = requested a.first _ a.batch.now.requests can.from c.requires.footprint.requested;
     }
 
 pub take_one-requires-clause-home : goal.take_one-requires-clause-home
@@ -34,11 +34,11 @@ pub returns-clause-split : goal.returns-clause-split
 returns-clause-split c =
     let a = c.args in
     let part = part_of a.first a.ordinal a.time a.batch.now.requests (map footprint_seen a.footprints.now) in
-    is_split a.tree.now c.prepare.new.tree c.take_one.new.tree part (a.number ∷ []) (c.in_ok-one.one ∷ []) (c.take_one.result ∷ []) (length a.footprints.now) (record {
+    is_split a.tree.now c.prepare.new.tree c.take_one.new.tree part (a.number ∷ []) (c.in_ok-one.one ∷ []) (c.take_one.result ∷ []) (record {
       whole = c.requires.whole;
       prepared = (c.in_ok-one.ensures.prepared, tt);
       disjoint = (tt, tt);
       places = search rules;
       home = c.prepare.ensures.home;
       lent = c.prepare.ensures.lent;
-    }) (All-from_recursion (CanBeSplit (at_home a.tree.now) part) (a.number ∷ []) (c.requires.number, tt)) (omega (arith, c.number.ensures.value, c.number.ensures.at_most_spent)) c.requires.footprints c.take_one.ensures.out (search rules)
+    }) (All-from_recursion (CanBeSplit (at_home a.tree.now) part) (a.number ∷ []) (c.requires.number, tt)) (All-from_recursion (IsFoundOn (at_home a.tree.now) part) (a.number ∷ []) (c.requires.footprint, tt)) c.take_one.ensures.out (search rules)

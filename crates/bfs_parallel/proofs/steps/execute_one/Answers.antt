@@ -2,7 +2,7 @@
 use Rattle.std.proofs.Common.{◌++◌, [], ◌∷◌, ℕ, List, refl, ap, sym, ◌∙◌}
 use Rattle.bfs_model.specs.Tree.{Inodes}
 use Rattle.bfs_parallel.proofs.Alone.{one_left}
-use Rattle.bfs_parallel.proofs.Ones.{found_alone, ran_on_all, can_split_one, can_run_one, out_one, executed_one, one_short}
+use Rattle.bfs_parallel.proofs.Ones.{found_one, ran_on_all, can_split_one, can_run_one, out_one, executed_one, one_short}
 use Rattle.bfs_parallel.proofs.steps.execute_one.Goals as goal
 
 pub returns-then-is_whole-clause-inodes : goal.returns-then-is_whole-clause-inodes
@@ -17,8 +17,8 @@ pub returns-then-is_whole-clause-ran : goal.returns-then-is_whole-clause-ran
 returns-then-is_whole-clause-ran g c =
     ran_on_all c.args.tree.now c.args.ordinal c.args.time c.args.batch.now.requests c.args.place c.request-request.result.now c.in_ok-footprint.field-0.footprint (c.in_ok-footprint.field-0.footprint ∷ []) c.requires.formed c.request-request.ensures c.in_ok-footprint.ensures.footprint refl g.G.Gate.ran (sym c.is_whole-is_whole.ensures ∙ c.if-is_whole.true)
 
-pub split_one-requires-clause-footprints : goal.split_one-requires-clause-footprints
-split_one-requires-clause-footprints g c = rw c.as_slice.ensures (found_alone c.args.tree.now c.args.ordinal c.args.time c.args.batch.now.requests c.args.place c.request-request.result.now c.in_ok-footprint.field-0.footprint (c.in_ok-footprint.field-0.footprint ∷ []) c.requires.formed c.request-request.ensures c.in_ok-footprint.ensures.footprint refl)
+pub split_one-requires-clause-footprint : goal.split_one-requires-clause-footprint
+split_one-requires-clause-footprint g c = found_one c.args.tree.now c.args.ordinal c.args.time c.args.batch.now.requests c.args.place c.request-request.result.now c.in_ok-footprint.field-0.footprint c.as_slice.result.now c.requires.formed c.request-request.ensures c.in_ok-footprint.ensures.footprint c.as_slice.ensures (sym c.is_whole-is_whole.ensures ∙ c.if-is_whole.false)
 
 pub split_one-requires-clause-number : goal.split_one-requires-clause-number
 split_one-requires-clause-number g c = can_split_one c.args.tree.now c.args.ordinal c.args.time c.args.batch.now.requests c.args.place c.request-request.result.now c.in_ok-footprint.field-0.footprint c.as_slice.result.now c.requires.formed c.request-request.ensures c.in_ok-footprint.ensures.footprint c.as_slice.ensures (sym c.is_whole-is_whole.ensures ∙ c.if-is_whole.false)

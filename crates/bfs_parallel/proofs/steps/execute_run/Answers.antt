@@ -6,7 +6,7 @@ use Rattle.bfs_tree.specs.Tree.{at_home}
 use Rattle.bfs_handover.specs.Homecoming.{numbers_from}
 use Rattle.bfs_parallel.specs.Requests.{requests_in}
 use Rattle.bfs_parallel.proofs.Alone.{one_left, one_whole, ran_alone}
-use Rattle.bfs_parallel.proofs.Runs.{IsExecuted, apart, can_split, executed, known_run, one_each, out, rising}
+use Rattle.bfs_parallel.proofs.Runs.{IsExecuted, all_there, apart, can_split, executed, known_run, one_each, out, rising}
 use Rattle.bfs_parallel.proofs.steps.execute_run.Goals as goal
 
 pub returns-then-is_whole : goal.returns-then-is_whole
@@ -23,6 +23,11 @@ returns-then-is_whole g c =
       ran = ran_alone g.G.Gate.ran (at_home c.args.tree.now) c.args.ordinal c.args.time run.first (drop run.first batch) run.footprints.items c.index.result.now c.index.ensures c.requires.some
           (sym c.is_whole.ensures ∙ c.if-is_whole.true) c.requires.disjoint c.requires.footprints;
     }
+
+pub split-requires-clause-footprints : goal.split-requires-clause-footprints
+split-requires-clause-footprints g c =
+    all_there c.args.tree.now c.args.ordinal c.args.time c.args.batch.now.requests c.args.run.now.first c.args.run.now.footprints.items c.as_slice-footprints.result.now c.as_slice-numbers.result.now
+    (record { formed = c.requires.formed; found = c.requires.footprints; disjoint = c.requires.disjoint; same = c.as_slice-footprints.ensures.value; numbered = c.as_slice-numbers.ensures.value ∙ c.in_ok-numbers.ensures ∙ ap (numbers_from c.args.run.now.first) c.len-2.ensures })
 
 pub split-requires-clause-numbers : goal.split-requires-clause-numbers
 split-requires-clause-numbers g c =

@@ -4,7 +4,7 @@ use Rattle.bfs_model.specs.Serial.{inodes_after, replies_to}
 use Rattle.bfs_model.specs.WellFormed.{IsWellFormed}
 use Rattle.bfs_tree.specs.Tree.{at_home, reach_of}
 use Rattle.bfs_parallel.specs.Ran.{AllRan}
-use Rattle.bfs_parallel.proofs.executor.execute_in_runs.Given as goal
+use Rattle.bfs_parallel.proofs.executor.execute_in_parts.Given as goal
 
 abbrev pub invariant-loop-done : goal.invariant-loop-done
 invariant-loop-done g l = record {

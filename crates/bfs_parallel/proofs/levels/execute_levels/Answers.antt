@@ -1,0 +1,144 @@
+-- Each level asks for what the group has, and leaves it on its way.
+use Rattle.std.proofs.Common.{◌≡◌, [], ℕ, List, length, map, ap, sym, subst, ◌∙◌, arith, rules}
+use Rattle.std.specs.Global.{Global}
+use Rattle.std.specs.declared.vec.Vec.{Vec}
+use Rattle.std.proofs.lemmas.List.{length-map}
+use Rattle.bfs_footprint.specs.Seen.{footprint_seen}
+use Rattle.bfs_footprint.specs.declared.footprints.Footprint as declared
+use Rattle.bfs_tree.specs.Tree.{at_home}
+use Rattle.bfs_handover.specs.Carrying.{AreCarriedOut}
+use Rattle.bfs_handover.specs.Splitting.{part_of}
+use Rattle.bfs_parallel.specs.Levels.{texts_of}
+use Rattle.bfs_parallel.proofs.Levelled.{IsOnItsWay, arrives, as_many_levels, further, none_left, places_there, ready, sets_out}
+use Rattle.bfs_parallel.proofs.Places.{length-all_put}
+use Rattle.bfs_parallel.proofs.levels.execute_levels.Goals as goal
+
+pub levels_in-requires : goal.levels_in-requires
+levels_in-requires g c =
+    let a = c.args in
+    let fs = map footprint_seen a.group.now.footprints.items in
+    let long = as_many_levels (at_home a.tree.now) a.group.now.first a.ordinal a.time a.batch.now.requests fs a.group.now.level_of.items c.requires.group in
+    let fit = c.requires.group.within in
+    omega (arith, c.len-count.ensures.value, c.len-count.ensures.within)
+
+pub loop-numbers-init : goal.loop-numbers-init
+loop-numbers-init g c =
+    let a = c.args in
+    let fs = map footprint_seen a.group.now.footprints.items in
+    let texts = c.in_ok-texts.texts.items in
+    let count : length texts ≡ length a.group.now.footprints.items = c.in_ok-texts.ensures ∙ c.len-2.ensures in
+    let gives : c.into_iter-numbers-iterator.result.rest.items ≡ c.in_ok-levels.levels.items = search rules in
+    record {
+      whole = c.requires.whole;
+      count = count;
+      way = rw gives
+          (sets_out g.G.Gate.ran (at_home a.tree.now) a.group.now.first a.ordinal a.time a.batch.now.requests fs a.group.now.level_of.items (texts_of texts) c.in_ok-levels.levels.items c.requires.group c.in_ok-levels.ensures
+          (length-map texts (λ (text : Vec ℕ Global). text.items) ∙ count ∙ sym (length-map a.group.now.footprints.items footprint_seen)));
+    }
+
+pub carry_out-requires-clause-footprints : goal.carry_out-requires-clause-footprints
+carry_out-requires-clause-footprints g c κs within =
+    let a = c.args in
+    let fs = map footprint_seen a.group.now.footprints.items in
+    let texts = texts_of c.loop-numbers.texts.items in
+    let way = subst (λ left. IsOnItsWay g.G.Gate.ran (at_home a.tree.now) a.group.now.first a.ordinal a.time a.batch.now.requests fs a.group.now.level_of.items (at_home c.loop-numbers.tree) texts left) c.in-Some.ensures.steps.0 c.loop-numbers.invariant.way in
+    rw (c.as_slice-in-loop-numbers.ensures.value, c.as_slice-in-loop-numbers-2.ensures.value)
+    (ready g.G.Gate.ran (at_home a.tree.now) a.group.now.first a.ordinal a.time a.batch.now.requests fs a.group.now.level_of.items (at_home c.loop-numbers.tree) texts c.in-Some.numbers c.next.new.self.rest.items way).found
+
+pub carry_out-requires-clause-numbers : goal.carry_out-requires-clause-numbers
+carry_out-requires-clause-numbers g c κs within =
+    let a = c.args in
+    let fs = map footprint_seen a.group.now.footprints.items in
+    let texts = texts_of c.loop-numbers.texts.items in
+    let way = subst (λ left. IsOnItsWay g.G.Gate.ran (at_home a.tree.now) a.group.now.first a.ordinal a.time a.batch.now.requests fs a.group.now.level_of.items (at_home c.loop-numbers.tree) texts left) c.in-Some.ensures.steps.0 c.loop-numbers.invariant.way in
+    rw (c.as_slice-in-loop-numbers.ensures.value, c.as_slice-in-loop-numbers-2.ensures.value)
+    (ready g.G.Gate.ran (at_home a.tree.now) a.group.now.first a.ordinal a.time a.batch.now.requests fs a.group.now.level_of.items (at_home c.loop-numbers.tree) texts c.in-Some.numbers c.next.new.self.rest.items way).can
+
+pub carry_out-requires-clause-disjoint : goal.carry_out-requires-clause-disjoint
+carry_out-requires-clause-disjoint g c κs within =
+    let a = c.args in
+    let fs = map footprint_seen a.group.now.footprints.items in
+    let texts = texts_of c.loop-numbers.texts.items in
+    let way = subst (λ left. IsOnItsWay g.G.Gate.ran (at_home a.tree.now) a.group.now.first a.ordinal a.time a.batch.now.requests fs a.group.now.level_of.items (at_home c.loop-numbers.tree) texts left) c.in-Some.ensures.steps.0 c.loop-numbers.invariant.way in
+    rw (c.as_slice-in-loop-numbers.ensures.value, c.as_slice-in-loop-numbers-2.ensures.value)
+    (ready g.G.Gate.ran (at_home a.tree.now) a.group.now.first a.ordinal a.time a.batch.now.requests fs a.group.now.level_of.items (at_home c.loop-numbers.tree) texts c.in-Some.numbers c.next.new.self.rest.items way).apart
+
+pub carry_out-requires-clause-rising : goal.carry_out-requires-clause-rising
+carry_out-requires-clause-rising g c κs within =
+    let a = c.args in
+    let fs = map footprint_seen a.group.now.footprints.items in
+    let texts = texts_of c.loop-numbers.texts.items in
+    let way = subst (λ left. IsOnItsWay g.G.Gate.ran (at_home a.tree.now) a.group.now.first a.ordinal a.time a.batch.now.requests fs a.group.now.level_of.items (at_home c.loop-numbers.tree) texts left) c.in-Some.ensures.steps.0 c.loop-numbers.invariant.way in
+    rw c.as_slice-in-loop-numbers-2.ensures.value
+    (ready g.G.Gate.ran (at_home a.tree.now) a.group.now.first a.ordinal a.time a.batch.now.requests fs a.group.now.level_of.items (at_home c.loop-numbers.tree) texts c.in-Some.numbers c.next.new.self.rest.items way).rise
+
+pub place-requires : goal.place-requires
+place-requires g c =
+    let a = c.args in
+    let m = at_home a.tree.now in
+    let first = a.group.now.first in
+    let batch = a.batch.now.requests in
+    let fs = map footprint_seen a.group.now.footprints.items in
+    let home = at_home c.loop-numbers.tree in
+    let after = at_home c.carry_out.new.tree in
+    let texts = texts_of c.loop-numbers.texts.items in
+    let replies = c.in_ok-replies.replies.items in
+    let way = subst (λ left. IsOnItsWay g.G.Gate.ran m first a.ordinal a.time batch fs a.group.now.level_of.items home texts left) c.in-Some.ensures.steps.0 c.loop-numbers.invariant.way in
+    let carried : AreCarriedOut home after (part_of first a.ordinal a.time batch fs) c.in-Some.numbers.items replies =
+    subst (λ ns. AreCarriedOut home after (part_of first a.ordinal a.time batch fs) ns replies) c.as_slice-in-loop-numbers-2.ensures.value
+    (subst (λ (items : List declared.Footprint). AreCarriedOut home after (part_of first a.ordinal a.time batch (map footprint_seen items)) c.as_slice-in-loop-numbers-2.result.now replies) c.as_slice-in-loop-numbers.ensures.value c.in_ok-replies.ensures.done) in
+    places_there g.G.Gate.ran m first a.ordinal a.time batch fs a.group.now.level_of.items home texts c.in-Some.numbers.items after replies (length c.loop-numbers.texts.items)
+    (ready g.G.Gate.ran m first a.ordinal a.time batch fs a.group.now.level_of.items home texts c.in-Some.numbers c.next.new.self.rest.items way) carried (c.loop-numbers.invariant.count ∙ sym (length-map a.group.now.footprints.items footprint_seen))
+
+pub loop-numbers-preserved : goal.loop-numbers-preserved
+loop-numbers-preserved g c =
+    let a = c.args in
+    let m = at_home a.tree.now in
+    let first = a.group.now.first in
+    let batch = a.batch.now.requests in
+    let fs = map footprint_seen a.group.now.footprints.items in
+    let home = at_home c.loop-numbers.tree in
+    let after = at_home c.carry_out.new.tree in
+    let texts = texts_of c.loop-numbers.texts.items in
+    let replies = c.in_ok-replies.replies.items in
+    let way = subst (λ left. IsOnItsWay g.G.Gate.ran m first a.ordinal a.time batch fs a.group.now.level_of.items home texts left) c.in-Some.ensures.steps.0 c.loop-numbers.invariant.way in
+    let carried : AreCarriedOut home after (part_of first a.ordinal a.time batch fs) c.in-Some.numbers.items replies =
+    subst (λ ns. AreCarriedOut home after (part_of first a.ordinal a.time batch fs) ns replies) c.as_slice-in-loop-numbers-2.ensures.value
+    (subst (λ (items : List declared.Footprint). AreCarriedOut home after (part_of first a.ordinal a.time batch (map footprint_seen items)) c.as_slice-in-loop-numbers-2.result.now replies) c.as_slice-in-loop-numbers.ensures.value c.in_ok-replies.ensures.done) in
+    record {
+      whole = c.in_ok-replies.ensures.whole;
+      count = sym (length-map c.place.new.texts.items (λ (text : Vec ℕ Global). text.items)) ∙ ap length c.place.ensures ∙ length-all_put first replies texts
+          ∙ length-map c.loop-numbers.texts.items (λ (text : Vec ℕ Global). text.items) ∙ c.loop-numbers.invariant.count;
+      way = rw c.place.ensures
+          (further g.G.Gate.ran m first a.ordinal a.time batch fs a.group.now.level_of.items home texts c.in-Some.numbers c.next.new.self.rest.items way after replies carried c.in_ok-replies.ensures.ran);
+    }
+
+pub returns-clause-inodes : goal.returns-clause-inodes
+returns-clause-inodes g c =
+    let a = c.args in
+    let rest = c.loop-numbers.numbers-iterator.rest in
+    let over : rest.items ≡ [] = none_left rest.items rest.len rest.ok.0 c.in-None.ensures.steps.0 in
+    let fs = map footprint_seen a.group.now.footprints.items in
+    let texts = texts_of c.loop-numbers.texts.items in
+    let way = subst (λ left. IsOnItsWay g.G.Gate.ran (at_home a.tree.now) a.group.now.first a.ordinal a.time a.batch.now.requests fs a.group.now.level_of.items (at_home c.loop-numbers.tree) texts left) over c.loop-numbers.invariant.way in
+    (arrives g.G.Gate.ran (at_home a.tree.now) a.group.now.first a.ordinal a.time a.batch.now.requests fs a.group.now.level_of.items (at_home c.loop-numbers.tree) texts way).0
+
+pub returns-clause-replies : goal.returns-clause-replies
+returns-clause-replies g c =
+    let a = c.args in
+    let rest = c.loop-numbers.numbers-iterator.rest in
+    let over : rest.items ≡ [] = none_left rest.items rest.len rest.ok.0 c.in-None.ensures.steps.0 in
+    let fs = map footprint_seen a.group.now.footprints.items in
+    let texts = texts_of c.loop-numbers.texts.items in
+    let way = subst (λ left. IsOnItsWay g.G.Gate.ran (at_home a.tree.now) a.group.now.first a.ordinal a.time a.batch.now.requests fs a.group.now.level_of.items (at_home c.loop-numbers.tree) texts left) over c.loop-numbers.invariant.way in
+    (arrives g.G.Gate.ran (at_home a.tree.now) a.group.now.first a.ordinal a.time a.batch.now.requests fs a.group.now.level_of.items (at_home c.loop-numbers.tree) texts way).1
+
+pub returns-clause-ran : goal.returns-clause-ran
+returns-clause-ran g c =
+    let a = c.args in
+    let rest = c.loop-numbers.numbers-iterator.rest in
+    let over : rest.items ≡ [] = none_left rest.items rest.len rest.ok.0 c.in-None.ensures.steps.0 in
+    let fs = map footprint_seen a.group.now.footprints.items in
+    let texts = texts_of c.loop-numbers.texts.items in
+    let way = subst (λ left. IsOnItsWay g.G.Gate.ran (at_home a.tree.now) a.group.now.first a.ordinal a.time a.batch.now.requests fs a.group.now.level_of.items (at_home c.loop-numbers.tree) texts left) over c.loop-numbers.invariant.way in
+    (arrives g.G.Gate.ran (at_home a.tree.now) a.group.now.first a.ordinal a.time a.batch.now.requests fs a.group.now.level_of.items (at_home c.loop-numbers.tree) texts way).2

@@ -1,0 +1,64 @@
+-- The numbers of a group's requests, level after level.
+use Rattle.std.specs.Prelude.{◌≡◌, ℕ, zero, suc, ◌+◌, ◌-◌, ◌<◌, ◌≤◌, ◌==◌, IsFalse, List, [], ◌∷◌, length, map, take, drop, get_or, slice_set, if◌then◌else◌}
+use Rattle.std.specs.Global.{Global}
+use Rattle.std.specs.List.{AllByRecursion}
+use Rattle.std.specs.declared.vec.Vec.{Vec}
+use Rattle.bfs_model.specs.Tree.{Time, Inodes}
+use Rattle.bfs_model.specs.Footprints.{Footprint}
+use Rattle.bfs_model.specs.Conflicts.{is_whole}
+use Rattle.bfs_model.specs.Groups.{IsCut, footprints_at}
+use Rattle.bfs_model.specs.WellFormed.{IsWellFormed}
+use Rattle.bfs_levels.specs.Planning.{levels_of}
+use Rattle.bfs_handover.specs.declared.results.Reply.{Reply}
+
+-- Groups --------------------------------------------------------------------------------------------------------------------
+
+-- the requests of a batch from a place on, as many as there are footprints
+abbrev pub requests_from : (first : ℕ) → List Footprint → (batch : List (List ℕ)) → List (List ℕ)
+requests_from first footprints batch = take (length footprints) (drop first batch)
+
+-- a group of which it is known what its requests touch, as it was planned on these inodes
+pub record IsGroupOf (inodes : Inodes) (first ordinal : ℕ) (time : Time) (batch : List (List ℕ)) (footprints : List Footprint) (levels : List ℕ) : Type 0 where
+  pub formed : IsWellFormed (record { tree = inodes; next_ordinal = ordinal; last_time = time })
+  pub found : footprints ≡ footprints_at inodes ordinal time (requests_from first footprints batch)
+  pub within : first + length footprints ≤ length batch
+  pub known : AllByRecursion (λ footprint. IsFalse (is_whole footprint)) footprints
+  pub cut : IsCut (footprints_at inodes ordinal time (requests_from first footprints batch)) (requests_from first footprints batch)
+  pub levelled : levels ≡ levels_of footprints
+
+-- Numbers -------------------------------------------------------------------------------------------------------------------
+
+-- the places, from one on, at which a level stands
+abbrev pub places_from : (place : ℕ) → (levels : List ℕ) → (level : ℕ) → List ℕ
+places_from place [] level = []
+places_from place (other ∷ levels) level = if other == level then place ∷ places_from (place + 1) levels level else places_from (place + 1) levels level
+
+-- the numbers of the requests of a level: the first of all has that number
+abbrev pub numbers_at : (first : ℕ) → (levels : List ℕ) → (level : ℕ) → List ℕ
+numbers_at first levels level = map (λ place. first + place) (places_from 0 levels level)
+
+-- the numbers of one level after another, from that level on to the last
+abbrev pub AreInLevels : (first : ℕ) → (levels : List ℕ) → (level : ℕ) → List (Vec ℕ Global) → Type 0
+AreInLevels first levels level [] = (place : ℕ) → place < length levels → get_or levels place 0 < level
+AreInLevels first levels level (numbers ∷ others) = (numbers.items ≡ numbers_at first levels level) × AreInLevels first levels (level + 1) others
+
+-- the numbers that stand at a level
+abbrev pub numbers_in : List (Vec ℕ Global) → (level : ℕ) → List ℕ
+numbers_in [] level = []
+numbers_in (numbers ∷ others) zero = numbers.items
+numbers_in (numbers ∷ others) (suc level) = numbers_in others level
+
+-- the numbers so far stand at their levels
+pub record AreKept (first : ℕ) (levels : List ℕ) (buckets : List (Vec ℕ Global)) : Type 0 where
+  pub each : (level : ℕ) → numbers_in buckets level ≡ numbers_at first levels level
+  pub below : (place : ℕ) → place < length levels → get_or levels place 0 < length buckets
+
+-- Replies in their places ---------------------------------------------------------------------------------------------------
+
+abbrev pub texts_of : List (Vec ℕ Global) → List (List ℕ)
+texts_of replies = map (λ reply. reply.items) replies
+
+-- each reply at the place of its number, where the first has that number
+abbrev pub all_put : (first : ℕ) → List Reply → List (List ℕ) → List (List ℕ)
+all_put first [] texts = texts
+all_put first (reply ∷ replies) texts = all_put first replies (slice_set texts (reply.number - first) reply.bytes.items)

@@ -1,0 +1,51 @@
+ghost use Rattle.std.specs.Prelude.{IfOk, IsTrue, map};
+ghost use Rattle.std.specs.List.{All};
+ghost use Rattle.std.specs.List.Sorted.{IsStrictlyIncreasing};
+ghost use Rattle.bfs_model.specs.Groups.{AreDisjoint};
+ghost use Rattle.bfs_footprint.specs.Seen.{footprint_seen};
+ghost use Rattle.bfs_handover.specs.Carrying.{AreCarriedOut};
+ghost use Rattle.bfs_handover.specs.Splitting.{CanBeSplit, IsFoundOn, footprints_for, part_of};
+ghost use Rattle.bfs_tree.specs.Tree.{at_home, reach_of};
+
+use crate::steps::merge_all;
+use bfs_footprint::Footprint;
+use bfs_handover::{Reply, split};
+use bfs_serial::Batch;
+use bfs_tree::Tree;
+use bfs_types::{Memory, Ordinal, Time};
+use bfs_workers::{Gate, Workers, run_queue};
+use std::alloc::Global;
+use std::sync::Wait;
+use std::thread::Threads;
+
+/// Carries out the requests of these numbers, each on its share of the tree, and gives their replies in the order of the numbers. The
+/// footprints are of the batch's requests from the place `first` on, of which the first has that ordinal. `Memory` if memory runs out;
+/// the tree may then not be whole.
+pub(crate) fn carry_out<R: Threads + Wait + Sync, G: Gate + Sync>(
+    rt: &R,
+    alloc: Global,
+    tree: &mut Tree,
+    batch: &Batch,
+    ordinal: Ordinal,
+    time: Time,
+    first: usize,
+    footprints: &[Footprint],
+    numbers: &[u32],
+    workers: Workers,
+    gate: &G,
+) -> Result<Vec<Reply>, Memory>
+    requires whole { IsTrue ((reach_of tree.old).whole) }
+    requires footprints { All (IsFoundOn (at_home tree.old) (part_of first ordinal time batch.now.requests (map footprint_seen footprints.now))) numbers.now }
+    requires numbers { All (CanBeSplit (at_home tree.old) (part_of first ordinal time batch.now.requests (map footprint_seen footprints.now))) numbers.now }
+    requires disjoint { AreDisjoint (footprints_for (part_of first ordinal time batch.now.requests (map footprint_seen footprints.now)) numbers.now) }
+    requires rising { IsStrictlyIncreasing numbers.now }
+    ensures done { IfOk result (λ replies. AreCarriedOut (at_home tree.old) (at_home tree.new) (part_of first ordinal time batch.now.requests (map footprint_seen footprints.now)) numbers.now replies.items) }
+    ensures whole { IfOk result (λ _. IsTrue ((reach_of tree.new).whole)) }
+    ensures ran { IfOk result (λ replies. All (λ reply. G.ran reply.number reply.bytes.items) replies.items) }
+{
+    let jobs = split(
+        alloc, tree, batch, ordinal, time, first, footprints, numbers,
+    )?;
+    let dones = run_queue(rt, alloc, workers, tree, jobs, gate)?;
+    merge_all(alloc, tree, numbers, dones)
+}

@@ -1,0 +1,121 @@
+// The parts of a batch that are executed one after another: runs, or groups.
+ghost use Rattle.std.specs.Prelude.{◌<◌, ◌≤◌, ◌++◌, ◌≡◌, IfOk, IsTrue, length};
+ghost use Rattle.std.specs.List.{All};
+ghost use Rattle.bfs_model.specs.Limits.{most_reply_bytes};
+ghost use Rattle.bfs_model.specs.WellFormed.{IsWellFormed};
+ghost use Rattle.bfs_tree.specs.Tree.{at_home, reach_of};
+ghost use Rattle.bfs_parallel.specs.Levels.{texts_of};
+ghost use Rattle.bfs_parallel.specs.Parts.{IsPartExecuted};
+
+use crate::engine::Engine;
+use crate::levels::execute_levels;
+use crate::rounds::Rounds;
+use crate::steps::{execute_one, execute_run};
+use bfs_levels::{plan_group, runs};
+use bfs_serial::{Batch, Replies, answer_next};
+use bfs_tree::Tree;
+use bfs_types::{Memory, Ordinal, Time};
+use bfs_workers::Gate;
+use std::alloc::Global;
+use std::sync::Wait;
+use std::thread::Threads;
+
+/// Executes requests of the batch from that place on, the first of which has that ordinal: as many as the engine can plan together. It puts
+/// their replies behind the others, and tells how many they are. `Memory` if memory runs out; the tree may then not be whole.
+pub(crate) fn execute_part<R: Threads + Wait + Sync, G: Gate + Sync>(
+    rt: &R,
+    alloc: Global,
+    tree: &mut Tree,
+    ordinal: Ordinal,
+    time: Time,
+    batch: &Batch,
+    place: usize,
+    engine: Engine,
+    rounds: &mut Rounds,
+    gate: &G,
+    replies: &mut Replies,
+) -> Result<usize, Memory>
+    requires whole { IsTrue ((reach_of tree.old).whole) }
+    requires formed { IsWellFormed (record { tree = at_home tree.old; next_ordinal = ordinal; last_time = time }) }
+    requires more { place < length batch.now.requests }
+    ensures { IfOk result (λ count. IsPartExecuted G.ran tree.old tree.new ordinal time batch.now.requests place count replies.old replies.new) }
+{
+    match engine {
+        Engine::Runs => execute_next_run(
+            rt, alloc, tree, ordinal, time, batch, place, rounds, gate, replies,
+        ),
+        Engine::Levels => execute_next_group(
+            rt, alloc, tree, ordinal, time, batch, place, rounds, gate, replies,
+        ),
+    }
+}
+
+// a run of requests on threads, or one on the calling thread
+fn execute_next_run<R: Threads + Wait + Sync, G: Gate + Sync>(
+    rt: &R,
+    alloc: Global,
+    tree: &mut Tree,
+    ordinal: Ordinal,
+    time: Time,
+    batch: &Batch,
+    place: usize,
+    rounds: &mut Rounds,
+    gate: &G,
+    replies: &mut Replies,
+) -> Result<usize, Memory>
+    requires whole { IsTrue ((reach_of tree.old).whole) }
+    requires formed { IsWellFormed (record { tree = at_home tree.old; next_ordinal = ordinal; last_time = time }) }
+    requires more { place < length batch.now.requests }
+    ensures { IfOk result (λ count. IsPartExecuted G.ran tree.old tree.new ordinal time batch.now.requests place count replies.old replies.new) }
+{
+    if rounds.looks_for_a_run() {
+        let run = runs(alloc, tree, ordinal, time, batch, place)?;
+        if let Some(workers) = rounds.workers_for(run.len()) {
+            execute_run(
+                rt, alloc, tree, batch, ordinal, time, &run, workers, gate, replies,
+            )?;
+            return Ok(run.len());
+        }
+    }
+    execute_one(alloc, tree, batch, ordinal, time, place, gate, replies)?;
+    Ok(1)
+}
+
+// a request that may touch any inode is executed on the whole tree, and a group of others level after level
+fn execute_next_group<R: Threads + Wait + Sync, G: Gate + Sync>(
+    rt: &R,
+    alloc: Global,
+    tree: &mut Tree,
+    ordinal: Ordinal,
+    time: Time,
+    batch: &Batch,
+    place: usize,
+    rounds: &mut Rounds,
+    gate: &G,
+    replies: &mut Replies,
+) -> Result<usize, Memory>
+    requires whole { IsTrue ((reach_of tree.old).whole) }
+    requires formed { IsWellFormed (record { tree = at_home tree.old; next_ordinal = ordinal; last_time = time }) }
+    requires more { place < length batch.now.requests }
+    ensures { IfOk result (λ count. IsPartExecuted G.ran tree.old tree.new ordinal time batch.now.requests place count replies.old replies.new) }
+{
+    let group = plan_group(alloc, tree, ordinal, time, batch, place)?;
+    if group.footprints[0].is_whole() {
+        let reply = answer_next(alloc, tree, ordinal, time, batch.request(place))?;
+        replies.push(reply)?;
+        return Ok(1);
+    }
+    let texts = execute_levels(rt, alloc, tree, batch, ordinal, time, &group, rounds, gate)?;
+    put_texts(replies, texts)?;
+    Ok(group.len())
+}
+
+fn put_texts(replies: &mut Replies, texts: Vec<Vec<u8>>) -> Result<(), Memory>
+    requires { All (λ text. length text.items ≤ most_reply_bytes) texts.items }
+    ensures { IfOk result (λ _. replies.new ≡ replies.old ++ texts_of texts.items) }
+{
+    for text in texts {
+        replies.push(text)?;
+    }
+    Ok(())
+}
