@@ -1,5 +1,5 @@
 -- Two requests, of which none conflicts with the other, may be split off.
-use Rattle.std.proofs.Common.{◌≡◌, ℕ, suc, false, true≢false, List, [], ◌∷◌, Some, is_some, length, refl, ap, sym, subst, ◌∙◌, arith, unwrap_or}
+use Rattle.std.proofs.Common.{◌≡◌, ℕ, false, List, [], ◌∷◌, Some, length, refl, ap, sym, subst, ◌∙◌, arith, unwrap_or}
 use Rattle.std.specs.Prelude.{All, slice_get}
 use Rattle.std.proofs.lemmas.List.Elements.{All-from_recursion}
 use Rattle.bfs_model.specs.Tree.{Time}

@@ -1,5 +1,5 @@
 -- Both may be split off, and their footprints are those of the whole batch.
-use Rattle.std.proofs.Common.{rules, ◌∙◌, sym}
+use Rattle.std.proofs.Common.{rules}
 use Rattle.bfs_footprint.specs.Seen.{footprint_seen}
 use Rattle.bfs_examples_workers.proofs.Parts.{are_split, can_be_split, footprints_found}
 use Rattle.bfs_examples_workers.proofs.splits.both_split.Goals as goal
