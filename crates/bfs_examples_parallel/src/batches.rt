@@ -57,36 +57,50 @@ pub(crate) fn same_replies(rt: &impl Abort, replies: &Replies, others: &Replies)
     }
 }
 
-// executes batches by an engine and one after another, and compares the replies and the file systems
-fn executes_as_serial<R: Threads + AllocGlobal + Abort + Sync>(
+// executes a batch by an engine and by the serial executor, and compares the replies
+fn executes_alike<R: Threads + AllocGlobal + Abort + Sync>(
     rt: &R,
     engine: Engine,
     workers: Workers,
-    batches: &[Batch],
+    files: &mut FileSystem,
+    others: &mut FileSystem,
+    batch: &Batch,
 ) -> Result<(), Fail> {
     let alloc = rt.alloc();
-    let mut files = FileSystem::new(alloc)?;
-    let mut others = FileSystem::new(alloc)?;
-    for batch in batches {
-        let wanted = execute_serial(alloc, &mut others, batch)?;
-        let replies = execute_parallel(rt, alloc, &mut files, batch, workers, engine, &NoGate)?;
-        same_replies(rt, &replies, &wanted);
-    }
+    let wanted = execute_serial(alloc, others, batch)?;
+    let replies = execute_parallel(rt, alloc, files, batch, workers, engine, &NoGate)?;
+    same_replies(rt, &replies, &wanted);
+    Ok(())
+}
+
+// executes two batches by an engine and by the serial executor, and compares the replies and the file systems
+fn executes_both_alike<R: Threads + AllocGlobal + Abort + Sync>(
+    rt: &R,
+    engine: Engine,
+    workers: Workers,
+    first: &Batch,
+    second: &Batch,
+) -> Result<(), Fail> {
+    let mut files = FileSystem::new(rt.alloc())?;
+    let mut others = FileSystem::new(rt.alloc())?;
+    executes_alike(rt, engine, workers, &mut files, &mut others, first)?;
+    executes_alike(rt, engine, workers, &mut files, &mut others, second)?;
     same!(rt; files.next_ordinal(), others.next_ordinal());
     holds!(rt; files.last_time() == others.last_time());
     let tree = files.tree().ok_or("a live file system")?;
     let other = others.tree().ok_or("a live file system")?;
-    holds!(rt; tree.ids(alloc)?.as_slice() == other.ids(alloc)?.as_slice());
+    holds!(rt; tree.ids(rt.alloc())?.as_slice() == other.ids(rt.alloc())?.as_slice());
     Ok(())
 }
 
 #[test]
 fn executes_batches_as_one_after_another(rt: HostRuntime) -> Result<(), Fail> {
-    let batches = [creates(rt.alloc(), FILES)?, mixed(rt.alloc())?];
+    let creates = creates(rt.alloc(), FILES)?;
+    let mixed = mixed(rt.alloc())?;
     for engine in ENGINES {
         for count in [1, 2, 7, 64] {
             let workers = Workers::new(count).ok_or("workers")?;
-            executes_as_serial(&rt, *engine, workers, &batches)?;
+            executes_both_alike(&rt, *engine, workers, &creates, &mixed)?;
         }
     }
     Ok(())
@@ -107,8 +121,9 @@ fn executes_as_many_requests_as_there_are(rt: HostRuntime) -> Result<(), Fail> {
     let workers = Workers::new(64).ok_or("workers")?;
     for engine in ENGINES {
         for count in [0, 2, 63, 64, 65, 1024] {
-            let batches = [creates(rt.alloc(), count)?, writes(rt.alloc(), count)?];
-            executes_as_serial(&rt, *engine, workers, &batches)?;
+            let creates = creates(rt.alloc(), count)?;
+            let writes = writes(rt.alloc(), count)?;
+            executes_both_alike(&rt, *engine, workers, &creates, &writes)?;
         }
     }
     Ok(())
