@@ -89,48 +89,6 @@ fn are_empty(rt: &impl Abort, replies: &Replies) {
     }
 }
 
-#[test]
-fn moves_time_alone_for_an_empty_batch(rt: HostRuntime) -> Result<(), Fail> {
-    let mut files = FileSystem::new(rt.alloc())?;
-    moves_time(
-        &rt,
-        rt.alloc(),
-        &mut files,
-        Time::new(5, 0),
-        Time::new(5, 0),
-    )?;
-    moves_time(
-        &rt,
-        rt.alloc(),
-        &mut files,
-        Time::new(3, 0),
-        Time::new(5, 1),
-    )
-}
-
-fn moves_time(
-    rt: &impl Abort,
-    alloc: Global,
-    files: &mut FileSystem,
-    proposed: Option<Time>,
-    last: Option<Time>,
-) -> Result<(), Fail> {
-    let batch = empty_batch(rt, alloc, proposed.ok_or("a time")?);
-    let replies = execute_serial(alloc, files, &batch)?;
-    same!(rt; replies.len(), 0);
-    same!(rt; files.last_time(), last);
-    same!(rt; files.next_ordinal(), Some(3));
-    Ok(())
-}
-
-fn empty_batch(rt: &impl Abort, alloc: Global, time: Time) -> Batch {
-    let mut batch = Batch::new(alloc);
-    holds!(rt; batch.is_empty());
-    same!(rt; batch.time(), Time::epoch());
-    batch.set_time(time);
-    batch
-}
-
 // a request of the longest size, and 1,023 of a byte
 fn fill(alloc: Global, batch: &mut Batch) -> Result<(), Fail> {
     let longest = vec![in alloc; 0u8; 16_384]?;

@@ -4,6 +4,4 @@
 #[cfg(test)]
 mod batches;
 #[cfg(test)]
-mod many;
-#[cfg(test)]
 mod parts;

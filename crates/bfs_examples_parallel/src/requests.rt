@@ -1,20 +1,15 @@
 //! Requests of the tests.
 use bfs_testing::numbers::{CREATE, GETATTR, REMOVE, STATFS, WRITE};
-use bfs_testing::words::{ROOT, UNSET, call, put_parts};
+use bfs_testing::words::{ROOT, UNSET, call, letters, put_parts};
 use bfs_types::Memory;
 use bfs_xdr::{put_opaque, put_words};
 use std::alloc::Global;
 
-fn put_name(bytes: &mut Vec<u8>, index: u32) -> Result<(), Memory> {
-    let letters = [b'a' + (index / 26 % 26) as u8, b'a' + (index % 26) as u8];
-    put_opaque(bytes, &letters)
-}
-
-/// CREATE of a file in the root, with a name of its own for each number below 676.
+/// CREATE of a file in the root, with a name of its own for each number below 65,536.
 pub(crate) fn create(alloc: Global, xid: u32, index: u32) -> Result<Vec<u8>, Memory> {
     let mut bytes = call(alloc, xid, CREATE)?;
     put_words(&mut bytes, ROOT)?;
-    put_name(&mut bytes, index)?;
+    put_opaque(&mut bytes, &letters(index))?;
     put_words(&mut bytes, UNSET)?;
     Ok(bytes)
 }
@@ -23,7 +18,7 @@ pub(crate) fn create(alloc: Global, xid: u32, index: u32) -> Result<Vec<u8>, Mem
 pub(crate) fn remove(alloc: Global, xid: u32, index: u32) -> Result<Vec<u8>, Memory> {
     let mut bytes = call(alloc, xid, REMOVE)?;
     put_words(&mut bytes, ROOT)?;
-    put_name(&mut bytes, index)?;
+    put_opaque(&mut bytes, &letters(index))?;
     Ok(bytes)
 }
 

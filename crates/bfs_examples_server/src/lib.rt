@@ -5,17 +5,9 @@
 #[cfg(test)]
 mod answers;
 #[cfg(test)]
-mod directories;
-#[cfg(test)]
-mod files;
-#[cfg(test)]
 mod fresh;
 #[cfg(test)]
 mod limits;
-#[cfg(test)]
-mod links;
-#[cfg(test)]
-mod listings;
 #[cfg(test)]
 mod refusals;
 #[cfg(test)]

@@ -5,12 +5,13 @@ ghost use Rattle.bfs_model.specs.Tree.{entries_in};
 ghost use Rattle.bfs_tree.specs.Tree.{reach_of};
 ghost use Rattle.bfs_examples_server.specs.Entries.{AreNumbered};
 
-use crate::steps::{Step, runs};
+use crate::steps::runs;
 use bfs_inode::{FileId, Inode};
 use bfs_testing::numbers::{
     CREATE, FBIG, GETATTR, LINK, LOOKUP, MKDIR, NOENT, NOSPC, OK, READDIR, REMOVE, RENAME, RMDIR,
     SYMLINK,
 };
+use bfs_testing::steps::Step;
 use bfs_testing::words::{A, B, C, D, E, FIFTH, FOURTH, NINTH, ROOT, THIRD, UNSET, letters};
 use bfs_testing::{attributes, same};
 use bfs_tree::{Store, Tree};

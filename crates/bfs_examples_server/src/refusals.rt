@@ -1,10 +1,11 @@
 //! Why procedures are not done: each call has a fault and those that are looked for after it, so the order shows too.
-use crate::steps::{Step, serves};
+use crate::steps::serves;
 use bfs_testing::attributes;
 use bfs_testing::numbers::{
     CREATE, EXIST, GETATTR, ISDIR, LINK, MKDIR, NOENT, NOTDIR, NOTEMPTY, OK, PERM, READDIR,
     READLINK, REMOVE, RENAME, RMDIR, STALE, STATFS, SYMLINK,
 };
+use bfs_testing::steps::Step;
 use bfs_testing::words::{
     A, B, C, D, DOT, DOT_DOT, E, EIGHTH, F, FIFTH, FOURTH, L, NINTH, NO_NAME, ROOT, SEVENTH, SIXTH,
     THIRD, UNSET,

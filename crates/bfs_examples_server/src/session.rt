@@ -1,10 +1,11 @@
 //! A whole session: all procedures on one file system.
-use crate::steps::{Step, executes, has_ids, runs};
+use crate::steps::{executes, has_ids, runs};
 use bfs_inode::FileId;
 use bfs_testing::numbers::{
     CREATE, GETATTR, LINK, LOOKUP, MKDIR, NOTEMPTY, NULL, OK, PERM, READ, READDIR, READLINK,
     REMOVE, RENAME, RMDIR, SETATTR, STALE, STATFS, SYMLINK, WRITE, WRITECACHE,
 };
+use bfs_testing::steps::Step;
 use bfs_testing::words::{
     A, B, C, D, DOT_DOT, E, EIGHTH, F, FIFTH, FOURTH, G, H, L, ROOT, SEVENTH, SIXTH, UNSET,
 };

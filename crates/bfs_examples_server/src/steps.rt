@@ -11,19 +11,13 @@ use bfs_procs::run;
 use bfs_rpc::Cred;
 use bfs_serial::{Batch, FileSystem, Replies, execute_serial};
 use bfs_testing::asserts::compared;
-use bfs_testing::words::{call, put_parts, same_bytes, spelled};
+use bfs_testing::steps::Step;
+use bfs_testing::words::{same_bytes, spelled};
 use bfs_tree::{Store, Tree};
 use bfs_types::{Memory, Ordinal, Time};
 use bfs_wire::{NfsCall, NfsReply, parse_args, write_reply};
 use std::alloc::Global;
 use std::test::Fail;
-
-/// A call's procedure, the words of its arguments, and those of the results that it is to get.
-pub(crate) struct Step(
-    pub(crate) u32,
-    pub(crate) &'static [&'static [u32]],
-    pub(crate) &'static [&'static [u32]],
-);
 
 /// Executes batches of calls on a new file system, the first at one second, the next at two and so on, and compares each
 /// reply. The xids of a batch are 1, 2 and so on.
@@ -54,17 +48,10 @@ fn batch_of(alloc: Global, second: u32, steps: &[Step]) -> Result<Batch, Fail> {
     batch.set_time(Time::new(second, 0).ok_or("a time")?);
     let mut xid = 1;
     for step in steps {
-        batch.push(request(alloc, xid, step)?.as_slice())?;
+        batch.push(step.request(alloc, xid)?.as_slice())?;
         xid = xid.saturating_add(1);
     }
     Ok(batch)
-}
-
-fn request(alloc: Global, xid: u32, step: &Step) -> Result<Vec<u8>, Memory> {
-    let Step(procedure, arguments, _) = step;
-    let mut bytes = call(alloc, xid, *procedure)?;
-    put_parts(&mut bytes, arguments)?;
-    Ok(bytes)
 }
 
 fn compares(alloc: Global, replies: &Replies, steps: &[Step]) -> Result<(), Fail> {
@@ -72,19 +59,11 @@ fn compares(alloc: Global, replies: &Replies, steps: &[Step]) -> Result<(), Fail
     let mut xid = 1;
     for index in 0..replies.len() {
         let step = steps.get(index).ok_or("a step for each reply")?;
-        let wanted = reply(alloc, xid, step)?;
+        let wanted = step.reply(alloc, xid)?;
         same_bytes(alloc, replies.get(index), wanted.as_slice())?;
         xid = xid.saturating_add(1);
     }
     Ok(())
-}
-
-// the reply to a call that succeeds
-fn reply(alloc: Global, xid: u32, step: &Step) -> Result<Vec<u8>, Memory> {
-    let Step(_, _, results) = step;
-    let mut bytes = spelled(alloc, &[&[xid, 1, 0, 0, 0, 0]])?;
-    put_parts(&mut bytes, results)?;
-    Ok(bytes)
 }
 
 /// Carries out calls on a whole tree, the first under that ordinal, at one second and for somebody without a credential, and

@@ -1,53 +1,15 @@
-//! That jobs overlap: each test has a gate that holds a job back until another has come so far. It holds none back longer than
-//! 10,000,000 turns.
+//! That jobs overlap: each test has a gate that holds a job back until another has come so far.
 ghost use Rattle.std.specs.Prelude.{⊤};
 
 use crate::jobs::{calls, each_once, jobs_of};
 use bfs_handover::{Done, Job, run_job};
 use bfs_testing::holds;
+use bfs_testing::meetings::Meeting;
 use bfs_tree::Tree;
 use bfs_types::Memory;
 use bfs_workers::{Gate, Workers, run_split};
 use std::alloc::Global;
-use std::sync::atomic::{AtomicU64, Ordering};
 use std::test::Fail;
-use std::thread;
-
-// how many have come, and whether one waited in vain
-#[derive(Drop)]
-struct Meeting {
-    awaited: u64,
-    come: AtomicU64,
-    missed: AtomicU64,
-}
-
-impl Meeting {
-    fn of(awaited: u64) -> Meeting {
-        Meeting {
-            awaited,
-            come: AtomicU64::new(0),
-            missed: AtomicU64::new(0),
-        }
-    }
-
-    fn come(&self) {
-        self.come.fetch_add(1, Ordering::SeqCst);
-    }
-
-    fn wait(&self) {
-        for _ in 0..10_000_000 {
-            if self.come.load(Ordering::SeqCst) >= self.awaited {
-                return;
-            }
-            thread::yield_now();
-        }
-        self.missed.store(1, Ordering::SeqCst);
-    }
-
-    fn took_place(&self) -> bool {
-        self.missed.load(Ordering::SeqCst) == 0
-    }
-}
 
 // holds job 0 back until job 1 has its result
 #[derive(Drop)]

@@ -1,10 +1,11 @@
 //! Directories: made, moved, replaced, and removed.
-use crate::steps::{Step, serves};
+use crate::engines::by_each_engine;
 use bfs_testing::attributes;
 use bfs_testing::numbers::{
     CREATE, GETATTR, ISDIR, LINK, LOOKUP, MKDIR, NOTDIR, OK, PERM, REMOVE, RENAME, RMDIR, STALE,
     STATFS, WRITE,
 };
+use bfs_testing::steps::Step;
 use bfs_testing::words::{A, B, C, D, DOT, DOT_DOT, E, FIFTH, FOURTH, ROOT, SIXTH, THIRD, UNSET};
 use std::test::Fail;
 
@@ -39,7 +40,7 @@ static BELOW_ITSELF: &[&[Step]] = &[
 
 #[test]
 fn puts_no_directory_below_itself(rt: HostRuntime) -> Result<(), Fail> {
-    serves(rt.alloc(), BELOW_ITSELF)
+    by_each_engine(&rt, BELOW_ITSELF)
 }
 
 const ROOM: &[u32] = &[8192, 4096, 262144, 262143, 262143];
@@ -72,7 +73,7 @@ static OF_ANOTHER_KIND: &[&[Step]] = &[
 
 #[test]
 fn replaces_nothing_of_another_kind(rt: HostRuntime) -> Result<(), Fail> {
-    serves(rt.alloc(), OF_ANOTHER_KIND)
+    by_each_engine(&rt, OF_ANOTHER_KIND)
 }
 
 const THIRD_RENAMED: &[u32] = attributes!(directory 3, links 2, size 64, times 1 1 2);
@@ -97,7 +98,7 @@ static REPLACED: &[&[Step]] = &[
 
 #[test]
 fn replaces_an_empty_directory(rt: HostRuntime) -> Result<(), Fail> {
-    serves(rt.alloc(), REPLACED)
+    by_each_engine(&rt, REPLACED)
 }
 
 const FIFTH_BELOW: &[u32] = attributes!(directory 5, links 2, size 64, times 1 1 1);
@@ -121,7 +122,7 @@ static REPLACED_ELSEWHERE: &[&[Step]] = &[
 
 #[test]
 fn replaces_an_empty_directory_elsewhere(rt: HostRuntime) -> Result<(), Fail> {
-    serves(rt.alloc(), REPLACED_ELSEWHERE)
+    by_each_engine(&rt, REPLACED_ELSEWHERE)
 }
 
 // mode 0700, uid 7, gid 8, 5 bytes, 9.000002 as the time of the last access and the batch's as that of the last change
@@ -138,5 +139,5 @@ static MADE_WITH_SETTINGS: &[&[Step]] = &[&[
 
 #[test]
 fn makes_directories_with_settings(rt: HostRuntime) -> Result<(), Fail> {
-    serves(rt.alloc(), MADE_WITH_SETTINGS)
+    by_each_engine(&rt, MADE_WITH_SETTINGS)
 }

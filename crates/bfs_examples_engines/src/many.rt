@@ -1,5 +1,6 @@
-//! As many files as a batch has requests.
-use bfs_serial::{Batch, FileSystem, Replies, execute_serial};
+//! As many files as a batch has requests, made by one batch and written to by another.
+use crate::engines::executors;
+use bfs_serial::{Batch, FileSystem, Replies};
 use bfs_testing::numbers::{CREATE, WRITE};
 use bfs_testing::words::{ROOT, UNSET, call, put_parts, spelled};
 use bfs_testing::{holds, same};
@@ -81,16 +82,17 @@ fn compares(rt: &impl Abort, alloc: Global, replies: &Replies) -> Result<(), Fai
     Ok(())
 }
 
-fn files_made(alloc: Global) -> Result<FileSystem, Fail> {
-    let mut files = FileSystem::new(alloc)?;
-    execute_serial(alloc, &mut files, &creates(alloc)?)?;
-    Ok(files)
-}
-
 #[test]
 fn writes_to_a_thousand_files(rt: HostRuntime) -> Result<(), Fail> {
-    let mut files = files_made(rt.alloc())?;
-    let replies = execute_serial(rt.alloc(), &mut files, &writes(rt.alloc())?)?;
-    same!(rt; files.next_ordinal(), Some(2051));
-    compares(&rt, rt.alloc(), &replies)
+    let alloc = rt.alloc();
+    let creates = creates(alloc)?;
+    let writes = writes(alloc)?;
+    for executor in executors(alloc)? {
+        let mut files = FileSystem::new(alloc)?;
+        executor.execute(&rt, alloc, &mut files, &creates)?;
+        let replies = executor.execute(&rt, alloc, &mut files, &writes)?;
+        same!(rt; files.next_ordinal(), Some(2051));
+        compares(&rt, alloc, &replies)?;
+    }
+    Ok(())
 }

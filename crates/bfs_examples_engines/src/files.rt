@@ -1,7 +1,8 @@
 //! Files: made, told of, written and read.
-use crate::steps::{Step, serves};
+use crate::engines::by_each_engine;
 use bfs_testing::attributes;
 use bfs_testing::numbers::{CREATE, FBIG, GETATTR, LOOKUP, NOENT, OK, READ, SETATTR, STALE, WRITE};
+use bfs_testing::steps::Step;
 use bfs_testing::words::{A, B, FOURTH, ROOT, THIRD, UNSET};
 use bfs_types::{BLOCK_SIZE, MOST_FILE_BYTES};
 use std::test::Fail;
@@ -15,7 +16,7 @@ static TOLD_OF: &[&[Step]] = &[&[
 
 #[test]
 fn makes_a_file_and_tells_of_it(rt: HostRuntime) -> Result<(), Fail> {
-    serves(rt.alloc(), TOLD_OF)
+    by_each_engine(&rt, TOLD_OF)
 }
 
 const MADE_FOURTH: &[u32] = attributes!(file 4, links 1, size 0, blocks 0, times 1 1 1);
@@ -27,7 +28,7 @@ static ASKED_FOR_BEFORE: &[&[Step]] = &[&[
 
 #[test]
 fn makes_a_file_whose_handle_was_asked_for_before(rt: HostRuntime) -> Result<(), Fail> {
-    serves(rt.alloc(), ASKED_FOR_BEFORE)
+    by_each_engine(&rt, ASKED_FOR_BEFORE)
 }
 
 const OLD: &[u32] = attributes!(file 3, links 1, size 3, blocks 1, times 1 1 1);
@@ -58,7 +59,7 @@ static WRITTEN_AND_READ: &[&[Step]] = &[
 
 #[test]
 fn reads_what_was_written(rt: HostRuntime) -> Result<(), Fail> {
-    serves(rt.alloc(), WRITTEN_AND_READ)
+    by_each_engine(&rt, WRITTEN_AND_READ)
 }
 
 const MOST: u32 = MOST_FILE_BYTES as u32;
@@ -85,7 +86,7 @@ static FILLED: &[&[Step]] = &[
 
 #[test]
 fn fills_a_file_up_to_its_limit(rt: HostRuntime) -> Result<(), Fail> {
-    serves(rt.alloc(), FILLED)
+    by_each_engine(&rt, FILLED)
 }
 
 const SETTINGS: &[u32] = &[0x41ff, 7, 0xffffffff, 3, 5, 1000000, 0xffffffff, 0];
@@ -105,5 +106,5 @@ static LOOKED_UP_AND_SET: &[&[Step]] = &[
 
 #[test]
 fn looks_up_and_sets_attributes(rt: HostRuntime) -> Result<(), Fail> {
-    serves(rt.alloc(), LOOKED_UP_AND_SET)
+    by_each_engine(&rt, LOOKED_UP_AND_SET)
 }

@@ -1,7 +1,8 @@
 //! What is listed of directories, page by page.
-use crate::steps::{Step, serves};
+use crate::engines::by_each_engine;
 use bfs_testing::attributes;
 use bfs_testing::numbers::{CREATE, MKDIR, OK, READDIR, REMOVE};
+use bfs_testing::steps::Step;
 use bfs_testing::words::{A, B, C, D, FIFTH, FOURTH, ROOT, THIRD, UNSET};
 use std::test::Fail;
 
@@ -43,7 +44,7 @@ static PAGES: &[&[Step]] = &[&[
 
 #[test]
 fn lists_what_a_page_holds(rt: HostRuntime) -> Result<(), Fail> {
-    serves(rt.alloc(), PAGES)
+    by_each_engine(&rt, PAGES)
 }
 
 const DIRECTORY: &[u32] = attributes!(directory 3, links 2, size 64, times 1 1 1);
@@ -74,5 +75,5 @@ static FULL_PAGES: &[&[Step]] = &[&[
 
 #[test]
 fn ends_pages_where_they_are_full(rt: HostRuntime) -> Result<(), Fail> {
-    serves(rt.alloc(), FULL_PAGES)
+    by_each_engine(&rt, FULL_PAGES)
 }

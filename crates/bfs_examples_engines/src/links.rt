@@ -1,14 +1,21 @@
 //! Names of a file, one or more, and symbolic links.
-use crate::steps::{Step, executes, has_ids, serves};
-use bfs_inode::FileId;
+use crate::engines::{by_each_engine, files_by_each_engine};
 use bfs_testing::numbers::{
     CREATE, GETATTR, LINK, LOOKUP, MKDIR, NOTDIR, OK, PERM, READLINK, REMOVE, RMDIR, SETATTR,
     STALE, SYMLINK,
 };
+use bfs_testing::steps::Step;
 use bfs_testing::words::{A, B, D, FIFTH, FOURTH, L, ROOT, THIRD, UNSET};
 use bfs_testing::{attributes, holds, same};
-use bfs_types::Time;
+use bfs_tree::Tree;
+use bfs_types::{FileId, Memory, Time};
+use std::alloc::Global;
 use std::test::Fail;
+
+// whether a tree's inodes have these fileids
+fn has_ids(alloc: Global, tree: &Tree, wanted: &[FileId]) -> Result<bool, Memory> {
+    Ok(tree.ids(alloc)?.as_slice() == wanted)
+}
 
 const THIRD_MADE: &[u32] = attributes!(file 3, links 1, size 0, blocks 0, times 1 1 1);
 
@@ -25,7 +32,7 @@ static NAMED_AGAIN: &[&[Step]] = &[
 
 #[test]
 fn gives_a_removed_name_to_another_file(rt: HostRuntime) -> Result<(), Fail> {
-    serves(rt.alloc(), NAMED_AGAIN)
+    by_each_engine(&rt, NAMED_AGAIN)
 }
 
 const DIRECTORY: &[u32] = attributes!(directory 3, links 2, size 64, times 1 1 1);
@@ -47,7 +54,7 @@ static UNNAMED: &[&[Step]] = &[
 
 #[test]
 fn keeps_a_file_while_it_has_a_name(rt: HostRuntime) -> Result<(), Fail> {
-    serves(rt.alloc(), UNNAMED)
+    by_each_engine(&rt, UNNAMED)
 }
 
 // the path `a/b`
@@ -66,10 +73,11 @@ static PATH_HELD: &[&[Step]] = &[&[
 
 #[test]
 fn holds_a_path_in_a_symbolic_link(rt: HostRuntime) -> Result<(), Fail> {
-    let files = executes(rt.alloc(), PATH_HELD)?;
-    let tree = files.tree().ok_or("a live file system")?;
-    holds!(rt; has_ids(rt.alloc(), tree, &[FileId::root(), FileId::new(3)])?);
-    same!(rt; files.last_time(), Time::new(1, 0));
+    for files in files_by_each_engine(&rt, PATH_HELD)? {
+        let tree = files.tree().ok_or("a live file system")?;
+        holds!(rt; has_ids(rt.alloc(), tree, &[FileId::root(), FileId::new(3)])?);
+        same!(rt; files.last_time(), Time::new(1, 0));
+    }
     Ok(())
 }
 
@@ -96,5 +104,5 @@ static FOLLOWED: &[&[Step]] = &[
 
 #[test]
 fn makes_symbolic_links_for_all_to_follow(rt: HostRuntime) -> Result<(), Fail> {
-    serves(rt.alloc(), FOLLOWED)
+    by_each_engine(&rt, FOLLOWED)
 }

@@ -1,0 +1,112 @@
+//! Batches of calls, each with the results that it is to get, executed by each engine.
+use bfs_parallel::{Engine, execute_parallel};
+use bfs_serial::{Batch, ExecError, FileSystem, Replies, execute_serial};
+use bfs_testing::asserts::compared;
+use bfs_testing::steps::Step;
+use bfs_testing::words::same_bytes;
+use bfs_types::Time;
+use bfs_workers::{NoGate, Workers};
+use std::alloc::{AllocGlobal, Global};
+use std::test::Fail;
+use std::thread::Threads;
+
+/// The engines; `None` executes one request after another, whatever the number of workers.
+pub(crate) static ENGINES: &[Option<Engine>] = &[None, Some(Engine::Runs)];
+
+static WORKERS: &[u32] = &[1, 2, 3, 8, 64];
+
+/// An engine with a number of workers.
+#[derive(Clone, Copy, Debug)]
+pub(crate) struct Executor {
+    engine: Option<Engine>,
+    workers: Workers,
+}
+
+impl Executor {
+    pub(crate) fn new(engine: Option<Engine>, workers: u32) -> Option<Executor> {
+        let workers = Workers::new(workers)?;
+        Some(Executor { engine, workers })
+    }
+
+    pub(crate) fn execute<R: Threads + Sync>(
+        &self,
+        rt: &R,
+        alloc: Global,
+        files: &mut FileSystem,
+        batch: &Batch,
+    ) -> Result<Replies, ExecError> {
+        match self.engine {
+            None => execute_serial(alloc, files, batch),
+            Some(engine) => {
+                execute_parallel(rt, alloc, files, batch, self.workers, engine, &NoGate)
+            }
+        }
+    }
+}
+
+/// Each engine with each number of workers.
+pub(crate) fn executors(alloc: Global) -> Result<Vec<Executor>, Fail> {
+    let mut executors = Vec::new(alloc);
+    for engine in ENGINES {
+        for count in WORKERS {
+            executors.push(Executor::new(*engine, *count).ok_or("workers")?)?;
+        }
+    }
+    Ok(executors)
+}
+
+/// The file systems on which each executor has executed batches of calls, the first at one second, the next at two and so on. The
+/// xids of a batch are 1, 2 and so on. It fails where a reply is not as it is to be.
+pub(crate) fn files_by_each_engine<R: Threads + AllocGlobal + Sync>(
+    rt: &R,
+    batches: &[&[Step]],
+) -> Result<Vec<FileSystem>, Fail> {
+    let alloc = rt.alloc();
+    let mut all = Vec::new(alloc);
+    for executor in executors(alloc)? {
+        let mut files = FileSystem::new(alloc)?;
+        let mut second = 1;
+        for steps in batches {
+            let batch = batch_of(alloc, second, steps)?;
+            let replies = executor.execute(rt, alloc, &mut files, &batch)?;
+            compare(alloc, &replies, steps)?;
+            second = second.saturating_add(1);
+        }
+        all.push(files)?;
+    }
+    Ok(all)
+}
+
+/// As `files_by_each_engine`, where nothing is asked of the file systems afterwards.
+pub(crate) fn by_each_engine<R: Threads + AllocGlobal + Sync>(
+    rt: &R,
+    batches: &[&[Step]],
+) -> Result<(), Fail> {
+    files_by_each_engine(rt, batches)?;
+    Ok(())
+}
+
+/// The batch of these calls at that second.
+pub(crate) fn batch_of(alloc: Global, second: u32, steps: &[Step]) -> Result<Batch, Fail> {
+    let mut batch = Batch::new(alloc);
+    batch.set_time(Time::new(second, 0).ok_or("a time")?);
+    let mut xid = 1;
+    for step in steps {
+        batch.push(step.request(alloc, xid)?.as_slice())?;
+        xid = xid.saturating_add(1);
+    }
+    Ok(batch)
+}
+
+/// Fails unless the replies are those that the calls are to get.
+pub(crate) fn compare(alloc: Global, replies: &Replies, steps: &[Step]) -> Result<(), Fail> {
+    compared(replies.len(), steps.len())?;
+    let mut xid = 1;
+    for index in 0..replies.len() {
+        let step = steps.get(index).ok_or("a step for each reply")?;
+        let wanted = step.reply(alloc, xid)?;
+        same_bytes(alloc, replies.get(index), wanted.as_slice())?;
+        xid = xid.saturating_add(1);
+    }
+    Ok(())
+}

@@ -1,0 +1,98 @@
+//! That requests of a run overlap: each test has a gate that holds a job back until another has come so far.
+ghost use Rattle.std.specs.Prelude.{⊤};
+
+use crate::batches::{ENGINES, creates, same_replies, writes};
+use bfs_handover::{Done, Job, run_job};
+use bfs_parallel::{Engine, execute_parallel};
+use bfs_serial::{FileSystem, execute_serial};
+use bfs_testing::holds;
+use bfs_testing::meetings::Meeting;
+use bfs_tree::Tree;
+use bfs_types::Memory;
+use bfs_workers::{Gate, Workers};
+use std::alloc::{AllocGlobal, Global};
+use std::process::Abort;
+use std::test::Fail;
+use std::thread::Threads;
+
+// holds the first request back until the second has its result
+#[derive(Drop)]
+struct FirstAfterSecond {
+    second: Meeting,
+}
+
+impl Gate for FirstAfterSecond {
+    ghost ran = { λ _ _. ⊤ };
+
+    fn run(&self, alloc: Global, tree: &Tree, job: Job<'_>) -> Result<Done, Memory> {
+        if job.number == 0 {
+            self.second.wait();
+            return run_job(alloc, tree, job);
+        }
+        let done = run_job(alloc, tree, job)?;
+        self.second.come();
+        Ok(done)
+    }
+}
+
+// holds each request back until all have come
+#[derive(Drop)]
+struct AllAtOnce {
+    all: Meeting,
+}
+
+impl Gate for AllAtOnce {
+    ghost ran = { λ _ _. ⊤ };
+
+    fn run(&self, alloc: Global, tree: &Tree, job: Job<'_>) -> Result<Done, Memory> {
+        self.all.come();
+        self.all.wait();
+        run_job(alloc, tree, job)
+    }
+}
+
+// executes WRITEs to so many files by as many workers, and compares the replies with those of one after another
+fn overlaps<R: Threads + AllocGlobal + Abort + Sync, G: Gate + Sync>(
+    rt: &R,
+    engine: Engine,
+    count: u32,
+    gate: &G,
+) -> Result<(), Fail> {
+    let alloc = rt.alloc();
+    let workers = Workers::new(count).ok_or("workers")?;
+    let mut files = FileSystem::new(alloc)?;
+    let mut others = FileSystem::new(alloc)?;
+    execute_serial(alloc, &mut files, &creates(alloc, count)?)?;
+    execute_serial(alloc, &mut others, &creates(alloc, count)?)?;
+    let batch = writes(alloc, count)?;
+    let wanted = execute_serial(alloc, &mut others, &batch)?;
+    let replies = execute_parallel(rt, alloc, &mut files, &batch, workers, engine, gate)?;
+    same_replies(rt, &replies, &wanted);
+    Ok(())
+}
+
+#[test]
+fn second_of_two_writes_ends_first(rt: HostRuntime) -> Result<(), Fail> {
+    for engine in ENGINES {
+        let gate = FirstAfterSecond {
+            second: Meeting::of(1),
+        };
+        overlaps(&rt, *engine, 2, &gate)?;
+        holds!(rt; gate.second.took_place());
+    }
+    Ok(())
+}
+
+#[test]
+fn as_many_writes_as_workers_overlap(rt: HostRuntime) -> Result<(), Fail> {
+    for engine in ENGINES {
+        for count in [2, 3, 64] {
+            let gate = AllAtOnce {
+                all: Meeting::of(count as u64),
+            };
+            overlaps(&rt, *engine, count, &gate)?;
+            holds!(rt; gate.all.took_place());
+        }
+    }
+    Ok(())
+}
