@@ -8,10 +8,11 @@ use bfs_types::Time;
 use bfs_workers::{NoGate, Workers};
 use std::alloc::{AllocGlobal, Global};
 use std::test::Fail;
+use std::sync::Wait;
 use std::thread::Threads;
 
 /// The engines; `None` executes one request after another, whatever the number of workers.
-pub(crate) static ENGINES: &[Option<Engine>] = &[None, Some(Engine::Runs)];
+pub(crate) static ENGINES: &[Option<Engine>] = &[None, Some(Engine::Runs), Some(Engine::Levels)];
 
 static WORKERS: &[u32] = &[1, 2, 3, 8, 64];
 
@@ -28,7 +29,7 @@ impl Executor {
         Some(Executor { engine, workers })
     }
 
-    pub(crate) fn execute<R: Threads + Sync>(
+    pub(crate) fn execute<R: Threads + Wait + Sync>(
         &self,
         rt: &R,
         alloc: Global,
@@ -57,7 +58,7 @@ pub(crate) fn executors(alloc: Global) -> Result<Vec<Executor>, Fail> {
 
 /// The file systems on which each executor has executed batches of calls, the first at one second, the next at two and so on. The
 /// xids of a batch are 1, 2 and so on. It fails where a reply is not as it is to be.
-pub(crate) fn files_by_each_engine<R: Threads + AllocGlobal + Sync>(
+pub(crate) fn files_by_each_engine<R: Threads + Wait + AllocGlobal + Sync>(
     rt: &R,
     batches: &[&[Step]],
 ) -> Result<Vec<FileSystem>, Fail> {
@@ -78,7 +79,7 @@ pub(crate) fn files_by_each_engine<R: Threads + AllocGlobal + Sync>(
 }
 
 /// As `files_by_each_engine`, where nothing is asked of the file systems afterwards.
-pub(crate) fn by_each_engine<R: Threads + AllocGlobal + Sync>(
+pub(crate) fn by_each_engine<R: Threads + Wait + AllocGlobal + Sync>(
     rt: &R,
     batches: &[&[Step]],
 ) -> Result<(), Fail> {

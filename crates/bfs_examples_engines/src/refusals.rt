@@ -12,6 +12,7 @@ use bfs_testing::{attributes, holds};
 use std::alloc::AllocGlobal;
 use std::process::Abort;
 use std::test::Fail;
+use std::sync::Wait;
 use std::thread::Threads;
 
 // the directories `d` and `f`, and the files `a` and `b`
@@ -85,7 +86,7 @@ fn replies_rightly_or_has_failed(rt: HostRuntime) -> Result<(), Fail> {
     Ok(())
 }
 
-fn replies_or_fails<R: Threads + AllocGlobal + Abort + Sync>(
+fn replies_or_fails<R: Threads + Wait + AllocGlobal + Abort + Sync>(
     rt: &R,
     executor: Executor,
 ) -> Result<(), Fail> {
@@ -103,7 +104,7 @@ fn replies_or_fails<R: Threads + AllocGlobal + Abort + Sync>(
 }
 
 // whether it answers nothing any more, by either executor
-fn has_failed<R: Threads + AllocGlobal + Abort + Sync>(
+fn has_failed<R: Threads + Wait + AllocGlobal + Abort + Sync>(
     rt: &R,
     executor: Executor,
     files: &mut FileSystem,

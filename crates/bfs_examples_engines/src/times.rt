@@ -6,6 +6,7 @@ use bfs_types::{FileId, Time};
 use std::alloc::AllocGlobal;
 use std::process::Abort;
 use std::test::Fail;
+use std::sync::Wait;
 use std::thread::Threads;
 
 #[test]
@@ -18,7 +19,7 @@ fn moves_time_alone_for_an_empty_batch(rt: HostRuntime) -> Result<(), Fail> {
     Ok(())
 }
 
-fn moves_time<R: Threads + AllocGlobal + Abort + Sync>(
+fn moves_time<R: Threads + Wait + AllocGlobal + Abort + Sync>(
     rt: &R,
     executor: &Executor,
     files: &mut FileSystem,

@@ -8,10 +8,11 @@ use bfs_workers::{NoGate, Workers};
 use std::alloc::{AllocGlobal, Global};
 use std::process::Abort;
 use std::test::Fail;
+use std::sync::Wait;
 use std::thread::Threads;
 
 /// The engines that execute batches on threads.
-pub(crate) static ENGINES: &[Engine] = &[Engine::Runs];
+pub(crate) static ENGINES: &[Engine] = &[Engine::Runs, Engine::Levels];
 
 const FILES: u32 = 70;
 
@@ -58,7 +59,7 @@ pub(crate) fn same_replies(rt: &impl Abort, replies: &Replies, others: &Replies)
 }
 
 // executes a batch by an engine and by the serial executor, and compares the replies
-fn executes_alike<R: Threads + AllocGlobal + Abort + Sync>(
+fn executes_alike<R: Threads + Wait + AllocGlobal + Abort + Sync>(
     rt: &R,
     engine: Engine,
     workers: Workers,
@@ -74,7 +75,7 @@ fn executes_alike<R: Threads + AllocGlobal + Abort + Sync>(
 }
 
 // executes two batches by an engine and by the serial executor, and compares the replies and the file systems
-fn executes_both_alike<R: Threads + AllocGlobal + Abort + Sync>(
+fn executes_both_alike<R: Threads + Wait + AllocGlobal + Abort + Sync>(
     rt: &R,
     engine: Engine,
     workers: Workers,

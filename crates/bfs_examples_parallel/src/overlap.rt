@@ -13,6 +13,7 @@ use bfs_workers::{Gate, Workers};
 use std::alloc::{AllocGlobal, Global};
 use std::process::Abort;
 use std::test::Fail;
+use std::sync::Wait;
 use std::thread::Threads;
 
 // holds the first request back until the second has its result
@@ -52,7 +53,7 @@ impl Gate for AllAtOnce {
 }
 
 // executes WRITEs to so many files by as many workers, and compares the replies with those of one after another
-fn overlaps<R: Threads + AllocGlobal + Abort + Sync, G: Gate + Sync>(
+fn overlaps<R: Threads + Wait + AllocGlobal + Abort + Sync, G: Gate + Sync>(
     rt: &R,
     engine: Engine,
     count: u32,

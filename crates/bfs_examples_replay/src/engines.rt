@@ -5,6 +5,7 @@ use bfs_replay::{Engine, Workers, parse_trace, run_trace};
 use bfs_testing::holds;
 use std::alloc::Global;
 use std::test::Fail;
+use std::sync::Wait;
 use std::thread::Threads;
 
 // traces, and what they print
@@ -62,7 +63,7 @@ static WORKED: [(&str, &str); 10] = [
 ];
 
 /// What the run of a trace prints by that engine, with so many workers.
-fn output<R: AllocGlobal + Threads + Sync>(
+fn output<R: AllocGlobal + Threads + Wait + Sync>(
     rt: &R,
     text: &[u8],
     workers: u32,
@@ -76,7 +77,7 @@ fn output<R: AllocGlobal + Threads + Sync>(
 }
 
 /// Whether a trace prints that text, whatever executes it.
-fn prints<R: AllocGlobal + Threads + Sync>(rt: &R, text: &[u8], wanted: &[u8]) -> Result<bool, Fail> {
+fn prints<R: AllocGlobal + Threads + Wait + Sync>(rt: &R, text: &[u8], wanted: &[u8]) -> Result<bool, Fail> {
     if output(rt, text, 4, None)?.as_slice() != wanted {
         return Ok(false);
     }

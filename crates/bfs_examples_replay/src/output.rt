@@ -7,6 +7,7 @@ use std::alloc::Global;
 use std::io;
 use std::io::{ErrorKind, Write};
 use std::test::Fail;
+use std::sync::Wait;
 use std::thread::Threads;
 
 const ROOT_TRACE: &[u8] =
@@ -111,7 +112,7 @@ fn trace_of_long_word(
 }
 
 /// What the run of a trace prints.
-fn output<R: AllocGlobal + Threads + Sync>(rt: &R, text: &str) -> Result<Vec<u8>, Fail> {
+fn output<R: AllocGlobal + Threads + Wait + Sync>(rt: &R, text: &str) -> Result<Vec<u8>, Fail> {
     let trace = parse_trace(rt.alloc(), text.as_bytes())?;
     let mut out = Vec::new(rt.alloc());
     run_trace(rt, &trace, Workers::one(), None, &mut out)?;

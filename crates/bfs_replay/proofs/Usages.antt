@@ -68,7 +68,7 @@ pub row-workers_twice : asked_by (behind_name (codes "--workers=2" ∷ codes "--
 unfolding asked_on_literals
 row-workers_twice = refl
 
-pub row-other_engine : asked_by (behind_name (codes "--engine" ∷ codes "levels" ∷ codes "a.trace" ∷ [])) ≡ None
+pub row-other_engine : asked_by (behind_name (codes "--engine" ∷ codes "level" ∷ codes "a.trace" ∷ [])) ≡ None
 unfolding asked_on_literals
 row-other_engine = refl
 
