@@ -8,3 +8,4 @@ pub mod Refusing
 pub mod Bringing
 pub mod Beginning
 pub mod Playing
+pub mod Accepting

@@ -74,7 +74,7 @@ module _ (m : Machine) (many : length m.standings ≡ length m.requests) where
 -- Lists of events --------------------------------------------------------------------------------------------------------------
 
 module _ (count : ℕ) (asked : ℕ → Asked) (feet : ℕ → Footprint) where
-  steps_more : (events : List model.Event) (event : model.Event) (w mid last : World (List ℕ)) → Steps answered count asked feet w events mid → Step answered count asked feet mid event last → Steps answered count asked feet w (events ++ event ∷ []) last
+  pub steps_more : (events : List model.Event) (event : model.Event) (w mid last : World (List ℕ)) → Steps answered count asked feet w events mid → Step answered count asked feet mid event last → Steps answered count asked feet w (events ++ event ∷ []) last
   steps_more [] event w mid last steps step = (last, subst (λ v. Step answered count asked feet v event last) steps step, refl)
   steps_more (first ∷ events) event w mid last steps step = (steps.0, steps.1, steps_more events event steps.0 mid last steps.2 step)
 
@@ -94,7 +94,7 @@ module _ (start : Inodes) (m : Machine) (feet : feet_of m ≡ footprints_at star
   finish_step number none = on_plan (model.Finish (number - m.first)) (world_of (after_finish m number)) (finish_is_step m (as_many start m feet) number (can_finish m number none))
 
 -- events of a group lead one event further
-pub reached_by_take : (m : Machine) (number : ℕ) → IsReached m → take_refusal m number ≡ None → IsReached (after_take m number)
+abbrev pub reached_by_take : (m : Machine) (number : ℕ) → IsReached m → take_refusal m number ≡ None → IsReached (after_take m number)
 reached_by_take m number r none = record {
   start = r.start;
   events = r.events ++ model.Take (number - m.first) ∷ [];
@@ -104,7 +104,7 @@ reached_by_take m number r none = record {
       r.lead (take_step r.start m r.footprints number none);
 }
 
-pub reached_by_finish : (m : Machine) (number : ℕ) → IsReached m → finish_refusal m number ≡ None → IsReached (after_finish m number)
+abbrev pub reached_by_finish : (m : Machine) (number : ℕ) → IsReached m → finish_refusal m number ≡ None → IsReached (after_finish m number)
 reached_by_finish m number r none = record {
   start = r.start;
   events = r.events ++ model.Finish (number - m.first) ∷ [];
@@ -142,7 +142,7 @@ played_steps start (Finish number ∷ events) m last feet is =
 abbrev waits : Footprint → Standing
 waits f = record { footprint = f; slot = waiting }
 
-feet_at_start : (fs : List Footprint) → map (λ (s : Standing). s.footprint) (map waits fs) ≡ fs
+pub feet_at_start : (fs : List Footprint) → map (λ (s : Standing). s.footprint) (map waits fs) ≡ fs
 feet_at_start [] = refl
 feet_at_start (f ∷ fs) = ap (λ gs. f ∷ gs) (feet_at_start fs)
 
@@ -154,7 +154,7 @@ all_wait (f ∷ fs) (suc k) = all_wait fs k
 pub start_world : (first o : ℕ) (t : Time) (requests : List (List ℕ)) (inodes : Inodes) → ◌≡◌ {A = World (List ℕ)} (world_of (at_start first o t requests inodes)) (at_first inodes o t requests)
 start_world first o t requests inodes = λ i. record { home = inodes; slots = λ k. all_wait (footprints_at inodes o t requests) k i }
 
-pub start_reached : (first o : ℕ) (t : Time) (requests : List (List ℕ)) (inodes : Inodes) → IsGroup (record { tree = inodes; next_ordinal = o; last_time = t }) t requests → IsReached (at_start first o t requests inodes)
+abbrev pub start_reached : (first o : ℕ) (t : Time) (requests : List (List ℕ)) (inodes : Inodes) → IsGroup (record { tree = inodes; next_ordinal = o; last_time = t }) t requests → IsReached (at_start first o t requests inodes)
 start_reached first o t requests inodes group = record {
   start = inodes;
   events = [];

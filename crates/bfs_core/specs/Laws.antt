@@ -2,13 +2,14 @@
 use Rattle.std.specs.Prelude.{◌≡◌, ℕ, IsTrue, List, drop, map, Ok}
 use Rattle.bfs_model.specs.Tree.{Time, Inodes, FileSystem}
 use Rattle.bfs_model.specs.Serial.{inodes_after, replies_to}
-use Rattle.bfs_model.specs.Events.{finished}
+use Rattle.bfs_model.specs.Events.{finished, World}
+use Rattle.bfs_model.specs.Events as model
 use Rattle.bfs_model.specs.OvertakingLaw.{EventsLead, IsGroup}
 use Rattle.bfs_model.specs.WellFormed.{IsWellFormed}
 use Rattle.bfs_levels.specs.Planning.{group_length}
 use Rattle.bfs_core.specs.declared.events.Event.{Event}
 use Rattle.bfs_core.specs.Machine.{Machine, at_start, played, is_complete}
-use Rattle.bfs_core.specs.Reached.{world_of, event_at}
+use Rattle.bfs_core.specs.Reached.{world_of, event_at, event_from}
 use Rattle.bfs_core.specs.Seen.{requests_from}
 
 -- events that are accepted lead, in the model, to the world of the calls as they then stand
@@ -20,6 +21,12 @@ EventsAreSteps = (first ordinal : ℕ) (time : Time) (requests : List (List ℕ)
 abbrev pub PlansAreGroups : Type 0
 PlansAreGroups = (files : FileSystem) (time : Time) (batch : List (List ℕ)) (first count : ℕ) → IsWellFormed files → count ≡ group_length files.tree files.next_ordinal time (drop first batch)
     → IsGroup files time (requests_from first count batch)
+
+-- and whatever events lead anywhere in the model are accepted, and lead to the same world
+abbrev pub StepsAreAccepted : Type 0
+StepsAreAccepted = (files : FileSystem) (time : Time) (requests : List (List ℕ)) → IsGroup files time requests
+    → (first : ℕ) (events : List model.Event) (world : World (List ℕ)) → EventsLead files.tree files.next_ordinal time requests events world
+    → (last : Machine) × (played (map (event_from first) events) (at_start first files.next_ordinal time requests files.tree) ≡ Ok last) × (world_of last ≡ world)
 
 -- whatever the events by which all calls of a group are finished, the inodes and the replies are those of the batch's order
 abbrev pub EventsOvertake : Type 0

@@ -1,5 +1,5 @@
 -- A machine as the world of the overtaking law, and that events of a group have led to it.
-use Rattle.std.specs.Prelude.{◌≡◌, ℕ, ◌-◌, List, map}
+use Rattle.std.specs.Prelude.{◌≡◌, ℕ, ◌+◌, ◌-◌, List, map}
 use Rattle.bfs_model.specs.Tree.{Inodes}
 use Rattle.bfs_model.specs.Groups.{footprints_at}
 use Rattle.bfs_model.specs.Events.{World}
@@ -16,6 +16,11 @@ world_of machine = record { home = machine.home; slots = λ place. (standing_at 
 abbrev pub event_at : (first : ℕ) → Event → model.Event
 event_at first (Take number) = model.Take (number - first)
 event_at first (Finish number) = model.Finish (number - first)
+
+-- and by the number of its call in the batch
+abbrev pub event_from : (first : ℕ) → model.Event → Event
+event_from first (model.Take place) = Take (first + place)
+event_from first (model.Finish place) = Finish (first + place)
 
 -- the calls are those of a group, planned on some inodes, and events have led from there to how they stand
 pub record IsReached (machine : Machine) : Type 0 where

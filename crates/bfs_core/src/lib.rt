@@ -11,5 +11,5 @@ mod running;
 
 pub use errors::CoreError;
 pub use events::Event;
-pub use laws::{events_are_steps, events_overtake, plans_are_groups};
+pub use laws::{events_are_steps, events_overtake, plans_are_groups, steps_are_accepted};
 pub use machine::Core;

@@ -77,9 +77,9 @@ impl<'a> Core<'a> {
         })
     }
 
-    /// Takes the call of that number in the batch. It is refused, in this order, if the core has failed; `NoSuchCall` if the group has
-    /// no such call; `Taken` if it was taken before, also once it is finished; `NotReady` if an earlier call that conflicts with it is
-    /// not finished; `Memory` if memory runs out, and the core has then failed.
+    /// Takes the call of that number in the batch. It is refused, in this order: `Failed` if the core has failed; `NoSuchCall` if the
+    /// group has no such call; `Taken` if it was taken before, also once it is finished; `NotReady` if an earlier call that conflicts
+    /// with it is not finished; `Memory` if memory runs out, and the core has then failed. It compares the call with each earlier one.
     pub fn take(&mut self, number: u32) -> Result<(), CoreError>
         ensures { Happens self.old (event.Take number) result self.new }
     {
@@ -94,8 +94,9 @@ impl<'a> Core<'a> {
         Ok(())
     }
 
-    /// Finishes the call of that number in the batch. It is refused, in this order, if the core has failed; `NoSuchCall` if the group
-    /// has no such call; `NotTaken` if it was not taken, or is finished; `Memory` if memory runs out, and the core has then failed.
+    /// Finishes the call of that number in the batch. It is refused, in this order: `Failed` if the core has failed; `NoSuchCall` if
+    /// the group has no such call; `NotTaken` if it was not taken, or is finished; `Memory` if memory runs out, and the core has then
+    /// failed.
     pub fn finish(&mut self, number: u32) -> Result<(), CoreError>
         ensures { Happens self.old (event.Finish number) result self.new }
     {
