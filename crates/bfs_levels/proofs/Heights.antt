@@ -105,10 +105,6 @@ conflict_by_ids reads writes (known others theirs) =
     ∙ or_twice (list_any (among theirs) reads) (list_any (among theirs) writes) (list_any (among others) writes)
     ∙ ap (λ b. list_any (among theirs) reads || b) (sym (any_or (among others) (among theirs) writes))
 
-conflict_whole : (earlier : Footprint) → conflict earlier whole ≡ true
-conflict_whole (known reads writes) = refl
-conflict_whole whole = refl
-
 -- Levels -------------------------------------------------------------------------------------------------------------------
 
 pub level_of_known : (marks : Marks) (earlier : List (Footprint × ℕ)) (reads writes : List ℕ) → IsMarked marks earlier
@@ -122,19 +118,12 @@ level_of_known marks earlier reads writes is =
     let all = is.whole in
     omega arith
 
-pub level_of_whole : (marks : Marks) (earlier : List (Footprint × ℕ)) → IsMarked marks earlier → marks.any ≡ level_behind earlier whole
-level_of_whole marks earlier is = is.any ∙ sym (height_same (λ f. conflict f whole) (λ f. true) earlier conflict_whole)
-
 -- Groups -------------------------------------------------------------------------------------------------------------------
 
 parted_by_known : (reads writes first second : List ℕ) (earlier : Footprint)
     → parts_groups earlier (record { footprint = known reads writes; resolved = first ++ second }) ≡ (is_whole earlier || (list_any (names_written earlier) first || list_any (names_written earlier) second))
 parted_by_known reads writes first second whole = refl
 parted_by_known reads writes first second (known others theirs) = list_any-append (among theirs) first second
-
-parted_by_whole : (resolved : List ℕ) (earlier : Footprint) → parts_groups earlier (record { footprint = whole; resolved = resolved }) ≡ true
-parted_by_whole resolved (known reads writes) = refl
-parted_by_whole resolved whole = refl
 
 pub parting_of_known : (marks : Marks) (earlier : List (Footprint × ℕ)) (reads writes first second : List ℕ) → IsMarked marks earlier
     → max (max marks.whole (highest_at marks.by_id no_mark first).written) (highest_at marks.by_id no_mark second).written
@@ -148,7 +137,3 @@ parting_of_known marks earlier reads writes first second is =
     let other = written_over marks.by_id earlier no_mark second is.written in
     let all = is.whole in
     omega arith
-
-pub parting_of_whole : (marks : Marks) (earlier : List (Footprint × ℕ)) (resolved : List ℕ) → IsMarked marks earlier
-    → marks.any ≡ height (λ other. parts_groups other (record { footprint = whole; resolved = resolved })) earlier
-parting_of_whole marks earlier resolved is = is.any ∙ sym (height_same (λ f. parts_groups f (record { footprint = whole; resolved = resolved })) (λ f. true) earlier (parted_by_whole resolved))
