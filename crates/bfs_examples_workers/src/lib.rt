@@ -6,4 +6,6 @@ mod jobs;
 #[cfg(test)]
 mod overlap;
 #[cfg(test)]
+mod queue;
+#[cfg(test)]
 mod results;

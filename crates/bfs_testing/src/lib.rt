@@ -1,7 +1,8 @@
-//! What the tests of several crates share: assertions, and the words that requests and replies are spelled in. None of it
-//! ends the process by itself, so that it can stand in a library.
+//! What the tests of several crates share: assertions, the words that requests and replies are spelled in, and where threads wait for
+//! one another. None of it ends the process by itself, so that it can stand in a library.
 #![tactic(auto)]
 
 pub mod asserts;
+pub mod meetings;
 pub mod numbers;
 pub mod words;
