@@ -1,4 +1,4 @@
--- A group on its way: its requests are carried out on inodes of their own, some together, and stand as if one after another.
+-- A group on its way: level after level its requests are carried out on inodes of their own, and stand as in the model's law on levels.
 use Rattle.std.proofs.Common.{◌≡◌, ℕ, zero, suc, ◌<◌, Bool, true, false, cond, not, ◌||◌, List, [], ◌∷◌, ◌++◌, length, map, None, refl, ap, sym, subst, ◌∙◌, arith, eqb, eq-eqb, eqb-true, ne_eqb, true≢false, inl, inr}
 use Rattle.std.specs.List.{AllByRecursion}
 use Rattle.std.specs.FinMap.{get}
