@@ -1,4 +1,4 @@
-ghost use Rattle.std.specs.Prelude.{◌≡◌, ◌==◌, ◌≤◌, ◌↔◌, IsTrue};
+ghost use Rattle.std.specs.Prelude.{◌≡◌, ◌==◌, ◌≤◌, ◌↔◌, IsTrue, IfOk};
 ghost use Rattle.std.specs.List.{list_all, AllByRecursion};
 ghost use Rattle.std.specs.FinMap.{get, entries};
 ghost use Rattle.bfs_model.specs.Limits.{most_entries};
@@ -13,7 +13,8 @@ use crate::ancestry::is_below;
 use crate::store::Store;
 use crate::trees::Tree;
 use bfs_inode::{Directory, Inode};
-use bfs_types::FileId;
+use bfs_types::{FileId, Memory};
+use std::alloc::Global;
 use limits::is_limited;
 
 impl Tree {
@@ -39,6 +40,14 @@ impl Tree {
             return false;
         }
         is_directory(self, FileId::root()) && are_in_order(self)
+    }
+
+    /// The same.
+    pub fn is_well_formed(&self, alloc: Global) -> Result<bool, Memory>
+        ensures { IfOk result (λ formed. IsTrue formed ↔ (IsTrue ((reach_of self.now).whole) × model.IsWellFormedTree (at_home self.now))) }
+    {
+        let _ = alloc;
+        Ok(self.well_formed())
     }
 }
 
