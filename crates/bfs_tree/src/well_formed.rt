@@ -1,4 +1,4 @@
-ghost use Rattle.std.specs.Prelude.{◌≡◌, ◌==◌, ◌≤◌, ◌↔◌, IsTrue, IfOk};
+ghost use Rattle.std.specs.Prelude.{◌≡◌, ◌==◌, ◌≤◌, ◌↔◌, IsTrue};
 ghost use Rattle.std.specs.List.{list_all, AllByRecursion};
 ghost use Rattle.std.specs.FinMap.{get, entries};
 ghost use Rattle.bfs_model.specs.Limits.{most_entries};
@@ -7,14 +7,16 @@ ghost use Rattle.bfs_model.specs.WellFormed as model;
 ghost use Rattle.bfs_tree.specs.Tree.{at_home, reach_of};
 ghost use Rattle.bfs_tree.specs.WellFormed as place;
 
+mod indexed;
 mod limits;
+mod names;
+mod reach;
 
 use crate::ancestry::is_below;
 use crate::store::Store;
 use crate::trees::Tree;
 use bfs_inode::{Directory, Inode};
-use bfs_types::{FileId, Memory};
-use std::alloc::Global;
+use bfs_types::FileId;
 use limits::is_limited;
 
 impl Tree {
@@ -40,14 +42,6 @@ impl Tree {
             return false;
         }
         is_directory(self, FileId::root()) && are_in_order(self)
-    }
-
-    /// The same.
-    pub fn is_well_formed(&self, alloc: Global) -> Result<bool, Memory>
-        ensures { IfOk result (λ formed. IsTrue formed ↔ (IsTrue ((reach_of self.now).whole) × model.IsWellFormedTree (at_home self.now))) }
-    {
-        let _ = alloc;
-        Ok(self.well_formed())
     }
 }
 
