@@ -16,14 +16,14 @@ use Rattle.bfs_inode.specs.Directories.{AreEntries}
 -- One more -------------------------------------------------------------------------------------------------------------
 
 -- where none of a name is found, the first has another one, and there is none further on
-none_further : (test : Bool) (e : Entry) (found : Option Entry) → cond test (Some e) found ≡ None → (test ≡ false) × (found ≡ None)
+pub none_further : (test : Bool) (e : Entry) (found : Option Entry) → cond test (Some e) found ≡ None → (test ≡ false) × (found ≡ None)
 none_further true e found is = absurd cc
 none_further false e found is = (refl, is)
 
-other_name : (a b : List ℕ) → bytes_eq a b ≡ false → bytes_eq b a ≡ false
+pub other_name : (a b : List ℕ) → bytes_eq a b ≡ false → bytes_eq b a ≡ false
 other_name a b is = false_from_ne_true (bytes_eq b a) (λ same. both_ways (bytes_eq a b) is ((bytes_eq-Decides a b).1 (sym ((bytes_eq-Decides b a).0 same))))
 
-differ_pushed : (es : List Entry) (last : Entry) → entry_named last.name es ≡ None → NamesDiffer es → NamesDiffer (es ++ last ∷ [])
+pub differ_pushed : (es : List Entry) (last : Entry) → entry_named last.name es ≡ None → NamesDiffer es → NamesDiffer (es ++ last ∷ [])
 differ_pushed [] last free h = (refl, tt)
 differ_pushed (e ∷ es) last free h =
     let parts = none_further (bytes_eq e.name last.name) e (entry_named last.name es) free in

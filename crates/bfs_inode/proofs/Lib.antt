@@ -1,3 +1,4 @@
 pub mod EntryLemmas
 pub mod DirectoryLemmas
+pub mod OrderLemmas
 pub mod PageLemmas

@@ -2,3 +2,4 @@ pub mod Inodes
 pub mod Seen
 pub mod Directories
 pub mod Pages
+pub mod Records

@@ -8,6 +8,7 @@ ghost use Rattle.bfs_model.specs.WellFormed.{IsRising, NamesDiffer};
 
 mod changes;
 mod entries;
+mod order;
 mod pages;
 
 use bfs_types::{FileId, Name};

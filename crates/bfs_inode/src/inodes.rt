@@ -32,6 +32,25 @@ pub struct Inode {
     body: Body,
 }
 
+/// The attributes of an inode that are stored beside what it holds (RFC 1094 section 2.3.5).
+#[derive(Clone, Copy, Debug)]
+pub struct Metadata {
+    /// The twelve low bits of the mode.
+    pub permissions: u32,
+    /// The number of hard links.
+    pub links: u32,
+    /// The number of the user who owns it.
+    pub uid: u32,
+    /// The number of the group that owns it.
+    pub gid: u32,
+    /// When it was last read.
+    pub atime: Time,
+    /// When what it holds last changed.
+    pub mtime: Time,
+    /// When the inode last changed.
+    pub ctime: Time,
+}
+
 impl Model for Inode {
     ghost use Rattle.bfs_model.specs.Tree as model;
 
@@ -45,6 +64,25 @@ impl Model for Inode {
 }
 
 impl Inode {
+    /// The inode of these attributes, which holds that body. Its permissions are at most `MOST_PERMISSIONS`, and its links at most
+    /// `MOST_LINKS`.
+    pub fn new(metadata: Metadata, body: Body) -> Inode
+        requires bits { metadata.permissions ≤ MOST_PERMISSIONS }
+        requires few { metadata.links ≤ most_links }
+        ensures { result ≡ record { permissions = metadata.permissions; links = metadata.links; uid = metadata.uid; gid = metadata.gid; atime = metadata.atime; mtime = metadata.mtime; ctime = metadata.ctime; body = body_seen body } }
+    {
+        Inode {
+            permissions: metadata.permissions,
+            links: metadata.links,
+            uid: metadata.uid,
+            gid: metadata.gid,
+            atime: metadata.atime,
+            mtime: metadata.mtime,
+            ctime: metadata.ctime,
+            body,
+        }
+    }
+
     /// The root of a new file system: mode 040755, owner 0:0, its own parent, no entries, and all times 0.
     pub fn root(alloc: Global) -> Inode
         ensures { result ≡ new_root }

@@ -144,6 +144,10 @@ home_empty = same_empty inode_in
 pub lent_empty : lent empty ≡ empty
 lent_empty = same_empty loan_in
 
+-- with no slots none is lent out
+pub none_is_whole : IsTrue ((reach_of empty).whole)
+none_is_whole = ap (λ m. len m == 0) lent_empty ∙ ap (λ n. n == 0) (len-empty nat_cmp ⊤)
+
 -- with one inode at home none is lent out
 pub one_is_whole : (k : ℕ) (x : Inode) → IsTrue ((reach_of (insert empty k (Home x))).whole)
 one_is_whole k x = ap (λ m. len m == 0) (lent_insert empty k x ∙ ap (λ m. remove m k) lent_empty ∙ remove_absent empty k (get-empty nat_cmp k)) ∙ ap (λ n. n == 0) (len-empty nat_cmp ⊤)

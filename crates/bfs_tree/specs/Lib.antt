@@ -5,4 +5,5 @@ pub mod Slots
 pub mod Tree
 pub mod Counting
 pub mod Knowing
+pub mod Names
 pub mod WellFormed

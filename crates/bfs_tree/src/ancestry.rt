@@ -39,7 +39,7 @@ pub fn is_below<S: Store>(store: &S, id: FileId, other: FileId) -> bool
 }
 
 // the directory above a directory, if it is not the root
-fn parent_of<S: Store>(store: &S, id: FileId) -> Option<FileId>
+pub(crate) fn parent_of<S: Store>(store: &S, id: FileId) -> Option<FileId>
     requires { IsTrue ((S.reach store.now).known id) }
     ensures { result ≡ tree.parent_of (S.inodes store.now) id }
 {

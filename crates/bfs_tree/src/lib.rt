@@ -11,5 +11,6 @@ mod trees;
 mod well_formed;
 
 pub use ancestry::{is_below, is_directory};
+pub use inodes::Inodes;
 pub use store::Store;
 pub use trees::Tree;

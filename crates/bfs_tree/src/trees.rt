@@ -1,6 +1,6 @@
 ghost use Rattle.std.specs.Prelude.{◌≡◌, IfOk, OnOk, OnErr, IsTrue};
 ghost use Rattle.std.specs.Option.{option_copied};
-ghost use Rattle.std.specs.FinMap.{contains_key, entries, get, insert, keys};
+ghost use Rattle.std.specs.FinMap.{contains_key, empty, entries, get, insert, keys};
 ghost use Rattle.std.specs.List.Sorted.{IsStrictlyIncreasing};
 ghost use Rattle.bfs_model.specs.Tree.{Inodes, new_tree};
 ghost use Rattle.bfs_model.specs.Procedures.Status.{used_blocks};
@@ -50,6 +50,17 @@ impl Tree {
         match places.insert(FileId::root(), Slot::Home(Inode::root(alloc))) {
             Ok(_) => Ok(Tree { places }),
             Err(_) => Err(Memory),
+        }
+    }
+
+    /// A tree with no inodes, not even the root, to which those of a file system are to come.
+    #[tactic(auto, using(crate::proofs::SlotLemmas::home_empty, crate::proofs::SlotLemmas::none_is_whole))]
+    pub fn empty(alloc: Global) -> Tree
+        ensures value { at_home result ≡ empty }
+        ensures whole { IsTrue ((reach_of result).whole) }
+    {
+        Tree {
+            places: Places::new(alloc),
         }
     }
 
@@ -111,16 +122,16 @@ impl Tree {
         Ok(ids.collect(alloc)?)
     }
 
-    // the inode of a fileid, if it is at home
+    /// The inode of a fileid, or `None` if no inode has it, or if it is lent out.
     #[tactic(auto, using(crate::proofs::SlotLemmas::home_at, crate::proofs::SlotLemmas::no_home_at))]
-    pub(crate) fn home(&self, id: FileId) -> Option<&Inode>
+    pub fn home(&self, id: FileId) -> Option<&Inode>
         ensures { option_copied result ≡ get (at_home self.now) id }
     {
         self.places.get(id)?.inode()
     }
 
     /// The inodes at home by the numbers of their fileids, which rise.
-    pub(crate) fn iter(&self) -> Inodes<'_>
+    pub fn iter(&self) -> Inodes<'_>
         ensures { result ≡ entries (at_home self.now) }
     {
         Inodes::of(&self.places)

@@ -87,15 +87,15 @@ root_by : (dir : ℕ) (o : Option Inode) → option_map_or (λ inode. may_name d
 root_by dir None is folder = true≢false (sym is)
 root_by dir (Some x) is folder = root_by_body dir x.body is folder
 
-module _ (m : Inodes) (root : IsTrue (is_directory (get m root_id))) (order : (id : ℕ) (x : Inode) → get m id ≡ Some x → IsTrue (is_in_place m id x.links x.body)) where
-  child_at : (dir child : ℕ) (o : Option Inode) → get m dir ≡ o → 1 ≤ times child (entries_at o) → is_child m dir child ≡ true
+module _ (m : Inodes) (root : IsTrue (is_directory (get m root_id))) (child_in : (dir child : ℕ) (x : Inode) → get m dir ≡ Some x → 1 ≤ times child (entries_in x.body) → is_child m dir child ≡ true) where
+  pub child_at : (dir child : ℕ) (o : Option Inode) → get m dir ≡ o → 1 ≤ times child (entries_at o) → is_child m dir child ≡ true
   child_at dir child None is some = absurd (omega arith)
-  child_at dir child (Some x) is some = child_by_body m dir x.links child x.body (order dir x is) some
+  child_at dir child (Some x) is some = child_in dir child x is some
 
-  in_parent : (dir child parent : ℕ) → 1 ≤ times child (entries_at (get m dir)) → parent_of m child ≡ Some parent → parent ≡ dir
+  pub in_parent : (dir child parent : ℕ) → 1 ≤ times child (entries_at (get m dir)) → parent_of m child ≡ Some parent → parent ≡ dir
   in_parent dir child parent some up = parent_by dir child parent (child == root_id) (get m child) (child_at dir child (get m dir) refl some) up
 
-  unnamed_root : (dir : ℕ) (x : Inode) → get m dir ≡ Some x → times root_id (entries_in x.body) ≡ 0
+  pub unnamed_root : (dir : ℕ) (x : Inode) → get m dir ≡ Some x → times root_id (entries_in x.body) ≡ 0
   unnamed_root dir x is = elim (cases_lt 0 (times root_id (entries_in x.body))) [
     | inl some ↦ absurd (root_by dir (get m root_id) (child_at dir root_id (Some x) is some) root)
     | inr none ↦ omega arith
@@ -111,6 +111,16 @@ module _ (m : Inodes) (root : IsTrue (is_directory (get m root_id))) (order : (i
     | inr none ↦ omega arith
   ]
 
+  pub there_at : (dir id : ℕ) → 1 ≤ times id (entries_at (get m dir)) → IsTrue (is_some (get m id))
+  there_at dir id some = there_of _ (get m id) (child_at dir id (get m dir) refl some)
+
+  pub root_unnamed : named m root_id ≡ 0
+  root_unnamed = weigh_zero (λ k x. times root_id (entries_in x.body)) m unnamed_root
+
+module _ (m : Inodes) (root : IsTrue (is_directory (get m root_id))) (order : (id : ℕ) (x : Inode) → get m id ≡ Some x → IsTrue (is_in_place m id x.links x.body)) where
+  child_in : (dir child : ℕ) (x : Inode) → get m dir ≡ Some x → 1 ≤ times child (entries_in x.body) → is_child m dir child ≡ true
+  child_in dir child x is some = child_by_body m dir x.links child x.body (order dir x is) some
+
   once_at : (child : ℕ) (o : Option Inode) → get m child ≡ o → IsTrue (is_directory o) → (child ≡ root_id → ⊥) → named m child ≡ 1
   once_at child None is folder other = absurd (true≢false (sym folder))
   once_at child (Some x) is folder other =
@@ -120,7 +130,7 @@ module _ (m : Inodes) (root : IsTrue (is_directory (get m root_id))) (order : (i
       let here : times child (entries_at (get m parent)) ≡ 1 = once.2 in
       let up : parent_of m child ≡ Some parent = ap (λ b. cond b None (parent_at (get m child))) apart ∙ ap parent_at is ∙ once.1 in
       let law : named (remove m parent) child + times child (entries_at (get m parent)) ≡ named m child + 0 = named-set m parent None child in
-      let rest : named (remove m parent) child ≡ 0 = weigh_zero (λ k y. times child (entries_in y.body)) (remove m parent) (λ q y at. elsewhere child parent q y (parent == q) up refl (sym (get-set_at m parent None q) ∙ at)) in
+      let rest : named (remove m parent) child ≡ 0 = weigh_zero (λ k y. times child (entries_in y.body)) (remove m parent) (λ q y at. elsewhere m root child_in child parent q y (parent == q) up refl (sym (get-set_at m parent None q) ∙ at)) in
       omega arith
 
   way_at : (id : ℕ) (o : Option Inode) → get m id ≡ o → IsTrue (is_directory o) → is_within m (len m) id root_id ≡ true
@@ -130,12 +140,12 @@ module _ (m : Inodes) (root : IsTrue (is_directory (get m root_id))) (order : (i
   tree_from : IsTree m
   tree_from = record {
     root = root;
-    there = λ dir id some. there_of _ (get m id) (child_at dir id (get m dir) refl some);
+    there = there_at m root child_in;
     links = λ id inode is plain. links_by_body m id inode.links inode.body (order id inode is) plain;
     directory_links = λ id inode is folder. directory_links_by_body m id inode.links inode.body (order id inode is) folder;
-    root_unnamed = weigh_zero (λ k x. times root_id (entries_in x.body)) m unnamed_root;
+    root_unnamed = root_unnamed m root child_in;
     named_once = λ id folder other. once_at id (get m id) refl folder other;
-    in_parent = in_parent;
+    in_parent = in_parent m root child_in;
     reaches = λ id folder. way_met m (len m) id (way_at id (get m id) refl folder);
   }
 
@@ -160,6 +170,9 @@ module _ (m : Inodes) (tree : IsTree m) where
   may_by dir child None is some = absurd (true≢false (sym (tree.there dir child some) ∙ ap is_some is))
   may_by dir child (Some x) is some = may_by_body dir child (child == root_id) x.body refl (ap (λ o. cond (child == root_id) None (parent_at o)) is) some
 
+  pub children_of : (id : ℕ) (listing : Listing) → entries_at (get m id) ≡ listing.entries → list_all (λ entry. is_child m id entry.child) listing.entries ≡ true
+  children_of id listing inside = all_of_named (is_child m id) listing.entries (λ child some. may_by id child (get m child) refl (subst (λ (es : List Entry). 1 ≤ times child es) (sym inside) some))
+
   -- a directory that is not the root is named once in its parent
   once : (id : ℕ) (listing : Listing) (b : Bool) → IsTrue (is_directory (get m id)) → parent_of m id ≡ cond b None (Some listing.parent) → (id == root_id) ≡ b → (b || times id (entries_at (get m listing.parent)) == 1) ≡ true
   once id listing true folder up root = refl
@@ -177,11 +190,10 @@ module _ (m : Inodes) (tree : IsTree m) where
       let inside : entries_at (get m id) ≡ listing.entries = ap entries_at is ∙ ap entries_in held in
       let among : x.links ≡ 2 + directories_among m listing.entries = tree.directory_links id x is (ap is_directory_body held) ∙ ap (λ body. 2 + directories_among m (entries_in body)) held in
       let up : parent_of m id ≡ cond (id == root_id) None (Some listing.parent) = ap (λ o. cond (id == root_id) None (parent_at o)) is ∙ ap (λ body. cond (id == root_id) None (parent_in body)) held in
-      let children : list_all (λ entry. is_child m id entry.child) listing.entries ≡ true = all_of_named (is_child m id) listing.entries (λ child some. may_by id child (get m child) refl (subst (λ (es : List Entry). 1 ≤ times child es) (sym inside) some)) in
       and_from _ (is_within m (len m) id root_id)
       (and_from _ (id == root_id || times id (entries_at (get m listing.parent)) == 1)
       (and_from (list_all (λ entry. is_child m id entry.child) listing.entries) (x.links == 2 + directories_among m listing.entries)
-      children (eq-eqb x.links (2 + directories_among m listing.entries) among))
+      (children_of id listing inside) (eq-eqb x.links (2 + directories_among m listing.entries) among))
       (once id listing (id == root_id) folder up refl))
       (reaches_within m id (tree.reaches id folder))
 

@@ -1,0 +1,8 @@
+use Rattle.std.proofs.Common.{◌≡◌, ◌++◌}
+use Rattle.std.specs.FinMap.{entries}
+use Rattle.bfs_tree.specs.Tree.{at_home}
+use Rattle.bfs_digest.specs.Text.{records_text}
+use Rattle.bfs_digest.proofs.writers.put_records.Given as goal
+
+abbrev pub invariant-loop-id : goal.invariant-loop-id
+invariant-loop-id l = l.out.items ++ records_text l.id-iterator ≡ l.fn.out.items ++ records_text (entries (at_home l.tree))

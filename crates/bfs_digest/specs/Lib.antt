@@ -1,0 +1,5 @@
+pub mod Text
+pub mod TextReading
+pub mod Laws
+pub mod Digests
+pub mod Hashed

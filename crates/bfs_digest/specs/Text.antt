@@ -1,0 +1,51 @@
+-- The text of a file system in version 1 (this file system's profile), in the items of XDR (RFC 4506 section 4).
+use Rattle.std.specs.Prelude.{◌≡◌, ℕ, ◌≤◌, List, ◌++◌, Some}
+use Rattle.std.specs.List.{flat_map}
+use Rattle.std.specs.FinMap.{get, entries, len}
+use Rattle.bfs_model.specs.Items.{word, hyper}
+use Rattle.bfs_model.specs.Stored.{IsTime}
+use Rattle.bfs_model.specs.Tree.{Time, Inode, FileSystem, first_ordinal, spent_ordinal}
+use Rattle.bfs_inode.specs.Records.{record_text, IsRecordable}
+
+-- the word in front of every text, whose bytes are `BFSS`
+abbrev pub magic : ℕ
+magic = 0x42465353
+
+-- the version that is written
+abbrev pub version : ℕ
+version = 1
+
+-- what stands in front of the records
+pub record Header : Type 0 where
+  pub next_ordinal : ℕ
+  pub last_time : Time
+  -- of the inodes
+  pub count : ℕ
+
+abbrev pub header_of : FileSystem → Header
+header_of files = record { next_ordinal = files.next_ordinal; last_time = files.last_time; count = len files.tree }
+
+-- behind the version: the next ordinal, the last time as a timeval (RFC 1094 section 2.3.4), and the number of inodes
+abbrev pub numbers_text : Header → List ℕ
+numbers_text header = hyper header.next_ordinal ++ (word header.last_time.seconds ++ word header.last_time.useconds) ++ word header.count
+
+abbrev pub header_text : Header → List ℕ
+header_text header = word magic ++ word version ++ numbers_text header
+
+-- by rising fileid
+abbrev pub records_text : List (ℕ × Inode) → List ℕ
+records_text inodes = flat_map (λ inode. record_text inode.0 inode.1) inodes
+
+unfoldable pub snapshot_text : FileSystem → List ℕ
+snapshot_text files = header_text (header_of files) ++ records_text (entries files.tree)
+
+-- what a text can spell, whether or not it is well formed
+pub record IsSpellable (files : FileSystem) : Type 0 where
+  pub inodes : (id : ℕ) (inode : Inode) → get files.tree id ≡ Some inode → IsRecordable id inode
+  pub ordinal : (first_ordinal ≤ files.next_ordinal) × (files.next_ordinal ≤ spent_ordinal)
+  pub last_time : IsTime files.last_time
+
+-- the bytes are the text of the file system
+pub record Spells (bytes : List ℕ) (files : FileSystem) : Type 0 where
+  pub spellable : IsSpellable files
+  pub spelled : bytes ≡ snapshot_text files

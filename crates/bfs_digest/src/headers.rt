@@ -1,0 +1,46 @@
+// What stands in front of the records of a text.
+ghost use Rattle.std.specs.Prelude.{◌≡◌, Some, IsTrue, IfSome};
+ghost use Rattle.std.specs.Option.{option_map};
+ghost use Rattle.bfs_tree.specs.Tree.{at_home, reach_of};
+ghost use Rattle.bfs_digest.specs.Text.{header_of};
+
+use bfs_serial::FileSystem;
+use bfs_tree::{Store, Tree};
+use bfs_types::Time;
+use std::marker::Model;
+
+/// The word in front of every text, whose bytes are `BFSS`.
+pub(crate) const MAGIC: u32 = 0x4246_5353;
+
+/// The version that is written and read.
+pub(crate) const VERSION: u32 = 1;
+
+/// The next ordinal, the last time, and the number of inodes.
+#[derive(Debug, Drop)]
+pub(crate) struct Header {
+    pub(crate) next_ordinal: u64,
+    pub(crate) last_time: Time,
+    pub(crate) count: u32,
+}
+
+impl Model for Header {
+    ghost use Rattle.bfs_digest.specs.Text as model;
+
+    ghost Value = { model.Header };
+
+    ghost view = { λ header. record { next_ordinal = header.next_ordinal; last_time = header.last_time; count = header.count } };
+}
+
+/// The header of a file system and its inodes, or `None` if it has failed.
+pub(crate) fn parts_of(files: &FileSystem) -> Option<(Header, &Tree)>
+    ensures header { option_map (λ parts. parts.0) result ≡ option_map header_of files.now }
+    ensures tree { option_map (λ parts. at_home parts.1.now) result ≡ option_map (λ files. files.tree) files.now }
+{
+    let tree = files.tree()?;
+    let header = Header {
+        next_ordinal: files.next_ordinal()?,
+        last_time: files.last_time()?,
+        count: tree.count() as u32,
+    };
+    Some((header, tree))
+}

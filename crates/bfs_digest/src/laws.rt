@@ -1,0 +1,17 @@
+// What holds of texts. The bodies are empty: what is said is the contracts.
+ghost use Rattle.bfs_digest.specs.Laws.{AFileSystemHasOneText, ATextSpellsOneFileSystem, LiveFilesAreSpellable};
+
+/// A file system has one text.
+pub fn a_file_system_has_one_text()
+    ensures { AFileSystemHasOneText }
+{}
+
+/// A text spells at most one file system.
+pub fn a_text_spells_one_file_system()
+    ensures { ATextSpellsOneFileSystem }
+{}
+
+/// Every live file system has a text.
+pub fn live_files_are_spellable()
+    ensures { LiveFilesAreSpellable }
+{}
