@@ -7,8 +7,8 @@ use bfs_testing::words::same_bytes;
 use bfs_types::Time;
 use bfs_workers::{NoGate, Workers};
 use std::alloc::{AllocGlobal, Global};
-use std::test::Fail;
 use std::sync::Wait;
+use std::test::Fail;
 use std::thread::Threads;
 
 /// The engines; `None` executes one request after another, whatever the number of workers.

@@ -11,8 +11,8 @@ use bfs_testing::words::{A, B, C, D, E, F, FIFTH, FOURTH, G, H, L, ROOT, SIXTH, 
 use bfs_testing::{attributes, holds};
 use std::alloc::AllocGlobal;
 use std::process::Abort;
-use std::test::Fail;
 use std::sync::Wait;
+use std::test::Fail;
 use std::thread::Threads;
 
 // the directories `d` and `f`, and the files `a` and `b`

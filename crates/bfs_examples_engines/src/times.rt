@@ -5,8 +5,8 @@ use bfs_testing::{holds, same};
 use bfs_types::{FileId, Time};
 use std::alloc::AllocGlobal;
 use std::process::Abort;
-use std::test::Fail;
 use std::sync::Wait;
+use std::test::Fail;
 use std::thread::Threads;
 
 #[test]

@@ -7,8 +7,8 @@ use bfs_types::Time;
 use bfs_workers::{NoGate, Workers};
 use std::alloc::{AllocGlobal, Global};
 use std::process::Abort;
-use std::test::Fail;
 use std::sync::Wait;
+use std::test::Fail;
 use std::thread::Threads;
 
 /// The engines that execute batches on threads.

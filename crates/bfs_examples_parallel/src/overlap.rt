@@ -12,8 +12,8 @@ use bfs_types::Memory;
 use bfs_workers::{Gate, Workers};
 use std::alloc::{AllocGlobal, Global};
 use std::process::Abort;
-use std::test::Fail;
 use std::sync::Wait;
+use std::test::Fail;
 use std::thread::Threads;
 
 // holds the first request back until the second has its result

@@ -4,8 +4,8 @@
 use bfs_replay::{Engine, Workers, parse_trace, run_trace};
 use bfs_testing::holds;
 use std::alloc::Global;
-use std::test::Fail;
 use std::sync::Wait;
+use std::test::Fail;
 use std::thread::Threads;
 
 // traces, and what they print
@@ -77,7 +77,11 @@ fn output<R: AllocGlobal + Threads + Wait + Sync>(
 }
 
 /// Whether a trace prints that text, whatever executes it.
-fn prints<R: AllocGlobal + Threads + Wait + Sync>(rt: &R, text: &[u8], wanted: &[u8]) -> Result<bool, Fail> {
+fn prints<R: AllocGlobal + Threads + Wait + Sync>(
+    rt: &R,
+    text: &[u8],
+    wanted: &[u8],
+) -> Result<bool, Fail> {
     if output(rt, text, 4, None)?.as_slice() != wanted {
         return Ok(false);
     }

@@ -6,8 +6,8 @@ use bfs_testing::{holds, same};
 use std::alloc::Global;
 use std::io;
 use std::io::{ErrorKind, Write};
-use std::test::Fail;
 use std::sync::Wait;
+use std::test::Fail;
 use std::thread::Threads;
 
 const ROOT_TRACE: &[u8] =
