@@ -1,5 +1,5 @@
 -- Readings that go both ways: what is written is read again, and what is read was written.
-use Rattle.std.proofs.Common.{◌≡◌, ℕ, ◌<◌, ◌≤◌, ◌^◌, Bool, true, false, cond, ◌||◌, List, ◌++◌, length, take, drop, Option, Some, None, Result, Ok, Err, refl, sym, ap, subst, ◌∙◌, append_assoc, replicate, arith}
+use Rattle.std.proofs.Common.{◌≡◌, ℕ, ◌<◌, ◌≤◌, ◌^◌, Bool, true, false, cond, ◌||◌, List, ◌++◌, length, drop, Option, Some, None, Result, Ok, Err, refl, sym, ap, subst, ◌∙◌, append_assoc, replicate, arith}
 use Rattle.std.specs.Result.{result_ok}
 use Rattle.std.specs.List.{slice_index}
 use Rattle.std.proofs.lemmas.Grind.{get_or_default_zero}

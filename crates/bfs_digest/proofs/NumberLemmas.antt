@@ -1,5 +1,5 @@
 -- Inodes whose numbers are those of earlier requests.
-use Rattle.std.proofs.Common.{◌≡◌, ℕ, ◌<◌, ◌≤◌, Bool, true, false, true≢false, IsTrue, Option, Some, None, [], refl, sym, ap, subst, ◌∙◌}
+use Rattle.std.proofs.Common.{◌≡◌, ℕ, ◌<◌, ◌≤◌, Bool, false, true≢false, IsTrue, Some, None, [], refl, sym, ap, subst, ◌∙◌}
 use Rattle.std.specs.Prelude.{◌↔◌}
 use Rattle.std.specs.List.{AllByRecursion}
 use Rattle.bfs_model.specs.Tree.{Entry, Listing, Body, file, directory, link, Inode, root_id, first_ordinal, entries_in, listing_in, parent_in}

@@ -1,19 +1,17 @@
 -- What bytes spell, told by what was read of them.
-use Rattle.std.proofs.Common.{◌≡◌, ℕ, ◌≤◌, ◌^◌, ◌<◌, true, false, cond, eqb, List, [], ◌∷◌, ◌++◌, Option, Some, None, refl, sym, ap, subst, ◌∙◌, append_assoc, append-nil, arith, eq-eqb, eqb-true}
+use Rattle.std.proofs.Common.{◌≡◌, ℕ, ◌≤◌, eqb, List, [], ◌++◌, Option, Some, None, refl, sym, ap, subst, ◌∙◌, append_assoc, arith, eqb-true}
 use Rattle.std.specs.List.{AllByRecursion}
-use Rattle.std.specs.FinMap.{get, entries, from_entries}
-use Rattle.bfs_model.specs.Call.{◌>>=◌}
+use Rattle.std.specs.FinMap.{entries, from_entries}
 use Rattle.bfs_model.specs.Items.{word}
-use Rattle.bfs_model.specs.Stored.{IsWord, AreBytes, IsTime, IsLive}
+use Rattle.bfs_model.specs.Stored.{IsWord, AreBytes, IsLive}
 use Rattle.bfs_model.specs.Tree.{Inode, Inodes, FileSystem, root_id, first_ordinal, spent_ordinal}
 use Rattle.bfs_model.specs.WellFormed.{IsLimited, IsNumbered, IsWellFormed, IsWellFormedTree}
 use Rattle.bfs_tree.specs.Slots.{Slots}
 use Rattle.bfs_tree.specs.Tree.{at_home}
 use Rattle.bfs_serial.specs.Held.{held}
 use Rattle.bfs_tree.proofs.WellFormed.Lists.{each_of_all, all_of_each}
-use Rattle.bfs_inode.specs.Records.{word_from}
-use Rattle.bfs_digest.specs.Text.{Header, magic, version, snapshot_text, IsSpellable, Spells}
-use Rattle.bfs_digest.specs.TextReading.{records_from, numbers_from, version_from, is_nothing, files_with, files_from}
+use Rattle.bfs_digest.specs.Text.{Header, magic, version, IsSpellable, Spells}
+use Rattle.bfs_digest.specs.TextReading.{records_from, version_from, files_with, files_from}
 use Rattle.bfs_digest.specs.Outcomes.{HasOtherVersion, IsMalformed, SpellsIllFormed, IsRestored}
 use Rattle.bfs_digest.specs.Taking.{AreSpelled, AreRecords, IsText, BuildsTree, BuildsFiles}
 use Rattle.bfs_digest.proofs.Exact.{passed, some_is, word_exact, go_on, went_on}

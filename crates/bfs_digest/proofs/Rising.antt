@@ -1,10 +1,8 @@
 -- Items read one after another, whose numbers rise: entries by cookie, and records by fileid.
-use Rattle.std.proofs.Common.{◌≡◌, ℕ, zero, suc, ◌+◌, ◌-◌, ◌<◌, ◌≤◌, Bool, true, false, cond, ltb, List, [], ◌∷◌, ◌++◌, Option, Some, None, refl, sym, ap, subst, ◌∙◌, append_assoc, append-nil, arith}
+use Rattle.std.proofs.Common.{◌≡◌, ℕ, suc, ◌+◌, ◌<◌, ◌≤◌, cond, ltb, List, [], ◌∷◌, Option, Some, None, refl, sym, ap, ◌∙◌}
 use Rattle.std.specs.Option.{option_map}
-use Rattle.std.specs.List.{AllByRecursion}
 use Rattle.std.proofs.lemmas.Bool.{ltb-false, le-ltb, lt-ltb}
 use Rattle.bfs_model.specs.Call.{◌>>=◌}
-use Rattle.bfs_model.specs.Tree.{Entry, Inode}
 use Rattle.bfs_inode.specs.Records.{Reading, entry_from, entries_from, record_from}
 use Rattle.bfs_digest.specs.TextReading.{records_from}
 use Rattle.bfs_digest.proofs.Exact.{refused_not, some_is, chosen}

@@ -1,5 +1,5 @@
 -- Turn by turn one entry is read and put behind the others.
-use Rattle.std.proofs.Common.{◌≡◌, ℕ, ◌+◌, ◌-◌, [], ◌∷◌, ◌++◌, sym, ap, subst, ◌∙◌, arith}
+use Rattle.std.proofs.Common.{◌≡◌, ℕ, ◌+◌, ◌-◌, sym, ap, subst, arith}
 use Rattle.bfs_model.specs.Tree.{Entry, first_ordinal}
 use Rattle.bfs_inode.specs.Records.{entry_from, entries_from}
 use Rattle.bfs_digest.specs.Taking.{entry_seen}

@@ -1,5 +1,5 @@
 -- Turn by turn one inode is read and put into the tree.
-use Rattle.std.proofs.Common.{◌≡◌, ◌+◌, ◌-◌, sym, ap, subst, ◌∙◌, arith}
+use Rattle.std.proofs.Common.{◌+◌, ◌-◌, sym, subst, arith}
 use Rattle.std.specs.Prelude.{IsTrue}
 use Rattle.bfs_tree.specs.Reach.{Reach}
 use Rattle.bfs_tree.specs.Tree.{at_home}

@@ -1,4 +1,4 @@
-use Rattle.std.proofs.Common.{◌≡◌, ◌-◌}
+use Rattle.std.proofs.Common.{◌-◌}
 use Rattle.std.specs.Prelude.{IsTrue}
 use Rattle.bfs_tree.specs.Tree.{at_home, reach_of}
 use Rattle.bfs_digest.proofs.Building.{TreesLeft}

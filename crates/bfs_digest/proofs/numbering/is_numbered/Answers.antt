@@ -1,5 +1,5 @@
 -- A directory has its entries and its parent; what is none has neither.
-use Rattle.std.proofs.Common.{◌≡◌, true≢false, sym, ap, subst, ◌∙◌}
+use Rattle.std.proofs.Common.{true≢false, sym, ◌∙◌}
 use Rattle.bfs_digest.proofs.NumberLemmas.{directory_numbered, plain_numbered, not_numbered}
 use Rattle.bfs_digest.proofs.numbering.is_numbered.Goals as goal
 

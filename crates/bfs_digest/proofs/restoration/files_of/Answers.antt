@@ -1,6 +1,5 @@
 -- The file system of the records is live just if it is well formed.
-use Rattle.std.proofs.Common.{◌≡◌, ℕ, List, [], Option, Some, true≢false, sym, ap, subst, ◌∙◌}
-use Rattle.std.specs.Prelude.{IsTrue}
+use Rattle.std.proofs.Common.{ℕ, [], Option, Some, true≢false, sym, ap, subst, ◌∙◌}
 use Rattle.std.specs.List.{AllByRecursion}
 use Rattle.std.specs.FinMap.{entries}
 use Rattle.bfs_model.specs.Stored.{IsLive}

@@ -1,6 +1,4 @@
 -- What was built of the records is what the bytes spell.
-use Rattle.std.proofs.Common.{◌≡◌, rules}
-use Rattle.bfs_model.specs.Stored.{AreBytes}
 use Rattle.bfs_digest.proofs.Exact.{bytes_are}
 use Rattle.bfs_digest.proofs.Restoring.{restored, spells_ill_formed}
 use Rattle.bfs_digest.proofs.restoration.restore.Goals as goal

@@ -1,9 +1,7 @@
 -- What was read of the bytes tells what they are.
-use Rattle.std.proofs.Common.{◌≡◌, ℕ, List, Some, None, rules, refl, sym, ap, ◌∙◌}
-use Rattle.bfs_model.specs.Stored.{AreBytes}
+use Rattle.std.proofs.Common.{◌≡◌, ℕ, Some, refl, sym, ap, ◌∙◌}
 use Rattle.bfs_digest.specs.Text.{version}
-use Rattle.bfs_digest.specs.TextReading.{version_from, files_from}
-use Rattle.bfs_digest.specs.Outcomes.{HasOtherVersion, IsMalformed}
+use Rattle.bfs_digest.specs.TextReading.{version_from}
 use Rattle.bfs_digest.specs.Taking.{IsText}
 use Rattle.bfs_digest.proofs.Exact.{bytes_are}
 use Rattle.bfs_digest.proofs.Restoring.{unread_is_malformed, no_other_version, unspelled_is_malformed, other_version, not_malformed, text_records}

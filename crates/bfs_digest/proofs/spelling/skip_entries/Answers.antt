@@ -1,5 +1,5 @@
 -- Turn by turn one is passed over, or ends it.
-use Rattle.std.proofs.Common.{◌≡◌, ℕ, suc, ◌+◌, ◌-◌, List, ap, arith}
+use Rattle.std.proofs.Common.{ℕ, ◌+◌, ◌-◌, List, ap, arith}
 use Rattle.std.specs.Option.{option_map}
 use Rattle.bfs_digest.proofs.Rising.{entries_rise}
 use Rattle.bfs_digest.proofs.Skipping.{turn, turn_low, turn_none, turns_done}

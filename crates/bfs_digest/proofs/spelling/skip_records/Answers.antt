@@ -1,6 +1,5 @@
 -- Turn by turn one is passed over, or ends it.
-use Rattle.std.proofs.Common.{◌≡◌, ℕ, suc, ◌+◌, ◌-◌, List, ap, arith}
-use Rattle.std.specs.Option.{option_map}
+use Rattle.std.proofs.Common.{◌+◌, ◌-◌, arith}
 use Rattle.bfs_digest.proofs.Rising.{records_rise}
 use Rattle.bfs_digest.proofs.Skipping.{unmapped, turn, turn_low, turn_none, turns_done}
 use Rattle.bfs_digest.proofs.spelling.skip_records.Goals as goal
