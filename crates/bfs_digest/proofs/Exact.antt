@@ -1,6 +1,8 @@
 -- Readings that go both ways: what is written is read again, and what is read was written.
-use Rattle.std.proofs.Common.{◌≡◌, ℕ, ◌<◌, ◌≤◌, ◌^◌, Bool, true, false, cond, ◌||◌, List, ◌++◌, length, take, drop, Option, Some, None, Result, Ok, Err, refl, sym, ap, subst, ◌∙◌, append_assoc, replicate, arith}
+use Rattle.std.proofs.Common.{◌≡◌, ℕ, ◌<◌, ◌≤◌, ◌^◌, Bool, true, false, cond, ◌||◌, List, ◌++◌, length, drop, Option, Some, None, Result, Ok, Err, refl, sym, ap, subst, ◌∙◌, append_assoc, replicate, arith}
 use Rattle.std.specs.Result.{result_ok}
+use Rattle.std.specs.List.{slice_index}
+use Rattle.std.proofs.lemmas.Grind.{get_or_default_zero}
 use Rattle.std.proofs.lemmas.List.{drop_at, take_at}
 use Rattle.std.proofs.lemmas.List.Elements.{All-drop, All-take}
 use Rattle.bfs_model.specs.Items.{word, counted, fixed, padding_of, word_at, opaque_at}
@@ -32,6 +34,10 @@ some_is x y e = cc
 
 pub behind : (front rest bytes : List ℕ) → AreBytes bytes → bytes ≡ front ++ rest → AreBytes rest
 behind front rest bytes fits e = subst AreBytes (ap (drop (length front)) e ∙ drop_at front rest (length front) refl) (All-drop (λ byte. byte < 256) (length front) bytes fits)
+
+-- what a slice of bytes holds
+pub bytes_are : (bytes : List ℕ) → ((k : ℕ) → slice_index bytes k < 256) → AreBytes bytes
+bytes_are bytes small k d inside = subst (λ (n : ℕ). n < 256) (sym (get_or_default_zero bytes k d inside)) (small k)
 
 pub or_parts : (a b : Bool) → (a || b) ≡ false → (a ≡ false) × (b ≡ false)
 or_parts true b e = absurd cc

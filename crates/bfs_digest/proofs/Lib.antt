@@ -1,7 +1,14 @@
 pub mod Exact
+pub mod Shortness
 pub mod Records
 pub mod Texts
 pub mod Live
 pub mod Pieces
 pub mod Hashed
 pub mod Parts
+pub mod Rising
+pub mod Skipping
+pub mod Building
+pub mod InodeParts
+pub mod NumberLemmas
+pub mod Restoring

@@ -1,16 +1,16 @@
 -- Every live file system can be spelled, and what is spelled and well formed is live.
-use Rattle.std.proofs.Common.{◌≡◌, ℕ, ◌+◌, ◌<◌, ◌≤◌, ◌^◌, List, [], ◌∷◌, ◌++◌, length, drop, Option, Some, None, refl, sym, ap, ◌∙◌, append_assoc, arith}
+use Rattle.std.proofs.Common.{◌≡◌, ℕ, ◌<◌, ◌≤◌, ◌^◌, List, [], ◌∷◌, ◌++◌, length, drop, Option, Some, None, refl, sym, ap, ◌∙◌, append_assoc, arith}
 use Rattle.std.specs.List.{AllByRecursion}
-use Rattle.std.specs.FinMap.{get, entries, len, len-entries}
+use Rattle.std.specs.FinMap.{entries, len, len-entries}
 use Rattle.std.specs.Option.{option_map, ForSome}
 use Rattle.std.proofs.lemmas.List.{drop_at}
 use Rattle.bfs_model.specs.Items.{word}
-use Rattle.bfs_model.specs.Limits.{most_file_bytes, most_entries, most_links}
-use Rattle.bfs_model.specs.Stored.{IsWord, AreBytes, BodyIsStorable, EntryIsStorable, IsStorable, AreStorable, IsLive}
-use Rattle.bfs_model.specs.Tree.{Entry, Body, file, directory, link, Inode, Inodes, FileSystem, root_id, first_ordinal, spent_ordinal, entries_in}
-use Rattle.bfs_model.specs.WellFormed.{IsRising, HasNames, BodyIsLimited, IsLimited, IsNumbered, IsWellFormed}
-use Rattle.bfs_inode.specs.Records.{EntryIsRecordable, BodyIsRecordable, IsRecordable}
-use Rattle.bfs_digest.specs.Text.{magic, version, header_of, snapshot_text, IsSpellable, Spells}
+use Rattle.bfs_model.specs.Limits.{most_links}
+use Rattle.bfs_model.specs.Stored.{BodyIsStorable, EntryIsStorable, IsLive}
+use Rattle.bfs_model.specs.Tree.{Entry, Body, file, directory, link, Inodes, FileSystem, root_id, first_ordinal, spent_ordinal, entries_in}
+use Rattle.bfs_model.specs.WellFormed.{IsRising, HasNames, BodyIsLimited, IsWellFormed}
+use Rattle.bfs_inode.specs.Records.{EntryIsRecordable, BodyIsRecordable}
+use Rattle.bfs_digest.specs.Text.{magic, version, snapshot_text, IsSpellable, Spells}
 use Rattle.bfs_digest.proofs.Texts.{behind_version, few, tree_rises, files_again}
 use Rattle.bfs_digest.specs.TextReading.{files_from}
 use Rattle.bfs_digest.proofs.Exact.{some_is}

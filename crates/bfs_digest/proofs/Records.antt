@@ -1,8 +1,8 @@
 -- The record of an inode: what is written is read again, and what is read was written so.
-use Rattle.std.proofs.Common.{◌≡◌, ℕ, zero, suc, ◌+◌, ◌<◌, ◌≤◌, Bool, true, false, cond, ◌||◌, eqb, ltb, List, [], ◌∷◌, ◌++◌, length, Option, Some, None, refl, sym, ap, subst, ◌∙◌, append_assoc, arith}
-use Rattle.std.specs.List.{AllByRecursion, flat_map}
+use Rattle.std.proofs.Common.{◌≡◌, ℕ, zero, suc, ◌+◌, ◌<◌, ◌≤◌, Bool, true, false, cond, ◌||◌, eqb, ltb, List, [], ◌∷◌, ◌++◌, length, Some, None, refl, sym, ap, subst, ◌∙◌, append_assoc, arith}
+use Rattle.std.specs.List.{AllByRecursion}
 use Rattle.std.proofs.lemmas.Bool.{ltb-false, ltb-true, le-ltb, lt-ltb, eqb-true}
-use Rattle.bfs_model.specs.Items.{word, words, counted}
+use Rattle.bfs_model.specs.Items.{word, counted}
 use Rattle.bfs_model.specs.Call.{◌>>=◌}
 use Rattle.bfs_model.specs.Limits.{most_name_bytes, most_path_bytes, most_entries}
 use Rattle.bfs_model.specs.Stored.{IsWord, AreBytes, IsTime}
@@ -10,7 +10,7 @@ use Rattle.bfs_model.specs.Tree.{Time, Entry, Listing, Body, file, directory, li
 use Rattle.bfs_model.specs.Attributes.{type_of}
 use Rattle.bfs_model.specs.Replies.{type_number}
 use Rattle.bfs_model.specs.WellFormed.{IsRising}
-use Rattle.bfs_inode.specs.Records.{Reading, Head, most_recorded_bytes, entry_text, entries_text, body_text, head_words, record_text, EntryIsRecordable, BodyIsRecordable, IsRecordable, word_from, bytes_from, time_from, entry_from, entries_from, listing_from, file_from, directory_from, link_from, body_from, head_from, with_body, record_from}
+use Rattle.bfs_inode.specs.Records.{Reading, Head, most_recorded_bytes, entry_text, entries_text, body_text, record_text, EntryIsRecordable, BodyIsRecordable, IsRecordable, bytes_from, time_from, entry_from, entries_from, listing_from, file_from, directory_from, link_from, body_from, head_from, with_body, record_from}
 use Rattle.bfs_digest.proofs.Exact.{passed, refused_not, unrefused, some_is, or_parts, IsExact, word_exact, AreFew, bytes_exact, go_on, went_on, chosen}
 
 -- Times ------------------------------------------------------------------------------------------------------------

@@ -1,6 +1,6 @@
 -- The text of a file system: what is written is read again, and what is read was written so.
-use Rattle.std.proofs.Common.{◌≡◌, ℕ, zero, suc, ◌+◌, ◌^◌, ◌<◌, ◌≤◌, Bool, true, false, cond, ◌||◌, ◌&&◌, ltb, T, List, [], ◌∷◌, ◌++◌, length, Option, Some, None, refl, sym, ap, subst, ◌∙◌, append_assoc, append-nil, arith}
-use Rattle.std.specs.List.{AllByRecursion, flat_map}
+use Rattle.std.proofs.Common.{◌≡◌, ℕ, zero, suc, ◌+◌, ◌^◌, ◌<◌, ◌≤◌, Bool, true, false, ◌||◌, ◌&&◌, ltb, T, List, [], ◌∷◌, ◌++◌, length, Some, refl, sym, ap, subst, ◌∙◌, append_assoc, append-nil, arith}
+use Rattle.std.specs.List.{AllByRecursion}
 use Rattle.std.specs.Ordering.{nat_cmp, is_lt}
 use Rattle.std.specs.declared.cmp.Ordering.{Ordering}
 use Rattle.std.specs.declared.cmp.Ordering.TheVariants.{Less, Equal, Greater}
@@ -11,13 +11,12 @@ use Rattle.std.specs.FinMap.Entries.{below_all}
 use Rattle.std.proofs.lemmas.Cmp.{nat_cmp_total}
 use Rattle.std.proofs.lemmas.Bool.{ltb-false, le-ltb, eqb-true}
 use Rattle.bfs_model.specs.Items.{word, hyper, hyper_at}
-use Rattle.bfs_model.specs.Call.{◌>>=◌}
 use Rattle.bfs_model.specs.Stored.{IsWord, AreBytes, IsTime}
-use Rattle.bfs_model.specs.Tree.{Time, Inode, Inodes, FileSystem, root_id, first_ordinal, spent_ordinal}
+use Rattle.bfs_model.specs.Tree.{Inode, Inodes, FileSystem, root_id, first_ordinal, spent_ordinal}
 use Rattle.bfs_model.proofs.Laws.{hyper_again, hyper_written}
 use Rattle.bfs_tree.proofs.WellFormed.Lists.{each_of_all, all_of_each}
-use Rattle.bfs_inode.specs.Records.{Reading, IsRecordable, word_from, time_from, record_from}
-use Rattle.bfs_digest.specs.Text.{Header, header_of, magic, version, numbers_text, header_text, records_text, snapshot_text, IsSpellable, Spells}
+use Rattle.bfs_inode.specs.Records.{IsRecordable}
+use Rattle.bfs_digest.specs.Text.{Header, header_of, numbers_text, records_text, IsSpellable}
 use Rattle.bfs_digest.specs.TextReading.{records_from, hyper_from, numbers_from, is_nothing, files_from}
 use Rattle.bfs_digest.proofs.Exact.{ok_some, passed, refused_not, unrefused, some_is, or_parts, behind, IsExact, word_exact, go_on, went_on, chosen}
 use Rattle.bfs_digest.proofs.Records.{time_text, time_exact, record_of, Recordable, record_exact}

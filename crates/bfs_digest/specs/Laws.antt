@@ -1,5 +1,5 @@
 -- What ties the text of a file system to its reading.
-use Rattle.std.specs.Prelude.{◌≡◌, ℕ, List, Some}
+use Rattle.std.specs.Prelude.{◌≡◌, ℕ, List}
 use Rattle.bfs_model.specs.Stored.{IsLive}
 use Rattle.bfs_model.specs.Tree.{FileSystem}
 use Rattle.bfs_digest.specs.Text.{IsSpellable, Spells}

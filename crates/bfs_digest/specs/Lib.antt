@@ -3,3 +3,5 @@ pub mod TextReading
 pub mod Laws
 pub mod Digests
 pub mod Hashed
+pub mod Taking
+pub mod Outcomes

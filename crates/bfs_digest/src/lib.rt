@@ -1,16 +1,24 @@
-//! The text of a file system, and its digest (FIPS 180-4, SHA-256).
+//! The text of a file system, read and written, and its digest (FIPS 180-4, SHA-256).
 #![tactic(auto)]
 
 mod digests;
+mod errors;
 mod hashes;
 mod headers;
+mod inodes;
 mod laws;
+mod numbering;
+mod readers;
+mod restoration;
 mod snapshots;
+mod spelling;
 mod words;
 mod writers;
 
 pub use digests::{digest_parallel, digest_serial};
+pub use errors::RestoreError;
 pub use laws::{
     a_file_system_has_one_text, a_text_spells_one_file_system, live_files_are_spellable,
 };
+pub use restoration::restore;
 pub use snapshots::snapshot;

@@ -1,6 +1,6 @@
 -- The record of an inode in version 1 of a snapshot (this file system's profile), in the items of XDR (RFC 4506 section 4): how it is
 -- spelled, and how it is read, strictly.
-use Rattle.std.specs.Prelude.{ℕ, zero, suc, ◌+◌, ◌==◌, ◌<◌, ◌≤◌, true, ◌||◌, List, [], ◌∷◌, ◌++◌, length, Option, Some, None, nat_lt, if◌then◌else◌}
+use Rattle.std.specs.Prelude.{ℕ, zero, suc, ◌+◌, ◌==◌, ◌≤◌, true, ◌||◌, List, [], ◌∷◌, ◌++◌, length, Option, Some, None, nat_lt, if◌then◌else◌}
 use Rattle.std.specs.List.{flat_map, AllByRecursion}
 use Rattle.std.specs.Result.{result_ok}
 use Rattle.bfs_model.specs.Attributes.{type_of}

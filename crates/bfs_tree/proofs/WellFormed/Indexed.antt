@@ -1,6 +1,6 @@
 -- A tree is well formed just if its root is a directory, each inode is named as often as it should be, and going up from each
 -- directory leads to the root.
-use Rattle.std.proofs.Common.{◌≡◌, ℕ, ◌+◌, ◌≤◌, Bool, true, false, true≢false, IsTrue, IsFalse, List, Option, Some, None, refl, sym, ap, ◌∙◌, arith, eqb-true, eq-eqb, ne_eqb}
+use Rattle.std.proofs.Common.{◌≡◌, ℕ, ◌+◌, ◌≤◌, Bool, true, false, true≢false, IsTrue, IsFalse, Option, Some, None, refl, sym, ap, ◌∙◌, arith, eqb-true, eq-eqb, ne_eqb}
 use Rattle.std.specs.Prelude.{◌==◌, ◌||◌}
 use Rattle.std.specs.List.{AllByRecursion, list_all}
 use Rattle.std.specs.FinMap.{get, entries}
@@ -9,7 +9,7 @@ use Rattle.bfs_model.specs.Tree.{Listing, Body, file, directory, link, Inode, In
 use Rattle.bfs_model.specs.WellFormed.{times, named, directories_among, IsTree, IsWellFormedTree, ReachesRoot}
 use Rattle.bfs_tree.specs.WellFormed.{is_child, is_directory_counted, is_counted, IsCounted, LeadsToRoot}
 use Rattle.bfs_tree.proofs.WellFormed.Lists.{each_of_all, all_of_each, named_of_all}
-use Rattle.bfs_tree.proofs.WellFormed.Deciding.{child_at, in_parent, there_at, root_unnamed, children_of}
+use Rattle.bfs_tree.proofs.WellFormed.Deciding.{in_parent, there_at, root_unnamed, children_of}
 
 -- From the counts ------------------------------------------------------------------------------------------------------
 

@@ -1,6 +1,6 @@
 -- What a step on the way up to the root knows.
-use Rattle.std.proofs.Common.{◌≡◌, ℕ, ◌+◌, Bool, true, false, cond, true≢false, IsTrue, Option, Some, None, refl, sym, ap, subst, ◌∙◌, arith, eqb-true, eq-eqb}
-use Rattle.std.specs.Prelude.{◌==◌, ◌↔◌}
+use Rattle.std.proofs.Common.{◌≡◌, ℕ, Bool, true, false, cond, true≢false, IsTrue, Option, Some, None, refl, sym, ap, subst, ◌∙◌, eqb-true}
+use Rattle.std.specs.Prelude.{◌↔◌}
 use Rattle.std.specs.BTreeSet.{BTreeSet, contains, IsEmpty, Updates}
 use Rattle.std.specs.List.{list_any}
 use Rattle.std.specs.Ordering.{nat_cmp, is_eq}

@@ -1,5 +1,5 @@
 -- What was hashed is the header and the digests of all inodes.
-use Rattle.std.proofs.Common.{◌≡◌, [], ◌++◌, Some, sym, ap, ◌∙◌}
+use Rattle.std.proofs.Common.{[], Some, sym, ap, ◌∙◌}
 use Rattle.std.specs.Option.{ok_or}
 use Rattle.bfs_tree.specs.Tree.{at_home}
 use Rattle.bfs_serial.specs.declared.executor.ExecError.TheVariants as error

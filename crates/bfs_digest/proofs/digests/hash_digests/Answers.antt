@@ -1,8 +1,7 @@
 -- The digest of each inode is fed behind those before it.
-use Rattle.std.proofs.Common.{◌≡◌, ℕ, List, ◌++◌, ap, subst, ◌∙◌}
+use Rattle.std.proofs.Common.{subst, ◌∙◌}
 use Rattle.std.specs.FinMap.{entries}
 use Rattle.sha2.specs.Hashers.{Holds256}
-use Rattle.bfs_model.specs.Items.{word}
 use Rattle.bfs_tree.specs.Tree.{at_home}
 use Rattle.bfs_digest.specs.Digests.{digest_text}
 use Rattle.bfs_digest.proofs.Pieces.{Takes, fed_none, fed_more, fed_all}

@@ -1,5 +1,5 @@
 -- The fileids are the keys of the tree.
-use Rattle.std.proofs.Common.{map, flat_map, sym, ap, ◌∙◌}
+use Rattle.std.proofs.Common.{map, flat_map, ap, ◌∙◌}
 use Rattle.bfs_tree.specs.Tree.{at_home}
 use Rattle.bfs_digest.specs.Hashed.{hashed_at, hashed_text}
 use Rattle.bfs_digest.proofs.Hashed.{all_hashed}

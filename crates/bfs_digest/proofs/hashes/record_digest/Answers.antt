@@ -1,5 +1,5 @@
 -- The words in front, and then what the inode holds.
-use Rattle.std.proofs.Common.{◌≡◌, ◌++◌, [], ap, ◌∙◌}
+use Rattle.std.proofs.Common.{◌++◌, [], ap, ◌∙◌}
 use Rattle.sha2.specs.Sha256.{sha256}
 use Rattle.bfs_model.specs.Items.{words}
 use Rattle.bfs_model.specs.Tree.{Body}

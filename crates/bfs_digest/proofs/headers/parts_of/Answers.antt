@@ -1,5 +1,5 @@
 -- The inodes of a live file system are fewer than fileids.
-use Rattle.std.proofs.Common.{◌≡◌, ◌<◌, ◌^◌, Option, Some, sym, ap, ◌∙◌, arith}
+use Rattle.std.proofs.Common.{◌<◌, ◌^◌, arith}
 use Rattle.std.specs.FinMap.{len}
 use Rattle.bfs_tree.specs.Tree.{at_home}
 use Rattle.bfs_digest.proofs.Live.{few_inodes}

@@ -1,5 +1,5 @@
 -- Each entry is put behind those before it.
-use Rattle.std.proofs.Common.{◌++◌, sym, ap, ◌∙◌}
+use Rattle.std.proofs.Common.{◌++◌, ap, ◌∙◌}
 use Rattle.bfs_inode.specs.Records.{entry_text, entries_text}
 use Rattle.bfs_digest.proofs.Pieces.{put_more, put_all}
 use Rattle.bfs_digest.proofs.writers.put_entries.Goals as goal

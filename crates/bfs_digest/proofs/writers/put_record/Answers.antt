@@ -1,5 +1,5 @@
 -- The words in front, and then what the inode holds.
-use Rattle.std.proofs.Common.{◌≡◌, ◌++◌, Result, Ok, Err, sym, ap, ◌∙◌, append_assoc}
+use Rattle.std.proofs.Common.{◌++◌, Result, Ok, Err, ap, ◌∙◌, append_assoc}
 use Rattle.std.specs.Prelude.{OnOk}
 use Rattle.bfs_model.specs.Items.{words}
 use Rattle.bfs_model.specs.Tree.{Body}

@@ -1,5 +1,5 @@
 -- A name that the set had is that of an entry before.
-use Rattle.std.proofs.Common.{◌≡◌, ◌+◌, ◌++◌, ◌∷◌, [], true≢false, take, drop, sym, ap, subst, ◌∙◌, arith}
+use Rattle.std.proofs.Common.{◌+◌, true≢false, take, drop, sym, ap, subst, ◌∙◌, arith}
 use Rattle.bfs_model.specs.WellFormed.{NamesDiffer}
 use Rattle.bfs_inode.proofs.OrderLemmas.{AreNamesOf, one_more, repeated, with_next, whole_at}
 use Rattle.bfs_inode.proofs.directories.order.names_differ.Goals as goal

@@ -1,6 +1,6 @@
 -- A whole tree is well formed just if its root is a directory, its names are counted, and all ways lead to the root.
-use Rattle.std.proofs.Common.{◌≡◌, true≢false, IsTrue, Result, Ok, Err, sym, subst, ◌∙◌}
-use Rattle.std.specs.Prelude.{IfOk, ◌↔◌}
+use Rattle.std.proofs.Common.{true≢false, IsTrue, Result, Ok, Err, sym, subst, ◌∙◌}
+use Rattle.std.specs.Prelude.{IfOk}
 use Rattle.std.specs.FinMap.{get}
 use Rattle.bfs_model.specs.Tree.{is_directory, root_id}
 use Rattle.bfs_tree.specs.Tree.{at_home}

@@ -1,5 +1,5 @@
 -- The entry of the `BTreeMap` is put into the finite map.
-use Rattle.std.proofs.Common.{◌≡◌, ap, ◌∙◌, arith}
+use Rattle.std.proofs.Common.{ap, ◌∙◌, arith}
 use Rattle.std.specs.FinMap.{insert}
 use Rattle.bfs_tree.specs.Maps.{map_of}
 use Rattle.bfs_tree.proofs.MapLemmas.{map_of-inserts}

@@ -1,0 +1,84 @@
+ghost use Rattle.std.specs.Prelude.{◌≡◌, ◌≤◌, ◌↔◌, IfOk, IsErrOf};
+ghost use Rattle.bfs_model.specs.Tree.{spent_ordinal};
+ghost use Rattle.bfs_digest.specs.Outcomes.{HasOtherVersion, IsMalformed, IsRestored, SpellsIllFormed};
+ghost use Rattle.bfs_digest.specs.Taking.{AreRecords, BuildsFiles, IsText};
+
+use crate::errors::RestoreError;
+use crate::headers::{Header, VERSION};
+use crate::inodes::tree_of;
+use crate::numbering::are_numbered;
+use crate::readers::TextReader;
+use crate::spelling::spelled;
+use bfs_serial::FileSystem;
+use bfs_types::{Memory, Ordinal};
+use std::alloc::Global;
+
+/// The live file system of which the bytes are the text. `Malformed` if they don't begin with `BFSS`, `WrongVersion` if another version
+/// than 1 follows, `Malformed` if the rest spells no file system, `NotWellFormed` if it spells one that is not well formed, and `Memory`
+/// if memory runs out. Nothing is built of bytes that spell no file system, and of others no more than they spell; a text of n bytes
+/// takes at most n log n steps.
+pub fn restore(alloc: Global, bytes: &[u8]) -> Result<FileSystem, RestoreError>
+    ensures ok { IfOk result (λ files. IsRestored bytes.now files) }
+    ensures malformed { IsErrOf result RestoreError.Malformed ↔ IsMalformed bytes.now }
+    ensures wrong_version { IsErrOf result RestoreError.WrongVersion ↔ HasOtherVersion bytes.now }
+    ensures ill_formed { IsErrOf result RestoreError.NotWellFormed → SpellsIllFormed bytes.now }
+{
+    match text_of(bytes) {
+        Ok((header, records)) => match files_of(alloc, &header, records)? {
+            Some(files) => Ok(files),
+            None => Err(RestoreError::NotWellFormed),
+        },
+        Err(refused) => Err(refused),
+    }
+}
+
+// the header and the records that the bytes spell
+fn text_of(bytes: &[u8]) -> Result<(Header, &[u8]), RestoreError>
+    ensures ok { IfOk result (λ text. IsText bytes.now text.0 text.1.now) }
+    ensures records { IfOk result (λ text. AreRecords text.0 text.1.now) }
+    ensures malformed { IsErrOf result RestoreError.Malformed ↔ IsMalformed bytes.now }
+    ensures wrong_version { IsErrOf result RestoreError.WrongVersion ↔ HasOtherVersion bytes.now }
+    ensures no_other { IsErrOf result RestoreError.NotWellFormed → ⊥ }
+{
+    let mut reader = TextReader::new(bytes);
+    let Ok(version) = reader.version() else {
+        return Err(RestoreError::Malformed);
+    };
+    if version != VERSION {
+        return Err(RestoreError::WrongVersion);
+    }
+    match spelled(&mut reader) {
+        Ok(text) => Ok(text),
+        Err(_) => Err(RestoreError::Malformed),
+    }
+}
+
+// the file system of the records, or `None` if it is not well formed
+fn files_of(alloc: Global, header: &Header, records: &[u8]) -> Result<Option<FileSystem>, Memory>
+    requires { AreRecords header.now records.now }
+    ensures { IfOk result (λ files. BuildsFiles files header.now records.now) }
+{
+    match tree_of(alloc, records, header.count)? {
+        Some(tree) => {
+            if !are_numbered(&tree, header.next_ordinal) {
+                return Ok(None);
+            }
+            if !tree.is_well_formed(alloc)? {
+                return Ok(None);
+            }
+            let ordinal = ordinal_of(header.next_ordinal);
+            Ok(Some(FileSystem::from_parts(tree, ordinal, header.last_time)))
+        }
+        None => Ok(None),
+    }
+}
+
+fn ordinal_of(number: u64) -> Ordinal
+    requires { number ≤ spent_ordinal }
+    ensures { result ≡ number }
+{
+    match Ordinal::new(number) {
+        Some(ordinal) => ordinal,
+        None => Ordinal::first(),
+    }
+}
