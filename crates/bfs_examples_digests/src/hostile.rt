@@ -1,7 +1,6 @@
 //! Texts that no file system has, and the number by which each is refused.
 use crate::texts::{NEW, SOME, bytes_of, refusal};
 use bfs_testing::same;
-use bfs_xdr::put_words;
 use std::alloc::Global;
 use std::process::Abort;
 use std::test::Fail;
@@ -9,11 +8,11 @@ use std::test::Fail;
 // the text with a word in the place of one
 fn with_word(alloc: Global, text: &str, place: usize, word: u32) -> Result<Vec<u8>, Fail> {
     let mut bytes = bytes_of(alloc, text)?;
-    let mut words = Vec::new(alloc);
-    put_words(&mut words, &[word])?;
+    let word = word.to_be_bytes();
     for offset in 0..4 {
-        if place + offset < bytes.len() && offset < words.len() {
-            bytes.as_mut_slice()[place + offset] = words.as_slice()[offset];
+        let at = place.saturating_add(offset);
+        if at < bytes.len() {
+            bytes.as_mut_slice()[at] = word[offset];
         }
     }
     Ok(bytes)

@@ -1,4 +1,6 @@
 //! Generated batches of requests on few inodes and few names, so that most conflict.
+ghost use Rattle.std.specs.Prelude.{◌<◌};
+
 use crate::batches::{batch_of, by_each_engine};
 use crate::requests::Asked;
 use bfs_serial::Batch;
