@@ -30,6 +30,7 @@ fn replay<R: Runtime + AllocGlobal + Threads + Sync, W: Write + Drop>(
         .map_err(|error| memory_or(error, Failure::Usage))?
         .collect(alloc)
         .map_err(|_| Failure::Memory)?;
+    // by `match`, since the prover's borrow checker has no rule for these options by value, as `?` takes them
     let options = match options(alloc, words.as_slice()) {
         Ok(options) => options,
         Err(error) => return Err(Failure::from(error)),
