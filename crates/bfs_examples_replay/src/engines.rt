@@ -76,7 +76,11 @@ fn output<R: AllocGlobal + Threads + Sync>(
 }
 
 /// Whether a trace prints that text, whatever executes it.
-fn prints<R: AllocGlobal + Threads + Sync>(rt: &R, text: &[u8], wanted: &[u8]) -> Result<bool, Fail> {
+fn prints<R: AllocGlobal + Threads + Sync>(
+    rt: &R,
+    text: &[u8],
+    wanted: &[u8],
+) -> Result<bool, Fail> {
     if output(rt, text, 4, None)?.as_slice() != wanted {
         return Ok(false);
     }
