@@ -1,5 +1,5 @@
 -- Two requests, of which none conflicts with the other, may be split off.
-use Rattle.std.proofs.Common.{◌≡◌, ℕ, false, List, [], ◌∷◌, Some, length, refl, ap, sym, subst, ◌∙◌, arith, unwrap_or}
+use Rattle.std.proofs.Common.{◌≡◌, ℕ, false, List, [], ◌∷◌, Some, length, take, refl, ap, sym, subst, ◌∙◌, arith, unwrap_or}
 use Rattle.std.specs.Prelude.{All, slice_get}
 use Rattle.std.proofs.lemmas.List.Elements.{All-from_recursion}
 use Rattle.bfs_model.specs.Tree.{Time}
@@ -12,8 +12,9 @@ use Rattle.bfs_model.proofs.WellFormed.Numbered.{fresh_where_numbered, numbered_
 use Rattle.bfs_serial.specs.Held.{held}
 use Rattle.bfs_tree.specs.Slots.{Slots}
 use Rattle.bfs_tree.specs.Tree.{at_home}
-use Rattle.bfs_handover.specs.Splitting.{CanBeSplit, IsSplit, footprints_for, part_of}
+use Rattle.bfs_handover.specs.Splitting.{CanBeSplit, IsFoundOn, IsSplit, footprints_for, part_of}
 use Rattle.bfs_handover.specs.declared.job.Job.{Job}
+use Rattle.bfs_handover.proofs.SplitLemmas.{found}
 use Rattle.bfs_examples_workers.specs.Both.{AreSplit}
 
 two_requests : (requests : List (List ℕ)) (one two : List ℕ) → length requests ≡ 2 → slice_get requests 0 ≡ Some one → slice_get requests 1 ≡ Some two → requests ≡ one ∷ two ∷ []
@@ -21,6 +22,12 @@ two_requests [] one two count first second = absurd (omega arith)
 two_requests (x ∷ []) one two count first second = absurd (omega arith)
 two_requests (x ∷ y ∷ []) one two count first second = ap (λ o. unwrap_or o x ∷ y ∷ []) first ∙ ap (λ o. one ∷ unwrap_or o y ∷ []) second
 two_requests (x ∷ y ∷ z ∷ rest) one two count first second = absurd (omega arith)
+
+all_taken : (requests : List (List ℕ)) → length requests ≡ 2 → take 2 requests ≡ requests
+all_taken [] count = absurd (omega arith)
+all_taken (x ∷ []) count = absurd (omega arith)
+all_taken (x ∷ y ∷ []) count = refl
+all_taken (x ∷ y ∷ z ∷ rest) count = absurd (omega arith)
 
 -- the footprints of two requests, each found under its ordinal
 pub footprints_found : (tree : Slots) (ordinal next : ℕ) (time : Time) (requests : List (List ℕ)) (one two : List ℕ) (first second : Footprint) → length requests ≡ 2 → slice_get requests 0 ≡ Some one
@@ -53,6 +60,14 @@ module _ (tree : Slots) (ordinal : ℕ) (time : Time) (requests : List (List ℕ
           },
           tt,
         ),
+      )
+
+  pub are_found : length requests ≡ 2 → footprints_at (at_home tree) ordinal time requests ≡ both → All (IsFoundOn (at_home tree) (part_of 0 ordinal time requests both)) (0 ∷ 1 ∷ [])
+  are_found count all =
+      let on : both ≡ footprints_at (at_home tree) ordinal time (take 2 requests) = sym all ∙ ap (footprints_at (at_home tree) ordinal time) (sym (all_taken requests count)) in
+      All-from_recursion (IsFoundOn (at_home tree) (part_of 0 ordinal time requests both)) (0 ∷ 1 ∷ []) (
+        found (at_home tree) time 0 ordinal 2 0 requests both formed.ordinal.1 on (omega arith) (omega arith),
+        (found (at_home tree) time 0 ordinal 2 1 requests both formed.ordinal.1 on (omega arith) (omega arith), tt),
       )
 
   apart : AreDisjoint (footprints_for (part_of 0 ordinal time requests both) (0 ∷ 1 ∷ []))
