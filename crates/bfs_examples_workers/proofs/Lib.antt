@@ -1,3 +1,1 @@
 pub mod Nothing
-pub mod Out
-pub mod Parts

@@ -1,2 +1,0 @@
--- What the contracts of tests cite.
-pub mod Both
