@@ -128,7 +128,7 @@ fn touches(
     let mut touches = Vec::new(alloc);
     let mut ordinal = ordinal;
     for index in first..batch.len() {
-        touches.push(touch_of(alloc, tree, ordinal, batch.time(), batch.request(index))?)?;
+        touches.push(touch_of(tree, ordinal, batch.time(), batch.request(index)))?;
         ordinal = ordinal.next();
     }
     Ok(touches)

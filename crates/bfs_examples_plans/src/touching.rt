@@ -21,7 +21,7 @@ fn touched_by(alloc: Global, call: &NfsCall) -> Result<Footprint, Fail> {
         time: Time::epoch(),
         caller: NOBODY,
     };
-    Ok(footprint(alloc, &tree, &context, call)?)
+    Ok(footprint(&tree, &context, call))
 }
 
 #[test]
@@ -31,13 +31,7 @@ fn a_file_is_made_where_none_is_read(rt: HostRuntime) -> Result<(), Fail> {
     let mut bytes = call(alloc, 1, CREATE)?;
     put_parts(&mut bytes, &[ROOT, A, UNSET])?;
     let tree = Tree::new(alloc)?;
-    let made = touch_of(
-        alloc,
-        &tree,
-        Ordinal::first(),
-        Time::epoch(),
-        bytes.as_slice(),
-    )?;
+    let made = touch_of(&tree, Ordinal::first(), Time::epoch(), bytes.as_slice());
     holds!(rt; made.footprint.writes(root));
     holds!(rt; made.resolved == ResolvedIn::nowhere());
     let read = touched_by(alloc, &NfsCall::GetAttr { file: Some(root) })?;
@@ -64,13 +58,7 @@ fn a_name_is_resolved_in_its_directory(rt: HostRuntime) -> Result<(), Fail> {
     let mut bytes = call(alloc, 1, LOOKUP)?;
     put_parts(&mut bytes, &[ROOT, A])?;
     let tree = Tree::new(alloc)?;
-    let touch = touch_of(
-        alloc,
-        &tree,
-        Ordinal::first(),
-        Time::epoch(),
-        bytes.as_slice(),
-    )?;
+    let touch = touch_of(&tree, Ordinal::first(), Time::epoch(), bytes.as_slice());
     holds!(rt; touch.resolved.first == root);
     Ok(())
 }
@@ -80,6 +68,6 @@ fn statfs_touches_all(rt: HostRuntime) -> Result<(), Fail> {
     let alloc = rt.alloc();
     let all = touched_by(alloc, &NfsCall::FileSystemStatus { file: None })?;
     holds!(rt; all.is_whole());
-    holds!(rt; conflicts(&all, &Footprint::none(alloc)));
+    holds!(rt; conflicts(&all, &Footprint::none()));
     Ok(())
 }

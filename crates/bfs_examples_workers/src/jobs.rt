@@ -48,7 +48,7 @@ fn job_of<'a>(alloc: Global, tree: &Tree, number: u32, request: &'a [u8]) -> Res
 {
     let ordinal = Ordinal::first();
     let time = Time::new(1, 0).ok_or("a time")?;
-    let touch = touch_of(alloc, tree, ordinal, time, request)?;
+    let touch = touch_of(tree, ordinal, time, request);
     if !is_none(&touch.footprint) {
         return Err("a request that touches an inode".into());
     }

@@ -1,8 +1,9 @@
-ghost use Rattle.std.specs.Prelude.{◌≡◌, IfOk, IsTrue};
+ghost use Rattle.std.specs.Prelude.{◌≡◌, ◌++◌, IsTrue};
 ghost use Rattle.std.specs.Option.{option_copied};
 ghost use Rattle.std.specs.FinMap.{get};
 ghost use Rattle.bfs_model.specs.Arguments.{rename};
 ghost use Rattle.bfs_model.specs.Footprints as model;
+ghost use Rattle.bfs_model.specs.Footprints.{ids_in};
 ghost use Rattle.bfs_model.specs.Tree.{listing_at};
 ghost use Rattle.bfs_wire.specs.Calls.{call_seen};
 ghost use Rattle.bfs_tree.specs.Tree.{at_home, reach_of};
@@ -12,74 +13,80 @@ use crate::file_ids::FileIds;
 use crate::footprints::Footprint;
 use bfs_inode::Directory;
 use bfs_tree::{Store, Tree, is_directory};
-use bfs_types::{Context, FileId, Memory};
+use bfs_types::{Context, FileId};
 use bfs_wire::NfsCall;
-use std::alloc::Global;
 
-/// What a call reads and writes, found on the inodes before it. The tree is whole. `Memory` if memory runs out.
-pub fn footprint(
-    alloc: Global,
-    tree: &Tree,
-    context: &Context,
-    call: &NfsCall,
-) -> Result<Footprint, Memory>
+/// What a call reads and writes, found on the inodes before it. The tree is whole. It takes no memory.
+pub fn footprint(tree: &Tree, context: &Context, call: &NfsCall) -> Footprint
     requires whole { IsTrue ((reach_of tree.now).whole) }
-    ensures { IfOk result (λ footprint. footprint_seen footprint ≡ model.footprint (at_home tree.now) context.now (call_seen call.now)) }
+    ensures { footprint_seen result ≡ model.footprint (at_home tree.now) context.now (call_seen call.now) }
 {
-    let none = FileIds::none(alloc);
     match *call {
-        NfsCall::Null | NfsCall::Root | NfsCall::WriteCache => Ok(Footprint::none(alloc)),
+        NfsCall::Null | NfsCall::Root | NfsCall::WriteCache => Footprint::none(),
         NfsCall::GetAttr { file } | NfsCall::ReadLink { file } | NfsCall::Read { file, .. } => {
-            Ok(Footprint::of_reads(alloc, none.with(file)?))
+            Footprint::of_reads(FileIds::of(file, None))
         }
         NfsCall::SetAttr { file, .. } | NfsCall::Write { file, .. } => {
-            Ok(Footprint::of_writes(alloc, none.with(file)?))
+            Footprint::of_writes(FileIds::of(file, None))
         }
         NfsCall::LookUp { dir, name } => {
-            Ok(Footprint::of_reads(alloc, none.with(dir)?.with(id_found(tree, dir, name))?))
+            let directory = dir;
+            Footprint::of_reads(FileIds::of(directory, id_found(tree, dir, name)))
         }
         NfsCall::Create { dir, .. }
         | NfsCall::SymbolicLink { dir, .. }
         | NfsCall::MakeDirectory { dir, .. } => {
-            Ok(Footprint::of_writes(alloc, none.with(dir)?.with(context.ordinal.file_id())?))
+            Footprint::of_writes(FileIds::of(dir, context.ordinal.file_id()))
         }
         NfsCall::Remove { dir, name } | NfsCall::RemoveDirectory { dir, name } => {
-            Ok(Footprint::of_writes(alloc, none.with(dir)?.with(child_at(tree, dir, name))?))
+            let directory = dir;
+            Footprint::of_writes(FileIds::of(directory, child_at(tree, dir, name)))
         }
         NfsCall::Rename {
             from,
             from_name,
             to,
             to_name,
-        } => of_rename(alloc, tree, context, from, from_name, to, to_name),
-        NfsCall::Link { file, dir, .. } => {
-            Ok(Footprint::of_writes(alloc, none.with(file)?.with(dir)?))
-        }
-        NfsCall::ReadDirectory { dir, .. } => Ok(Footprint::of_reads(alloc, none.with(dir)?)),
-        NfsCall::FileSystemStatus { .. } => Ok(Footprint::Whole),
+        } => of_rename(tree, context, from, from_name, to, to_name),
+        NfsCall::Link { file, dir, .. } => Footprint::of_writes(FileIds::of(file, dir)),
+        NfsCall::ReadDirectory { dir, .. } => Footprint::of_reads(FileIds::of(dir, None)),
+        NfsCall::FileSystemStatus { .. } => Footprint::Whole,
     }
 }
 
 fn of_rename(
-    alloc: Global,
     tree: &Tree,
     context: &Context,
     from: Option<FileId>,
     from_name: &[u8],
     to: Option<FileId>,
     to_name: &[u8],
-) -> Result<Footprint, Memory>
+) -> Footprint
     requires whole { IsTrue ((reach_of tree.now).whole) }
-    ensures { IfOk result (λ footprint. footprint_seen footprint ≡ model.footprint (at_home tree.now) context.now (rename from from_name.now to to_name.now)) }
+    ensures { footprint_seen result ≡ model.footprint (at_home tree.now) context.now (rename from from_name.now to to_name.now) }
 {
-    if moves_a_directory(tree, from, from_name, to) {
-        return Ok(Footprint::Whole);
+    let (source, target) = (from, to);
+    if moves_a_directory(tree, source, from_name, target) {
+        return Footprint::Whole;
     }
-    let moved = child_at(tree, from, from_name);
-    let replaced = child_at(tree, to, to_name);
-    let directories = FileIds::none(alloc).with(from)?.with(to)?;
-    let writes = directories.with(moved)?.with(replaced)?;
-    Ok(Footprint::of_writes(alloc, writes))
+    Footprint::of_writes(ids_renamed(tree, from, from_name, to, to_name))
+}
+
+// both directories, what is moved, and what it replaces
+fn ids_renamed(
+    tree: &Tree,
+    from: Option<FileId>,
+    from_name: &[u8],
+    to: Option<FileId>,
+    to_name: &[u8],
+) -> FileIds
+    requires whole { IsTrue ((reach_of tree.now).whole) }
+    ensures { result ≡ (ids_in from ++ ids_in to) ++ ids_in (model.child_at (at_home tree.now) from from_name.now) ++ ids_in (model.child_at (at_home tree.now) to to_name.now) }
+{
+    let (source, target) = (from, to);
+    let moved = child_at(tree, source, from_name);
+    let replaced = child_at(tree, target, to_name);
+    FileIds::of(from, to).with(moved).with(replaced)
 }
 
 #[tactic(auto, using(bfs_tree::specs::Knowing::knows_all))]

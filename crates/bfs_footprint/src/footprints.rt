@@ -6,7 +6,6 @@ ghost use Rattle.bfs_footprint.specs.Seen.{footprint_seen};
 
 use crate::file_ids::FileIds;
 use bfs_types::FileId;
-use std::alloc::Global;
 
 /// The inodes that a call reads and those that it writes, by their fileids. What is written may be read.
 #[derive(Debug, Drop)]
@@ -19,29 +18,29 @@ pub enum Footprint {
 
 impl Footprint {
     /// That of a call that reads and writes nothing.
-    pub fn none(alloc: Global) -> Footprint
+    pub fn none() -> Footprint
         ensures { footprint_seen result ≡ model.known [] [] }
     {
         Footprint::Known {
-            reads: FileIds::none(alloc),
-            writes: FileIds::none(alloc),
+            reads: FileIds::none(),
+            writes: FileIds::none(),
         }
     }
 
-    pub(crate) fn of_reads(alloc: Global, reads: FileIds) -> Footprint
+    pub(crate) fn of_reads(reads: FileIds) -> Footprint
         ensures { footprint_seen result ≡ model.known reads [] }
     {
         Footprint::Known {
             reads,
-            writes: FileIds::none(alloc),
+            writes: FileIds::none(),
         }
     }
 
-    pub(crate) fn of_writes(alloc: Global, writes: FileIds) -> Footprint
+    pub(crate) fn of_writes(writes: FileIds) -> Footprint
         ensures { footprint_seen result ≡ model.known [] writes }
     {
         Footprint::Known {
-            reads: FileIds::none(alloc),
+            reads: FileIds::none(),
             writes,
         }
     }

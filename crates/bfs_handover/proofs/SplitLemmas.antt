@@ -122,12 +122,12 @@ apart_from_all f (g ∷ gs) q all is =
 
 pub all_out_is : (ps : List Prepared) (s : Slots) → all_out ps s ≡ lent_out (all_ids ps) s
 all_out_is [] s = refl
-all_out_is (p ∷ ps) s = all_out_is ps (lent_out p.ids.items s) ∙ sym (out_both p.ids.items (all_ids ps) s)
+all_out_is (p ∷ ps) s = all_out_is ps (lent_out p.ids s) ∙ sym (out_both p.ids (all_ids ps) s)
 
-pub places_more : (ps : List Prepared) (p : Prepared) (s : Slots) → reserved_all (all_ids (ps ++ p ∷ [])) s ≡ reserved_all p.ids.items (reserved_all (all_ids ps) s)
-places_more [] p s = reserved_both p.ids.items [] s
+pub places_more : (ps : List Prepared) (p : Prepared) (s : Slots) → reserved_all (all_ids (ps ++ p ∷ [])) s ≡ reserved_all p.ids (reserved_all (all_ids ps) s)
+places_more [] p s = reserved_both p.ids [] s
 places_more (first ∷ ps) p s =
-    reserved_both first.ids.items (all_ids (ps ++ p ∷ [])) s ∙ places_more ps p (reserved_all first.ids.items s) ∙ ap (reserved_all p.ids.items) (sym (reserved_both first.ids.items (all_ids ps) s))
+    reserved_both first.ids (all_ids (ps ++ p ∷ [])) s ∙ places_more ps p (reserved_all first.ids s) ∙ ap (reserved_all p.ids) (sym (reserved_both first.ids (all_ids ps) s))
 
 module _ (part : Part) where
   moved_are : (numbers : List ℕ) (ps : List Prepared) (q : ℕ) → AllZip (IsPrepared part) numbers ps → among (all_ids ps) q ≡ among (all_moved (footprints_for part numbers)) q
@@ -135,25 +135,25 @@ module _ (part : Part) where
   moved_are [] (p ∷ ps) q all = absurd all
   moved_are (n ∷ ns) [] q all = absurd all
   moved_are (n ∷ ns) (p ∷ ps) q all =
-      among_both p.ids.items (all_ids ps) q
+      among_both p.ids (all_ids ps) q
       ∙ ap (λ b. b || among (all_ids ps) q) (all.0.ids.same q)
       ∙ ap (λ b. among (moved_for (footprint_for part n)) q || b) (moved_are ns ps q all.1)
       ∙ sym (among_both (moved_for (footprint_for part n)) (all_moved (footprints_for part ns)) q)
 
-  first_apart : (n : ℕ) (ns : List ℕ) (p : Prepared) (ps : List Prepared) (q : ℕ) → AllZip (IsPrepared part) (n ∷ ns) (p ∷ ps) → AreDisjoint (footprints_for part (n ∷ ns)) → among p.ids.items q ≡ true → among (all_ids ps) q ≡ false
+  first_apart : (n : ℕ) (ns : List ℕ) (p : Prepared) (ps : List Prepared) (q : ℕ) → AllZip (IsPrepared part) (n ∷ ns) (p ∷ ps) → AreDisjoint (footprints_for part (n ∷ ns)) → among p.ids q ≡ true → among (all_ids ps) q ≡ false
   first_apart n ns p ps q all disjoint is = moved_are ns ps q all.1 ∙ apart_from_all (footprint_for part n) (footprints_for part ns) q disjoint.0 (sym (all.0.ids.same q) ∙ is)
 
   all_distinct : (numbers : List ℕ) (ps : List Prepared) → AllZip (IsPrepared part) numbers ps → AreDisjoint (footprints_for part numbers) → AreDistinct (all_ids ps)
   all_distinct [] [] all disjoint = tt
   all_distinct [] (p ∷ ps) all disjoint = absurd all
   all_distinct (n ∷ ns) [] all disjoint = absurd all
-  all_distinct (n ∷ ns) (p ∷ ps) all disjoint = distinct_both p.ids.items (all_ids ps) all.0.ids.distinct (all_distinct ns ps all.1 disjoint.1) (λ q is. first_apart n ns p ps q all disjoint is)
+  all_distinct (n ∷ ns) (p ∷ ps) all disjoint = distinct_both p.ids (all_ids ps) all.0.ids.distinct (all_distinct ns ps all.1 disjoint.1) (λ q is. first_apart n ns p ps q all disjoint is)
 
   ready_each : (numbers : List ℕ) (ps : List Prepared) (s : Slots) → AllZip (IsPrepared part) numbers ps → AreAtHome s (all_ids ps) → AreReady s ps
   ready_each [] [] s all home = tt
   ready_each [] (p ∷ ps) s all home = absurd all
   ready_each (n ∷ ns) [] s all home = absurd all
-  ready_each (n ∷ ns) (p ∷ ps) s all home = let both = at_home_both p.ids.items (all_ids ps) s home in (both.0, all.0.empty, all.0.room, ready_each ns ps (lent_out p.ids.items s) all.1 both.1)
+  ready_each (n ∷ ns) (p ∷ ps) s all home = let both = at_home_both p.ids (all_ids ps) s home in (both.0, all.0.empty, all.0.room, ready_each ns ps (lent_out p.ids s) all.1 both.1)
 
 -- a share is the same as all inodes where its call looks
 pub share_seen : (m : Inodes) (f : Footprint) (fs : List Footprint) → ((q : ℕ) → is_touched f q ≡ true → is_there fs f q ≡ true) → AgreeOn f m (share_of m (without (all_moved fs) m) f)
@@ -172,24 +172,24 @@ share_seen m f fs there q touched = get-closed f m (without (all_moved fs) m) q 
 -- What comes of it -----------------------------------------------------------------------------------------------------------
 
 module _ (old new : Slots) (part : Part) where
-  job_is : (number : ℕ) (p : Prepared) (s : Slots) → IsPrepared part number p → is_whole (footprint_for part number) ≡ false → ((q : ℕ) → among p.ids.items q ≡ true → get (at_home s) q ≡ get (at_home old) q) → IsJobOf old new part number (job_of p s)
+  job_is : (number : ℕ) (p : Prepared) (s : Slots) → IsPrepared part number p → is_whole (footprint_for part number) ≡ false → ((q : ℕ) → among p.ids q ≡ true → get (at_home s) q ≡ get (at_home old) q) → IsJobOf old new part number (job_of p s)
   job_is number p s is not_whole same = record {
     number_is = is.number_is;
     request = is.request;
     ordinal = is.ordinal;
     time = is.time;
     share = same_inodes _ _ (λ q.
-        get-put_in (taken p.ids.items s) (at_home new) q
-        ∙ ap (λ ids. cond (among ids q) (loaned (taken p.ids.items s) q) (get (at_home new) q)) (ids_taken p.ids.items s)
-        ∙ by_test q (among p.ids.items q) refl
+        get-put_in (taken p.ids s) (at_home new) q
+        ∙ ap (λ ids. cond (among ids q) (loaned (taken p.ids s) q) (get (at_home new) q)) (ids_taken p.ids s)
+        ∙ by_test q (among p.ids q) refl
         ∙ ap (λ b. cond b (get (at_home old) q) (get (at_home new) q)) (is.ids.same q ∙ written_is_moved (footprint_for part number) q not_whole)
         ∙ sym (get-closed (footprint_for part number) (at_home old) (at_home new) q));
-    ids = λ q. ap (λ ids. among ids q) (ids_taken p.ids.items s) ∙ is.ids.same q;
-    distinct = subst AreDistinct (sym (ids_taken p.ids.items s)) is.ids.distinct;
+    ids = λ q. ap (λ ids. among ids q) (ids_taken p.ids s) ∙ is.ids.same q;
+    distinct = subst AreDistinct (sym (ids_taken p.ids s)) is.ids.distinct;
   }
     where
-      by_test : (q : ℕ) (b : Bool) → among p.ids.items q ≡ b → cond b (loaned (taken p.ids.items s) q) (get (at_home new) q) ≡ cond b (get (at_home old) q) (get (at_home new) q)
-      by_test q true e = loaned_taken p.ids.items s q e ∙ same q e
+      by_test : (q : ℕ) (b : Bool) → among p.ids q ≡ b → cond b (loaned (taken p.ids s) q) (get (at_home new) q) ≡ cond b (get (at_home old) q) (get (at_home new) q)
+      by_test q true e = loaned_taken p.ids s q e ∙ same q e
       by_test q false e = refl
 
   each_job : (numbers : List ℕ) (ps : List Prepared) (s : Slots) → AllZip (IsPrepared part) numbers ps → AreDisjoint (footprints_for part numbers) → AllByRecursion (CanBeSplit (at_home old) part) numbers
@@ -198,11 +198,11 @@ module _ (old new : Slots) (part : Part) where
   each_job [] (p ∷ ps) s all disjoint can same = absurd all
   each_job (n ∷ ns) [] s all disjoint can same = absurd all
   each_job (n ∷ ns) (p ∷ ps) s all disjoint can same = (
-    job_is n p s all.0 can.0.known (λ q is. same q (among_both p.ids.items (all_ids ps) q ∙ or_left (among p.ids.items q) (among (all_ids ps) q) is)),
-    each_job ns ps (lent_out p.ids.items s) all.1 disjoint.1 can.1 (λ q is.
-        home_out p.ids.items s q
-        ∙ ap (λ b. cond b None (get (at_home s) q)) (false_from_ne_true (among p.ids.items q) (λ both. true≢false (sym is ∙ first_apart part n ns p ps q all disjoint both)))
-        ∙ same q (among_both p.ids.items (all_ids ps) q ∙ or_right (among p.ids.items q) (among (all_ids ps) q) is)),
+    job_is n p s all.0 can.0.known (λ q is. same q (among_both p.ids (all_ids ps) q ∙ or_left (among p.ids q) (among (all_ids ps) q) is)),
+    each_job ns ps (lent_out p.ids s) all.1 disjoint.1 can.1 (λ q is.
+        home_out p.ids s q
+        ∙ ap (λ b. cond b None (get (at_home s) q)) (false_from_ne_true (among p.ids q) (λ both. true≢false (sym is ∙ first_apart part n ns p ps q all disjoint both)))
+        ∙ same q (among_both p.ids (all_ids ps) q ∙ or_right (among p.ids q) (among (all_ids ps) q) is)),
   )
 
   -- What can be run ------------------------------------------------------------------------------------------------------------

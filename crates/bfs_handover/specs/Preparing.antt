@@ -30,27 +30,27 @@ pub record IsPrepared (part : Part) (number : ℕ) (one : Prepared) : Type 0 whe
   pub request : one.request.now ≡ request_of part number
   pub ordinal : one.ordinal ≡ ordinal_of part number
   pub time : one.time ≡ part.time
-  pub ids : AreOnce one.ids.items (moved_for (footprint_for part number))
+  pub ids : AreOnce one.ids (moved_for (footprint_for part number))
   pub empty : one.room.items ≡ []
-  pub room : length one.ids.items ≤ vec_capacity one.room
+  pub room : length one.ids ≤ vec_capacity one.room
 
 abbrev pub all_ids : List Prepared → List ℕ
 all_ids [] = []
-all_ids (one ∷ others) = one.ids.items ++ all_ids others
+all_ids (one ∷ others) = one.ids ++ all_ids others
 
 -- the inodes of each are at home, when those before are out, and there is room for them
 abbrev pub AreReady : Slots → List Prepared → Type 0
 AreReady slots [] = ⊤
-AreReady slots (one ∷ others) = AreAtHome slots one.ids.items × (one.room.items ≡ []) × (length one.ids.items ≤ vec_capacity one.room) × AreReady (lent_out one.ids.items slots) others
+AreReady slots (one ∷ others) = AreAtHome slots one.ids × (one.room.items ≡ []) × (length one.ids ≤ vec_capacity one.room) × AreReady (lent_out one.ids slots) others
 
 -- the tree when the inodes of all are out
 abbrev pub all_out : List Prepared → Slots → Slots
 all_out [] slots = slots
-all_out (one ∷ others) slots = all_out others (lent_out one.ids.items slots)
+all_out (one ∷ others) slots = all_out others (lent_out one.ids slots)
 
 abbrev pub job_of : Prepared → Slots → Job
-job_of one slots = record { number = one.number; request = one.request; ordinal = one.ordinal; time = one.time; inodes = taken one.ids.items slots }
+job_of one slots = record { number = one.number; request = one.request; ordinal = one.ordinal; time = one.time; inodes = taken one.ids slots }
 
 abbrev pub jobs_of : List Prepared → Slots → List Job
 jobs_of [] slots = []
-jobs_of (one ∷ others) slots = job_of one slots ∷ jobs_of others (lent_out one.ids.items slots)
+jobs_of (one ∷ others) slots = job_of one slots ∷ jobs_of others (lent_out one.ids slots)

@@ -1,6 +1,5 @@
-ghost use Rattle.std.specs.Prelude.{◌≡◌, ◌≤◌, ◌==◌, [], ◌∷◌, All, IfOk, IsTrue, OnErr, length, map, vec_capacity};
-ghost use Rattle.std.specs.List.{AllZip, list_any};
-ghost use Rattle.bfs_model.specs.Conflicts.{among};
+ghost use Rattle.std.specs.Prelude.{◌≡◌, ◌≤◌, [], ◌∷◌, All, IfOk, IsTrue, OnErr, length, map, vec_capacity};
+ghost use Rattle.std.specs.List.{AllZip};
 ghost use Rattle.bfs_model.specs.Groups.{AreDisjoint};
 ghost use Rattle.bfs_model.specs.Shares.{moved_for};
 ghost use Rattle.bfs_footprint.specs.Seen.{footprint_seen};
@@ -12,10 +11,10 @@ ghost use Rattle.bfs_handover.specs.Preparing.{AreOnce, AreReady, IsPrepared, Is
 use crate::job::Job;
 use crate::loans::Loan;
 use crate::moves::{reserve, take};
-use bfs_footprint::Footprint;
+use bfs_footprint::{FileIds, Footprint};
 use bfs_serial::Batch;
 use bfs_tree::Tree;
-use bfs_types::{FileId, Memory, Ordinal, Time};
+use bfs_types::{Memory, Ordinal, Time};
 use std::alloc::Global;
 
 /// Takes out of the tree what the requests of these numbers write, and makes a job of each. The footprints are of the batch's requests
@@ -98,7 +97,7 @@ struct Prepared<'a> {
     request: &'a [u8],
     ordinal: Ordinal,
     time: Time,
-    ids: Vec<FileId>,
+    ids: FileIds,
     // for their inodes
     room: Vec<Loan>,
 }
@@ -132,13 +131,13 @@ fn prepare<'a>(
 ) -> Result<Prepared<'a>, Memory>
     requires { IsWithin (length part.now.batch.now.requests) (part_seen part.now) number }
     ensures prepared { IfOk result (λ one. IsPrepared (part_seen part.now) number one) }
-    ensures places { IfOk result (λ one. tree.new ≡ reserved_all one.ids.items tree.old) }
+    ensures places { IfOk result (λ one. tree.new ≡ reserved_all one.ids tree.old) }
     ensures home { at_home tree.new ≡ at_home tree.old }
     ensures lent { lent tree.new ≡ lent tree.old }
 {
     let place = number as usize - part.first;
-    let ids = written(alloc, &part.footprints[place])?;
-    let room = Vec::with_capacity(alloc, ids.len())?;
+    let ids = written(&part.footprints[place]);
+    let room = Vec::with_capacity(alloc, ids.as_slice().len())?;
     reserve(tree, ids.as_slice())?;
     Ok(Prepared {
         number,
@@ -151,38 +150,26 @@ fn prepare<'a>(
 }
 
 // The fileids that are written, each once.
-fn written(alloc: Global, footprint: &Footprint) -> Result<Vec<FileId>, Memory>
-    ensures { IfOk result (λ ids. AreOnce ids.items (moved_for (footprint_seen footprint.now))) }
+fn written(footprint: &Footprint) -> FileIds
+    ensures { AreOnce result (moved_for (footprint_seen footprint.now)) }
 {
     match footprint {
-        Footprint::Known { writes, .. } => distinct(alloc, writes.as_slice()),
-        Footprint::Whole => Ok(Vec::new(alloc)),
+        Footprint::Known { writes, .. } => distinct(writes),
+        Footprint::Whole => FileIds::none(),
     }
 }
 
 // These fileids, each once: there are four at most, so each is looked for among those before it.
-fn distinct(alloc: Global, ids: &[FileId]) -> Result<Vec<FileId>, Memory>
-    ensures { IfOk result (λ once. AreOnce once.items ids.now) }
+fn distinct(ids: &FileIds) -> FileIds
+    ensures { AreOnce result ids.now }
 {
-    let mut once = Vec::new(alloc);
-    for id in ids {
-        if !is_among(once.as_slice(), *id) {
-            once.push(*id)?;
+    let mut once = FileIds::none();
+    for id in ids.as_slice() {
+        if !once.has(*id) {
+            once = once.and(*id);
         }
     }
-    Ok(once)
-}
-
-fn is_among(ids: &[FileId], id: FileId) -> bool
-    ensures { result ≡ among ids.now id }
-{
-    is_any(ids, id)
-}
-
-fn is_any(ids: &[FileId], id: FileId) -> bool
-    ensures { result ≡ list_any (λ other. other == id) ids.now }
-{
-    ids.iter().any(|other| *other == id)
+    once
 }
 
 // Takes the inodes of all jobs out of the tree. It takes no memory.
@@ -202,11 +189,11 @@ fn take_all<'a>(tree: &mut Tree, prepared: Vec<Prepared<'a>>, room: Vec<Job<'a>>
 
 // Takes the inodes of a job out of the tree. It takes no memory.
 fn take_one<'a>(tree: &mut Tree, one: Prepared<'a>) -> Job<'a>
-    requires home { AreAtHome tree.old one.ids.items }
+    requires home { AreAtHome tree.old one.ids }
     requires empty { one.room.items ≡ [] }
-    requires room { length one.ids.items ≤ vec_capacity one.room }
+    requires room { length one.ids ≤ vec_capacity one.room }
     ensures job { result ≡ job_of one.entry tree.old }
-    ensures out { tree.new ≡ lent_out one.entry.ids.items tree.old }
+    ensures out { tree.new ≡ lent_out one.entry.ids tree.old }
 {
     let Prepared {
         number,

@@ -102,7 +102,7 @@ pub(crate) fn planned(
     let mut ordinal = ordinal;
     let mut plan = Plan::new(alloc);
     for index in first..batch.len() {
-        let touch = touch_of(alloc, tree, ordinal, time, batch.request(index))?;
+        let touch = touch_of(tree, ordinal, time, batch.request(index));
         if plan.parts(rule, &touch) {
             break;
         }

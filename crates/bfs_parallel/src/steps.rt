@@ -47,7 +47,7 @@ pub(crate) fn execute_one<G: Gate>(
     let count = batch.len();
     prove!(place < count);
     let request = batch.request(place);
-    let footprint = touch_of(alloc, tree, ordinal, time, request)?.footprint;
+    let footprint = touch_of(tree, ordinal, time, request).footprint;
     let is_whole = footprint.is_whole();
     let footprints = [footprint];
     if is_whole {

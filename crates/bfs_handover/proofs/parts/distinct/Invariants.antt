@@ -1,6 +1,6 @@
-use Rattle.std.proofs.Common.{take}
+use Rattle.std.proofs.Common.{◌≤◌, length, take}
 use Rattle.bfs_handover.specs.Preparing.{AreOnce}
 use Rattle.bfs_handover.proofs.parts.distinct.Given as goal
 
 abbrev pub invariant-loop-id : goal.invariant-loop-id
-invariant-loop-id l = AreOnce l.once.items (take l.id-index l.ids)
+invariant-loop-id l = AreOnce l.once (take l.id-index l.ids) × (length l.once ≤ l.id-index)

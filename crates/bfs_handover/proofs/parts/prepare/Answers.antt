@@ -1,5 +1,5 @@
 -- The request and the footprint of a number stand at its place.
-use Rattle.std.proofs.Common.{◌-◌, ◌<◌, length, map, refl, sym, subst, arith}
+use Rattle.std.proofs.Common.{◌-◌, ◌<◌, length, map, refl, sym, subst, arith, rules}
 use Rattle.bfs_model.specs.Shares.{moved_for}
 use Rattle.bfs_footprint.specs.Seen.{footprint_seen}
 use Rattle.bfs_handover.specs.Preparing.{AreOnce}
@@ -16,7 +16,7 @@ returns-clause-prepared c =
       request = request_is part.first part.batch.now.requests c.args.number c.request.result.now c.requires.from c.request.ensures;
       ordinal = c.after.ensures;
       time = refl;
-      ids = subst (λ f. AreOnce c.in_ok-ids.ids.items (moved_for f)) (sym (footprint_is part.footprints.now place c.index-part-place.result less)) c.in_ok-ids.ensures;
+      ids = subst (λ f. AreOnce c.written-ids.result (moved_for f)) (sym (footprint_is part.footprints.now place c.index-part-place.result less)) c.written-ids.ensures;
       empty = c.in_ok-room.ensures.items;
-      room = omega (arith, c.in_ok-room.ensures.capacity, c.len.ensures, c.in_ok-ids.ids.ok);
+      room = search rules;
     }

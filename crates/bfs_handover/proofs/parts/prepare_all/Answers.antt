@@ -21,7 +21,7 @@ loop-number-preserved c =
     let all : AllZip (IsPrepared part) (take at numbers ++ get_or numbers at 0 ∷ []) (before ++ one ∷ []) =
     all_zipped_more (IsPrepared part) (take at numbers) before (get_or numbers at 0) one c.loop-number.invariant.0 c.in_ok-prepare.ensures.prepared in
     let places : c.prepare.new.tree ≡ reserved_all (all_ids (before ++ one ∷ [])) tree =
-    c.in_ok-prepare.ensures.places ∙ ap (reserved_all one.ids.items) c.loop-number.invariant.1 ∙ sym (places_more before one tree) in (
+    c.in_ok-prepare.ensures.places ∙ ap (reserved_all one.ids) c.loop-number.invariant.1 ∙ sym (places_more before one tree) in (
       subst (AllZip (IsPrepared part) (take (at + 1) numbers)) (sym items) (subst (λ ns. AllZip (IsPrepared part) ns (before ++ one ∷ [])) (sym (take_more numbers at 0 c.loop-number-test.true)) all),
       places ∙ ap (λ (ps : List Prepared). reserved_all (all_ids ps) tree) (sym items),
       c.prepare.ensures.home ∙ c.loop-number.invariant.2,
