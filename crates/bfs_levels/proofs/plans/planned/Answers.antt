@@ -5,28 +5,28 @@ use Rattle.bfs_tree.specs.Tree.{at_home}
 use Rattle.bfs_levels.specs.Planning.{count_joined, parts, touches_at}
 use Rattle.bfs_levels.specs.Touching.{touch_seen}
 use Rattle.bfs_levels.proofs.Left.{all_joined, count_left, footprints_left, kept_more, none_left, take-footprints}
-use Rattle.bfs_levels.proofs.plans.planned.Goals.{else-loop-index-test, then-loop-index-test+in_ok-touch+then-parts}
+use Rattle.bfs_levels.proofs.plans.planned.Goals.{else-loop-index-test, then-loop-index-test+then-parts}
 use Rattle.bfs_levels.proofs.plans.planned.Goals as goal
 
 pub loop-index-preserved : goal.loop-index-preserved
 loop-index-preserved c =
-    let call = touch_seen c.in_ok-touch.touch in
+    let call = touch_seen c.touch_of-touch.result in
     let count = ap length c.in_ok-plan.ensures ∙ length_push c.loop-index.plan call.footprint in
-    let next = count_left (parts c.args.rule) (at_home c.args.tree.now) c.loop-index.ordinal c.args.time c.args.batch.now.requests c.loop-index.index c.request.result.now c.loop-index.plan call false c.request.ensures (λ i. record { footprint = c.in_ok-touch.ensures.footprint i; resolved = c.in_ok-touch.ensures.resolved i }) (sym c.if-parts.false ∙ c.parts.ensures) in
+    let next = count_left (parts c.args.rule) (at_home c.args.tree.now) c.loop-index.ordinal c.args.time c.args.batch.now.requests c.loop-index.index c.request.result.now c.loop-index.plan call false c.request.ensures (λ i. record { footprint = c.touch_of-touch.ensures.footprint i; resolved = c.touch_of-touch.ensures.resolved i }) (sym c.if-parts.false ∙ c.parts.ensures) in
     let place = c.loop-index.invariant.place in
     let joined = c.loop-index.invariant.joined in
     record {
       place = omega arith;
       kept = rw (c.in_ok-plan.ensures, c.next-ordinal.ensures)
-          (kept_more c.loop-index.plan _ _ _ call.footprint _ c.loop-index.invariant.kept (footprints_left (at_home c.args.tree.now) c.loop-index.ordinal c.args.time c.args.batch.now.requests c.loop-index.index c.request.result.now c.request.ensures) c.in_ok-touch.ensures.footprint);
+          (kept_more c.loop-index.plan _ _ _ call.footprint _ c.loop-index.invariant.kept (footprints_left (at_home c.args.tree.now) c.loop-index.ordinal c.args.time c.args.batch.now.requests c.loop-index.index c.request.result.now c.request.ensures) c.touch_of-touch.ensures.footprint);
       joined = rw (c.in_ok-plan.ensures, c.next-ordinal.ensures, length_push c.loop-index.plan call.footprint) (omega arith);
     }
 
 none_joins : (c : goal.Left-loop-index) → count_joined (parts c.args.rule) c.loop-index.plan (touches_at (at_home c.args.tree.now) c.loop-index.ordinal c.args.time (drop c.loop-index.index c.args.batch.now.requests)) ≡ 0
 none_joins c = elim c.loop-index-test.branch [
   | else-loop-index-test w ↦ none_left (parts c.args.rule) (at_home c.args.tree.now) c.loop-index.ordinal c.args.time c.args.batch.now.requests c.loop-index.index c.loop-index.plan (let stop = w.loop-index-test.false in let end = c.len-index-end.ensures.value in omega arith)
-  | then-loop-index-test+in_ok-touch+then-parts w ↦
-      count_left (parts c.args.rule) (at_home c.args.tree.now) c.loop-index.ordinal c.args.time c.args.batch.now.requests c.loop-index.index w.request.result.now c.loop-index.plan (touch_seen w.in_ok-touch.touch) true w.request.ensures (λ i. record { footprint = w.in_ok-touch.ensures.footprint i; resolved = w.in_ok-touch.ensures.resolved i }) (sym w.if-parts.true ∙ w.parts.ensures)
+  | then-loop-index-test+then-parts w ↦
+      count_left (parts c.args.rule) (at_home c.args.tree.now) c.loop-index.ordinal c.args.time c.args.batch.now.requests c.loop-index.index w.request.result.now c.loop-index.plan (touch_seen w.touch_of-touch.result) true w.request.ensures (λ i. record { footprint = w.touch_of-touch.ensures.footprint i; resolved = w.touch_of-touch.ensures.resolved i }) (sym w.if-parts.true ∙ w.parts.ensures)
 ]
 
 pub returns : goal.returns
