@@ -20,8 +20,8 @@ use std::thread;
 use std::thread::Threads;
 
 /// Runs the jobs by the workers, each of which takes the next job from one queue until it finds it empty, and gives their results
-/// in some order. The calling thread is one of the workers, and runs what is left where threads can't be started. `Memory` if
-/// memory runs out: the inodes of all jobs are lost then, and no job is running any more.
+/// in some order. The calling thread is one of the workers, and runs what is left where threads can't be started; one worker runs the jobs
+/// in their order, without a queue. `Memory` if memory runs out: the inodes of all jobs are lost then, and no job is running any more.
 #[tactic(auto, using(crate::proofs::Steps::begins, crate::proofs::Queued::put_can_run, crate::proofs::Queued::back_can_run, crate::proofs::Queued::all_drawn))]
 pub fn run_queue<R: Threads + Wait + Sync, G: Gate + Sync>(
     rt: &R,
@@ -34,10 +34,10 @@ pub fn run_queue<R: Threads + Wait + Sync, G: Gate + Sync>(
     requires { All (CanRun tree.now) jobs.items }
     ensures { IfOk result (λ dones. EachOnce G.ran tree.now jobs.entry.items dones.items) }
 {
-    if jobs.is_empty() {
-        return Ok(Vec::new(alloc));
-    }
     let count = (workers.count() as usize).min(jobs.len()) as u32;
+    if count <= 1 {
+        return run_here(alloc, tree, jobs, gate);
+    }
     let (queue, pass) = JobQueue::ruled(alloc, jobs.len())?;
     let (pass, back) = fill(rt, alloc, &queue, pass, jobs)?;
     let seat = Seat {
