@@ -1,11 +1,11 @@
 -- Level after level: the calls of a level are taken, each is carried out on inodes of its own, and they are finished in any order.
-use Rattle.std.proofs.Common.{◌≡◌, ℕ, ◌<◌, ◌||◌, ◌⊎◌, inl, inr, Bool, true, false, List, [], ◌∷◌, map, IsTrue, refl, sym, ap, subst, ◌∙◌, eqb, eq-eqb, eqb-true, ne_eqb, ⊎_elim}
+use Rattle.std.proofs.Common.{◌≡◌, ℕ, ◌<◌, true, false, List, [], ◌∷◌, map, refl, sym, ap, subst, ◌∙◌, eqb, eq-eqb, eqb-true, ne_eqb, ⊎_elim}
 use Rattle.std.specs.List.{AllByRecursion}
-use Rattle.std.proofs.lemmas.Bool.{cond-true, cond-false, cases_Bool, both_ways, or_cases, or_parts}
+use Rattle.std.proofs.lemmas.Bool.{cond-true, cond-false, cond_both, cases_Bool, both_ways, or_cases, or_parts}
 use Rattle.bfs_model.specs.Tree.{Inodes}
 use Rattle.bfs_model.specs.Footprints.{Footprint}
 use Rattle.bfs_model.specs.Conflicts.{among, AgreeOn, outcome_on}
-use Rattle.bfs_model.specs.Events.{Slot, waiting, taken, finished, World, put_slot, IsFree, MayBegin, took, ended, took_all, ended_all, AreDistinct, IsLevel, InLevels, state, start, IsComplete, IsInOrder}
+use Rattle.bfs_model.specs.Events.{Slot, taken, World, put_slot, MayBegin, took, ended, took_all, ended_all, AreDistinct, IsLevel, InLevels, state, start, IsComplete, IsInOrder}
 use Rattle.bfs_model.proofs.Footprints.Shared.{all_both}
 use Rattle.bfs_model.proofs.Footprints.Overtaking.{Kept, took_done, take_keeps, finish_keeps, ready, start_kept, complete}
 use Rattle.bfs_model.proofs.Footprints.Turns.{is_taken, AllHome, none_away}
@@ -84,22 +84,21 @@ module _ {C R : Type 0} (run : C → Inodes → Inodes × R) (count : ℕ) (call
         let parts = or_parts (eqb j x) (among js x) none in
         took_other js (took run count calls plan w j) x parts.1 ∙ cond-false (eqb j x) _ (w.slots x) parts.0
 
-    ended_by : (job : ℕ × Inodes) (rest : Bool) (w : World R) (x : ℕ) (b : Bool) → eqb job.0 x ≡ b → ((b || rest) ≡ true) ⊎ (is_taken (w.slots x) ≡ false)
-        → (rest ≡ true) ⊎ (is_taken ((ended run count calls plan w job.0 job.1).slots x) ≡ false)
-    ended_by job rest w x true is either = inr (ap is_taken (cond-true (eqb job.0 x) (finished (run (calls job.0) job.1).1) (w.slots x) is))
-    ended_by job rest w x false is (inl later) = inl later
-    ended_by job rest w x false is (inr home) = inr (ap is_taken (cond-false (eqb job.0 x) (finished (run (calls job.0) job.1).1) (w.slots x) is) ∙ home)
+    stays_home : (jobs : List (ℕ × Inodes)) (w : World R) (x : ℕ) → is_taken (w.slots x) ≡ false → is_taken ((all_ended w jobs).slots x) ≡ false
+    stays_home [] w x home = home
+    stays_home (job ∷ jobs) w x home = stays_home jobs (ended run count calls plan w job.0 job.1) x (cond_both (eqb job.0 x) _ (w.slots x) (λ slot. is_taken slot ≡ false) (λ is. refl) (λ is. home))
 
-    ended_home : (jobs : List (ℕ × Inodes)) (w : World R) (x : ℕ) → (among (map (λ job. job.0) jobs) x ≡ true) ⊎ (is_taken (w.slots x) ≡ false) → is_taken ((all_ended w jobs).slots x) ≡ false
-    ended_home [] w x (inl is) = absurd cc
-    ended_home [] w x (inr home) = home
-    ended_home (job ∷ jobs) w x either = ended_home jobs (ended run count calls plan w job.0 job.1) x (ended_by job (among (map (λ other. other.0) jobs) x) w x (eqb job.0 x) refl either)
+    comes_home : (jobs : List (ℕ × Inodes)) (w : World R) (x : ℕ) → among (map (λ job. job.0) jobs) x ≡ true → is_taken ((all_ended w jobs).slots x) ≡ false
+    comes_home [] w x is = absurd cc
+    comes_home (job ∷ jobs) w x is =
+        let next = ended run count calls plan w job.0 job.1 in
+        ⊎_elim (λ same. stays_home jobs next x (ap is_taken (cond-true (eqb job.0 x) _ (w.slots x) same))) (comes_home jobs next x) (or_cases (eqb job.0 x) _ is)
 
     all_home : (w : World R) (level : List ℕ) (jobs : List (ℕ × Inodes)) → AllHome w.slots → AllByRecursion (λ i. among (map (λ job. job.0) jobs) i ≡ true) level → AllHome (all_ended (all_taken w level) jobs).slots
-    all_home w level jobs home within x = ended_home jobs (all_taken w level) x (⊎_elim
-        (λ is. inl (at_one (λ k. among (map (λ job. job.0) jobs) k ≡ true) level x within is))
-        (λ none. inr (ap is_taken (took_other level w x none) ∙ home x))
-        (cases_Bool (among level x)))
+    all_home w level jobs home within x = ⊎_elim
+        (λ is. comes_home jobs (all_taken w level) x (at_one (λ k. among (map (λ job. job.0) jobs) k ≡ true) level x within is))
+        (λ none. stays_home jobs (all_taken w level) x (ap is_taken (took_other level w x none) ∙ home x))
+        (cases_Bool (among level x))
 
     module _ (w : World R) (kept : IsKept w) (home : AllHome w.slots) (level : List ℕ) (may : AllByRecursion (May w) level) (taken_all_of_it : AllByRecursion (IsTaken (all_taken w level)) level) where
       -- each job is on what batch order has where its call looks

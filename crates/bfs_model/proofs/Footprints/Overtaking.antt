@@ -88,9 +88,9 @@ module _ {C R : Type 0} (run : C → Inodes → Inodes × R) (count : ℕ) (call
     value_at x there touched due = due i (omega arith)
         (λ j under writes. true_from_ne_false _ (λ is. both_ways _ ((before j under is).first x writes) touched))
         (λ j least below writes. ⊎_elim
-            (λ is. subst (λ q. is_done (w.slots q) ≡ false) is undone)
-            (λ other. false_from_ne_true _ (λ is. both_ways _ ((kept.away_from i j (omega arith) below undone (begun_of_done (w.slots j) is)).second x writes) touched))
-            (cases_eq i j))
+        (λ is. subst (λ q. is_done (w.slots q) ≡ false) is undone)
+        (λ other. false_from_ne_true _ (λ is. both_ways _ ((kept.away_from i j (omega arith) below undone (begun_of_done (w.slots j) is)).second x writes) touched))
+        (cases_eq i j))
 
     -- no other call that is under way writes where it looks
     others_leave : (j : ℕ) (away : Inodes) → (i ≡ j → ⊥) → j < count → w.slots j ≡ taken away → (x : ℕ) → is_touched (plan i) x ≡ true → is_written (plan j) x ≡ false
@@ -198,8 +198,8 @@ module _ {C R : Type 0} (run : C → Inodes → Inodes × R) (count : ℕ) (call
     due_after : (x : ℕ) → is_written (plan i) x ≡ true → IsDue afterwards x (get (At (suc i)) x)
     due_after x writes k most ready behind = ⊎_elim
         (λ later. sym (stays_to x (suc i) k (omega arith) most (λ j least below. false_from_ne_true _ (λ also.
-            let was : is_done (w.slots j) ≡ true = sym (ap is_done (slot_other w.slots i done_slot j (λ same. omega arith))) ∙ ready j below also in
-            both_ways _ ((kept.away_from i j (omega arith) (omega arith) (ap is_done is) (begun_of_done (w.slots j) was)).first x writes) (written_is_touched (plan j) x also)))))
+        let was : is_done (w.slots j) ≡ true = sym (ap is_done (slot_other w.slots i done_slot j (λ same. omega arith))) ∙ ready j below also in
+        both_ways _ ((kept.away_from i j (omega arith) (omega arith) (ap is_done is) (begun_of_done (w.slots j) was)).first x writes) (written_is_touched (plan j) x also)))))
         (λ up_to. absurd (both_ways _ (behind i up_to less writes) it_is_done))
         (cases_lt i k)
 

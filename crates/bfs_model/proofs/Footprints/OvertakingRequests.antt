@@ -156,8 +156,8 @@ module _ (m : Inodes) (o : ℕ) (t : Time) (requests : List (List ℕ)) (own : f
       leaves j less other waits id is = ⊎_elim
           (λ same. absurd (other same))
           (⊎_elim (λ later. cut_there (footprints_at m o t requests) o t requests i j cut later less id is) (λ earlier.
-              turned (is_written (feet_at i) id) (is_touched (feet_at j) id) ((apart (feet_at j) (feet_at i) (may.2 j earlier (ap is_done waits))).second id)
-              (subst (λ f. is_touched f id ≡ true) (are.waits j less waits) (resolved_is_touched_by_requests w.home (asked j).ordinal (asked j).time (asked j).bytes id is))))
+          turned (is_written (feet_at i) id) (is_touched (feet_at j) id) ((apart (feet_at j) (feet_at i) (may.2 j earlier (ap is_done waits))).second id)
+          (subst (λ f. is_touched f id ≡ true) (are.waits j less waits) (resolved_is_touched_by_requests w.home (asked j).ordinal (asked j).time (asked j).bytes id is))))
           (cases_order i j)
 
       still_waits : (j : ℕ) → j < many → after.slots j ≡ waiting → HasItsFootprint m o t requests after.home j

@@ -1,5 +1,5 @@
 -- What footprints tell of requests, which are bytes: a refused one touches nothing.
-use Rattle.std.proofs.Common.{◌≡◌, ℕ, true, List, Option, Some, None, Result, Ok, Err, refl, ap}
+use Rattle.std.proofs.Common.{◌≡◌, ℕ, true, Option, Some, None, Result, Ok, Err, refl, ap}
 use Rattle.std.specs.FinMap.{get}
 use Rattle.bfs_model.specs.Tree.{Time, Inodes}
 use Rattle.bfs_model.specs.Context.{Context}

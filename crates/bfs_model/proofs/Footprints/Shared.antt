@@ -84,9 +84,9 @@ module _ (t : Time) where
       let f = footprint_of m o t request in
       let left = (answer own o t request).0 in
       home_same (ordinal_after o 1) requests owns m (closed f left home) (closed f left home_then) seen.1 (λ id free.
-          get-closed f left home id
-          ∙ cond_same (is_written f id) _ (get home id) (get home_then id) (λ is. same id (none_among (moved_for f) (all_moved (footprints_at m (ordinal_after o 1) t requests)) id (moved_is_written f id is) free))
-          ∙ sym (get-closed f left home_then id))
+      get-closed f left home id
+      ∙ cond_same (is_written f id) _ (get home id) (get home_then id) (λ is. same id (none_among (moved_for f) (all_moved (footprints_at m (ordinal_after o 1) t requests)) id (moved_is_written f id is) free))
+      ∙ sym (get-closed f left home_then id))
 
 pub runs_come_home : RunsComeHome
 runs_come_home m o t requests disjoint =

@@ -1,12 +1,12 @@
 -- Calls that are carried out one after another in another order than that of the batch, each when it may begin.
-use Rattle.std.proofs.Common.{◌≡◌, ℕ, ◌<◌, inl, inr, Bool, true, false, cond, not, List, [], ◌∷◌, None, refl, sym, ap, subst, ◌∙◌, eqb}
+use Rattle.std.proofs.Common.{◌≡◌, ℕ, ◌<◌, Bool, true, false, cond, not, List, [], ◌∷◌, None, refl, sym, ap, subst, ◌∙◌, eqb}
 use Rattle.std.specs.FinMap.{get}
 use Rattle.std.proofs.lemmas.Bool.{cond-false, cond_both, both_ways}
 use Rattle.bfs_model.specs.Tree.{Inodes}
 use Rattle.bfs_model.specs.Footprints.{Footprint}
 use Rattle.bfs_model.specs.Conflicts.{is_written, AgreeOn, closed, outcome_on}
 use Rattle.bfs_model.specs.Shares.{moved_for, without}
-use Rattle.bfs_model.specs.Events.{Slot, waiting, taken, finished, World, moved, put_slot, state, took, ended, start, IsComplete, IsInOrder, MayBegin, carried_out, InTurn}
+use Rattle.bfs_model.specs.Events.{Slot, waiting, taken, finished, World, moved, state, took, ended, start, IsComplete, IsInOrder, MayBegin, carried_out, InTurn}
 use Rattle.bfs_model.proofs.Footprints.Agreement.{same_inodes, get-closed}
 use Rattle.bfs_model.proofs.Footprints.Shared.{get-without, moved_is_written}
 use Rattle.bfs_model.proofs.Footprints.Overtaking.{Kept, slot_here, take_keeps, finish_keeps, ready, start_kept, complete}
@@ -47,8 +47,8 @@ module _ {C R : Type 0} (run : C → Inodes → Inodes × R) (count : ℕ) (call
     at_once : ended run count calls plan (took run count calls plan w i) i w.home ≡ after w i
     at_once =
         let home_same : closed (plan i) (run (calls i) w.home).0 (without (moved_for (plan i)) w.home) ≡ (run (calls i) w.home).0 = same_inodes _ _ (λ x.
-            get-closed (plan i) (run (calls i) w.home).0 (without (moved_for (plan i)) w.home) x ∙ cond_both (is_written (plan i) x) _ _ (λ there. there ≡ get (run (calls i) w.home).0 x) (λ is. refl)
-            (λ is. get-without (moved_for (plan i)) w.home x ∙ ap (λ b. cond (not b) (get w.home x) None) (moved_is_written (plan i) x is) ∙ sym (left x is))) in
+        get-closed (plan i) (run (calls i) w.home).0 (without (moved_for (plan i)) w.home) x ∙ cond_both (is_written (plan i) x) _ _ (λ there. there ≡ get (run (calls i) w.home).0 x) (λ is. refl)
+        (λ is. get-without (moved_for (plan i)) w.home x ∙ ap (λ b. cond (not b) (get w.home x) None) (moved_is_written (plan i) x is) ∙ sym (left x is))) in
         λ k. record { home = home_same k; slots = λ j. put_twice (eqb i j) (taken (moved (moved_for (plan i)) w.home)) (finished (run (calls i) w.home).1) (w.slots j) k }
 
     pub turn_keeps : IsKept (after w i)
