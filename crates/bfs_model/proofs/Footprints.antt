@@ -11,7 +11,6 @@ pub mod Parts
 pub mod Shared
 pub mod Overtaking
 pub mod OvertakingRequests
-pub mod Waiting
 pub mod Turns
 pub mod Levels
 pub mod Counterexamples

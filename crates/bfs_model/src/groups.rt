@@ -76,7 +76,7 @@ pub fn levels_are_as_the_batch()
 {}
 
 /// At each point of a legal order each request that still waits has the footprint found at first.
-#[tactic(auto, using(crate::proofs::Footprints::Waiting::waiting_footprints_hold))]
+#[tactic(auto, using(crate::proofs::Footprints::OvertakingRequests::waiting_footprints_hold))]
 pub fn waiting_footprints_hold()
     ensures { WaitingFootprintsHold }
 {}

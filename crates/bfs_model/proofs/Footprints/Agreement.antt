@@ -3,7 +3,7 @@ use Rattle.std.proofs.Common.{◌≡◌, ℕ, Bool, true, false, cond, ◌||◌,
 use Rattle.std.specs.List.{AllByRecursion}
 use Rattle.std.specs.FinMap.{get, same_map, nat_cmp-IsAntisymmetric}
 use Rattle.std.specs.Cmp.{nat_cmp_total}
-use Rattle.std.proofs.lemmas.Bool.{cond-true, or_left, or_right}
+use Rattle.std.proofs.lemmas.Bool.{cond-true, cond_both, or_left, or_right}
 use Rattle.bfs_model.specs.Tree.{Inode, Inodes}
 use Rattle.bfs_model.specs.Procedures.{procedure}
 use Rattle.bfs_model.specs.Footprints.{Footprint, known, whole, footprint}
@@ -55,11 +55,8 @@ put_back_opens ids home id written = record {
 
 -- what is the same does not change when it is put back
 pub closed_same : (f : Footprint) (m home : Inodes) → ((id : ℕ) → is_written f id ≡ true → get home id ≡ get m id) → closed f m home ≡ home
-closed_same f m home same = same_inodes (closed f m home) home (λ x. get-closed f m home x ∙ by_test (is_written f x) x refl)
-  where
-    by_test : (b : Bool) (x : ℕ) → is_written f x ≡ b → cond b (get m x) (get home x) ≡ get home x
-    by_test true x is = sym (same x is)
-    by_test false x is = refl
+closed_same f m home same =
+    same_inodes _ _ (λ x. get-closed f m home x ∙ cond_both (is_written f x) (get m x) (get home x) (λ there. there ≡ get home x) (λ is. sym (same x is)) (λ is. refl))
 
 pub written_is_touched : (f : Footprint) (id : ℕ) → is_written f id ≡ true → is_touched f id ≡ true
 written_is_touched (known reads writes) id is = or_right (among reads id) (among writes id) is

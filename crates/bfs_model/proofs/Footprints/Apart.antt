@@ -1,24 +1,18 @@
 -- Calls whose footprints do not conflict, whatever a call is: they may change places.
-use Rattle.std.proofs.Common.{◌≡◌, ℕ, Bool, true, false, cond, ◌||◌, List, [], ◌∷◌, refl, sym, ap, ◌∙◌, eqb, eqb-true}
+use Rattle.std.proofs.Common.{◌≡◌, ℕ, Bool, true, false, cond, List, [], ◌∷◌, refl, sym, ap, ◌∙◌, eqb, eqb-true, ⊎_elim}
 use Rattle.std.specs.List.{list_any}
 use Rattle.std.specs.FinMap.{get}
-use Rattle.std.proofs.lemmas.Bool.{cond-true, cond-false}
+use Rattle.std.proofs.lemmas.Bool.{cond-true, cond-false, or_parts, or_cases}
 use Rattle.bfs_model.specs.Tree.{Inodes}
 use Rattle.bfs_model.specs.Footprints.{Footprint, known, whole}
 use Rattle.bfs_model.specs.Conflicts.{among, is_written, is_touched, conflict, AgreeOn, outcome_on}
 use Rattle.bfs_model.proofs.Footprints.Agreement.{same_inodes, get-closed, written_is_touched}
 
-neither : (a b : Bool) → (a || b) ≡ false → (a ≡ false) × (b ≡ false)
-neither true b is = absurd cc
-neither false b is = (refl, is)
-
-hit : (b : Bool) (p : ℕ → Bool) (other id : ℕ) (ids : List ℕ) → eqb other id ≡ b → p other ≡ false → ((among ids id ≡ true) → p id ≡ false) → (b || among ids id) ≡ true → p id ≡ false
-hit true p other id ids is misses rest within = ap p (sym (eqb-true other id is)) ∙ misses
-hit false p other id ids is misses rest within = rest within
-
 pub none_hit : (p : ℕ → Bool) (ids : List ℕ) → list_any p ids ≡ false → (id : ℕ) → among ids id ≡ true → p id ≡ false
 none_hit p [] none id within = absurd cc
-none_hit p (other ∷ ids) none id within = let parts = neither (p other) (list_any p ids) none in hit (eqb other id) p other id ids refl parts.0 (none_hit p ids parts.1 id) within
+none_hit p (other ∷ ids) none id within =
+    let parts = or_parts (p other) (list_any p ids) none in
+    ⊎_elim (λ here. ap p (sym (eqb-true other id here)) ∙ parts.0) (none_hit p ids parts.1 id) (or_cases (eqb other id) (among ids id) within)
 
 -- what one writes the other does not touch
 pub record AreApart (f g : Footprint) : Type 0 where
@@ -27,7 +21,7 @@ pub record AreApart (f g : Footprint) : Type 0 where
 
 pub apart : (f g : Footprint) → conflict f g ≡ false → AreApart f g
 apart (known reads writes) (known others theirs) none =
-    let parts = neither (list_any (is_touched (known others theirs)) writes) (list_any (is_touched (known reads writes)) theirs) none in
+    let parts = or_parts (list_any (is_touched (known others theirs)) writes) (list_any (is_touched (known reads writes)) theirs) none in
     record { first = none_hit (is_touched (known others theirs)) writes parts.0; second = none_hit (is_touched (known reads writes)) theirs parts.1 }
 apart (known reads writes) whole none = absurd cc
 apart whole g none = absurd cc

@@ -1,18 +1,16 @@
 -- Every call does the same through a frame that keeps the inodes which its footprint reads, and is open where it writes.
-use Rattle.std.proofs.Common.{◌≡◌, ℕ, Bool, true, false, not, ◌&&◌, ◌==◌, List, [], ◌∷◌, ◌++◌, Option, Some, None, option_map, option_and_then, Ok, inl, inr, IsTrue, nat_lt, unwrap_or, if◌then◌else◌, refl, sym, ap, subst, ◌∙◌}
-use Rattle.std.specs.Bool.{⊤}
+use Rattle.std.proofs.Common.{◌≡◌, ℕ, Bool, true, false, not, ◌&&◌, ◌==◌, List, [], ◌∷◌, ◌++◌, Option, Some, None, option_map, option_and_then, Ok, nat_lt, unwrap_or, if◌then◌else◌, refl, sym, ap, subst, ◌∙◌}
 use Rattle.std.proofs.lemmas.Bool.{both_ways}
 use Rattle.std.proofs.lemmas.Option.{same_Some}
 use Rattle.std.specs.List.{AllByRecursion}
 use Rattle.std.specs.FinMap.{get, insert, remove}
 use Rattle.bfs_model.specs.Limits.{most_file_bytes}
-use Rattle.bfs_model.specs.Tree.{Entry, Inode, Inodes, is_directory, is_directory_body}
+use Rattle.bfs_model.specs.Tree.{Entry, Inode, Inodes, is_directory}
 use Rattle.bfs_model.specs.Context.{Context}
-use Rattle.bfs_model.specs.Attributes.{attributes_of}
 use Rattle.bfs_model.specs.Directories.{entry_named}
 use Rattle.bfs_model.specs.Arguments.{Call, null, get_attributes, set_attributes, root, look_up, read_link, read, write_cache, write, create, remove as remove_file, rename, make_link, make_symbolic_link, make_directory, remove_directory, read_directory, file_system_status}
 use Rattle.bfs_model.specs.Changes.{with_settings, with_bytes, without_entry, with_link, with_link_less, changed, link_lost}
-use Rattle.bfs_model.specs.Replies.{Reply, fbig, nospc, done, attributes, found}
+use Rattle.bfs_model.specs.Replies.{Reply, fbig, nospc, done}
 use Rattle.bfs_model.specs.Refusals.{FoundInode, FoundDirectory, has_most_links, directory_found}
 use Rattle.bfs_model.specs.Procedures.{attempted, procedure}
 use Rattle.bfs_model.specs.Procedures.Names.{child_named}

@@ -1,7 +1,8 @@
 -- The footprints of requests that are carried out together.
-use Rattle.std.proofs.Common.{◌≡◌, ℕ, Bool, true, false, cond, List, [], ◌∷◌, IsFalse, refl, sym, ap, subst, ◌∙◌}
+use Rattle.std.proofs.Common.{◌≡◌, ℕ, List, [], ◌∷◌, IsFalse, refl, sym, ap, subst, ◌∙◌}
 use Rattle.std.specs.List.{AllByRecursion}
 use Rattle.std.specs.FinMap.{get}
+use Rattle.std.proofs.lemmas.Bool.{cond_both}
 use Rattle.bfs_model.specs.Tree.{Time, Inodes}
 use Rattle.bfs_model.specs.Serial.{ordinal_after, answer, inodes_after, replies_to}
 use Rattle.bfs_model.specs.Footprints.{footprint_of}
@@ -69,11 +70,9 @@ module _ (t : Time) where
 
   -- what a call leaves where it writes, put into the inodes, is what it does there
   put_in : (c : Asked) (m own : Inodes) → AgreeOn (feet c m) m own → closed (feet c m) (answered c own).0 m ≡ (answered c m).0
-  put_in c m own agree = same_inodes _ _ (λ id. get-closed (feet c m) (answered c own).0 m id ∙ by_test (is_written (feet c m) id) id refl)
-    where
-      by_test : (b : Bool) (id : ℕ) → is_written (feet c m) id ≡ b → cond b (get (answered c own).0 id) (get m id) ≡ get (answered c m).0 id
-      by_test true id is = apart.inside answered feet sound c m own agree id is
-      by_test false id is = sym (apart.stays answered feet sound c m id is)
+  put_in c m own agree = same_inodes _ _ (λ id.
+      get-closed (feet c m) (answered c own).0 m id
+      ∙ cond_both (is_written (feet c m) id) _ _ (λ there. there ≡ get (answered c m).0 id) (apart.inside answered feet sound c m own agree id) (λ is. sym (apart.stays answered feet sound c m id is)))
 
   merged : (m : Inodes) (o : ℕ) (requests : List (List ℕ)) (owns : List Inodes) → AreDisjoint (footprints_at m o t requests) → AreSeen m (footprints_at m o t requests) owns
       → (all_closed o t requests (footprints_at m o t requests) owns m ≡ inodes_after m o t requests) × (all_replies o t requests owns ≡ replies_to m o t requests)

@@ -1,25 +1,18 @@
 -- Level after level: the calls of a level are taken, each is carried out on inodes of its own, and they are finished in any order.
-use Rattle.std.proofs.Common.{◌≡◌, ℕ, ◌<◌, ◌||◌, ◌⊎◌, inl, inr, Bool, true, false, List, [], ◌∷◌, map, IsTrue, refl, sym, ap, subst, ◌∙◌, eqb, eq-eqb, eqb-true, ne_eqb}
+use Rattle.std.proofs.Common.{◌≡◌, ℕ, ◌<◌, true, false, List, [], ◌∷◌, map, refl, sym, ap, subst, ◌∙◌, eqb, eq-eqb, eqb-true, ne_eqb, ⊎_elim}
 use Rattle.std.specs.List.{AllByRecursion}
-use Rattle.std.proofs.lemmas.Bool.{cond-true, cond-false, cases_Bool}
+use Rattle.std.proofs.lemmas.Bool.{cond-true, cond-false, cond_both, cases_Bool, both_ways, or_cases, or_parts}
 use Rattle.bfs_model.specs.Tree.{Inodes}
 use Rattle.bfs_model.specs.Footprints.{Footprint}
 use Rattle.bfs_model.specs.Conflicts.{among, AgreeOn, outcome_on}
-use Rattle.bfs_model.specs.Events.{Slot, waiting, taken, finished, World, put_slot, IsFree, MayBegin, took, ended, took_all, ended_all, AreDistinct, IsLevel, InLevels, state, start, IsComplete, IsInOrder}
+use Rattle.bfs_model.specs.Events.{Slot, taken, World, put_slot, MayBegin, took, ended, took_all, ended_all, AreDistinct, IsLevel, InLevels, state, start, IsComplete, IsInOrder}
+use Rattle.bfs_model.proofs.Footprints.Shared.{all_both}
 use Rattle.bfs_model.proofs.Footprints.Overtaking.{Kept, took_done, take_keeps, finish_keeps, ready, start_kept, complete}
 use Rattle.bfs_model.proofs.Footprints.Turns.{is_taken, AllHome, none_away}
 
-at_head : (P : ℕ → Type 0) (b : Bool) (j k : ℕ) (rest : Bool) → eqb j k ≡ b → P j → (rest ≡ true → P k) → (b || rest) ≡ true → P k
-at_head P true j k rest same here later is = subst P (eqb-true j k same) here
-at_head P false j k rest same here later is = later is
-
 at_one : (P : ℕ → Type 0) (js : List ℕ) (k : ℕ) → AllByRecursion P js → among js k ≡ true → P k
 at_one P [] k all is = absurd cc
-at_one P (j ∷ js) k all is = at_head P (eqb j k) j k (among js k) refl all.0 (at_one P js k all.1) is
-
-all_map : {X : Type 0} (P Q S : X → Type 0) → ((x : X) → P x → Q x → S x) → (xs : List X) → AllByRecursion P xs → AllByRecursion Q xs → AllByRecursion S xs
-all_map P Q S f [] one two = tt
-all_map P Q S f (x ∷ xs) one two = (f x one.0 two.0, all_map P Q S f xs one.1 two.1)
+at_one P (j ∷ js) k all is = ⊎_elim (λ same. subst P (eqb-true j k same) all.0) (at_one P js k all.1) (or_cases (eqb j k) (among js k) is)
 
 -- of the numbers of jobs
 numbered : {X : Type 0} (P : ℕ → Type 0) (jobs : List (ℕ × X)) → AllByRecursion P (map (λ job. job.0) jobs) → AllByRecursion (λ job. P job.0) jobs
@@ -27,7 +20,7 @@ numbered P [] all = tt
 numbered P (job ∷ jobs) all = (all.0, numbered P jobs all.1)
 
 turned : (j k : ℕ) → eqb j k ≡ false → eqb k j ≡ false
-turned j k other = ne_eqb k j (λ same. let is : eqb j k ≡ true = eq-eqb j k (sym same) in cc)
+turned j k other = ne_eqb k j (λ same. both_ways _ other (eq-eqb j k (sym same)))
 
 module _ {C R : Type 0} (run : C → Inodes → Inodes × R) (count : ℕ) (calls : ℕ → C) (plan : ℕ → Footprint) where
   -- each is taken
@@ -67,10 +60,10 @@ module _ {C R : Type 0} (run : C → Inodes → Inodes × R) (count : ℕ) (call
     take_level [] w kept distinct may = (kept, tt)
     take_level (j ∷ js) w kept distinct may =
         let next = took run count calls plan w j in
-        let still = all_map (λ k. eqb j k ≡ false) (May w) (May next) (λ k other is. may_still w kept j may.0 k other is) js distinct.0 may.1 in
+        let still = all_both (λ k. eqb j k ≡ false) (May w) (May next) (λ k other is. may_still w kept j may.0 k other is) js distinct.0 may.1 in
         let rest = take_level js next (take_keeps run count calls plan m local w kept j may.0.0 may.0.1 may.0.2) distinct.1 still in
         let here : IsTaken next j = (may.0.0, (_, cond-true (eqb j j) _ (w.slots j) (eq-eqb j j refl))) in
-        (rest.0, (taken_all js next j (all_map (λ k. eqb j k ≡ false) (λ k. eqb j k ≡ false) (λ k. eqb k j ≡ false) (λ k other _. turned j k other) js distinct.0 distinct.0) here, rest.1))
+        (rest.0, (taken_all js next j (all_both (λ k. eqb j k ≡ false) (λ k. eqb j k ≡ false) (λ k. eqb k j ≡ false) (λ k other _. turned j k other) js distinct.0 distinct.0) here, rest.1))
 
     -- taken, and on inodes of its own that are, where it looks, what batch order has there
     abbrev IsJob : World R → ℕ × Inodes → Type 0
@@ -81,37 +74,31 @@ module _ {C R : Type 0} (run : C → Inodes → Inodes × R) (count : ℕ) (call
     finish_level (job ∷ jobs) w kept distinct all =
         let next = ended run count calls plan w job.0 job.1 in
         let still : AllByRecursion (IsJob next) jobs =
-        all_map (λ other. eqb job.0 other.0 ≡ false) (IsJob w) (IsJob next) (λ other differs is. (taken_still w job.0 _ next.home other.0 differs is.0, is.1)) jobs (numbered (λ k. eqb job.0 k ≡ false) jobs distinct.0) all.1 in
+        all_both (λ other. eqb job.0 other.0 ≡ false) (IsJob w) (IsJob next) (λ other differs is. (taken_still w job.0 _ next.home other.0 differs is.0, is.1)) jobs (numbered (λ k. eqb job.0 k ≡ false) jobs distinct.0) all.1 in
         finish_level jobs next (finish_keeps run count calls plan m local w kept job.0 all.0.0.0 all.0.0.1.0 all.0.0.1.1 job.1 all.0.1) distinct.1 still
 
     -- what is away comes home
-    took_by : (j : ℕ) (rest : List ℕ) (w next : World R) (x : ℕ) (b : Bool) → eqb j x ≡ b → (b || among rest x) ≡ false
-        → (among rest x ≡ false → (all_taken next rest).slots x ≡ next.slots x) → (b ≡ false → next.slots x ≡ w.slots x) → (all_taken next rest).slots x ≡ w.slots x
-    took_by j rest w next x true is none later here = absurd cc
-    took_by j rest w next x false is none later here = later none ∙ here refl
-
     took_other : (js : List ℕ) (w : World R) (x : ℕ) → among js x ≡ false → (all_taken w js).slots x ≡ w.slots x
     took_other [] w x none = refl
     took_other (j ∷ js) w x none =
-        let next = took run count calls plan w j in
-        took_by j js w next x (eqb j x) refl none (took_other js next x) (λ is. cond-false (eqb j x) _ (w.slots x) is)
+        let parts = or_parts (eqb j x) (among js x) none in
+        took_other js (took run count calls plan w j) x parts.1 ∙ cond-false (eqb j x) _ (w.slots x) parts.0
 
-    ended_by : (job : ℕ × Inodes) (rest : Bool) (w : World R) (x : ℕ) (b : Bool) → eqb job.0 x ≡ b → ((b || rest) ≡ true) ⊎ (is_taken (w.slots x) ≡ false)
-        → (rest ≡ true) ⊎ (is_taken ((ended run count calls plan w job.0 job.1).slots x) ≡ false)
-    ended_by job rest w x true is either = inr (ap is_taken (cond-true (eqb job.0 x) (finished (run (calls job.0) job.1).1) (w.slots x) is))
-    ended_by job rest w x false is (inl later) = inl later
-    ended_by job rest w x false is (inr home) = inr (ap is_taken (cond-false (eqb job.0 x) (finished (run (calls job.0) job.1).1) (w.slots x) is) ∙ home)
+    stays_home : (jobs : List (ℕ × Inodes)) (w : World R) (x : ℕ) → is_taken (w.slots x) ≡ false → is_taken ((all_ended w jobs).slots x) ≡ false
+    stays_home [] w x home = home
+    stays_home (job ∷ jobs) w x home = stays_home jobs (ended run count calls plan w job.0 job.1) x (cond_both (eqb job.0 x) _ (w.slots x) (λ slot. is_taken slot ≡ false) (λ is. refl) (λ is. home))
 
-    ended_home : (jobs : List (ℕ × Inodes)) (w : World R) (x : ℕ) → (among (map (λ job. job.0) jobs) x ≡ true) ⊎ (is_taken (w.slots x) ≡ false) → is_taken ((all_ended w jobs).slots x) ≡ false
-    ended_home [] w x (inl is) = absurd cc
-    ended_home [] w x (inr home) = home
-    ended_home (job ∷ jobs) w x either = ended_home jobs (ended run count calls plan w job.0 job.1) x (ended_by job (among (map (λ other. other.0) jobs) x) w x (eqb job.0 x) refl either)
+    comes_home : (jobs : List (ℕ × Inodes)) (w : World R) (x : ℕ) → among (map (λ job. job.0) jobs) x ≡ true → is_taken ((all_ended w jobs).slots x) ≡ false
+    comes_home [] w x is = absurd cc
+    comes_home (job ∷ jobs) w x is =
+        let next = ended run count calls plan w job.0 job.1 in
+        ⊎_elim (λ same. stays_home jobs next x (ap is_taken (cond-true (eqb job.0 x) _ (w.slots x) same))) (comes_home jobs next x) (or_cases (eqb job.0 x) _ is)
 
     all_home : (w : World R) (level : List ℕ) (jobs : List (ℕ × Inodes)) → AllHome w.slots → AllByRecursion (λ i. among (map (λ job. job.0) jobs) i ≡ true) level → AllHome (all_ended (all_taken w level) jobs).slots
-    all_home w level jobs home within x = ended_home jobs (all_taken w level) x (elim (cases_Bool (among level x)) [
-      | inl is ↦ inl (at_one (λ k. among (map (λ job. job.0) jobs) k ≡ true) level x within is)
-      | inr none ↦ inr (ap is_taken (took_other level w x none) ∙ home x)
-    ])
+    all_home w level jobs home within x = ⊎_elim
+        (λ is. comes_home jobs (all_taken w level) x (at_one (λ k. among (map (λ job. job.0) jobs) k ≡ true) level x within is))
+        (λ none. stays_home jobs (all_taken w level) x (ap is_taken (took_other level w x none) ∙ home x))
+        (cases_Bool (among level x))
 
     module _ (w : World R) (kept : IsKept w) (home : AllHome w.slots) (level : List ℕ) (may : AllByRecursion (May w) level) (taken_all_of_it : AllByRecursion (IsTaken (all_taken w level)) level) where
       -- each job is on what batch order has where its call looks

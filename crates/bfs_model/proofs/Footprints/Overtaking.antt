@@ -1,7 +1,7 @@
 -- Calls that overtake each other leave what batch order leaves, and reply the same.
-use Rattle.std.proofs.Common.{◌≡◌, ℕ, zero, suc, ◌<◌, ◌≤◌, inl, inr, Bool, true, false, cond, not, List, [], ◌∷◌, Option, None, refl, sym, ap, subst, ◌∙◌, eqb, eq-eqb, ne_eqb, arith}
+use Rattle.std.proofs.Common.{◌≡◌, ℕ, zero, suc, ◌<◌, ◌≤◌, inl, inr, Bool, true, false, cond, not, List, [], ◌∷◌, Option, None, refl, sym, ap, subst, ◌∙◌, eqb, eq-eqb, ne_eqb, ⊎_elim, arith}
 use Rattle.std.specs.FinMap.{get, empty, get-retain_keys, nat_cmp-IsAntisymmetric}
-use Rattle.std.proofs.lemmas.Bool.{cond-true, cond-false, cases_eq, cases_order, cases_Bool}
+use Rattle.std.proofs.lemmas.Bool.{cond-true, cond-false, cases_eq, cases_lt, cases_order, cases_Bool, both_ways, true_from_ne_false, false_from_ne_true}
 use Rattle.bfs_model.specs.Tree.{Inode, Inodes}
 use Rattle.bfs_model.specs.Footprints.{Footprint, known, whole}
 use Rattle.bfs_model.specs.Conflicts.{among, is_written, is_touched, AgreeOn, put_back, closed, outcome_on}
@@ -71,10 +71,10 @@ module _ {C R : Type 0} (run : C → Inodes → Inodes × R) (count : ℕ) (call
   -- over several calls
   stays_to : (x i k : ℕ) → i ≤ k → k ≤ count → ((j : ℕ) → i ≤ j → j < k → is_written (plan j) x ≡ false) → get (At k) x ≡ get (At i) x
   stays_to x i zero le most none = ap (λ q. get (At q) x) (let same : zero ≡ i = omega arith in same)
-  stays_to x i (suc k) le most none = elim (cases_eq i (suc k)) [
-    | inl is ↦ ap (λ q. get (At q) x) (sym is)
-    | inr other ↦ stays_at k x (omega arith) (none k (omega arith) (omega arith)) ∙ stays_to x i k (omega arith) (omega arith) (λ j least less. none j least (omega arith))
-  ]
+  stays_to x i (suc k) le most none = ⊎_elim
+      (λ is. ap (λ q. get (At q) x) (sym is))
+      (λ other. stays_at k x (omega arith) (none k (omega arith) (omega arith)) ∙ stays_to x i k (omega arith) (omega arith) (λ j least less. none j least (omega arith)))
+      (cases_eq i (suc k))
 
   begun_of_done : (slot : Slot R) → is_done slot ≡ true → is_begun slot ≡ true
   begun_of_done waiting is = absurd cc
@@ -86,27 +86,17 @@ module _ {C R : Type 0} (run : C → Inodes → Inodes × R) (count : ℕ) (call
     -- what is due where it looks is what batch order has there
     value_at : (x : ℕ) (there : Option Inode) → is_touched (plan i) x ≡ true → IsDue w.slots x there → there ≡ get (At i) x
     value_at x there touched due = due i (omega arith)
-        (λ j under writes. elim (cases_Bool (is_done (w.slots j))) [
-          | inl is ↦ is
-          | inr is ↦ absurd (let misses : is_touched (plan i) x ≡ false = (before j under is).first x writes in cc)
-        ])
-        (λ j least below writes. elim (cases_eq i j) [
-          | inl is ↦ subst (λ q. is_done (w.slots q) ≡ false) is undone
-          | inr other ↦ elim (cases_Bool (is_done (w.slots j))) [
-            | inl is ↦ absurd (let misses : is_touched (plan i) x ≡ false = (kept.away_from i j (omega arith) below undone (begun_of_done (w.slots j) is)).second x writes in cc)
-            | inr is ↦ is
-          ]
-        ])
+        (λ j under writes. true_from_ne_false _ (λ is. both_ways _ ((before j under is).first x writes) touched))
+        (λ j least below writes. ⊎_elim
+        (λ is. subst (λ q. is_done (w.slots q) ≡ false) is undone)
+        (λ other. false_from_ne_true _ (λ is. both_ways _ ((kept.away_from i j (omega arith) below undone (begun_of_done (w.slots j) is)).second x writes) touched))
+        (cases_eq i j))
 
     -- no other call that is under way writes where it looks
     others_leave : (j : ℕ) (away : Inodes) → (i ≡ j → ⊥) → j < count → w.slots j ≡ taken away → (x : ℕ) → is_touched (plan i) x ≡ true → is_written (plan j) x ≡ false
-    others_leave j away other below its x touched = elim (cases_order i j) [
-      | inl is ↦ absurd (other is)
-      | inr apart_by ↦ elim apart_by [
-        | inl later ↦ turned (is_written (plan j) x) (is_touched (plan i) x) ((kept.away_from i j later below undone (ap is_begun its)).second x) touched
-        | inr earlier ↦ turned (is_written (plan j) x) (is_touched (plan i) x) ((before j earlier (ap is_done its)).first x) touched
-      ]
-    ]
+    others_leave j away other below its x touched = turned _ _
+        (⊎_elim (λ is. absurd (other is)) (⊎_elim (λ later. (kept.away_from i j later below undone (ap is_begun its)).second x) (λ earlier. (before j earlier (ap is_done its)).first x)) (cases_order i j))
+        touched
 
   -- A call is taken ------------------------------------------------------------------------------------------------------
 
@@ -121,17 +111,13 @@ module _ {C R : Type 0} (run : C → Inodes → Inodes × R) (count : ℕ) (call
     then = put_slot w.slots i own_slot
 
     not_it : (j : ℕ) (away : Inodes) → w.slots j ≡ taken away → i ≡ j → ⊥
-    not_it j away its same =
-        let one : is_waiting (w.slots i) ≡ true = ap is_waiting is in
-        let two : is_waiting (w.slots j) ≡ false = ap is_waiting its in
-        let three : is_waiting (w.slots i) ≡ is_waiting (w.slots j) = ap (λ q. is_waiting (w.slots q)) same in
-        cc
+    not_it j away its same = both_ways (is_waiting (w.slots j)) (ap is_waiting its) (sym (ap (λ q. is_waiting (w.slots q)) same) ∙ ap is_waiting is)
 
     pub took_done : (j : ℕ) → is_done (then j) ≡ is_done (w.slots j)
-    took_done j = elim (cases_eq i j) [
-      | inl same ↦ subst (λ q. is_done (then q) ≡ is_done (w.slots q)) same (ap is_done (slot_here w.slots i own_slot) ∙ sym (ap is_done is))
-      | inr other ↦ ap is_done (slot_other w.slots i own_slot j other)
-    ]
+    took_done j = ⊎_elim
+        (λ same. subst (λ q. is_done (then q) ≡ is_done (w.slots q)) same (ap is_done (slot_here w.slots i own_slot) ∙ sym (ap is_done is)))
+        (λ other. ap is_done (slot_other w.slots i own_slot j other))
+        (cases_eq i j)
 
     before_it : (j : ℕ) → j < i → is_done (w.slots j) ≡ false → AreApart (plan j) (plan i)
     before_it j under undone = apart (plan j) (plan i) (free j under undone)
@@ -203,28 +189,19 @@ module _ {C R : Type 0} (run : C → Inodes → Inodes × R) (count : ℕ) (call
     it_is_done = ap is_done (slot_here w.slots i done_slot)
 
     not_this : (j : ℕ) → is_done (afterwards j) ≡ false → i ≡ j → ⊥
-    not_this j undone same = let done : is_done (afterwards j) ≡ true = subst (λ q. is_done (afterwards q) ≡ true) same it_is_done in cc
+    not_this j undone same = both_ways _ undone (subst (λ q. is_done (afterwards q) ≡ true) same it_is_done)
 
     finished_done : (x j : ℕ) → is_written (plan i) x ≡ false → is_written (plan j) x ≡ true → is_done (afterwards j) ≡ is_done (w.slots j)
-    finished_done x j misses writes = ap is_done (slot_other w.slots i done_slot j (λ same. let also : is_written (plan j) x ≡ false = subst (λ q. is_written (plan q) x ≡ false) same misses in cc))
+    finished_done x j misses writes = ap is_done (slot_other w.slots i done_slot j (λ same. both_ways _ (subst (λ q. is_written (plan q) x ≡ false) same misses) writes))
 
     -- where it writes, it leaves what batch order has after it
     due_after : (x : ℕ) → is_written (plan i) x ≡ true → IsDue afterwards x (get (At (suc i)) x)
-    due_after x writes k most ready behind = elim (cases_order i k) [
-      | inl same ↦ absurd (let undone : is_done (afterwards i) ≡ false = behind i (omega arith) less writes in let done : is_done (afterwards i) ≡ true = it_is_done in cc)
-      | inr apart_by ↦ elim apart_by [
-        | inr earlier ↦ absurd (let undone : is_done (afterwards i) ≡ false = behind i (omega arith) less writes in let done : is_done (afterwards i) ≡ true = it_is_done in cc)
-        | inl later ↦ sym (stays_to x (suc i) k (omega arith) most (λ j least below. elim (cases_Bool (is_written (plan j) x)) [
-          | inr misses ↦ misses
-          | inl also ↦ absurd (
-              let other : i ≡ j → ⊥ = λ same. omega arith in
-              let was : is_done (w.slots j) ≡ true = sym (ap is_done (slot_other w.slots i done_slot j other)) ∙ ready j below also in
-              let misses : is_touched (plan j) x ≡ false = (kept.away_from i j (omega arith) (omega arith) (ap is_done is) (begun_of_done (w.slots j) was)).first x writes in
-              let touched : is_touched (plan j) x ≡ true = written_is_touched (plan j) x also in
-              cc)
-        ]))
-      ]
-    ]
+    due_after x writes k most ready behind = ⊎_elim
+        (λ later. sym (stays_to x (suc i) k (omega arith) most (λ j least below. false_from_ne_true _ (λ also.
+        let was : is_done (w.slots j) ≡ true = sym (ap is_done (slot_other w.slots i done_slot j (λ same. omega arith))) ∙ ready j below also in
+        both_ways _ ((kept.away_from i j (omega arith) (omega arith) (ap is_done is) (begun_of_done (w.slots j) was)).first x writes) (written_is_touched (plan j) x also)))))
+        (λ up_to. absurd (both_ways _ (behind i up_to less writes) it_is_done))
+        (cases_lt i k)
 
     pub finish_keeps : Kept (ended run count calls plan w i own)
     finish_keeps = record {
@@ -253,10 +230,8 @@ module _ {C R : Type 0} (run : C → Inodes → Inodes × R) (count : ℕ) (call
           let other : i ≡ j → ⊥ = not_this j (ap is_done its) in
           let was : w.slots j ≡ taken away = sym (slot_other w.slots i done_slot j other) ∙ its in
           let writes : is_written (plan j) x ≡ true = moved_to_written (plan j) x goes in
-          let misses : is_written (plan i) x ≡ false = elim (cases_Bool (is_written (plan i) x)) [
-            | inr misses ↦ misses
-            | inl also ↦ absurd (let left : is_written (plan j) x ≡ false = others_leave w kept i less (ap is_done is) before_this j away other last was x (written_is_touched (plan i) x also) in cc)
-          ] in
+          let misses : is_written (plan i) x ≡ false =
+          false_from_ne_true _ (λ also. both_ways _ (others_leave w kept i less (ap is_done is) before_this j away other last was x (written_is_touched (plan i) x also)) writes) in
           due_same w.slots afterwards x (get away x) (λ k also. finished_done x k misses also) (kept.out j away last was x goes);
       told = λ j reply last its. elim (cases_eq i j) [
         | inl same ↦
@@ -279,10 +254,7 @@ module _ {C R : Type 0} (run : C → Inodes → Inodes × R) (count : ℕ) (call
   pub start_kept : Kept (start run count calls plan m)
   start_kept = record {
     away_from = λ i j below last undone begun. absurd cc;
-    at_home = λ x none k most before behind. sym (stays_to x 0 k (omega arith) most (λ j least below. elim (cases_Bool (is_written (plan j) x)) [
-      | inr misses ↦ misses
-      | inl writes ↦ absurd (let done : false ≡ true = before j below writes in cc)
-    ]));
+    at_home = λ x none k most before behind. sym (stays_to x 0 k (omega arith) most (λ j least below. false_from_ne_true _ (λ writes. both_ways false refl (before j below writes))));
     out = λ j away last its. absurd cc;
     told = λ j reply last its. absurd cc;
   }
@@ -295,7 +267,7 @@ module _ {C R : Type 0} (run : C → Inodes → Inodes × R) (count : ℕ) (call
   pub complete : (last : World R) → Kept last → IsComplete run count calls plan last → IsInOrder run count calls plan m last
   complete last kept all = (
     same_inodes last.home (At count) (λ x. kept.at_home x
-        (λ j away under its. absurd (let done : is_done (last.slots j) ≡ true = all j under in let undone : is_done (last.slots j) ≡ false = ap is_done its in cc))
+        (λ j away under its. absurd (both_ways _ (ap is_done its) (all j under)))
         count (omega arith) (λ j under writes. all j under) (λ j least under writes. absurd (omega arith))),
     (λ i under. done_is (last.slots i) (run (calls i) (At i)).1 (all i under) (λ reply is. kept.told i reply under is)),
   )

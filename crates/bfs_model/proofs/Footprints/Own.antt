@@ -1,9 +1,9 @@
 -- A call has the same footprint where what it touches is the same, and after a call that writes no directory in which it
 -- resolves names.
-use Rattle.std.proofs.Common.{◌≡◌, ℕ, Bool, true, false, ◌&&◌, ◌||◌, not, List, [], ◌∷◌, ◌++◌, Option, Some, None, option_map, option_and_then, refl, ap, ◌∙◌, eqb, eq-eqb, if◌then◌else◌}
+use Rattle.std.proofs.Common.{◌≡◌, ℕ, Bool, true, false, ◌&&◌, not, List, [], ◌∷◌, ◌++◌, Option, Some, None, option_map, option_and_then, refl, ap, ◌∙◌, eqb, eq-eqb, if◌then◌else◌, ⊎_elim}
 use Rattle.std.specs.Option.{option_map_or}
 use Rattle.std.specs.FinMap.{get}
-use Rattle.std.proofs.lemmas.Bool.{or_left, or_right}
+use Rattle.std.proofs.lemmas.Bool.{or_left, or_right, or_cases}
 use Rattle.bfs_model.specs.Tree.{Inodes, is_directory, entries_at, listing_at}
 use Rattle.bfs_model.specs.Context.{Context}
 use Rattle.bfs_model.specs.Directories.{entry_named}
@@ -15,13 +15,9 @@ use Rattle.bfs_model.specs.FootprintLaws.{FootprintsFollow, FootprintsAgree, Res
 
 -- What is among ids --------------------------------------------------------------------------------------------------------
 
-by_head : (b : Bool) (xs ys : List ℕ) (id : ℕ) → (among xs id ≡ true → among (xs ++ ys) id ≡ true) → (b || among xs id) ≡ true → (b || among (xs ++ ys) id) ≡ true
-by_head true xs ys id rest is = refl
-by_head false xs ys id rest is = rest is
-
 pub among_left : (xs ys : List ℕ) (id : ℕ) → among xs id ≡ true → among (xs ++ ys) id ≡ true
 among_left [] ys id is = absurd cc
-among_left (x ∷ xs) ys id is = by_head (eqb x id) xs ys id (among_left xs ys id) is
+among_left (x ∷ xs) ys id is = ⊎_elim (or_left (eqb x id) (among (xs ++ ys) id)) (λ later. or_right (eqb x id) _ (among_left xs ys id later)) (or_cases (eqb x id) (among xs id) is)
 
 pub among_right : (xs ys : List ℕ) (id : ℕ) → among ys id ≡ true → among (xs ++ ys) id ≡ true
 among_right [] ys id is = is

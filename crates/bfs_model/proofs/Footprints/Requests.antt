@@ -1,5 +1,5 @@
 -- What footprints tell of requests, which are bytes: a refused one touches nothing.
-use Rattle.std.proofs.Common.{◌≡◌, ℕ, true, List, Option, Some, None, Result, Ok, Err, refl, ap}
+use Rattle.std.proofs.Common.{◌≡◌, ℕ, true, Option, Some, None, Result, Ok, Err, refl, ap}
 use Rattle.std.specs.FinMap.{get}
 use Rattle.bfs_model.specs.Tree.{Time, Inodes}
 use Rattle.bfs_model.specs.Context.{Context}
@@ -22,29 +22,24 @@ abbrev under : (ordinal : ℕ) → Time → Request → Context
 under o t request = record { ordinal = o; time = t; caller = request.credential }
 
 module _ (m others : Inodes) (o : ℕ) (t : Time) where
-  arguments_keep : (request : Request) (call : Option Call) → AgreeOn (footprint_of_arguments m o t request call) m others
-      → answer_arguments others o t request call ≡ outcome_on (footprint_of_arguments m o t request call) others (answer_arguments m o t request call)
-  arguments_keep request None agree = refl
-  arguments_keep request (Some call) agree = ap (in_success request.xid) (calls_keep_to_footprints m others (under o t request) call agree)
+  -- the outcome is the same, and so is the footprint
+  arguments_sound : (request : Request) (call : Option Call) → AgreeOn (footprint_of_arguments m o t request call) m others
+      → (answer_arguments others o t request call ≡ outcome_on (footprint_of_arguments m o t request call) others (answer_arguments m o t request call))
+      × (footprint_of_arguments others o t request call ≡ footprint_of_arguments m o t request call)
+  arguments_sound request None agree = (refl, refl)
+  arguments_sound request (Some call) agree = (ap (in_success request.xid) (calls_keep_to_footprints m others (under o t request) call agree), footprints_agree m others (under o t request) call agree)
 
-  call_keeps : (call : Result Request Refusal) → AgreeOn (footprint_of_call m o t call) m others → answer_call others o t call ≡ outcome_on (footprint_of_call m o t call) others (answer_call m o t call)
-  call_keeps (Err refusal) agree = refl
-  call_keeps (Ok request) agree = arguments_keep request (arguments_of request.procedure request.arguments) agree
-
-  arguments_agree : (request : Request) (call : Option Call) → AgreeOn (footprint_of_arguments m o t request call) m others → footprint_of_arguments others o t request call ≡ footprint_of_arguments m o t request call
-  arguments_agree request None agree = refl
-  arguments_agree request (Some call) agree = footprints_agree m others (under o t request) call agree
-
-  call_agrees : (call : Result Request Refusal) → AgreeOn (footprint_of_call m o t call) m others → footprint_of_call others o t call ≡ footprint_of_call m o t call
-  call_agrees (Err refusal) agree = refl
-  call_agrees (Ok request) agree = arguments_agree request (arguments_of request.procedure request.arguments) agree
+  call_sound : (call : Result Request Refusal) → AgreeOn (footprint_of_call m o t call) m others
+      → (answer_call others o t call ≡ outcome_on (footprint_of_call m o t call) others (answer_call m o t call)) × (footprint_of_call others o t call ≡ footprint_of_call m o t call)
+  call_sound (Err refusal) agree = (refl, refl)
+  call_sound (Ok request) agree = arguments_sound request (arguments_of request.procedure request.arguments) agree
 
 pub requests_keep_to_footprints : RequestsKeepToFootprints
 unfolding answer
-requests_keep_to_footprints m others o t bytes agree = call_keeps m others o t (call_of bytes) agree
+requests_keep_to_footprints m others o t bytes agree = (call_sound m others o t (call_of bytes) agree).0
 
 pub request_footprints_agree : RequestFootprintsAgree
-request_footprints_agree m others o t bytes agree = call_agrees m others o t (call_of bytes) agree
+request_footprints_agree m others o t bytes agree = (call_sound m others o t (call_of bytes) agree).1
 
 -- Footprints that stay -------------------------------------------------------------------------------------------------------
 

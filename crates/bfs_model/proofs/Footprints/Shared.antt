@@ -2,9 +2,10 @@
 use Rattle.std.proofs.Common.{◌≡◌, ℕ, Bool, true, false, cond, ◌||◌, not, List, [], ◌∷◌, ◌++◌, map, None, refl, sym, ap, ◌∙◌, eqb}
 use Rattle.std.specs.List.{AllByRecursion}
 use Rattle.std.specs.FinMap.{get, get-retain_keys, nat_cmp-IsAntisymmetric}
+use Rattle.std.proofs.lemmas.Bool.{cond_both, or_parts, or_from}
 use Rattle.bfs_model.specs.Tree.{Time, Inodes}
 use Rattle.bfs_model.specs.Serial.{ordinal_after, answer}
-use Rattle.bfs_model.specs.Footprints.{Footprint, known, whole}
+use Rattle.bfs_model.specs.Footprints.{Footprint, known, whole, footprint_of}
 use Rattle.bfs_model.specs.Conflicts.{among, is_written, is_touched, conflict, AgreeOn, closed}
 use Rattle.bfs_model.specs.Groups.{footprints_at, AreDisjoint, AreSeen, all_closed}
 use Rattle.bfs_model.specs.Shares.{moved_for, all_moved, without, share_of, is_there, footprints_on, RunsComeHome, SharesKnow, SharesHaveFootprints}
@@ -15,19 +16,14 @@ use Rattle.bfs_model.proofs.Footprints.Requests.{request_footprints_agree}
 
 none_among : (xs ys : List ℕ) (id : ℕ) → among xs id ≡ false → among ys id ≡ false → among (xs ++ ys) id ≡ false
 none_among [] ys id one two = two
-none_among (x ∷ xs) ys id one two = by_head (eqb x id) one (λ rest. none_among xs ys id rest two)
-  where
-    by_head : (b : Bool) → (b || among xs id) ≡ false → (among xs id ≡ false → among (xs ++ ys) id ≡ false) → (b || among (xs ++ ys) id) ≡ false
-    by_head true one rest = absurd cc
-    by_head false one rest = rest one
+none_among (x ∷ xs) ys id one two = let parts = or_parts (eqb x id) (among xs id) one in or_from (eqb x id) (among (xs ++ ys) id) parts.0 (none_among xs ys id parts.1 two)
+
+pub all_both : {X : Type 0} (P Q S : X → Type 0) → ((x : X) → P x → Q x → S x) → (xs : List X) → AllByRecursion P xs → AllByRecursion Q xs → AllByRecursion S xs
+all_both P Q S f [] one two = tt
+all_both P Q S f (x ∷ xs) one two = (f x one.0 two.0, all_both P Q S f xs one.1 two.1)
 
 all_each : {X : Type 0} (P Q : X → Type 0) → ((x : X) → P x → Q x) → (xs : List X) → AllByRecursion P xs → AllByRecursion Q xs
-all_each P Q f [] all = tt
-all_each P Q f (x ∷ xs) all = (f x all.0, all_each P Q f xs all.1)
-
-all_both : {X : Type 0} (P Q : X → Type 0) (xs : List X) → AllByRecursion P xs → AllByRecursion Q xs → AllByRecursion (λ x. P x × Q x) xs
-all_both P Q [] one two = tt
-all_both P Q (x ∷ xs) one two = ((one.0, two.0), all_both P Q xs one.1 two.1)
+all_each P Q f xs all = all_both P P Q (λ x one _. f x one) xs all all
 
 -- what one looks at and does not write, the other does not move
 abbrev Leaves : Footprint → Footprint → Type 0
@@ -50,7 +46,7 @@ all_leave (f ∷ fs) disjoint =
     let itself : Leaves f f = λ id touched is. is in
     let pairs : AllByRecursion (λ g. Leaves f g × Leaves g f) fs = all_each (λ g. conflict f g ≡ false) (λ g. Leaves f g × Leaves g f) (λ g none. leaves f g (apart f g none)) fs disjoint.0 in (
       (itself, all_each (λ g. Leaves f g × Leaves g f) (Leaves f) (λ g both. both.0) fs pairs),
-      all_both (λ g. Leaves g f) (λ g. AllByRecursion (Leaves g) fs) fs (all_each (λ g. Leaves f g × Leaves g f) (λ g. Leaves g f) (λ g both. both.1) fs pairs) (all_leave fs disjoint.1),
+      all_both (λ g. Leaves g f) (λ g. AllByRecursion (Leaves g) fs) (λ g. AllByRecursion (Leaves g) (f ∷ fs)) (λ g one rest. (one, rest)) fs (all_each (λ g. Leaves f g × Leaves g f) (λ g. Leaves g f) (λ g both. both.1) fs pairs) (all_leave fs disjoint.1),
     )
 
 not_moved : (f : Footprint) (fs : List Footprint) → AllByRecursion (Leaves f) fs → (id : ℕ) → is_touched f id ≡ true → among (moved_for f) id ≡ false → among (all_moved fs) id ≡ false
@@ -62,11 +58,9 @@ get-without ids m id = get-retain_keys m (λ x. not (among ids x)) id (λ x tied
 
 -- a share is the same as all inodes where its call looks
 pub share_agrees : (m : Inodes) (f : Footprint) (fs : List Footprint) → AllByRecursion (Leaves f) fs → AgreeOn f m (share_of m (without (all_moved fs) m) f)
-share_agrees m f fs all id touched = get-closed f m (without (all_moved fs) m) id ∙ by_test (is_written f id) refl
-  where
-    by_test : (b : Bool) → is_written f id ≡ b → cond b (get m id) (get (without (all_moved fs) m) id) ≡ get m id
-    by_test true is = refl
-    by_test false is = get-without (all_moved fs) m id ∙ ap (λ b. cond (not b) (get m id) None) (not_moved f fs all id touched (moved_is_written f id is))
+share_agrees m f fs all id touched =
+    get-closed f m (without (all_moved fs) m) id ∙ cond_both (is_written f id) _ _ (λ there. there ≡ get m id) (λ is. refl)
+    (λ is. get-without (all_moved fs) m id ∙ ap (λ b. cond (not b) (get m id) None) (not_moved f fs all id touched (moved_is_written f id is)))
 
 shares_agree : (m : Inodes) (fs gs : List Footprint) → AllByRecursion (λ f. AllByRecursion (Leaves f) gs) fs → AreSeen m fs (map (share_of m (without (all_moved gs) m)) fs)
 shares_agree m [] gs all = tt
@@ -74,30 +68,25 @@ shares_agree m (f ∷ fs) gs all = (share_agrees m f gs all.0, shares_agree m fs
 
 -- Home ---------------------------------------------------------------------------------------------------------------------
 
-abbrev tail_of : List Footprint → List Footprint
-tail_of [] = []
-tail_of (f ∷ fs) = fs
+cond_same : {X : Type 0} (b : Bool) (x y z : X) → (b ≡ false → y ≡ z) → cond b x y ≡ cond b x z
+cond_same true x y z same = refl
+cond_same false x y z same = same refl
 
 module _ (t : Time) where
   -- what is brought home does not depend on what was at home where it comes
-  home_same : (o : ℕ) (requests : List (List ℕ)) (fs : List Footprint) (owns : List Inodes) (m home home_then : Inodes) → fs ≡ footprints_at m o t requests → AreSeen m fs owns
-      → ((id : ℕ) → among (all_moved fs) id ≡ false → get home id ≡ get home_then id) → all_closed o t requests fs owns home ≡ all_closed o t requests fs owns home_then
-  home_same o [] [] [] m home home_then is seen same = same_inodes home home_then (λ id. same id refl)
-  home_same o [] [] (own ∷ owns) m home home_then is seen same = absurd seen
-  home_same o [] (f ∷ fs) owns m home home_then is seen same = absurd cc
-  home_same o (request ∷ requests) [] owns m home home_then is seen same = absurd cc
-  home_same o (request ∷ requests) (f ∷ fs) [] m home home_then is seen same = absurd seen
-  home_same o (request ∷ requests) (f ∷ fs) (own ∷ owns) m home home_then is seen same =
-      home_same (ordinal_after o 1) requests fs owns m (closed f (answer own o t request).0 home) (closed f (answer own o t request).0 home_then) (tail_same is) seen.1
-      (λ id free. get-closed f (answer own o t request).0 home id ∙ by_test (is_written f id) id refl free ∙ sym (get-closed f (answer own o t request).0 home_then id))
-    where
-      tail_same : f ∷ fs ≡ footprints_at m o t (request ∷ requests) → fs ≡ footprints_at m (ordinal_after o 1) t requests
-      tail_same is = ap tail_of is
-
-      by_test : (b : Bool) (id : ℕ) → is_written f id ≡ b → among (all_moved fs) id ≡ false
-          → cond b (get (answer own o t request).0 id) (get home id) ≡ cond b (get (answer own o t request).0 id) (get home_then id)
-      by_test true id is free = refl
-      by_test false id is free = same id (none_among (moved_for f) (all_moved fs) id (moved_is_written f id is) free)
+  home_same : (o : ℕ) (requests : List (List ℕ)) (owns : List Inodes) (m home home_then : Inodes) → AreSeen m (footprints_at m o t requests) owns
+      → ((id : ℕ) → among (all_moved (footprints_at m o t requests)) id ≡ false → get home id ≡ get home_then id)
+      → all_closed o t requests (footprints_at m o t requests) owns home ≡ all_closed o t requests (footprints_at m o t requests) owns home_then
+  home_same o [] [] m home home_then seen same = same_inodes home home_then (λ id. same id refl)
+  home_same o [] (own ∷ owns) m home home_then seen same = absurd seen
+  home_same o (request ∷ requests) [] m home home_then seen same = absurd seen
+  home_same o (request ∷ requests) (own ∷ owns) m home home_then seen same =
+      let f = footprint_of m o t request in
+      let left = (answer own o t request).0 in
+      home_same (ordinal_after o 1) requests owns m (closed f left home) (closed f left home_then) seen.1 (λ id free.
+      get-closed f left home id
+      ∙ cond_same (is_written f id) _ (get home id) (get home_then id) (λ is. same id (none_among (moved_for f) (all_moved (footprints_at m (ordinal_after o 1) t requests)) id (moved_is_written f id is) free))
+      ∙ sym (get-closed f left home_then id))
 
 pub runs_come_home : RunsComeHome
 runs_come_home m o t requests disjoint =
@@ -105,7 +94,7 @@ runs_come_home m o t requests disjoint =
     let home = without (all_moved fs) m in
     let seen : AreSeen m fs (map (share_of m home) fs) = shares_agree m fs fs (all_leave fs disjoint) in
     let merged = runs_are_merged m o t requests (map (share_of m home) fs) disjoint seen in
-    (home_same t o requests fs (map (share_of m home) fs) m home m refl seen (λ id free. get-without (all_moved fs) m id ∙ ap (λ b. cond (not b) (get m id) None) free) ∙ merged.0, merged.1)
+    (home_same t o requests (map (share_of m home) fs) m home m seen (λ id free. get-without (all_moved fs) m id ∙ ap (λ b. cond (not b) (get m id) None) free) ∙ merged.0, merged.1)
 
 -- What is known on shares ------------------------------------------------------------------------------------------------------
 

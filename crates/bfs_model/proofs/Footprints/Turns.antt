@@ -1,15 +1,15 @@
 -- Calls that are carried out one after another in another order than that of the batch, each when it may begin.
-use Rattle.std.proofs.Common.{◌≡◌, ℕ, ◌<◌, inl, inr, Bool, true, false, cond, not, List, [], ◌∷◌, None, refl, sym, ap, subst, ◌∙◌, eqb}
+use Rattle.std.proofs.Common.{◌≡◌, ℕ, ◌<◌, Bool, true, false, cond, not, List, [], ◌∷◌, None, refl, sym, ap, subst, ◌∙◌, eqb}
 use Rattle.std.specs.FinMap.{get}
-use Rattle.std.proofs.lemmas.Bool.{cond-false, cases_eq}
+use Rattle.std.proofs.lemmas.Bool.{cond-false, cond_both, both_ways}
 use Rattle.bfs_model.specs.Tree.{Inodes}
 use Rattle.bfs_model.specs.Footprints.{Footprint}
 use Rattle.bfs_model.specs.Conflicts.{is_written, AgreeOn, closed, outcome_on}
 use Rattle.bfs_model.specs.Shares.{moved_for, without}
-use Rattle.bfs_model.specs.Events.{Slot, waiting, taken, finished, World, moved, put_slot, state, took, ended, start, IsComplete, IsInOrder, MayBegin, carried_out, InTurn}
+use Rattle.bfs_model.specs.Events.{Slot, waiting, taken, finished, World, moved, state, took, ended, start, IsComplete, IsInOrder, MayBegin, carried_out, InTurn}
 use Rattle.bfs_model.proofs.Footprints.Agreement.{same_inodes, get-closed}
 use Rattle.bfs_model.proofs.Footprints.Shared.{get-without, moved_is_written}
-use Rattle.bfs_model.proofs.Footprints.Overtaking.{Kept, slot_here, slot_other, take_keeps, finish_keeps, ready, start_kept, complete}
+use Rattle.bfs_model.proofs.Footprints.Overtaking.{Kept, slot_here, take_keeps, finish_keeps, ready, start_kept, complete}
 
 abbrev pub is_taken : {R : Type 0} → Slot R → Bool
 is_taken waiting = false
@@ -21,7 +21,7 @@ abbrev pub AllHome : {R : Type 0} → (ℕ → Slot R) → Type 0
 AllHome slots = (i : ℕ) → is_taken (slots i) ≡ false
 
 pub none_away : {R : Type 0} (slots : ℕ → Slot R) → AllHome slots → (i : ℕ) (away : Inodes) → slots i ≡ taken away → ⊥
-none_away slots home i away is = let one : is_taken (slots i) ≡ true = ap is_taken is in let two : is_taken (slots i) ≡ false = home i in cc
+none_away slots home i away is = both_ways _ (home i) (ap is_taken is)
 
 put_twice : {R : Type 0} (b : Bool) (one two other : Slot R) → cond b two (cond b one other) ≡ cond b two other
 put_twice true one two other = refl
@@ -45,23 +45,17 @@ module _ {C R : Type 0} (run : C → Inodes → Inodes × R) (count : ℕ) (call
 
     -- to carry it out is to take it, and to finish it on all inodes
     at_once : ended run count calls plan (took run count calls plan w i) i w.home ≡ after w i
-    at_once = λ k. record { home = home_same k; slots = λ j. put_twice (eqb i j) (taken (moved (moved_for (plan i)) w.home)) (finished (run (calls i) w.home).1) (w.slots j) k }
-      where
-        by_test : (b : Bool) (x : ℕ) → is_written (plan i) x ≡ b → cond b (get (run (calls i) w.home).0 x) (get (without (moved_for (plan i)) w.home) x) ≡ get (run (calls i) w.home).0 x
-        by_test true x is = refl
-        by_test false x is = get-without (moved_for (plan i)) w.home x ∙ ap (λ b. cond (not b) (get w.home x) None) (moved_is_written (plan i) x is) ∙ sym (left x is)
-
-        home_same : closed (plan i) (run (calls i) w.home).0 (without (moved_for (plan i)) w.home) ≡ (run (calls i) w.home).0
-        home_same = same_inodes _ _ (λ x. get-closed (plan i) (run (calls i) w.home).0 (without (moved_for (plan i)) w.home) x ∙ by_test (is_written (plan i) x) x refl)
+    at_once =
+        let home_same : closed (plan i) (run (calls i) w.home).0 (without (moved_for (plan i)) w.home) ≡ (run (calls i) w.home).0 = same_inodes _ _ (λ x.
+        get-closed (plan i) (run (calls i) w.home).0 (without (moved_for (plan i)) w.home) x ∙ cond_both (is_written (plan i) x) _ _ (λ there. there ≡ get (run (calls i) w.home).0 x) (λ is. refl)
+        (λ is. get-without (moved_for (plan i)) w.home x ∙ ap (λ b. cond (not b) (get w.home x) None) (moved_is_written (plan i) x is) ∙ sym (left x is))) in
+        λ k. record { home = home_same k; slots = λ j. put_twice (eqb i j) (taken (moved (moved_for (plan i)) w.home)) (finished (run (calls i) w.home).1) (w.slots j) k }
 
     pub turn_keeps : IsKept (after w i)
     turn_keeps = subst IsKept at_once (finish_keeps run count calls plan m local (took run count calls plan w i) (take_keeps run count calls plan m local w kept i may.0 may.1 may.2) i may.0 _ (slot_here w.slots i _) w.home agrees)
 
     pub still_home : AllHome (after w i).slots
-    still_home j = elim (cases_eq i j) [
-      | inl same ↦ subst (λ q. is_taken ((after w i).slots q) ≡ false) same (ap is_taken (slot_here w.slots i (finished (run (calls i) w.home).1)))
-      | inr other ↦ ap is_taken (slot_other w.slots i (finished (run (calls i) w.home).1) j other) ∙ home j
-    ]
+    still_home j = cond_both (eqb i j) (finished (run (calls i) w.home).1) (w.slots j) (λ slot. is_taken slot ≡ false) (λ is. refl) (λ is. home j)
 
   pub turns_keep : (order : List ℕ) (w last : World R) → IsKept w → AllHome w.slots → InTurn run count calls plan w order last → IsKept last
   turns_keep [] w last kept home turns = subst IsKept (sym turns) kept
