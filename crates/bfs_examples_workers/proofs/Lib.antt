@@ -1,1 +1,3 @@
 pub mod Nothing
+pub mod Out
+pub mod Parts

@@ -4,6 +4,7 @@ use Rattle.std.specs.List.{All, AllByRecursion, AllZip}
 use Rattle.std.proofs.lemmas.List.Elements.{All-from_recursion, recursion_from_All}
 use Rattle.std.proofs.lemmas.List.Sorted.{All-permutation}
 use Rattle.bfs_tree.specs.Slots.{Slots}
+use Rattle.bfs_handover.specs.Jobs.{IsDone}
 use Rattle.bfs_handover.specs.Merging.{IsMerged, reply_in}
 use Rattle.bfs_handover.specs.declared.job.Job.{Job}
 use Rattle.bfs_handover.specs.declared.job.Done.{Done}
@@ -22,6 +23,12 @@ module _ (ran : ℕ → List ℕ → Type 0) where
   all_gated tree [] (done ∷ dones) all = absurd all
   all_gated tree (job ∷ jobs) [] all = absurd all
   all_gated tree (job ∷ jobs) (done ∷ dones) all = (all.0.gated, all_gated tree jobs dones all.1)
+
+  pub all_done : (tree : Slots) (jobs : List Job) (dones : List Done) → AllZip (Gives ran tree) jobs dones → AllZip (IsDone tree) jobs dones
+  all_done tree [] [] all = tt
+  all_done tree [] (done ∷ dones) all = absurd all
+  all_done tree (job ∷ jobs) [] all = absurd all
+  all_done tree (job ∷ jobs) (done ∷ dones) all = (all.0.result, all_done tree jobs dones all.1)
 
   in_replies : (dones : List Done) → AllByRecursion Gated dones → AllByRecursion GatedReply (map reply_in dones)
   in_replies [] all = tt

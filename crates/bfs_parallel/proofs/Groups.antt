@@ -1,88 +1,197 @@
--- A group as it was planned: of which it is known what its requests touch, or a request alone.
-use Rattle.std.proofs.Common.{◌≡◌, ℕ, zero, suc, ◌+◌, ◌<◌, ◌≤◌, Bool, true, false, ◌||◌, true≢false, List, [], ◌∷◌, ◌++◌, slice_index_or, length, take, drop, map, refl, ap, sym, subst, ◌∙◌, arith}
-use Rattle.std.specs.Prelude.{if◌then◌else◌}
+-- What is executed level after level: a group as it was planned, and a run, of which all requests stand at one level.
+use Rattle.std.proofs.Common.{◌≡◌, ℕ, zero, suc, ◌+◌, ◌-◌, ◌<◌, ◌≤◌, Bool, true, false, ◌||◌, true≢false, List, [], ◌∷◌, ◌++◌, length, take, drop, map, refl, ap, sym, subst, ◌∙◌, arith}
+use Rattle.std.specs.Prelude.{if◌then◌else◌, max, replicate}
 use Rattle.std.specs.Global.{Global}
 use Rattle.std.specs.List.{All, AllByRecursion, list_any}
 use Rattle.std.specs.declared.vec.Vec.{Vec}
-use Rattle.std.proofs.lemmas.List.{length-drop, length-map}
+use Rattle.std.proofs.lemmas.Bool.{false_from_ne_true}
+use Rattle.std.proofs.lemmas.List.{length-drop, length-map, length-take-le}
 use Rattle.std.proofs.lemmas.List.Elements.{All-from_recursion}
 use Rattle.bfs_model.specs.Tree.{Time, Inodes}
 use Rattle.bfs_model.specs.Limits.{most_reply_bytes}
-use Rattle.bfs_model.specs.Call.{call_of}
-use Rattle.bfs_model.specs.Serial.{ordinal_after, replies_to}
-use Rattle.bfs_model.specs.Footprints.{Footprint, footprint_of}
-use Rattle.bfs_model.specs.Conflicts.{is_whole, is_written, resolved_of}
-use Rattle.bfs_model.specs.Groups.{IsCut, footprints_at}
+use Rattle.bfs_model.specs.Serial.{ordinal_after, answer, replies_to}
+use Rattle.bfs_model.specs.Footprints.{Footprint, known, whole, footprint_of}
+use Rattle.bfs_model.specs.Conflicts.{conflict, is_whole, is_written}
+use Rattle.bfs_model.specs.Groups.{AreDisjoint, IsCut, IsCutBefore, footprints_at}
 use Rattle.bfs_model.specs.WellFormed.{IsWellFormed}
+use Rattle.bfs_model.proofs.Footprints.Apart.{apart}
+use Rattle.bfs_model.proofs.Footprints.Requests.{resolved_is_touched_by_requests}
+use Rattle.bfs_model.proofs.Kept.{answer_keeps, formed_again, reply_is_short, servable}
 use Rattle.bfs_footprint.specs.Seen.{footprint_seen}
 use Rattle.bfs_footprint.specs.declared.footprints.Footprint as declared
 use Rattle.bfs_levels.specs.Laws.{AreJoined}
-use Rattle.bfs_levels.specs.Planning.{Touch, count_joined, group_length, levels_of, parts_groups, touches_at}
-use Rattle.bfs_levels.proofs.Longest.{groups_are_cut, joined_just_if}
-use Rattle.bfs_parallel.specs.Levels.{IsGroupOf, requests_from, texts_of}
-use Rattle.bfs_parallel.specs.Ran.{AllRan}
-use Rattle.bfs_parallel.proofs.Alone.{call_of_all}
-use Rattle.bfs_parallel.proofs.Runs.{replies_are_short}
+use Rattle.bfs_levels.specs.Planning.{Touch, count_joined, level_behind, levels_behind, levels_of, parts_groups, parts_runs, touches_at}
+use Rattle.bfs_levels.specs.Requests.{requests_from}
+use Rattle.bfs_levels.proofs.Longest.{joined_cut, joined_just_if, runs_are_longest}
+use Rattle.bfs_parallel.specs.Levels.{IsGroupOf, texts_of}
 
--- How long it is ----------------------------------------------------------------------------------------------------------
-
-within_touches : (earlier : List Footprint) (calls : List Touch) → count_joined parts_groups earlier calls ≤ length calls
-within_touches earlier [] = omega arith
-within_touches earlier (call ∷ calls) = by_test (list_any (λ other. parts_groups other call) earlier) (within_touches (earlier ++ call.footprint ∷ []) calls)
-  where
-    by_test : (b : Bool) → count_joined parts_groups (earlier ++ call.footprint ∷ []) calls ≤ length calls
-        → if◌then◌else◌ b 0 (count_joined parts_groups (earlier ++ call.footprint ∷ []) calls + 1) ≤ suc (length calls)
-    by_test true few = omega arith
-    by_test false few = omega arith
+-- The longest ones ----------------------------------------------------------------------------------------------------------
 
 length-touches_at : (m : Inodes) (o : ℕ) (t : Time) (requests : List (List ℕ)) → length (touches_at m o t requests) ≡ length requests
 length-touches_at m o t [] = refl
 length-touches_at m o t (request ∷ requests) = ap suc (length-touches_at m (ordinal_after o 1) t requests)
 
-pub group_within : (m : Inodes) (o : ℕ) (t : Time) (requests : List (List ℕ)) → group_length m o t requests ≤ length requests
-group_within m o t requests = let few = within_touches [] (touches_at m o t requests) in let all = length-touches_at m o t requests in omega (arith, few, all)
+module _ (parts_by : Footprint → Touch → Bool) where
+  within_touches : (earlier : List Footprint) (calls : List Touch) → count_joined parts_by earlier calls ≤ length calls
+  within_touches earlier [] = omega arith
+  within_touches earlier (call ∷ calls) = by_test (list_any (λ other. parts_by other call) earlier) (within_touches (earlier ++ call.footprint ∷ []) calls)
+    where
+      by_test : (b : Bool) → count_joined parts_by (earlier ++ call.footprint ∷ []) calls ≤ length calls
+          → if◌then◌else◌ b 0 (count_joined parts_by (earlier ++ call.footprint ∷ []) calls + 1) ≤ suc (length calls)
+      by_test true few = omega arith
+      by_test false few = omega arith
 
-pub group_of_some : (m : Inodes) (o : ℕ) (t : Time) (requests : List (List ℕ)) → 0 < length requests → 0 < group_length m o t requests
-group_of_some m o t [] some = absurd (omega arith)
-group_of_some m o t (request ∷ requests) some = omega arith
+  first_counted : (m : Inodes) (o : ℕ) (t : Time) (requests : List (List ℕ)) → 0 < length requests → 0 < count_joined parts_by [] (touches_at m o t requests)
+  first_counted m o t [] some = absurd (omega arith)
+  first_counted m o t (request ∷ requests) some = omega arith
 
--- What is known of it --------------------------------------------------------------------------------------------------------
+  -- the footprints of the longest run, or group, from a place on
+  pub record AreLongest (m : Inodes) (o : ℕ) (t : Time) (batch : List (List ℕ)) (first : ℕ) (items : List declared.Footprint) : Type 0 where
+    pub more : first < length batch
+    pub longest : map footprint_seen items ≡ footprints_at m o t (take (count_joined parts_by [] (touches_at m o t (drop first batch))) (drop first batch))
+    pub count : length items ≡ count_joined parts_by [] (touches_at m o t (drop first batch))
+
+  module _ (m : Inodes) (o : ℕ) (t : Time) (batch : List (List ℕ)) (first : ℕ) (items : List declared.Footprint) (are : AreLongest m o t batch first items) where
+    left : length (drop first batch) ≡ length batch - first
+    left = length-drop first batch
+
+    pub few : length items ≤ length (drop first batch)
+    few = let within = within_touches [] (touches_at m o t (drop first batch)) in let all = length-touches_at m o t (drop first batch) in let count = are.count in omega arith
+
+    pub some : 0 < length items
+    some = let long = left in let more = are.more in let count = are.count in let one = first_counted m o t (drop first batch) (omega arith) in omega arith
+
+    pub fits : first + length items ≤ length batch
+    fits = let within = few in let long = left in let more = are.more in omega arith
+
+    pub found : map footprint_seen items ≡ footprints_at m o t (requests_from first (length items) batch)
+    found = subst (λ k. map footprint_seen items ≡ footprints_at m o t (take k (drop first batch))) (sym are.count) are.longest
+
+-- As groups -------------------------------------------------------------------------------------------------------------------
+
+module _ (m : Inodes) (o : ℕ) (t : Time) (batch : List (List ℕ)) (first : ℕ) (items : List declared.Footprint) (levels : List ℕ) where
+  abbrev its_requests : List (List ℕ)
+  its_requests = requests_from first (length items) batch
+
+  abbrev its_footprints : List Footprint
+  its_footprints = map footprint_seen items
+
+  as_group : IsWellFormed (record { tree = m; next_ordinal = o; last_time = t }) → its_footprints ≡ footprints_at m o t its_requests → first + length items ≤ length batch → AllByRecursion (λ g. is_whole g ≡ false) (footprints_at m o t its_requests)
+      → IsCut (footprints_at m o t its_requests) its_requests → levels ≡ levels_of its_footprints → IsGroupOf m first o t batch its_footprints levels
+  as_group formed are fit certain cut levelled =
+      let long : length its_footprints ≡ length items = length-map items footprint_seen in record {
+        formed = formed;
+        found = subst (λ n. its_footprints ≡ footprints_at m o t (requests_from first n batch)) (sym long) are;
+        within = omega arith;
+        known = subst (AllByRecursion (λ g. is_whole g ≡ false)) (sym are) certain;
+        cut = subst (λ n. IsCut (footprints_at m o t (requests_from first n batch)) (requests_from first n batch)) (sym long) cut;
+        levelled = levelled;
+      }
+
+-- Groups ----------------------------------------------------------------------------------------------------------------------
 
 both_false : (a b : Bool) → (a || b) ≡ false → (a ≡ false) × (b ≡ false)
 both_false true b is = absurd (true≢false is)
 both_false false b is = (refl, is)
 
+-- where one is in a group with another, it is known of both what they touch
+both_known : (f : Footprint) (call : Touch) → parts_groups f call ≡ false → (is_whole f ≡ false) × (is_whole call.footprint ≡ false)
+both_known f call is = both_false (is_whole f) (is_whole call.footprint) (both_false (is_whole f || is_whole call.footprint) (list_any (is_written f) call.resolved) is).0
+
 known_behind : (f : Footprint) (m : Inodes) (o : ℕ) (t : Time) (requests : List (List ℕ)) → AllByRecursion (λ later. parts_groups f later ≡ false) (touches_at m o t requests) → AllByRecursion (λ g. is_whole g ≡ false) (footprints_at m o t requests)
 known_behind f m o t [] all = tt
-known_behind f m o t (request ∷ requests) all =
-    let g = footprint_of m o t request in
-    ((both_false (is_whole f) (is_whole g) (both_false (is_whole f || is_whole g) (list_any (is_written f) (resolved_of request)) all.0).0).1, known_behind f m (ordinal_after o 1) t requests all.1)
+known_behind f m o t (request ∷ requests) all = ((both_known f _ all.0).1, known_behind f m (ordinal_after o 1) t requests all.1)
 
-abbrev first_of : List Footprint → Footprint → Footprint
-first_of [] f = f
-first_of (g ∷ gs) f = g
+known_in_group : (m : Inodes) (o : ℕ) (t : Time) (requests : List (List ℕ)) → 1 < length requests → AreJoined parts_groups (touches_at m o t requests) → AllByRecursion (λ g. is_whole g ≡ false) (footprints_at m o t requests)
+known_in_group m o t [] more joined = tt
+known_in_group m o t (request ∷ []) more joined = absurd (omega arith)
+known_in_group m o t (request ∷ other ∷ requests) more joined = ((both_known (footprint_of m o t request) _ joined.0.0).0, known_behind (footprint_of m o t request) m (ordinal_after o 1) t (other ∷ requests) joined.0)
 
--- where the first is known, all are
-known_group : (m : Inodes) (o : ℕ) (t : Time) (requests : List (List ℕ)) (fs : List Footprint) → fs ≡ footprints_at m o t requests → AreJoined parts_groups (touches_at m o t requests)
-    → (f : Footprint) → f ≡ first_of fs f → is_whole f ≡ false → AllByRecursion (λ g. is_whole g ≡ false) (footprints_at m o t requests)
-known_group m o t [] fs are joined f first is = tt
-known_group m o t (request ∷ requests) fs are joined f first is =
-    (ap is_whole (sym (first ∙ ap (λ gs. first_of gs f) are)) ∙ is, known_behind (footprint_of m o t request) m (ordinal_after o 1) t requests joined.0)
+-- of two requests and more
+pub is_group : (m : Inodes) (o : ℕ) (t : Time) (batch : List (List ℕ)) (first : ℕ) (items : List declared.Footprint) (levels : List ℕ) → IsWellFormed (record { tree = m; next_ordinal = o; last_time = t })
+    → AreLongest parts_groups m o t batch first items → (length items ≡ 1 → ⊥) → levels ≡ levels_of (map footprint_seen items) → IsGroupOf m first o t batch (map footprint_seen items) levels
+is_group m o t batch first items levels formed are two levelled =
+    let short = few parts_groups m o t batch first items are in
+    let long : length (requests_from first (length items) batch) ≡ length items = length-take-le (length items) (drop first batch) short in
+    let joined = (joined_just_if parts_groups m o t (drop first batch) (length items) short).1 (let count = are.count in omega arith) in
+    let one = some parts_groups m o t batch first items are in
+    as_group m o t batch first items levels formed (found parts_groups m o t batch first items are) (fits parts_groups m o t batch first items are)
+    (known_in_group m o t (requests_from first (length items) batch) (more (length items) one two (omega arith)) joined)
+    (joined_cut m o t (requests_from first (length items) batch) joined) levelled
+  where
+    more : (n : ℕ) → 0 < n → (n ≡ 1 → ⊥) → n ≤ length (requests_from first (length items) batch) → 1 < length (requests_from first (length items) batch)
+    more zero some two within = absurd (omega arith)
+    more (suc zero) some two within = absurd (two refl)
+    more (suc (suc n)) some two within = omega arith
 
-first_seen : (items : List declared.Footprint) (x : declared.Footprint) → x ≡ slice_index_or items 0 x → footprint_seen x ≡ first_of (map footprint_seen items) (footprint_seen x)
-first_seen [] x at = refl
-first_seen (y ∷ ys) x at = ap footprint_seen at
+-- Runs ------------------------------------------------------------------------------------------------------------------------
 
-abbrev request_in : List (List ℕ) → List ℕ
-request_in [] = []
-request_in (request ∷ requests) = request
+known_apart : (f g : Footprint) → conflict f g ≡ false → (is_whole f ≡ false) × (is_whole g ≡ false)
+known_apart (known reads writes) (known others theirs) none = (refl, refl)
+known_apart (known reads writes) whole none = absurd (true≢false none)
+known_apart whole g none = absurd (true≢false none)
 
-first_taken : (m : Inodes) (o : ℕ) (t : Time) (k : ℕ) → 0 < k → (left : List (List ℕ)) (request : List ℕ) → take 1 left ≡ request ∷ [] → (f : Footprint) → first_of (footprints_at m o t (take k left)) f ≡ footprint_of m o t request
-first_taken m o t zero more left request are f = absurd (omega arith)
-first_taken m o t (suc k) more [] request are f = absurd (let wrong : 0 ≡ 1 = ap length are in omega arith)
-first_taken m o t (suc k) more (other ∷ left) request are f = ap (λ requests. footprint_of m o t (request_in requests)) are
+known_beside : (f : Footprint) (fs : List Footprint) → AllByRecursion (λ other. conflict f other ≡ false) fs → AllByRecursion (λ g. is_whole g ≡ false) fs
+known_beside f [] all = tt
+known_beside f (g ∷ fs) all = ((known_apart f g all.0).1, known_beside f fs all.1)
 
--- Replies of a group ---------------------------------------------------------------------------------------------------------
+known_in_run : (fs : List Footprint) → 1 < length fs → AreDisjoint fs → AllByRecursion (λ g. is_whole g ≡ false) fs
+known_in_run [] more disjoint = tt
+known_in_run (f ∷ []) more disjoint = absurd (omega arith)
+known_in_run (f ∷ g ∷ fs) more disjoint = ((known_apart f g disjoint.0.0).0, known_beside f (g ∷ fs) disjoint.0)
+
+-- where a request resolves names is what it touches, so no request of a run writes it
+cut_behind : (f : Footprint) (m : Inodes) (o : ℕ) (t : Time) (requests : List (List ℕ)) → AllByRecursion (λ other. conflict f other ≡ false) (footprints_at m o t requests) → IsCutBefore f requests
+cut_behind f m o t [] all = tt
+cut_behind f m o t (request ∷ requests) all = (
+  (λ id resolved. false_from_ne_true (is_written f id) (λ written. true≢false (sym (resolved_is_touched_by_requests m o t request id resolved) ∙ (apart f (footprint_of m o t request) all.0).first id written))),
+  cut_behind f m (ordinal_after o 1) t requests all.1,
+)
+
+disjoint_cut : (m : Inodes) (o : ℕ) (t : Time) (requests : List (List ℕ)) → AreDisjoint (footprints_at m o t requests) → IsCut (footprints_at m o t requests) requests
+disjoint_cut m o t [] disjoint = tt
+disjoint_cut m o t (request ∷ requests) disjoint = (cut_behind (footprint_of m o t request) m (ordinal_after o 1) t requests disjoint.0, disjoint_cut m (ordinal_after o 1) t requests disjoint.1)
+
+-- none of these earlier ones conflicts with any of them
+abbrev AreFree : List (Footprint × ℕ) → List Footprint → Type 0
+AreFree [] fs = Unit {0}
+AreFree (earlier ∷ others) fs = AllByRecursion (λ f. conflict earlier.0 f ≡ false) fs × AreFree others fs
+
+lowest : (earlier : List (Footprint × ℕ)) (f : Footprint) (fs : List Footprint) → AreFree earlier (f ∷ fs) → level_behind earlier f ≡ 0
+lowest [] f fs free = refl
+lowest (earlier ∷ others) f fs free = rw free.0.0 (ap (max 0) (lowest others f fs free.1))
+
+fewer_free : (earlier : List (Footprint × ℕ)) (f : Footprint) (fs : List Footprint) → AreFree earlier (f ∷ fs) → AreFree earlier fs
+fewer_free [] f fs free = tt
+fewer_free (earlier ∷ others) f fs free = (free.0.1, fewer_free others f fs free.1)
+
+all_lowest : (earlier : List (Footprint × ℕ)) (fs : List Footprint) → AreFree earlier fs → AreDisjoint fs → levels_behind earlier fs ≡ replicate (length fs) 0
+all_lowest earlier [] free disjoint = refl
+all_lowest earlier (f ∷ fs) free disjoint =
+    λ i. lowest earlier f fs free i ∷ all_lowest ((f, level_behind earlier f) ∷ earlier) fs (disjoint.0, fewer_free earlier f fs free) disjoint.1 i
+
+pub run_is_group : (m : Inodes) (o : ℕ) (t : Time) (batch : List (List ℕ)) (first : ℕ) (items : List declared.Footprint) (levels : List ℕ) → IsWellFormed (record { tree = m; next_ordinal = o; last_time = t })
+    → AreLongest parts_runs m o t batch first items → 1 < length items → levels ≡ replicate (length items) 0 → IsGroupOf m first o t batch (map footprint_seen items) levels
+run_is_group m o t batch first items levels formed are two level =
+    let short = few parts_runs m o t batch first items are in
+    let all = found parts_runs m o t batch first items are in
+    let long : length (map footprint_seen items) ≡ length items = length-map items footprint_seen in
+    let disjoint : AreDisjoint (footprints_at m o t (requests_from first (length items) batch)) = (runs_are_longest m o t (drop first batch) (length items) short).1 (let count = are.count in omega arith) in
+    as_group m o t batch first items levels formed all (fits parts_runs m o t batch first items are)
+    (subst (AllByRecursion (λ g. is_whole g ≡ false)) all (known_in_run (map footprint_seen items) (omega arith) (subst AreDisjoint (sym all) disjoint)))
+    (disjoint_cut m o t (requests_from first (length items) batch) disjoint)
+    (level ∙ ap (λ n. replicate n 0) (sym long) ∙ sym (all_lowest [] (map footprint_seen items) tt (subst AreDisjoint (sym all) disjoint)))
+
+-- Replies ---------------------------------------------------------------------------------------------------------------------
+
+pub replies_are_short : (m : Inodes) (o : ℕ) (t : Time) (requests : List (List ℕ)) → IsWellFormed (record { tree = m; next_ordinal = o; last_time = t })
+    → AllByRecursion (λ reply. length reply ≤ most_reply_bytes) (replies_to m o t requests)
+replies_are_short m o t [] formed = tt
+replies_are_short m o t (request ∷ requests) formed = (
+  reply_is_short m (answer m o t request).0 o t request (answer m o t request).1 formed refl,
+  replies_are_short (answer m o t request).0 (ordinal_after o 1) t requests
+      (formed_again (answer m o t request).0 (ordinal_after o 1) t (answer_keeps m o t request (servable (record { tree = m; next_ordinal = o; last_time = t }) formed))),
+)
 
 short_each : (texts : List (Vec ℕ Global)) → AllByRecursion (λ reply. length reply ≤ most_reply_bytes) (texts_of texts) → AllByRecursion (λ (text : Vec ℕ Global). length text.items ≤ most_reply_bytes) texts
 short_each [] all = tt
@@ -92,56 +201,3 @@ pub texts_are_short : (m : Inodes) (o : ℕ) (t : Time) (requests : List (List �
     → texts_of texts ≡ replies_to m o t requests → All (λ (text : Vec ℕ Global). length text.items ≤ most_reply_bytes) texts
 texts_are_short m o t requests texts formed are = All-from_recursion (λ (text : Vec ℕ Global). length text.items ≤ most_reply_bytes) texts
     (short_each texts (subst (AllByRecursion (λ reply. length reply ≤ most_reply_bytes)) (sym are) (replies_are_short m o t requests formed)))
-
--- A request that may touch any inode is run by no gate -------------------------------------------------------------------------
-
-pub ran_alone : (ran : ℕ → List ℕ → Type 0) (m : Inodes) (o : ℕ) (t : Time) (number : ℕ) (request reply : List ℕ) → is_whole (footprint_of m o t request) ≡ true → AllRan ran number (request ∷ []) (reply ∷ [])
-ran_alone ran m o t number request reply is = ((λ not_alone. absurd (true≢false (sym (call_of_all m o t (call_of request) is) ∙ not_alone))), tt)
-
--- The longest group -------------------------------------------------------------------------------------------------------------
-
-module _ (m : Inodes) (first o : ℕ) (t : Time) (batch : List (List ℕ)) (items : List declared.Footprint) (levels : List ℕ) where
-  abbrev left : List (List ℕ)
-  left = drop first batch
-
-  abbrev fs : List Footprint
-  fs = map footprint_seen items
-
-  -- the longest group from there on
-  pub record IsLongest : Type 0 where
-    pub formed : IsWellFormed (record { tree = m; next_ordinal = o; last_time = t })
-    pub more : first < length batch
-    pub longest : fs ≡ footprints_at m o t (take (group_length m o t left) left)
-    pub count : length items ≡ group_length m o t left
-    pub levelled : levels ≡ levels_of fs
-
-  module _ (is : IsLongest) where
-    many : length fs ≡ group_length m o t left
-    many = length-map items footprint_seen ∙ is.count
-
-    all : fs ≡ footprints_at m o t (requests_from first fs batch)
-    all = subst (λ k. fs ≡ footprints_at m o t (take k left)) (sym many) is.longest
-
-    pub some : 0 < length items
-    some = let here : 0 < group_length m o t left = group_of_some m o t left (let rest = length-drop first batch in let less = is.more in omega arith) in let count = is.count in omega arith
-
-    pub fits : first + length items ≤ length batch
-    fits = let few = group_within m o t left in let rest = length-drop first batch in let less = is.more in let count = is.count in omega arith
-
-    pub is_group : (x : declared.Footprint) → x ≡ slice_index_or items 0 x → is_whole (footprint_seen x) ≡ false → IsGroupOf m first o t batch fs levels
-    is_group x at known = record {
-      formed = is.formed;
-      found = all;
-      within = let fit = fits in let same = length-map items footprint_seen in omega arith;
-      known = subst (AllByRecursion (λ g. is_whole g ≡ false)) (sym is.longest)
-          (known_group m o t (take (group_length m o t left) left) fs is.longest ((joined_just_if parts_groups m o t left (group_length m o t left) (group_within m o t left)).1 (omega arith)) (footprint_seen x) (first_seen items x at) known);
-      cut = subst (λ k. IsCut (footprints_at m o t (take k left)) (take k left)) (sym many) (groups_are_cut m o t left);
-      levelled = is.levelled;
-    }
-
-    -- the first of them is that of the request there
-    pub whole_there : (x : declared.Footprint) (request : List ℕ) → x ≡ slice_index_or items 0 x → is_whole (footprint_seen x) ≡ true → take 1 left ≡ request ∷ [] → is_whole (footprint_of m o t request) ≡ true
-    whole_there x request at whole_one are =
-        let n = group_length m o t left in
-        let more : 0 < n = let s = some in let count = is.count in omega arith in
-        ap is_whole (sym (first_seen items x at ∙ ap (λ gs. first_of gs (footprint_seen x)) is.longest ∙ first_taken m o t n more left request are (footprint_seen x))) ∙ whole_one

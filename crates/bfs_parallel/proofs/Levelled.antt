@@ -21,12 +21,13 @@ use Rattle.bfs_model.proofs.Footprints.Grouped.{groups_keep_footprints}
 use Rattle.bfs_model.proofs.Footprints.OvertakingRequests.{levels_follow}
 use Rattle.bfs_model.proofs.Footprints.Shared.{get-without, shares_know}
 use Rattle.bfs_levels.specs.Planning.{level_behind, levels_behind}
+use Rattle.bfs_levels.specs.Requests.{requests_from}
 use Rattle.bfs_levels.proofs.Rising.{levels_rise}
 use Rattle.bfs_handover.specs.Carrying.{AreCarriedOut, all_back, outcome_for, stays}
 use Rattle.bfs_handover.specs.Splitting.{CanBeSplit, IsFoundOn, Part, footprint_for, footprints_for, ordinal_of, part_of, request_of}
 use Rattle.bfs_handover.specs.declared.results.Reply.{Reply}
 use Rattle.bfs_handover.proofs.SplitLemmas.{length-footprints_at, share_seen}
-use Rattle.bfs_parallel.specs.Levels.{AreInLevels, IsGroupOf, all_put, places_from, requests_from}
+use Rattle.bfs_parallel.specs.Levels.{AreInLevels, IsGroupOf, all_put, places_from}
 use Rattle.bfs_parallel.specs.Ran.{AllRan}
 use Rattle.bfs_parallel.proofs.Places.{AreFor, all_told, are_places, is_there as is_among, length-all_put, numbers_rise, places_differ, Climb, climb, put_elsewhere, put_there}
 use Rattle.bfs_parallel.proofs.Standing.{Stand, Together, at_start, back, its_footprint, its_ordinal_is_fresh, same_back, together, told}
@@ -107,7 +108,7 @@ module _ (m : Inodes) (first o : ℕ) (t : Time) (batch : List (List ℕ)) (fs :
   n = length fs
 
   abbrev requests : List (List ℕ)
-  requests = requests_from first fs batch
+  requests = requests_from first (length fs) batch
 
   abbrev part : Part
   part = part_of first o t batch fs
@@ -423,7 +424,7 @@ module _ (ran : ℕ → List ℕ → Type 0) (m : Inodes) (first o : ℕ) (t : T
   further home texts numbers left way after replies carried gated =
       record { group = way.group; under = goes_on m first o t batch fs levels way.group ran home texts numbers left way.under after replies carried gated }
 
-  pub arrives : (home : Inodes) (texts : List (List ℕ)) → IsOnItsWay home texts [] → (home ≡ inodes_after m o t (requests_from first fs batch)) × (texts ≡ replies_to m o t (requests_from first fs batch)) × AllRan ran first (requests_from first fs batch) texts
+  pub arrives : (home : Inodes) (texts : List (List ℕ)) → IsOnItsWay home texts [] → (home ≡ inodes_after m o t (requests_from first (length fs) batch)) × (texts ≡ replies_to m o t (requests_from first (length fs) batch)) × AllRan ran first (requests_from first (length fs) batch) texts
   arrives home texts way = let over = ends m first o t batch fs levels way.group ran home texts way.under in (over.inodes, over.replies, over.gated)
 
   -- each reply has its place

@@ -1,6 +1,5 @@
 pub mod Progress
 pub mod Alone
-pub mod Runs
 mod Ones
 pub mod Carried
 pub mod Standing

@@ -1,17 +1,11 @@
--- What is left of a batch, run after run.
-use Rattle.std.proofs.Common.{◌≡◌, ℕ, zero, suc, ◌+◌, ◌-◌, ◌<◌, ◌≤◌, Bool, true, false, List, [], ◌∷◌, ◌++◌, length, take, drop, refl, ap, sym, subst, ◌∙◌, arith}
-use Rattle.std.specs.Prelude.{IsFalse, IsTrue}
-use Rattle.std.specs.List.{list_any}
+-- What is left of a batch, part after part.
+use Rattle.std.proofs.Common.{◌≡◌, ℕ, zero, suc, ◌+◌, ◌-◌, ◌≤◌, List, [], ◌∷◌, ◌++◌, length, take, drop, refl, ap, sym, subst, ◌∙◌, arith}
 use Rattle.std.proofs.lemmas.List.{take-append-drop, length-take-le, length-drop, append_assoc}
 use Rattle.bfs_model.specs.Tree.{Time, Inodes}
 use Rattle.bfs_model.specs.Serial.{ordinal_after, answer, inodes_after, replies_to}
-use Rattle.bfs_model.specs.Footprints.{Footprint}
-use Rattle.bfs_model.specs.Groups.{AreDisjoint, footprints_at}
 use Rattle.bfs_model.specs.WellFormed.{IsWellFormed}
 use Rattle.bfs_model.proofs.Kept.{servable, formed_again, requests_keep}
 use Rattle.bfs_model.proofs.Footprints.Parts.{parts_follow}
-use Rattle.bfs_levels.specs.Planning.{Touch, count_joined, parts_runs, run_length, touches_at}
-use Rattle.bfs_levels.proofs.Longest.{runs_are_longest}
 use Rattle.bfs_parallel.specs.Ran.{AllRan}
 
 nothing : {X : Type 0} (n : ℕ) → drop {A = X} n [] ≡ []
@@ -76,28 +70,3 @@ ran_further ran m o t requests done n replies within here before more rest =
     subst (AllRan ran 0 requests) (sym (append_assoc replies now more))
     (before (now ++ more) (subst (λ xs. AllRan ran done xs (now ++ more)) (sym (parted n done requests))
     (all_ran_on ran done run (drop (done + n) requests) now more (length-replies_to m o t run) here (subst (λ k. AllRan ran (done + k) (drop (done + n) requests) more) (sym (few_left n done requests within)) rest))))
-
--- The longest run ------------------------------------------------------------------------------------------------------------
-
-within_touches : (earlier : List Footprint) (calls : List Touch) → count_joined parts_runs earlier calls ≤ length calls
-within_touches earlier [] = omega arith
-within_touches earlier (call ∷ calls) = by_test (list_any (λ other. parts_runs other call) earlier) (within_touches (earlier ++ call.footprint ∷ []) calls)
-  where
-    by_test : (b : Bool) → count_joined parts_runs (earlier ++ call.footprint ∷ []) calls ≤ length calls
-        → Rattle.std.specs.Prelude.if◌then◌else◌ b 0 (count_joined parts_runs (earlier ++ call.footprint ∷ []) calls + 1) ≤ suc (length calls)
-    by_test true few = omega arith
-    by_test false few = omega arith
-
-length-touches_at : (m : Inodes) (o : ℕ) (t : Time) (requests : List (List ℕ)) → length (touches_at m o t requests) ≡ length requests
-length-touches_at m o t [] = refl
-length-touches_at m o t (request ∷ requests) = ap suc (length-touches_at m (ordinal_after o 1) t requests)
-
-pub run_within : (m : Inodes) (o : ℕ) (t : Time) (requests : List (List ℕ)) → run_length m o t requests ≤ length requests
-run_within m o t requests = let few = within_touches [] (touches_at m o t requests) in let all = length-touches_at m o t requests in omega (arith, few, all)
-
-pub run_of_some : (m : Inodes) (o : ℕ) (t : Time) (requests : List (List ℕ)) → 0 < length requests → 0 < run_length m o t requests
-run_of_some m o t [] some = absurd (omega arith)
-run_of_some m o t (request ∷ requests) some = omega arith
-
-pub run_is_disjoint : (m : Inodes) (o : ℕ) (t : Time) (requests : List (List ℕ)) → AreDisjoint (footprints_at m o t (take (run_length m o t requests) requests))
-run_is_disjoint m o t requests = (runs_are_longest m o t requests (run_length m o t requests) (run_within m o t requests)).1 (omega arith)

@@ -1,5 +1,5 @@
 -- The numbers of a group's requests, level after level.
-use Rattle.std.specs.Prelude.{◌≡◌, ℕ, zero, suc, ◌+◌, ◌-◌, ◌<◌, ◌≤◌, ◌==◌, IsFalse, List, [], ◌∷◌, length, map, take, drop, get_or, slice_set, if◌then◌else◌}
+use Rattle.std.specs.Prelude.{◌≡◌, ℕ, zero, suc, ◌+◌, ◌-◌, ◌<◌, ◌≤◌, ◌==◌, IsFalse, List, [], ◌∷◌, length, map, get_or, slice_set, if◌then◌else◌}
 use Rattle.std.specs.Global.{Global}
 use Rattle.std.specs.List.{AllByRecursion}
 use Rattle.std.specs.declared.vec.Vec.{Vec}
@@ -9,21 +9,18 @@ use Rattle.bfs_model.specs.Conflicts.{is_whole}
 use Rattle.bfs_model.specs.Groups.{IsCut, footprints_at}
 use Rattle.bfs_model.specs.WellFormed.{IsWellFormed}
 use Rattle.bfs_levels.specs.Planning.{levels_of}
+use Rattle.bfs_levels.specs.Requests.{requests_from}
 use Rattle.bfs_handover.specs.declared.results.Reply.{Reply}
 
 -- Groups --------------------------------------------------------------------------------------------------------------------
 
--- the requests of a batch from a place on, as many as there are footprints
-abbrev pub requests_from : (first : ℕ) → List Footprint → (batch : List (List ℕ)) → List (List ℕ)
-requests_from first footprints batch = take (length footprints) (drop first batch)
-
 -- a group of which it is known what its requests touch, as it was planned on these inodes
 pub record IsGroupOf (inodes : Inodes) (first ordinal : ℕ) (time : Time) (batch : List (List ℕ)) (footprints : List Footprint) (levels : List ℕ) : Type 0 where
   pub formed : IsWellFormed (record { tree = inodes; next_ordinal = ordinal; last_time = time })
-  pub found : footprints ≡ footprints_at inodes ordinal time (requests_from first footprints batch)
+  pub found : footprints ≡ footprints_at inodes ordinal time (requests_from first (length footprints) batch)
   pub within : first + length footprints ≤ length batch
   pub known : AllByRecursion (λ footprint. IsFalse (is_whole footprint)) footprints
-  pub cut : IsCut (footprints_at inodes ordinal time (requests_from first footprints batch)) (requests_from first footprints batch)
+  pub cut : IsCut (footprints_at inodes ordinal time (requests_from first (length footprints) batch)) (requests_from first (length footprints) batch)
   pub levelled : levels ≡ levels_of footprints
 
 -- Numbers -------------------------------------------------------------------------------------------------------------------

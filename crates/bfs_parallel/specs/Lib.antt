@@ -1,5 +1,4 @@
 -- Which requests are executed, by whom, and in which parts and levels.
 pub mod Ran
-pub mod Requests
 pub mod Levels
 pub mod Parts

@@ -1,15 +1,15 @@
 ghost use Rattle.std.specs.Prelude.{IfOk, IsTrue, map};
 ghost use Rattle.std.specs.List.{All};
-ghost use Rattle.std.specs.List.Sorted.{IsStrictlyIncreasing};
+ghost use Rattle.std.specs.List.Sorted.{IsPermutation, IsStrictlyIncreasing};
 ghost use Rattle.bfs_model.specs.Groups.{AreDisjoint};
 ghost use Rattle.bfs_footprint.specs.Seen.{footprint_seen};
 ghost use Rattle.bfs_handover.specs.Carrying.{AreCarriedOut};
+ghost use Rattle.bfs_handover.specs.Merging.{AreOut, IsMerged, numbers_in};
 ghost use Rattle.bfs_handover.specs.Splitting.{CanBeSplit, IsFoundOn, footprints_for, part_of};
 ghost use Rattle.bfs_tree.specs.Tree.{at_home, reach_of};
 
-use crate::steps::merge_all;
 use bfs_footprint::Footprint;
-use bfs_handover::{Reply, split};
+use bfs_handover::{Done, MergeError, Reply, merge, split};
 use bfs_serial::Batch;
 use bfs_tree::Tree;
 use bfs_types::{Memory, Ordinal, Time};
@@ -48,4 +48,25 @@ pub(crate) fn carry_out<R: Threads + Wait + Sync, G: Gate + Sync>(
     )?;
     let dones = run_queue(rt, alloc, workers, tree, jobs, gate)?;
     merge_all(alloc, tree, numbers, dones)
+}
+
+// brings the results home, of which each number has one, and gives their replies
+fn merge_all(
+    alloc: Global,
+    tree: &mut Tree,
+    numbers: &[u32],
+    dones: Vec<Done>,
+) -> Result<Vec<Reply>, Memory>
+    requires rising { IsStrictlyIncreasing numbers.now }
+    requires each { IsPermutation numbers.now (numbers_in dones.items) }
+    requires out { AreOut tree.old dones.items }
+    ensures { IfOk result (λ merged. IsMerged tree.old tree.new numbers.now dones.items merged.items) }
+{
+    match merge(alloc, tree, numbers, dones) {
+        Ok(merged) => Ok(merged),
+        Err(refused) => match refused {
+            MergeError::Memory => Err(Memory),
+            MergeError::Stranger | MergeError::Double | MergeError::Missing => unreachable!(),
+        },
+    }
 }

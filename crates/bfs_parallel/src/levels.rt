@@ -2,9 +2,10 @@ ghost use Rattle.std.specs.Prelude.{◌≡◌, ◌<◌, ◌≤◌, ◌+◌, ◌-
 ghost use Rattle.std.specs.List.{All};
 ghost use Rattle.bfs_model.specs.Serial.{inodes_after, replies_to};
 ghost use Rattle.bfs_footprint.specs.Seen.{footprint_seen};
+ghost use Rattle.bfs_levels.specs.Requests.{requests_from};
 ghost use Rattle.bfs_tree.specs.Tree.{at_home, reach_of};
 ghost use Rattle.bfs_parallel.specs.Ran.{AllRan};
-ghost use Rattle.bfs_parallel.specs.Levels.{AreInLevels, AreKept, IsGroupOf, all_put, numbers_in, requests_from, texts_of};
+ghost use Rattle.bfs_parallel.specs.Levels.{AreInLevels, AreKept, IsGroupOf, all_put, numbers_in, texts_of};
 
 use crate::carrying::carry_out;
 use crate::rounds::Rounds;
@@ -33,10 +34,10 @@ pub(crate) fn execute_levels<R: Threads + Wait + Sync, G: Gate + Sync>(
 ) -> Result<Vec<Vec<u8>>, Memory>
     requires whole { IsTrue ((reach_of tree.old).whole) }
     requires group { IsGroupOf (at_home tree.old) group.now.first ordinal time batch.now.requests (map footprint_seen group.now.footprints.items) group.now.level_of.items }
-    ensures inodes { IfOk result (λ _. at_home tree.new ≡ inodes_after (at_home tree.old) ordinal time (requests_from group.now.first (map footprint_seen group.now.footprints.items) batch.now.requests)) }
+    ensures inodes { IfOk result (λ _. at_home tree.new ≡ inodes_after (at_home tree.old) ordinal time (requests_from group.now.first (length group.now.footprints.items) batch.now.requests)) }
     ensures whole { IfOk result (λ _. IsTrue ((reach_of tree.new).whole)) }
-    ensures replies { IfOk result (λ texts. texts_of texts.items ≡ replies_to (at_home tree.old) ordinal time (requests_from group.now.first (map footprint_seen group.now.footprints.items) batch.now.requests)) }
-    ensures ran { IfOk result (λ texts. AllRan G.ran group.now.first (requests_from group.now.first (map footprint_seen group.now.footprints.items) batch.now.requests) (texts_of texts.items)) }
+    ensures replies { IfOk result (λ texts. texts_of texts.items ≡ replies_to (at_home tree.old) ordinal time (requests_from group.now.first (length group.now.footprints.items) batch.now.requests)) }
+    ensures ran { IfOk result (λ texts. AllRan G.ran group.now.first (requests_from group.now.first (length group.now.footprints.items) batch.now.requests) (texts_of texts.items)) }
 {
     let count = batch.len();
     prove!(group.first + group.len() <= count);

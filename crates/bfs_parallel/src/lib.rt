@@ -6,8 +6,8 @@ mod engine;
 mod executor;
 mod levels;
 mod parts;
+mod requests;
 mod rounds;
-mod steps;
 
 pub use engine::Engine;
 pub use executor::execute_parallel;

@@ -1,18 +1,20 @@
 // The parts of a batch that are executed one after another: runs, or groups.
-ghost use Rattle.std.specs.Prelude.{◌<◌, ◌≤◌, ◌++◌, ◌≡◌, IfOk, IsTrue, length};
+ghost use Rattle.std.specs.Prelude.{◌<◌, ◌≤◌, ◌++◌, ◌≡◌, IfOk, IsTrue, length, map, replicate};
 ghost use Rattle.std.specs.List.{All};
 ghost use Rattle.bfs_model.specs.Limits.{most_reply_bytes};
 ghost use Rattle.bfs_model.specs.WellFormed.{IsWellFormed};
+ghost use Rattle.bfs_footprint.specs.Seen.{footprint_seen};
 ghost use Rattle.bfs_tree.specs.Tree.{at_home, reach_of};
-ghost use Rattle.bfs_parallel.specs.Levels.{texts_of};
+ghost use Rattle.bfs_parallel.specs.Levels.{IsGroupOf, texts_of};
 ghost use Rattle.bfs_parallel.specs.Parts.{IsPartExecuted};
 
 use crate::engine::Engine;
 use crate::levels::execute_levels;
+use crate::requests::execute_one;
 use crate::rounds::Rounds;
-use crate::steps::{execute_one, execute_run};
-use bfs_levels::{plan_group, runs};
-use bfs_serial::{Batch, Replies, answer_next};
+use bfs_footprint::touch_of;
+use bfs_levels::{Group, Run, plan_group, runs};
+use bfs_serial::{Batch, Replies};
 use bfs_tree::Tree;
 use bfs_types::{Memory, Ordinal, Time};
 use bfs_workers::Gate;
@@ -70,18 +72,43 @@ fn execute_next_run<R: Threads + Wait + Sync, G: Gate + Sync>(
 {
     if rounds.looks_for_a_run() {
         let run = runs(alloc, tree, ordinal, time, batch, place)?;
-        if let Some(workers) = rounds.workers_for(run.len()) {
-            execute_run(
-                rt, alloc, tree, batch, ordinal, time, &run, workers, gate, replies,
-            )?;
-            return Ok(run.len());
+        if rounds.accepts(run.len()) {
+            let group = one_level(alloc, run)?;
+            return execute_group(
+                rt, alloc, tree, ordinal, time, batch, &group, rounds, gate, replies,
+            );
         }
     }
-    execute_one(alloc, tree, batch, ordinal, time, place, gate, replies)?;
+    let footprints = [touch_of(tree, ordinal, time, batch.request(place)).footprint];
+    execute_one(
+        alloc,
+        tree,
+        batch,
+        ordinal,
+        time,
+        place,
+        &footprints,
+        gate,
+        replies,
+    )?;
     Ok(1)
 }
 
-// a request that may touch any inode is executed on the whole tree, and a group of others level after level
+// a run as a group, of which all requests stand at one level
+fn one_level(alloc: Global, run: Run) -> Result<Group, Memory>
+    ensures first { IfOk result (λ group. group.first ≡ run.first) }
+    ensures footprints { IfOk result (λ group. group.footprints ≡ run.footprints) }
+    ensures level { IfOk result (λ group. group.level_of.items ≡ replicate (length run.footprints.items) 0) }
+{
+    let level_of = vec![in alloc; 0; run.len()]?;
+    Ok(Group {
+        first: run.first,
+        footprints: run.footprints,
+        level_of,
+    })
+}
+
+// a group of requests, or one on the calling thread
 fn execute_next_group<R: Threads + Wait + Sync, G: Gate + Sync>(
     rt: &R,
     alloc: Global,
@@ -100,12 +127,37 @@ fn execute_next_group<R: Threads + Wait + Sync, G: Gate + Sync>(
     ensures { IfOk result (λ count. IsPartExecuted G.ran tree.old tree.new ordinal time batch.now.requests place count replies.old replies.new) }
 {
     let group = plan_group(alloc, tree, ordinal, time, batch, place)?;
-    if group.footprints[0].is_whole() {
-        let reply = answer_next(alloc, tree, ordinal, time, batch.request(place))?;
-        replies.push(reply)?;
+    if group.len() == 1 {
+        let footprints = group.footprints.as_slice();
+        execute_one(
+            alloc, tree, batch, ordinal, time, place, footprints, gate, replies,
+        )?;
         return Ok(1);
     }
-    let texts = execute_levels(rt, alloc, tree, batch, ordinal, time, &group, rounds, gate)?;
+    execute_group(
+        rt, alloc, tree, ordinal, time, batch, &group, rounds, gate, replies,
+    )
+}
+
+// requests of which it is known what they touch, level after level
+fn execute_group<R: Threads + Wait + Sync, G: Gate + Sync>(
+    rt: &R,
+    alloc: Global,
+    tree: &mut Tree,
+    ordinal: Ordinal,
+    time: Time,
+    batch: &Batch,
+    group: &Group,
+    rounds: &mut Rounds,
+    gate: &G,
+    replies: &mut Replies,
+) -> Result<usize, Memory>
+    requires whole { IsTrue ((reach_of tree.old).whole) }
+    requires group { IsGroupOf (at_home tree.old) group.now.first ordinal time batch.now.requests (map footprint_seen group.now.footprints.items) group.now.level_of.items }
+    requires some { 0 < length group.now.footprints.items }
+    ensures { IfOk result (λ count. IsPartExecuted G.ran tree.old tree.new ordinal time batch.now.requests group.now.first count replies.old replies.new) }
+{
+    let texts = execute_levels(rt, alloc, tree, batch, ordinal, time, group, rounds, gate)?;
     put_texts(replies, texts)?;
     Ok(group.len())
 }

@@ -1,3 +1,5 @@
+ghost use Rattle.std.specs.Prelude.{◌<◌, IsTrue};
+
 use bfs_workers::Workers;
 
 // how many runs, or levels, of a batch get threads however short they are
@@ -47,14 +49,12 @@ impl Rounds {
         true
     }
 
-    /// The workers of the run of so many requests that was found. `None` where its requests are executed one after another.
-    pub(crate) fn workers_for(&mut self, len: usize) -> Option<Workers> {
-        if len >= LONG {
-            return Some(self.workers);
-        }
-        if len >= 2 && self.left > 0 {
-            self.left -= 1;
-            return Some(self.workers);
+    /// Whether the run of so many requests that was found gets threads. Otherwise its requests are executed one after another.
+    pub(crate) fn accepts(&mut self, len: usize) -> bool
+        ensures { IsTrue result → 1 < len }
+    {
+        if len >= LONG || len >= 2 && self.left > 0 {
+            return true;
         }
         self.pause = len.saturating_sub(1);
         if self.tries > 0 {
@@ -62,7 +62,7 @@ impl Rounds {
         } else {
             self.pause = self.pause.max(PAUSE);
         }
-        None
+        false
     }
 
     /// What the levels of a group take of the rounds: the longest of the short ones, as many as are left.

@@ -14,8 +14,7 @@ use Rattle.bfs_handover.specs.declared.results.Reply.{Reply}
 use Rattle.bfs_handover.proofs.Carrying.{split_requests_are_carried_out}
 use Rattle.bfs_handover.proofs.Homecoming.{job_numbers, results_are_out}
 use Rattle.bfs_workers.proofs.Numbers.{each_number_once}
-use Rattle.bfs_parallel.proofs.Carried.{gated_replies}
-use Rattle.bfs_parallel.proofs.Runs.{all_done}
+use Rattle.bfs_parallel.proofs.Carried.{all_done, gated_replies}
 use Rattle.bfs_parallel.proofs.carrying.carry_out.Goals as goal
 
 pub merge_all-requires-clause-each : goal.merge_all-requires-clause-each

@@ -5,10 +5,13 @@ use Rattle.std.specs.declared.vec.Vec.{Vec}
 use Rattle.std.proofs.lemmas.List.{length-map}
 use Rattle.bfs_footprint.specs.Seen.{footprint_seen}
 use Rattle.bfs_footprint.specs.declared.footprints.Footprint as declared
+use Rattle.bfs_levels.specs.Requests.{requests_from}
+use Rattle.bfs_model.specs.Serial.{inodes_after, replies_to}
 use Rattle.bfs_tree.specs.Tree.{at_home}
 use Rattle.bfs_handover.specs.Carrying.{AreCarriedOut}
 use Rattle.bfs_handover.specs.Splitting.{part_of}
 use Rattle.bfs_parallel.specs.Levels.{texts_of}
+use Rattle.bfs_parallel.specs.Ran.{AllRan}
 use Rattle.bfs_parallel.proofs.Levelled.{IsOnItsWay, arrives, as_many_levels, further, none_left, places_there, ready, sets_out}
 use Rattle.bfs_parallel.proofs.Places.{length-all_put}
 use Rattle.bfs_parallel.proofs.levels.execute_levels.Goals as goal
@@ -113,32 +116,19 @@ loop-numbers-preserved g c =
           (further g.G.Gate.ran m first a.ordinal a.time batch fs a.group.now.level_of.items home texts c.in-Some.numbers c.next.new.self.rest.items way after replies carried c.in_ok-replies.ensures.ran);
     }
 
-pub returns-clause-inodes : goal.returns-clause-inodes
-returns-clause-inodes g c =
+pub returns : goal.returns
+returns g c =
     let a = c.args in
+    let m = at_home a.tree.now in
+    let first = a.group.now.first in
+    let batch = a.batch.now.requests in
+    let fs = map footprint_seen a.group.now.footprints.items in
+    let home = at_home c.loop-numbers.tree in
+    let texts = texts_of c.loop-numbers.texts.items in
     let rest = c.loop-numbers.numbers-iterator.rest in
     let over : rest.items ≡ [] = none_left rest.items rest.len rest.ok.0 c.in-None.ensures.steps.0 in
-    let fs = map footprint_seen a.group.now.footprints.items in
-    let texts = texts_of c.loop-numbers.texts.items in
-    let way = subst (λ left. IsOnItsWay g.G.Gate.ran (at_home a.tree.now) a.group.now.first a.ordinal a.time a.batch.now.requests fs a.group.now.level_of.items (at_home c.loop-numbers.tree) texts left) over c.loop-numbers.invariant.way in
-    (arrives g.G.Gate.ran (at_home a.tree.now) a.group.now.first a.ordinal a.time a.batch.now.requests fs a.group.now.level_of.items (at_home c.loop-numbers.tree) texts way).0
-
-pub returns-clause-replies : goal.returns-clause-replies
-returns-clause-replies g c =
-    let a = c.args in
-    let rest = c.loop-numbers.numbers-iterator.rest in
-    let over : rest.items ≡ [] = none_left rest.items rest.len rest.ok.0 c.in-None.ensures.steps.0 in
-    let fs = map footprint_seen a.group.now.footprints.items in
-    let texts = texts_of c.loop-numbers.texts.items in
-    let way = subst (λ left. IsOnItsWay g.G.Gate.ran (at_home a.tree.now) a.group.now.first a.ordinal a.time a.batch.now.requests fs a.group.now.level_of.items (at_home c.loop-numbers.tree) texts left) over c.loop-numbers.invariant.way in
-    (arrives g.G.Gate.ran (at_home a.tree.now) a.group.now.first a.ordinal a.time a.batch.now.requests fs a.group.now.level_of.items (at_home c.loop-numbers.tree) texts way).1
-
-pub returns-clause-ran : goal.returns-clause-ran
-returns-clause-ran g c =
-    let a = c.args in
-    let rest = c.loop-numbers.numbers-iterator.rest in
-    let over : rest.items ≡ [] = none_left rest.items rest.len rest.ok.0 c.in-None.ensures.steps.0 in
-    let fs = map footprint_seen a.group.now.footprints.items in
-    let texts = texts_of c.loop-numbers.texts.items in
-    let way = subst (λ left. IsOnItsWay g.G.Gate.ran (at_home a.tree.now) a.group.now.first a.ordinal a.time a.batch.now.requests fs a.group.now.level_of.items (at_home c.loop-numbers.tree) texts left) over c.loop-numbers.invariant.way in
-    (arrives g.G.Gate.ran (at_home a.tree.now) a.group.now.first a.ordinal a.time a.batch.now.requests fs a.group.now.level_of.items (at_home c.loop-numbers.tree) texts way).2
+    let way = subst (λ left. IsOnItsWay g.G.Gate.ran m first a.ordinal a.time batch fs a.group.now.level_of.items home texts left) over c.loop-numbers.invariant.way in
+    let long : length fs ≡ length a.group.now.footprints.items = length-map a.group.now.footprints.items footprint_seen in
+    let end = subst (λ n. (home ≡ inodes_after m a.ordinal a.time (requests_from first n batch)) × (texts ≡ replies_to m a.ordinal a.time (requests_from first n batch)) × AllRan g.G.Gate.ran first (requests_from first n batch) texts) long
+    (arrives g.G.Gate.ran m first a.ordinal a.time batch fs a.group.now.level_of.items home texts way) in
+    record { inodes = end.0; whole = c.loop-numbers.invariant.whole; replies = end.1; ran = end.2 }

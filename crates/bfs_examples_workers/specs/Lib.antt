@@ -1,0 +1,2 @@
+-- What the contracts of tests cite.
+pub mod Both
