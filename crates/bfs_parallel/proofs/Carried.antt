@@ -1,15 +1,20 @@
 -- Replies of which each has been run by the gate.
-use Rattle.std.proofs.Common.{ℕ, List, [], ◌∷◌, map, sym, subst}
+use Rattle.std.proofs.Common.{◌≡◌, ℕ, zero, suc, List, [], ◌∷◌, ◌∙◌, arith, ap, length, map, refl, slice_index_or, sym, subst}
 use Rattle.std.specs.List.{All, AllByRecursion, AllZip}
-use Rattle.std.proofs.lemmas.List.Elements.{All-from_recursion, recursion_from_All}
-use Rattle.std.proofs.lemmas.List.Sorted.{All-permutation}
+use Rattle.std.proofs.lemmas.List.Elements.{All-from_recursion, All-head, recursion_from_All}
+use Rattle.std.proofs.lemmas.List.Sorted.{All-permutation, IsPermutation-refl}
 use Rattle.bfs_tree.specs.Slots.{Slots}
+use Rattle.bfs_tree.specs.Tree.{at_home}
 use Rattle.bfs_handover.specs.Jobs.{IsDone}
-use Rattle.bfs_handover.specs.Merging.{IsMerged, reply_in}
+use Rattle.bfs_handover.specs.Merging.{AreOut, IsMerged, reply_in}
+use Rattle.bfs_handover.specs.Splitting.{CanBeSplit, IsSplit, Part}
 use Rattle.bfs_handover.specs.declared.job.Job.{Job}
 use Rattle.bfs_handover.specs.declared.job.Done.{Done}
 use Rattle.bfs_handover.specs.declared.results.Reply.{Reply}
+use Rattle.bfs_handover.proofs.Carrying.{split_requests_are_carried_out}
+use Rattle.bfs_handover.proofs.Homecoming.{results_are_out}
 use Rattle.bfs_workers.specs.Results.{EachOnce, Gives}
+use Rattle.bfs_parallel.specs.Parts.{IsCarriedOut}
 
 module _ (ran : ℕ → List ℕ → Type 0) where
   abbrev Gated : Done → Type 0
@@ -38,3 +43,25 @@ module _ (ran : ℕ → List ℕ → Type 0) where
   gated_replies old new numbers jobs dones replies once merged =
       let each = All-permutation Gated dones merged.order merged.each (All-from_recursion Gated dones (all_gated old once.order dones once.given)) in
       subst (All GatedReply) (sym merged.replies_are) (All-from_recursion GatedReply (map reply_in merged.order) (in_replies merged.order (recursion_from_All Gated merged.order each)))
+
+pub only_number : (numbers : List ℕ) (number : ℕ) → length numbers ≡ 1 → number ≡ slice_index_or numbers 0 number → numbers ≡ number ∷ []
+only_number [] number one is = absurd (omega (arith, one))
+only_number (n ∷ []) number one is = ap (λ m. m ∷ []) (sym is)
+only_number (n ∷ m ∷ ns) number one is = absurd (omega (arith, one))
+
+-- A request that is split off alone ---------------------------------------------------------------------------------------
+
+module _ (ran : ℕ → List ℕ → Type 0) (old new : Slots) (part : Part) (number : ℕ) (job : Job) (done : Done) (split : IsSplit old new part (number ∷ []) (job ∷ [])) (gives : Gives ran new job done) where
+  pub one_out : AreOut new (done ∷ [])
+  one_out = results_are_out old new part (number ∷ []) (job ∷ []) (job ∷ []) (done ∷ []) (tt, tt) split (IsPermutation-refl (job ∷ [])) (gives.result, tt)
+
+  pub one_carried_out : (after : Slots) (reply : Reply) → CanBeSplit (at_home old) part number → IsMerged new after (done.number ∷ []) (done ∷ []) (reply ∷ []) → IsCarriedOut ran old after part number reply
+  one_carried_out after reply can merged =
+      let merged_there = subst (λ n. IsMerged new after (n ∷ []) (done ∷ []) (reply ∷ [])) (gives.result.number ∙ split.each.0.number_is) merged in
+      let is = split_requests_are_carried_out old new after part (number ∷ []) (job ∷ []) (job ∷ []) (done ∷ []) (reply ∷ []) (λ k less. absurd (omega (arith, less))) (All-from_recursion (CanBeSplit (at_home old) part) (number ∷ []) (can, tt)) split (IsPermutation-refl (job ∷ [])) (gives.result, tt) merged_there in
+      let once : EachOnce ran new (job ∷ []) (done ∷ []) = record { order = job ∷ []; permuted = IsPermutation-refl (job ∷ []); given = (gives, tt) } in
+      record {
+        done = is.0;
+        whole = is.1;
+        gated = All-head (λ (r : Reply). ran r.number r.bytes.items) reply [] (gated_replies ran new after (number ∷ []) (job ∷ []) (done ∷ []) (reply ∷ []) once merged_there);
+      }

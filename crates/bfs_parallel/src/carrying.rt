@@ -7,9 +7,10 @@ ghost use Rattle.bfs_handover.specs.Carrying.{AreCarriedOut};
 ghost use Rattle.bfs_handover.specs.Merging.{AreOut, IsMerged, numbers_in};
 ghost use Rattle.bfs_handover.specs.Splitting.{CanBeSplit, IsFoundOn, footprints_for, part_of};
 ghost use Rattle.bfs_tree.specs.Tree.{at_home, reach_of};
+ghost use Rattle.bfs_parallel.specs.Parts.{IsCarriedOut};
 
 use bfs_footprint::Footprint;
-use bfs_handover::{Done, MergeError, Reply, merge, split};
+use bfs_handover::{Done, MergeError, Reply, merge, merge_one, split, split_one};
 use bfs_serial::Batch;
 use bfs_tree::Tree;
 use bfs_types::{Memory, Ordinal, Time};
@@ -43,11 +44,43 @@ pub(crate) fn carry_out<R: Threads + Wait + Sync, G: Gate + Sync>(
     ensures whole { IfOk result (λ _. IsTrue ((reach_of tree.new).whole)) }
     ensures ran { IfOk result (λ replies. All (λ reply. G.ran reply.number reply.bytes.items) replies.items) }
 {
+    if numbers.len() == 1 {
+        let number = numbers[0];
+        let mut replies = Vec::with_capacity(alloc, 1)?;
+        replies.push_reserved(carry_one(
+            alloc, tree, batch, ordinal, time, first, footprints, number, gate,
+        )?);
+        return Ok(replies);
+    }
     let jobs = split(
         alloc, tree, batch, ordinal, time, first, footprints, numbers,
     )?;
     let dones = run_queue(rt, alloc, workers, tree, jobs, gate)?;
     merge_all(alloc, tree, numbers, dones)
+}
+
+// carries out the request of that number alone, on the calling thread: what is done of a list of one number, with less memory
+fn carry_one<G: Gate>(
+    alloc: Global,
+    tree: &mut Tree,
+    batch: &Batch,
+    ordinal: Ordinal,
+    time: Time,
+    first: usize,
+    footprints: &[Footprint],
+    number: u32,
+    gate: &G,
+) -> Result<Reply, Memory>
+    requires whole { IsTrue ((reach_of tree.old).whole) }
+    requires footprint { IsFoundOn (at_home tree.old) (part_of first ordinal time batch.now.requests (map footprint_seen footprints.now)) number }
+    requires number { CanBeSplit (at_home tree.old) (part_of first ordinal time batch.now.requests (map footprint_seen footprints.now)) number }
+    ensures { IfOk result (λ reply. IsCarriedOut G.ran tree.old tree.new (part_of first ordinal time batch.now.requests (map footprint_seen footprints.now)) number reply) }
+{
+    let job = split_one(
+        alloc, tree, batch, ordinal, time, first, footprints, number,
+    )?;
+    let done = gate.run(alloc, tree, job)?;
+    Ok(merge_one(tree, done))
 }
 
 // brings the results home, of which each number has one, and gives their replies

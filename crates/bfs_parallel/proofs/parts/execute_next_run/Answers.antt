@@ -27,7 +27,7 @@ execute_group-requires-clause-group g c κs within =
 
 pub execute_one-requires-clause-found : goal.execute_one-requires-clause-found
 execute_one-requires-clause-found g c =
-    found_alone c.args.tree.now c.args.ordinal c.args.time c.args.batch.now.requests c.args.place c.requires.formed c.requires.more c.request.result.now c.in_ok-touch_of.field-0.footprint c.request.ensures c.in_ok-touch_of.ensures.footprint
+    found_alone c.args.tree.now c.args.ordinal c.args.time c.args.batch.now.requests c.args.place c.requires.formed c.requires.more c.request.result.now c.touch_of.result.footprint c.request.ensures c.touch_of.ensures.footprint
 
 pub returns-then-accepts : goal.returns-then-accepts
 returns-then-accepts g c =
