@@ -23,7 +23,8 @@ use Rattle.bfs_core.specs.declared.calls.State.TheVariants.{Waiting}
 use Rattle.bfs_core.specs.Laws.{PlansAreGroups}
 use Rattle.bfs_core.specs.Machine.{Standing, at_start}
 use Rattle.bfs_core.specs.Reached.{IsReached}
-use Rattle.bfs_core.specs.Seen.{standing_seen, machine_seen, requests_from}
+use Rattle.bfs_levels.specs.Requests.{requests_from}
+use Rattle.bfs_core.specs.Seen.{standing_seen, machine_seen}
 use Rattle.bfs_core.specs.Running.{OwnsWritten, IsRunning}
 use Rattle.bfs_core.proofs.Stepping.{start_reached}
 use Rattle.bfs_core.proofs.Owning.{has}

@@ -1,6 +1,6 @@
 -- One job's result comes home.
-use Rattle.std.proofs.Common.{◌≡◌, ℕ, zero, suc, Bool, true, false, cond, ◌||◌, List, [], ◌∷◌, ◌++◌, length, map, get_or, Option, None, is_some, refl, ap, sym, subst, ◌∙◌, arith}
-use Rattle.std.specs.List.{All, Contains, list_any}
+use Rattle.std.proofs.Common.{◌≡◌, ℕ, zero, suc, Bool, true, false, cond, ◌||◌, List, [], ◌∷◌, length, map, get_or, Option, None, is_some, refl, ap, sym, subst, ◌∙◌, arith}
+use Rattle.std.specs.List.{Contains, list_any}
 use Rattle.std.specs.FinMap.{get}
 use Rattle.std.proofs.lemmas.List.Elements.{All-cons, All-nil}
 use Rattle.std.proofs.lemmas.List.Sorted.{Contains-permutation, length_permutation}
@@ -25,33 +25,24 @@ single (y ∷ []) x one found = ap (λ z. z ∷ []) (there found.0 (omega (arith
     there (suc k) at is = absurd (omega arith)
 single (y ∷ z ∷ xs) x one found = absurd (omega arith)
 
-last_is : {X : Type 0} (rest : List X) (x y : X) → rest ++ x ∷ [] ≡ y ∷ [] → x ≡ y
-last_is [] x y is = cc
-last_is (z ∷ []) x y is = absurd cc
-last_is (z ∷ w ∷ rest) x y is = absurd cc
-
-pub one_item : {X : Type 0} (before : List X) (x : X) (after : List X) → before ≡ [] → after ≡ before ++ x ∷ [] → after ≡ x ∷ []
-one_item before x after none more = more ∙ ap (λ xs. xs ++ x ∷ []) none
-
-module _ (tree : Slots) (job : Job) (done : Done) (items : List Done) (one : items ≡ done ∷ []) (run : IsDone tree job done) where
-  pub one_out : IsOutFor tree job → AreOut tree items
+module _ (tree : Slots) (job : Job) (done : Done) (run : IsDone tree job done) where
+  pub one_out : IsOutFor tree job → AreOut tree (done ∷ [])
   one_out out = (
     (λ id. job.number),
-    subst (All (IsOut tree (λ id. job.number))) (sym one) (All-cons (IsOut tree (λ id. job.number)) done []
+    All-cons (IsOut tree (λ id. job.number)) done []
         (record {
           distinct = subst AreDistinct (sym run.ids) out.distinct;
           lent_out = λ id is. out.lent_out id (ap (λ ids. among ids id) (sym run.ids) ∙ is);
           owned = λ id is. sym run.number;
         })
-        (All-nil (IsOut tree (λ id. job.number)))),
+        (All-nil (IsOut tree (λ id. job.number))),
   )
 
-  pub one_home : (new : Slots) (replies rest : List Reply) (reply : Reply) → IsMerged tree new (job.number ∷ []) items replies → replies ≡ rest ++ reply ∷ [] → IsCarriedOut tree new job reply.bytes.items
-  one_home new replies rest reply merged last =
-      let count : length merged.order ≡ 1 = length_permutation items merged.order merged.each ∙ ap length one in
-      let found : Contains merged.order done = Contains-permutation items merged.order done merged.each (subst (λ xs. Contains xs done) (sym one) (0, omega arith, refl)) in
-      let order : merged.order ≡ done ∷ [] = single merged.order done count found in
-      let given : reply ≡ reply_in done = last_is rest reply (reply_in done) (sym last ∙ merged.replies_are ∙ ap (map reply_in) order) in
+  pub one_home : (new : Slots) (numbers : List ℕ) (reply : Reply) → IsMerged tree new numbers (done ∷ []) (reply ∷ []) → IsCarriedOut tree new job reply.bytes.items
+  one_home new numbers reply merged =
+      let found : Contains merged.order done = Contains-permutation (done ∷ []) merged.order done merged.each (0, omega arith, refl) in
+      let order : merged.order ≡ done ∷ [] = single merged.order done (length_permutation (done ∷ []) merged.order merged.each) found in
+      let given : reply ≡ reply_in done = ap (λ replies. get_or replies 0 reply) (merged.replies_are ∙ ap (map reply_in) order) in
       let home : at_home new ≡ put_in done.inodes (at_home tree) = merged.home ∙ ap (λ dones. all_in dones (at_home tree)) order in record {
         answers = (λ i. (home i, (given i).bytes.items)) ∙ run.answers;
         still_out = λ id.

@@ -34,7 +34,8 @@ use Rattle.bfs_core.specs.declared.calls.State.{State}
 use Rattle.bfs_core.specs.declared.calls.State.TheVariants.{Waiting, Taken, Finished}
 use Rattle.bfs_core.specs.Lent.{AreLentOut, IsCarriedOut}
 use Rattle.bfs_core.specs.Machine.{Standing, Machine, standing_of, away_in, is_complete, take_refusal, finish_refusal, after_take, outcome_of, after_finish}
-use Rattle.bfs_core.specs.Seen.{slot_seen, standing_seen, machine_seen, requests_from}
+use Rattle.bfs_levels.specs.Requests.{requests_from}
+use Rattle.bfs_core.specs.Seen.{slot_seen, standing_seen, machine_seen}
 use Rattle.bfs_core.specs.Running.{lent_for, HasItsOwn, OwnsWritten, IsRunning}
 use Rattle.bfs_core.specs.Reached.{IsReached}
 use Rattle.bfs_core.proofs.Standings.{CanFinish, can_take, can_finish, both}

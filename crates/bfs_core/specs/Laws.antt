@@ -10,7 +10,7 @@ use Rattle.bfs_levels.specs.Planning.{group_length}
 use Rattle.bfs_core.specs.declared.events.Event.{Event}
 use Rattle.bfs_core.specs.Machine.{Machine, at_start, played, is_complete}
 use Rattle.bfs_core.specs.Reached.{world_of, event_at, event_from}
-use Rattle.bfs_core.specs.Seen.{requests_from}
+use Rattle.bfs_levels.specs.Requests.{requests_from}
 
 -- events that are accepted lead, in the model, to the world of the calls as they then stand
 abbrev pub EventsAreSteps : Type 0

@@ -1,9 +1,10 @@
 -- Calls of the code as they stand in the machine.
-use Rattle.std.specs.Prelude.{ℕ, List, map, drop, take, length}
+use Rattle.std.specs.Prelude.{ℕ, List, map, length}
 use Rattle.std.specs.FinMap.{empty}
 use Rattle.bfs_model.specs.Tree.{Time}
 use Rattle.bfs_model.specs.Events.{Slot, waiting, taken, finished}
 use Rattle.bfs_footprint.specs.Seen.{footprint_seen}
+use Rattle.bfs_levels.specs.Requests.{requests_from}
 use Rattle.bfs_tree.specs.Slots.{Slots}
 use Rattle.bfs_tree.specs.Tree.{at_home}
 use Rattle.bfs_handover.specs.Loans.{put_in}
@@ -19,10 +20,6 @@ slot_seen (Finished reply) = finished reply.items
 
 abbrev pub standing_seen : Call → Standing
 standing_seen call = record { footprint = footprint_seen call.footprint; slot = slot_seen call.state }
-
--- so many requests of a batch, from a place on
-abbrev pub requests_from : (first count : ℕ) → List (List ℕ) → List (List ℕ)
-requests_from first count requests = take count (drop first requests)
 
 abbrev pub machine_seen : (first ordinal : ℕ) → Time → (batch : List (List ℕ)) → Slots → List Call → Machine
 machine_seen first ordinal time batch tree calls = record {

@@ -10,7 +10,7 @@ ghost use Rattle.bfs_handover.specs.Moves.{AreOwned};
 ghost use Rattle.bfs_core.specs.Lent.{AreLentOut, IsCarriedOut, IsOutFor};
 
 use bfs_footprint::Footprint;
-use bfs_handover::{Job, Loan, Loans, MergeError, merge, run_job};
+use bfs_handover::{Job, Loan, Loans, merge_one, run_job};
 use bfs_procs::answer;
 use bfs_tree::Tree;
 use bfs_types::{FileId, Memory};
@@ -59,15 +59,6 @@ pub(crate) fn carry_out(alloc: Global, tree: &mut Tree, job: Job) -> Result<Vec<
     requires out { IsOutFor tree.old job }
     ensures { IfOk result (λ reply. IsCarriedOut tree.old tree.new job.entry reply.items) }
 {
-    let number = job.number;
-    let mut dones = Vec::with_capacity(alloc, 1)?;
-    dones.push(run_job(alloc, tree, job)?)?;
-    match merge(alloc, tree, &[number], dones) {
-        Ok(mut replies) => match replies.pop() {
-            Some(reply) => Ok(reply.bytes),
-            None => unreachable!(),
-        },
-        Err(MergeError::Memory) => Err(Memory),
-        Err(_) => unreachable!(),
-    }
+    let done = run_job(alloc, tree, job)?;
+    Ok(merge_one(tree, done).bytes)
 }

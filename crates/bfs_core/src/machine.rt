@@ -6,7 +6,7 @@ ghost use Rattle.bfs_footprint.specs.Seen.{footprint_seen};
 ghost use Rattle.bfs_serial.specs.Held.{held};
 ghost use Rattle.bfs_tree.specs.Tree.{at_home, reach_of};
 ghost use Rattle.bfs_core.specs.Machine.{Happens, Plays, at_start, is_complete, played, reply_to};
-ghost use Rattle.bfs_core.specs.Seen.{requests_from};
+ghost use Rattle.bfs_levels.specs.Requests.{requests_from};
 ghost use Rattle.bfs_core.specs.declared.events.Event.TheVariants as event;
 
 use crate::calls::all_waiting;

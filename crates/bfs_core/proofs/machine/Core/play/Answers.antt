@@ -8,7 +8,7 @@ use Rattle.bfs_core.specs.declared.errors.CoreError.{CoreError}
 use Rattle.bfs_core.specs.declared.events.Event.{Event}
 use Rattle.bfs_core.specs.declared.events.Event.TheVariants.{Take}
 use Rattle.bfs_core.specs.Machine.{Machine, Plays, at_start, played}
-use Rattle.bfs_core.specs.Seen.{requests_from}
+use Rattle.bfs_levels.specs.Requests.{requests_from}
 use Rattle.bfs_core.proofs.Playing.{Leads, all_happened, happened, next_is, refused}
 use Rattle.bfs_core.proofs.machine.Core.play.Goals as goal
 

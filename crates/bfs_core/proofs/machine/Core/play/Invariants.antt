@@ -1,7 +1,7 @@
 use Rattle.std.proofs.Common.{drop, length}
 use Rattle.bfs_tree.specs.Tree.{at_home}
 use Rattle.bfs_core.specs.Machine.{at_start, played}
-use Rattle.bfs_core.specs.Seen.{requests_from}
+use Rattle.bfs_levels.specs.Requests.{requests_from}
 use Rattle.bfs_core.proofs.Playing.{Leads}
 use Rattle.bfs_core.proofs.machine.Core.play.Given as goal
 
