@@ -6,16 +6,16 @@ use std::test::Fail;
 
 // the words of a command line, and the workers and the engine that they ask for
 static TAKEN: [(&str, u32, Option<Engine>); 13] = [
-    ("replay a.trace", 4, Some(Engine::Runs)),
-    ("replay -- a.trace", 4, Some(Engine::Runs)),
+    ("replay a.trace", 4, Some(Engine::Levels)),
+    ("replay -- a.trace", 4, Some(Engine::Levels)),
     ("replay --engine runs a.trace", 4, Some(Engine::Runs)),
     ("replay --engine serial a.trace", 4, None),
     ("replay a.trace --engine=serial", 4, None),
-    ("replay --workers 1 a.trace", 1, Some(Engine::Runs)),
-    ("replay --workers 64 a.trace", 64, Some(Engine::Runs)),
-    ("replay --workers=8 a.trace", 8, Some(Engine::Runs)),
-    ("replay a.trace --workers +7", 7, Some(Engine::Runs)),
-    ("replay --workers 007 a.trace", 7, Some(Engine::Runs)),
+    ("replay --workers 1 a.trace", 1, Some(Engine::Levels)),
+    ("replay --workers 64 a.trace", 64, Some(Engine::Levels)),
+    ("replay --workers=8 a.trace", 8, Some(Engine::Levels)),
+    ("replay a.trace --workers +7", 7, Some(Engine::Levels)),
+    ("replay --workers 007 a.trace", 7, Some(Engine::Levels)),
     ("replay --workers 2 --engine serial a.trace", 2, None),
     (
         "replay --engine=runs a.trace --workers=33",

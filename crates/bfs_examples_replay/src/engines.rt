@@ -85,9 +85,11 @@ fn prints<R: AllocGlobal + Threads + Wait + Sync>(
     if output(rt, text, 4, None)?.as_slice() != wanted {
         return Ok(false);
     }
-    for workers in [1, 2, 7, 64] {
-        if output(rt, text, workers, Some(Engine::Runs))?.as_slice() != wanted {
-            return Ok(false);
+    for engine in [Engine::Runs, Engine::Levels] {
+        for workers in [1, 2, 7, 64] {
+            if output(rt, text, workers, Some(engine))?.as_slice() != wanted {
+                return Ok(false);
+            }
         }
     }
     Ok(true)

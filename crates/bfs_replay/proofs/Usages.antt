@@ -21,7 +21,7 @@ by workers engine = Some (record { workers = workers; engine = engine; trace = c
 abbrev pub behind_name : List Text → List Text
 behind_name words = codes "replay" ∷ words
 
-pub row-trace : asked_by (behind_name (codes "a.trace" ∷ [])) ≡ by 4 (Some engine.Runs)
+pub row-trace : asked_by (behind_name (codes "a.trace" ∷ [])) ≡ by 4 (Some engine.Levels)
 unfolding asked_on_literals
 row-trace = refl
 
@@ -37,12 +37,16 @@ pub row-runs : asked_by (behind_name (codes "--engine" ∷ codes "runs" ∷ code
 unfolding asked_on_literals
 row-runs = refl
 
-pub row-most_workers : asked_by (behind_name (codes "--workers" ∷ codes "64" ∷ codes "a.trace" ∷ [])) ≡ by 64 (Some engine.Runs)
+pub row-levels : asked_by (behind_name (codes "--engine" ∷ codes "levels" ∷ codes "a.trace" ∷ [])) ≡ by 4 (Some engine.Levels)
+unfolding asked_on_literals
+row-levels = refl
+
+pub row-most_workers : asked_by (behind_name (codes "--workers" ∷ codes "64" ∷ codes "a.trace" ∷ [])) ≡ by 64 (Some engine.Levels)
 unfolding asked_on_literals
 row-most_workers = refl
 
 -- a sign, and leading zeros
-pub row-plus : asked_by (behind_name (codes "--workers=+007" ∷ codes "a.trace" ∷ [])) ≡ by 7 (Some engine.Runs)
+pub row-plus : asked_by (behind_name (codes "--workers=+007" ∷ codes "a.trace" ∷ [])) ≡ by 7 (Some engine.Levels)
 unfolding asked_on_literals
 row-plus = refl
 

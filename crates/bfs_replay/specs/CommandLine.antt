@@ -18,9 +18,9 @@ use Rattle.bfs_replay.specs.declared.usage.UsageError.TheVariants as error
 abbrev pub workers_rule : Rule
 workers_rule = record (new_rule (codes "workers")) { long = Some (codes "workers"); defaults = codes "4" ∷ []; parser = Some (parser.Signed (pos 1) (pos most_workers)) }
 
--- `--engine NAME`; `runs` where there is none
+-- `--engine NAME`; `levels` where there is none
 abbrev pub engine_rule : Rule
-engine_rule = record (new_rule (codes "engine")) { long = Some (codes "engine"); defaults = codes "runs" ∷ [] }
+engine_rule = record (new_rule (codes "engine")) { long = Some (codes "engine"); defaults = codes "levels" ∷ [] }
 
 -- the path of the trace, the one word that stands alone
 abbrev pub trace_rule : Rule

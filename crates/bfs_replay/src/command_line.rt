@@ -28,7 +28,7 @@ fn engine_argument<'a>(alloc: Global) -> Arg<'a>
 {
     Arg::new(alloc, "engine")
         .long("engine")
-        .default_value("runs")
+        .default_value("levels")
 }
 
 /// The words that `replay` takes.
@@ -107,7 +107,7 @@ fn options_among<'a>(found: &ArgMatches<'a>) -> Option<Options<'a>>
 }
 
 /// Reads the words of the command line, the program's name first: `replay [--workers N] [--engine runs|levels|serial] TRACE`. N is a number
-/// from 1 to 64, in decimal digits behind a `+` or not, and 4 where there is none; the engine is `runs` where there is none. Any other
+/// from 1 to 64, in decimal digits behind a `+` or not, and 4 where there is none; the engine is `levels` where there is none. Any other
 /// number or engine, an option twice, any other option (`--help` and `--version` among them), no trace and two traces are
 /// `UsageError::Usage`.
 #[tactic(auto, using(crate::proofs::CommandLine::asked_where_taken, crate::proofs::CommandLine::none_where_refused))]
