@@ -1,4 +1,2 @@
-pub mod EntryLemmas
 pub mod DirectoryLemmas
-pub mod OrderLemmas
-pub mod PageLemmas
+pub mod IndexLemmas

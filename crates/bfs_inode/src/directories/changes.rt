@@ -17,13 +17,33 @@ impl Directory {
         ensures ok { OnOk result (self.new ≡ record self.old { entries = self.old.entries ++ (record { cookie = cookie; name = name.now; child = child }) ∷ [] }) }
         ensures err { OnErr result (self.new ≡ self.old) }
     {
-        let name = Name::new(*self.entries.allocator(), name)?;
-        self.entries.push(Entry {
+        let name = Name::new(self.alloc, name)?;
+        self.push(Entry {
             cookie,
             name,
             child,
-        })?;
-        Ok(())
+        })
+    }
+
+    // an entry behind the others
+    pub(super) fn push(&mut self, entry: Entry) -> Result<(), Memory>
+        requires room { length self.old.entries < most_entries }
+        requires above { All (λ before. before.cookie < entry.cookie) self.old.entries }
+        requires free { entry_named entry.name self.old.entries ≡ None }
+        ensures ok { OnOk result (self.new ≡ record self.old { entries = self.old.entries ++ entry ∷ [] }) }
+        ensures err { OnErr result (self.new ≡ self.old) }
+    {
+        let cookie = entry.cookie;
+        let mut name = Vec::new(self.alloc);
+        name.extend_from_slice(entry.name.as_slice())?;
+        self.entries.insert(cookie, entry)?;
+        match self.cookies.insert(name, cookie) {
+            Ok(_) => Ok(()),
+            Err(refused) => {
+                self.entries.remove(&cookie);
+                Err(Memory::from(refused))
+            }
+        }
     }
 
     /// Removes the entry of that name and gives it back, or `None` if there is none. The others keep their order.
@@ -32,7 +52,10 @@ impl Directory {
         ensures dropped { self.new ≡ record self.old { entries = without_name name.now self.old.entries } }
         ensures gone { entry_named name.now self.new.entries ≡ None }
     {
-        drop_entry(&mut self.entries, name)
+        match self.cookies.remove(name) {
+            Some(cookie) => self.entries.remove(&cookie),
+            None => None,
+        }
     }
 
     /// Puts it below the directory of that fileid.
@@ -41,22 +64,4 @@ impl Directory {
     {
         self.parent = parent;
     }
-}
-
-fn drop_entry(entries: &mut Vec<Entry>, name: &[u8]) -> Option<Entry>
-    ensures value { result ≡ entry_named name.now entries.old.items }
-    ensures dropped { entries.new.items ≡ without_name name.now entries.old.items }
-{
-    match place_of(entries, name) {
-        Some(place) => Some(entries.remove(place)),
-        None => None,
-    }
-}
-
-fn place_of(entries: &[Entry], name: &[u8]) -> Option<usize>
-    ensures { result ≡ position (λ entry. bytes_eq entry.name name.now) entries.now }
-{
-    entries
-        .iter()
-        .position(|entry| entry.name.as_slice() == name)
 }

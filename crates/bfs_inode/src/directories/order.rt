@@ -21,13 +21,17 @@ impl Directory {
     ) -> Result<Option<Directory>, Memory>
         ensures { IfOk result (λ made. SomeIff made (AreEntries entries.items) (record { parent = parent; entries = entries.items })) }
     {
-        if entries.len() > MOST_ENTRIES
-            || !cookies_rise(&entries)
-            || !names_differ(alloc, &entries)?
-        {
+        if entries.len() > MOST_ENTRIES || !cookies_rise(&entries) {
             return Ok(None);
         }
-        Ok(Some(Directory { parent, entries }))
+        let mut directory = Directory::new(alloc, parent);
+        for entry in entries {
+            if directory.entry(entry.name.as_slice()).is_some() {
+                return Ok(None);
+            }
+            directory.push(entry)?;
+        }
+        Ok(Some(directory))
     }
 }
 
@@ -43,16 +47,4 @@ fn cookies_rise(entries: &[Entry]) -> bool
         least = cookie + 1;
     }
     true
-}
-
-fn names_differ(alloc: Global, entries: &[Entry]) -> Result<bool, Memory>
-    ensures { IfOk result (λ differ. IsTrue differ ↔ NamesDiffer entries.now) }
-{
-    let mut names = BTreeSet::new(alloc);
-    for entry in entries {
-        if !names.insert(entry.name.as_slice())? {
-            return Ok(false);
-        }
-    }
-    Ok(true)
 }
