@@ -1,13 +1,13 @@
 -- The entries by cookie and the index of their names: what a look-up finds, and what is left when an entry comes or goes.
-use Rattle.std.proofs.Common.{◌≡◌, ℕ, ◌+◌, ◌<◌, ◌≤◌, ◌==◌, ◌&&◌, Bool, true, false, cond, List, [], ◌∷◌, ◌++◌, Option, Some, None, bytes_eq, nat_lt, refl, sym, ap, subst, ◌∙◌, arith, Ordering}
+use Rattle.std.proofs.Common.{◌≡◌, ℕ, ◌+◌, ◌<◌, ◌≤◌, ◌==◌, ◌&&◌, Bool, true, false, cond, List, [], ◌∷◌, ◌++◌, Option, Some, None, bytes_eq, nat_lt, refl, sym, ap, subst, ◌∙◌, arith}
 use Rattle.std.specs.Option.{option_map, option_or}
-use Rattle.std.specs.List.{All, AllByRecursion, filter}
+use Rattle.std.specs.List.{All, AllByRecursion}
 use Rattle.std.specs.Global.{Vec}
-use Rattle.std.specs.Map.{lookup, remove_entry, values_of, IsKeyTest, AreApart, KeepsOthers}
+use Rattle.std.specs.Map.{lookup, remove_entry, values_of, KeepsOthers}
 use Rattle.std.specs.BTreeMap.{BTreeMap, is_at, insert_entry, UpdatesBy}
 use Rattle.std.specs.BTreeMap.Range.{entries_between, range_contains}
 use Rattle.std.specs.declared.ops.Bound.TheVariants.{Excluded, Unbounded}
-use Rattle.std.specs.Ordering.{nat_cmp, is_eq, is_lt, match_ordering, eq_by_cmp}
+use Rattle.std.specs.Ordering.{nat_cmp, is_eq, is_lt, match_ordering}
 use Rattle.std.proofs.Common.{Less, Equal, Greater}
 use Rattle.std.specs.Cmp.{nat_cmp_is}
 use Rattle.std.specs.Cmp.Lexicographic.{slice_cmp}
@@ -192,9 +192,11 @@ pushed pairs after index indexed own entry is below free inserted updates h =
       },
     )
 
-pub back : (pairs after again : Pairs) (entry : Entry) → AreOwn pairs → AreBelow entry.cookie pairs → after ≡ insert_entry nat_cmp pairs entry.cookie entry → again ≡ remove_entry (is_at (nat_cmp entry.cookie)) after → again ≡ pairs
-back pairs after again entry own below inserted removed =
-    removed ∙ ap (remove_entry (is_at (nat_cmp entry.cookie))) (inserted ∙ added_last pairs entry.cookie entry own below) ∙ taken_back pairs entry.cookie entry own below
+pub back : (pairs after again : Pairs) (index indexed : List (Vec ℕ × ℕ)) (entry : Entry) → AreBelow entry.cookie pairs → after ≡ insert_entry nat_cmp pairs entry.cookie entry
+    → again ≡ remove_entry (is_at (nat_cmp entry.cookie)) after → indexed ≡ index → AreIndexed pairs index → (values_of again ≡ values_of pairs) × AreIndexed again indexed
+back pairs after again index indexed entry below inserted removed same h =
+    let as_before : again ≡ pairs = removed ∙ ap (remove_entry (is_at (nat_cmp entry.cookie))) (inserted ∙ added_last pairs entry.cookie entry h.own below) ∙ taken_back pairs entry.cookie entry h.own below in
+    rw (as_before, same) (refl, h)
 
 pub dropped : (pairs after : Pairs) (index indexed : BTreeMap (Vec ℕ) ℕ) (name : List ℕ) (cookie : ℕ) → Some cookie ≡ cookie_of name index.entries
     → after ≡ remove_entry (is_at (nat_cmp cookie)) pairs → UpdatesBy (λ x y. slice_cmp nat_cmp x.items y.items) (λ key. slice_cmp nat_cmp name key.items) index indexed None

@@ -8,6 +8,7 @@ ghost use Rattle.bfs_model.specs.WellFormed.{IsRising, NamesDiffer};
 
 mod changes;
 mod entries;
+mod index;
 mod order;
 mod pages;
 mod rest;
@@ -40,6 +41,9 @@ impl Model for Entry {
 
 /// The directory above, and at most `MOST_ENTRIES` entries. `.` and `..` are not among them. The cookies rise from entry to
 /// entry, and no two entries have one name.
+///
+/// The entries stand in a tree by cookie, and their names in another one, so that no call but a walk is linear in the entries, whatever
+/// names a client chooses.
 #[derive(Debug, Drop)]
 pub struct Directory {
     alloc: Global,

@@ -1,19 +1,18 @@
 // Entries that may be a directory's: they are few, their cookies rise, and their names differ.
-ghost use Rattle.std.specs.Prelude.{◌≡◌, ◌↔◌, IsTrue, IfOk};
+ghost use Rattle.std.specs.Prelude.{◌↔◌, IsTrue, IfOk};
 ghost use Rattle.std.specs.Option.{SomeIff};
 ghost use Rattle.bfs_model.specs.Tree.{spent_ordinal};
-ghost use Rattle.bfs_model.specs.WellFormed.{IsRising, NamesDiffer};
+ghost use Rattle.bfs_model.specs.WellFormed.{IsRising};
 ghost use Rattle.bfs_inode.specs.Directories.{AreEntries};
 
 use crate::directories::{Directory, Entry};
 use bfs_types::{FileId, MOST_ENTRIES, Memory};
 use std::alloc::Global;
-use std::collections::BTreeSet;
 
 impl Directory {
     /// The directory with these entries, below the one of that fileid. `None` if they can't be a directory's: there are more than
-    /// `MOST_ENTRIES`, their cookies don't rise from entry to entry, or two have one name. It costs a look-up in a set of names for
-    /// each entry. `Memory` if memory runs out.
+    /// `MOST_ENTRIES`, their cookies don't rise from entry to entry, or two have one name. Each entry costs look-ups in two trees.
+    /// `Memory` if memory runs out.
     pub fn from_entries(
         alloc: Global,
         parent: FileId,
@@ -29,7 +28,7 @@ impl Directory {
             if directory.entry(entry.name.as_slice()).is_some() {
                 return Ok(None);
             }
-            directory.push(entry)?;
+            directory.push(entry.cookie, entry.name, entry.child)?;
         }
         Ok(Some(directory))
     }
