@@ -102,8 +102,9 @@ fn digests_what_its_workers_leave(rt: HostRuntime) -> Result<(), Fail> {
         for count in [1, 2, 7] {
             let workers = Workers::new(count).ok_or("workers")?;
             let mut files = FileSystem::new(alloc)?;
-            let answered =
-                execute_and_digest(&rt, alloc, &mut files, &batch, workers, engine, &NoGate)?;
+            let answered = execute_and_digest(
+                &rt, alloc, &mut files, &batch, workers, engine, &NoGate,
+            )?;
             spells(alloc, answered.1.as_slice(), AFTER_DIGEST)?;
             is_told(&rt, alloc, &files, AFTER, AFTER_DIGEST)?;
         }

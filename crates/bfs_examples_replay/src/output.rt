@@ -96,7 +96,10 @@ fn stops_where_the_writer_refuses(rt: HostRuntime) -> Result<(), Fail> {
             }
             Ok(_) => assert!(rt; false, "the writer has no room"),
         }
-        assert!(rt; writer.taken.as_slice() == &ROOT_OUTPUT[..room], "at {room}");
+        assert!(rt;
+            writer.taken.as_slice() == &ROOT_OUTPUT[..room],
+            "at {room}"
+        );
     }
     Ok(())
 }
