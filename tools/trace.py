@@ -158,7 +158,7 @@ def read_trace(path):
 
 def read_replies(path, requests):
     """The replies to the requests of a trace, by their place in the output; `None` where a request got none."""
-    output, replies = list(lines(path)), []
+    output, replies = [(line, content) for line, content in lines(path) if not re.fullmatch(r"digest 0 [0-9a-f]{64}", content)], []
     for (line, content), request in zip(output, requests):
         begin = f"c{request.client} t{request.timestamp} "
         reply = content[len(begin) :]
@@ -166,7 +166,7 @@ def read_replies(path, requests):
             raise Fault(f"{path}: line {line}: no reply to line {request.line} of the trace, {begin.strip()}")
         replies.append(None if reply == "-" else bytes.fromhex(reply))
     if len(output) != len(requests):
-        raise Fault(f"{path}: {len(output)} lines, where the trace has {len(requests)} requests")
+        raise Fault(f"{path}: {len(output)} lines of replies, where the trace has {len(requests)} requests")
     return replies
 
 

@@ -33,7 +33,8 @@ pub fn check(keys: &Keys, sender: Principal, text: &[u8], auth: &Authenticator) 
     hmac(&shared.receiving, text).as_slice() == entry.as_slice()
 }
 
-/// What `check` answers of each, in their order, from as many threads as there are processors. `Memory` if memory runs out.
+/// What `check` answers of each, in their order, from as many threads as there are processors, unless there is too little to hash for them.
+/// `Memory` if memory runs out.
 pub fn check_all(
     rt: &(impl Threads + Sync),
     alloc: Global,
@@ -55,11 +56,29 @@ fn checked(
 {
     items
         .par_iter()
-        .with_min_len(1)
+        .with_min_len(least_items(items))
         .map(
             |item: &Claimed| -> bool
                 ensures { result ≡ passes keys.entry.now item.now.sender item.now.text.items item.now.auth }
             { check(keys, item.sender, item.text.as_slice(), &item.auth) },
         )
         .collect(rt, alloc)
+}
+
+// What a thread hashes at least: about as long as this takes, it takes to start it.
+const LEAST_BYTES: usize = 8_192;
+
+// What is hashed of an item beside its text: keys, the inner hash, and padding.
+const BYTES_BESIDE: usize = 256;
+
+// how many items a thread has at least, by the mean length of their texts
+fn least_items(items: &[Claimed]) -> usize {
+    let mut bytes = 0usize;
+    for item in items {
+        bytes = bytes.saturating_add(item.text.len());
+    }
+    match items.len() {
+        0 => 1,
+        count => LEAST_BYTES / (bytes / count).saturating_add(BYTES_BESIDE) + 1,
+    }
 }

@@ -56,13 +56,3 @@ impl From<XdrError> for Malformed {
         Malformed
     }
 }
-
-impl From<Malformed> for RestoreError {
-    ghost use Rattle.bfs_digest.specs.declared.errors.RestoreError.TheVariants as error;
-
-    ghost from_gives = { λ _ refused. refused ≡ error.Malformed };
-
-    fn from(_error: Malformed) -> RestoreError {
-        RestoreError::Malformed
-    }
-}

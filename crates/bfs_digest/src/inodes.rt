@@ -95,6 +95,7 @@ fn directory_of(alloc: Global, reader: &mut TextReader) -> Result<Option<Body>, 
     }
 }
 
+// the text was found to spell so many entries, so it is as long
 fn entries_of(
     alloc: Global,
     reader: &mut TextReader,
@@ -102,7 +103,7 @@ fn entries_of(
 ) -> Result<Option<Vec<Entry>>, Memory>
     ensures { IfOk result (λ entries. Builds (λ made. made.items) (λ read. Unit {0}) entries (entries_from count first_ordinal reader.old) reader.new) }
 {
-    let mut entries = Vec::new(alloc);
+    let mut entries = Vec::with_capacity(alloc, count as usize)?;
     for _entry in 0..count {
         let Ok(entry) = reader.entry() else {
             return Ok(None);

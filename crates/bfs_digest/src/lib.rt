@@ -7,6 +7,7 @@ mod hashes;
 mod headers;
 mod inodes;
 mod laws;
+mod lengths;
 mod numbering;
 mod readers;
 mod restoration;

@@ -2,7 +2,7 @@
 ghost use Rattle.std.specs.Prelude.{◌≤◌, length};
 
 use bfs_replies::{Class, MOST_CLIENTS, RecordError, ReplyTable};
-use bfs_testing::words::same_bytes;
+use bfs_testing::words::{same_bytes, spells};
 use bfs_testing::{holds, same};
 use bfs_types::MOST_REPLY_BYTES;
 use std::test::Fail;
@@ -45,6 +45,19 @@ fn a_copy_answers_alike(rt: HostRuntime) -> Result<(), Fail> {
     let (timestamp, reply) = copy.last(1).ok_or("a reply")?;
     same!(rt; timestamp, 7);
     same_bytes(alloc, reply, b"seven")
+}
+
+// three clients, of which the second has a reply of 3 bytes to its request 5
+const TEXT: &str = "0000000300000000000000010000000000000005000000036162630000000000";
+
+#[test]
+fn a_table_has_a_text(rt: HostRuntime) -> Result<(), Fail> {
+    let alloc = rt.alloc();
+    let mut table = ReplyTable::new(alloc, 3)?;
+    table.record(1, 5, b"abc")?;
+    let mut text = Vec::new(alloc);
+    table.put_text(&mut text)?;
+    spells(alloc, text.as_slice(), TEXT)
 }
 
 #[test]

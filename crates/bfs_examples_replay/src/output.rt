@@ -13,17 +13,22 @@ use std::thread::Threads;
 const ROOT_TRACE: &[u8] =
     b"batch 1.000000\n0 1 raw 000000010000000000000002000186a30000000200000001000000000000000000000000000000004246533200000001000000020000000000000000000000000000000000000000\n";
 
-const ROOT_LINE: &[u8] =
-    b"c0 t1 0000000100000001000000000000000000000000000000000000000000000002000041ed000000020000000000000000000000400000100000000000000000010000000100000002000000000000000000000000000000000000000000000000\n";
+// the reply, and the digest of another implementation: a new file system whose last time is 1, and whose next ordinal is 4
+const ROOT_OUTPUT: &[u8] =
+    b"c0 t1 0000000100000001000000000000000000000000000000000000000000000002000041ed000000020000000000000000000000400000100000000000000000010000000100000002000000000000000000000000000000000000000000000000\ndigest 0 9b37908d185e63c080d2e6b11de5f95843b53f677df75e001afa5827a4ed00cc\n";
 
 #[test]
 fn prints_a_line_for_each_request(rt: HostRuntime) -> Result<(), Fail> {
     let trace = parse_trace(rt.alloc(), ROOT_TRACE)?;
     let mut out = Vec::new(rt.alloc());
     same!(rt; run_trace(&rt, &trace, Workers::one(), None, &mut out)?, Outcome::Agree);
-    holds!(rt; out.as_slice() == ROOT_LINE);
+    holds!(rt; out.as_slice() == ROOT_OUTPUT);
     Ok(())
 }
+
+// the last time is a microsecond, and the next ordinal 4
+const SILENT_OUTPUT: &[u8] =
+    b"c15 t18446744073709551615 -\ndigest 0 28fd805cef7fc54e5e3086d94731a190a9efcc8c45e0015d2044650345858fa2\n";
 
 #[test]
 fn prints_a_dash_for_what_is_no_call(rt: HostRuntime) -> Result<(), Fail> {
@@ -33,7 +38,21 @@ fn prints_a_dash_for_what_is_no_call(rt: HostRuntime) -> Result<(), Fail> {
     )?;
     let mut out = Vec::new(rt.alloc());
     run_trace(&rt, &silent, Workers::one(), None, &mut out)?;
-    holds!(rt; out.as_slice() == b"c15 t18446744073709551615 -\n".as_slice());
+    holds!(rt; out.as_slice() == SILENT_OUTPUT);
+    Ok(())
+}
+
+const NEW_OUTPUT: &[u8] =
+    b"digest 0 be27e39566f317750eebee1ffd539c1e05bb6276147755f12c9fc1c293bb36b4\n";
+
+#[test]
+fn prints_the_digest_of_a_new_file_system(rt: HostRuntime) -> Result<(), Fail> {
+    let empty = parse_trace(rt.alloc(), b"# no block\n")?;
+    for engine in [None, Some(Engine::Runs), Some(Engine::Levels)] {
+        let mut out = Vec::new(rt.alloc());
+        run_trace(&rt, &empty, Workers::one(), engine, &mut out)?;
+        holds!(rt; out.as_slice() == NEW_OUTPUT);
+    }
     Ok(())
 }
 
@@ -64,7 +83,7 @@ impl Write for Refusing {
 #[test]
 fn stops_where_the_writer_refuses(rt: HostRuntime) -> Result<(), Fail> {
     let trace = parse_trace(rt.alloc(), ROOT_TRACE)?;
-    for room in 0..ROOT_LINE.len() {
+    for room in 0..ROOT_OUTPUT.len() {
         let mut writer = Refusing {
             room,
             kind: ErrorKind::StorageFull,
@@ -77,7 +96,10 @@ fn stops_where_the_writer_refuses(rt: HostRuntime) -> Result<(), Fail> {
             }
             Ok(_) => assert!(rt; false, "the writer has no room"),
         }
-        assert!(rt; writer.taken.as_slice() == &ROOT_LINE[..room], "at {room}");
+        assert!(rt;
+            writer.taken.as_slice() == &ROOT_OUTPUT[..room],
+            "at {room}"
+        );
     }
     Ok(())
 }
@@ -119,7 +141,8 @@ fn output<R: AllocGlobal + Threads + Wait + Sync>(rt: &R, text: &str) -> Result<
     Ok(out)
 }
 
-const GARBAGE: &[u8] = b"c0 t1 000000010000000100000000000000000000000000000004\n";
+const GARBAGE: &[u8] =
+    b"c0 t1 000000010000000100000000000000000000000000000004\ndigest 0 9b37908d185e63c080d2e6b11de5f95843b53f677df75e001afa5827a4ed00cc\n";
 
 #[test]
 fn sends_what_is_longer_than_the_server_takes(rt: HostRuntime) -> Result<(), Fail> {

@@ -4,6 +4,7 @@ use Rattle.std.specs.List.{flat_map, fold, zip}
 use Rattle.hex.specs.Hex.{encode_lower}
 use Rattle.bfs_model.specs.Serial.{Batch, execute}
 use Rattle.bfs_model.specs.Tree.{FileSystem, new_file_system}
+use Rattle.bfs_digest.specs.Digests.{digest_of}
 use Rattle.bfs_trace.specs.Events.{Block, Request}
 use Rattle.bfs_trace.specs.declared.events.Event.{Event}
 use Rattle.bfs_trace.specs.declared.events.Event.TheVariants as event
@@ -45,5 +46,13 @@ with_event run event = (files_after run.0 event, run.1 ++ event_output run.0 eve
 abbrev pub run_of : List Event → FileSystem × List ℕ
 run_of events = fold with_event (new_file_system, []) events
 
+-- the line that tells the digest of a replica's file system: `digest <replica> <hex>`
+unfoldable pub digest_line : (replica : ℕ) → (digest : List ℕ) → List ℕ
+digest_line replica digest = codes "digest " ++ decimal replica ++ codes " " ++ encode_lower digest ++ codes "\n"
+
+-- what a file system's run printed, and then the digest of that file system, as replica 0
+abbrev pub with_digest : FileSystem × List ℕ → List ℕ
+with_digest run = run.1 ++ digest_line 0 (digest_of run.0)
+
 abbrev pub output_of : List Event → List ℕ
-output_of events = (run_of events).1
+output_of events = with_digest (run_of events)

@@ -1,6 +1,9 @@
-ghost use Rattle.std.specs.Prelude.{◌≡◌, ◌↔◌, None, length, IfOk, IsErrOf};
+ghost use Rattle.std.specs.Prelude.{◌≡◌, ◌↔◌, Some, None, length, IfOk, IsErrOf};
+ghost use Rattle.std.specs.Option.{option_map};
+ghost use Rattle.bfs_digest.specs.Digests.{digest_of};
 ghost use Rattle.bfs_serial.specs.Executed.{Executed};
 
+use bfs_digest::{digest_parallel, digest_serial};
 use bfs_parallel::{Engine, execute_parallel};
 use bfs_serial::{Batch, ExecError, FileSystem, Replies, execute_serial};
 use bfs_workers::{NoGate, Workers};
@@ -39,6 +42,22 @@ impl Executor {
                 &NoGate,
             ),
             None => execute_serial(alloc, files, batch),
+        }
+    }
+    /// The digest of a file system. Its inodes are hashed on threads, unless the calling thread executes the requests too. `Failed` exactly
+    /// where the file system has failed.
+    pub(crate) fn digest<R: Threads + Sync>(
+        &self,
+        rt: &R,
+        alloc: Global,
+        files: &FileSystem,
+    ) -> Result<[u8; 32], ExecError>
+        ensures value { IfOk result (λ digest. option_map digest_of files.now ≡ Some digest) }
+        ensures failed { IsErrOf result ExecError.Failed ↔ (files.now ≡ None) }
+    {
+        match self.engine {
+            Some(_) => digest_parallel(rt, alloc, files),
+            None => digest_serial(files),
         }
     }
 }

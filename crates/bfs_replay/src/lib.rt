@@ -2,9 +2,11 @@
 #![tactic(auto)]
 
 mod command_line;
+mod digests;
 mod executor;
 mod failure;
 mod input;
+mod replicas;
 mod replies;
 mod run;
 mod usage;
@@ -15,5 +17,6 @@ pub use bfs_workers::Workers;
 pub use command_line::options;
 pub use failure::Failure;
 pub use input::{MOST_TRACE_BYTES, read_input};
+pub use replicas::execute_and_digest;
 pub use run::{Outcome, ReplayError, run_trace};
 pub use usage::{Options, UsageError};

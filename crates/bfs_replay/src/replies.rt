@@ -50,7 +50,7 @@ fn print_reply<W: Write>(
 }
 
 // memory may run out in a writer too
-fn write_error(error: io::Error) -> ReplayError
+pub(crate) fn write_error(error: io::Error) -> ReplayError
     ensures memory { (result ≡ ReplayError.Memory) ↔ (error_kind error ≡ ErrorKind.OutOfMemory) }
     ensures fails { result ≢ ReplayError.Failed }
 {

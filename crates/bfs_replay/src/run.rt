@@ -2,9 +2,11 @@ ghost use Rattle.std.specs.Prelude.{◌≡◌, ◌≢◌, Some, IsSome, OnOk, If
 ghost use Rattle.std.specs.Option.{ForSome};
 ghost use Rattle.std.specs.Io.KnownBytes.{Appends};
 ghost use Rattle.bfs_model.specs.Serial.{execute};
+ghost use Rattle.bfs_digest.specs.Digests.{digest_of};
 ghost use Rattle.bfs_replay.specs.Errors.{replay_error_code};
-ghost use Rattle.bfs_replay.specs.Output.{as_batch, block_output, files_after, event_output, output_of};
+ghost use Rattle.bfs_replay.specs.Output.{as_batch, block_output, digest_line, files_after, event_output, output_of};
 
+use crate::digests::print_digest;
 use crate::executor::Executor;
 use crate::replies::print_replies;
 use bfs_parallel::Engine;
@@ -53,8 +55,8 @@ impl ReplayError {
 
 /// Lets the events of a trace happen one after another on a new file system: the requests of a block are executed as one
 /// batch, by the workers as the engine says, or one after another where there is no engine; and then a line is written for each of
-/// them: `c<client> t<timestamp> <reply>`, the reply in lower-case hexadecimal digits, or `-` where it has no bytes. What is written
-/// depends on the trace alone.
+/// them: `c<client> t<timestamp> <reply>`, the reply in lower-case hexadecimal digits, or `-` where it has no bytes. At the end comes a line
+/// `digest 0 <digest>`: the digest that the file system then has, in such digits. What is written depends on the trace alone.
 pub fn run_trace<R: AllocGlobal + Threads + Wait + Sync, W: Write>(
     rt: &R,
     trace: &Trace,
@@ -73,7 +75,27 @@ pub fn run_trace<R: AllocGlobal + Threads + Wait + Sync, W: Write>(
     for event in trace.events() {
         run_event(rt, alloc, &executor, &mut files, event, writer)?;
     }
+    run_digest(rt, alloc, &executor, &files, writer)?;
     Ok(Outcome::Agree)
+}
+
+// writes the digest of the file system of the one replica
+fn run_digest<R: Threads + Sync, W: Write>(
+    rt: &R,
+    alloc: Global,
+    executor: &Executor,
+    files: &FileSystem,
+    writer: &mut W,
+) -> Result<(), ReplayError>
+    requires live { IsSome files.now }
+    ensures written { OnOk result (ForSome files.now (λ live. Appends (W.contents writer.old) (W.contents writer.new) (digest_line 0 (digest_of live)))) }
+    ensures fails { IfErr result (λ e. e ≢ ReplayError.Failed) }
+{
+    match executor.digest(rt, alloc, files) {
+        Ok(digest) => print_digest(alloc, 0, &digest, writer),
+        Err(ExecError::Memory) => Err(ReplayError::Memory),
+        Err(ExecError::Failed) => Err(ReplayError::Failed),
+    }
 }
 
 fn run_event<R: Threads + Wait + Sync, W: Write>(

@@ -2,3 +2,4 @@
 pub mod Classes
 pub mod Errors
 pub mod Tables
+pub mod Texts

@@ -2,5 +2,6 @@
 #![tactic(auto)]
 
 mod tables;
+mod texts;
 
 pub use tables::{Class, MOST_CLIENTS, RecordError, ReplyTable};

@@ -1,10 +1,13 @@
-ghost use Rattle.std.specs.Prelude.{◌≡◌, ◌≤◌, ◌<◌, ◌↔◌, ◌≢◌, length, replicate, None, IfOk, OnOk, OnErr, IsErrOf};
+ghost use Rattle.std.specs.Prelude.{◌≡◌, ◌≤◌, ◌<◌, ◌++◌, ◌↔◌, ◌≢◌, length, replicate, None, IfOk, OnOk, OnErr, IsErrOf};
 ghost use Rattle.std.specs.Option.{option_map};
 ghost use Rattle.bfs_replies.specs.Classes.{class_of};
 ghost use Rattle.bfs_replies.specs.Errors.{record_code_of};
 ghost use Rattle.bfs_replies.specs.Tables.{last_of, recorded};
+ghost use Rattle.bfs_replies.specs.Texts.{table_text};
 
+use crate::texts::put_all;
 use bfs_types::{Bytes, MOST_REPLY_BYTES, Memory};
+use bfs_xdr::put_u32;
 use std::alloc::Global;
 use std::marker::Model;
 use thiserror::Error;
@@ -49,9 +52,9 @@ impl RecordError {
 }
 
 #[derive(Debug, Drop)]
-struct Last {
-    timestamp: u64,
-    reply: Bytes<MOST_REPLY_BYTES>,
+pub(crate) struct Last {
+    pub(crate) timestamp: u64,
+    pub(crate) reply: Bytes<MOST_REPLY_BYTES>,
 }
 
 impl Model for Last {
@@ -147,6 +150,16 @@ impl ReplyTable {
         };
         self.clients[client as usize] = Some(Last { timestamp, reply });
         Ok(())
+    }
+
+    /// Appends the text of the table: the number of clients, and of each whether a request of it was executed, followed by the timestamp of
+    /// its last one and the reply to it. `Memory` if memory runs out; what is there then begins with what was there.
+    #[tactic(auto, using(std::proofs::lemmas::List::append_assoc), unfolding(crate::specs::Texts::table_text))]
+    pub fn put_text(&self, out: &mut Vec<u8>) -> Result<(), Memory>
+        ensures { OnOk result (out.new.items ≡ out.old.items ++ table_text self.now) }
+    {
+        put_u32(out, self.clients())?;
+        put_all(out, &self.clients)
     }
 
     /// An equal table. `Memory` if memory runs out.

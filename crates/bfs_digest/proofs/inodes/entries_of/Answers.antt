@@ -11,7 +11,7 @@ abbrev cookie_of : Entry → ℕ
 cookie_of entry = entry.cookie
 
 pub loop-entry-init : goal.loop-entry-init
-loop-entry-init c = begins entries_from cookie_of c.args.count _ first_ordinal c.args.reader.now c.new-entries.result.items (omega arith) c.new-entries.ensures.items
+loop-entry-init c = begins entries_from cookie_of c.args.count _ first_ordinal c.args.reader.now c.in_ok-entries.entries.items (omega arith) c.in_ok-entries.ensures.items
 
 pub returns-in_default : goal.returns-in_default
 returns-in_default c = λ y rest read may. none_read entries_rise (entries_from c.args.count first_ordinal c.args.reader.now) (c.args.count - c.loop-entry._entry) (c.args.count - (c.loop-entry._entry + 1)) c.loop-entry.reader c.loop-entry.entries.items (omega arith) c.in_default.ensures.value c.loop-entry.invariant y rest read
