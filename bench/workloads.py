@@ -1,5 +1,6 @@
 #!/usr/bin/env python3
 """Writes a workload as a trace: `workloads.py NAME`, to standard output. `workloads.py --list` names them."""
+import random
 import struct
 import sys
 
@@ -92,6 +93,63 @@ def rename(trace):
     trace.blocks((11, place(i, round) + place(i, round + 1)) for round in range(5) for i in range(10_000))
 
 
+# Workloads of one large directory, the root. Its entries have names of 16 bytes, which take 32 bytes on a page of READDIR.
+
+
+def name_of(i):
+    return opaque(b"file%012d" % i)
+
+
+def make_entries(trace, entries):
+    trace.blocks((9, handle(2) + name_of(i) + UNSET) for i in range(entries))
+
+
+def directory(trace, entries=50_000):
+    """50,000 CREATEs in one directory, then a REMOVE of each."""
+    make_entries(trace, entries)
+    trace.blocks((10, handle(2) + name_of(i)) for i in range(entries))
+
+
+def pages(entries, count):
+    """A READDIR of each page of at most that many bytes: `.`, `..` (20 bytes each) and the entries, whose cookies are their ordinals."""
+    cookie, room = 0, count - 12 - 2 * 20
+    for listed in range(entries):
+        if room < 32:
+            yield 16, handle(2) + words(cookie, count)
+            room = count - 12
+        cookie, room = FIRST + listed, room - 32
+    yield 16, handle(2) + words(cookie, count)
+
+
+def readdir(trace, entries=60_000):
+    """60,000 CREATEs in one directory, then READDIRs of the whole directory page by page, with a count of 512 and of 8,192."""
+    make_entries(trace, entries)
+    trace.blocks(pages(entries, 512))
+    trace.blocks(pages(entries, 8_192))
+
+
+def lookup(trace, entries=50_000):
+    """50,000 CREATEs in one directory, then 200,000 LOOKUPs of names at random."""
+    make_entries(trace, entries)
+    chosen = random.Random(1)
+    trace.blocks((4, handle(2) + name_of(chosen.randrange(entries))) for _ in range(4 * entries))
+
+
+def half_directory(trace):
+    """The same as `directory`, with 25,000 entries."""
+    directory(trace, 25_000)
+
+
+def half_readdir(trace):
+    """The same as `readdir`, with 30,000 entries."""
+    readdir(trace, 30_000)
+
+
+def half_lookup(trace):
+    """The same as `lookup`, with 25,000 entries and 100,000 LOOKUPs."""
+    lookup(trace, 25_000)
+
+
 # Workloads of one batch: the last block is what is planned or executed, and the blocks before it make what it touches.
 
 
@@ -163,7 +221,19 @@ def look_ups(trace):
     trace.block((4, handle(2) + opaque(b"f%d" % i)) for i in range(BATCH))
 
 
-TO_RUN = {"getattr": getattr, "write": write, "read": read, "create": create, "rename": rename}
+TO_RUN = {
+    "getattr": getattr,
+    "write": write,
+    "read": read,
+    "create": create,
+    "rename": rename,
+    "directory": directory,
+    "readdir": readdir,
+    "lookup": lookup,
+    "half_directory": half_directory,
+    "half_readdir": half_readdir,
+    "half_lookup": half_lookup,
+}
 OF_ONE_BATCH = {
     "small_writes": small_writes,
     "large_writes": large_writes,

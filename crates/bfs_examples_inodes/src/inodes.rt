@@ -3,7 +3,7 @@ ghost use Rattle.std.specs.Prelude.{◌≡◌, IsTrue};
 ghost use Rattle.bfs_tree.specs.Tree.{reach_of};
 
 use crate::growing::{add_link, context, same_ids};
-use bfs_inode::{Directory, FileData, FileId, Inode};
+use bfs_inode::{Directory, Entry, FileData, FileId, Inode};
 use bfs_testing::{holds, same};
 use bfs_tree::{Store, Tree};
 use bfs_types::{Cred, FileType, LinkPath, Memory, Name, SetTime, Settings, Time};
@@ -147,6 +147,31 @@ fn takes_back_entries(rt: HostRuntime) -> Result<(), Fail> {
     directory.add(4, b"b", FileId::new(5))?;
     same!(rt; drop_entry(&mut directory, b"b"), Some((4, FileId::new(5), true)));
     same!(rt; drop_entry(&mut directory, b"b"), None);
+    Ok(())
+}
+
+// how many entries the directory has that is made of these: cookies with names of one letter
+fn made_of(alloc: Global, entries: &[(u32, u8)]) -> Result<Option<usize>, Memory> {
+    let mut made = Vec::new(alloc);
+    for (cookie, letter) in entries {
+        made.push(Entry {
+            cookie: *cookie,
+            name: Name::new(alloc, &[*letter])?,
+            child: FileId::new(9),
+        })?;
+    }
+    match Directory::from_entries(alloc, FileId::root(), made)? {
+        Some(directory) => Ok(Some(directory.len())),
+        None => Ok(None),
+    }
+}
+
+#[test]
+fn makes_directories_of_entries_in_order(rt: HostRuntime) -> Result<(), Fail> {
+    let alloc = rt.alloc();
+    same!(rt; made_of(alloc, &[(3, b'b'), (5, b'a')])?, Some(2));
+    same!(rt; made_of(alloc, &[(5, b'b'), (3, b'a')])?, None);
+    same!(rt; made_of(alloc, &[(3, b'a'), (5, b'a')])?, None);
     Ok(())
 }
 

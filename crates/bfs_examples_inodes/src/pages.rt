@@ -17,14 +17,15 @@ fn add_thousand(rt: &impl Abort, alloc: Global) -> Result<Directory, Fail> {
     Ok(directory)
 }
 
-// lists the page behind a cookie, and gives the last cookie on it
-fn list_page(rt: &impl Abort, directory: &Directory, cookie: u32) -> u32 {
+// Lists the page behind a cookie, and gives the last cookie on it. Those of `.` and `..` are 1 and 2, and the others rise by that
+// step up to 1002.
+fn list_page(rt: &impl Abort, directory: &Directory, cookie: u32, step: u32) -> u32 {
     let mut last = cookie;
     let mut page = directory.page(FileId::new(7), cookie, 512);
     // 25 entries of 20 bytes fit between the 12 bytes around them
     for _entry in 0..25 {
         if let Some(listed) = page.next_entry() {
-            same!(rt; listed.cookie.checked_sub(last), Some(1));
+            same!(rt; listed.cookie.checked_sub(last), Some(if last < 2 { 1 } else { step }));
             last = listed.cookie;
         }
     }
@@ -38,8 +39,43 @@ fn lists_each_of_many_entries_once(rt: HostRuntime) -> Result<(), Fail> {
     let directory = add_thousand(&rt, rt.alloc())?;
     let mut last = 0;
     for pages in 1..42 {
-        last = list_page(&rt, &directory, last);
+        last = list_page(&rt, &directory, last, 1);
         same!(rt; last, 1002.min(25 * pages));
+    }
+    Ok(())
+}
+
+// without the first, the third and so on
+fn drop_every_second(directory: &mut Directory) {
+    for pair in 0..500 {
+        directory.drop_entry(&letters(2 * pair));
+    }
+}
+
+fn cookie_of(directory: &Directory, name: &[u8]) -> Option<u32> {
+    Some(directory.entry(name)?.cookie)
+}
+
+#[test]
+fn finds_just_the_entries_that_are_left(rt: HostRuntime) -> Result<(), Fail> {
+    let mut directory = add_thousand(&rt, rt.alloc())?;
+    drop_every_second(&mut directory);
+    same!(rt; directory.len(), 500);
+    for pair in 0..500 {
+        same!(rt; cookie_of(&directory, &letters(2 * pair)), None);
+        same!(rt; cookie_of(&directory, &letters(2 * pair + 1)), Some(2 * pair + 4));
+    }
+    Ok(())
+}
+
+#[test]
+fn lists_each_of_the_entries_that_are_left_once(rt: HostRuntime) -> Result<(), Fail> {
+    let mut directory = add_thousand(&rt, rt.alloc())?;
+    drop_every_second(&mut directory);
+    let mut last = 0;
+    for pages in 1..22 {
+        last = list_page(&rt, &directory, last, 2);
+        same!(rt; last, 1002.min(50 * pages - 2));
     }
     Ok(())
 }

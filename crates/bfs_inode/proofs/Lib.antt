@@ -1,4 +1,3 @@
-pub mod EntryLemmas
 pub mod DirectoryLemmas
+pub mod IndexLemmas
 pub mod OrderLemmas
-pub mod PageLemmas

@@ -3,3 +3,4 @@ pub mod Seen
 pub mod Directories
 pub mod Pages
 pub mod Records
+pub mod Rest

@@ -8,13 +8,16 @@ ghost use Rattle.bfs_model.specs.WellFormed.{IsRising, NamesDiffer};
 
 mod changes;
 mod entries;
+mod index;
 mod order;
 mod pages;
+mod rest;
 
 use bfs_types::{FileId, Name};
 pub use entries::Entries;
 pub use pages::{Listed, Page};
 use std::alloc::Global;
+use std::collections::BTreeMap;
 use std::marker::Model;
 
 /// A name in a directory (RFC 1094 section 2.2.17).
@@ -38,21 +41,29 @@ impl Model for Entry {
 
 /// The directory above, and at most `MOST_ENTRIES` entries. `.` and `..` are not among them. The cookies rise from entry to
 /// entry, and no two entries have one name.
+///
+/// The entries stand in a tree by cookie, and their names in another one, so that no call but a walk is linear in the entries, whatever
+/// names a client chooses.
 #[derive(Debug, Drop)]
 pub struct Directory {
+    alloc: Global,
     parent: FileId,
-    entries: Vec<Entry>,
+    // by cookie
+    entries: BTreeMap<u32, Entry>,
+    // the cookie of each name
+    cookies: BTreeMap<Vec<u8>, u32>,
 }
 
 impl Model for Directory {
+    ghost use Rattle.std.specs.BTreeMap.{values};
     ghost use Rattle.bfs_model.specs.Tree as model;
-    ghost use Rattle.bfs_inode.specs.Directories.{AreEntries};
+    ghost use Rattle.bfs_inode.specs.Directories.{AreEntries, AreIndexed};
 
     ghost Value = { model.Listing };
 
-    ghost view = { λ directory. record { parent = directory.parent; entries = directory.entries.items } };
+    ghost view = { λ directory. record { parent = directory.parent; entries = values directory.entries } };
 
-    ghost invariant = { λ directory. AreEntries directory.entries.items };
+    ghost invariant = { λ directory. AreEntries (values directory.entries) × AreIndexed directory.entries.entries directory.cookies.entries };
 }
 
 impl Directory {
@@ -61,8 +72,10 @@ impl Directory {
         ensures { result ≡ record { parent = parent; entries = [] } }
     {
         Directory {
+            alloc,
             parent,
-            entries: Vec::new(alloc),
+            entries: BTreeMap::new(alloc),
+            cookies: BTreeMap::new(alloc),
         }
     }
 
@@ -94,7 +107,7 @@ impl Directory {
         ensures within { length result ≤ most_entries }
     {
         Entries {
-            left: self.entries.as_slice(),
+            left: self.entries.values(),
         }
     }
 
@@ -108,13 +121,14 @@ impl Directory {
         let _ = &self.entries;
     }
 
-    /// The entry of that name, or `None` if there is none.
+    /// The entry of that name, or `None` if there is none. It costs a look-up in each of two trees.
     pub fn entry(&self, name: &[u8]) -> Option<&Entry>
         ensures { option_copied result ≡ entry_named name.now self.now.entries }
     {
-        self.entries
-            .iter()
-            .find(|entry| entry.name.as_slice() == name)
+        match self.cookies.get(name) {
+            Some(cookie) => self.entries.get(cookie),
+            None => None,
+        }
     }
 
     /// The fileid that a name leads to (RFC 1094 section 2.2.5), or `None` if there is no such entry. `.` leads to the directory
@@ -131,10 +145,11 @@ impl Directory {
         }
     }
 
-    /// The entry at a place, counted from 0 by rising cookie, or `None` if there are not that many.
+    /// The entry at a place, counted from 0 by rising cookie, or `None` if there are not that many. It goes over the entries
+    /// before it.
     pub fn at(&self, place: usize) -> Option<&Entry>
         ensures { option_copied result ≡ slice_get self.now.entries place }
     {
-        self.entries.get(place)
+        self.iter().nth(place)
     }
 }

@@ -1,8 +1,9 @@
-ghost use Rattle.std.specs.Prelude.{◌≡◌, ◌<◌, ◌≤◌, None, [], ◌∷◌, ◌++◌, length, position, bytes_eq, OnOk, OnErr};
+ghost use Rattle.std.specs.Prelude.{◌≡◌, ◌<◌, ◌≤◌, None, [], ◌∷◌, ◌++◌, length, OnOk, OnErr};
 ghost use Rattle.std.specs.List.{All};
 ghost use Rattle.bfs_model.specs.Limits.{most_name_bytes, most_entries};
 ghost use Rattle.bfs_model.specs.Directories.{entry_named, without_name};
 
+use crate::directories::index::{put, take};
 use crate::directories::{Directory, Entry};
 use bfs_types::{FileId, Memory, Name};
 
@@ -17,13 +18,25 @@ impl Directory {
         ensures ok { OnOk result (self.new ≡ record self.old { entries = self.old.entries ++ (record { cookie = cookie; name = name.now; child = child }) ∷ [] }) }
         ensures err { OnErr result (self.new ≡ self.old) }
     {
-        let name = Name::new(*self.entries.allocator(), name)?;
-        self.entries.push(Entry {
+        self.push(cookie, Name::new(self.alloc, name)?, child)
+    }
+
+    // an entry behind the others, whose name is there already
+    pub(super) fn push(&mut self, cookie: u32, name: Name, child: FileId) -> Result<(), Memory>
+        requires room { length self.old.entries < most_entries }
+        requires above { All (λ entry. entry.cookie < cookie) self.old.entries }
+        requires free { entry_named name self.old.entries ≡ None }
+        ensures ok { OnOk result (self.new ≡ record self.old { entries = self.old.entries ++ (record { cookie = cookie; name = name; child = child }) ∷ [] }) }
+        ensures err { OnErr result (self.new ≡ self.old) }
+    {
+        let mut key = Vec::new(self.alloc);
+        key.extend_from_slice(name.as_slice())?;
+        let entry = Entry {
             cookie,
             name,
             child,
-        })?;
-        Ok(())
+        };
+        put(&mut self.entries, &mut self.cookies, key, entry)
     }
 
     /// Removes the entry of that name and gives it back, or `None` if there is none. The others keep their order.
@@ -32,7 +45,7 @@ impl Directory {
         ensures dropped { self.new ≡ record self.old { entries = without_name name.now self.old.entries } }
         ensures gone { entry_named name.now self.new.entries ≡ None }
     {
-        drop_entry(&mut self.entries, name)
+        take(&mut self.entries, &mut self.cookies, name)
     }
 
     /// Puts it below the directory of that fileid.
@@ -41,22 +54,4 @@ impl Directory {
     {
         self.parent = parent;
     }
-}
-
-fn drop_entry(entries: &mut Vec<Entry>, name: &[u8]) -> Option<Entry>
-    ensures value { result ≡ entry_named name.now entries.old.items }
-    ensures dropped { entries.new.items ≡ without_name name.now entries.old.items }
-{
-    match place_of(entries, name) {
-        Some(place) => Some(entries.remove(place)),
-        None => None,
-    }
-}
-
-fn place_of(entries: &[Entry], name: &[u8]) -> Option<usize>
-    ensures { result ≡ position (λ entry. bytes_eq entry.name name.now) entries.now }
-{
-    entries
-        .iter()
-        .position(|entry| entry.name.as_slice() == name)
 }

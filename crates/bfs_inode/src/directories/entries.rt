@@ -2,12 +2,13 @@
 ghost use Rattle.std.specs.Iterator.{YieldsFirstRef, item_count};
 
 use crate::directories::Entry;
+use std::collections::btree_map::Values;
 use std::marker::Model;
 
 /// The entries of a directory by rising cookie.
 #[derive(Debug, Drop)]
 pub struct Entries<'a> {
-    pub(super) left: &'a [Entry],
+    pub(super) left: Values<'a, u32, Entry>,
 }
 
 impl<'a> Model for Entries<'a> {
@@ -16,7 +17,7 @@ impl<'a> Model for Entries<'a> {
 
     ghost Value = { List model.Entry };
 
-    ghost view = { λ entries. entries.left.now };
+    ghost view = { λ entries. entries.left };
 }
 
 impl<'a> Iterator for Entries<'a> {
@@ -27,8 +28,6 @@ impl<'a> Iterator for Entries<'a> {
     ghost remaining = { item_count (λ entries. entries) };
 
     fn next(&mut self) -> Option<&'a Entry> {
-        let (first, left) = self.left.split_first()?;
-        self.left = left;
-        Some(first)
+        self.left.next()
     }
 }

@@ -1,19 +1,18 @@
 // Entries that may be a directory's: they are few, their cookies rise, and their names differ.
-ghost use Rattle.std.specs.Prelude.{◌≡◌, ◌↔◌, IsTrue, IfOk};
+ghost use Rattle.std.specs.Prelude.{◌↔◌, IsTrue, IfOk};
 ghost use Rattle.std.specs.Option.{SomeIff};
 ghost use Rattle.bfs_model.specs.Tree.{spent_ordinal};
-ghost use Rattle.bfs_model.specs.WellFormed.{IsRising, NamesDiffer};
+ghost use Rattle.bfs_model.specs.WellFormed.{IsRising};
 ghost use Rattle.bfs_inode.specs.Directories.{AreEntries};
 
 use crate::directories::{Directory, Entry};
 use bfs_types::{FileId, MOST_ENTRIES, Memory};
 use std::alloc::Global;
-use std::collections::BTreeSet;
 
 impl Directory {
     /// The directory with these entries, below the one of that fileid. `None` if they can't be a directory's: there are more than
-    /// `MOST_ENTRIES`, their cookies don't rise from entry to entry, or two have one name. It costs a look-up in a set of names for
-    /// each entry. `Memory` if memory runs out.
+    /// `MOST_ENTRIES`, their cookies don't rise from entry to entry, or two have one name. Each entry costs look-ups in two trees.
+    /// `Memory` if memory runs out.
     pub fn from_entries(
         alloc: Global,
         parent: FileId,
@@ -21,13 +20,17 @@ impl Directory {
     ) -> Result<Option<Directory>, Memory>
         ensures { IfOk result (λ made. SomeIff made (AreEntries entries.items) (record { parent = parent; entries = entries.items })) }
     {
-        if entries.len() > MOST_ENTRIES
-            || !cookies_rise(&entries)
-            || !names_differ(alloc, &entries)?
-        {
+        if entries.len() > MOST_ENTRIES || !cookies_rise(&entries) {
             return Ok(None);
         }
-        Ok(Some(Directory { parent, entries }))
+        let mut directory = Directory::new(alloc, parent);
+        for entry in entries {
+            if directory.entry(entry.name.as_slice()).is_some() {
+                return Ok(None);
+            }
+            directory.push(entry.cookie, entry.name, entry.child)?;
+        }
+        Ok(Some(directory))
     }
 }
 
@@ -43,16 +46,4 @@ fn cookies_rise(entries: &[Entry]) -> bool
         least = cookie + 1;
     }
     true
-}
-
-fn names_differ(alloc: Global, entries: &[Entry]) -> Result<bool, Memory>
-    ensures { IfOk result (λ differ. IsTrue differ ↔ NamesDiffer entries.now) }
-{
-    let mut names = BTreeSet::new(alloc);
-    for entry in entries {
-        if !names.insert(entry.name.as_slice())? {
-            return Ok(false);
-        }
-    }
-    Ok(true)
 }

@@ -1,10 +1,10 @@
-ghost use Rattle.std.specs.Prelude.{◌≡◌, ◌+◌, ◌<◌, ◌≤◌, ◌==◌, [], ◌∷◌, length, drop, slice_get, MatchOption, IfSome};
-ghost use Rattle.bfs_model.specs.Tree as model;
-ghost use Rattle.bfs_model.specs.Limits.{most_name_bytes, most_entries};
+ghost use Rattle.std.specs.Prelude.{◌≡◌, ◌≤◌, ◌==◌, [], ◌∷◌, length, MatchOption, IfSome};
+ghost use Rattle.bfs_model.specs.Limits.{most_name_bytes};
 ghost use Rattle.bfs_model.specs.Directories.{all_listed, listed_behind, listed_size, page_of};
 ghost use Rattle.bfs_inode.specs.Pages.{listed_seen};
 
-use crate::directories::{Directory, Entry};
+use crate::directories::Directory;
+use crate::directories::rest::Rest;
 use bfs_types::{FileId, MOST_DATA_BYTES};
 use std::marker::Model;
 
@@ -23,12 +23,7 @@ pub struct Listed<'a> {
 /// number of bytes (RFC 1094 section 2.2.17).
 #[derive(Debug, Drop)]
 pub struct Page<'a> {
-    directory: &'a Directory,
-    // of the directory itself
-    id: FileId,
-    cookie: u32,
-    // among all that is listed of the directory
-    place: usize,
+    rest: Rest<'a>,
     // the bytes that are left
     room: u32,
 }
@@ -49,16 +44,13 @@ const AROUND_ENTRIES: u32 = 12;
 impl Directory {
     /// The page of READDIR behind that cookie, where `id` is the fileid of the directory. The cookie is 0 for the first page, and
     /// that of the last entry of the page before for each further one. A page takes at most `count` bytes in a reply, and at
-    /// most `MOST_DATA_BYTES`.
+    /// most `MOST_DATA_BYTES`. Its beginning costs a look-up, and each entry of it a step.
     pub fn page(&self, id: FileId, cookie: u32, count: u32) -> Page<'_>
         ensures listed { result.listed ≡ page_of count (listed_behind cookie (all_listed id self.now)) }
         ensures all { result.all ≡ (length (page_of count (listed_behind cookie (all_listed id self.now))) == length (listed_behind cookie (all_listed id self.now))) }
     {
         Page {
-            directory: self,
-            id,
-            cookie,
-            place: 0,
+            rest: Rest::behind(self, id, cookie),
             room: count
                 .min(MOST_DATA_BYTES as u32)
                 .saturating_sub(AROUND_ENTRIES),
@@ -73,14 +65,15 @@ impl<'a> Page<'a> {
         ensures all { self.new.all ≡ self.old.all }
         ensures short { IfSome result (λ listed. length listed.name.now ≤ most_name_bytes) }
     {
-        let place = first_behind(self.directory, self.id, self.cookie, self.place)?;
-        let listed = listed_at(self.directory, self.id, place);
+        let Some(listed) = self.rest.first() else {
+            return None;
+        };
         let size = size_listed(&listed);
         if size > self.room {
             return None;
         }
-        self.place = place + 1;
         self.room -= size;
+        self.rest.advance();
         Some(listed)
     }
 
@@ -89,7 +82,7 @@ impl<'a> Page<'a> {
         requires { self.now.listed ≡ [] }
         ensures { result ≡ self.now.all }
     {
-        first_behind(self.directory, self.id, self.cookie, self.place).is_none()
+        self.rest.is_empty()
     }
 }
 
@@ -100,52 +93,4 @@ fn size_listed(listed: &Listed) -> u32
 {
     let length = listed.name.len() as u32;
     16 + length + (4 - length % 4) % 4
-}
-
-// what is listed at a place: `.`, `..`, and then the entries
-fn listed_at(directory: &Directory, id: FileId, place: usize) -> Listed<'_>
-    requires { place < length (all_listed id directory.now) }
-    ensures value { slice_get (all_listed id directory.now) place ≡ Some (listed_seen result) }
-    ensures short { length result.name.now ≤ most_name_bytes }
-{
-    match place {
-        0 => Listed {
-            cookie: 1,
-            name: b".".as_slice(),
-            child: id,
-        },
-        1 => Listed {
-            cookie: 2,
-            name: b"..".as_slice(),
-            child: directory.parent(),
-        },
-        _ => listed_entry(&directory.entries[place - 2]),
-    }
-}
-
-fn listed_entry(entry: &Entry) -> Listed<'_>
-    ensures value { listed_seen result ≡ entry.now }
-    ensures short { length result.name.now ≤ most_name_bytes }
-{
-    Listed {
-        cookie: entry.cookie,
-        name: entry.name.as_slice(),
-        child: entry.child,
-    }
-}
-
-// the first place from that one on at which an entry behind the cookie is listed
-fn first_behind(directory: &Directory, id: FileId, cookie: u32, place: usize) -> Option<usize>
-    ensures within { IfSome result (λ at. at < length (all_listed id directory.now)) }
-    ensures small { IfSome result (λ at. at < most_entries + 2) }
-    ensures behind { MatchOption result
-        (listed_behind cookie (drop place (all_listed id directory.now)) ≡ [])
-        (λ at. (entry : model.Entry) → slice_get (all_listed id directory.now) at ≡ Some entry → listed_behind cookie (drop place (all_listed id directory.now)) ≡ entry ∷ listed_behind cookie (drop (at + 1) (all_listed id directory.now))) }
-{
-    for at in place..directory.len() + 2 {
-        if listed_at(directory, id, at).cookie > cookie {
-            return Some(at);
-        }
-    }
-    None
 }

@@ -3,7 +3,7 @@ use Rattle.bfs_inode.proofs.DirectoryLemmas.{entry_dropped, name_gone}
 use Rattle.bfs_inode.proofs.directories.Directory.drop_entry.Goals as goal
 
 pub invariant_of-self : goal.invariant_of-self
-invariant_of-self c = rw c.drop_entry.ensures.dropped (entry_dropped c.args.name.now c.self.inside.entries.items c.self.invariant)
+invariant_of-self c = (rw c.take.ensures.taken (entry_dropped c.args.name.now _ c.self.invariant.0), c.take.ensures.indexed)
 
 pub returns-clause-gone : goal.returns-clause-gone
-returns-clause-gone c = rw c.drop_entry.ensures.dropped (name_gone c.args.name.now c.self.inside.entries.items c.self.invariant.differ)
+returns-clause-gone c = rw c.take.ensures.taken (name_gone c.args.name.now _ c.self.invariant.0.differ)
