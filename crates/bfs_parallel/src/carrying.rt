@@ -76,9 +76,7 @@ fn carry_one<G: Gate>(
     requires number { CanBeSplit (at_home tree.old) (part_of first ordinal time batch.now.requests (map footprint_seen footprints.now)) number }
     ensures { IfOk result (λ reply. IsCarriedOut G.ran tree.old tree.new (part_of first ordinal time batch.now.requests (map footprint_seen footprints.now)) number reply) }
 {
-    let job = split_one(
-        alloc, tree, batch, ordinal, time, first, footprints, number,
-    )?;
+    let job = split_one(alloc, tree, batch, ordinal, time, first, footprints, number)?;
     let done = gate.run(alloc, tree, job)?;
     Ok(merge_one(tree, done))
 }

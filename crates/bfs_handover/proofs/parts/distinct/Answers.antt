@@ -18,11 +18,13 @@ loop-id-preserved c =
     subst (λ xs. take at xs ++ id ∷ [] ≡ take (at + 1) xs) c.as_slice-id-items.ensures.value (ap (λ (x : ℕ). take at seen ++ x ∷ []) c.id-item.is ∙ sym (take_more seen at id c.loop-id-test.true)) in
     elim c.if-not-has.branch [
       | then-not-has w ↦ (
-          subst (AreOnce _) more (subst (λ xs. AreOnce xs (take at ids ++ id ∷ [])) (sym (w.once-is ∙ w.and-once.ensures))
-          (once_added once (take at ids) id c.loop-id.invariant.0 (sym c.has.ensures ∙ w.if-not-has.true))),
-          subst (λ xs. length xs ≤ at + 1) (sym (w.once-is ∙ w.and-once.ensures)) (omega (arith, c.loop-id.invariant.1, length-append once (id ∷ []))))
+        subst (AreOnce _) more (subst (λ xs. AreOnce xs (take at ids ++ id ∷ [])) (sym (w.once-is ∙ w.and-once.ensures))
+            (once_added once (take at ids) id c.loop-id.invariant.0 (sym c.has.ensures ∙ w.if-not-has.true))),
+        subst (λ xs. length xs ≤ at + 1) (sym (w.once-is ∙ w.and-once.ensures)) (omega (arith, c.loop-id.invariant.1, length-append once (id ∷ []))),
+      )
       | else-not-has w ↦ (
-          subst (AreOnce _) more (subst (λ xs. AreOnce xs (take at ids ++ id ∷ [])) (sym w.once-is)
-          (once_kept once (take at ids) id c.loop-id.invariant.0 (sym c.has.ensures ∙ w.if-not-has.false))),
-          subst (λ xs. length xs ≤ at + 1) (sym w.once-is) (omega (arith, c.loop-id.invariant.1)))
+        subst (AreOnce _) more (subst (λ xs. AreOnce xs (take at ids ++ id ∷ [])) (sym w.once-is)
+            (once_kept once (take at ids) id c.loop-id.invariant.0 (sym c.has.ensures ∙ w.if-not-has.false))),
+        subst (λ xs. length xs ≤ at + 1) (sym w.once-is) (omega (arith, c.loop-id.invariant.1)),
+      )
     ]
