@@ -12,9 +12,10 @@ use Rattle.bfs_model.specs.Limits.{most_reply_bytes}
 use Rattle.bfs_model.specs.Serial.{ordinal_after, answer, replies_to}
 use Rattle.bfs_model.specs.Footprints.{Footprint, known, whole, footprint_of}
 use Rattle.bfs_model.specs.Conflicts.{conflict, is_whole, is_written}
-use Rattle.bfs_model.specs.Groups.{AreDisjoint, IsCut, IsCutBefore, footprints_at}
+use Rattle.bfs_model.specs.Groups.{AreDisjoint, IsCut, IsCutBefore, footprints_at, footprints_in_order}
 use Rattle.bfs_model.specs.WellFormed.{IsWellFormed}
 use Rattle.bfs_model.proofs.Footprints.Apart.{apart}
+use Rattle.bfs_model.proofs.Footprints.Grouped.{groups_keep_footprints}
 use Rattle.bfs_model.proofs.Footprints.Requests.{resolved_is_touched_by_requests}
 use Rattle.bfs_model.proofs.Kept.{answer_keeps, formed_again, reply_is_short, servable}
 use Rattle.bfs_footprint.specs.Seen.{footprint_seen}
@@ -123,6 +124,15 @@ is_group m o t batch first items levels formed are two levelled =
     more zero some two within = absurd (omega arith)
     more (suc zero) some two within = absurd (two refl)
     more (suc (suc n)) some two within = omega arith
+
+-- each has its footprint, too, where those before it are executed
+pub in_order : (m : Inodes) (o : ℕ) (t : Time) (batch : List (List ℕ)) (first : ℕ) (items : List declared.Footprint) → IsWellFormed (record { tree = m; next_ordinal = o; last_time = t })
+    → AreLongest parts_groups m o t batch first items → map footprint_seen items ≡ footprints_in_order m o t (requests_from first (length items) batch)
+in_order m o t batch first items formed are =
+    let short = few parts_groups m o t batch first items are in
+    let joined = (joined_just_if parts_groups m o t (drop first batch) (length items) short).1 (let count = are.count in omega arith) in
+    found parts_groups m o t batch first items are
+    ∙ sym (groups_keep_footprints (record { tree = m; next_ordinal = o; last_time = t }) t (requests_from first (length items) batch) formed (joined_cut m o t (requests_from first (length items) batch) joined))
 
 -- Runs ------------------------------------------------------------------------------------------------------------------------
 

@@ -1,6 +1,7 @@
 pub mod Progress
 pub mod Alone
 mod Ones
+mod InOrder
 pub mod Carried
 pub mod Standing
 pub mod Places

@@ -32,7 +32,7 @@ use Rattle.bfs_parallel.specs.Ran.{AllRan}
 use Rattle.bfs_parallel.proofs.Alone.{ran_alone}
 use Rattle.bfs_parallel.proofs.Groups.{replies_are_short}
 
-one_there : (xs : List (List ℕ)) (k : ℕ) → k < length xs → requests_from k 1 xs ≡ get_or xs k [] ∷ []
+pub one_there : (xs : List (List ℕ)) (k : ℕ) → k < length xs → requests_from k 1 xs ≡ get_or xs k [] ∷ []
 one_there [] k within = absurd (omega arith)
 one_there (x ∷ xs) zero within = refl
 one_there (x ∷ xs) (suc k) within = one_there xs k (omega arith)

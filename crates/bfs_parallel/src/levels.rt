@@ -8,7 +8,7 @@ ghost use Rattle.bfs_parallel.specs.Ran.{AllRan};
 ghost use Rattle.bfs_parallel.specs.Levels.{AreInLevels, AreKept, IsGroupOf, all_put, numbers_in, texts_of};
 
 use crate::carrying::carry_out;
-use crate::rounds::Rounds;
+use crate::rounds::LevelRounds;
 use bfs_handover::Reply;
 use bfs_levels::Group;
 use bfs_serial::Batch;
@@ -29,7 +29,7 @@ pub(crate) fn execute_levels<R: Threads + Wait + Sync, G: Gate + Sync>(
     ordinal: Ordinal,
     time: Time,
     group: &Group,
-    rounds: &mut Rounds,
+    turns: LevelRounds,
     gate: &G,
 ) -> Result<Vec<Vec<u8>>, Memory>
     requires whole { IsTrue ((reach_of tree.old).whole) }
@@ -43,7 +43,7 @@ pub(crate) fn execute_levels<R: Threads + Wait + Sync, G: Gate + Sync>(
     prove!(group.first + group.len() <= count);
     let levels = levels_in(alloc, group)?;
     let mut texts = no_texts(alloc, group.len())?;
-    let mut turns = rounds.for_levels(levels.as_slice());
+    let mut turns = turns;
     for numbers in levels {
         let workers = turns.workers_for(numbers.len());
         let replies = carry_out(

@@ -10,8 +10,8 @@ ghost use Rattle.bfs_parallel.specs.Parts.{IsPartExecuted};
 
 use crate::engine::Engine;
 use crate::levels::execute_levels;
-use crate::requests::execute_one;
-use crate::rounds::Rounds;
+use crate::requests::{execute_in_order, execute_one};
+use crate::rounds::{LevelRounds, Rounds};
 use bfs_footprint::touch_of;
 use bfs_levels::{Group, Run, plan_group, runs};
 use bfs_serial::{Batch, Replies};
@@ -74,11 +74,31 @@ fn execute_next_run<R: Threads + Wait + Sync, G: Gate + Sync>(
         let run = runs(alloc, tree, ordinal, time, batch, place)?;
         if rounds.accepts(run.len()) {
             let group = one_level(alloc, run)?;
+            let turns = rounds.for_levels(alloc, &group.level_of)?;
             return execute_group(
-                rt, alloc, tree, ordinal, time, batch, &group, rounds, gate, replies,
+                rt, alloc, tree, ordinal, time, batch, &group, turns, gate, replies,
             );
         }
     }
+    execute_next(alloc, tree, ordinal, time, batch, place, gate, replies)
+}
+
+// the next request, on the calling thread
+fn execute_next<G: Gate>(
+    alloc: Global,
+    tree: &mut Tree,
+    ordinal: Ordinal,
+    time: Time,
+    batch: &Batch,
+    place: usize,
+    gate: &G,
+    replies: &mut Replies,
+) -> Result<usize, Memory>
+    requires whole { IsTrue ((reach_of tree.old).whole) }
+    requires formed { IsWellFormed (record { tree = at_home tree.old; next_ordinal = ordinal; last_time = time }) }
+    requires more { place < length batch.now.requests }
+    ensures { IfOk result (λ count. IsPartExecuted G.ran tree.old tree.new ordinal time batch.now.requests place count replies.old replies.new) }
+{
     let footprints = [touch_of(tree, ordinal, time, batch.request(place)).footprint];
     execute_one(
         alloc,
@@ -108,7 +128,7 @@ fn one_level(alloc: Global, run: Run) -> Result<Group, Memory>
     })
 }
 
-// a group of requests, or one on the calling thread
+// a group of requests, level after level, or on the calling thread where no level gets others
 fn execute_next_group<R: Threads + Wait + Sync, G: Gate + Sync>(
     rt: &R,
     alloc: Global,
@@ -126,16 +146,19 @@ fn execute_next_group<R: Threads + Wait + Sync, G: Gate + Sync>(
     requires more { place < length batch.now.requests }
     ensures { IfOk result (λ count. IsPartExecuted G.ran tree.old tree.new ordinal time batch.now.requests place count replies.old replies.new) }
 {
+    if !rounds.has_threads() {
+        return execute_next(alloc, tree, ordinal, time, batch, place, gate, replies);
+    }
     let group = plan_group(alloc, tree, ordinal, time, batch, place)?;
-    if group.len() == 1 {
+    let turns = rounds.for_levels(alloc, &group.level_of)?;
+    if group.len() == 1 || turns.are_none() {
         let footprints = group.footprints.as_slice();
-        execute_one(
+        return execute_in_order(
             alloc, tree, batch, ordinal, time, place, footprints, gate, replies,
-        )?;
-        return Ok(1);
+        );
     }
     execute_group(
-        rt, alloc, tree, ordinal, time, batch, &group, rounds, gate, replies,
+        rt, alloc, tree, ordinal, time, batch, &group, turns, gate, replies,
     )
 }
 
@@ -148,7 +171,7 @@ fn execute_group<R: Threads + Wait + Sync, G: Gate + Sync>(
     time: Time,
     batch: &Batch,
     group: &Group,
-    rounds: &mut Rounds,
+    turns: LevelRounds,
     gate: &G,
     replies: &mut Replies,
 ) -> Result<usize, Memory>
@@ -157,7 +180,7 @@ fn execute_group<R: Threads + Wait + Sync, G: Gate + Sync>(
     requires some { 0 < length group.now.footprints.items }
     ensures { IfOk result (λ count. IsPartExecuted G.ran tree.old tree.new ordinal time batch.now.requests group.now.first count replies.old replies.new) }
 {
-    let texts = execute_levels(rt, alloc, tree, batch, ordinal, time, group, rounds, gate)?;
+    let texts = execute_levels(rt, alloc, tree, batch, ordinal, time, group, turns, gate)?;
     put_texts(replies, texts)?;
     Ok(group.len())
 }

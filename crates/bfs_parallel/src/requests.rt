@@ -1,5 +1,5 @@
-ghost use Rattle.std.specs.Prelude.{◌≡◌, ◌<◌, ◌++◌, IfOk, IsTrue, length, map};
-ghost use Rattle.bfs_model.specs.Groups.{footprints_at};
+ghost use Rattle.std.specs.Prelude.{◌≡◌, ◌<◌, ◌≤◌, ◌+◌, ◌++◌, IfOk, IsTrue, length, map};
+ghost use Rattle.bfs_model.specs.Groups.{footprints_at, footprints_in_order};
 ghost use Rattle.bfs_model.specs.WellFormed.{IsWellFormed};
 ghost use Rattle.bfs_footprint.specs.Seen.{footprint_seen};
 ghost use Rattle.bfs_levels.specs.Requests.{requests_from};
@@ -47,4 +47,45 @@ pub(crate) fn execute_one<G: Gate>(
     let reply = merge_one(tree, done);
     replies.push(reply.bytes)?;
     Ok(())
+}
+
+/// Executes the batch's requests from that place on, the first of which has that ordinal, one after another on the calling thread, as many
+/// as there are footprints: each has its own, as the inodes are when those before it are executed. It tells how many they are. `Memory` if
+/// memory runs out; the tree may then not be whole.
+pub(crate) fn execute_in_order<G: Gate>(
+    alloc: Global,
+    tree: &mut Tree,
+    batch: &Batch,
+    ordinal: Ordinal,
+    time: Time,
+    place: usize,
+    footprints: &[Footprint],
+    gate: &G,
+    replies: &mut Replies,
+) -> Result<usize, Memory>
+    requires whole { IsTrue ((reach_of tree.old).whole) }
+    requires formed { IsWellFormed (record { tree = at_home tree.old; next_ordinal = ordinal; last_time = time }) }
+    requires some { 0 < length footprints.now }
+    requires within { place + length footprints.now ≤ length batch.now.requests }
+    requires found { map footprint_seen footprints.now ≡ footprints_in_order (at_home tree.old) ordinal time (requests_from place (length footprints.now) batch.now.requests) }
+    ensures { IfOk result (λ count. IsPartExecuted G.ran tree.old tree.new ordinal time batch.now.requests place count replies.old replies.new) }
+{
+    let count = batch.len();
+    prove!(place + footprints.len() <= count);
+    let mut ordinal = ordinal;
+    for done in 0..footprints.len() {
+        execute_one(
+            alloc,
+            tree,
+            batch,
+            ordinal,
+            time,
+            place + done,
+            &footprints[done..done + 1],
+            gate,
+            replies,
+        )?;
+        ordinal = ordinal.next();
+    }
+    Ok(footprints.len())
 }

@@ -1,6 +1,8 @@
 ghost use Rattle.std.specs.Prelude.{◌<◌, IsTrue};
 
+use bfs_types::Memory;
 use bfs_workers::Workers;
+use std::alloc::Global;
 
 // how many runs, or levels, of a batch get threads however short they are
 const ROUNDS: u32 = 8;
@@ -39,7 +41,7 @@ impl Rounds {
 
     /// Whether the next requests may be a run that gets threads.
     pub(crate) fn looks_for_a_run(&mut self) -> bool {
-        if self.workers.count() == 1 {
+        if !self.has_threads() {
             return false;
         }
         if self.pause > 0 {
@@ -65,16 +67,34 @@ impl Rounds {
         false
     }
 
-    /// What the levels of a group take of the rounds: the longest of the short ones, as many as are left.
-    pub(crate) fn for_levels(&mut self, levels: &[Vec<u32>]) -> LevelRounds {
+    /// Whether there is a worker beside the calling thread.
+    pub(crate) fn has_threads(&self) -> bool {
+        self.workers.count() > 1
+    }
+
+    /// What the levels at which the requests of a group stand take of the rounds: the longest of the short ones, as many as are left.
+    pub(crate) fn for_levels(
+        &mut self,
+        alloc: Global,
+        level_of: &[u32],
+    ) -> Result<LevelRounds, Memory> {
+        let mut lengths = vec![in alloc; 0u32; level_of.len()]?;
+        for level in level_of {
+            if let Some(length) = lengths.get_mut(*level as usize) {
+                *length = u32::saturating_add(*length, 1);
+            }
+        }
         let mut counts = [0; LONG];
-        for level in levels {
-            if let Some(count) = counts.get_mut(level.len()) {
+        let mut longest = 0;
+        for length in lengths {
+            longest = longest.max(length as usize);
+            if let Some(count) = counts.get_mut(length as usize) {
                 *count = u32::saturating_add(*count, 1);
             }
         }
         let mut rounds = LevelRounds {
             workers: self.workers,
+            longest,
             least: LONG,
             ties: 0,
         };
@@ -86,7 +106,7 @@ impl Rounds {
                 self.left -= count;
             }
         }
-        rounds
+        Ok(rounds)
     }
 }
 
@@ -94,6 +114,8 @@ impl Rounds {
 #[derive(Clone, Copy, Debug)]
 pub(crate) struct LevelRounds {
     workers: Workers,
+    // how many requests the longest level has
+    longest: usize,
     // how many requests the shortest of them has
     least: usize,
     // how many levels of just that length get threads
@@ -101,6 +123,11 @@ pub(crate) struct LevelRounds {
 }
 
 impl LevelRounds {
+    /// Whether no level gets threads.
+    pub(crate) fn are_none(&self) -> bool {
+        self.longest < self.least
+    }
+
     /// The workers of a level of so many requests: all of them, or the calling thread alone.
     pub(crate) fn workers_for(&mut self, len: usize) -> Workers {
         if len > self.least || len >= LONG {

@@ -61,8 +61,22 @@ fn answer_call<S: Store>(
 fn success_of(alloc: Global, xid: u32, reply: &NfsReply) -> Result<Vec<u8>, Memory>
     ensures { IfOk result (λ bytes. bytes.items ≡ success xid (results (reply_seen reply.now))) }
 {
-    let mut bytes = Vec::new(alloc);
+    let mut bytes = Vec::with_capacity(alloc, room_for(reply))?;
     put_success(&mut bytes, xid)?;
     put_reply(&mut bytes, reply)?;
     Ok(bytes)
+}
+
+// the bytes that a reply begins with room for: its header, its status and attributes, and what was read. Longer ones grow.
+fn room_for(reply: &NfsReply) -> usize {
+    match reply {
+        NfsReply::Void => 24,
+        NfsReply::Refused(_) | NfsReply::Done => 28,
+        NfsReply::FreeBlocks(_) => 48,
+        NfsReply::Attributes(_) => 96,
+        NfsReply::Found { .. } => 128,
+        NfsReply::Contents { bytes, .. } => bytes.len() + 103,
+        NfsReply::Path(path) => path.len() + 35,
+        NfsReply::Listed { .. } => 512,
+    }
 }

@@ -45,7 +45,7 @@ carry_out-requires-clause-footprints g c κs within =
     let fs = map footprint_seen a.group.now.footprints.items in
     let texts = texts_of c.loop-numbers.texts.items in
     let way = subst (λ left. IsOnItsWay g.G.Gate.ran (at_home a.tree.now) a.group.now.first a.ordinal a.time a.batch.now.requests fs a.group.now.level_of.items (at_home c.loop-numbers.tree) texts left) c.in-Some.ensures.steps.0 c.loop-numbers.invariant.way in
-    rw (c.as_slice-in-loop-numbers.ensures.value, c.as_slice-in-loop-numbers-2.ensures.value)
+    rw (c.as_slice.ensures.value, c.as_slice-in-loop-numbers.ensures.value)
     (ready g.G.Gate.ran (at_home a.tree.now) a.group.now.first a.ordinal a.time a.batch.now.requests fs a.group.now.level_of.items (at_home c.loop-numbers.tree) texts c.in-Some.numbers c.next.new.self.rest.items way).found
 
 pub carry_out-requires-clause-numbers : goal.carry_out-requires-clause-numbers
@@ -54,7 +54,7 @@ carry_out-requires-clause-numbers g c κs within =
     let fs = map footprint_seen a.group.now.footprints.items in
     let texts = texts_of c.loop-numbers.texts.items in
     let way = subst (λ left. IsOnItsWay g.G.Gate.ran (at_home a.tree.now) a.group.now.first a.ordinal a.time a.batch.now.requests fs a.group.now.level_of.items (at_home c.loop-numbers.tree) texts left) c.in-Some.ensures.steps.0 c.loop-numbers.invariant.way in
-    rw (c.as_slice-in-loop-numbers.ensures.value, c.as_slice-in-loop-numbers-2.ensures.value)
+    rw (c.as_slice.ensures.value, c.as_slice-in-loop-numbers.ensures.value)
     (ready g.G.Gate.ran (at_home a.tree.now) a.group.now.first a.ordinal a.time a.batch.now.requests fs a.group.now.level_of.items (at_home c.loop-numbers.tree) texts c.in-Some.numbers c.next.new.self.rest.items way).can
 
 pub carry_out-requires-clause-disjoint : goal.carry_out-requires-clause-disjoint
@@ -63,7 +63,7 @@ carry_out-requires-clause-disjoint g c κs within =
     let fs = map footprint_seen a.group.now.footprints.items in
     let texts = texts_of c.loop-numbers.texts.items in
     let way = subst (λ left. IsOnItsWay g.G.Gate.ran (at_home a.tree.now) a.group.now.first a.ordinal a.time a.batch.now.requests fs a.group.now.level_of.items (at_home c.loop-numbers.tree) texts left) c.in-Some.ensures.steps.0 c.loop-numbers.invariant.way in
-    rw (c.as_slice-in-loop-numbers.ensures.value, c.as_slice-in-loop-numbers-2.ensures.value)
+    rw (c.as_slice.ensures.value, c.as_slice-in-loop-numbers.ensures.value)
     (ready g.G.Gate.ran (at_home a.tree.now) a.group.now.first a.ordinal a.time a.batch.now.requests fs a.group.now.level_of.items (at_home c.loop-numbers.tree) texts c.in-Some.numbers c.next.new.self.rest.items way).apart
 
 pub carry_out-requires-clause-rising : goal.carry_out-requires-clause-rising
@@ -72,7 +72,7 @@ carry_out-requires-clause-rising g c κs within =
     let fs = map footprint_seen a.group.now.footprints.items in
     let texts = texts_of c.loop-numbers.texts.items in
     let way = subst (λ left. IsOnItsWay g.G.Gate.ran (at_home a.tree.now) a.group.now.first a.ordinal a.time a.batch.now.requests fs a.group.now.level_of.items (at_home c.loop-numbers.tree) texts left) c.in-Some.ensures.steps.0 c.loop-numbers.invariant.way in
-    rw c.as_slice-in-loop-numbers-2.ensures.value
+    rw c.as_slice-in-loop-numbers.ensures.value
     (ready g.G.Gate.ran (at_home a.tree.now) a.group.now.first a.ordinal a.time a.batch.now.requests fs a.group.now.level_of.items (at_home c.loop-numbers.tree) texts c.in-Some.numbers c.next.new.self.rest.items way).rise
 
 pub place-requires : goal.place-requires
@@ -88,8 +88,8 @@ place-requires g c =
     let replies = c.in_ok-replies.replies.items in
     let way = subst (λ left. IsOnItsWay g.G.Gate.ran m first a.ordinal a.time batch fs a.group.now.level_of.items home texts left) c.in-Some.ensures.steps.0 c.loop-numbers.invariant.way in
     let carried : AreCarriedOut home after (part_of first a.ordinal a.time batch fs) c.in-Some.numbers.items replies =
-    subst (λ ns. AreCarriedOut home after (part_of first a.ordinal a.time batch fs) ns replies) c.as_slice-in-loop-numbers-2.ensures.value
-    (subst (λ (items : List declared.Footprint). AreCarriedOut home after (part_of first a.ordinal a.time batch (map footprint_seen items)) c.as_slice-in-loop-numbers-2.result.now replies) c.as_slice-in-loop-numbers.ensures.value c.in_ok-replies.ensures.done) in
+    subst (λ ns. AreCarriedOut home after (part_of first a.ordinal a.time batch fs) ns replies) c.as_slice-in-loop-numbers.ensures.value
+    (subst (λ (items : List declared.Footprint). AreCarriedOut home after (part_of first a.ordinal a.time batch (map footprint_seen items)) c.as_slice-in-loop-numbers.result.now replies) c.as_slice.ensures.value c.in_ok-replies.ensures.done) in
     places_there g.G.Gate.ran m first a.ordinal a.time batch fs a.group.now.level_of.items home texts c.in-Some.numbers.items after replies (length c.loop-numbers.texts.items)
     (ready g.G.Gate.ran m first a.ordinal a.time batch fs a.group.now.level_of.items home texts c.in-Some.numbers c.next.new.self.rest.items way) carried (c.loop-numbers.invariant.count ∙ sym (length-map a.group.now.footprints.items footprint_seen))
 
@@ -106,8 +106,8 @@ loop-numbers-preserved g c =
     let replies = c.in_ok-replies.replies.items in
     let way = subst (λ left. IsOnItsWay g.G.Gate.ran m first a.ordinal a.time batch fs a.group.now.level_of.items home texts left) c.in-Some.ensures.steps.0 c.loop-numbers.invariant.way in
     let carried : AreCarriedOut home after (part_of first a.ordinal a.time batch fs) c.in-Some.numbers.items replies =
-    subst (λ ns. AreCarriedOut home after (part_of first a.ordinal a.time batch fs) ns replies) c.as_slice-in-loop-numbers-2.ensures.value
-    (subst (λ (items : List declared.Footprint). AreCarriedOut home after (part_of first a.ordinal a.time batch (map footprint_seen items)) c.as_slice-in-loop-numbers-2.result.now replies) c.as_slice-in-loop-numbers.ensures.value c.in_ok-replies.ensures.done) in
+    subst (λ ns. AreCarriedOut home after (part_of first a.ordinal a.time batch fs) ns replies) c.as_slice-in-loop-numbers.ensures.value
+    (subst (λ (items : List declared.Footprint). AreCarriedOut home after (part_of first a.ordinal a.time batch (map footprint_seen items)) c.as_slice-in-loop-numbers.result.now replies) c.as_slice.ensures.value c.in_ok-replies.ensures.done) in
     record {
       whole = c.in_ok-replies.ensures.whole;
       count = sym (length-map c.place.new.texts.items (λ (text : Vec ℕ Global). text.items)) ∙ ap length c.place.ensures ∙ length-all_put first replies texts

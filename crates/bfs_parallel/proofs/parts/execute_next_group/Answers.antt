@@ -8,18 +8,29 @@ use Rattle.bfs_levels.specs.Planning.{parts_groups}
 use Rattle.bfs_levels.specs.Requests.{requests_from}
 use Rattle.bfs_parallel.specs.Levels.{IsGroupOf}
 use Rattle.bfs_parallel.specs.Parts.{IsPartExecuted}
-use Rattle.bfs_parallel.proofs.Groups.{AreLongest, found, is_group, some}
+use Rattle.bfs_parallel.proofs.Groups.{AreLongest, fits, in_order, is_group, some}
 use Rattle.bfs_parallel.proofs.parts.execute_next_group.Goals as goal
 
-pub execute_one-requires-clause-found : goal.execute_one-requires-clause-found
-execute_one-requires-clause-found g c =
+pub execute_in_order-requires-clause-some : goal.execute_in_order-requires-clause-some
+execute_in_order-requires-clause-some g c =
     let a = c.args in
     let long = c.in_ok-group.ensures in
-    let items = c.in_ok-group.group.footprints.items in
-    let are : AreLongest parts_groups (at_home a.tree.now) a.ordinal a.time a.batch.now.requests a.place items = record { more = c.requires.more; longest = long.longest; count = long.count } in
-    let one : length items ≡ 1 = sym c.len.ensures ∙ c.if-len-eq1.true in
     rw c.as_slice-footprints.ensures.value
-    (subst (λ n. map footprint_seen items ≡ footprints_at (at_home a.tree.now) a.ordinal a.time (requests_from a.place n a.batch.now.requests)) one (found parts_groups (at_home a.tree.now) a.ordinal a.time a.batch.now.requests a.place items are))
+    (some parts_groups (at_home a.tree.now) a.ordinal a.time a.batch.now.requests a.place c.in_ok-group.group.footprints.items (record { more = c.requires.more; longest = long.longest; count = long.count }))
+
+pub execute_in_order-requires-clause-within : goal.execute_in_order-requires-clause-within
+execute_in_order-requires-clause-within g c =
+    let a = c.args in
+    let long = c.in_ok-group.ensures in
+    rw c.as_slice-footprints.ensures.value
+    (fits parts_groups (at_home a.tree.now) a.ordinal a.time a.batch.now.requests a.place c.in_ok-group.group.footprints.items (record { more = c.requires.more; longest = long.longest; count = long.count }))
+
+pub execute_in_order-requires-clause-found : goal.execute_in_order-requires-clause-found
+execute_in_order-requires-clause-found g c =
+    let a = c.args in
+    let long = c.in_ok-group.ensures in
+    rw c.as_slice-footprints.ensures.value
+    (in_order (at_home a.tree.now) a.ordinal a.time a.batch.now.requests a.place c.in_ok-group.group.footprints.items c.requires.formed (record { more = c.requires.more; longest = long.longest; count = long.count }))
 
 pub execute_group-requires-clause-group : goal.execute_group-requires-clause-group
 execute_group-requires-clause-group g c κs within =

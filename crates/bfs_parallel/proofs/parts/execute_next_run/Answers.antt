@@ -8,7 +8,6 @@ use Rattle.bfs_levels.specs.Planning.{parts_runs}
 use Rattle.bfs_parallel.specs.Levels.{IsGroupOf}
 use Rattle.bfs_parallel.specs.Parts.{IsPartExecuted}
 use Rattle.bfs_parallel.proofs.Groups.{AreLongest, run_is_group}
-use Rattle.bfs_parallel.proofs.Ones.{found_alone}
 use Rattle.bfs_parallel.proofs.parts.execute_next_run.Goals as goal
 
 pub execute_group-requires-clause-group : goal.execute_group-requires-clause-group
@@ -24,10 +23,6 @@ execute_group-requires-clause-group g c κs within =
     subst (λ (items : List declared.Footprint). IsGroupOf m group.first a.ordinal a.time batch (map footprint_seen items) group.level_of.items) (sym (ap (λ footprints. footprints.items) same.footprints))
     (subst (λ first. IsGroupOf m first a.ordinal a.time batch (map footprint_seen run.footprints.items) group.level_of.items) (sym (same.first ∙ longest.first))
     (run_is_group m a.ordinal a.time batch a.place run.footprints.items group.level_of.items c.requires.formed are (search rules) same.level))
-
-pub execute_one-requires-clause-found : goal.execute_one-requires-clause-found
-execute_one-requires-clause-found g c =
-    found_alone c.args.tree.now c.args.ordinal c.args.time c.args.batch.now.requests c.args.place c.requires.formed c.requires.more c.request.result.now c.touch_of.result.footprint c.request.ensures c.touch_of.ensures.footprint
 
 pub returns-then-accepts : goal.returns-then-accepts
 returns-then-accepts g c =
