@@ -1,9 +1,10 @@
 #!/usr/bin/env python3
-"""`measure.py files|inodes PROGRAM FOLDER` prints what digests of 256 MiB in files take beside `openssl dgst -sha256` on as many bytes, or what
-reading and writing texts of 25,000, 50,000 and 100,000 inodes takes. FOLDER is for traces and bytes.
+"""`measure.py files|inodes|kept PROGRAM FOLDER` prints what digests of 256 MiB in files take beside `openssl dgst -sha256` on as many bytes, what
+reading and writing texts of 25,000, 50,000 and 100,000 inodes takes, or what the digests that 100,000 inodes keep take, anew and behind a batch that
+changes 1,024 of them. FOLDER is for traces and bytes.
 
 A time of the program is that of the program that does the work so many times, without that of the program that does nothing: the least of five
-rounds, in each of which all are run. Memory is the peak of the process.
+rounds, in each of which all are run. Memory is the peak of the process. Of the digests that are kept the program tells its times itself.
 """
 import os
 import subprocess
@@ -67,13 +68,30 @@ def files(program, folder):
 def inodes(program, folder):
     trace = f"{folder}/trace"
     for count in (25_000, 50_000, 100_000):
-        directories = (f"mkdir #2 d{number} - - - - - -" for number in range(DIRECTORIES))
-        made = (f"create #{3 + number % DIRECTORIES} f{number} - - - - - -" for number in range(count - DIRECTORIES - 1))
-        write_trace(trace, [*directories, *made])
+        write_trace(trace, make_inodes(count))
         times = 10
         found = least({work: (program, work, str(times), trace) for work in ("nothing", "snapshot", "restore", "serial")})
         print(f"{count} inodes: " + ", ".join(f"{work} {(found[work][0] - found['nothing'][0]) / times * 1e3:.1f} ms" for work in ("snapshot", "restore", "serial")))
 
 
+def make_inodes(count):
+    yield from (f"mkdir #2 d{number} - - - - - -" for number in range(DIRECTORIES))
+    yield from (f"create #{3 + number % DIRECTORIES} f{number} - - - - - -" for number in range(count - DIRECTORIES - 1))
+
+
+def kept(program, folder):
+    trace, count = f"{folder}/trace", 100_000
+    made = list(make_inodes(count))
+    # the last block is of its own
+    made += ["null"] * (-len(made) % BATCH)
+    ids = range(3 + DIRECTORIES, 3 + DIRECTORIES + BATCH)
+    write_trace(trace, [*made, *(f"setattr #{id} 600 - - - - -" for id in ids)])
+    rounds = [subprocess.run((program, "refresh", "5", trace), check=True, capture_output=True, text=True).stdout for _ in range(ROUNDS)]
+    first, again = (min(int(round.split()[place]) for round in rounds) / 1e3 for place in (0, 1))
+    serial = least({work: (program, work, "10", trace) for work in ("nothing", "serial", "parallel")})
+    took = {work: (serial[work][0] - serial["nothing"][0]) / 10 * 1e3 for work in ("serial", "parallel")}
+    print(f"{count} inodes: refresh {first:.1f} ms, behind {BATCH} SETATTRs {again:.1f} ms; with nothing kept digest_serial {took['serial']:.1f} ms, digest_parallel {took['parallel']:.1f} ms")
+
+
 subject, program, folder = sys.argv[1:]
-{"files": files, "inodes": inodes}[subject](program, folder)
+{"files": files, "inodes": inodes, "kept": kept}[subject](program, folder)

@@ -1,12 +1,13 @@
 -- The digests of all inodes of a map, made by fileid.
 use Rattle.std.proofs.Common.{◌≡◌, ℕ, List, [], ◌∷◌, ◌++◌, map, Some, refl, ap, ◌∙◌}
-use Rattle.std.specs.List.{AllByRecursion, flat_map}
+use Rattle.std.specs.List.{All, AllByRecursion, flat_map}
+use Rattle.std.proofs.lemmas.List.Elements.{All-map}
 use Rattle.std.specs.FinMap.{get, entries, keys}
 use Rattle.bfs_model.specs.Items.{word}
 use Rattle.bfs_model.specs.Tree.{Inode, Inodes}
 use Rattle.bfs_tree.proofs.WellFormed.Lists.{all_of_each}
 use Rattle.bfs_digest.specs.Digests.{digests_text}
-use Rattle.bfs_digest.specs.Hashed.{digest_in, hashed_at, hashed_text}
+use Rattle.bfs_digest.specs.Hashed.{IsHashed, digest_in, hashed_at, hashed_text}
 
 abbrev IsThere : Inodes → ℕ × Inode → Type 0
 IsThere m inode = get m inode.0 ≡ Some inode.1
@@ -19,3 +20,6 @@ each_hashed m (inode ∷ inodes) there =
 
 pub all_hashed : (m : Inodes) → flat_map hashed_text (map (λ id. hashed_at m id) (keys m)) ≡ digests_text (entries m)
 all_hashed m = each_hashed m (entries m) (all_of_each (IsThere m) m (λ id x is. is))
+
+pub are_hashed : (m : Inodes) (ids : List ℕ) → All (IsHashed m) (map (λ id. hashed_at m id) ids)
+are_hashed m ids = All-map (IsHashed m) (λ id. hashed_at m id) ids (λ k id below. refl)

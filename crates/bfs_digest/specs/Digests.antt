@@ -5,14 +5,10 @@ use Rattle.std.specs.FinMap.{entries}
 use Rattle.sha2.specs.Sha256.{sha256}
 use Rattle.bfs_model.specs.Items.{word}
 use Rattle.bfs_model.specs.Tree.{Inode, Inodes, FileSystem}
-use Rattle.bfs_inode.specs.Records.{record_text}
+use Rattle.bfs_inode.specs.Records.{record_digest}
 use Rattle.bfs_digest.specs.Text.{Header, header_of, header_text}
 
--- of the record of the inode of that fileid
-abbrev pub record_digest : (id : ℕ) → Inode → List ℕ
-record_digest id inode = sha256 (record_text id inode)
-
--- the fileid and the digest of an inode
+-- the fileid of an inode, and the digest of its record
 abbrev pub digest_text : ℕ × Inode → List ℕ
 digest_text inode = word inode.0 ++ record_digest inode.0 inode.1
 

@@ -1,11 +1,11 @@
 -- The digests of records, as they are made apart from one another.
-use Rattle.std.specs.Prelude.{ℕ, List, [], ◌++◌, Option, Some, None}
+use Rattle.std.specs.Prelude.{◌≡◌, ℕ, List, [], ◌++◌, Option, Some, None}
 use Rattle.std.specs.FinMap.{get}
 use Rattle.sha2.specs.Sha256.{sha256}
 use Rattle.bfs_model.specs.Items.{word}
 use Rattle.bfs_model.specs.Tree.{Inode, Inodes}
-use Rattle.bfs_digest.specs.Digests.{record_digest}
-use Rattle.bfs_digest.specs.declared.digests.RecordDigest.{RecordDigest}
+use Rattle.bfs_inode.specs.Records.{record_digest}
+use Rattle.bfs_inode.specs.declared.inodes.kept.RecordDigest.{RecordDigest}
 
 abbrev pub digest_in : (id : ℕ) → Option Inode → List ℕ
 digest_in id None = sha256 []
@@ -16,3 +16,7 @@ hashed_at inodes id = record { id = id; digest = digest_in id (get inodes id) }
 
 abbrev pub hashed_text : RecordDigest → List ℕ
 hashed_text hashed = word hashed.id ++ hashed.digest
+
+-- the digest of the record of the inode of its fileid, if there is one
+abbrev pub IsHashed : Inodes → RecordDigest → Type 0
+IsHashed inodes hashed = hashed ≡ hashed_at inodes hashed.id

@@ -3,6 +3,7 @@ ghost use Rattle.std.specs.Option.{option_map, ok_or};
 ghost use Rattle.std.specs.FinMap.{entries};
 ghost use Rattle.sha2.specs.Sha256.{sha256};
 ghost use Rattle.sha2.specs.Hashers.{Holds256};
+ghost use Rattle.bfs_inode.specs.Records.{record_digest};
 ghost use Rattle.bfs_model.specs.Items.{hyper, word};
 ghost use Rattle.bfs_tree.specs.Tree.{at_home};
 ghost use Rattle.bfs_digest.specs.Text.{header_text};
@@ -11,7 +12,7 @@ ghost use Rattle.bfs_digest.specs.Hashed.{hashed_at, hashed_text};
 
 use crate::hashes::{hash_word, record_digest};
 use crate::headers::{Header, MAGIC, VERSION, parts_of};
-use bfs_inode::{FileId, Inode};
+use bfs_inode::{FileId, Inode, RecordDigest};
 use bfs_serial::{ExecError, FileSystem};
 use bfs_tree::Tree;
 use bfs_types::Memory;
@@ -21,7 +22,7 @@ use std::alloc::{AllocError, Global};
 use std::thread::Threads;
 
 /// The digest of a file system: SHA-256 (FIPS 180-4) of its text's header, followed by the fileid and the SHA-256 of the record of each
-/// inode, by rising fileid. It takes no memory. `Failed` if the file system has failed.
+/// inode, by rising fileid. A digest that an inode keeps is not made again. It takes no memory. `Failed` if the file system has failed.
 pub fn digest_serial(files: &FileSystem) -> Result<[u8; 32], ExecError>
     ensures { result ≡ ok_or (option_map model.digest_of files.now) ExecError.Failed }
 {
@@ -34,8 +35,8 @@ pub fn digest_serial(files: &FileSystem) -> Result<[u8; 32], ExecError>
     Ok(hasher.finalize())
 }
 
-/// The same digest, with the records of the inodes hashed by as many threads as there are processors. `Failed` if the file system has
-/// failed, `Memory` if memory runs out.
+/// The same digest, with the records of the inodes hashed by as many threads as there are processors, but those whose digest is kept.
+/// `Failed` if the file system has failed, `Memory` if memory runs out.
 pub fn digest_parallel(
     rt: &(impl Threads + Sync),
     alloc: Global,
@@ -53,13 +54,6 @@ pub fn digest_parallel(
     }
 }
 
-/// The digest of the record of the inode of a fileid.
-#[derive(Drop)]
-pub(crate) struct RecordDigest {
-    pub(crate) id: FileId,
-    pub(crate) digest: [u8; 32],
-}
-
 // of all inodes, by rising fileid
 #[tactic(auto, using(crate::proofs::Hashed::all_hashed))]
 fn record_digests(
@@ -73,7 +67,8 @@ fn record_digests(
     Ok(digests_at(rt, alloc, tree, &ids)?)
 }
 
-fn digests_at(
+/// Of the inodes of those fileids, in their order.
+pub(crate) fn digests_at(
     rt: &(impl Threads + Sync),
     alloc: Global,
     tree: &Tree,
@@ -122,7 +117,7 @@ fn hash_digests(hasher: &mut Sha256, tree: &Tree)
 }
 
 fn hash_digest(hasher: &mut Sha256, id: FileId, inode: &Inode)
-    ensures { (m : List ℕ) → Holds256 hasher.old m → Holds256 hasher.new (m ++ (word id ++ model.record_digest id inode.now)) }
+    ensures { (m : List ℕ) → Holds256 hasher.old m → Holds256 hasher.new (m ++ (word id ++ record_digest id inode.now)) }
 {
     hash_word(hasher, id.number());
     hasher.update(record_digest(id, inode));

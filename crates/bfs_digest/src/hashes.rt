@@ -3,17 +3,25 @@ ghost use Rattle.std.specs.Prelude.{◌≡◌, ◌<◌, ◌^◌, ◌++◌, List,
 ghost use Rattle.sha2.specs.Hashers.{Holds256};
 ghost use Rattle.bfs_model.specs.Items.{counted, word, words};
 ghost use Rattle.bfs_inode.specs.Inodes.{body_seen};
-ghost use Rattle.bfs_inode.specs.Records.{body_text, entries_text, entry_text};
-ghost use Rattle.bfs_digest.specs.Digests as model;
+ghost use Rattle.bfs_inode.specs.Records.{body_text, entries_text, entry_text, record_digest};
 
 use crate::words::head_words;
 use bfs_inode::{Body, Directory, Entry, FileId, Inode};
 use sha2::{Digest, Sha256};
 
-/// The digest of the record of the inode of that fileid.
-#[tactic(auto, unfolding(bfs_inode::specs::Records::record_text))]
+/// The digest of the record of the inode of that fileid. It is hashed only if the inode does not keep it.
 pub(crate) fn record_digest(id: FileId, inode: &Inode) -> [u8; 32]
-    ensures { result ≡ model.record_digest id inode.now }
+    ensures { result ≡ record_digest id inode.now }
+{
+    match inode.kept_digest(id) {
+        Some(digest) => digest,
+        None => hash_record(id, inode),
+    }
+}
+
+#[tactic(auto, unfolding(bfs_inode::specs::Records::record_text))]
+fn hash_record(id: FileId, inode: &Inode) -> [u8; 32]
+    ensures { result ≡ record_digest id inode.now }
 {
     let mut hasher = Sha256::new();
     hash_words(&mut hasher, &head_words(id, inode));

@@ -10,6 +10,7 @@ mod laws;
 mod lengths;
 mod numbering;
 mod readers;
+mod refreshing;
 mod restoration;
 mod snapshots;
 mod spelling;
@@ -21,5 +22,6 @@ pub use errors::RestoreError;
 pub use laws::{
     a_file_system_has_one_text, a_text_spells_one_file_system, live_files_are_spellable,
 };
+pub use refreshing::refresh;
 pub use restoration::restore;
 pub use snapshots::snapshot;

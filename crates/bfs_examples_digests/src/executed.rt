@@ -25,7 +25,7 @@ fn root_attributes(alloc: Global, xid: u32) -> Result<Vec<u8>, Memory> {
 }
 
 // two files made in the root, and its attributes
-fn batch_at(alloc: Global, second: u32) -> Result<Batch, Fail> {
+pub(crate) fn batch_at(alloc: Global, second: u32) -> Result<Batch, Fail> {
     let mut batch = Batch::new(alloc);
     batch.set_time(Time::new(second, 0).ok_or("a time")?);
     batch.push(create(alloc, 1, A)?.as_slice())?;
@@ -73,10 +73,11 @@ fn goes_on_where_ordinals_end(rt: HostRuntime) -> Result<(), Fail> {
 }
 
 // a new file system after the batch, by another implementation
-const AFTER: &str =
+pub(crate) const AFTER: &str =
     "424653530000000100000000000000060000000100000000000000030000000200000002000001ed000000020000000000000000000000000000000000000001000000000000000100000000000000020000000200000003000000016100000000000003000000040000000162000000000000040000000300000001000001a4000000010000fffe0000fffe000000010000000000000001000000000000000100000000000000000000000400000001000001a4000000010000fffe0000fffe00000001000000000000000100000000000000010000000000000000";
 
-const AFTER_DIGEST: &str = "ba15f7dd577518bcc2df9009eafeb2098b75a81051ea755dab79c5b1c7094e16";
+pub(crate) const AFTER_DIGEST: &str =
+    "ba15f7dd577518bcc2df9009eafeb2098b75a81051ea755dab79c5b1c7094e16";
 
 #[test]
 fn executes_the_same_where_it_was_restored(rt: HostRuntime) -> Result<(), Fail> {

@@ -6,4 +6,6 @@ mod executed;
 #[cfg(test)]
 mod hostile;
 #[cfg(test)]
+mod kept;
+#[cfg(test)]
 mod texts;

@@ -3,6 +3,7 @@
 use Rattle.std.specs.Prelude.{ℕ, zero, suc, ◌+◌, ◌==◌, ◌≤◌, true, ◌||◌, List, [], ◌∷◌, ◌++◌, length, Option, Some, None, nat_lt, if◌then◌else◌}
 use Rattle.std.specs.List.{flat_map, AllByRecursion}
 use Rattle.std.specs.Result.{result_ok}
+use Rattle.sha2.specs.Sha256.{sha256}
 use Rattle.bfs_model.specs.Attributes.{type_of}
 use Rattle.bfs_model.specs.Call.{◌>>=◌}
 use Rattle.bfs_model.specs.Items.{word, words, counted, word_at, opaque_at}
@@ -39,6 +40,10 @@ head_words id inode =
 -- the record of the inode of that fileid
 unfoldable pub record_text : (id : ℕ) → Inode → List ℕ
 record_text id inode = words (head_words id inode) ++ body_text inode.body
+
+-- the digest of that record (FIPS 180-4, SHA-256)
+abbrev pub record_digest : (id : ℕ) → Inode → List ℕ
+record_digest id inode = sha256 (record_text id inode)
 
 -- What a record can spell, whether or not a well-formed file system holds it -------------------------------------------
 

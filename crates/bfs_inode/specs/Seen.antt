@@ -1,10 +1,12 @@
--- An inode of the code as one of the model, and its limits.
-use Rattle.std.specs.Prelude.{◌≤◌}
+-- An inode of the code as one of the model, its limits, and the digest that it keeps.
+use Rattle.std.specs.Prelude.{◌≡◌, ◌≤◌}
+use Rattle.std.specs.Option.{ForSome}
 use Rattle.bfs_model.specs.Limits.{most_links}
 use Rattle.bfs_model.specs.Tree as model
 use Rattle.bfs_types.specs.declared.limits.TheConstants.{MOST_PERMISSIONS}
 use Rattle.bfs_inode.specs.declared.inodes.Inode.TheInside.{Inside}
 use Rattle.bfs_inode.specs.Inodes.{body_seen}
+use Rattle.bfs_inode.specs.Records.{record_digest}
 
 abbrev pub seen : Inside → model.Inode
 seen inode = record { permissions = inode.permissions; links = inode.links; uid = inode.uid; gid = inode.gid; atime = inode.atime; mtime = inode.mtime; ctime = inode.ctime; body = body_seen inode.body }
@@ -12,3 +14,7 @@ seen inode = record { permissions = inode.permissions; links = inode.links; uid 
 -- its permissions are the twelve low bits of a mode, and its links within their limit
 abbrev pub IsWithin : Inside → Type 0
 IsWithin inode = (inode.permissions ≤ MOST_PERMISSIONS) × (inode.links ≤ most_links)
+
+-- a digest that it keeps is that of its record as it is
+abbrev pub KeepsOwnDigest : Inside → Type 0
+KeepsOwnDigest inode = ForSome inode.kept (λ kept. kept.digest ≡ record_digest kept.id (seen inode))

@@ -9,6 +9,7 @@ ghost use Rattle.bfs_model.specs.WellFormed.{IsRising, NamesDiffer};
 ghost use Rattle.bfs_inode.specs.Inodes.{body_seen, file_in, path_in, most_blocks};
 
 mod changes;
+mod kept;
 
 use crate::bodies::{Body, FileData};
 use crate::directories::Directory;
@@ -16,10 +17,13 @@ use bfs_types::{
     Attributes, BLOCK_SIZE, Context, FileId, LinkPath, MOST_PERMISSIONS, Memory, SetTime, Settings,
     Time,
 };
+pub use kept::RecordDigest;
 use std::alloc::Global;
 use std::marker::Model;
 
 /// A file, a directory or a symbolic link, and its attributes (RFC 1094 section 2.3.5).
+///
+/// It may keep the digest of its record, which goes with it where it is moved. Each change drops it, and contracts see nothing of it.
 #[derive(Debug, Drop)]
 pub struct Inode {
     permissions: u32,
@@ -30,6 +34,8 @@ pub struct Inode {
     mtime: Time,
     ctime: Time,
     body: Body,
+    // of its record as it is
+    kept: Option<RecordDigest>,
 }
 
 /// The attributes of an inode that are stored beside what it holds (RFC 1094 section 2.3.5).
@@ -56,11 +62,11 @@ impl Model for Inode {
 
     ghost Value = { model.Inode };
 
-    ghost use Rattle.bfs_inode.specs.Seen.{seen, IsWithin};
+    ghost use Rattle.bfs_inode.specs.Seen.{seen, IsWithin, KeepsOwnDigest};
 
     ghost view = { seen };
 
-    ghost invariant = { IsWithin };
+    ghost invariant = { λ inode. IsWithin inode × KeepsOwnDigest inode };
 }
 
 impl Inode {
@@ -80,6 +86,7 @@ impl Inode {
             mtime: metadata.mtime,
             ctime: metadata.ctime,
             body,
+            kept: None,
         }
     }
 
@@ -96,6 +103,7 @@ impl Inode {
             mtime: Time::epoch(),
             ctime: Time::epoch(),
             body: Body::Directory(Directory::new(alloc, FileId::root())),
+            kept: None,
         }
     }
 
@@ -160,6 +168,7 @@ impl Inode {
             mtime: time_set(context.time, settings.mtime, context.time),
             ctime: context.time,
             body,
+            kept: None,
         }
     }
 

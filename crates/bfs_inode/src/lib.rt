@@ -9,5 +9,5 @@ mod names;
 pub use bfs_types::{FileId, Time};
 pub use bodies::{Body, FileData};
 pub use directories::{Directory, Entries, Entry, Listed, Page};
-pub use inodes::{Inode, Metadata};
+pub use inodes::{Inode, Metadata, RecordDigest};
 pub use names::{is_bad_name, is_no_name};

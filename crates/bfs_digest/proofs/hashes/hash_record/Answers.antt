@@ -5,7 +5,7 @@ use Rattle.bfs_model.specs.Items.{words}
 use Rattle.bfs_model.specs.Tree.{Body}
 use Rattle.bfs_inode.specs.Inodes.{body_seen}
 use Rattle.bfs_inode.specs.Records.{body_text, head_words, record_text}
-use Rattle.bfs_digest.proofs.hashes.record_digest.Goals as goal
+use Rattle.bfs_digest.proofs.hashes.hash_record.Goals as goal
 
 pub returns : goal.returns
 unfolding record_text

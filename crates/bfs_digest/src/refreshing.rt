@@ -1,0 +1,84 @@
+// The digests of records that are kept in the inodes, so that the next digest of the file system costs what changed.
+ghost use Rattle.std.specs.Prelude.{◌≡◌, ◌↔◌, None, IsErrOf, IsTrue};
+ghost use Rattle.std.specs.List.{All};
+ghost use Rattle.bfs_tree.specs.Tree.{at_home, reach_of};
+ghost use Rattle.bfs_digest.specs.Hashed.{IsHashed};
+
+use crate::digests::digests_at;
+use bfs_inode::{FileId, RecordDigest};
+use bfs_serial::{ExecError, FileSystem};
+use bfs_tree::{Store, Tree};
+use bfs_types::Memory;
+use std::alloc::Global;
+use std::thread::Threads;
+
+/// Hashes the record of each inode that doesn't keep its digest (`Inode::kept_digest`), by as many threads as there are processors, and
+/// has the inode keep it. So a digest of the file system that is made next hashes none of them again, and one that is made after
+/// batches hashes what they changed. The file system stays as it was, with memory or without. That each inode keeps its digest then
+/// is tested, and in no contract: contracts see nothing of what is kept. `Failed` if the file system has failed, `Memory` if memory
+/// runs out; then no more digests are kept than before.
+pub fn refresh(
+    rt: &(impl Threads + Sync),
+    alloc: Global,
+    files: &mut FileSystem,
+) -> Result<(), ExecError>
+    ensures stays { files.new ≡ files.old }
+    ensures failed { IsErrOf result ExecError.Failed ↔ (files.old ≡ None) }
+{
+    let Some((mut tree, next_ordinal, last_time)) = files.take_parts() else {
+        return Err(ExecError::Failed);
+    };
+    let refreshed = refresh_tree(rt, alloc, &mut tree);
+    files.put_parts(tree, next_ordinal, last_time);
+    match refreshed {
+        Ok(()) => Ok(()),
+        Err(Memory) => Err(ExecError::Memory),
+    }
+}
+
+fn refresh_tree(rt: &(impl Threads + Sync), alloc: Global, tree: &mut Tree) -> Result<(), Memory>
+    requires { IsTrue ((reach_of tree.old).whole) }
+    ensures inodes { at_home tree.new ≡ at_home tree.old }
+    ensures reach { reach_of tree.new ≡ reach_of tree.old }
+{
+    let ids = ids_without_digest(alloc, tree)?;
+    let digests = digests_at(rt, alloc, tree, &ids)?;
+    keep_each(tree, &digests);
+    Ok(())
+}
+
+// Of the inodes that don't keep their digest. No contract speaks of it: one left out or too many costs hashing, and changes no digest.
+fn ids_without_digest(alloc: Global, tree: &Tree) -> Result<Vec<FileId>, Memory> {
+    let mut ids = Vec::new(alloc);
+    for (number, inode) in tree.iter() {
+        let id = FileId::new(*number);
+        if inode.kept_digest(id).is_none() {
+            ids.push(id)?;
+        }
+    }
+    Ok(ids)
+}
+
+fn keep_each<S: Store>(store: &mut S, digests: &[RecordDigest])
+    requires whole { IsTrue ((S.reach store.old).whole) }
+    requires hashed { All (IsHashed (S.inodes store.old)) digests.now }
+    ensures inodes { S.inodes store.new ≡ S.inodes store.old }
+    ensures reach { S.reach store.new ≡ S.reach store.old }
+{
+    for hashed in digests {
+        keep(store, hashed);
+    }
+}
+
+// in the inode of its fileid, if there is one
+#[tactic(auto, using(bfs_tree::proofs::Laws::insert_same))]
+fn keep<S: Store>(store: &mut S, hashed: &RecordDigest)
+    requires owned { IsTrue ((S.reach store.old).owned hashed.now.id) }
+    requires hashed { IsHashed (S.inodes store.old) hashed.now }
+    ensures inodes { S.inodes store.new ≡ S.inodes store.old }
+    ensures reach { S.reach store.new ≡ S.reach store.old }
+{
+    if let Some(inode) = store.get_mut(hashed.id) {
+        inode.keep_digest(hashed.id, hashed.digest);
+    }
+}

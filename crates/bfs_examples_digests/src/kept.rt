@@ -1,0 +1,228 @@
+//! Digests that inodes keep: which there are, that a change of an inode drops its own alone, and what the digest of the file system is then.
+use crate::executed::{AFTER, AFTER_DIGEST, batch_at};
+use crate::texts::{NEW, bytes_of, is_told};
+use bfs_digest::{digest_parallel, digest_serial, refresh, restore, snapshot};
+use bfs_replay::{Engine, execute_and_digest};
+use bfs_serial::{Batch, ExecError, FileSystem, execute_serial};
+use bfs_testing::asserts::compared;
+use bfs_testing::holds;
+use bfs_testing::numbers::{
+    CREATE, GETATTR, LINK, LOOKUP, MKDIR, READ, READDIR, READLINK, REMOVE, RENAME, RMDIR, SETATTR,
+    STATFS, SYMLINK, WRITE,
+};
+use bfs_testing::steps::Step;
+use bfs_testing::words::{
+    A, B, C, D, E, EIGHTH, F, FIFTH, FOURTH, G, L, ROOT, SEVENTH, SIXTH, THIRD, UNSET,
+};
+use bfs_types::{FileId, Time};
+use bfs_workers::{NoGate, Workers};
+use std::alloc::Global;
+use std::process::Abort;
+use std::test::Fail;
+use std::thread::Threads;
+
+// directories 3 and 4 in the root, files 5 and 6 in the first, of which 6 has a name in the second too, a directory 7 in the first, and a
+// symbolic link 8 in the root
+const MADE: &[Step] = &[
+    Step(MKDIR, &[ROOT, D, UNSET], &[]),
+    Step(MKDIR, &[ROOT, E, UNSET], &[]),
+    Step(CREATE, &[THIRD, A, UNSET], &[]),
+    Step(CREATE, &[THIRD, B, UNSET], &[]),
+    Step(MKDIR, &[THIRD, C, UNSET], &[]),
+    Step(SYMLINK, &[ROOT, L, A, UNSET], &[]),
+    Step(LINK, &[SIXTH, FOURTH, B], &[]),
+];
+
+const LAST: u32 = 8;
+
+const READ_ONLY: &[u32] = &[
+    0o600, 0xffffffff, 0xffffffff, 0xffffffff, 0xffffffff, 0xffffffff, 0xffffffff, 0xffffffff,
+];
+
+// a call each, and the fileids of the inodes that it changes or makes
+const CHANGES: &[(Step, &[u32])] = &[
+    (Step(SETATTR, &[FIFTH, READ_ONLY], &[]), &[5]),
+    (Step(SETATTR, &[THIRD, READ_ONLY], &[]), &[3]),
+    (Step(WRITE, &[FIFTH, &[0, 0, 0, 1, 0x61000000]], &[]), &[5]),
+    (Step(CREATE, &[FOURTH, F, UNSET], &[]), &[4, 10]),
+    (Step(CREATE, &[THIRD, A, UNSET], &[]), &[]),
+    (Step(SYMLINK, &[FOURTH, F, A, UNSET], &[]), &[4, 10]),
+    (Step(MKDIR, &[SEVENTH, F, UNSET], &[]), &[7, 10]),
+    (Step(REMOVE, &[THIRD, A], &[]), &[3]),
+    (Step(REMOVE, &[THIRD, B], &[]), &[3, 6]),
+    (Step(RMDIR, &[THIRD, C], &[]), &[3]),
+    (Step(LINK, &[FIFTH, FOURTH, G], &[]), &[4, 5]),
+    (Step(RENAME, &[THIRD, A, THIRD, G], &[]), &[3, 5]),
+    (Step(RENAME, &[THIRD, A, FOURTH, B], &[]), &[3, 4, 5, 6]),
+    (Step(RENAME, &[THIRD, C, FOURTH, C], &[]), &[3, 4, 7]),
+    (Step(RENAME, &[THIRD, F, FOURTH, C], &[]), &[]),
+    (Step(READ, &[FIFTH, &[0, 8, 0]], &[]), &[]),
+    (Step(READLINK, &[EIGHTH], &[]), &[]),
+    (Step(READDIR, &[THIRD, &[0, 512]], &[]), &[]),
+    (Step(LOOKUP, &[THIRD, A], &[]), &[]),
+    (Step(GETATTR, &[FIFTH], &[]), &[]),
+    (Step(STATFS, &[ROOT], &[]), &[]),
+];
+
+fn batch_of(alloc: Global, second: u32, steps: &[Step]) -> Result<Batch, Fail> {
+    let mut batch = Batch::new(alloc);
+    batch.set_time(Time::new(second, 0).ok_or("a time")?);
+    for step in steps {
+        batch.push(step.request(alloc, 1)?.as_slice())?;
+    }
+    Ok(batch)
+}
+
+fn made(alloc: Global) -> Result<FileSystem, Fail> {
+    let mut files = FileSystem::new(alloc)?;
+    execute_serial(alloc, &mut files, &batch_of(alloc, 1, MADE)?)?;
+    Ok(files)
+}
+
+// the fileids of the inodes that don't keep their digest
+fn without(alloc: Global, files: &FileSystem) -> Result<Vec<u32>, Fail> {
+    let mut ids = Vec::new(alloc);
+    let tree = files.tree().ok_or("a tree")?;
+    for (number, inode) in tree.iter() {
+        if inode.kept_digest(FileId::new(*number)).is_none() {
+            ids.push(*number)?;
+        }
+    }
+    Ok(ids)
+}
+
+// the digest of what the file system's text spells, in whose inodes nothing is kept
+fn hashed_anew(alloc: Global, files: &FileSystem) -> Result<[u8; 32], Fail> {
+    let restored = restore(alloc, snapshot(alloc, files)?.as_slice())?;
+    Ok(digest_serial(&restored)?)
+}
+
+// just these inodes don't keep their digest, and both digests of the file system are right
+fn is_kept_but(
+    rt: &(impl Threads + Sync),
+    alloc: Global,
+    files: &FileSystem,
+    ids: &[u32],
+) -> Result<(), Fail> {
+    compared(without(alloc, files)?.as_slice(), ids)?;
+    let digest = hashed_anew(alloc, files)?;
+    compared(digest_serial(files)?, digest)?;
+    Ok(compared(digest_parallel(rt, alloc, files)?, digest)?)
+}
+
+// how many of the fileids up to one more than the last each inode keeps a digest under
+fn kept_under(files: &FileSystem) -> Result<u32, Fail> {
+    let mut count: u32 = 0;
+    let tree = files.tree().ok_or("a tree")?;
+    for (_, inode) in tree.iter() {
+        for id in 0..=LAST + 1 {
+            if inode.kept_digest(FileId::new(id)).is_some() {
+                count = count.wrapping_add(1);
+            }
+        }
+    }
+    Ok(count)
+}
+
+#[test]
+fn keeps_the_digest_of_each_inode(rt: HostRuntime) -> Result<(), Fail> {
+    let alloc = rt.alloc();
+    let mut files = made(alloc)?;
+    is_kept_but(&rt, alloc, &files, &[2, 3, 4, 5, 6, 7, 8])?;
+    let text = snapshot(alloc, &files)?;
+    refresh(&rt, alloc, &mut files)?;
+    is_kept_but(&rt, alloc, &files, &[])?;
+    // under its own fileid alone
+    compared(kept_under(&files)?, 7)?;
+    compared(snapshot(alloc, &files)?.as_slice(), text.as_slice())?;
+    // again, with nothing to hash
+    refresh(&rt, alloc, &mut files)?;
+    is_kept_but(&rt, alloc, &files, &[])
+}
+
+// the call drops the digests of just these, and the next refresh makes them again
+fn drops(
+    rt: &(impl Threads + Sync),
+    alloc: Global,
+    step: &Step,
+    changed: &[u32],
+) -> Result<(), Fail> {
+    let mut files = made(alloc)?;
+    refresh(rt, alloc, &mut files)?;
+    let before = digest_serial(&files)?;
+    let mut batch = Batch::new(alloc);
+    batch.set_time(Time::new(2, 0).ok_or("a time")?);
+    batch.push(step.request(alloc, 1)?.as_slice())?;
+    execute_serial(alloc, &mut files, &batch)?;
+    is_kept_but(rt, alloc, &files, changed)?;
+    compared(digest_serial(&files)? == before, false)?;
+    refresh(rt, alloc, &mut files)?;
+    is_kept_but(rt, alloc, &files, &[])
+}
+
+#[test]
+fn drops_the_digest_of_what_changes(rt: HostRuntime) -> Result<(), Fail> {
+    let alloc = rt.alloc();
+    for (step, changed) in CHANGES {
+        drops(&rt, alloc, step, *changed)?;
+    }
+    Ok(())
+}
+
+#[test]
+fn tells_what_another_implementation_does(rt: HostRuntime) -> Result<(), Fail> {
+    let alloc = rt.alloc();
+    let mut files = restore(alloc, bytes_of(alloc, NEW)?.as_slice())?;
+    refresh(&rt, alloc, &mut files)?;
+    execute_serial(alloc, &mut files, &batch_at(alloc, 1)?)?;
+    is_told(&rt, alloc, &files, AFTER, AFTER_DIGEST)?;
+    refresh(&rt, alloc, &mut files)?;
+    is_told(&rt, alloc, &files, AFTER, AFTER_DIGEST)
+}
+
+// 5 is changed, and 6 read
+const TOUCHED: &[Step] = &[
+    Step(SETATTR, &[FIFTH, READ_ONLY], &[]),
+    Step(READ, &[SIXTH, &[0, 8, 0]], &[]),
+    Step(READDIR, &[THIRD, &[0, 512]], &[]),
+];
+
+#[test]
+fn goes_with_an_inode_to_a_worker(rt: HostRuntime) -> Result<(), Fail> {
+    let alloc = rt.alloc();
+    let batch = batch_of(alloc, 2, TOUCHED)?;
+    let workers = Workers::new(3).ok_or("workers")?;
+    for engine in [Engine::Runs, Engine::Levels] {
+        let mut files = made(alloc)?;
+        refresh(&rt, alloc, &mut files)?;
+        execute_and_digest(&rt, alloc, &mut files, &batch, workers, engine, &NoGate)?;
+        is_kept_but(&rt, alloc, &files, &[5])?;
+    }
+    Ok(())
+}
+
+#[test]
+fn refreshes_none_that_has_failed(rt: HostRuntime) -> Result<(), Fail> {
+    let alloc = rt.alloc();
+    let mut files = FileSystem::new(alloc)?;
+    holds!(rt; files.take_parts().is_some());
+    holds!(rt; refresh(&rt, alloc, &mut files).err() == Some(ExecError::Failed));
+    holds!(rt; !files.is_live());
+    Ok(())
+}
+
+/// Nothing is refused in the gate's run of the tests: `.ci/refusals` runs this one with each growth of memory, and each start of a thread,
+/// refused in turn.
+#[test]
+fn refreshes_or_stays_as_it_was(rt: HostRuntime) -> Result<(), Fail> {
+    let alloc = rt.alloc();
+    let mut files = made(alloc)?;
+    let wanted: &[u32] = match refresh(&rt, alloc, &mut files) {
+        Ok(()) => &[],
+        Err(_) => &[2, 3, 4, 5, 6, 7, 8],
+    };
+    is_kept_but(&rt, alloc, &files, wanted)?;
+    // once there is memory
+    refresh(&rt, alloc, &mut files)?;
+    is_kept_but(&rt, alloc, &files, &[])
+}
