@@ -20,6 +20,8 @@ use Rattle.bfs_tree.specs.Slots.{Slots}
 use Rattle.bfs_tree.specs.Tree.{at_home, lent, reach_of}
 use Rattle.bfs_core.specs.declared.calls.Call.{Call}
 use Rattle.bfs_core.specs.declared.calls.State.TheVariants.{Waiting}
+use Rattle.bfs_core.specs.declared.claims.Claims.{Claims}
+use Rattle.bfs_core.specs.Claims.{AreClaimed, all_wait}
 use Rattle.bfs_core.specs.Laws.{PlansAreGroups}
 use Rattle.bfs_core.specs.Machine.{Standing, at_start}
 use Rattle.bfs_core.specs.Reached.{IsReached}
@@ -58,6 +60,9 @@ module _ (first o : ℕ) (t : Time) (batch : List (List ℕ)) (tree : Slots) (fs
     home = at_home tree;
     standings = (ap (map standing_seen) are ∙ standings_seen fs ∙ ap (map waits_there) planned) i;
   }
+
+  pub new_claimed : (claims : Claims) → AreClaimed claims (all_wait (map footprint_seen fs)) → AreClaimed claims (map standing_seen calls)
+  new_claimed claims claimed = subst (AreClaimed claims) (sym (ap (map standing_seen) are ∙ standings_seen fs)) claimed
 
   pub new_running : (reach_of tree).whole ≡ true → IsGroup (record { tree = at_home tree; next_ordinal = o; last_time = t }) t (requests_from first (length fs) batch) → IsRunning tree calls (machine_seen first o t batch tree calls)
   new_running whole group = record {

@@ -112,7 +112,7 @@ module _ (first o : ℕ) (t : Time) (batch : List (List ℕ)) (tree : Slots) (ca
   stands : standing_of m number ≡ standing_seen call
   stands = standing_there calls place call at
 
-  foot : (standing_of m number).footprint ≡ f
+  pub foot : (standing_of m number).footprint ≡ f
   foot = ap (λ (s : Standing). s.footprint) stands
 
   abbrev with_state : State → List Call

@@ -9,3 +9,5 @@ pub mod Bringing
 pub mod Beginning
 pub mod Playing
 pub mod Accepting
+pub mod Claiming
+pub mod Holding

@@ -156,7 +156,3 @@ module _ (tree : Slots) (calls : List Call) (m : Machine) (run : IsRunning tree 
         subst (λ (s : Standing). is_written s.footprint id ≡ false) at
         (others_leave m run.reached its_place j other fits (in_group j call is) (ap is_done can_end.away) (begun_apart m run.reached its_place fits begun_here)
         (ap (λ (s : Standing). is_done s.slot) at ∙ undone) (ap (λ (s : Standing). is_begun s.slot) at ∙ begun) id touched))
-
-pub any_seen : (p : Standing → Bool) (calls : List Call) → list_any (λ call. p (standing_seen call)) calls ≡ list_any p (map standing_seen calls)
-any_seen p [] = refl
-any_seen p (call ∷ calls) = ap (λ b. p (standing_seen call) || b) (any_seen p calls)

@@ -1,5 +1,5 @@
 -- Why a call is not taken.
-use Rattle.std.proofs.Common.{◌≡◌, ℕ, zero, suc, ◌-◌, Bool, true, false, cond, not, List, [], ◌∷◌, map, take, Option, Some, None, ◌<◌, length, get_or, refl, ap, sym, subst, ◌∙◌}
+use Rattle.std.proofs.Common.{◌≡◌, ℕ, ◌-◌, Bool, true, false, cond, not, List, map, take, Option, Some, None, ◌<◌, length, get_or, refl, ap, sym, subst, ◌∙◌}
 use Rattle.std.specs.List.{slice_get}
 use Rattle.bfs_model.specs.Tree.{Time}
 use Rattle.bfs_footprint.specs.Seen.{footprint_seen}
@@ -13,11 +13,6 @@ use Rattle.bfs_core.proofs.Standings.{within}
 use Rattle.bfs_core.proofs.Owning.{standing_there}
 use Rattle.bfs_core.proofs.Changing.{there_by}
 
-take_seen : (k : ℕ) (calls : List Call) → take k (map standing_seen calls) ≡ map standing_seen (take k calls)
-take_seen zero calls = refl
-take_seen (suc k) [] = refl
-take_seen (suc k) (call ∷ calls) = ap (λ xs. standing_seen call ∷ xs) (take_seen k calls)
-
 -- a number that has a place is that of a call
 pub has_place : (has : Bool) (k place : ℕ) → ◌≡◌ {A = Option ℕ} (cond has (Some k) None) (Some place) → (has ≡ true) × (k ≡ place)
 has_place true k place is = (refl, cc)
@@ -27,17 +22,17 @@ abbrev refused_by : (has waits held : Bool) → Option CoreError
 refused_by has waits held = cond (not has) (Some error.NoSuchCall) (cond (not waits) (Some error.Taken) (cond held (Some error.NotReady) None))
 
 pub refusal_is : (first o : ℕ) (t : Time) (batch : List (List ℕ)) (tree : Slots) (calls : List Call) (number place : ℕ) (call : Call) (held : Bool) → has_call (machine_seen first o t batch tree calls) number ≡ true → number - first ≡ place
-    → slice_get calls place ≡ Some call → is_waiting (slot_seen call.state) ≡ true → is_held (map standing_seen (take place calls)) (footprint_seen call.footprint) ≡ held
+    → slice_get calls place ≡ Some call → is_waiting (slot_seen call.state) ≡ true → is_held (take place (map standing_seen calls)) (footprint_seen call.footprint) ≡ held
     → take_refusal (machine_seen first o t batch tree calls) number ≡ cond held (Some error.NotReady) None
 refusal_is first o t batch tree calls number place call held has at there waits is =
     let stands = ap (λ k. Rattle.bfs_core.specs.Machine.standing_at (map standing_seen calls) k) at ∙ standing_there calls place call there in
     λ i. refused_by (has i) ((ap (λ (s : Standing). is_waiting s.slot) stands ∙ waits) i)
-    (((λ j. is_held (take (at j) (map standing_seen calls)) (stands j).footprint) ∙ ap (λ xs. is_held xs (footprint_seen call.footprint)) (take_seen place calls) ∙ is) i)
+    (((λ j. is_held (take (at j) (map standing_seen calls)) (stands j).footprint) ∙ is) i)
 
 -- for the code: the machine that it stands for, and the place that it found
 pub refused_at : (first o : ℕ) (t : Time) (batch : List (List ℕ)) (tree : Slots) (calls : List Call) (m : Machine) (number place : ℕ) (call : Call) (held : Bool) → machine_seen first o t batch tree calls ≡ m
     → ◌≡◌ {A = Option ℕ} (cond (has_call m number) (Some (number - m.first)) None) (Some place) → call ≡ get_or calls place call → is_waiting (slot_seen call.state) ≡ true
-    → is_held (map standing_seen (take place calls)) (footprint_seen call.footprint) ≡ held → take_refusal m number ≡ cond held (Some error.NotReady) None
+    → is_held (take place (map standing_seen calls)) (footprint_seen call.footprint) ≡ held → take_refusal m number ≡ cond held (Some error.NotReady) None
 refused_at first o t batch tree calls m number place call held seen placed there waits is =
     let s = machine_seen first o t batch tree calls in
     let found = has_place (has_call s number) (number - first) place (ap (λ n. cond (has_call n number) (Some (number - n.first)) None) seen ∙ placed) in

@@ -1,6 +1,7 @@
 pub mod Machine
 pub mod Codes
 pub mod Reached
+pub mod Claims
 pub mod Seen
 pub mod Lent
 pub mod Running

@@ -13,6 +13,8 @@ use Rattle.bfs_handover.specs.Moves.{AreDistinct}
 use Rattle.bfs_core.specs.declared.calls.Call.{Call}
 use Rattle.bfs_core.specs.declared.calls.State.{State}
 use Rattle.bfs_core.specs.declared.calls.State.TheVariants.{Waiting, Taken, Finished}
+use Rattle.bfs_core.specs.declared.claims.Claims.{Claims}
+use Rattle.bfs_core.specs.Claims.{AreClaimed}
 use Rattle.bfs_core.specs.Machine.{Machine}
 use Rattle.bfs_core.specs.Reached.{IsReached}
 
@@ -36,3 +38,8 @@ pub record IsRunning (tree : Slots) (calls : List Call) (machine : Machine) : Ty
   pub reached : IsReached machine
   pub out : (id : ℕ) → is_some (get (lent tree) id) ≡ list_any (λ (call : Call). among (lent_for call.state) id) calls
   pub own : All OwnsWritten calls
+
+-- and the claims are those of the calls that are not finished
+pub record IsKept (tree : Slots) (calls : List Call) (claims : Claims) (machine : Machine) : Type 0 where
+  pub running : IsRunning tree calls machine
+  pub claimed : AreClaimed claims machine.standings

@@ -1,13 +1,12 @@
 ghost use Rattle.std.specs.Prelude.{◌≡◌, IfOk, map};
-ghost use Rattle.std.specs.List.{list_all, list_any};
+ghost use Rattle.std.specs.List.{list_all};
 ghost use Rattle.std.specs.Option.{option_map};
 ghost use Rattle.bfs_model.specs.Events.{is_done};
-ghost use Rattle.bfs_footprint.specs.Seen.{footprint_seen};
-ghost use Rattle.bfs_core.specs.Machine.{holds_back, is_held, is_taken, is_waiting, reply_in};
-ghost use Rattle.bfs_core.specs.Seen.{slot_seen, standing_seen};
+ghost use Rattle.bfs_core.specs.Machine.{is_taken, is_waiting, reply_in};
+ghost use Rattle.bfs_core.specs.Seen.{slot_seen};
 ghost use Rattle.bfs_core.specs.declared.calls.State.TheVariants.{Waiting};
 
-use bfs_footprint::{Footprint, conflicts};
+use bfs_footprint::Footprint;
 use bfs_handover::Loans;
 use bfs_types::Memory;
 use std::alloc::Global;
@@ -56,28 +55,6 @@ impl State {
 pub(crate) struct Call {
     pub(crate) footprint: Footprint,
     pub(crate) state: State,
-}
-
-impl Call {
-    // whether it keeps a later call of that footprint from being taken
-    fn holds_back(&self, footprint: &Footprint) -> bool
-        ensures { result ≡ holds_back (standing_seen self.now) (footprint_seen footprint.now) }
-    {
-        !self.state.is_finished() && conflicts(&self.footprint, footprint)
-    }
-}
-
-// whether one of the earlier calls holds back a call of that footprint
-pub(crate) fn is_held(earlier: &[Call], footprint: &Footprint) -> bool
-    ensures { result ≡ is_held (map standing_seen earlier.now) (footprint_seen footprint.now) }
-{
-    any_holds_back(earlier, footprint)
-}
-
-fn any_holds_back(earlier: &[Call], footprint: &Footprint) -> bool
-    ensures { result ≡ list_any (λ call. holds_back (standing_seen call) (footprint_seen footprint.now)) earlier.now }
-{
-    earlier.iter().any(|call| call.holds_back(footprint))
 }
 
 pub(crate) fn all_are_finished(calls: &[Call]) -> bool

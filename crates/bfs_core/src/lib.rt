@@ -2,6 +2,7 @@
 #![tactic(auto)]
 
 mod calls;
+mod claims;
 mod errors;
 mod events;
 mod laws;

@@ -10,6 +10,7 @@ ghost use Rattle.bfs_levels.specs.Requests.{requests_from};
 ghost use Rattle.bfs_core.specs.declared.events.Event.TheVariants as event;
 
 use crate::calls::all_waiting;
+use crate::claims::claims_of;
 use crate::errors::CoreError;
 use crate::events::Event;
 use crate::running::Running;
@@ -63,6 +64,7 @@ impl<'a> Core<'a> {
             footprints,
             ..
         } = group;
+        let claims = claims_of(alloc, footprints.as_slice())?;
         let calls = all_waiting(alloc, footprints)?;
         Ok(Core {
             running: Some(Running {
@@ -73,13 +75,15 @@ impl<'a> Core<'a> {
                 time,
                 tree,
                 calls,
+                claims,
             }),
         })
     }
 
     /// Takes the call of that number in the batch. It is refused, in this order: `Failed` if the core has failed; `NoSuchCall` if the
     /// group has no such call; `Taken` if it was taken before, also once it is finished; `NotReady` if an earlier call that conflicts
-    /// with it is not finished; `Memory` if memory runs out, and the core has then failed. It compares the call with each earlier one.
+    /// with it is not finished; `Memory` if memory runs out, and the core has then failed. It costs a few
+    /// look-ups among what the group's calls touch.
     pub fn take(&mut self, number: u32) -> Result<(), CoreError>
         ensures { Happens self.old (event.Take number) result self.new }
     {

@@ -3,7 +3,8 @@ ghost use Rattle.std.specs.Option.{option_map};
 ghost use Rattle.bfs_tree.specs.Tree.{at_home, reach_of};
 ghost use Rattle.bfs_core.specs.Machine.{after_finish, after_take, finish_refusal, has_call, is_complete, reply_to, take_refusal};
 
-use crate::calls::{Call, State, all_are_finished, is_held};
+use crate::calls::{Call, State, all_are_finished};
+use crate::claims::Claims;
 use crate::errors::CoreError;
 use crate::loans::{carry_out, carry_out_alone, lend};
 use bfs_handover::Job;
@@ -23,6 +24,7 @@ pub(crate) struct Running<'a> {
     pub(crate) time: Time,
     pub(crate) tree: Tree,
     pub(crate) calls: Vec<Call>,
+    pub(crate) claims: Claims,
 }
 
 impl<'a> Model for Running<'a> {
@@ -35,11 +37,11 @@ impl<'a> Model for Running<'a> {
     ghost coded = { Prim.hlevel (codes, inodes_code) };
 
     ghost use Rattle.bfs_core.specs.Seen.{machine_seen};
-    ghost use Rattle.bfs_core.specs.Running.{IsRunning};
+    ghost use Rattle.bfs_core.specs.Running.{IsKept};
 
     ghost view = { λ running. machine_seen running.first running.ordinal running.time running.batch.now.requests running.tree running.calls.items };
 
-    ghost invariant = { λ running. IsRunning running.tree running.calls.items (machine_seen running.first running.ordinal running.time running.batch.now.requests running.tree running.calls.items) };
+    ghost invariant = { λ running. IsKept running.tree running.calls.items running.claims (machine_seen running.first running.ordinal running.time running.batch.now.requests running.tree running.calls.items) };
 }
 
 impl<'a> Running<'a> {
@@ -73,7 +75,7 @@ impl<'a> Running<'a> {
         if !call.state.is_waiting() {
             return Some(CoreError::Taken);
         }
-        if is_held(&self.calls[..place], &call.footprint) {
+        if self.claims.hold_back(place, &call.footprint) {
             return Some(CoreError::NotReady);
         }
         None
@@ -117,6 +119,7 @@ impl<'a> Running<'a> {
             time,
             mut tree,
             mut calls,
+            claims,
         } = self;
         let place = number as usize - first;
         let call = &mut calls[place];
@@ -130,6 +133,7 @@ impl<'a> Running<'a> {
             time,
             tree,
             calls,
+            claims,
         })
     }
 
@@ -146,6 +150,7 @@ impl<'a> Running<'a> {
             time,
             mut tree,
             mut calls,
+            mut claims,
         } = self;
         let place = number as usize - first;
         let call = &mut calls[place];
@@ -164,6 +169,7 @@ impl<'a> Running<'a> {
         } else {
             carry_out(alloc, &mut tree, job)?
         };
+        claims.remove(place, &call.footprint);
         call.state = State::Finished(reply);
         Ok(Running {
             alloc,
@@ -173,6 +179,7 @@ impl<'a> Running<'a> {
             time,
             tree,
             calls,
+            claims,
         })
     }
 }

@@ -2,113 +2,36 @@
 use crate::groups::{compare, core_of, count_of, played, with_files};
 use bfs_core::{Core, Event};
 use bfs_serial::Batch;
+use bfs_testing::generated::Generator;
 use bfs_testing::numbers::{
     CREATE, GETATTR, LINK, MKDIR, READ, READDIR, REMOVE, RENAME, SETATTR, WRITE,
 };
-use bfs_testing::words::{A, B, C, D, E, F, UNSET, call, put_parts};
 use bfs_testing::{holds, same};
-use bfs_types::{Memory, Time};
+use bfs_types::Time;
 use std::alloc::Global;
 use std::test::Fail;
 
-// the same numbers each time
-#[derive(Drop)]
-struct Generator {
-    state: u64,
-}
-
-impl Generator {
-    fn next(&mut self) -> u32 {
-        self.state = self
-            .state
-            .wrapping_mul(6_364_136_223_846_793_005)
-            .wrapping_add(1_442_695_040_888_963_407);
-        (self.state >> 40) as u32
-    }
-
-    fn name(&mut self) -> &'static [u32] {
-        match self.next() % 6 {
-            0 => A,
-            1 => B,
-            2 => C,
-            3 => D,
-            4 => E,
-            _ => F,
-        }
-    }
-}
-
-const ROOT_ID: u32 = 2;
-
-fn put_handle(bytes: &mut Vec<u8>, fileid: u32) -> Result<(), Memory> {
-    put_parts(bytes, &[&[0x42465332, 1, fileid, 0, 0, 0, 0, 0]])
-}
-
 // mostly calls on three files, then some that make, link, move or remove names of the root
-fn request(alloc: Global, generator: &mut Generator) -> Result<Vec<u8>, Memory> {
-    let fileid = generator.next() % 4 + 3;
-    let kind = generator.next() % 16;
-    let procedure = match kind {
-        0..=3 => WRITE,
-        4 | 5 => READ,
-        6 => GETATTR,
-        7 => SETATTR,
-        8 | 9 => CREATE,
-        10 => LINK,
-        11 => MKDIR,
-        12 => READDIR,
-        13 => REMOVE,
-        14 => RENAME,
-        _ => GETATTR,
-    };
-    let mut bytes = call(alloc, 1, procedure)?;
-    match kind {
-        0..=3 => {
-            put_handle(&mut bytes, fileid)?;
-            let offset = generator.next() % 8;
-            put_parts(&mut bytes, &[&[0, offset, 0, 1, 0x61000000]])?;
-        }
-        4 | 5 => {
-            put_handle(&mut bytes, fileid)?;
-            put_parts(&mut bytes, &[&[0, 16, 0]])?;
-        }
-        7 => {
-            put_handle(&mut bytes, fileid)?;
-            put_parts(&mut bytes, &[UNSET])?;
-        }
-        8 | 9 | 11 => {
-            put_handle(&mut bytes, ROOT_ID)?;
-            put_parts(&mut bytes, &[generator.name(), UNSET])?;
-        }
-        10 => {
-            put_handle(&mut bytes, fileid)?;
-            put_handle(&mut bytes, ROOT_ID)?;
-            put_parts(&mut bytes, &[generator.name()])?;
-        }
-        12 => {
-            put_handle(&mut bytes, ROOT_ID)?;
-            put_parts(&mut bytes, &[&[0, 512]])?;
-        }
-        13 => {
-            put_handle(&mut bytes, ROOT_ID)?;
-            put_parts(&mut bytes, &[generator.name()])?;
-        }
-        14 => {
-            put_handle(&mut bytes, ROOT_ID)?;
-            put_parts(&mut bytes, &[generator.name()])?;
-            put_handle(&mut bytes, ROOT_ID)?;
-            put_parts(&mut bytes, &[generator.name()])?;
-        }
-        _ => put_handle(&mut bytes, fileid)?,
+static PROCEDURES: &[u32] = &[
+    WRITE, WRITE, WRITE, WRITE, READ, READ, GETATTR, GETATTR, SETATTR, CREATE, CREATE, LINK, MKDIR,
+    READDIR, REMOVE, RENAME,
+];
+
+fn generator() -> Generator {
+    Generator {
+        state: 17,
+        procedures: PROCEDURES,
+        files: (3, 4),
+        dirs: (2, 1),
+        names: 6,
     }
-    Ok(bytes)
 }
 
 fn batch(alloc: Global, generator: &mut Generator) -> Result<Batch, Fail> {
     let mut batch = Batch::new(alloc);
     batch.set_time(Time::new(2, 0).ok_or("a time")?);
     for _ in 0..16 {
-        batch.push(request(alloc, generator)?.as_slice())?;
+        batch.push(generator.request(alloc)?.as_slice())?;
     }
     Ok(batch)
 }
@@ -159,7 +82,7 @@ fn overtakes(events: &[Event]) -> bool {
 #[test]
 fn generated_events_give_the_replies_of_the_batch_in_order(rt: HostRuntime) -> Result<(), Fail> {
     let alloc = rt.alloc();
-    let mut generator = Generator { state: 17 };
+    let mut generator = generator();
     let mut overtaken = 0u32;
     let mut long = 0u32;
     for _ in 0..300 {

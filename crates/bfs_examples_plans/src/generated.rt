@@ -7,100 +7,33 @@ use bfs_footprint::{Touch, conflicts, touch_of};
 use bfs_levels::{plan_group, runs};
 use bfs_serial::Batch;
 use bfs_testing::asserts::compared;
+use bfs_testing::generated::Generator;
 use bfs_testing::numbers::{CREATE, MKDIR, SYMLINK};
-use bfs_testing::words::{
-    A, B, C, D, DOT, DOT_DOT, E, FOURTH, NO_NAME, ROOT, UNSET, call, put_parts,
-};
+use bfs_testing::words::{A, B, C, D, E, FOURTH, ROOT, UNSET, put_parts};
 use bfs_tree::Tree;
 use bfs_types::{FileId, Memory, Ordinal, Time};
 use std::alloc::Global;
 use std::test::Fail;
 
-// the same numbers each time
-#[derive(Drop)]
-struct Generator {
-    state: u64,
-}
+// all procedures, and a number that is none
+static PROCEDURES: &[u32] = &[
+    0, 1, 2, 3, 4, 5, 6, 7, 8, 9, 10, 11, 12, 13, 14, 15, 16, 17, 18,
+];
 
-impl Generator {
-    fn next(&mut self) -> u32 {
-        self.state = self
-            .state
-            .wrapping_mul(6_364_136_223_846_793_005)
-            .wrapping_add(1_442_695_040_888_963_407);
-        (self.state >> 40) as u32
-    }
-
-    // one of a file's words: that of an inode which is there or isn't
-    fn fileid(&mut self) -> u32 {
-        self.next() % 9 + 1
-    }
-
-    fn name(&mut self) -> &'static [u32] {
-        match self.next() % 8 {
-            0 => A,
-            1 => B,
-            2 => C,
-            3 => D,
-            4 => E,
-            5 => DOT,
-            6 => DOT_DOT,
-            _ => NO_NAME,
-        }
+// any handle stands for a file and for a directory: that of an inode which is there or isn't
+fn generator() -> Generator {
+    Generator {
+        state: 1,
+        procedures: PROCEDURES,
+        files: (1, 9),
+        dirs: (1, 9),
+        names: 9,
     }
 }
 
-fn put_handle(bytes: &mut Vec<u8>, generator: &mut Generator) -> Result<(), Memory> {
-    let fileid = generator.fileid();
-    put_parts(bytes, &[&[0x42465332, 1, fileid, 0, 0, 0, 0, 0]])
-}
-
-fn put_named(bytes: &mut Vec<u8>, generator: &mut Generator) -> Result<(), Memory> {
-    put_handle(bytes, generator)?;
-    put_parts(bytes, &[generator.name()])
-}
-
-// a call of any procedure, of a number that is none, or with a word too many
+// a request, one in sixteen with a word too many
 fn request(alloc: Global, generator: &mut Generator) -> Result<Vec<u8>, Memory> {
-    let procedure = generator.next() % 19;
-    let mut bytes = call(alloc, 1, procedure)?;
-    match procedure {
-        1 | 5 | 17 => put_handle(&mut bytes, generator)?,
-        2 => {
-            put_handle(&mut bytes, generator)?;
-            put_parts(&mut bytes, &[UNSET])?;
-        }
-        4 | 10 | 15 => put_named(&mut bytes, generator)?,
-        6 => {
-            put_handle(&mut bytes, generator)?;
-            put_parts(&mut bytes, &[&[0, 8, 0]])?;
-        }
-        8 => {
-            put_handle(&mut bytes, generator)?;
-            put_parts(&mut bytes, &[&[0, 0, 0, 1, 0x61000000]])?;
-        }
-        9 | 14 => {
-            put_named(&mut bytes, generator)?;
-            put_parts(&mut bytes, &[UNSET])?;
-        }
-        11 => {
-            put_named(&mut bytes, generator)?;
-            put_named(&mut bytes, generator)?;
-        }
-        12 => {
-            put_handle(&mut bytes, generator)?;
-            put_named(&mut bytes, generator)?;
-        }
-        13 => {
-            put_named(&mut bytes, generator)?;
-            put_parts(&mut bytes, &[&[1, 0x62000000], UNSET])?;
-        }
-        16 => {
-            put_handle(&mut bytes, generator)?;
-            put_parts(&mut bytes, &[&[0, 100]])?;
-        }
-        _ => {}
-    }
+    let mut bytes = generator.request(alloc)?;
     if generator.next() % 16 == 0 {
         put_parts(&mut bytes, &[&[7]])?;
     }
@@ -237,7 +170,7 @@ fn plans_generated_batches_as_pair_by_pair(rt: HostRuntime) -> Result<(), Fail> 
     let alloc = rt.alloc();
     let files = with_executed(alloc, MAKING)?;
     let tree = files.tree().ok_or("a live file system")?;
-    let mut generator = Generator { state: 1 };
+    let mut generator = generator();
     for _ in 0..500 {
         let batch = generated(alloc, &mut generator)?;
         compare_at(alloc, tree, &batch, 0)?;

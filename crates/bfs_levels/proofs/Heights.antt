@@ -66,17 +66,17 @@ touched_over marks calls mark (id ∷ ids) is =
 eq_turned : (m n : ℕ) → (m == n) ≡ (n == m)
 eq_turned m n = grind arith
 
-any_none : (ids : List ℕ) → list_any (λ id. false) ids ≡ false
+pub any_none : (ids : List ℕ) → list_any (λ id. false) ids ≡ false
 any_none [] = refl
 any_none (id ∷ ids) = any_none ids
 
-or_middle : (a b c d : Bool) → ((a || b) || (c || d)) ≡ ((a || c) || (b || d))
+pub or_middle : (a b c d : Bool) → ((a || b) || (c || d)) ≡ ((a || c) || (b || d))
 or_middle true b c d = refl
 or_middle false true true d = refl
 or_middle false true false d = refl
 or_middle false false c d = refl
 
-any_or : (p q : ℕ → Bool) (ids : List ℕ) → list_any (λ id. p id || q id) ids ≡ (list_any p ids || list_any q ids)
+pub any_or : (p q : ℕ → Bool) (ids : List ℕ) → list_any (λ id. p id || q id) ids ≡ (list_any p ids || list_any q ids)
 any_or p q [] = refl
 any_or p q (id ∷ ids) = ap (λ rest. (p id || q id) || rest) (any_or p q ids) ∙ or_middle (p id) (q id) (list_any p ids) (list_any q ids)
 

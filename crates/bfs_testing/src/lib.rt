@@ -3,6 +3,7 @@
 #![tactic(auto)]
 
 pub mod asserts;
+pub mod generated;
 pub mod meetings;
 pub mod numbers;
 pub mod steps;

@@ -1,0 +1,122 @@
+//! Requests made of numbers that are drawn at random, and the same each time.
+use crate::numbers::{
+    CREATE, GETATTR, LINK, LOOKUP, MKDIR, READ, READDIR, READLINK, REMOVE, RENAME, RMDIR, SETATTR,
+    STATFS, SYMLINK, WRITE,
+};
+use crate::words::{A, B, C, D, DOT, DOT_DOT, E, F, NO_NAME, UNSET, call, put_parts};
+use bfs_types::Memory;
+use std::alloc::Global;
+
+/// What draws the numbers, and what requests are made of.
+#[derive(Drop)]
+pub struct Generator {
+    /// From what the next number is drawn: any number to begin with.
+    pub state: u64,
+    /// The procedures that are called. One that stands there twice is called twice as often.
+    pub procedures: &'static [u32],
+    /// The first of the fileids of files, and how many they are.
+    pub files: (u32, u32),
+    /// The same of directories.
+    pub dirs: (u32, u32),
+    /// How many names there are in directories: of the letters `a` to `f`, `.`, `..` and the empty name, in this order.
+    pub names: u32,
+}
+
+impl Generator {
+    /// The next number, below 2^24.
+    pub fn next(&mut self) -> u32 {
+        self.state = self
+            .state
+            .wrapping_mul(6_364_136_223_846_793_005)
+            .wrapping_add(1_442_695_040_888_963_407);
+        (self.state >> 40) as u32
+    }
+
+    /// A request with xid 1 and no credential, of one of the procedures. Of a number that is none, or of a procedure without arguments, it
+    /// has none.
+    pub fn request(&mut self, alloc: Global) -> Result<Vec<u8>, Memory> {
+        let place = self.next() as usize % self.procedures.len().max(1);
+        let procedure = *self.procedures.get(place).unwrap_or(&GETATTR);
+        let mut bytes = call(alloc, 1, procedure)?;
+        self.put_arguments(&mut bytes, procedure)?;
+        Ok(bytes)
+    }
+
+    fn put_arguments(&mut self, bytes: &mut Vec<u8>, procedure: u32) -> Result<(), Memory> {
+        match procedure {
+            GETATTR | READLINK => self.put_file(bytes),
+            STATFS => self.put_dir(bytes),
+            SETATTR => {
+                self.put_file(bytes)?;
+                put_parts(bytes, &[UNSET])
+            }
+            LOOKUP | REMOVE | RMDIR => self.put_named(bytes),
+            READ => {
+                self.put_file(bytes)?;
+                put_parts(bytes, &[&[0, 16, 0]])
+            }
+            WRITE => {
+                self.put_file(bytes)?;
+                let offset = self.next() % 8;
+                put_parts(bytes, &[&[0, offset, 0, 1, 0x61000000]])
+            }
+            CREATE | MKDIR => {
+                self.put_named(bytes)?;
+                put_parts(bytes, &[UNSET])
+            }
+            RENAME => {
+                self.put_named(bytes)?;
+                self.put_named(bytes)
+            }
+            LINK => {
+                self.put_file(bytes)?;
+                self.put_named(bytes)
+            }
+            SYMLINK => {
+                self.put_named(bytes)?;
+                put_parts(bytes, &[B, UNSET])
+            }
+            READDIR => {
+                self.put_dir(bytes)?;
+                put_parts(bytes, &[&[0, 512]])
+            }
+            _ => Ok(()),
+        }
+    }
+
+    fn put_named(&mut self, bytes: &mut Vec<u8>) -> Result<(), Memory> {
+        self.put_dir(bytes)?;
+        let name = self.name();
+        put_parts(bytes, &[name])
+    }
+
+    fn name(&mut self) -> &'static [u32] {
+        match self.next() % self.names.max(1) {
+            0 => A,
+            1 => B,
+            2 => C,
+            3 => D,
+            4 => E,
+            5 => F,
+            6 => DOT,
+            7 => DOT_DOT,
+            _ => NO_NAME,
+        }
+    }
+
+    fn put_file(&mut self, bytes: &mut Vec<u8>) -> Result<(), Memory> {
+        let files = self.files;
+        self.put_handle(bytes, files)
+    }
+
+    fn put_dir(&mut self, bytes: &mut Vec<u8>) -> Result<(), Memory> {
+        let dirs = self.dirs;
+        self.put_handle(bytes, dirs)
+    }
+
+    fn put_handle(&mut self, bytes: &mut Vec<u8>, fileids: (u32, u32)) -> Result<(), Memory> {
+        let (first, count) = fileids;
+        let fileid = first.saturating_add(self.next() % count.max(1));
+        put_parts(bytes, &[&[0x42465332, 1, fileid, 0, 0, 0, 0, 0]])
+    }
+}
