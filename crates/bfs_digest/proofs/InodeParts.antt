@@ -52,31 +52,59 @@ many_links bytes next head begun many inode rest read limited =
 
 -- Directories -----------------------------------------------------------------------------------------------------------
 
+abbrev pub listed : (parent : ℕ) → List Entry → Listing
+listed parent entries = record { parent = parent; entries = entries }
+
+pub record ListingRead (parent count : ℕ) (next : List ℕ) (listing : Listing) (rest : List ℕ) : Type 0 where
+  pub entries : List Entry
+  pub read : entries_from count first_ordinal next ≡ Some (entries, rest)
+  pub is : listed parent entries ≡ listing
+
+pub listing_read : (bytes second next : List ℕ) (parent count : ℕ) (listing : Listing) (rest : List ℕ) → word_from bytes ≡ Some (parent, second) → word_from second ≡ Some (count, next) → listing_from bytes ≡ Some (listing, rest) → ListingRead parent count next listing rest
+unfolding listing_from
+listing_read bytes second next parent count listing rest first counted e =
+    chosen (word_from bytes) _ (listing, rest) e (λ p read e1.
+    let same = some_is p (parent, second) (sym read ∙ first) in
+    chosen (word_from p.1) _ (listing, rest) e1 (λ n read2 e2.
+    let same2 = some_is n (count, next) (sym read2 ∙ ap (λ (q : ℕ × List ℕ). word_from q.1) same ∙ counted) in
+    chosen (cond (ltb most_entries n.0) None (entries_from n.0 first_ordinal n.1)) _ (listing, rest) e2 (λ entries inner e3.
+    let g = refused_not (ltb most_entries n.0) (entries_from n.0 first_ordinal n.1) entries inner in
+    let whole = some_is (listed p.0 entries.0, entries.1) (listing, rest) e3 in
+    record {
+      entries = entries.0;
+      read = ap (λ (q : ℕ × List ℕ). entries_from q.0 first_ordinal q.1) (sym same2) ∙ g.1 ∙ ap (λ r. Some (entries.0, r)) (ap (λ (q : Listing × List ℕ). q.1) whole);
+      is = ap (λ (q : ℕ × List ℕ). listed q.0 entries.0) (sym same) ∙ ap (λ (q : Listing × List ℕ). q.0) whole;
+    })))
+
+-- the listing of a directory that was read
+pub record ListingIn (bytes : List ℕ) (body : Body) (rest : List ℕ) : Type 0 where
+  pub listing : Listing
+  pub read : listing_from bytes ≡ Some (listing, rest)
+  pub is : directory listing ≡ body
+
+pub listing_in_directory : (bytes : List ℕ) (body : Body) (rest : List ℕ) → directory_from bytes ≡ Some (body, rest) → ListingIn bytes body rest
+unfolding directory_from
+listing_in_directory bytes body rest e =
+    chosen (listing_from bytes) _ (body, rest) e (λ listing inner e0.
+    let pair = some_is (directory listing.0, listing.1) (body, rest) e0 in
+    record {
+      listing = listing.0;
+      read = inner ∙ ap (λ r. Some (listing.0, r)) (ap (λ (q : Body × List ℕ). q.1) pair);
+      is = ap (λ (q : Body × List ℕ). q.0) pair;
+    })
+
 pub record DirectoryRead (parent count : ℕ) (next : List ℕ) (body : Body) (rest : List ℕ) : Type 0 where
   pub entries : List Entry
   pub read : entries_from count first_ordinal next ≡ Some (entries, rest)
-  pub is : directory (record { parent = parent; entries = entries }) ≡ body
+  pub is : directory (listed parent entries) ≡ body
 
 pub directory_read : (bytes second next : List ℕ) (parent count : ℕ) (body : Body) (rest : List ℕ) → word_from bytes ≡ Some (parent, second) → word_from second ≡ Some (count, next) → directory_from bytes ≡ Some (body, rest) → DirectoryRead parent count next body rest
-unfolding directory_from listing_from
 directory_read bytes second next parent count body rest first counted e =
-    chosen (listing_from bytes) _ (body, rest) e (λ listing inner e0.
-    chosen (word_from bytes) _ listing inner (λ p read e1.
-    let same = some_is p (parent, second) (sym read ∙ first) in
-    chosen (word_from p.1) _ listing e1 (λ n read2 e2.
-    let same2 = some_is n (count, next) (sym read2 ∙ ap (λ (q : ℕ × List ℕ). word_from q.1) same ∙ counted) in
-    chosen (cond (ltb most_entries n.0) None (entries_from n.0 first_ordinal n.1)) _ listing e2 (λ entries inner2 e3.
-    let g = refused_not (ltb most_entries n.0) (entries_from n.0 first_ordinal n.1) entries inner2 in
-    let whole = some_is (record { parent = p.0; entries = entries.0 }, entries.1) listing e3 in
-    let pair = some_is (directory listing.0, listing.1) (body, rest) e0 in
-    let end : entries.1 ≡ rest = ap (λ (q : Listing × List ℕ). q.1) whole ∙ ap (λ (q : Body × List ℕ). q.1) pair in
-    record {
-      entries = entries.0;
-      read = ap (λ (q : ℕ × List ℕ). entries_from q.0 first_ordinal q.1) (sym same2) ∙ g.1 ∙ ap (λ r. Some (entries.0, r)) end;
-      is = ap (λ (q : ℕ × List ℕ). directory (record { parent = q.0; entries = entries.0 })) (sym same) ∙ ap (λ (q : Listing × List ℕ). directory q.0) whole ∙ ap (λ (q : Body × List ℕ). q.0) pair;
-    }))))
+    let d = listing_in_directory bytes body rest e in
+    let h = listing_read bytes second next parent count d.listing rest first counted d.read in
+    record { entries = h.entries; read = h.read; is = ap directory h.is ∙ d.is }
 
-differ_of : (entries : List Entry) → HasNames entries → NamesDiffer entries
+pub differ_of : (entries : List Entry) → HasNames entries → NamesDiffer entries
 differ_of [] h = tt
 differ_of (entry ∷ entries) h = (h.2, differ_of entries h.3)
 

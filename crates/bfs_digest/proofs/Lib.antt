@@ -10,5 +10,15 @@ pub mod Rising
 pub mod Skipping
 pub mod Building
 pub mod InodeParts
-pub mod NumberLemmas
 pub mod Restoring
+pub mod Walking
+pub mod Outlining
+pub mod Counting
+pub mod Indexed
+pub mod Reached
+pub mod Outlined
+pub mod Taken
+pub mod Distinct
+pub mod Placing
+pub mod Forming
+pub mod Formed

@@ -1,13 +1,12 @@
 -- What bytes spell, told by what was read of them.
-use Rattle.std.proofs.Common.{◌≡◌, ℕ, ◌≤◌, eqb, List, [], ◌++◌, Option, Some, None, refl, sym, ap, subst, ◌∙◌, append_assoc, arith, eqb-true}
+use Rattle.std.proofs.Common.{◌≡◌, ℕ, eqb, List, [], ◌++◌, Option, Some, None, refl, sym, ap, subst, ◌∙◌, append_assoc, arith, eqb-true}
 use Rattle.std.specs.List.{AllByRecursion}
-use Rattle.std.specs.FinMap.{entries, from_entries}
+use Rattle.std.specs.FinMap.{from_entries}
 use Rattle.bfs_model.specs.Items.{word}
 use Rattle.bfs_model.specs.Stored.{IsWord, AreBytes, IsLive}
-use Rattle.bfs_model.specs.Tree.{Inode, Inodes, FileSystem, root_id, first_ordinal, spent_ordinal}
-use Rattle.bfs_model.specs.WellFormed.{IsLimited, IsNumbered, IsWellFormed, IsWellFormedTree}
+use Rattle.bfs_model.specs.Tree.{Inode, FileSystem, root_id}
+use Rattle.bfs_model.specs.WellFormed.{IsLimited, IsWellFormed}
 use Rattle.bfs_tree.specs.Slots.{Slots}
-use Rattle.bfs_tree.specs.Tree.{at_home}
 use Rattle.bfs_serial.specs.Held.{held}
 use Rattle.bfs_tree.proofs.WellFormed.Lists.{each_of_all, all_of_each}
 use Rattle.bfs_digest.specs.Text.{Header, magic, version, IsSpellable, Spells}
@@ -109,20 +108,11 @@ records_spell header records are =
 same_inodes : (header : Header) (records : List ℕ) (are : AreRecords header records) (inodes : List (ℕ × Inode)) (rest : List ℕ) → records_from header.count root_id records ≡ Some (inodes, rest) → are.inodes ≡ inodes
 same_inodes header records are inodes rest read = ap (λ p. p.0) (some_is (are.inodes, []) (inodes, rest) (sym are.read ∙ read))
 
--- a tree that is numbered and well formed
-pub built_is_live : (header : Header) (records : List ℕ) (are : AreRecords header records) (files : FileSystem) → files ≡ files_with header are.inodes
-    → AllByRecursion (λ inode. IsNumbered files.next_ordinal inode.0 inode.1) (entries files.tree) → IsWellFormedTree files.tree → IsLive files
-built_is_live header records are files is numbered formed =
-    spelled_is_live files (subst IsSpellable (sym is) (records_spell header records are)) (record {
-      tree = formed;
-      numbered = each_of_all (λ inode. IsNumbered files.next_ordinal inode.0 inode.1) files.tree numbered;
-      ordinal = subst (λ n. (first_ordinal ≤ n) × (n ≤ spent_ordinal)) (sym (ap (λ f. f.next_ordinal) is)) are.ordinal;
-    })
+-- and where that is well formed it is live
+pub formed_is_live : (header : Header) (records : List ℕ) (are : AreRecords header records) → IsWellFormed (files_with header are.inodes) → IsLive (files_with header are.inodes)
+formed_is_live header records are formed = spelled_is_live (files_with header are.inodes) (records_spell header records are) formed
 
--- what is well formed is numbered, and within the limits
-pub all_numbered : (files : FileSystem) → IsWellFormed files → AllByRecursion (λ inode. IsNumbered files.next_ordinal inode.0 inode.1) (entries files.tree)
-all_numbered files formed = all_of_each (λ inode. IsNumbered files.next_ordinal inode.0 inode.1) files.tree formed.numbered
-
+-- what is well formed is within the limits
 pub all_limited : (header : Header) (records : List ℕ) (are : AreRecords header records) → IsWellFormed (files_with header are.inodes) → AllByRecursion (λ inode. IsLimited inode.1) are.inodes
 all_limited header records are formed =
     let h = records_written header.count root_id records are.inodes [] are.bytes are.read in
@@ -137,22 +127,14 @@ ill_limited header records are refused inodes rest read formed =
     let limited = all_limited header records are (subst (λ (x : List (ℕ × Inode)). IsWellFormed (files_with header x)) (sym same) formed) in
     refused inodes rest read (subst (AllByRecursion (λ (inode : ℕ × Inode). IsLimited inode.1)) same limited)
 
-pub ill_tree : (header : Header) (records : List ℕ) (tree : Slots) (P : Inodes → Type 0) → BuildsTree (Some tree) (records_from header.count root_id records) → ((files : FileSystem) → files.next_ordinal ≡ header.next_ordinal → IsWellFormed files → P files.tree) → (P (at_home tree) → ⊥)
-    → BuildsFiles None header records
-ill_tree header records tree P built holds fails inodes rest read formed =
-    fails (subst P (sym (built inodes rest read).0) (holds (files_with header inodes) refl formed))
-
-pub numbered_in : (header : Header) (files : FileSystem) → files.next_ordinal ≡ header.next_ordinal → IsWellFormed files → AllByRecursion (λ inode. IsNumbered header.next_ordinal inode.0 inode.1) (entries files.tree)
-numbered_in header files same formed = subst (λ (n : ℕ). AllByRecursion (λ inode. IsNumbered n inode.0 inode.1) (entries files.tree)) same (all_numbered files formed)
-
 -- the file system of the tree, the ordinal and the time
 pub built_files : (header : Header) (records : List ℕ) (tree : Slots) (inodes : List (ℕ × Inode)) (rest : List ℕ) → BuildsTree (Some tree) (records_from header.count root_id records) → records_from header.count root_id records ≡ Some (inodes, rest)
     → held tree header.next_ordinal header.last_time ≡ files_with header inodes
 built_files header records tree inodes rest built read = ap (λ m. record { tree = m; next_ordinal = header.next_ordinal; last_time = header.last_time }) (built inodes rest read).0
 
-pub held_is_live : (header : Header) (records : List ℕ) (are : AreRecords header records) (tree : Slots) → BuildsTree (Some tree) (records_from header.count root_id records)
-    → AllByRecursion (λ inode. IsNumbered header.next_ordinal inode.0 inode.1) (entries (at_home tree)) → IsWellFormedTree (at_home tree) → IsLive (held tree header.next_ordinal header.last_time)
-held_is_live header records are tree built numbered formed = built_is_live header records are (held tree header.next_ordinal header.last_time) (built_files header records tree are.inodes [] built are.read) numbered formed
+pub held_is_live : (header : Header) (records : List ℕ) (are : AreRecords header records) (tree : Slots) → BuildsTree (Some tree) (records_from header.count root_id records) → IsWellFormed (files_with header are.inodes)
+    → IsLive (held tree header.next_ordinal header.last_time)
+held_is_live header records are tree built formed = subst IsLive (sym (built_files header records tree are.inodes [] built are.read)) (formed_is_live header records are formed)
 
 -- What is told of the bytes ---------------------------------------------------------------------------------------------
 

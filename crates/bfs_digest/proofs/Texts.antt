@@ -32,7 +32,7 @@ split : (a b : Bool) → T (a && b) → T a × T b
 split true b h = (tt, h)
 split false b h = absurd h
 
-both : (a b : Bool) → T a → T b → T (a && b)
+pub both : (a b : Bool) → T a → T b → T (a && b)
 both true b p q = q
 both false b p q = p
 
@@ -44,7 +44,7 @@ less Greater h = absurd h
 lt_of : (x y : ℕ) → T (is_lt (nat_cmp x y)) → x < y
 lt_of x y h = ranked x y Less (sym (less (nat_cmp x y) h))
 
-of_lt : (x y : ℕ) → x < y → T (is_lt (nat_cmp x y))
+pub of_lt : (x y : ℕ) → x < y → T (is_lt (nat_cmp x y))
 of_lt x y lt = subst (λ r. T (is_lt r)) (nat_cmp_is x y Less lt) tt
 
 below : (k least : ℕ) (inodes : List (ℕ × Inode)) → k < least → AreRising least inodes → T (below_all nat_cmp k inodes)

@@ -5,3 +5,6 @@ pub mod Digests
 pub mod Hashed
 pub mod Taking
 pub mod Outcomes
+pub mod Names
+pub mod Outlines
+pub mod Formation

@@ -3,17 +3,21 @@
 
 mod digests;
 mod errors;
+mod formation;
 mod hashes;
 mod headers;
 mod inodes;
 mod laws;
 mod lengths;
-mod numbering;
+mod names;
+mod outlines;
+mod reach;
 mod readers;
 mod refreshing;
 mod restoration;
 mod snapshots;
 mod spelling;
+mod taking;
 mod words;
 mod writers;
 

@@ -4,9 +4,9 @@ ghost use Rattle.bfs_digest.specs.Outcomes.{HasOtherVersion, IsMalformed, IsRest
 ghost use Rattle.bfs_digest.specs.Taking.{AreRecords, BuildsFiles, IsText};
 
 use crate::errors::RestoreError;
+use crate::formation::is_well_formed;
 use crate::headers::{Header, VERSION};
 use crate::inodes::tree_of;
-use crate::numbering::are_numbered;
 use crate::readers::TextReader;
 use crate::spelling::spelled;
 use bfs_serial::FileSystem;
@@ -15,8 +15,8 @@ use std::alloc::Global;
 
 /// The live file system of which the bytes are the text. `Malformed` if they don't begin with `BFSS`, `WrongVersion` if another version
 /// than 1 follows, `Malformed` if the rest spells no file system, `NotWellFormed` if it spells one that is not well formed, and `Memory`
-/// if memory runs out. Nothing is built of bytes that spell no file system, and of others no more than they spell; a text of n bytes
-/// takes at most n log n steps.
+/// if memory runs out. Nothing is built but a well-formed file system: what else is spelled is refused after a look at the bytes, which
+/// notes little of them. A text of n bytes takes at most n log n steps.
 pub fn restore(alloc: Global, bytes: &[u8]) -> Result<FileSystem, RestoreError>
     ensures ok { IfOk result (λ files. IsRestored bytes.now files) }
     ensures malformed { IsErrOf result RestoreError.Malformed ↔ IsMalformed bytes.now }
@@ -58,14 +58,11 @@ fn files_of(alloc: Global, header: &Header, records: &[u8]) -> Result<Option<Fil
     requires { AreRecords header.now records.now }
     ensures { IfOk result (λ files. BuildsFiles files header.now records.now) }
 {
+    if !is_well_formed(alloc, header, records)? {
+        return Ok(None);
+    }
     match tree_of(alloc, records, header.count)? {
         Some(tree) => {
-            if !are_numbered(&tree, header.next_ordinal) {
-                return Ok(None);
-            }
-            if !tree.is_well_formed(alloc)? {
-                return Ok(None);
-            }
             let ordinal = ordinal_of(header.next_ordinal);
             Ok(Some(FileSystem::from_parts(tree, ordinal, header.last_time)))
         }

@@ -1,16 +1,20 @@
-// Whether a text spells inodes, without memory: nothing is built of it.
+// Whether a text spells inodes, without memory: nothing is built of it. And the marks of those that it spells.
 ghost use Rattle.std.specs.Prelude.{◌≡◌, None, IfOk, OnErr};
 ghost use Rattle.std.specs.Option.{option_map};
-ghost use Rattle.bfs_model.specs.Tree.{first_ordinal, root_id};
+ghost use Rattle.bfs_model.specs.Tree.{first_ordinal, parent_in, root_id};
 ghost use Rattle.bfs_inode.specs.Records.{body_from, entries_from, listing_from, record_from};
+ghost use Rattle.bfs_digest.specs.Formation.{AreMarks};
+ghost use Rattle.bfs_digest.specs.Outlines.{mark_of};
 ghost use Rattle.bfs_digest.specs.TextReading.{files_from, records_from};
 ghost use Rattle.bfs_digest.specs.Taking.{AreSpelled, Reads, Skips};
 
 use crate::errors::Malformed;
 use crate::headers::Header;
+use crate::outlines::Mark;
 use crate::readers::{MOST_RECORDED_BYTES, TextReader};
 use bfs_inode::FileId;
-use bfs_types::{MOST_ENTRIES, MOST_PATH_BYTES};
+use bfs_types::{MOST_ENTRIES, MOST_PATH_BYTES, Memory};
+use std::alloc::Global;
 
 /// The header of a text of which the version was read, and the bytes of its records, which end where the text does.
 #[tactic(auto, unfolding(crate::specs::TextReading::files_from))]
@@ -33,10 +37,10 @@ fn skip_records(reader: &mut TextReader, count: u32) -> Result<(), Malformed>
 {
     let mut least = FileId::root().number() as u64;
     for _record in 0..count {
-        let Ok(id) = skip_record(reader) else {
+        let Ok(mark) = skip_record(reader) else {
             return Err(Malformed);
         };
-        let id = id as u64;
+        let id = mark.fileid.number() as u64;
         if id < least {
             return Err(Malformed);
         }
@@ -45,43 +49,71 @@ fn skip_records(reader: &mut TextReader, count: u32) -> Result<(), Malformed>
     Ok(())
 }
 
-// gives the number of its fileid
-#[tactic(auto, unfolding(bfs_inode::specs::Records::record_from))]
-fn skip_record(reader: &mut TextReader) -> Result<u32, Malformed>
-    ensures { Reads (λ x. x) result (option_map (λ read. (read.0.0, read.1)) (record_from reader.old)) reader.new }
+/// The marks of so many records, or `None` if the text spells no such ones. `Memory` if memory runs out.
+pub(crate) fn marks_of(
+    alloc: Global,
+    records: &[u8],
+    count: u32,
+) -> Result<Option<Vec<Mark>>, Memory>
+    ensures { IfOk result (λ marks. AreMarks marks (records_from count root_id records.now)) }
 {
-    let head = reader.head()?;
-    skip_body(reader, head.kind)?;
-    Ok(head.fileid.number())
+    let mut reader = TextReader::new(records);
+    let mut marks = Vec::with_capacity(alloc, count as usize)?;
+    for _record in 0..count {
+        let Ok(mark) = skip_record(&mut reader) else {
+            return Ok(None);
+        };
+        let fileid = mark.fileid;
+        marks.push(Mark { fileid, ..mark })?;
+    }
+    Ok(Some(marks))
 }
 
+// the mark of an inode
+#[tactic(auto, unfolding(bfs_inode::specs::Records::record_from))]
+fn skip_record(reader: &mut TextReader) -> Result<Mark, Malformed>
+    ensures { Reads (λ x. x) result (option_map (λ read. (mark_of read.0, read.1)) (record_from reader.old)) reader.new }
+{
+    let head = reader.head()?;
+    let parent = skip_body(reader, head.kind)?;
+    Ok(Mark {
+        fileid: head.fileid,
+        links: head.metadata.links,
+        parent,
+    })
+}
+
+/// The directory above, where the inode is one.
 #[tactic(auto, unfolding(bfs_inode::specs::Records::body_from, bfs_inode::specs::Records::file_from, bfs_inode::specs::Records::directory_from, bfs_inode::specs::Records::link_from))]
-fn skip_body(reader: &mut TextReader, kind: u32) -> Result<(), Malformed>
-    ensures { Skips result (body_from kind reader.old) reader.new }
+pub(crate) fn skip_body(reader: &mut TextReader, kind: u32) -> Result<Option<FileId>, Malformed>
+    ensures { Reads (λ x. x) result (option_map (λ read. (parent_in read.0, read.1)) (body_from kind reader.old)) reader.new }
 {
     match kind {
         1 => {
             reader.bytes(MOST_RECORDED_BYTES)?;
+            Ok(None)
         }
-        2 => skip_listing(reader)?,
+        2 => Ok(Some(skip_listing(reader)?)),
         5 => {
             reader.bytes(MOST_PATH_BYTES as u32)?;
+            Ok(None)
         }
-        _ => return Err(Malformed),
+        _ => Err(Malformed),
     }
-    Ok(())
 }
 
+// gives the directory above
 #[tactic(auto, unfolding(bfs_inode::specs::Records::listing_from))]
-fn skip_listing(reader: &mut TextReader) -> Result<(), Malformed>
-    ensures { Skips result (listing_from reader.old) reader.new }
+fn skip_listing(reader: &mut TextReader) -> Result<FileId, Malformed>
+    ensures { Reads (λ x. x) result (option_map (λ read. (read.0.parent, read.1)) (listing_from reader.old)) reader.new }
 {
-    reader.word()?;
+    let parent = FileId::new(reader.word()?);
     let count = reader.word()?;
     if count > MOST_ENTRIES as u32 {
         return Err(Malformed);
     }
-    skip_entries(reader, count)
+    skip_entries(reader, count)?;
+    Ok(parent)
 }
 
 // so many entries, by rising cookie

@@ -4,6 +4,8 @@
 #[cfg(test)]
 mod executed;
 #[cfg(test)]
+mod formed;
+#[cfg(test)]
 mod hostile;
 #[cfg(test)]
 mod kept;

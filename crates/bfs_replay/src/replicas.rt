@@ -15,8 +15,8 @@ use std::thread::Threads;
 /// What a replica does with a batch: its requests are executed on threads, and then the inodes of the file system are hashed on threads.
 /// Replies, file system and digest are those of executing the requests one after another, whatever the number of workers, the engine,
 /// the gate and the order in which the workers end: so replicas that begin with equal file systems agree. `Failed` exactly where the
-/// file system had failed before; `Memory` if memory runs out, while requests are executed, after which the file system has failed, or
-/// while it is hashed.
+/// file system had failed before; `Memory` if memory runs out, while requests are executed or while the file system is hashed. The file
+/// system has failed then, since the replies are lost.
 pub fn execute_and_digest<R: Threads + Wait + Sync, G: Gate + Sync>(
     rt: &R,
     alloc: Global,
@@ -29,8 +29,14 @@ pub fn execute_and_digest<R: Threads + Wait + Sync, G: Gate + Sync>(
     ensures executed { IfOk result (λ answered. Executed files.old batch.now files.new answered.0) }
     ensures digest { IfOk result (λ answered. option_map (λ live. digest_of (execute live batch.now).0) files.old ≡ Some answered.1) }
     ensures failed { IsErrOf result ExecError.Failed ↔ (files.old ≡ None) }
+    ensures fails { IsErrOf result ExecError.Memory → files.new ≡ None }
 {
     let replies = execute_parallel(rt, alloc, files, batch, workers, engine, gate)?;
-    let digest = digest_parallel(rt, alloc, files)?;
-    Ok((replies, digest))
+    match digest_parallel(rt, alloc, files) {
+        Ok(digest) => Ok((replies, digest)),
+        Err(error) => {
+            files.take_parts();
+            Err(error)
+        }
+    }
 }

@@ -2,6 +2,3 @@
 pub mod Lists
 pub mod Loops
 pub mod Deciding
-pub mod Counting
-pub mod Indexed
-pub mod Reached

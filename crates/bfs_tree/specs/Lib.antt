@@ -5,5 +5,4 @@ pub mod Slots
 pub mod Tree
 pub mod Counting
 pub mod Knowing
-pub mod Names
 pub mod WellFormed

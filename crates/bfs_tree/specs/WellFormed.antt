@@ -1,14 +1,14 @@
 -- What is looked at in each inode to tell whether a tree is well formed. It is proved that this tells `IsWellFormedTree`, so
 -- nothing here has to be believed.
-use Rattle.std.specs.Prelude.{◌≡◌, ℕ, ◌+◌, ◌==◌, ◌&&◌, ◌||◌, Bool, true, false, not, IsTrue, List, length, nat_le}
+use Rattle.std.specs.Prelude.{ℕ, ◌+◌, ◌==◌, ◌&&◌, ◌||◌, Bool, true, false, not, IsTrue, List, length, nat_le}
 use Rattle.std.specs.List.{list_all}
 use Rattle.std.specs.Option.{option_map_or}
 use Rattle.std.specs.FinMap.{get}
 use Rattle.bfs_model.specs.Limits.{most_name_bytes}
 use Rattle.bfs_model.specs.Directories.{is_bad_name}
-use Rattle.bfs_model.specs.Tree.{Listing, Body, file, directory, link, Inode, Inodes, root_id, entries_at, is_directory_body, parent_of}
+use Rattle.bfs_model.specs.Tree.{Listing, Body, file, directory, link, Inode, Inodes, root_id, entries_at}
 use Rattle.bfs_model.specs.Procedures.Renaming.{is_below}
-use Rattle.bfs_model.specs.WellFormed.{times, named, directories_among, IsLimited, ReachesRoot}
+use Rattle.bfs_model.specs.WellFormed.{times, named, directories_among, IsLimited}
 
 -- a name that an entry may have
 abbrev pub is_good_name : List ℕ → Bool
@@ -42,30 +42,3 @@ is_in_place inodes id links (link path) = links == named inodes id
 -- an inode is within the limits, and in its place
 abbrev pub IsInOrder : Inodes → ℕ × Inode → Type 0
 IsInOrder inodes inode = IsLimited inode.1 × IsTrue (is_in_place inodes inode.0 inode.1.links inode.1.body)
-
--- With an index -------------------------------------------------------------------------------------------------------
-
--- a directory names such inodes alone, has the links that come of them, and is the root or named once
-abbrev pub is_directory_counted : Inodes → (id links : ℕ) → Listing → Bool
-is_directory_counted inodes id links listing =
-    list_all (λ entry. is_child inodes id entry.child) listing.entries
-    && links == 2 + directories_among inodes listing.entries
-    && (id == root_id || named inodes id == 1)
-
-abbrev pub is_counted : Inodes → (id links : ℕ) → Body → Bool
-is_counted inodes id links (file bytes) = links == named inodes id
-is_counted inodes id links (directory listing) = is_directory_counted inodes id links listing
-is_counted inodes id links (link path) = links == named inodes id
-
--- an inode is within the limits, and is named as often as it should be
-abbrev pub IsCounted : Inodes → ℕ × Inode → Type 0
-IsCounted inodes inode = IsLimited inode.1 × IsTrue (is_counted inodes inode.0 inode.1.links inode.1.body)
-
--- going up from a directory leads to the root
-abbrev pub LeadsToRoot : Inodes → ℕ × Inode → Type 0
-LeadsToRoot inodes inode = IsTrue (is_directory_body inode.1.body) → ReachesRoot (parent_of inodes) inode.0
-
--- going up from each of them leads to the root, which is one of them
-pub record AreReached (inodes : Inodes) (has : ℕ → Bool) : Type 0 where
-  pub root : has root_id ≡ true
-  pub way : (id : ℕ) → has id ≡ true → ReachesRoot (parent_of inodes) id

@@ -7,10 +7,7 @@ ghost use Rattle.bfs_model.specs.WellFormed as model;
 ghost use Rattle.bfs_tree.specs.Tree.{at_home, reach_of};
 ghost use Rattle.bfs_tree.specs.WellFormed as place;
 
-mod indexed;
 mod limits;
-mod names;
-mod reach;
 
 use crate::ancestry::is_below;
 use crate::store::Store;

@@ -1,0 +1,6 @@
+-- An empty `BTreeMap` is the empty map.
+use Rattle.bfs_tree.proofs.MapLemmas.{map_of-empty}
+use Rattle.bfs_digest.proofs.names.Names.new.Goals as goal
+
+pub returns : goal.returns
+returns c = map_of-empty c.new.result c.new.ensures.empty

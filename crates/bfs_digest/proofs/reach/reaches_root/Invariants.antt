@@ -1,0 +1,15 @@
+use Rattle.std.proofs.Common.{◌≡◌, ◌-◌}
+use Rattle.std.specs.Prelude.{◌↔◌}
+use Rattle.std.specs.FinMap.{len}
+use Rattle.bfs_model.specs.Tree.{parent_of, root_id}
+use Rattle.bfs_model.specs.Procedures.Renaming.{is_within}
+use Rattle.bfs_model.specs.WellFormed.{ReachesRoot}
+use Rattle.bfs_digest.specs.Outlines.{outline}
+use Rattle.bfs_digest.proofs.reach.reaches_root.Given as goal
+
+abbrev pub invariant-loop-step : goal.invariant-loop-step
+invariant-loop-step l = record {
+  end : l._step-end ≡ len (outline l.marks);
+  way : ReachesRoot (parent_of (outline l.marks)) l.at ↔ ReachesRoot (parent_of (outline l.marks)) l.fn.id;
+  left : is_within (outline l.marks) (l._step-end - l._step) l.at root_id ≡ is_within (outline l.marks) (len (outline l.marks)) l.fn.id root_id;
+}

@@ -1,0 +1,14 @@
+use Rattle.std.proofs.Common.{◌-◌}
+use Rattle.bfs_model.specs.Tree.{root_id}
+use Rattle.bfs_digest.specs.Names.{AreWithin}
+use Rattle.bfs_digest.specs.Outlines.{outline}
+use Rattle.bfs_digest.specs.TextReading.{records_from}
+use Rattle.bfs_digest.proofs.Taken.{RecordsTaken}
+use Rattle.bfs_digest.proofs.Walking.{Walks}
+use Rattle.bfs_digest.proofs.taking.take_records.Given as goal
+
+abbrev pub invariant-loop-record : goal.invariant-loop-record
+invariant-loop-record l = record {
+  within : AreWithin l.names;
+  taken : Walks records_from (records_from l.count root_id l.records) (l.count - l._record) l.reader (RecordsTaken (outline l.marks) l.ordinal l.names);
+}

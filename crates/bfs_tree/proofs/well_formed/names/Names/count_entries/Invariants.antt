@@ -1,5 +1,0 @@
-use Rattle.bfs_tree.proofs.WellFormed.Counting.{EntriesCounted}
-use Rattle.bfs_tree.proofs.well_formed.names.Names.count_entries.Given as goal
-
-abbrev pub invariant-loop-entry : goal.invariant-loop-entry
-invariant-loop-entry l = EntriesCounted l.fn.self l.self l.entry-iterator l.directory.entries
