@@ -1,6 +1,6 @@
 //! File systems that are restored, and then executed on.
 use crate::texts::{NEARLY_SPENT, NEW, SOME, bytes_of, is_told};
-use bfs_digest::{digest_serial, restore, snapshot};
+use bfs_digest::{digest_serial, refresh, restore, snapshot};
 use bfs_replay::{Engine, execute_and_digest};
 use bfs_serial::{Batch, FileSystem, Replies, execute_serial};
 use bfs_testing::numbers::{CREATE, GETATTR};
@@ -25,7 +25,7 @@ fn root_attributes(alloc: Global, xid: u32) -> Result<Vec<u8>, Memory> {
 }
 
 // two files made in the root, and its attributes
-pub(crate) fn batch_at(alloc: Global, second: u32) -> Result<Batch, Fail> {
+fn batch_at(alloc: Global, second: u32) -> Result<Batch, Fail> {
     let mut batch = Batch::new(alloc);
     batch.set_time(Time::new(second, 0).ok_or("a time")?);
     batch.push(create(alloc, 1, A)?.as_slice())?;
@@ -73,11 +73,10 @@ fn goes_on_where_ordinals_end(rt: HostRuntime) -> Result<(), Fail> {
 }
 
 // a new file system after the batch, by another implementation
-pub(crate) const AFTER: &str =
+const AFTER: &str =
     "424653530000000100000000000000060000000100000000000000030000000200000002000001ed000000020000000000000000000000000000000000000001000000000000000100000000000000020000000200000003000000016100000000000003000000040000000162000000000000040000000300000001000001a4000000010000fffe0000fffe000000010000000000000001000000000000000100000000000000000000000400000001000001a4000000010000fffe0000fffe00000001000000000000000100000000000000010000000000000000";
 
-pub(crate) const AFTER_DIGEST: &str =
-    "ba15f7dd577518bcc2df9009eafeb2098b75a81051ea755dab79c5b1c7094e16";
+const AFTER_DIGEST: &str = "ba15f7dd577518bcc2df9009eafeb2098b75a81051ea755dab79c5b1c7094e16";
 
 #[test]
 fn executes_the_same_where_it_was_restored(rt: HostRuntime) -> Result<(), Fail> {
@@ -111,4 +110,15 @@ fn digests_what_its_workers_leave(rt: HostRuntime) -> Result<(), Fail> {
         }
     }
     Ok(())
+}
+
+#[test]
+fn tells_what_another_implementation_does_from_what_is_kept(rt: HostRuntime) -> Result<(), Fail> {
+    let alloc = rt.alloc();
+    let mut files = restore(alloc, bytes_of(alloc, NEW)?.as_slice())?;
+    refresh(&rt, alloc, &mut files)?;
+    execute_serial(alloc, &mut files, &batch_at(alloc, 1)?)?;
+    is_told(&rt, alloc, &files, AFTER, AFTER_DIGEST)?;
+    refresh(&rt, alloc, &mut files)?;
+    is_told(&rt, alloc, &files, AFTER, AFTER_DIGEST)
 }

@@ -8,6 +8,4 @@ mod formed;
 #[cfg(test)]
 mod hostile;
 #[cfg(test)]
-mod kept;
-#[cfg(test)]
 mod texts;

@@ -1,6 +1,4 @@
 //! Digests that inodes keep: which there are, that a change of an inode drops its own alone, and what the digest of the file system is then.
-use crate::executed::{AFTER, AFTER_DIGEST, batch_at};
-use crate::texts::{NEW, bytes_of, is_told};
 use bfs_digest::{digest_parallel, digest_serial, refresh, restore, snapshot};
 use bfs_replay::{Engine, execute_and_digest};
 use bfs_serial::{Batch, ExecError, FileSystem, execute_serial};
@@ -167,17 +165,6 @@ fn drops_the_digest_of_what_changes(rt: HostRuntime) -> Result<(), Fail> {
         drops(&rt, alloc, step, *changed)?;
     }
     Ok(())
-}
-
-#[test]
-fn tells_what_another_implementation_does(rt: HostRuntime) -> Result<(), Fail> {
-    let alloc = rt.alloc();
-    let mut files = restore(alloc, bytes_of(alloc, NEW)?.as_slice())?;
-    refresh(&rt, alloc, &mut files)?;
-    execute_serial(alloc, &mut files, &batch_at(alloc, 1)?)?;
-    is_told(&rt, alloc, &files, AFTER, AFTER_DIGEST)?;
-    refresh(&rt, alloc, &mut files)?;
-    is_told(&rt, alloc, &files, AFTER, AFTER_DIGEST)
 }
 
 // 5 is changed, and 6 read

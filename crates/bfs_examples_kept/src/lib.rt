@@ -1,0 +1,5 @@
+//! Digests that inodes keep, as tests.
+#![tactic(auto)]
+
+#[cfg(test)]
+mod kept;
