@@ -4,8 +4,6 @@
 #[cfg(test)]
 mod executed;
 #[cfg(test)]
-mod formed;
-#[cfg(test)]
 mod hostile;
 #[cfg(test)]
 mod texts;

@@ -1,9 +1,17 @@
 //! Texts of file systems that are not well formed, one for each way not to be.
-use crate::texts::refusal;
+use bfs_digest::restore;
 use bfs_testing::same;
 use std::alloc::Global;
 use std::process::Abort;
 use std::test::Fail;
+
+// the number by which the text is refused, or 0 where it is restored
+fn refusal(alloc: Global, text: &[u8]) -> u32 {
+    match restore(alloc, text) {
+        Ok(_) => 0,
+        Err(error) => error.code(),
+    }
+}
 
 // a text of that next ordinal, and of so many inodes, which are to follow by rising fileid
 fn begin(alloc: Global, next_ordinal: u32, inodes: u32) -> Result<Vec<u8>, Fail> {
@@ -20,6 +28,10 @@ fn put_words(text: &mut Vec<u8>, words: &[u32]) -> Result<(), Fail> {
     Ok(())
 }
 
+fn number_of(count: usize) -> Result<u32, Fail> {
+    Ok(u32::try_from(count).ok().ok_or("a number")?)
+}
+
 fn put_head(text: &mut Vec<u8>, fileid: u32, kind: u32, links: u32) -> Result<(), Fail> {
     put_words(text, &[fileid, kind, 0o755, links, 0, 0, 0, 0, 0, 0, 0, 0])
 }
@@ -31,7 +43,7 @@ fn put_file(text: &mut Vec<u8>, fileid: u32, links: u32) -> Result<(), Fail> {
 }
 
 fn put_entry(text: &mut Vec<u8>, cookie: u32, name: &[u8], child: u32) -> Result<(), Fail> {
-    put_words(text, &[cookie, name.len() as u32])?;
+    put_words(text, &[cookie, number_of(name.len())?])?;
     text.extend_from_slice(name)?;
     for _ in 0..(4 - name.len() % 4) % 4 {
         text.push(0)?;
@@ -48,7 +60,7 @@ fn put_directory(
     entries: &[(u32, &str, u32)],
 ) -> Result<(), Fail> {
     put_head(text, fileid, 2, links)?;
-    put_words(text, &[parent, entries.len() as u32])?;
+    put_words(text, &[parent, number_of(entries.len())?])?;
     for (cookie, name, child) in entries {
         put_entry(text, *cookie, name.as_bytes(), *child)?;
     }
