@@ -215,7 +215,7 @@ fn many(alloc: Global, names: u32, last: u32) -> Result<u32, Fail> {
     for place in 0..names {
         let number = if place + 1 == names { last } else { place };
         let name = [b'a' + (number / 26 % 26) as u8, b'a' + (number % 26) as u8];
-        put_entry(&mut text, 4 + place, name.as_slice(), 3)?;
+        put_entry(&mut text, place.saturating_add(4), name.as_slice(), 3)?;
     }
     put_file(&mut text, 3, names)?;
     Ok(refusal(alloc, text.as_slice()))
