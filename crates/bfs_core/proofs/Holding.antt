@@ -52,14 +52,6 @@ touches_known reads writes place None k b old = λ i. cond (none_named writes pl
 touches_known reads writes place (Some id) k b old =
     (λ i. cond (named writes place id k i) b (cond (named reads place id k i) b old)) ∙ either (among writes id) (among reads id) (place == k) b old
 
-pub touches_whole : (place : ℕ) (claim : Option ℕ) (k : ℕ) → is_claim None place claim k ≡ (touches_claim claim whole && (place == k))
-touches_whole place None k = refl
-touches_whole place (Some id) k = refl
-
-pub writes_whole : (place : ℕ) (claim : Option ℕ) (k : ℕ) → is_claim None place claim k ≡ (writes_claim claim whole && (place == k))
-writes_whole place None k = refl
-writes_whole place (Some id) k = refl
-
 -- a call of known fileids has its claims when they are put, or taken away, one after another
 pub known_set : (b : Bool) (reads writes : List ℕ) (place : ℕ) (old : Claims) (first second touchers writers : BTreeSet (Option ℕ × ℕ))
     → Sets b (is_claim None place) old.touchers first → Sets b (is_among_claims reads place) first second

@@ -122,13 +122,6 @@ record_taken o ordinal bytes next left head old new false begun fileid links tak
     let here : IsPlaced o ordinal (head.fileid, with_body head h.body) = subst (IsPlaced o ordinal) (sym h.is) placed in
     taken h.body rest h.read here.body
 
-pub record_not_taken : (o : Inodes) (ordinal : ℕ) (bytes next : List ℕ) (head : Head) → head_from bytes ≡ Some (head, next) → ((root_id ≤ head.fileid) × (head.fileid < ordinal) → head.links ≤ most_links → ⊥)
-    → (inode : ℕ × Inode) (rest : List ℕ) → record_from bytes ≡ Some (inode, rest) → IsPlaced o ordinal inode → ⊥
-record_not_taken o ordinal bytes next head begun fails inode rest read placed =
-    let h = inode_read bytes next head inode rest begun read in
-    let here : IsPlaced o ordinal (head.fileid, with_body head h.body) = subst (IsPlaced o ordinal) (sym h.is) placed in
-    fails here.fileid here.links
-
 -- What follows of a result -------------------------------------------------------------------------------------------------
 
 pub follow : {A E : Type 0} {P Q : A → Type 0} (r : Result A E) → ((x : A) → P x → Q x) → IfOk r P → IfOk r Q

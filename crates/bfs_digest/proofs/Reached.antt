@@ -46,17 +46,6 @@ walked m has first id steps false none reached is so_far left = (
   λ way. absurd (apart_from_root m has id reached is (eqb-true id root_id (sym (at_the_end m steps id root_id none) ∙ left ∙ reaches_within m first way))),
 )
 
--- one more is reached
-pub reached_more : (m : Inodes) (has more : ℕ → Bool) (id : ℕ) → AreReached m has → ReachesRoot (parent_of m) id → ((q : ℕ) → more q ≡ true → has q ≡ false → q ≡ id) → more root_id ≡ true → AreReached m more
-reached_more m has more id reached way new root = record {
-  root = root;
-  way = λ q in_it. go q (has q) refl in_it;
-}
-  where
-    go : (q : ℕ) (b : Bool) → has q ≡ b → more q ≡ true → ReachesRoot (parent_of m) q
-    go q true was in_it = reached.way q was
-    go q false was in_it = subst (ReachesRoot (parent_of m)) (sym (new q in_it was)) way
-
 -- at first the root alone
 first_by : (m : Inodes) (q : ℕ) (b : Bool) → is_eq (nat_cmp root_id q) ≡ b → cond b true false ≡ true → ReachesRoot (parent_of m) q
 first_by m q true same in_it = at_root (sym (tells_apart nat_cmp-IsAntisymmetric root_id q same))

@@ -16,10 +16,6 @@ pub unmapped : {A B : Type 0} (f : A → B) (o : Option A) → option_map f o �
 unmapped f None e = refl
 unmapped f (Some x) e = absurd cc
 
-no_left : {A : Type 0} (reading : Reading A) → None ≡ left reading → reading ≡ None
-no_left None e = refl
-no_left (Some read) e = absurd cc
-
 none_left : {A : Type 0} (reading other : Reading A) → left reading ≡ left other → other ≡ None → reading ≡ None
 none_left None other e none = refl
 none_left (Some read) other e none = let gone : left other ≡ None = ap left none in absurd cc

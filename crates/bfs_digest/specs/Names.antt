@@ -3,8 +3,6 @@ use Rattle.std.specs.Prelude.{◌≡◌, ℕ, ◌+◌, ◌≤◌, min}
 use Rattle.std.specs.Option.{unwrap_or}
 use Rattle.std.specs.Ordering.{nat_cmp}
 use Rattle.std.specs.FinMap.{FinMap, get}
-use Rattle.bfs_model.specs.Tree.{Inodes}
-use Rattle.bfs_model.specs.WellFormed.{named}
 
 -- counts by fileid
 abbrev pub Counted : Type 0
@@ -23,7 +21,3 @@ AreWithin names = (id : ℕ) → counted_at names id ≤ most_counted
 -- so often more for each inode
 abbrev pub Adds : (old : Counted) → (more : ℕ → ℕ) → (new : Counted) → Type 0
 Adds old more new = (id : ℕ) → counted_at new id ≡ min (counted_at old id + more id) most_counted
-
--- each inode is counted as often as entries name it
-abbrev pub CountsNames : Counted → Inodes → Type 0
-CountsNames names inodes = (id : ℕ) → counted_at names id ≡ min (named inodes id) most_counted

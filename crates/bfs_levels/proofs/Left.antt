@@ -1,5 +1,5 @@
 -- The requests that are left, one fewer.
-use Rattle.std.proofs.Common.{◌≡◌, ℕ, ◌+◌, ◌≤◌, Bool, if◌then◌else◌, List, [], ◌∷◌, ◌++◌, Some, slice_get, length, take, drop, append_assoc, ap, sym, ◌∙◌, arith, zero, suc, map, refl}
+use Rattle.std.proofs.Common.{◌≡◌, ℕ, ◌+◌, ◌<◌, ◌≤◌, Bool, if◌then◌else◌, List, [], ◌∷◌, ◌++◌, Some, slice_get, length, take, drop, append_assoc, ap, sym, ◌∙◌, arith, zero, suc, map, refl}
 use Rattle.std.specs.List.{list_any}
 use Rattle.std.proofs.Math.Seq.{take-append_seam}
 use Rattle.std.proofs.lemmas.List.{length-map, drop_more, at_drop_all}
@@ -14,6 +14,17 @@ use Rattle.bfs_levels.specs.Planning.{Touch, count_joined, touch_by, touches_at}
 
 one_left : {X : Type 0} (xs : List X) (index : ℕ) (x : X) → slice_get xs index ≡ Some x → drop index xs ≡ x ∷ drop (index + 1) xs
 one_left xs index x is = drop_more xs index x (slice_get_within xs index x is) ∙ ap (λ first. first ∷ drop (index + 1) xs) (get_or_from_slice_get xs index x x is)
+
+-- what stands before an end is there, too, where the list ends there
+pub before : {X : Type 0} (xs : List X) (index end : ℕ) (x : X) → index < end → slice_get xs index ≡ Some x → slice_get (take end xs) index ≡ Some x
+before xs index zero x less is = absurd (omega (arith, less))
+before [] index (suc end) x less is = is
+before (y ∷ ys) zero (suc end) x less is = is
+before (y ∷ ys) (suc index) (suc end) x less is = before ys index end x (omega (arith, less)) is
+
+pub all_before : {X : Type 0} (xs : List X) → take (length xs) xs ≡ xs
+all_before [] = refl
+all_before (x ∷ xs) = ap (λ rest. x ∷ rest) (all_before xs)
 
 pub footprints_left : (inodes : Inodes) (ordinal : ℕ) (time : Time) (requests : List (List ℕ)) (index : ℕ) (request : List ℕ) → slice_get requests index ≡ Some request
     → footprints_at inodes ordinal time (drop index requests) ≡ footprint_of inodes ordinal time request ∷ footprints_at inodes (ordinal_after ordinal 1) time (drop (index + 1) requests)

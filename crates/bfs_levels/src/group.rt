@@ -35,7 +35,7 @@ impl Group {
 /// The longest group of the batch's requests that begins with the one at that place, which has that ordinal. The tree is whole.
 ///
 /// It costs a few look-ups in a map of the inodes that the group touches for each request.
-#[tactic(auto, using(crate::proofs::Left::length_seen))]
+#[tactic(auto, using(crate::proofs::Left::all_before))]
 pub fn plan_group(
     alloc: Global,
     tree: &Tree,
@@ -50,7 +50,27 @@ pub fn plan_group(
     ensures count { IfOk result (λ group. length group.footprints.items ≡ group_length (at_home tree.now) ordinal time (drop first batch.now.requests)) }
     ensures levels { IfOk result (λ group. group.level_of.items ≡ levels_of (map footprint_seen group.footprints.items)) }
 {
-    let plan = planned(alloc, tree, ordinal, time, batch, first, Rule::Groups)?;
+    plan_group_before(alloc, tree, ordinal, time, batch, first, batch.len())
+}
+
+/// The longest group of those of the batch's requests that stand before the place `end`, as `plan_group` gives it where the batch ends there.
+#[tactic(auto, using(crate::proofs::Left::length_seen))]
+pub fn plan_group_before(
+    alloc: Global,
+    tree: &Tree,
+    ordinal: Ordinal,
+    time: Time,
+    batch: &Batch,
+    first: usize,
+    end: usize,
+) -> Result<Group, Memory>
+    requires whole { IsTrue ((reach_of tree.now).whole) }
+    ensures first { IfOk result (λ group. group.first ≡ first) }
+    ensures longest { IfOk result (λ group. let requests = drop first (take end batch.now.requests) in map footprint_seen group.footprints.items ≡ footprints_at (at_home tree.now) ordinal time (take (group_length (at_home tree.now) ordinal time requests) requests)) }
+    ensures count { IfOk result (λ group. length group.footprints.items ≡ group_length (at_home tree.now) ordinal time (drop first (take end batch.now.requests))) }
+    ensures levels { IfOk result (λ group. group.level_of.items ≡ levels_of (map footprint_seen group.footprints.items)) }
+{
+    let plan = planned(alloc, tree, ordinal, time, batch, first, end, Rule::Groups)?;
     let (footprints, level_of) = plan.into_parts();
     Ok(Group {
         first,

@@ -7,6 +7,6 @@ mod marks;
 mod plans;
 mod run;
 
-pub use group::{Group, plan_group};
+pub use group::{Group, plan_group, plan_group_before};
 pub use laws::{groups_are_cut, groups_are_longest, levels_rise, runs_are_longest};
-pub use run::{Run, runs};
+pub use run::{Run, runs, runs_before};

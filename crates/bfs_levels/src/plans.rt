@@ -85,7 +85,7 @@ impl Plan {
     }
 }
 
-// the longest run, or group, of the batch's requests that begins with that one, which has that ordinal
+// the longest run, or group, of the batch's requests before that end that begins with that one, which has that ordinal
 pub(crate) fn planned(
     alloc: Global,
     tree: &Tree,
@@ -93,15 +93,16 @@ pub(crate) fn planned(
     time: Time,
     batch: &Batch,
     first: usize,
+    end: usize,
     rule: Rule,
 ) -> Result<Plan, Memory>
     requires whole { IsTrue ((reach_of tree.now).whole) }
-    ensures joined { IfOk result (λ plan. let requests = drop first batch.now.requests in plan ≡ footprints_at (at_home tree.now) ordinal time (take (count_joined (parts rule) [] (touches_at (at_home tree.now) ordinal time requests)) requests)) }
-    ensures count { IfOk result (λ plan. length plan ≡ count_joined (parts rule) [] (touches_at (at_home tree.now) ordinal time (drop first batch.now.requests))) }
+    ensures joined { IfOk result (λ plan. let requests = drop first (take end batch.now.requests) in plan ≡ footprints_at (at_home tree.now) ordinal time (take (count_joined (parts rule) [] (touches_at (at_home tree.now) ordinal time requests)) requests)) }
+    ensures count { IfOk result (λ plan. length plan ≡ count_joined (parts rule) [] (touches_at (at_home tree.now) ordinal time (drop first (take end batch.now.requests)))) }
 {
     let mut ordinal = ordinal;
     let mut plan = Plan::new(alloc);
-    for index in first..batch.len() {
+    for index in first..end.min(batch.len()) {
         let touch = touch_of(tree, ordinal, time, batch.request(index));
         if plan.parts(rule, &touch) {
             break;

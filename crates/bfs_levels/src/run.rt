@@ -30,7 +30,7 @@ impl Run {
 }
 
 /// The longest run of the batch's requests that begins with the one at that place, which has that ordinal. The tree is whole.
-#[tactic(auto, using(crate::proofs::Left::length_seen))]
+#[tactic(auto, using(crate::proofs::Left::all_before))]
 pub fn runs(
     alloc: Global,
     tree: &Tree,
@@ -44,7 +44,26 @@ pub fn runs(
     ensures longest { IfOk result (λ run. let requests = drop first batch.now.requests in map footprint_seen run.footprints.items ≡ footprints_at (at_home tree.now) ordinal time (take (run_length (at_home tree.now) ordinal time requests) requests)) }
     ensures count { IfOk result (λ run. length run.footprints.items ≡ run_length (at_home tree.now) ordinal time (drop first batch.now.requests)) }
 {
-    let plan = planned(alloc, tree, ordinal, time, batch, first, Rule::Runs)?;
+    runs_before(alloc, tree, ordinal, time, batch, first, batch.len())
+}
+
+/// The longest run of those of the batch's requests that stand before the place `end`, as `runs` gives it where the batch ends there.
+#[tactic(auto, using(crate::proofs::Left::length_seen))]
+pub fn runs_before(
+    alloc: Global,
+    tree: &Tree,
+    ordinal: Ordinal,
+    time: Time,
+    batch: &Batch,
+    first: usize,
+    end: usize,
+) -> Result<Run, Memory>
+    requires whole { IsTrue ((reach_of tree.now).whole) }
+    ensures first { IfOk result (λ run. run.first ≡ first) }
+    ensures longest { IfOk result (λ run. let requests = drop first (take end batch.now.requests) in map footprint_seen run.footprints.items ≡ footprints_at (at_home tree.now) ordinal time (take (run_length (at_home tree.now) ordinal time requests) requests)) }
+    ensures count { IfOk result (λ run. length run.footprints.items ≡ run_length (at_home tree.now) ordinal time (drop first (take end batch.now.requests))) }
+{
+    let plan = planned(alloc, tree, ordinal, time, batch, first, end, Rule::Runs)?;
     let (footprints, _) = plan.into_parts();
     Ok(Run { first, footprints })
 }

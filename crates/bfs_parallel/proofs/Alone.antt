@@ -1,5 +1,5 @@
 -- A request that may touch any inode spells RENAME or STATFS, and is run by no gate.
-use Rattle.std.proofs.Common.{◌≡◌, ℕ, true, true≢false, List, [], ◌∷◌, Option, Some, None, Result, Ok, Err, refl, sym, ◌∙◌}
+use Rattle.std.proofs.Common.{◌≡◌, ℕ, ◌+◌, true, true≢false, List, [], ◌∷◌, Option, Some, None, Result, Ok, Err, refl, sym, ◌∙◌}
 use Rattle.bfs_model.specs.Tree.{Time, Inodes}
 use Rattle.bfs_model.specs.Call.{Request, Refusal, call_of}
 use Rattle.bfs_model.specs.Context.{Context}
@@ -35,6 +35,12 @@ arguments_of_all m o t request (Some call) is = of_all m (record { ordinal = o; 
 call_of_all : (m : Inodes) (o : ℕ) (t : Time) (call : Result Request Refusal) → is_whole (footprint_of_call m o t call) ≡ true → is_read_as_of_all call ≡ true
 call_of_all m o t (Err refusal) is = absurd (true≢false (sym is))
 call_of_all m o t (Ok request) is = arguments_of_all m o t request (arguments_of request.procedure request.arguments) is
+
+-- what a gate promises of every reply holds of these
+pub ran_unwatched : (ran : ℕ → List ℕ → Type 0) → ((number : ℕ) (reply : List ℕ) → ran number reply) → (number : ℕ) (requests replies : List (List ℕ)) → AllRan ran number requests replies
+ran_unwatched ran all number [] replies = tt
+ran_unwatched ran all number (request ∷ requests) [] = tt
+ran_unwatched ran all number (request ∷ requests) (reply ∷ replies) = ((λ _. all number reply), ran_unwatched ran all (number + 1) requests replies)
 
 -- so no gate runs it
 pub ran_alone : (ran : ℕ → List ℕ → Type 0) (m : Inodes) (o : ℕ) (t : Time) (number : ℕ) (request reply : List ℕ) → is_whole (footprint_of m o t request) ≡ true → AllRan ran number (request ∷ []) (reply ∷ [])

@@ -44,11 +44,6 @@ module _ (ran : ℕ → List ℕ → Type 0) where
       let each = All-permutation Gated dones merged.order merged.each (All-from_recursion Gated dones (all_gated old once.order dones once.given)) in
       subst (All GatedReply) (sym merged.replies_are) (All-from_recursion GatedReply (map reply_in merged.order) (in_replies merged.order (recursion_from_All Gated merged.order each)))
 
-pub only_number : (numbers : List ℕ) (number : ℕ) → length numbers ≡ 1 → number ≡ slice_index_or numbers 0 number → numbers ≡ number ∷ []
-only_number [] number one is = absurd (omega (arith, one))
-only_number (n ∷ []) number one is = ap (λ m. m ∷ []) (sym is)
-only_number (n ∷ m ∷ ns) number one is = absurd (omega (arith, one))
-
 -- A request that is split off alone ---------------------------------------------------------------------------------------
 
 module _ (ran : ℕ → List ℕ → Type 0) (old new : Slots) (part : Part) (number : ℕ) (job : Job) (done : Done) (split : IsSplit old new part (number ∷ []) (job ∷ [])) (gives : Gives ran new job done) where

@@ -1,11 +1,11 @@
 -- What is executed level after level: a group as it was planned, and a run, of which all requests stand at one level.
 use Rattle.std.proofs.Common.{◌≡◌, ℕ, zero, suc, ◌+◌, ◌-◌, ◌<◌, ◌≤◌, Bool, true, false, ◌||◌, true≢false, List, [], ◌∷◌, ◌++◌, length, take, drop, map, refl, ap, sym, subst, ◌∙◌, arith}
-use Rattle.std.specs.Prelude.{if◌then◌else◌, max, replicate}
+use Rattle.std.specs.Prelude.{IfOk, Result, Ok, Err, if◌then◌else◌, max, min, replicate}
 use Rattle.std.specs.Global.{Global}
 use Rattle.std.specs.List.{All, AllByRecursion, list_any}
 use Rattle.std.specs.declared.vec.Vec.{Vec}
 use Rattle.std.proofs.lemmas.Bool.{false_from_ne_true}
-use Rattle.std.proofs.lemmas.List.{length-drop, length-map, length-take-le}
+use Rattle.std.proofs.lemmas.List.{length-drop, length-map, length-take, length-take-le}
 use Rattle.std.proofs.lemmas.List.Elements.{All-from_recursion}
 use Rattle.bfs_model.specs.Tree.{Time, Inodes}
 use Rattle.bfs_model.specs.Limits.{most_reply_bytes}
@@ -24,13 +24,25 @@ use Rattle.bfs_levels.specs.Laws.{AreJoined}
 use Rattle.bfs_levels.specs.Planning.{Touch, count_joined, level_behind, levels_behind, levels_of, parts_groups, parts_runs, touches_at}
 use Rattle.bfs_levels.specs.Requests.{requests_from}
 use Rattle.bfs_levels.proofs.Longest.{joined_cut, joined_just_if, runs_are_longest}
-use Rattle.bfs_parallel.specs.Levels.{IsGroupOf, texts_of}
+use Rattle.bfs_levels.specs.declared.group.Group.{Group}
+use Rattle.bfs_levels.specs.declared.run.Run.{Run}
+use Rattle.bfs_parallel.specs.Levels.{IsGroupOf, IsPlanned, texts_of}
 
 -- The longest ones ----------------------------------------------------------------------------------------------------------
 
 length-touches_at : (m : Inodes) (o : ℕ) (t : Time) (requests : List (List ℕ)) → length (touches_at m o t requests) ≡ length requests
 length-touches_at m o t [] = refl
 length-touches_at m o t (request ∷ requests) = ap suc (length-touches_at m (ordinal_after o 1) t requests)
+
+-- where a list is cut behind them, they are the same
+cut_short : {X : Type 0} (k first end : ℕ) (xs : List X) → k ≤ length (drop first (take end xs)) → take k (drop first (take end xs)) ≡ take k (drop first xs)
+cut_short zero first end xs few = refl
+cut_short (suc k) zero zero xs few = absurd (omega (arith, few))
+cut_short (suc k) zero (suc end) [] few = refl
+cut_short (suc k) zero (suc end) (x ∷ xs) few = ap (λ rest. x ∷ rest) (cut_short k zero end xs (omega (arith, few)))
+cut_short (suc k) (suc first) zero xs few = absurd (omega (arith, few))
+cut_short (suc k) (suc first) (suc end) [] few = refl
+cut_short (suc k) (suc first) (suc end) (x ∷ xs) few = cut_short (suc k) first end xs few
 
 module _ (parts_by : Footprint → Touch → Bool) where
   within_touches : (earlier : List Footprint) (calls : List Touch) → count_joined parts_by earlier calls ≤ length calls
@@ -46,27 +58,47 @@ module _ (parts_by : Footprint → Touch → Bool) where
   first_counted m o t [] some = absurd (omega arith)
   first_counted m o t (request ∷ requests) some = omega arith
 
-  -- the footprints of the longest run, or group, from a place on
-  pub record AreLongest (m : Inodes) (o : ℕ) (t : Time) (batch : List (List ℕ)) (first : ℕ) (items : List declared.Footprint) : Type 0 where
+  -- the footprints of the longest run, or group, from a place on and before an end
+  pub record AreLongest (m : Inodes) (o : ℕ) (t : Time) (batch : List (List ℕ)) (first end : ℕ) (items : List declared.Footprint) : Type 0 where
     pub more : first < length batch
-    pub longest : map footprint_seen items ≡ footprints_at m o t (take (count_joined parts_by [] (touches_at m o t (drop first batch))) (drop first batch))
-    pub count : length items ≡ count_joined parts_by [] (touches_at m o t (drop first batch))
+    pub before : first < end
+    pub longest : map footprint_seen items ≡ footprints_at m o t (take (count_joined parts_by [] (touches_at m o t (drop first (take end batch)))) (drop first (take end batch)))
+    pub count : length items ≡ count_joined parts_by [] (touches_at m o t (drop first (take end batch)))
 
-  module _ (m : Inodes) (o : ℕ) (t : Time) (batch : List (List ℕ)) (first : ℕ) (items : List declared.Footprint) (are : AreLongest m o t batch first items) where
-    left : length (drop first batch) ≡ length batch - first
-    left = length-drop first batch
+  module _ (m : Inodes) (o : ℕ) (t : Time) (batch : List (List ℕ)) (first end : ℕ) (items : List declared.Footprint) (are : AreLongest m o t batch first end items) where
+    abbrev left : List (List ℕ)
+    left = drop first (take end batch)
 
-    pub few : length items ≤ length (drop first batch)
-    few = let within = within_touches [] (touches_at m o t (drop first batch)) in let all = length-touches_at m o t (drop first batch) in let count = are.count in omega arith
+    left_long : length left ≡ min end (length batch) - first
+    left_long = length-drop first (take end batch) ∙ ap (λ n. n - first) (length-take end batch)
+
+    pub few : length items ≤ length left
+    few = let within = within_touches [] (touches_at m o t left) in let all = length-touches_at m o t left in let count = are.count in omega arith
 
     pub some : 0 < length items
-    some = let long = left in let more = are.more in let count = are.count in let one = first_counted m o t (drop first batch) (omega arith) in omega arith
+    some = let long = left_long in let more = are.more in let before = are.before in let count = are.count in let one = first_counted m o t left (omega arith) in omega arith
 
     pub fits : first + length items ≤ length batch
-    fits = let within = few in let long = left in let more = are.more in omega arith
+    fits = let within = few in let long = left_long in let more = are.more in let before = are.before in omega arith
+
+    pub behind : length items ≤ length (drop first batch)
+    behind = let within = fits in let long = length-drop first batch in omega arith
+
+    pub are_they : take (length items) left ≡ requests_from first (length items) batch
+    are_they = cut_short (length items) first end batch few
 
     pub found : map footprint_seen items ≡ footprints_at m o t (requests_from first (length items) batch)
-    found = subst (λ k. map footprint_seen items ≡ footprints_at m o t (take k (drop first batch))) (sym are.count) are.longest
+    found = subst (λ k. map footprint_seen items ≡ footprints_at m o t (take k left)) (sym are.count) are.longest ∙ ap (footprints_at m o t) are_they
+
+-- What results are ------------------------------------------------------------------------------------------------------------
+
+pub three_ok : {A E : Type 0} {P Q R S : A → Type 0} (result : Result A E) → ((x : A) → P x → Q x → R x → S x) → IfOk result P → IfOk result Q → IfOk result R → IfOk result S
+three_ok (Ok x) gives p q r = gives x p q r
+three_ok (Err e) gives p q r = tt
+
+pub four_ok : {A E : Type 0} {P Q R S U : A → Type 0} (result : Result A E) → ((x : A) → P x → Q x → R x → S x → U x) → IfOk result P → IfOk result Q → IfOk result R → IfOk result S → IfOk result U
+four_ok (Ok x) gives p q r s = gives x p q r s
+four_ok (Err e) gives p q r s = tt
 
 -- As groups -------------------------------------------------------------------------------------------------------------------
 
@@ -108,15 +140,20 @@ known_in_group m o t [] more joined = tt
 known_in_group m o t (request ∷ []) more joined = absurd (omega arith)
 known_in_group m o t (request ∷ other ∷ requests) more joined = ((both_known (footprint_of m o t request) _ joined.0.0).0, known_behind (footprint_of m o t request) m (ordinal_after o 1) t (other ∷ requests) joined.0)
 
+are_joined : (m : Inodes) (o : ℕ) (t : Time) (batch : List (List ℕ)) (first end : ℕ) (items : List declared.Footprint) → AreLongest parts_groups m o t batch first end items
+    → AreJoined parts_groups (touches_at m o t (requests_from first (length items) batch))
+are_joined m o t batch first end items are =
+    subst (λ requests. AreJoined parts_groups (touches_at m o t requests)) (are_they parts_groups m o t batch first end items are)
+    ((joined_just_if parts_groups m o t (drop first (take end batch)) (length items) (few parts_groups m o t batch first end items are)).1 (let count = are.count in omega arith))
+
 -- of two requests and more
-pub is_group : (m : Inodes) (o : ℕ) (t : Time) (batch : List (List ℕ)) (first : ℕ) (items : List declared.Footprint) (levels : List ℕ) → IsWellFormed (record { tree = m; next_ordinal = o; last_time = t })
-    → AreLongest parts_groups m o t batch first items → (length items ≡ 1 → ⊥) → levels ≡ levels_of (map footprint_seen items) → IsGroupOf m first o t batch (map footprint_seen items) levels
-is_group m o t batch first items levels formed are two levelled =
-    let short = few parts_groups m o t batch first items are in
-    let long : length (requests_from first (length items) batch) ≡ length items = length-take-le (length items) (drop first batch) short in
-    let joined = (joined_just_if parts_groups m o t (drop first batch) (length items) short).1 (let count = are.count in omega arith) in
-    let one = some parts_groups m o t batch first items are in
-    as_group m o t batch first items levels formed (found parts_groups m o t batch first items are) (fits parts_groups m o t batch first items are)
+is_group : (m : Inodes) (o : ℕ) (t : Time) (batch : List (List ℕ)) (first end : ℕ) (items : List declared.Footprint) (levels : List ℕ) → IsWellFormed (record { tree = m; next_ordinal = o; last_time = t })
+    → AreLongest parts_groups m o t batch first end items → (length items ≡ 1 → ⊥) → levels ≡ levels_of (map footprint_seen items) → IsGroupOf m first o t batch (map footprint_seen items) levels
+is_group m o t batch first end items levels formed are two levelled =
+    let long : length (requests_from first (length items) batch) ≡ length items = length-take-le (length items) (drop first batch) (behind parts_groups m o t batch first end items are) in
+    let joined = are_joined m o t batch first end items are in
+    let one = some parts_groups m o t batch first end items are in
+    as_group m o t batch first items levels formed (found parts_groups m o t batch first end items are) (fits parts_groups m o t batch first end items are)
     (known_in_group m o t (requests_from first (length items) batch) (more (length items) one two (omega arith)) joined)
     (joined_cut m o t (requests_from first (length items) batch) joined) levelled
   where
@@ -126,13 +163,22 @@ is_group m o t batch first items levels formed are two levelled =
     more (suc (suc n)) some two within = omega arith
 
 -- each has its footprint, too, where those before it are executed
-pub in_order : (m : Inodes) (o : ℕ) (t : Time) (batch : List (List ℕ)) (first : ℕ) (items : List declared.Footprint) → IsWellFormed (record { tree = m; next_ordinal = o; last_time = t })
-    → AreLongest parts_groups m o t batch first items → map footprint_seen items ≡ footprints_in_order m o t (requests_from first (length items) batch)
-in_order m o t batch first items formed are =
-    let short = few parts_groups m o t batch first items are in
-    let joined = (joined_just_if parts_groups m o t (drop first batch) (length items) short).1 (let count = are.count in omega arith) in
-    found parts_groups m o t batch first items are
-    ∙ sym (groups_keep_footprints (record { tree = m; next_ordinal = o; last_time = t }) t (requests_from first (length items) batch) formed (joined_cut m o t (requests_from first (length items) batch) joined))
+in_order : (m : Inodes) (o : ℕ) (t : Time) (requests : List (List ℕ)) → IsWellFormed (record { tree = m; next_ordinal = o; last_time = t }) → IsCut (footprints_at m o t requests) requests
+    → footprints_at m o t requests ≡ footprints_in_order m o t requests
+in_order m o t requests formed cut = sym (groups_keep_footprints (record { tree = m; next_ordinal = o; last_time = t }) t requests formed cut)
+
+pub group_is_planned : (m : Inodes) (o : ℕ) (t : Time) (batch : List (List ℕ)) (first end : ℕ) (group : Group) → IsWellFormed (record { tree = m; next_ordinal = o; last_time = t })
+    → AreLongest parts_groups m o t batch first end group.footprints.items → group.first ≡ first → group.level_of.items ≡ levels_of (map footprint_seen group.footprints.items) → IsPlanned m o t batch first group
+group_is_planned m o t batch first end group formed are there levelled =
+    let items = group.footprints.items in
+    let joined = are_joined m o t batch first end items are in
+    record {
+      first = there;
+      some = some parts_groups m o t batch first end items are;
+      within = fits parts_groups m o t batch first end items are;
+      in_order = found parts_groups m o t batch first end items are ∙ in_order m o t (requests_from first (length items) batch) formed (joined_cut m o t (requests_from first (length items) batch) joined);
+      together = λ two. is_group m o t batch first end items group.level_of.items formed are two levelled;
+    }
 
 -- Runs ------------------------------------------------------------------------------------------------------------------------
 
@@ -180,17 +226,42 @@ all_lowest earlier [] free disjoint = refl
 all_lowest earlier (f ∷ fs) free disjoint =
     λ i. lowest earlier f fs free i ∷ all_lowest ((f, level_behind earlier f) ∷ earlier) fs (disjoint.0, fewer_free earlier f fs free) disjoint.1 i
 
-pub run_is_group : (m : Inodes) (o : ℕ) (t : Time) (batch : List (List ℕ)) (first : ℕ) (items : List declared.Footprint) (levels : List ℕ) → IsWellFormed (record { tree = m; next_ordinal = o; last_time = t })
-    → AreLongest parts_runs m o t batch first items → 1 < length items → levels ≡ replicate (length items) 0 → IsGroupOf m first o t batch (map footprint_seen items) levels
-run_is_group m o t batch first items levels formed are two level =
-    let short = few parts_runs m o t batch first items are in
-    let all = found parts_runs m o t batch first items are in
+are_disjoint : (m : Inodes) (o : ℕ) (t : Time) (batch : List (List ℕ)) (first end : ℕ) (items : List declared.Footprint) → AreLongest parts_runs m o t batch first end items
+    → AreDisjoint (footprints_at m o t (requests_from first (length items) batch))
+are_disjoint m o t batch first end items are =
+    subst (λ requests. AreDisjoint (footprints_at m o t requests)) (are_they parts_runs m o t batch first end items are)
+    ((runs_are_longest m o t (drop first (take end batch)) (length items) (few parts_runs m o t batch first end items are)).1 (let count = are.count in omega arith))
+
+run_is_group : (m : Inodes) (o : ℕ) (t : Time) (batch : List (List ℕ)) (first end : ℕ) (items : List declared.Footprint) (levels : List ℕ) → IsWellFormed (record { tree = m; next_ordinal = o; last_time = t })
+    → AreLongest parts_runs m o t batch first end items → 1 < length items → levels ≡ replicate (length items) 0 → IsGroupOf m first o t batch (map footprint_seen items) levels
+run_is_group m o t batch first end items levels formed are two level =
+    let all = found parts_runs m o t batch first end items are in
     let long : length (map footprint_seen items) ≡ length items = length-map items footprint_seen in
-    let disjoint : AreDisjoint (footprints_at m o t (requests_from first (length items) batch)) = (runs_are_longest m o t (drop first batch) (length items) short).1 (let count = are.count in omega arith) in
-    as_group m o t batch first items levels formed all (fits parts_runs m o t batch first items are)
+    let disjoint = are_disjoint m o t batch first end items are in
+    as_group m o t batch first items levels formed all (fits parts_runs m o t batch first end items are)
     (subst (AllByRecursion (λ g. is_whole g ≡ false)) all (known_in_run (map footprint_seen items) (omega arith) (subst AreDisjoint (sym all) disjoint)))
     (disjoint_cut m o t (requests_from first (length items) batch) disjoint)
     (level ∙ ap (λ n. replicate n 0) (sym long) ∙ sym (all_lowest [] (map footprint_seen items) tt (subst AreDisjoint (sym all) disjoint)))
+
+pub run_is_planned : (m : Inodes) (o : ℕ) (t : Time) (batch : List (List ℕ)) (first end : ℕ) (run : Run) (group : Group) → IsWellFormed (record { tree = m; next_ordinal = o; last_time = t })
+    → AreLongest parts_runs m o t batch first end run.footprints.items → group.first ≡ first → group.footprints ≡ run.footprints → group.level_of.items ≡ replicate (length run.footprints.items) 0 → IsPlanned m o t batch first group
+run_is_planned m o t batch first end run group formed of_run there same level_of_run =
+    let items = group.footprints.items in
+    let are : AreLongest parts_runs m o t batch first end items = subst (λ (footprints : Vec declared.Footprint Global). AreLongest parts_runs m o t batch first end footprints.items) (sym same) of_run in
+    let level : group.level_of.items ≡ replicate (length items) 0 = level_of_run ∙ ap (λ (footprints : Vec declared.Footprint Global). replicate (length footprints.items) 0) (sym same) in
+    let one = some parts_runs m o t batch first end items are in
+    record {
+      first = there;
+      some = one;
+      within = fits parts_runs m o t batch first end items are;
+      in_order = found parts_runs m o t batch first end items are ∙ in_order m o t (requests_from first (length items) batch) formed (disjoint_cut m o t (requests_from first (length items) batch) (are_disjoint m o t batch first end items are));
+      together = λ two. run_is_group m o t batch first end items group.level_of.items formed are (more (length items) one two) level;
+    }
+  where
+    more : (n : ℕ) → 0 < n → (n ≡ 1 → ⊥) → 1 < n
+    more zero some two = absurd (omega (arith, some))
+    more (suc zero) some two = absurd (two refl)
+    more (suc (suc n)) some two = omega arith
 
 -- Replies ---------------------------------------------------------------------------------------------------------------------
 

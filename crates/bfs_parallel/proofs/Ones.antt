@@ -86,20 +86,25 @@ module _ (old : Slots) (o : ℕ) (t : Time) (batch : List (List ℕ)) (place : �
 
   -- On the whole tree -------------------------------------------------------------------------------------------------------
 
-  pub executed_on_all : (ran : ℕ → List ℕ → Type 0) (new : Slots) (items : List declared.Footprint) (x : declared.Footprint) (asked reply : List ℕ) (before after : List (List ℕ)) → IsOnly items → x ≡ slice_index_or items 0 x
-      → is_whole (footprint_seen x) ≡ true → slice_get batch place ≡ Some asked → ◌≡◌ {A = Inodes × List ℕ} (at_home new, reply) (answer m o t asked) → IsTrue ((reach_of new).whole) → after ≡ before ++ reply ∷ []
-      → IsPartExecuted ran old new o t batch place 1 before after
-  executed_on_all ran new items x asked reply before after only at all there done whole put =
+  pub ran_on_all : (ran : ℕ → List ℕ → Type 0) (items : List declared.Footprint) (x : declared.Footprint) → IsOnly items → x ≡ slice_index_or items 0 x → is_whole (footprint_seen x) ≡ true
+      → AllRan ran place (requests_from place 1 batch) (replies_to m o t (requests_from place 1 batch))
+  ran_on_all ran items x only at all =
+      let alone : is_whole (footprint_of m o t request) ≡ true = ap is_whole (sym (is_its_own items x only at)) ∙ all in
+      subst (λ rs. AllRan ran place rs (replies_to m o t rs)) (sym here) (ran_alone ran m o t place request (answer m o t request).1 alone)
+
+  pub executed_in_place : (ran : ℕ → List ℕ → Type 0) (new : Slots) (asked reply : List ℕ) (before after : List (List ℕ)) → slice_get batch place ≡ Some asked
+      → ◌≡◌ {A = Inodes × List ℕ} (at_home new, reply) (answer m o t asked) → IsTrue ((reach_of new).whole) → after ≡ before ++ reply ∷ []
+      → AllRan ran place (requests_from place 1 batch) (replies_to m o t (requests_from place 1 batch)) → IsPartExecuted ran old new o t batch place 1 before after
+  executed_in_place ran new asked reply before after there done whole put gated =
       let same : asked ≡ request = get_or_there batch place asked there in
       let ends : ◌≡◌ {A = Inodes × List ℕ} (at_home new, reply) (answer m o t request) = done ∙ ap (answer m o t) same in
-      let alone : is_whole (footprint_of m o t request) ≡ true = ap is_whole (sym (is_its_own items x only at)) ∙ all in
       record {
         some = omega arith;
         within = omega arith;
         inodes = ap (λ (end : Inodes × List ℕ). end.0) ends ∙ ap (inodes_after m o t) (sym here);
         whole = whole;
         replies = put ∙ ap (λ (end : Inodes × List ℕ). before ++ end.1 ∷ []) ends ∙ ap (λ rs. before ++ replies_to m o t rs) (sym here);
-        gated = subst (λ rs. AllRan ran place rs (replies_to m o t rs)) (sym here) (ran_alone ran m o t place request (answer m o t request).1 alone);
+        gated = gated;
       }
 
   -- On its share ------------------------------------------------------------------------------------------------------------

@@ -156,9 +156,6 @@ numbers_more first levels last level number is =
     spread [] false = refl
     spread (place ∷ places) b = ap (λ ns. (first + place) ∷ ns) (spread places b)
 
-pub none_kept : (first : ℕ) → AreKept first [] []
-none_kept first = record { each = λ level. refl; below = λ place less. absurd (omega arith) }
-
 bucket_here : (buckets : List (Vec ℕ Global)) (at : ℕ) (old new : Vec ℕ Global) (number : ℕ) → at < length buckets → old ≡ slice_index_or buckets at old → new.items ≡ old.items ++ number ∷ []
     → numbers_in (slice_set buckets at new) at ≡ numbers_in buckets at ++ number ∷ []
 bucket_here [] at old new number within here is = absurd (omega arith)

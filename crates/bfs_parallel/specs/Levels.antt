@@ -6,10 +6,12 @@ use Rattle.std.specs.declared.vec.Vec.{Vec}
 use Rattle.bfs_model.specs.Tree.{Time, Inodes}
 use Rattle.bfs_model.specs.Footprints.{Footprint}
 use Rattle.bfs_model.specs.Conflicts.{is_whole}
-use Rattle.bfs_model.specs.Groups.{IsCut, footprints_at}
+use Rattle.bfs_model.specs.Groups.{IsCut, footprints_at, footprints_in_order}
 use Rattle.bfs_model.specs.WellFormed.{IsWellFormed}
 use Rattle.bfs_levels.specs.Planning.{levels_of}
 use Rattle.bfs_levels.specs.Requests.{requests_from}
+use Rattle.bfs_levels.specs.declared.group.Group.{Group}
+use Rattle.bfs_footprint.specs.Seen.{footprint_seen}
 use Rattle.bfs_handover.specs.declared.results.Reply.{Reply}
 
 -- Groups --------------------------------------------------------------------------------------------------------------------
@@ -22,6 +24,14 @@ pub record IsGroupOf (inodes : Inodes) (first ordinal : ℕ) (time : Time) (batc
   pub known : AllByRecursion (λ footprint. IsFalse (is_whole footprint)) footprints
   pub cut : IsCut (footprints_at inodes ordinal time (requests_from first (length footprints) batch)) (requests_from first (length footprints) batch)
   pub levelled : levels ≡ levels_of footprints
+
+-- what was planned together from a place on: each request has its footprint when its turn comes, and two and more are a group
+pub record IsPlanned (inodes : Inodes) (ordinal : ℕ) (time : Time) (batch : List (List ℕ)) (place : ℕ) (group : Group) : Type 0 where
+  pub first : group.first ≡ place
+  pub some : 0 < length group.footprints.items
+  pub within : place + length group.footprints.items ≤ length batch
+  pub in_order : map footprint_seen group.footprints.items ≡ footprints_in_order inodes ordinal time (requests_from place (length group.footprints.items) batch)
+  pub together : (length group.footprints.items ≡ 1 → ⊥) → IsGroupOf inodes place ordinal time batch (map footprint_seen group.footprints.items) group.level_of.items
 
 -- Numbers -------------------------------------------------------------------------------------------------------------------
 

@@ -45,7 +45,7 @@ pub(crate) fn execute_levels<R: Threads + Wait + Sync, G: Gate + Sync>(
     let mut texts = no_texts(alloc, group.len())?;
     let mut turns = turns;
     for numbers in levels {
-        let workers = turns.workers_for(numbers.len());
+        let workers = turns.next_workers();
         let replies = carry_out(
             rt,
             alloc,

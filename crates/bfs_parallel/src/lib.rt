@@ -6,6 +6,7 @@ mod engine;
 mod executor;
 mod levels;
 mod parts;
+mod planning;
 mod requests;
 mod rounds;
 

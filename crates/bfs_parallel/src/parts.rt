@@ -1,5 +1,5 @@
 // The parts of a batch that are executed one after another: runs, or groups.
-ghost use Rattle.std.specs.Prelude.{◌<◌, ◌≤◌, ◌++◌, ◌≡◌, IfOk, IsTrue, length, map, replicate};
+ghost use Rattle.std.specs.Prelude.{◌<◌, ◌≤◌, ◌++◌, ◌≡◌, IfOk, IsTrue, length, map};
 ghost use Rattle.std.specs.List.{All};
 ghost use Rattle.bfs_model.specs.Limits.{most_reply_bytes};
 ghost use Rattle.bfs_model.specs.WellFormed.{IsWellFormed};
@@ -10,10 +10,11 @@ ghost use Rattle.bfs_parallel.specs.Parts.{IsPartExecuted};
 
 use crate::engine::Engine;
 use crate::levels::execute_levels;
-use crate::requests::{execute_in_order, execute_one};
+use crate::planning::plan;
+use crate::requests::{execute_in_order, execute_in_place, execute_one};
 use crate::rounds::{LevelRounds, Rounds};
 use bfs_footprint::touch_of;
-use bfs_levels::{Group, Run, plan_group, runs};
+use bfs_levels::Group;
 use bfs_serial::{Batch, Replies};
 use bfs_tree::Tree;
 use bfs_types::{Memory, Ordinal, Time};
@@ -22,8 +23,8 @@ use std::alloc::Global;
 use std::sync::Wait;
 use std::thread::Threads;
 
-/// Executes requests of the batch from that place on, the first of which has that ordinal: as many as the engine can plan together. It puts
-/// their replies behind the others, and tells how many they are. `Memory` if memory runs out; the tree may then not be whole.
+/// Executes requests of the batch from that place on, the first of which has that ordinal: as many as the engine plans together, or one. It
+/// puts their replies behind the others, and tells how many they are. `Memory` if memory runs out; the tree may then not be whole.
 pub(crate) fn execute_part<R: Threads + Wait + Sync, G: Gate + Sync>(
     rt: &R,
     alloc: Global,
@@ -42,45 +43,21 @@ pub(crate) fn execute_part<R: Threads + Wait + Sync, G: Gate + Sync>(
     requires more { place < length batch.now.requests }
     ensures { IfOk result (λ count. IsPartExecuted G.ran tree.old tree.new ordinal time batch.now.requests place count replies.old replies.new) }
 {
-    match engine {
-        Engine::Runs => execute_next_run(
-            rt, alloc, tree, ordinal, time, batch, place, rounds, gate, replies,
-        ),
-        Engine::Levels => execute_next_group(
-            rt, alloc, tree, ordinal, time, batch, place, rounds, gate, replies,
-        ),
+    if !rounds.plans() {
+        return execute_next(alloc, tree, ordinal, time, batch, place, gate, replies);
     }
-}
-
-// a run of requests on threads, or one on the calling thread
-fn execute_next_run<R: Threads + Wait + Sync, G: Gate + Sync>(
-    rt: &R,
-    alloc: Global,
-    tree: &mut Tree,
-    ordinal: Ordinal,
-    time: Time,
-    batch: &Batch,
-    place: usize,
-    rounds: &mut Rounds,
-    gate: &G,
-    replies: &mut Replies,
-) -> Result<usize, Memory>
-    requires whole { IsTrue ((reach_of tree.old).whole) }
-    requires formed { IsWellFormed (record { tree = at_home tree.old; next_ordinal = ordinal; last_time = time }) }
-    requires more { place < length batch.now.requests }
-    ensures { IfOk result (λ count. IsPartExecuted G.ran tree.old tree.new ordinal time batch.now.requests place count replies.old replies.new) }
-{
-    if rounds.looks_for_a_run() {
-        let run = runs(alloc, tree, ordinal, time, batch, place)?;
-        if rounds.accepts(run.len()) {
-            let group = one_level(alloc, run)?;
-            let turns = rounds.for_levels(alloc, &group.level_of)?;
-            return execute_group(
-                rt, alloc, tree, ordinal, time, batch, &group, turns, gate, replies,
-            );
-        }
+    let group = plan(alloc, tree, ordinal, time, batch, place, engine, rounds)?;
+    let turns = rounds.for_levels(alloc, batch, &group)?;
+    if group.len() == 1 || turns.are_none() {
+        rounds.put_off(group.len());
+        let footprints = group.footprints.as_slice();
+        return execute_in_order(
+            alloc, tree, batch, ordinal, time, place, footprints, gate, replies,
+        );
     }
-    execute_next(alloc, tree, ordinal, time, batch, place, gate, replies)
+    execute_group(
+        rt, alloc, tree, ordinal, time, batch, &group, turns, gate, replies,
+    )
 }
 
 // the next request, on the calling thread
@@ -99,6 +76,10 @@ fn execute_next<G: Gate>(
     requires more { place < length batch.now.requests }
     ensures { IfOk result (λ count. IsPartExecuted G.ran tree.old tree.new ordinal time batch.now.requests place count replies.old replies.new) }
 {
+    if !gate.watches() {
+        execute_in_place::<G>(alloc, tree, batch, ordinal, time, place, replies)?;
+        return Ok(1);
+    }
     let footprints = [touch_of(tree, ordinal, time, batch.request(place)).footprint];
     execute_one(
         alloc,
@@ -112,54 +93,6 @@ fn execute_next<G: Gate>(
         replies,
     )?;
     Ok(1)
-}
-
-// a run as a group, of which all requests stand at one level
-fn one_level(alloc: Global, run: Run) -> Result<Group, Memory>
-    ensures first { IfOk result (λ group. group.first ≡ run.first) }
-    ensures footprints { IfOk result (λ group. group.footprints ≡ run.footprints) }
-    ensures level { IfOk result (λ group. group.level_of.items ≡ replicate (length run.footprints.items) 0) }
-{
-    let level_of = vec![in alloc; 0; run.len()]?;
-    Ok(Group {
-        first: run.first,
-        footprints: run.footprints,
-        level_of,
-    })
-}
-
-// a group of requests, level after level, or on the calling thread where no level gets others
-fn execute_next_group<R: Threads + Wait + Sync, G: Gate + Sync>(
-    rt: &R,
-    alloc: Global,
-    tree: &mut Tree,
-    ordinal: Ordinal,
-    time: Time,
-    batch: &Batch,
-    place: usize,
-    rounds: &mut Rounds,
-    gate: &G,
-    replies: &mut Replies,
-) -> Result<usize, Memory>
-    requires whole { IsTrue ((reach_of tree.old).whole) }
-    requires formed { IsWellFormed (record { tree = at_home tree.old; next_ordinal = ordinal; last_time = time }) }
-    requires more { place < length batch.now.requests }
-    ensures { IfOk result (λ count. IsPartExecuted G.ran tree.old tree.new ordinal time batch.now.requests place count replies.old replies.new) }
-{
-    if !rounds.has_threads() {
-        return execute_next(alloc, tree, ordinal, time, batch, place, gate, replies);
-    }
-    let group = plan_group(alloc, tree, ordinal, time, batch, place)?;
-    let turns = rounds.for_levels(alloc, &group.level_of)?;
-    if group.len() == 1 || turns.are_none() {
-        let footprints = group.footprints.as_slice();
-        return execute_in_order(
-            alloc, tree, batch, ordinal, time, place, footprints, gate, replies,
-        );
-    }
-    execute_group(
-        rt, alloc, tree, ordinal, time, batch, &group, turns, gate, replies,
-    )
 }
 
 // requests of which it is known what they touch, level after level

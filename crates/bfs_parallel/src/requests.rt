@@ -1,10 +1,12 @@
 ghost use Rattle.std.specs.Prelude.{◌≡◌, ◌<◌, ◌≤◌, ◌+◌, ◌++◌, IfOk, IsTrue, length, map};
 ghost use Rattle.bfs_model.specs.Groups.{footprints_at, footprints_in_order};
+ghost use Rattle.bfs_model.specs.Serial.{replies_to};
 ghost use Rattle.bfs_model.specs.WellFormed.{IsWellFormed};
 ghost use Rattle.bfs_footprint.specs.Seen.{footprint_seen};
 ghost use Rattle.bfs_levels.specs.Requests.{requests_from};
 ghost use Rattle.bfs_tree.specs.Tree.{at_home, reach_of};
 ghost use Rattle.bfs_parallel.specs.Parts.{IsPartExecuted};
+ghost use Rattle.bfs_parallel.specs.Ran.{AllRan};
 
 use bfs_footprint::Footprint;
 use bfs_handover::{merge_one, split_one};
@@ -14,9 +16,31 @@ use bfs_types::{Memory, Ordinal, Time};
 use bfs_workers::Gate;
 use std::alloc::Global;
 
+/// Executes the batch's request at that place, which has that ordinal, in place, and puts its reply behind the others. The gate does not
+/// run it, so it is one that may touch any inode, or the gate does not watch. `Memory` if memory runs out; the tree may then not be whole.
+pub(crate) fn execute_in_place<G: Gate>(
+    alloc: Global,
+    tree: &mut Tree,
+    batch: &Batch,
+    ordinal: Ordinal,
+    time: Time,
+    place: usize,
+    replies: &mut Replies,
+) -> Result<(), Memory>
+    requires whole { IsTrue ((reach_of tree.old).whole) }
+    requires formed { IsWellFormed (record { tree = at_home tree.old; next_ordinal = ordinal; last_time = time }) }
+    requires within { place < length batch.now.requests }
+    requires gated { AllRan G.ran place (requests_from place 1 batch.now.requests) (replies_to (at_home tree.old) ordinal time (requests_from place 1 batch.now.requests)) }
+    ensures { IfOk result (λ _. IsPartExecuted G.ran tree.old tree.new ordinal time batch.now.requests place 1 replies.old replies.new) }
+{
+    let reply = answer_next(alloc, tree, ordinal, time, batch.request(place))?;
+    replies.push(reply)?;
+    Ok(())
+}
+
 /// Executes the batch's request at that place, which has that ordinal and that footprint, the only one, on the calling thread, and puts
-/// its reply behind the others: by the gate on its share of the tree, or, where it may touch any inode, on the whole tree. `Memory` if
-/// memory runs out; the tree may then not be whole.
+/// its reply behind the others: by the gate on its share of the tree, or, where it may touch any inode or the gate does not watch, in
+/// place. `Memory` if memory runs out; the tree may then not be whole.
 pub(crate) fn execute_one<G: Gate>(
     alloc: Global,
     tree: &mut Tree,
@@ -36,10 +60,8 @@ pub(crate) fn execute_one<G: Gate>(
 {
     let count = batch.len();
     prove!(place < count);
-    if footprints[0].is_whole() {
-        let reply = answer_next(alloc, tree, ordinal, time, batch.request(place))?;
-        replies.push(reply)?;
-        return Ok(());
+    if footprints[0].is_whole() || !gate.watches() {
+        return execute_in_place::<G>(alloc, tree, batch, ordinal, time, place, replies);
     }
     let number = place as u32;
     let job = split_one(alloc, tree, batch, ordinal, time, place, footprints, number)?;

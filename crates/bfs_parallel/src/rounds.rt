@@ -1,47 +1,54 @@
-ghost use Rattle.std.specs.Prelude.{◌<◌, IsTrue};
-
+use bfs_footprint::Footprint;
+use bfs_levels::Group;
+use bfs_serial::Batch;
 use bfs_types::Memory;
 use bfs_workers::Workers;
 use std::alloc::Global;
 
-// how many runs, or levels, of a batch get threads however short they are
+// how many bytes the requests of a run, or of a level, have together that always gets threads, and those of a batch in which such are
+// looked for
+const LONG: usize = 1 << 20;
+
+/// How many requests are planned before it is known whether planning those behind them is worth its time.
+pub(crate) const FEW: usize = 64;
+
+// how many runs or levels of a batch of few requests get threads however short they are; of a batch of more requests it is one
 const ROUNDS: u32 = 8;
 
-// how many requests a run, or a level, has that always gets threads
-const LONG: usize = 64;
+// behind requests that were planned and got no threads, so many times as many are executed unplanned
+const PAUSE: usize = 4;
 
-// how many runs of a batch may turn out not to get threads before they are looked for less often
-const TRIES: u32 = 64;
-
-// how many requests are then executed one after another before a run is looked for again
-const PAUSE: usize = 64;
-
-/// Which requests of a batch are executed on threads, run after run or level after level, and which one after another on the calling
-/// thread. Planning and starting threads cost more than a short run takes, and so a batch of many short runs would be slower by them
+/// Which requests of a batch are planned together, which of them are executed on threads, and which one after another on the calling
+/// thread. Planning and starting threads cost more than a short run takes, and so a batch of short requests would be slower by them
 /// than without.
 #[derive(Clone, Copy, Debug)]
 pub(crate) struct Rounds {
     workers: Workers,
-    // of threads, for runs or levels that are short
+    // whether the batch may have a run, or a level, that always gets threads
+    has_long: bool,
+    // how many of the others may get threads
     left: u32,
-    tries: u32,
-    // requests to be executed one after another before a run is looked for again
+    // how many requests are to be executed one after another before any are planned
     pause: usize,
 }
 
 impl Rounds {
-    pub(crate) fn new(workers: Workers) -> Rounds {
+    pub(crate) fn new(workers: Workers, batch: &Batch) -> Rounds {
+        let mut bytes: usize = 0;
+        for request in batch.requests() {
+            bytes = bytes.saturating_add(request.as_slice().len());
+        }
         Rounds {
             workers,
-            left: ROUNDS,
-            tries: TRIES,
+            has_long: bytes >= LONG,
+            left: if batch.len() <= FEW { ROUNDS } else { 1 },
             pause: 0,
         }
     }
 
-    /// Whether the next requests may be a run that gets threads.
-    pub(crate) fn looks_for_a_run(&mut self) -> bool {
-        if !self.has_threads() {
+    /// Whether the next requests are planned, or the next one is executed alone.
+    pub(crate) fn plans(&mut self) -> bool {
+        if self.workers.count() == 1 || !self.has_long && self.left == 0 {
             return false;
         }
         if self.pause > 0 {
@@ -51,92 +58,102 @@ impl Rounds {
         true
     }
 
-    /// Whether the run of so many requests that was found gets threads. Otherwise its requests are executed one after another.
-    pub(crate) fn accepts(&mut self, len: usize) -> bool
-        ensures { IsTrue result → 1 < len }
-    {
-        if len >= LONG || len >= 2 && self.left > 0 {
-            return true;
-        }
-        self.pause = len.saturating_sub(1);
-        if self.tries > 0 {
-            self.tries -= 1;
-        } else {
-            self.pause = self.pause.max(PAUSE);
-        }
-        false
+    /// Whether, by the levels at which the first requests stand, more of them are planned with those behind: most of them are at the
+    /// lowest.
+    pub(crate) fn goes_on(&self, level_of: &[u32]) -> bool {
+        let lowest = level_of.iter().filter(|level| **level == 0).count();
+        self.has_long && level_of.len() >= FEW && lowest >= FEW / 2
     }
 
-    /// Whether there is a worker beside the calling thread.
-    pub(crate) fn has_threads(&self) -> bool {
-        self.workers.count() > 1
+    /// Requests that were planned get no threads, so some more are executed without being planned.
+    pub(crate) fn put_off(&mut self, planned: usize) {
+        self.pause = planned.saturating_mul(PAUSE);
     }
 
-    /// What the levels at which the requests of a group stand take of the rounds: the longest of the short ones, as many as are left.
+    /// Which of a group's levels get threads: the long ones, and of the others those in which the most requests write.
     pub(crate) fn for_levels(
         &mut self,
         alloc: Global,
-        level_of: &[u32],
+        batch: &Batch,
+        group: &Group,
     ) -> Result<LevelRounds, Memory> {
-        let mut lengths = vec![in alloc; 0u32; level_of.len()]?;
-        for level in level_of {
-            if let Some(length) = lengths.get_mut(*level as usize) {
-                *length = u32::saturating_add(*length, 1);
+        let mut levels = vec![in alloc; Level::none(); group.len()]?;
+        let requests = batch.requests().iter().skip(group.first);
+        let footprints = group.footprints.iter();
+        for (level, (request, footprint)) in group.level_of.iter().zip(requests.zip(footprints)) {
+            if let Some(level) = levels.get_mut(*level as usize) {
+                level.add(request.as_slice().len(), footprint);
             }
         }
-        let mut counts = [0; LONG];
-        let mut longest = 0;
-        for length in lengths {
-            longest = longest.max(length as usize);
-            if let Some(count) = counts.get_mut(length as usize) {
-                *count = u32::saturating_add(*count, 1);
+        for _ in 0..self.left {
+            let short = levels.iter_mut().filter(|level| !level.has_threads);
+            match short.max_by_key(|level| level.writers) {
+                Some(level) if level.writers > 1 => {
+                    level.has_threads = true;
+                    self.left = self.left.saturating_sub(1);
+                }
+                _ => break,
             }
         }
-        let mut rounds = LevelRounds {
+        Ok(LevelRounds {
             workers: self.workers,
-            longest,
-            least: LONG,
-            ties: 0,
-        };
-        for len in (2..LONG).rev() {
-            let count = counts[len].min(self.left);
-            if count > 0 {
-                rounds.least = len;
-                rounds.ties = count;
-                self.left -= count;
+            levels,
+            next: 0,
+        })
+    }
+}
+
+// what the requests of a level are together, and whether it gets threads
+#[derive(Clone, Copy, Debug)]
+struct Level {
+    bytes: usize,
+    // how many of them write
+    writers: usize,
+    has_threads: bool,
+}
+
+impl Level {
+    fn none() -> Level {
+        Level {
+            bytes: 0,
+            writers: 0,
+            has_threads: false,
+        }
+    }
+
+    fn add(&mut self, bytes: usize, footprint: &Footprint) {
+        self.bytes = self.bytes.saturating_add(bytes);
+        if let Footprint::Known { writes, .. } = footprint {
+            if !writes.as_slice().is_empty() {
+                self.writers = self.writers.saturating_add(1);
             }
         }
-        Ok(rounds)
+        self.has_threads = self.bytes >= LONG;
     }
 }
 
 /// Which levels of a group get threads.
-#[derive(Clone, Copy, Debug)]
+#[derive(Debug, Drop)]
 pub(crate) struct LevelRounds {
     workers: Workers,
-    // how many requests the longest level has
-    longest: usize,
-    // how many requests the shortest of them has
-    least: usize,
-    // how many levels of just that length get threads
-    ties: u32,
+    levels: Vec<Level>,
+    // which level is the next
+    next: usize,
 }
 
 impl LevelRounds {
     /// Whether no level gets threads.
     pub(crate) fn are_none(&self) -> bool {
-        self.longest < self.least
+        !self.levels.iter().any(|level| level.has_threads)
     }
 
-    /// The workers of a level of so many requests: all of them, or the calling thread alone.
-    pub(crate) fn workers_for(&mut self, len: usize) -> Workers {
-        if len > self.least || len >= LONG {
-            return self.workers;
+    /// The workers of the next level: all of them, or the calling thread alone.
+    pub(crate) fn next_workers(&mut self) -> Workers {
+        let level = self.levels.get(self.next);
+        self.next = self.next.saturating_add(1);
+        match level {
+            Some(level) if level.has_threads => self.workers,
+            _ => Workers::one(),
         }
-        if len < self.least || self.ties == 0 {
-            return Workers::one();
-        }
-        self.ties -= 1;
-        self.workers
     }
 }

@@ -1,4 +1,4 @@
-ghost use Rattle.std.specs.Prelude.{ℕ, List, ⊤, IfOk};
+ghost use Rattle.std.specs.Prelude.{ℕ, List, ⊤, IfOk, IsFalse};
 ghost use Rattle.bfs_handover.specs.Jobs.{CanRun};
 ghost use Rattle.bfs_workers.specs.Results.{Gives};
 
@@ -16,6 +16,14 @@ pub trait Gate {
     fn run(&self, alloc: Global, tree: &Tree, job: Job<'_>) -> Result<Done, Memory>
         requires { CanRun tree.now job }
         ensures { IfOk result (λ done. Gives ran tree.now job.entry done) };
+
+    /// Whether it has something to see or to promise where a job is run. What a gate that does not watch promises holds of every reply,
+    /// so a request that gets no thread may be answered without a job. A gate watches unless it says otherwise.
+    fn watches(&self) -> bool
+        ensures { IsFalse result → (number : ℕ) → (reply : List ℕ) → ran number reply }
+    {
+        true
+    }
 }
 
 /// A gate that only runs the jobs.
@@ -27,5 +35,9 @@ impl Gate for NoGate {
 
     fn run(&self, alloc: Global, tree: &Tree, job: Job<'_>) -> Result<Done, Memory> {
         run_job(alloc, tree, job)
+    }
+
+    fn watches(&self) -> bool {
+        false
     }
 }

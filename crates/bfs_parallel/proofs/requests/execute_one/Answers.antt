@@ -1,16 +1,11 @@
 -- A request that may touch any inode is executed on all of them, another on its share.
 use Rattle.std.proofs.Common.{sym, ◌∙◌, arith, rules}
-use Rattle.bfs_parallel.proofs.Ones.{can_one, can_run_one, executed_on_all, executed_one, found_one, is_one, out_one}
+use Rattle.bfs_parallel.proofs.Ones.{can_one, can_run_one, executed_one, found_one, is_one, out_one}
 use Rattle.bfs_parallel.proofs.requests.execute_one.Goals as goal
 
 pub bounds-footprints-0 : goal.bounds-footprints-0
 bounds-footprints-0 g c =
     let one = is_one c.args.tree.now c.args.ordinal c.args.time c.args.batch.now.requests c.args.place c.requires.formed c.requires.within c.args.footprints.now c.requires.found in omega arith
-
-pub returns-then-is_whole : goal.returns-then-is_whole
-returns-then-is_whole g c =
-    executed_on_all c.args.tree.now c.args.ordinal c.args.time c.args.batch.now.requests c.args.place c.requires.formed c.requires.within g.G.Gate.ran c.answer_next.new.store c.args.footprints.now c.index-footprints-0.result c.request.result.now
-    c.in_ok-reply.reply.items c.args.replies.now c.push.new.self c.requires.found c.index-footprints-0.is (sym c.is_whole.ensures ∙ c.if-is_whole.true) c.request.ensures c.in_ok-reply.ensures.done (search rules) c.in_ok-push.ensures.ok
 
 pub split_one-requires-clause-footprint : goal.split_one-requires-clause-footprint
 split_one-requires-clause-footprint g c =
@@ -29,13 +24,13 @@ merge_one-reply-requires g c =
     out_one c.args.tree.now c.args.ordinal c.args.time c.args.batch.now.requests c.args.place c.requires.formed c.requires.within c.args.footprints.now g.G.Gate.ran c.split_one.new.tree c.in_ok-job.job c.in_ok-done.done
     c.in_ok-job.ensures.split c.in_ok-done.ensures
 
-pub push-requires-2 : goal.push-requires-2
-push-requires-2 g c =
+pub push-requires : goal.push-requires
+push-requires g c =
     (executed_one c.args.tree.now c.args.ordinal c.args.time c.args.batch.now.requests c.args.place c.requires.formed c.requires.within c.args.footprints.now g.G.Gate.ran c.split_one.new.tree c.merge_one-reply.new.tree c.in_ok-job.job
     c.in_ok-done.done c.merge_one-reply.result c.args.replies.now c.requires.found c.in_ok-job.ensures.split c.in_ok-done.ensures c.merge_one-reply.ensures).1
 
 pub returns : goal.returns
 returns g c =
-    rw c.in_ok-push-2.ensures.ok
+    rw c.in_ok-push.ensures.ok
     (executed_one c.args.tree.now c.args.ordinal c.args.time c.args.batch.now.requests c.args.place c.requires.formed c.requires.within c.args.footprints.now g.G.Gate.ran c.split_one.new.tree c.merge_one-reply.new.tree c.in_ok-job.job
     c.in_ok-done.done c.merge_one-reply.result c.args.replies.now c.requires.found c.in_ok-job.ensures.split c.in_ok-done.ensures c.merge_one-reply.ensures).0
