@@ -53,7 +53,8 @@ pub fn plan_group(
     plan_group_before(alloc, tree, ordinal, time, batch, first, batch.len())
 }
 
-/// The longest group of those of the batch's requests that stand before the place `end`, as `plan_group` gives it where the batch ends there.
+/// The longest group of those of the batch's requests that stand before the place `end`: what `plan_group` gives of a batch that ends there. The
+/// tree is whole.
 #[tactic(auto, using(crate::proofs::Left::length_seen))]
 pub fn plan_group_before(
     alloc: Global,

@@ -47,7 +47,8 @@ pub fn runs(
     runs_before(alloc, tree, ordinal, time, batch, first, batch.len())
 }
 
-/// The longest run of those of the batch's requests that stand before the place `end`, as `runs` gives it where the batch ends there.
+/// The longest run of those of the batch's requests that stand before the place `end`: what `runs` gives of a batch that ends there. The
+/// tree is whole.
 #[tactic(auto, using(crate::proofs::Left::length_seen))]
 pub fn runs_before(
     alloc: Global,

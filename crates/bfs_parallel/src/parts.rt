@@ -49,7 +49,7 @@ pub(crate) fn execute_part<R: Threads + Wait + Sync, G: Gate + Sync>(
     let group = plan(alloc, tree, ordinal, time, batch, place, engine, rounds)?;
     let turns = rounds.for_levels(alloc, batch, &group)?;
     if group.len() == 1 || turns.are_none() {
-        rounds.put_off(group.len());
+        rounds.put_off();
         let footprints = group.footprints.as_slice();
         return execute_in_order(
             alloc, tree, batch, ordinal, time, place, footprints, gate, replies,

@@ -5,7 +5,7 @@ ghost use Rattle.bfs_tree.specs.Tree.{at_home, reach_of};
 ghost use Rattle.bfs_parallel.specs.Levels.{IsPlanned};
 
 use crate::engine::Engine;
-use crate::rounds::{FEW, Rounds};
+use crate::rounds::Rounds;
 use bfs_levels::{Group, Run, plan_group_before, runs_before};
 use bfs_serial::Batch;
 use bfs_tree::Tree;
@@ -30,8 +30,7 @@ pub(crate) fn plan(
     ensures { IfOk result (λ group. IsPlanned (at_home tree.now) ordinal time batch.now.requests place group) }
 {
     let count = batch.len();
-    prove!(place < count);
-    let end = count.min(place + FEW);
+    let end = rounds.end(place, count);
     let few = plan_before(alloc, tree, ordinal, time, batch, place, end, engine)?;
     if !rounds.goes_on(&few.level_of) {
         return Ok(few);

@@ -1,3 +1,5 @@
+ghost use Rattle.std.specs.Prelude.{◌<◌};
+
 use bfs_footprint::Footprint;
 use bfs_levels::Group;
 use bfs_serial::Batch;
@@ -7,15 +9,18 @@ use std::alloc::Global;
 
 // how many bytes the requests of a run, or of a level, have together that always gets threads, and those of a batch in which such are
 // looked for
-const LONG: usize = 1 << 20;
+const LONG: usize = 4 << 20;
 
-/// How many requests are planned before it is known whether planning those behind them is worth its time.
-pub(crate) const FEW: usize = 64;
+// how many requests a batch of few has: they are planned together
+const FEW: usize = 64;
+
+// of a batch of more, how many are planned before it is known whether planning those behind them is worth its time
+const FIRST: usize = 16;
 
 // how many runs or levels of a batch of few requests get threads however short they are; of a batch of more requests it is one
 const ROUNDS: u32 = 8;
 
-// behind requests that were planned and got no threads, so many times as many are executed unplanned
+// behind requests that were planned and got no threads, so many times as many are executed unplanned, and each time so many times more
 const PAUSE: usize = 4;
 
 /// Which requests of a batch are planned together, which of them are executed on threads, and which one after another on the calling
@@ -28,8 +33,12 @@ pub(crate) struct Rounds {
     has_long: bool,
     // how many of the others may get threads
     left: u32,
+    // how many requests are planned at first
+    first: usize,
     // how many requests are to be executed one after another before any are planned
     pause: usize,
+    // how many they are the next time
+    next_pause: usize,
 }
 
 impl Rounds {
@@ -38,11 +47,18 @@ impl Rounds {
         for request in batch.requests() {
             bytes = bytes.saturating_add(request.as_slice().len());
         }
+        let (left, first) = if batch.len() <= FEW {
+            (ROUNDS, FEW)
+        } else {
+            (1, FIRST)
+        };
         Rounds {
             workers,
             has_long: bytes >= LONG,
-            left: if batch.len() <= FEW { ROUNDS } else { 1 },
+            left,
+            first,
             pause: 0,
+            next_pause: FIRST * PAUSE,
         }
     }
 
@@ -58,16 +74,25 @@ impl Rounds {
         true
     }
 
+    /// The place behind the requests that are planned at first, of so many that the batch has: at least one from that place on.
+    pub(crate) fn end(&self, place: usize, count: usize) -> usize
+        requires { place < count }
+        ensures { place < result }
+    {
+        count.min(place.saturating_add(self.first.max(1)))
+    }
+
     /// Whether, by the levels at which the first requests stand, more of them are planned with those behind: most of them are at the
     /// lowest.
     pub(crate) fn goes_on(&self, level_of: &[u32]) -> bool {
         let lowest = level_of.iter().filter(|level| **level == 0).count();
-        self.has_long && level_of.len() >= FEW && lowest >= FEW / 2
+        self.has_long && level_of.len() >= self.first && lowest >= self.first / 2
     }
 
-    /// Requests that were planned get no threads, so some more are executed without being planned.
-    pub(crate) fn put_off(&mut self, planned: usize) {
-        self.pause = planned.saturating_mul(PAUSE);
+    /// The requests that were planned get no threads, so some more are executed without being planned.
+    pub(crate) fn put_off(&mut self) {
+        self.pause = self.next_pause;
+        self.next_pause = self.next_pause.saturating_mul(PAUSE);
     }
 
     /// Which of a group's levels get threads: the long ones, and of the others those in which the most requests write.
