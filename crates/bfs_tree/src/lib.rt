@@ -2,6 +2,7 @@
 #![tactic(auto)]
 
 mod ancestry;
+mod boxed;
 mod counts;
 mod inodes;
 mod places;
@@ -11,6 +12,7 @@ mod trees;
 mod well_formed;
 
 pub use ancestry::{is_below, is_directory};
+pub use boxed::BoxedInode;
 pub use inodes::Inodes;
 pub use store::Store;
 pub use trees::Tree;

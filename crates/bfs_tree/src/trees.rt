@@ -9,6 +9,7 @@ ghost use Rattle.bfs_tree.specs.Tree.{at_home, brought, lent, reach_of, reserved
 ghost use Rattle.bfs_tree.specs.declared.slots.Slot.TheVariants as slot;
 ghost use Rattle.bfs_tree.specs.Knowing.{knows_all};
 
+use crate::boxed::BoxedInode;
 use crate::inodes::Inodes;
 use crate::places::Places;
 use crate::slots::Slot;
@@ -24,6 +25,8 @@ use std::marker::Model;
 #[derive(Debug, Drop)]
 pub struct Tree {
     places: Places,
+    // for the boxes of its inodes
+    alloc: Global,
 }
 
 impl Model for Tree {
@@ -46,9 +49,12 @@ impl Tree {
         ensures value { IfOk result (λ tree. at_home tree ≡ new_tree) }
         ensures whole { IfOk result (λ tree. IsTrue ((reach_of tree).whole)) }
     {
+        let Ok(root) = BoxedInode::new(alloc, Inode::root(alloc)) else {
+            return Err(Memory);
+        };
         let mut places = Places::new(alloc);
-        match places.insert(FileId::root(), Slot::Home(Inode::root(alloc))) {
-            Ok(_) => Ok(Tree { places }),
+        match places.insert(FileId::root(), Slot::Home(root)) {
+            Ok(_) => Ok(Tree { places, alloc }),
             Err(_) => Err(Memory),
         }
     }
@@ -61,6 +67,7 @@ impl Tree {
     {
         Tree {
             places: Places::new(alloc),
+            alloc,
         }
     }
 
@@ -81,18 +88,18 @@ impl Tree {
 
     /// Takes the inode of a fileid out of its place, or `None` if no inode has it, until it is brought home. It takes no memory.
     #[tactic(auto, using(crate::proofs::SlotLemmas::home_at, crate::proofs::SlotLemmas::no_home_at))]
-    pub fn lend_out(&mut self, id: FileId) -> Option<Inode>
+    pub fn lend_out(&mut self, id: FileId) -> Option<BoxedInode>
         requires place { IsTrue (contains_key self.old id) }
         requires home { IsTrue ((reach_of self.old).owned id) }
         ensures value { result ≡ get (at_home self.old) id }
         ensures lent { self.new ≡ insert self.old id slot.Lent }
     {
-        self.places.replace(id, Slot::Lent)?.into_inode()
+        self.places.replace(id, Slot::Lent)?.into_boxed()
     }
 
     /// Puts an inode back in the place that was lent out. `None` says that no inode has the fileid from then on. It takes no memory.
     #[tactic(auto, using(crate::proofs::SlotLemmas::loan_has_place))]
-    pub fn bring_home(&mut self, id: FileId, inode: Option<Inode>)
+    pub fn bring_home(&mut self, id: FileId, inode: Option<BoxedInode>)
         requires { IsTrue (contains_key (lent self.old) id) }
         ensures { self.new ≡ brought self.old id inode }
     {
@@ -179,7 +186,8 @@ impl Store for Tree {
 
     #[tactic(auto, using(crate::proofs::SlotLemmas::home_insert, crate::proofs::SlotLemmas::reach_insert))]
     fn insert(&mut self, id: FileId, inode: Inode) -> Result<(), Inode> {
-        match self.places.insert(id, Slot::Home(inode)) {
+        let boxed = BoxedInode::new(self.alloc, inode)?;
+        match self.places.insert(id, Slot::Home(boxed)) {
             Ok(_) => Ok(()),
             Err(refused) => match refused.into_inode() {
                 Some(inode) => Err(inode),

@@ -1,5 +1,5 @@
 -- The slot that was there goes, and the new one is inserted into the finite map; the counts follow.
-use Rattle.std.proofs.Common.{◌≡◌, ℕ, IsTrue, Option, Some, None, true≢false, is_some, ap, sym, subst, ◌∙◌, arith}
+use Rattle.std.proofs.Common.{◌≡◌, ℕ, IsTrue, Some, None, true≢false, is_some, ap, sym, ◌∙◌, arith}
 use Rattle.std.specs.FinMap.{contains_key, get, insert}
 use Rattle.std.specs.Option.{option_copied_mut}
 use Rattle.bfs_tree.specs.Maps.{map_of}
