@@ -47,7 +47,7 @@ pub fn run_job(alloc: Global, tree: &Tree, job: Job) -> Result<Done, Memory>
         time,
         inodes,
     } = job;
-    let mut share = Share::new(tree, inodes);
+    let mut share = Share::new(alloc, tree, inodes);
     let reply = answer(alloc, &mut share, ordinal, time, request)?;
     Ok(Done {
         number,

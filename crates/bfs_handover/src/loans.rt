@@ -8,6 +8,7 @@ ghost use Rattle.bfs_handover.specs.Loans.{ids_of, loaned, with_loan};
 ghost use Rattle.bfs_handover.specs.LoanLending.{LendsInode, LendsLoan};
 
 use bfs_inode::Inode;
+use bfs_tree::BoxedInode;
 use bfs_types::{FileId, Memory};
 use std::alloc::Global;
 use std::marker::Model;
@@ -18,7 +19,7 @@ pub struct Loan {
     /// The fileid.
     pub id: FileId,
     /// Its inode.
-    pub inode: Option<Inode>,
+    pub inode: Option<BoxedInode>,
 }
 
 impl Loan {
@@ -27,7 +28,7 @@ impl Loan {
         ensures* writes_back { sem 𝓛 (LendsInode self.entry result) }
     {
         match &mut self.inode {
-            Some(inode) => Some(inode),
+            Some(boxed) => Some(boxed.get_mut()),
             None => None,
         }
     }
@@ -98,7 +99,7 @@ impl Loans {
         ensures { option_copied result ≡ loaned self.now id }
     {
         match place(self.loans.as_slice(), id) {
-            Some(place) => self.loans[place].inode.as_ref(),
+            Some(place) => Some(self.loans[place].inode.as_ref()?.get()),
             None => None,
         }
     }
@@ -114,7 +115,7 @@ impl Loans {
     }
 
     /// Puts that in the place of a fileid that is among them, and gives what was there.
-    pub(crate) fn put(&mut self, id: FileId, inode: Option<Inode>) -> Option<Inode>
+    pub(crate) fn put(&mut self, id: FileId, inode: Option<BoxedInode>) -> Option<BoxedInode>
         ensures value { result ≡ loaned self.old id }
         ensures put { self.new ≡ with_loan self.old id inode }
     {

@@ -6,23 +6,26 @@ ghost use Rattle.bfs_handover.specs.Laws.{knows_owned, never_whole};
 
 use crate::loans::Loans;
 use bfs_inode::Inode;
-use bfs_tree::{Store, Tree};
+use bfs_tree::{BoxedInode, Store, Tree};
 use bfs_types::FileId;
+use std::alloc::Global;
 
 /// A store for one job: it owns the inodes that it was handed, and borrows for reading the tree that they were lent out of.
 #[derive(Drop)]
 pub struct Share<'a> {
     home: &'a Tree,
     own: Loans,
+    // for the boxes of the inodes that are put in
+    alloc: Global,
 }
 
 impl<'a> Share<'a> {
-    /// The share of what was lent out of that tree.
-    pub fn new(home: &'a Tree, own: Loans) -> Share<'a>
+    /// The share of what was lent out of that tree. It allocates only where an inode is put in.
+    pub fn new(alloc: Global, home: &'a Tree, own: Loans) -> Share<'a>
         ensures home { result.home.now ≡ home.now }
         ensures own { result.own ≡ own }
     {
-        Share { home, own }
+        Share { home, own, alloc }
     }
 
     /// What it owns, to be brought home.
@@ -74,12 +77,13 @@ impl<'a> Store for Share<'a> {
 
     #[tactic(auto, using(crate::proofs::LoanLemmas::put_inserts, crate::proofs::LoanLemmas::ids_with))]
     fn insert(&mut self, id: FileId, inode: Inode) -> Result<(), Inode> {
-        self.own.put(id, Some(inode));
+        let boxed = BoxedInode::new(self.alloc, inode)?;
+        self.own.put(id, Some(boxed));
         Ok(())
     }
 
     #[tactic(auto, using(crate::proofs::LoanLemmas::put_removes, crate::proofs::LoanLemmas::ids_with, crate::proofs::LoanLemmas::get_owned))]
     fn remove(&mut self, id: FileId) -> Option<Inode> {
-        self.own.put(id, None)
+        Some(self.own.put(id, None)?.into_inode())
     }
 }

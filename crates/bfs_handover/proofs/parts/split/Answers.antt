@@ -1,8 +1,7 @@
 -- What was found for all numbers is ready to be taken, and what comes of it is split off.
-use Rattle.std.proofs.Common.{length, map, arith}
+use Rattle.std.proofs.Common.{map, arith}
 use Rattle.std.proofs.lemmas.Slice.Zip.{AllZip-long}
 use Rattle.bfs_footprint.specs.Seen.{footprint_seen}
-use Rattle.bfs_tree.specs.Tree.{at_home}
 use Rattle.bfs_handover.specs.Preparing.{IsPrepared}
 use Rattle.bfs_handover.specs.Splitting.{part_of}
 use Rattle.bfs_handover.proofs.SplitLemmas.{requested, ready_all, is_split}

@@ -1,5 +1,5 @@
 -- What was found for the number is ready to be taken, and what comes of it is split off.
-use Rattle.std.proofs.Common.{[], ◌∷◌, length, map, arith, rules}
+use Rattle.std.proofs.Common.{[], ◌∷◌, map, rules}
 use Rattle.std.proofs.lemmas.List.Elements.{All-from_recursion}
 use Rattle.bfs_footprint.specs.Seen.{footprint_seen}
 use Rattle.bfs_tree.specs.Tree.{at_home}
