@@ -47,7 +47,7 @@ fn makes_the_root(rt: HostRuntime) {
     holds!(rt; root.directory().is_some());
 }
 
-fn file(alloc: Global) -> Result<Inode, Memory> {
+pub(crate) fn file(alloc: Global) -> Result<Inode, Memory> {
     Inode::new_file(alloc, &context(first_second(), CALLER), &UNSET)
 }
 

@@ -1,7 +1,9 @@
 //! What a store knows.
-use bfs_inode::FileId;
-use bfs_testing::holds;
-use bfs_tree::{Store, Tree};
+use crate::inodes::file;
+use bfs_inode::{FileId, Inode};
+use bfs_testing::{holds, same};
+use bfs_tree::{BoxedInode, Store, Tree};
+use bfs_types::Memory;
 use std::test::Fail;
 
 #[test]
@@ -9,5 +11,16 @@ fn knows_each_fileid_of_a_whole_tree(rt: HostRuntime) -> Result<(), Fail> {
     let tree = Tree::new(rt.alloc())?;
     holds!(rt; tree.is_whole());
     holds!(rt; tree.knows(FileId::new(7)));
+    Ok(())
+}
+
+#[test]
+fn an_inode_stays_in_its_box(rt: HostRuntime) -> Result<(), Fail> {
+    let alloc = rt.alloc();
+    let mut boxed = BoxedInode::new(alloc, Inode::root(alloc)).map_err(|_| Memory)?;
+    same!(rt; boxed.get().links(), 2);
+    *boxed.get_mut() = file(alloc)?;
+    holds!(rt; boxed.get().file().is_some());
+    holds!(rt; !boxed.into_inode().is_directory());
     Ok(())
 }
