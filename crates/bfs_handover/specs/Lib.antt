@@ -1,5 +1,6 @@
 pub mod Errors
 pub mod Loans
+pub mod Held
 pub mod LoanLending
 pub mod Laws
 pub mod Places

@@ -1,5 +1,6 @@
 -- What leaves a tree and comes home, one fileid after another.
-use Rattle.std.specs.Prelude.{ℕ, ⊤, IsTrue, IsFalse, List, [], ◌∷◌}
+use Rattle.std.specs.Prelude.{ℕ, ◌<◌, ◌≤◌, ⊤, IsTrue, IsFalse, List, [], ◌∷◌, length, vec_capacity}
+use Rattle.std.specs.Global.{Vec}
 use Rattle.std.specs.FinMap.{get, insert, contains_key}
 use Rattle.bfs_model.specs.Conflicts.{among}
 use Rattle.bfs_tree.specs.Slots.{Slots}
@@ -44,3 +45,7 @@ AreDistinct (id ∷ ids) = IsFalse (among ids id) × AreDistinct ids
 -- none of these is lent out
 abbrev pub AreOwned : Slots → List ℕ → Type 0
 AreOwned slots ids = (id : ℕ) → IsTrue (among ids id) → IsTrue ((reach_of slots).owned id)
+
+-- more than one loan has its place in a vector; one alone needs none
+abbrev pub HasRoom : List ℕ → Vec Loan → Type 0
+HasRoom ids room = 1 < length ids → length ids ≤ vec_capacity room

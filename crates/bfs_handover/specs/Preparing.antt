@@ -1,10 +1,10 @@
 -- What is found before inodes move, and what comes of it.
-use Rattle.std.specs.Prelude.{◌≡◌, ℕ, ◌+◌, ◌<◌, ◌≤◌, ⊤, List, [], ◌∷◌, ◌++◌, length, map, vec_capacity}
+use Rattle.std.specs.Prelude.{◌≡◌, ℕ, ◌+◌, ◌<◌, ◌≤◌, ⊤, List, [], ◌∷◌, ◌++◌, length, map}
 use Rattle.bfs_model.specs.Conflicts.{among}
 use Rattle.bfs_model.specs.Shares.{moved_for}
 use Rattle.bfs_footprint.specs.Seen.{footprint_seen}
 use Rattle.bfs_tree.specs.Slots.{Slots}
-use Rattle.bfs_handover.specs.Moves.{AreAtHome, AreDistinct, lent_out, taken}
+use Rattle.bfs_handover.specs.Moves.{AreAtHome, AreDistinct, HasRoom, lent_out, taken}
 use Rattle.bfs_handover.specs.Splitting.{Part, part_of, request_of, ordinal_of, footprint_for}
 use Rattle.bfs_handover.specs.declared.job.Job.{Job}
 use Rattle.bfs_handover.specs.declared.parts.Part as declared
@@ -32,7 +32,7 @@ pub record IsPrepared (part : Part) (number : ℕ) (one : Prepared) : Type 0 whe
   pub time : one.time ≡ part.time
   pub ids : AreOnce one.ids (moved_for (footprint_for part number))
   pub empty : one.room.items ≡ []
-  pub room : length one.ids ≤ vec_capacity one.room
+  pub room : HasRoom one.ids one.room
 
 abbrev pub all_ids : List Prepared → List ℕ
 all_ids [] = []
@@ -41,7 +41,7 @@ all_ids (one ∷ others) = one.ids ++ all_ids others
 -- the inodes of each are at home, when those before are out, and there is room for them
 abbrev pub AreReady : Slots → List Prepared → Type 0
 AreReady slots [] = ⊤
-AreReady slots (one ∷ others) = AreAtHome slots one.ids × (one.room.items ≡ []) × (length one.ids ≤ vec_capacity one.room) × AreReady (lent_out one.ids slots) others
+AreReady slots (one ∷ others) = AreAtHome slots one.ids × (one.room.items ≡ []) × HasRoom one.ids one.room × AreReady (lent_out one.ids slots) others
 
 -- the tree when the inodes of all are out
 abbrev pub all_out : List Prepared → Slots → Slots

@@ -1,6 +1,7 @@
 //! The way of inodes from a tree to the jobs that change them, and back.
 #![tactic(auto)]
 
+mod held;
 mod job;
 mod laws;
 mod loans;

@@ -1,12 +1,13 @@
-ghost use Rattle.std.specs.Prelude.{◌≡◌, ◌==◌, ◌++◌, ◌∷◌, [], OnOk, OnErr, IfSome, IfNone};
-ghost use Rattle.std.specs.List.{list_any, position};
+ghost use Rattle.std.specs.Prelude.{◌≡◌, ◌==◌, ◌++◌, ◌∷◌, [], OnOk, OnErr};
+ghost use Rattle.std.specs.List.{list_any};
 ghost use Rattle.std.specs.Option.{option_copied, option_copied_mut};
 ghost use Rattle.std.specs.Borrow.{sem};
-ghost use Rattle.bfs_handover.specs.Places.{IsPlace, IsNowhere};
 ghost use Rattle.bfs_model.specs.Conflicts.{among};
 ghost use Rattle.bfs_handover.specs.Loans.{ids_of, loaned, with_loan};
 ghost use Rattle.bfs_handover.specs.LoanLending.{LendsInode, LendsLoan};
+ghost use Rattle.bfs_handover.specs.Held.{loans_in};
 
+use crate::held::Held;
 use bfs_inode::Inode;
 use bfs_tree::BoxedInode;
 use bfs_types::{FileId, Memory};
@@ -23,7 +24,7 @@ pub struct Loan {
 }
 
 impl Loan {
-    fn inode_mut(&mut self) -> Option<&mut Inode>
+    pub(crate) fn inode_mut(&mut self) -> Option<&mut Inode>
         ensures value { option_copied_mut result ≡ self.old.inode }
         ensures* writes_back { sem 𝓛 (LendsInode self.entry result) }
     {
@@ -34,10 +35,10 @@ impl Loan {
     }
 }
 
-/// What was lent out of a tree at some fileids.
+/// What was lent out of a tree at some fileids. One loan alone takes no memory.
 #[derive(Debug, Drop)]
 pub struct Loans {
-    loans: Vec<Loan>,
+    held: Held,
 }
 
 impl Model for Loans {
@@ -46,7 +47,9 @@ impl Model for Loans {
 
     ghost Value = { List Loan };
 
-    ghost view = { λ loans. loans.loans.items };
+    ghost use Rattle.bfs_handover.specs.Held.{loans_in};
+
+    ghost view = { λ loans. loans_in loans.held };
 }
 
 impl Loans {
@@ -54,21 +57,30 @@ impl Loans {
     pub fn new(alloc: Global) -> Loans
         ensures { result ≡ [] }
     {
-        Loans {
-            loans: Vec::new(alloc),
-        }
+        Loans::of(Vec::new(alloc))
     }
 
     pub(crate) fn of(loans: Vec<Loan>) -> Loans
         ensures { result ≡ loans.items }
     {
-        Loans { loans }
+        Loans {
+            held: Held::Many(loans),
+        }
     }
 
-    pub(crate) fn into_vec(self) -> Vec<Loan>
-        ensures { result.items ≡ self }
+    // that one alone, with memory for more from there
+    pub(crate) fn one(alloc: Global, loan: Loan) -> Loans
+        ensures { result ≡ loan ∷ [] }
     {
-        self.loans
+        Loans {
+            held: Held::One(alloc, loan),
+        }
+    }
+
+    pub(crate) fn into_held(self) -> Held
+        ensures { loans_in result ≡ self }
+    {
+        self.held
     }
 
     /// Puts one last.
@@ -76,15 +88,14 @@ impl Loans {
         ensures ok { OnOk result (self.new ≡ self.old ++ loan ∷ []) }
         ensures err { OnErr result (self.new ≡ self.old) }
     {
-        self.loans.push(loan)?;
-        Ok(())
+        self.held.push(loan)
     }
 
     /// All of them.
     pub fn as_slice(&self) -> &[Loan]
         ensures { result.now ≡ self.now }
     {
-        self.loans.as_slice()
+        self.held.as_slice()
     }
 
     /// Whether that fileid is among them.
@@ -92,26 +103,20 @@ impl Loans {
     pub fn owns(&self, id: FileId) -> bool
         ensures { result ≡ among (ids_of self.now) id }
     {
-        owns(self.loans.as_slice(), id)
+        owns(self.as_slice(), id)
     }
 
     pub(crate) fn get(&self, id: FileId) -> Option<&Inode>
         ensures { option_copied result ≡ loaned self.now id }
     {
-        match place(self.loans.as_slice(), id) {
-            Some(place) => Some(self.loans[place].inode.as_ref()?.get()),
-            None => None,
-        }
+        self.held.get(id)
     }
 
     pub(crate) fn get_mut(&mut self, id: FileId) -> Option<&mut Inode>
         ensures value { option_copied_mut result ≡ loaned self.old id }
         ensures* writes_back { sem 𝓛 (LendsLoan self.entry id result) }
     {
-        match place(self.loans.as_slice(), id) {
-            Some(place) => self.loans[place].inode_mut(),
-            None => None,
-        }
+        self.held.get_mut(id)
     }
 
     /// Puts that in the place of a fileid that is among them, and gives what was there.
@@ -119,25 +124,8 @@ impl Loans {
         ensures value { result ≡ loaned self.old id }
         ensures put { self.new ≡ with_loan self.old id inode }
     {
-        match place(self.loans.as_slice(), id) {
-            Some(place) => std::mem::replace(&mut self.loans[place].inode, inode),
-            None => None,
-        }
+        self.held.put(id, inode)
     }
-}
-
-#[tactic(auto, using(crate::proofs::LoanLemmas::place_found, crate::proofs::LoanLemmas::place_nowhere))]
-fn place(loans: &[Loan], id: FileId) -> Option<usize>
-    ensures found { IfSome result (λ place. IsPlace loans.now id place) }
-    ensures nowhere { IfNone result (IsNowhere loans.now id) }
-{
-    position(loans, id)
-}
-
-fn position(loans: &[Loan], id: FileId) -> Option<usize>
-    ensures { result ≡ position (λ loan. loan.id == id) loans.now }
-{
-    loans.iter().position(|loan| loan.id == id)
 }
 
 fn owns(loans: &[Loan], id: FileId) -> bool

@@ -1,7 +1,8 @@
 ghost use Rattle.std.specs.Prelude.{◌≡◌, ◌+◌, ◌≤◌, [], OnOk, length, vec_len, vec_capacity};
 ghost use Rattle.bfs_tree.specs.Tree.{at_home, lent};
-ghost use Rattle.bfs_handover.specs.Moves.{AreAtHome, AreLent, brought_home, lent_out, reserved_all, taken};
+ghost use Rattle.bfs_handover.specs.Moves.{AreAtHome, AreLent, HasRoom, brought_home, lent_out, reserved_all, taken};
 
+use crate::held::Held;
 use crate::loans::{Loan, Loans};
 use bfs_tree::Tree;
 use bfs_types::{FileId, Memory};
@@ -19,8 +20,24 @@ pub(crate) fn reserve(tree: &mut Tree, ids: &[FileId]) -> Result<(), Memory>
     Ok(())
 }
 
-// Takes what has these fileids out of the tree, into a vector that has room for it.
+// Takes what has these fileids out of the tree. Where they are more than one, it goes into a vector that has room for it.
 pub(crate) fn take(tree: &mut Tree, ids: &[FileId], room: Vec<Loan>) -> Loans
+    requires home { AreAtHome tree.old ids.now }
+    requires empty { room.items ≡ [] }
+    requires room { HasRoom ids.now room }
+    ensures loans { result ≡ taken ids.now tree.old }
+    ensures out { tree.new ≡ lent_out ids.now tree.old }
+{
+    if ids.len() == 1 {
+        let id = ids[0];
+        let inode = tree.lend_out(id);
+        return Loans::one(*room.allocator(), Loan { id, inode });
+    }
+    take_each(tree, ids, room)
+}
+
+// Takes what has these fileids out of the tree, into a vector that has room for it.
+fn take_each(tree: &mut Tree, ids: &[FileId], room: Vec<Loan>) -> Loans
     requires home { AreAtHome tree.old ids.now }
     requires empty { room.items ≡ [] }
     requires room { length ids.now ≤ vec_capacity room }
@@ -40,7 +57,17 @@ pub(crate) fn bring(tree: &mut Tree, loans: Loans)
     requires { AreLent tree.old loans }
     ensures { tree.new ≡ brought_home loans tree.old }
 {
-    for loan in loans.into_vec() {
+    match loans.into_held() {
+        Held::One(_, loan) => tree.bring_home(loan.id, loan.inode),
+        Held::Many(loans) => bring_each(tree, loans),
+    }
+}
+
+fn bring_each(tree: &mut Tree, loans: Vec<Loan>)
+    requires { AreLent tree.old loans.items }
+    ensures { tree.new ≡ brought_home loans.items tree.old }
+{
+    for loan in loans {
         tree.bring_home(loan.id, loan.inode);
     }
 }

@@ -4,7 +4,7 @@ ghost use Rattle.bfs_model.specs.Groups.{AreDisjoint};
 ghost use Rattle.bfs_model.specs.Shares.{moved_for};
 ghost use Rattle.bfs_footprint.specs.Seen.{footprint_seen};
 ghost use Rattle.bfs_tree.specs.Tree.{at_home, lent, reach_of};
-ghost use Rattle.bfs_handover.specs.Moves.{AreAtHome, lent_out, reserved_all};
+ghost use Rattle.bfs_handover.specs.Moves.{AreAtHome, HasRoom, lent_out, reserved_all};
 ghost use Rattle.bfs_handover.specs.Splitting.{CanBeSplit, IsFoundOn, IsSplit, footprints_for, part_of};
 ghost use Rattle.bfs_handover.specs.Preparing.{AreOnce, AreReady, IsPrepared, IsWithin, all_ids, all_out, job_of, jobs_of, part_seen};
 
@@ -98,7 +98,7 @@ struct Prepared<'a> {
     ordinal: Ordinal,
     time: Time,
     ids: FileIds,
-    // for their inodes
+    // for their inodes, where they are more than one
     room: Vec<Loan>,
 }
 
@@ -137,7 +137,11 @@ fn prepare<'a>(
 {
     let place = number as usize - part.first;
     let ids = written(&part.footprints[place]);
-    let room = Vec::with_capacity(alloc, ids.as_slice().len())?;
+    let many = match ids.as_slice().len() {
+        1 => 0,
+        count => count,
+    };
+    let room = Vec::with_capacity(alloc, many)?;
     reserve(tree, ids.as_slice())?;
     Ok(Prepared {
         number,
@@ -191,7 +195,7 @@ fn take_all<'a>(tree: &mut Tree, prepared: Vec<Prepared<'a>>, room: Vec<Job<'a>>
 fn take_one<'a>(tree: &mut Tree, one: Prepared<'a>) -> Job<'a>
     requires home { AreAtHome tree.old one.ids }
     requires empty { one.room.items ≡ [] }
-    requires room { length one.ids ≤ vec_capacity one.room }
+    requires room { HasRoom one.ids one.room }
     ensures job { result ≡ job_of one.entry tree.old }
     ensures out { tree.new ≡ lent_out one.entry.ids tree.old }
 {

@@ -1,6 +1,6 @@
 use Rattle.std.proofs.Common.{◌≡◌, ◌+◌, ◌≤◌, ◌++◌, drop, length, vec_len, vec_capacity}
 use Rattle.bfs_handover.specs.Moves.{AreAtHome, lent_out, taken}
-use Rattle.bfs_handover.proofs.moves.take.Given as goal
+use Rattle.bfs_handover.proofs.moves.take_each.Given as goal
 
 abbrev pub invariant-loop-id : goal.invariant-loop-id
 invariant-loop-id l =
