@@ -14,6 +14,9 @@ const LONG: usize = 4 << 20;
 // how many requests a batch of few has: they are planned together
 const FEW: usize = 64;
 
+// how many workers gain by the threads of such a level: with one beside the calling thread, what splitting and merging take is lost
+const MANY_WORKERS: u32 = 3;
+
 // of a batch of more, how many are planned before it is known whether planning those behind them is worth its time
 const FIRST: usize = 16;
 
@@ -29,7 +32,7 @@ const PAUSE: usize = 4;
 #[derive(Clone, Copy, Debug)]
 pub(crate) struct Rounds {
     workers: Workers,
-    // whether the batch may have a run, or a level, that always gets threads
+    // whether the batch may have a run, or a level, that always gets threads, and there are workers enough
     has_long: bool,
     // how many of the others may get threads
     left: u32,
@@ -54,7 +57,7 @@ impl Rounds {
         };
         Rounds {
             workers,
-            has_long: bytes >= LONG,
+            has_long: bytes >= LONG && workers.count() >= MANY_WORKERS,
             left,
             first,
             pause: 0,
@@ -110,6 +113,11 @@ impl Rounds {
                 level.add(request.as_slice().len(), footprint);
             }
         }
+        if self.has_long {
+            for level in &mut levels {
+                level.has_threads = level.bytes >= LONG;
+            }
+        }
         for _ in 0..self.left {
             let short = levels.iter_mut().filter(|level| !level.has_threads);
             match short.max_by_key(|level| level.writers) {
@@ -153,7 +161,6 @@ impl Level {
                 self.writers = self.writers.saturating_add(1);
             }
         }
-        self.has_threads = self.bytes >= LONG;
     }
 }
 

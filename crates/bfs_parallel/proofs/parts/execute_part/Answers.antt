@@ -1,5 +1,5 @@
 -- Requests that were planned together are executed in order, or, two and more, as a group.
-use Rattle.std.proofs.Common.{◌≡◌, map, sym, subst, ◌∙◌}
+use Rattle.std.proofs.Common.{map, sym, subst, ◌∙◌}
 use Rattle.std.specs.Prelude.{IfOk}
 use Rattle.bfs_footprint.specs.Seen.{footprint_seen}
 use Rattle.bfs_tree.specs.Tree.{at_home}

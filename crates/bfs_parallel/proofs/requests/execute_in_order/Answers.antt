@@ -1,10 +1,10 @@
 -- Each request is the next of those that are left.
-use Rattle.std.proofs.Common.{◌≡◌, ◌<◌, ◌+◌, ◌-◌, length, map, take, drop, refl, sym, subst, arith}
+use Rattle.std.proofs.Common.{◌≡◌, ◌<◌, ◌+◌, ◌-◌, length, map, take, drop, refl, subst, arith}
 use Rattle.bfs_model.specs.Groups.{footprints_at}
 use Rattle.bfs_footprint.specs.Seen.{footprint_seen}
 use Rattle.bfs_levels.specs.Requests.{requests_from}
 use Rattle.bfs_tree.specs.Tree.{at_home}
-use Rattle.bfs_parallel.proofs.InOrder.{IsGoingOn, ends, goes_on, is_found}
+use Rattle.bfs_parallel.proofs.InOrder.{goes_on, is_found}
 use Rattle.bfs_parallel.proofs.requests.execute_in_order.Goals as goal
 
 pub execute_one-requires-clause-found : goal.execute_one-requires-clause-found

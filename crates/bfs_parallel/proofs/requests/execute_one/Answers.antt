@@ -1,5 +1,5 @@
 -- A request that may touch any inode is executed on all of them, another on its share.
-use Rattle.std.proofs.Common.{sym, ◌∙◌, arith, rules}
+use Rattle.std.proofs.Common.{sym, ◌∙◌, arith}
 use Rattle.bfs_parallel.proofs.Ones.{can_one, can_run_one, executed_one, found_one, is_one, out_one}
 use Rattle.bfs_parallel.proofs.requests.execute_one.Goals as goal
 
