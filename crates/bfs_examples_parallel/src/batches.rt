@@ -1,5 +1,5 @@
 //! The replies and the file system are those of the serial executor.
-use crate::requests::{attributes, create, remove, status, write};
+use crate::requests::{attributes, create, remove, status, write, write_much};
 use bfs_parallel::{Engine, execute_parallel};
 use bfs_serial::{Batch, ExecError, FileSystem, Replies, execute_serial};
 use bfs_testing::{holds, same};
@@ -14,7 +14,8 @@ use std::thread::Threads;
 /// The engines that execute batches on threads.
 pub(crate) static ENGINES: &[Engine] = &[Engine::Runs, Engine::Levels];
 
-const FILES: u32 = 70;
+// so many that the batches are short, of which several runs get threads
+const FILES: u32 = 9;
 
 /// A batch without requests at that second.
 pub(crate) fn batch_at(alloc: Global, second: u32) -> Result<Batch, Fail> {
@@ -125,6 +126,24 @@ fn executes_as_many_requests_as_there_are(rt: HostRuntime) -> Result<(), Fail> {
             let creates = creates(rt.alloc(), count)?;
             let writes = writes(rt.alloc(), count)?;
             executes_both_alike(&rt, *engine, workers, &creates, &writes)?;
+        }
+    }
+    Ok(())
+}
+
+// so many bytes that each engine plans the whole batch, and starts threads for it where there are workers enough
+#[test]
+fn executes_much_to_write_as_one_after_another(rt: HostRuntime) -> Result<(), Fail> {
+    let alloc = rt.alloc();
+    let creates = creates(alloc, 520)?;
+    let mut batch = batch_at(alloc, 2)?;
+    for index in 0u32..520 {
+        batch.push(write_much(alloc, index, index.saturating_add(3))?.as_slice())?;
+    }
+    for engine in ENGINES {
+        for count in [2, 3, 8] {
+            let workers = Workers::new(count).ok_or("workers")?;
+            executes_both_alike(&rt, *engine, workers, &creates, &batch)?;
         }
     }
     Ok(())

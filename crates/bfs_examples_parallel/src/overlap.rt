@@ -1,12 +1,13 @@
 //! That requests of a run overlap: each test has a gate that holds a job back until another has come so far.
 ghost use Rattle.std.specs.Prelude.{⊤};
 
-use crate::batches::{ENGINES, creates, same_replies, writes};
+use crate::batches::{ENGINES, batch_at, creates, same_replies, writes};
+use crate::requests::write;
 use bfs_handover::{Done, Job, run_job};
 use bfs_parallel::{Engine, execute_parallel};
 use bfs_serial::{FileSystem, execute_serial};
-use bfs_testing::holds;
 use bfs_testing::meetings::Meeting;
+use bfs_testing::{holds, same};
 use bfs_tree::Tree;
 use bfs_types::Memory;
 use bfs_workers::{Gate, Workers};
@@ -16,22 +17,25 @@ use std::sync::Wait;
 use std::test::Fail;
 use std::thread::Threads;
 
-// holds the first request back until the second has its result
+// holds the request of a number back until the one behind it has its result
 #[derive(Drop)]
-struct FirstAfterSecond {
-    second: Meeting,
+struct OneAfterNext {
+    one: u32,
+    next: Meeting,
 }
 
-impl Gate for FirstAfterSecond {
+impl Gate for OneAfterNext {
     ghost ran = { λ _ _. ⊤ };
 
     fn run(&self, alloc: Global, tree: &Tree, job: Job<'_>) -> Result<Done, Memory> {
-        if job.number == 0 {
-            self.second.wait();
-            return run_job(alloc, tree, job);
+        let number = job.number;
+        if number == self.one {
+            self.next.wait();
         }
         let done = run_job(alloc, tree, job)?;
-        self.second.come();
+        if number == self.one.saturating_add(1) {
+            self.next.come();
+        }
         Ok(done)
     }
 }
@@ -75,11 +79,35 @@ fn overlaps<R: Threads + Wait + AllocGlobal + Abort + Sync, G: Gate + Sync>(
 #[test]
 fn second_of_two_writes_ends_first(rt: HostRuntime) -> Result<(), Fail> {
     for engine in ENGINES {
-        let gate = FirstAfterSecond {
-            second: Meeting::of(1),
+        let gate = OneAfterNext {
+            one: 0,
+            next: Meeting::of(1),
         };
         overlaps(&rt, *engine, 2, &gate)?;
-        holds!(rt; gate.second.took_place());
+        holds!(rt; gate.next.took_place());
+    }
+    Ok(())
+}
+
+// two WRITEs to one file and one to another: the last two are a run
+#[test]
+fn writes_behind_a_run_of_one_overlap(rt: HostRuntime) -> Result<(), Fail> {
+    let alloc = rt.alloc();
+    let workers = Workers::new(2).ok_or("workers")?;
+    let mut batch = batch_at(alloc, 2)?;
+    for (index, file) in [(0, 3), (1, 3), (2, 4)] {
+        batch.push(write(alloc, index, file)?.as_slice())?;
+    }
+    for engine in ENGINES {
+        let gate = OneAfterNext {
+            one: 1,
+            next: Meeting::of(1),
+        };
+        let mut files = FileSystem::new(alloc)?;
+        execute_serial(alloc, &mut files, &creates(alloc, 2)?)?;
+        let replies = execute_parallel(&rt, alloc, &mut files, &batch, workers, *engine, &gate)?;
+        same!(rt; replies.len(), 3);
+        holds!(rt; gate.next.took_place());
     }
     Ok(())
 }

@@ -30,6 +30,17 @@ pub(crate) fn write(alloc: Global, xid: u32, file: u32) -> Result<Vec<u8>, Memor
     Ok(bytes)
 }
 
+static MUCH: [u8; 8192] = [7; 8192];
+
+/// WRITE of 8,192 bytes at the beginning of a file.
+pub(crate) fn write_much(alloc: Global, xid: u32, file: u32) -> Result<Vec<u8>, Memory> {
+    let mut bytes = call(alloc, xid, WRITE)?;
+    let handle = &[0x42465332, 1, file, 0, 0, 0, 0, 0];
+    put_parts(&mut bytes, &[handle, &[0, 0, 0]])?;
+    put_opaque(&mut bytes, &MUCH)?;
+    Ok(bytes)
+}
+
 /// GETATTR of a file.
 pub(crate) fn attributes(alloc: Global, xid: u32, file: u32) -> Result<Vec<u8>, Memory> {
     let mut bytes = call(alloc, xid, GETATTR)?;

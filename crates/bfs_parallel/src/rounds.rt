@@ -23,7 +23,8 @@ const FIRST: usize = 16;
 // how many runs or levels of a batch of few requests get threads however short they are; of a batch of more requests it is one
 const ROUNDS: u32 = 8;
 
-// behind requests that were planned and got no threads, so many times as many are executed unplanned, and each time so many times more
+// of such a batch, behind requests that were planned and got no threads, so many times as many are executed unplanned, and each time so
+// many times more
 const PAUSE: usize = 4;
 
 /// Which requests of a batch are planned together, which of them are executed on threads, and which one after another on the calling
@@ -50,10 +51,10 @@ impl Rounds {
         for request in batch.requests() {
             bytes = bytes.saturating_add(request.as_slice().len());
         }
-        let (left, first) = if batch.len() <= FEW {
-            (ROUNDS, FEW)
+        let (left, first, next_pause) = if batch.len() <= FEW {
+            (ROUNDS, FEW, 0)
         } else {
-            (1, FIRST)
+            (1, FIRST, FIRST * PAUSE)
         };
         Rounds {
             workers,
@@ -61,7 +62,7 @@ impl Rounds {
             left,
             first,
             pause: 0,
-            next_pause: FIRST * PAUSE,
+            next_pause,
         }
     }
 
