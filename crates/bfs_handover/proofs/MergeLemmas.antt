@@ -81,7 +81,7 @@ still_lent id q ids s o single is out = ap is_some (get-lent_brought s id o q) �
     by_test true e = absurd (true≢false (sym is ∙ ap (among ids) (sym (eqb-true id q e)) ∙ single))
     by_test false e = out
 
-are_lent : (loans : List Loan) (s : Slots) → AreDistinct (ids_of loans) → ((id : ℕ) → among (ids_of loans) id ≡ true → contains_key (lent s) id ≡ true) → AreLent s loans
+pub are_lent : (loans : List Loan) (s : Slots) → AreDistinct (ids_of loans) → ((id : ℕ) → among (ids_of loans) id ≡ true → contains_key (lent s) id ≡ true) → AreLent s loans
 are_lent [] s distinct out = tt
 are_lent (loan ∷ loans) s distinct out = (
   out loan.id (itself_among loan.id (ids_of loans)),

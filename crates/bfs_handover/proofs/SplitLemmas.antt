@@ -1,11 +1,11 @@
 -- What is split off a tree is what was found before, and can be run on what stays.
-use Rattle.std.proofs.Common.{◌≡◌, ℕ, zero, suc, ◌+◌, ◌-◌, ◌<◌, ◌≤◌, Bool, true, false, cond, not, true≢false, List, [], ◌∷◌, ◌++◌, length, map, take, drop, get_or, Option, Some, None, is_some, inl, inr, refl, sym, ap, subst, ◌∙◌, arith, eqb-true}
+use Rattle.std.proofs.Common.{◌≡◌, ℕ, zero, suc, ◌+◌, ◌-◌, ◌<◌, ◌≤◌, Bool, true, false, cond, not, true≢false, List, [], ◌∷◌, ◌++◌, length, map, take, drop, get_or, Option, Some, None, is_some, Result, Ok, Err, IfOk, inl, inr, refl, sym, ap, subst, ◌∙◌, arith, eqb-true}
 use Rattle.std.specs.Prelude.{◌==◌, ◌||◌, slice_get, min}
 use Rattle.std.specs.List.{All, AllByRecursion, AllZip}
 use Rattle.std.specs.FinMap.{get}
 use Rattle.std.proofs.Math.Bool.{or-false, or_comm}
 use Rattle.std.proofs.lemmas.Bool.{false_from_ne_true, or_left, or_right}
-use Rattle.std.proofs.lemmas.List.{get_or-drop, get_or-take, length-drop, length-take}
+use Rattle.std.proofs.lemmas.List.{append-nil, append_assoc, get_or-drop, get_or-take, length-drop, length-take, take_more}
 use Rattle.std.proofs.lemmas.List.Elements.{All-from_recursion, recursion_from_All}
 use Rattle.std.proofs.lemmas.Option.{get_or_from_slice_get}
 use Rattle.bfs_model.specs.Tree.{Time, Inodes, spent_ordinal}
@@ -28,13 +28,13 @@ use Rattle.bfs_footprint.specs.Seen.{footprint_seen}
 use Rattle.bfs_footprint.specs.declared.footprints.Footprint as declared
 use Rattle.bfs_handover.specs.Loans.{ids_of, loaned, put_in, reach_with}
 use Rattle.bfs_handover.specs.Jobs.{CanRun}
-use Rattle.bfs_handover.specs.Moves.{AreAtHome, AreDistinct, lent_out, reserved_all, taken}
-use Rattle.bfs_handover.specs.Preparing.{AreOnce, AreReady, IsPrepared, all_ids, all_out, job_of, jobs_of}
+use Rattle.bfs_handover.specs.Moves.{AreAtHome, AreDistinct, AreOwned, lent_out, taken}
 use Rattle.bfs_handover.specs.Splitting.{CanBeSplit, IsFoundOn, IsJobOf, IsSplit, Part, footprint_for, footprints_for, ordinal_of, request_of}
+use Rattle.bfs_handover.specs.Taking.{AreJobs, AreOnce, IsTaken, all_ids, all_loans}
 use Rattle.bfs_handover.specs.declared.job.Job.{Job}
-use Rattle.bfs_handover.specs.declared.parts.Prepared.{Prepared}
+use Rattle.bfs_handover.specs.declared.loans.Loan.{Loan}
 use Rattle.bfs_handover.proofs.LoanLemmas.{get-put_in}
-use Rattle.bfs_handover.proofs.MoveLemmas.{among_both, none_among, distinct_both, reserved_both, out_both, at_home_both, home_out, is_out, ids_taken, loaned_taken, ready}
+use Rattle.bfs_handover.proofs.MoveLemmas.{among_both, none_among, distinct_both, from_here, out_both, taken_both, are_at_home, at_home_both, home_out, is_out, loaned_taken}
 
 -- Each fileid once -----------------------------------------------------------------------------------------------------------
 
@@ -120,40 +120,103 @@ apart_from_all f (g ∷ gs) q all is =
     (moved_is_written g q (false_from_ne_true (is_written g q) (λ both. true≢false (sym (written_is_touched g q both) ∙ (apart f g all.0).first q (moved_written f q is)))))
     (apart_from_all f gs q all.1 is)
 
-pub all_out_is : (ps : List Prepared) (s : Slots) → all_out ps s ≡ lent_out (all_ids ps) s
-all_out_is [] s = refl
-all_out_is (p ∷ ps) s = all_out_is ps (lent_out p.ids s) ∙ sym (out_both p.ids (all_ids ps) s)
-
-pub places_more : (ps : List Prepared) (p : Prepared) (s : Slots) → reserved_all (all_ids (ps ++ p ∷ [])) s ≡ reserved_all p.ids (reserved_all (all_ids ps) s)
-places_more [] p s = reserved_both p.ids [] s
-places_more (first ∷ ps) p s =
-    reserved_both first.ids (all_ids (ps ++ p ∷ [])) s ∙ places_more ps p (reserved_all first.ids s) ∙ ap (reserved_all p.ids) (sym (reserved_both first.ids (all_ids ps) s))
-
 module _ (part : Part) where
-  moved_are : (numbers : List ℕ) (ps : List Prepared) (q : ℕ) → AllZip (IsPrepared part) numbers ps → among (all_ids ps) q ≡ among (all_moved (footprints_for part numbers)) q
-  moved_are [] [] q all = refl
-  moved_are [] (p ∷ ps) q all = absurd all
-  moved_are (n ∷ ns) [] q all = absurd all
-  moved_are (n ∷ ns) (p ∷ ps) q all =
-      among_both p.ids (all_ids ps) q
-      ∙ ap (λ b. b || among (all_ids ps) q) (all.0.ids.same q)
-      ∙ ap (λ b. among (moved_for (footprint_for part n)) q || b) (moved_are ns ps q all.1)
+  moved_are : (numbers : List ℕ) (jobs : List Job) (s : Slots) (q : ℕ) → AreJobs part numbers jobs s → among (all_ids jobs) q ≡ among (all_moved (footprints_for part numbers)) q
+  moved_are [] [] s q are = refl
+  moved_are [] (job ∷ jobs) s q are = absurd are
+  moved_are (n ∷ ns) [] s q are = absurd are
+  moved_are (n ∷ ns) (job ∷ jobs) s q are =
+      among_both (ids_of job.inodes) (all_ids jobs) q
+      ∙ ap (λ b. b || among (all_ids jobs) q) (are.0.ids.same q)
+      ∙ ap (λ b. among (moved_for (footprint_for part n)) q || b) (moved_are ns jobs (lent_out (ids_of job.inodes) s) q are.1)
       ∙ sym (among_both (moved_for (footprint_for part n)) (all_moved (footprints_for part ns)) q)
 
-  first_apart : (n : ℕ) (ns : List ℕ) (p : Prepared) (ps : List Prepared) (q : ℕ) → AllZip (IsPrepared part) (n ∷ ns) (p ∷ ps) → AreDisjoint (footprints_for part (n ∷ ns)) → among p.ids q ≡ true → among (all_ids ps) q ≡ false
-  first_apart n ns p ps q all disjoint is = moved_are ns ps q all.1 ∙ apart_from_all (footprint_for part n) (footprints_for part ns) q disjoint.0 (sym (all.0.ids.same q) ∙ is)
+  first_apart : (n : ℕ) (ns : List ℕ) (job : Job) (jobs : List Job) (s : Slots) (q : ℕ) → AreJobs part (n ∷ ns) (job ∷ jobs) s → AreDisjoint (footprints_for part (n ∷ ns))
+      → among (ids_of job.inodes) q ≡ true → among (all_ids jobs) q ≡ false
+  first_apart n ns job jobs s q are disjoint is =
+      moved_are ns jobs (lent_out (ids_of job.inodes) s) q are.1 ∙ apart_from_all (footprint_for part n) (footprints_for part ns) q disjoint.0 (sym (are.0.ids.same q) ∙ is)
 
-  all_distinct : (numbers : List ℕ) (ps : List Prepared) → AllZip (IsPrepared part) numbers ps → AreDisjoint (footprints_for part numbers) → AreDistinct (all_ids ps)
-  all_distinct [] [] all disjoint = tt
-  all_distinct [] (p ∷ ps) all disjoint = absurd all
-  all_distinct (n ∷ ns) [] all disjoint = absurd all
-  all_distinct (n ∷ ns) (p ∷ ps) all disjoint = distinct_both p.ids (all_ids ps) all.0.ids.distinct (all_distinct ns ps all.1 disjoint.1) (λ q is. first_apart n ns p ps q all disjoint is)
+  one_more : (numbers : List ℕ) (jobs : List Job) (s : Slots) (number : ℕ) (job : Job) → AreJobs part numbers jobs s → IsTaken part number (lent_out (all_ids jobs) s) job → AreJobs part (numbers ++ number ∷ []) (jobs ++ job ∷ []) s
+  one_more [] [] s number job are one = (one, tt)
+  one_more [] (first ∷ jobs) s number job are one = absurd are
+  one_more (n ∷ ns) [] s number job are one = absurd are
+  one_more (n ∷ ns) (first ∷ jobs) s number job are one = (
+    are.0,
+    one_more ns jobs (lent_out (ids_of first.inodes) s) number job are.1 (subst (λ t. IsTaken part number t job) (out_both (ids_of first.inodes) (all_ids jobs) s) one),
+  )
 
-  ready_each : (numbers : List ℕ) (ps : List Prepared) (s : Slots) → AllZip (IsPrepared part) numbers ps → AreAtHome s (all_ids ps) → AreReady s ps
-  ready_each [] [] s all home = tt
-  ready_each [] (p ∷ ps) s all home = absurd all
-  ready_each (n ∷ ns) [] s all home = absurd all
-  ready_each (n ∷ ns) (p ∷ ps) s all home = let both = at_home_both p.ids (all_ids ps) s home in (both.0, all.0.empty, all.0.room, ready_each ns ps (lent_out p.ids s) all.1 both.1)
+  pub loans_taken : (numbers : List ℕ) (jobs : List Job) (s : Slots) → AreJobs part numbers jobs s → all_loans jobs ≡ taken (all_ids jobs) s
+  loans_taken [] [] s are = refl
+  loans_taken [] (job ∷ jobs) s are = absurd are
+  loans_taken (n ∷ ns) [] s are = absurd are
+  loans_taken (n ∷ ns) (job ∷ jobs) s are =
+      ap (λ (loans : List Loan). loans ++ all_loans jobs) are.0.inodes
+      ∙ ap (λ (loans : List Loan). taken (ids_of job.inodes) s ++ loans) (loans_taken ns jobs (lent_out (ids_of job.inodes) s) are.1)
+      ∙ sym (taken_both (ids_of job.inodes) (all_ids jobs) s)
+
+pub ids_more : (jobs : List Job) (job : Job) → all_ids (jobs ++ job ∷ []) ≡ all_ids jobs ++ ids_of job.inodes
+ids_more [] job = append-nil (ids_of job.inodes)
+ids_more (first ∷ jobs) job = ap (λ ids. ids_of first.inodes ++ ids) (ids_more jobs job) ∙ sym (append_assoc (ids_of first.inodes) (all_ids jobs) (ids_of job.inodes))
+
+or_none : (a b : Bool) → (a || b) ≡ false → b ≡ false
+or_none true b none = absurd (true≢false none)
+or_none false b none = none
+
+-- Number after number --------------------------------------------------------------------------------------------------------
+
+-- the jobs of the first of these numbers are taken, and what the others write is not lent out
+pub record AreBegun (old : Slots) (part : Part) (numbers : List ℕ) (at : ℕ) (jobs : List Job) (t : Slots) : Type 0 where
+  pub begun : AreJobs part (take at numbers) jobs old
+  pub out : t ≡ lent_out (all_ids jobs) old
+  pub home : AreAtHome old (all_ids jobs)
+  pub whole : (reach_of old).whole ≡ true
+  pub disjoint : AreDisjoint (footprints_for part (drop at numbers))
+  pub apart : (q : ℕ) → among (all_ids jobs) q ≡ true → among (all_moved (footprints_for part (drop at numbers))) q ≡ false
+
+pub begin : (old : Slots) (part : Part) (numbers : List ℕ) → (reach_of old).whole ≡ true → AreDisjoint (footprints_for part numbers) → AreBegun old part numbers 0 [] old
+begin old part numbers all_home disjoint = record { begun = tt; out = refl; home = tt; whole = all_home; disjoint = disjoint; apart = λ q is. absurd (true≢false (sym is)) }
+
+any_default : (xs : List ℕ) (k d e : ℕ) → k < length xs → get_or xs k d ≡ get_or xs k e
+any_default [] k d e less = absurd (omega arith)
+any_default (x ∷ xs) zero d e less = refl
+any_default (x ∷ xs) (suc k) d e less = any_default xs k d e (omega arith)
+
+module _ (old : Slots) (part : Part) (numbers : List ℕ) (at : ℕ) (jobs : List Job) (t : Slots) (are : AreBegun old part numbers at jobs t) (less : at < length numbers) where
+  abbrev pub number : ℕ
+  number = get_or numbers at 0
+
+  from : drop at numbers ≡ number ∷ drop (at + 1) numbers
+  from = from_here numbers at number less (any_default numbers at 0 number less)
+
+  disjoint_from : AreDisjoint (footprints_for part (number ∷ drop (at + 1) numbers))
+  disjoint_from = subst (λ ns. AreDisjoint (footprints_for part ns)) from are.disjoint
+
+  pub next_owned : AreOwned t (moved_for (footprint_for part number))
+  next_owned q moved =
+      let free : among (all_ids jobs) q ≡ false = false_from_ne_true (among (all_ids jobs) q) (λ both. true≢false (sym
+      (among_both (moved_for (footprint_for part number)) (all_moved (footprints_for part (drop (at + 1) numbers))) q ∙ or_left (among (moved_for (footprint_for part number)) q) (among (all_moved (footprints_for part (drop (at + 1) numbers))) q) moved)
+      ∙ sym (ap (λ ns. among (all_moved (footprints_for part ns)) q) from) ∙ are.apart q both)) in
+      ap (λ s. not (is_some (get (lent s) q))) are.out ∙ ap not (is_out (all_ids jobs) old q ∙ ap (λ b. b || is_some (get (lent old) q)) free) ∙ knows_all (lent old) are.whole q
+
+  pub next : (job : Job) (u : Slots) → IsTaken part number t job → u ≡ lent_out (ids_of job.inodes) t → AreBegun old part numbers (at + 1) (jobs ++ job ∷ []) u
+  next job u one out =
+      let ids = ids_of job.inodes in
+      let here : AreAtHome (lent_out (all_ids jobs) old) ids = subst (λ s. AreAtHome s ids) are.out (are_at_home ids t (λ q member. next_owned q (sym (one.ids.same q) ∙ member)) one.ids.distinct) in
+      record {
+        begun = subst (λ ns. AreJobs part ns (jobs ++ job ∷ []) old) (sym (take_more numbers at 0 less)) (one_more part (take at numbers) jobs old number job are.begun (subst (λ s. IsTaken part number s job) are.out one));
+        out = out ∙ ap (lent_out ids) are.out ∙ sym (out_both (all_ids jobs) ids old) ∙ ap (λ xs. lent_out xs old) (sym (ids_more jobs job));
+        home = subst (AreAtHome old) (sym (ids_more jobs job)) (at_home_both (all_ids jobs) ids old are.home here);
+        whole = are.whole;
+        disjoint = disjoint_from.1;
+        apart = λ q member. by_test q (among ids q) refl (sym (ap (λ xs. among xs q) (ids_more jobs job) ∙ among_both (all_ids jobs) ids q) ∙ member);
+      }
+    where
+      by_test : (q : ℕ) (b : Bool) → among (ids_of job.inodes) q ≡ b → (among (all_ids jobs) q || b) ≡ true → among (all_moved (footprints_for part (drop (at + 1) numbers))) q ≡ false
+      by_test q true e member = apart_from_all (footprint_for part number) (footprints_for part (drop (at + 1) numbers)) q disjoint_from.0 (sym (one.ids.same q) ∙ e)
+      by_test q false e member =
+          let before : among (all_ids jobs) q ≡ true = sym (or-false (among (all_ids jobs) q)) ∙ member in
+          or_none (among (moved_for (footprint_for part number)) q) (among (all_moved (footprints_for part (drop (at + 1) numbers))) q)
+          (sym (ap (λ ns. among (all_moved (footprints_for part ns)) q) from ∙ among_both (moved_for (footprint_for part number)) (all_moved (footprints_for part (drop (at + 1) numbers))) q) ∙ are.apart q before)
 
 -- a share is the same as all inodes where its call looks
 pub share_seen : (m : Inodes) (f : Footprint) (fs : List Footprint) → ((q : ℕ) → is_touched f q ≡ true → is_there fs f q ≡ true) → AgreeOn f m (share_of m (without (all_moved fs) m) f)
@@ -172,38 +235,38 @@ share_seen m f fs there q touched = get-closed f m (without (all_moved fs) m) q 
 -- What comes of it -----------------------------------------------------------------------------------------------------------
 
 module _ (old new : Slots) (part : Part) where
-  job_is : (number : ℕ) (p : Prepared) (s : Slots) → IsPrepared part number p → is_whole (footprint_for part number) ≡ false → ((q : ℕ) → among p.ids q ≡ true → get (at_home s) q ≡ get (at_home old) q) → IsJobOf old new part number (job_of p s)
-  job_is number p s is not_whole same = record {
+  job_is : (number : ℕ) (job : Job) (s : Slots) → IsTaken part number s job → is_whole (footprint_for part number) ≡ false → ((q : ℕ) → among (ids_of job.inodes) q ≡ true → get (at_home s) q ≡ get (at_home old) q) → IsJobOf old new part number job
+  job_is number job s is not_whole same = record {
     number_is = is.number_is;
     request = is.request;
     ordinal = is.ordinal;
     time = is.time;
     share = same_inodes _ _ (λ q.
-        get-put_in (taken p.ids s) (at_home new) q
-        ∙ ap (λ ids. cond (among ids q) (loaned (taken p.ids s) q) (get (at_home new) q)) (ids_taken p.ids s)
-        ∙ by_test q (among p.ids q) refl
+        get-put_in job.inodes (at_home new) q
+        ∙ by_test q (among (ids_of job.inodes) q) refl
         ∙ ap (λ b. cond b (get (at_home old) q) (get (at_home new) q)) (is.ids.same q ∙ written_is_moved (footprint_for part number) q not_whole)
         ∙ sym (get-closed (footprint_for part number) (at_home old) (at_home new) q));
-    ids = λ q. ap (λ ids. among ids q) (ids_taken p.ids s) ∙ is.ids.same q;
-    distinct = subst AreDistinct (sym (ids_taken p.ids s)) is.ids.distinct;
+    ids = is.ids.same;
+    distinct = is.ids.distinct;
   }
     where
-      by_test : (q : ℕ) (b : Bool) → among p.ids q ≡ b → cond b (loaned (taken p.ids s) q) (get (at_home new) q) ≡ cond b (get (at_home old) q) (get (at_home new) q)
-      by_test q true e = loaned_taken p.ids s q e ∙ same q e
+      by_test : (q : ℕ) (b : Bool) → among (ids_of job.inodes) q ≡ b → cond b (loaned job.inodes q) (get (at_home new) q) ≡ cond b (get (at_home old) q) (get (at_home new) q)
+      by_test q true e = ap (λ loans. loaned loans q) is.inodes ∙ loaned_taken (ids_of job.inodes) s q e ∙ same q e
       by_test q false e = refl
 
-  each_job : (numbers : List ℕ) (ps : List Prepared) (s : Slots) → AllZip (IsPrepared part) numbers ps → AreDisjoint (footprints_for part numbers) → AllByRecursion (CanBeSplit (at_home old) part) numbers
-      → ((q : ℕ) → among (all_ids ps) q ≡ true → get (at_home s) q ≡ get (at_home old) q) → AllZip (IsJobOf old new part) numbers (jobs_of ps s)
-  each_job [] [] s all disjoint can same = tt
-  each_job [] (p ∷ ps) s all disjoint can same = absurd all
-  each_job (n ∷ ns) [] s all disjoint can same = absurd all
-  each_job (n ∷ ns) (p ∷ ps) s all disjoint can same = (
-    job_is n p s all.0 can.0.known (λ q is. same q (among_both p.ids (all_ids ps) q ∙ or_left (among p.ids q) (among (all_ids ps) q) is)),
-    each_job ns ps (lent_out p.ids s) all.1 disjoint.1 can.1 (λ q is.
-        home_out p.ids s q
-        ∙ ap (λ b. cond b None (get (at_home s) q)) (false_from_ne_true (among p.ids q) (λ both. true≢false (sym is ∙ first_apart part n ns p ps q all disjoint both)))
-        ∙ same q (among_both p.ids (all_ids ps) q ∙ or_right (among p.ids q) (among (all_ids ps) q) is)),
-  )
+  each_job : (numbers : List ℕ) (jobs : List Job) (s : Slots) → AreJobs part numbers jobs s → AreDisjoint (footprints_for part numbers) → AllByRecursion (CanBeSplit (at_home old) part) numbers
+      → ((q : ℕ) → among (all_ids jobs) q ≡ true → get (at_home s) q ≡ get (at_home old) q) → AllZip (IsJobOf old new part) numbers jobs
+  each_job [] [] s are disjoint can same = tt
+  each_job [] (job ∷ jobs) s are disjoint can same = absurd are
+  each_job (n ∷ ns) [] s are disjoint can same = absurd are
+  each_job (n ∷ ns) (job ∷ jobs) s are disjoint can same =
+      let ids = ids_of job.inodes in (
+        job_is n job s are.0 can.0.known (λ q is. same q (among_both ids (all_ids jobs) q ∙ or_left (among ids q) (among (all_ids jobs) q) is)),
+        each_job ns jobs (lent_out ids s) are.1 disjoint.1 can.1 (λ q is.
+            home_out ids s q
+            ∙ ap (λ b. cond b None (get (at_home s) q)) (false_from_ne_true (among ids q) (λ both. true≢false (sym is ∙ first_apart part n ns job jobs s q are disjoint both)))
+            ∙ same q (among_both ids (all_ids jobs) q ∙ or_right (among ids q) (among (all_ids jobs) q) is)),
+      )
 
   -- What can be run ------------------------------------------------------------------------------------------------------------
 
@@ -255,39 +318,29 @@ module _ (old new : Slots) (part : Part) where
 
 -- All together ---------------------------------------------------------------------------------------------------------------
 
--- what was found for these numbers, on a tree that is whole
-pub record AreFound (old t : Slots) (part : Part) (numbers : List ℕ) (ps : List Prepared) : Type 0 where
-  pub whole : (reach_of old).whole ≡ true
-  pub prepared : AllZip (IsPrepared part) numbers ps
-  pub disjoint : AreDisjoint (footprints_for part numbers)
-  pub places : t ≡ reserved_all (all_ids ps) old
-  pub home : at_home t ≡ at_home old
-  pub lent : lent t ≡ lent old
+-- what is known of a result in two ways
+pub from_both : {A E : Type 0} {P Q R : A → Type 0} (r : Result A E) → ((x : A) → P x → Q x → R x) → IfOk r P → IfOk r Q → IfOk r R
+from_both (Ok x) both p q = both x p q
+from_both (Err e) both p q = tt
 
-pub ready_all : (old t : Slots) (part : Part) (numbers : List ℕ) (ps : List Prepared) → AreFound old t part numbers ps → AreReady t ps
-ready_all old t part numbers ps are =
-    ready_each part numbers ps t are.prepared (ready (all_ids ps) old t are.places are.lent (λ q _. knows_all (lent old) are.whole q) (all_distinct part numbers ps are.prepared are.disjoint))
-
-pub is_split : (old t new : Slots) (part : Part) (numbers : List ℕ) (ps : List Prepared) (jobs : List Job) → AreFound old t part numbers ps → All (CanBeSplit (at_home old) part) numbers
-    → All (IsFoundOn (at_home old) part) numbers → new ≡ all_out ps t → jobs ≡ jobs_of ps t → IsSplit old new part numbers jobs
-is_split old t new part numbers ps jobs are can found new_is jobs_are =
+pub is_split : (old new : Slots) (part : Part) (numbers : List ℕ) (jobs : List Job) → (reach_of old).whole ≡ true → AreDisjoint (footprints_for part numbers) → All (CanBeSplit (at_home old) part) numbers
+    → All (IsFoundOn (at_home old) part) numbers → AreJobs part numbers jobs old → new ≡ lent_out (all_ids jobs) old → IsSplit old new part numbers jobs
+is_split old new part numbers jobs all_home disjoint can located are out_is =
     let fs = footprints_for part numbers in
     let each_can = recursion_from_All (CanBeSplit (at_home old) part) numbers can in
-    let out_is : new ≡ lent_out (all_ids ps) t = new_is ∙ all_out_is ps t in
     let home : at_home new ≡ without (all_moved fs) (at_home old) = same_inodes _ _ (λ q.
-    ap (λ s. get (at_home s) q) out_is ∙ home_out (all_ids ps) t q ∙ ap (λ m. cond (among (all_ids ps) q) None (get m q)) are.home
-    ∙ ap (λ b. cond b None (get (at_home old) q)) (moved_are part numbers ps q are.prepared)
+    ap (λ s. get (at_home s) q) out_is ∙ home_out (all_ids jobs) old q
+    ∙ ap (λ b. cond b None (get (at_home old) q)) (moved_are part numbers jobs old q are)
     ∙ turned (among (all_moved fs) q) (get (at_home old) q) ∙ sym (get-without (all_moved fs) (at_home old) q)) in
     let out : (q : ℕ) → is_some (get (lent new) q) ≡ among (all_moved fs) q = λ q.
-    ap (λ s. is_some (get (lent s) q)) out_is ∙ is_out (all_ids ps) t q ∙ ap (λ m. among (all_ids ps) q || is_some (get m q)) are.lent
-    ∙ none_more (among (all_ids ps) q) (is_some (get (lent old) q)) (knows_all (lent old) are.whole q) ∙ moved_are part numbers ps q are.prepared in
-    let each : AllZip (IsJobOf old new part) numbers jobs =
-    subst (AllZip (IsJobOf old new part) numbers) (sym jobs_are) (each_job old new part numbers ps t are.prepared are.disjoint each_can (λ q _. ap (λ m. get m q) are.home)) in
+    ap (λ s. is_some (get (lent s) q)) out_is ∙ is_out (all_ids jobs) old q
+    ∙ none_more (among (all_ids jobs) q) (is_some (get (lent old) q)) (knows_all (lent old) all_home q) ∙ moved_are part numbers jobs old q are in
+    let each : AllZip (IsJobOf old new part) numbers jobs = each_job old new part numbers jobs old are disjoint each_can (λ q _. refl) in
     record {
       each = each;
       home = home;
       out = out;
-      can_run = All-from_recursion (CanRun new) jobs (can_run_each old new part fs home out numbers jobs each each_can (shares_know fs are.disjoint) (recursion_from_All (IsFoundOn (at_home old) part) numbers found));
+      can_run = All-from_recursion (CanRun new) jobs (can_run_each old new part fs home out numbers jobs each each_can (shares_know fs disjoint) (recursion_from_All (IsFoundOn (at_home old) part) numbers located));
     }
   where
     turned : {X : Type 0} (b : Bool) (o : Option X) → cond b None o ≡ cond (not b) o None

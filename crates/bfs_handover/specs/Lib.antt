@@ -7,7 +7,7 @@ pub mod Places
 pub mod Jobs
 pub mod Moves
 pub mod Splitting
-pub mod Preparing
+pub mod Taking
 pub mod Merging
 pub mod Homecoming
 pub mod Carrying

@@ -8,10 +8,10 @@ use Rattle.bfs_tree.specs.Tree.{at_home, lent, reach_of, brought, reserved}
 use Rattle.bfs_tree.specs.declared.slots.Slot.TheVariants as slot
 use Rattle.bfs_handover.specs.declared.loans.Loan.{Loan}
 
--- each has its place and is at home, when those before it are out
+-- none of these is lent out, when those before it are out
 abbrev pub AreAtHome : Slots → List ℕ → Type 0
 AreAtHome slots [] = ⊤
-AreAtHome slots (id ∷ ids) = IsTrue (contains_key slots id) × IsTrue ((reach_of slots).owned id) × AreAtHome (insert slots id slot.Lent) ids
+AreAtHome slots (id ∷ ids) = IsTrue ((reach_of slots).owned id) × AreAtHome (insert slots id slot.Lent) ids
 
 -- the tree when these are out
 abbrev pub lent_out : List ℕ → Slots → Slots
@@ -33,11 +33,6 @@ abbrev pub brought_home : List Loan → Slots → Slots
 brought_home [] slots = slots
 brought_home (loan ∷ loans) slots = brought_home loans (brought slots loan.id loan.inode)
 
--- the tree with a place for each of these
-abbrev pub reserved_all : List ℕ → Slots → Slots
-reserved_all [] slots = slots
-reserved_all (id ∷ ids) slots = reserved_all ids (reserved slots id)
-
 abbrev pub AreDistinct : List ℕ → Type 0
 AreDistinct [] = ⊤
 AreDistinct (id ∷ ids) = IsFalse (among ids id) × AreDistinct ids
@@ -45,7 +40,3 @@ AreDistinct (id ∷ ids) = IsFalse (among ids id) × AreDistinct ids
 -- none of these is lent out
 abbrev pub AreOwned : Slots → List ℕ → Type 0
 AreOwned slots ids = (id : ℕ) → IsTrue (among ids id) → IsTrue ((reach_of slots).owned id)
-
--- more than one loan has its place in a vector; one alone needs none
-abbrev pub HasRoom : List ℕ → Vec Loan → Type 0
-HasRoom ids room = 1 < length ids → length ids ≤ vec_capacity room

@@ -1,16 +1,15 @@
 ghost use Rattle.std.specs.Prelude.{◌≡◌, ◌≤◌, [], ◌∷◌, All, IfOk, IsTrue, OnErr, length, map, vec_capacity};
-ghost use Rattle.std.specs.List.{AllZip};
 ghost use Rattle.bfs_model.specs.Groups.{AreDisjoint};
 ghost use Rattle.bfs_model.specs.Shares.{moved_for};
 ghost use Rattle.bfs_footprint.specs.Seen.{footprint_seen};
 ghost use Rattle.bfs_tree.specs.Tree.{at_home, lent, reach_of};
-ghost use Rattle.bfs_handover.specs.Moves.{AreAtHome, HasRoom, lent_out, reserved_all};
-ghost use Rattle.bfs_handover.specs.Splitting.{CanBeSplit, IsFoundOn, IsSplit, footprints_for, part_of};
-ghost use Rattle.bfs_handover.specs.Preparing.{AreOnce, AreReady, IsPrepared, IsWithin, all_ids, all_out, job_of, jobs_of, part_seen};
+ghost use Rattle.bfs_handover.specs.Loans.{ids_of};
+ghost use Rattle.bfs_handover.specs.Moves.{AreLent, AreOwned, brought_home, lent_out};
+ghost use Rattle.bfs_handover.specs.Splitting.{CanBeSplit, IsFoundOn, IsSplit, footprint_for, footprints_for, part_of};
+ghost use Rattle.bfs_handover.specs.Taking.{AreJobs, AreOnce, IsTaken, IsWithin, all_ids, all_loans, part_seen};
 
 use crate::job::Job;
-use crate::loans::Loan;
-use crate::moves::{reserve, take};
+use crate::moves::{bring, take};
 use bfs_footprint::{FileIds, Footprint};
 use bfs_serial::Batch;
 use bfs_tree::Tree;
@@ -46,8 +45,7 @@ pub fn split<'a>(
         footprints,
     };
     let room = Vec::with_capacity(alloc, numbers.len())?;
-    let prepared = prepare_all(alloc, tree, &part, numbers)?;
-    Ok(take_all(tree, prepared, room))
+    take_all(alloc, tree, &part, numbers, room)
 }
 
 /// Takes out of the tree what the request of that number writes, and makes a job of it: what `split` does for this number alone, with
@@ -76,8 +74,7 @@ pub fn split_one<'a>(
         first,
         footprints,
     };
-    let one = prepare(alloc, tree, &part, number)?;
-    Ok(take_one(tree, one))
+    take_one(alloc, tree, &part, number)
 }
 
 // Requests of a batch from a place on, of which the first has that ordinal, with what they touch.
@@ -90,67 +87,73 @@ struct Part<'a, 'b> {
     footprints: &'b [Footprint],
 }
 
-// A job for which all memory is found: its inodes are yet to be taken.
-#[derive(Debug, Drop)]
-struct Prepared<'a> {
-    number: u32,
-    request: &'a [u8],
-    ordinal: Ordinal,
-    time: Time,
-    ids: FileIds,
-    // for their inodes, where they are more than one
-    room: Vec<Loan>,
-}
-
-// Finds the memory of all jobs. No inode moves.
-fn prepare_all<'a>(
+// Makes a job of each of these numbers, in a vector that has room for them. If memory runs out, what was taken out for the first of them
+// comes home.
+fn take_all<'a>(
     alloc: Global,
     tree: &mut Tree,
     part: &Part<'a, '_>,
     numbers: &[u32],
-) -> Result<Vec<Prepared<'a>>, Memory>
-    requires { All (IsWithin (length part.now.batch.now.requests) (part_seen part.now)) numbers.now }
-    ensures prepared { IfOk result (λ prepared. AllZip (IsPrepared (part_seen part.now)) numbers.now prepared.items) }
-    ensures places { IfOk result (λ prepared. tree.new ≡ reserved_all (all_ids prepared.items) tree.old) }
-    ensures home { at_home tree.new ≡ at_home tree.old }
-    ensures lent { lent tree.new ≡ lent tree.old }
+    room: Vec<Job<'a>>,
+) -> Result<Vec<Job<'a>>, Memory>
+    requires whole { IsTrue ((reach_of tree.old).whole) }
+    requires within { All (IsWithin (length part.now.batch.now.requests) (part_seen part.now)) numbers.now }
+    requires disjoint { AreDisjoint (footprints_for (part_seen part.now) numbers.now) }
+    requires empty { room.items ≡ [] }
+    requires room { length numbers.now ≤ vec_capacity room }
+    ensures jobs { IfOk result (λ jobs. AreJobs (part_seen part.now) numbers.now jobs.items tree.old) }
+    ensures out { IfOk result (λ jobs. tree.new ≡ lent_out (all_ids jobs.items) tree.old) }
+    ensures home { OnErr result (at_home tree.new ≡ at_home tree.old) }
+    ensures lent { OnErr result (lent tree.new ≡ lent tree.old) }
 {
-    let mut prepared = Vec::new(alloc);
+    let mut jobs = room;
     for number in numbers {
-        prepared.push(prepare(alloc, tree, part, *number)?)?;
+        match take_one(alloc, tree, part, *number) {
+            Ok(job) => jobs.push_reserved(job),
+            Err(Memory) => {
+                bring_back(tree, jobs);
+                return Err(Memory);
+            }
+        }
     }
-    Ok(prepared)
+    Ok(jobs)
 }
 
-// Finds the memory of the job of that number, and a place in the tree for each fileid that its request writes.
-fn prepare<'a>(
+// Takes out of the tree what the request of that number writes, and makes a job of it. If memory runs out, what is at home and what is lent
+// out stays.
+fn take_one<'a>(
     alloc: Global,
     tree: &mut Tree,
     part: &Part<'a, '_>,
     number: u32,
-) -> Result<Prepared<'a>, Memory>
-    requires { IsWithin (length part.now.batch.now.requests) (part_seen part.now) number }
-    ensures prepared { IfOk result (λ one. IsPrepared (part_seen part.now) number one) }
-    ensures places { IfOk result (λ one. tree.new ≡ reserved_all one.ids tree.old) }
-    ensures home { at_home tree.new ≡ at_home tree.old }
-    ensures lent { lent tree.new ≡ lent tree.old }
+) -> Result<Job<'a>, Memory>
+    requires within { IsWithin (length part.now.batch.now.requests) (part_seen part.now) number }
+    requires owned { AreOwned tree.old (moved_for (footprint_for (part_seen part.now) number)) }
+    ensures job { IfOk result (λ job. IsTaken (part_seen part.now) number tree.old job) }
+    ensures out { IfOk result (λ job. tree.new ≡ lent_out (ids_of job.inodes) tree.old) }
+    ensures home { OnErr result (at_home tree.new ≡ at_home tree.old) }
+    ensures lent { OnErr result (lent tree.new ≡ lent tree.old) }
 {
     let place = number as usize - part.first;
     let ids = written(&part.footprints[place]);
-    let many = match ids.as_slice().len() {
-        1 => 0,
-        count => count,
-    };
-    let room = Vec::with_capacity(alloc, many)?;
-    reserve(tree, ids.as_slice())?;
-    Ok(Prepared {
+    let inodes = take(alloc, tree, ids.as_slice())?;
+    Ok(Job {
         number,
         request: part.batch.request(number as usize),
         ordinal: part.ordinal.after(place as u64),
         time: part.time,
-        ids,
-        room,
+        inodes,
     })
+}
+
+// Brings home what was taken out for these jobs.
+fn bring_back(tree: &mut Tree, jobs: Vec<Job<'_>>)
+    requires { AreLent tree.old (all_loans jobs.items) }
+    ensures { tree.new ≡ brought_home (all_loans jobs.entry.items) tree.old }
+{
+    for job in jobs {
+        bring(tree, job.inodes);
+    }
 }
 
 // The fileids that are written, each once.
@@ -174,45 +177,4 @@ fn distinct(ids: &FileIds) -> FileIds
         }
     }
     once
-}
-
-// Takes the inodes of all jobs out of the tree. It takes no memory.
-fn take_all<'a>(tree: &mut Tree, prepared: Vec<Prepared<'a>>, room: Vec<Job<'a>>) -> Vec<Job<'a>>
-    requires ready { AreReady tree.old prepared.items }
-    requires empty { room.items ≡ [] }
-    requires room { length prepared.items ≤ vec_capacity room }
-    ensures jobs { result.items ≡ jobs_of prepared.entry.items tree.old }
-    ensures out { tree.new ≡ all_out prepared.entry.items tree.old }
-{
-    let mut jobs = room;
-    for one in prepared {
-        jobs.push_reserved(take_one(tree, one));
-    }
-    jobs
-}
-
-// Takes the inodes of a job out of the tree. It takes no memory.
-fn take_one<'a>(tree: &mut Tree, one: Prepared<'a>) -> Job<'a>
-    requires home { AreAtHome tree.old one.ids }
-    requires empty { one.room.items ≡ [] }
-    requires room { HasRoom one.ids one.room }
-    ensures job { result ≡ job_of one.entry tree.old }
-    ensures out { tree.new ≡ lent_out one.entry.ids tree.old }
-{
-    let Prepared {
-        number,
-        request,
-        ordinal,
-        time,
-        ids,
-        room,
-    } = one;
-    let inodes = take(tree, ids.as_slice(), room);
-    Job {
-        number,
-        request,
-        ordinal,
-        time,
-        inodes,
-    }
 }

@@ -97,6 +97,22 @@ impl Tree {
         self.places.replace(id, Slot::Lent)?.into_boxed()
     }
 
+    /// Takes the inode of a fileid out of the tree, or `None` if no inode has it, until it is brought home: what `reserve` and `lend_out` do
+    /// one after the other, by one look-up. `Memory` if memory runs out; then nothing changes.
+    #[tactic(auto, using(crate::proofs::SlotLemmas::home_at, crate::proofs::SlotLemmas::no_home_at))]
+    pub fn lend(&mut self, id: FileId) -> Result<Option<BoxedInode>, Memory>
+        requires home { IsTrue ((reach_of self.old).owned id) }
+        ensures value { IfOk result (λ inode. inode ≡ get (at_home self.old) id) }
+        ensures lent { OnOk result (self.new ≡ insert self.old id slot.Lent) }
+        ensures err { OnErr result (self.new ≡ self.old) }
+    {
+        match self.places.insert(id, Slot::Lent) {
+            Ok(Some(was)) => Ok(was.into_boxed()),
+            Ok(None) => Ok(None),
+            Err(_) => Err(Memory),
+        }
+    }
+
     /// Puts an inode back in the place that was lent out. `None` says that no inode has the fileid from then on. It takes no memory.
     #[tactic(auto, using(crate::proofs::SlotLemmas::loan_has_place))]
     pub fn bring_home(&mut self, id: FileId, inode: Option<BoxedInode>)

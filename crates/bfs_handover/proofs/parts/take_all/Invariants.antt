@@ -1,11 +1,11 @@
-use Rattle.std.proofs.Common.{◌≡◌, ◌+◌, ◌≤◌, ◌++◌, length, vec_len, vec_capacity}
-use Rattle.bfs_handover.specs.Preparing.{AreReady, all_out, jobs_of}
+use Rattle.std.proofs.Common.{◌≡◌, ◌≤◌, length}
+use Rattle.bfs_handover.specs.Taking.{part_seen}
+use Rattle.bfs_handover.proofs.SplitLemmas.{AreBegun}
 use Rattle.bfs_handover.proofs.parts.take_all.Given as goal
+use Rattle.std.specs.Prelude.{vec_len, vec_capacity}
 
--- what is left to take makes of the tree and of the jobs what all of it makes of the tree before
-abbrev pub invariant-loop-one : goal.invariant-loop-one
-invariant-loop-one l =
-    AreReady l.tree l.one-iterator.rest.items
-    × (all_out l.one-iterator.rest.items l.tree ≡ all_out l.fn.prepared.items l.fn.tree)
-    × (l.jobs.items ++ jobs_of l.one-iterator.rest.items l.tree ≡ jobs_of l.fn.prepared.items l.fn.tree)
-    × (vec_len l.jobs + length l.one-iterator.rest.items ≤ vec_capacity l.jobs)
+abbrev pub invariant-loop-number : goal.invariant-loop-number
+invariant-loop-number l =
+    AreBegun l.fn.tree (part_seen l.part) l.numbers l.number-index l.jobs.items l.tree
+    × (vec_len l.jobs ≡ l.number-index)
+    × (length l.numbers ≤ vec_capacity l.jobs)
