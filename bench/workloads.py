@@ -173,6 +173,30 @@ def large_writes(trace):
     write_in_turn(trace, BATCH, 8_192)
 
 
+def fill_files(trace, files, length):
+    make_files(trace, files)
+    data = bytes(i % 251 for i in range(length))
+    trace.blocks((8, handle(FIRST + i) + words(0, 0, 0) + opaque(data)) for i in range(files))
+
+
+def large_reads(trace):
+    """1,024 READs of 8,192 bytes, each of a file of its own."""
+    fill_files(trace, BATCH, 8_192)
+    trace.block((6, handle(FIRST + i) + words(0, 8_192, 0)) for i in range(BATCH))
+
+
+def mix(trace):
+    """1,024 calls on 256 files in turn, of 8,192 bytes each: READs, and every tenth a WRITE, which conflicts with the others of its file."""
+    fill_files(trace, 256, 8_192)
+    data = bytes(i % 241 for i in range(8_192))
+
+    def one(i):
+        file = handle(FIRST + i % 256)
+        return (8, file + words(0, 0, 0) + opaque(data)) if i % 10 == 9 else (6, file + words(0, 8_192, 0))
+
+    trace.block(one(i) for i in range(BATCH))
+
+
 def one_file(trace):
     """1,024 WRITEs of 8 bytes to one file."""
     write_in_turn(trace, 1, 8)
@@ -237,6 +261,8 @@ TO_RUN = {
 OF_ONE_BATCH = {
     "small_writes": small_writes,
     "large_writes": large_writes,
+    "large_reads": large_reads,
+    "mix": mix,
     "one_file": one_file,
     "large_one_file": large_one_file,
     "short_chains": short_chains,

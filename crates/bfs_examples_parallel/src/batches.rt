@@ -1,5 +1,5 @@
 //! The replies and the file system are those of the serial executor.
-use crate::requests::{attributes, create, remove, status, write, write_much};
+use crate::requests::{attributes, create, read_much, remove, status, write, write_much};
 use bfs_parallel::{Engine, execute_parallel};
 use bfs_serial::{Batch, ExecError, FileSystem, Replies, execute_serial};
 use bfs_testing::{holds, same};
@@ -117,6 +117,15 @@ pub(crate) fn writes(alloc: Global, count: u32) -> Result<Batch, Fail> {
     Ok(batch)
 }
 
+/// READs of 8,192 bytes, all of them of the first file.
+pub(crate) fn reads(alloc: Global, count: u32) -> Result<Batch, Fail> {
+    let mut batch = batch_at(alloc, 3)?;
+    for index in 0..count {
+        batch.push(read_much(alloc, index, 3)?.as_slice())?;
+    }
+    Ok(batch)
+}
+
 // none, fewer than workers, as many, more, and as many as a batch can have
 #[test]
 fn executes_as_many_requests_as_there_are(rt: HostRuntime) -> Result<(), Fail> {
@@ -144,6 +153,22 @@ fn executes_much_to_write_as_one_after_another(rt: HostRuntime) -> Result<(), Fa
         for count in [2, 3, 8] {
             let workers = Workers::new(count).ok_or("workers")?;
             executes_both_alike(&rt, *engine, workers, &creates, &batch)?;
+        }
+    }
+    Ok(())
+}
+
+// a file that is written and then read so often that the READs get threads
+#[test]
+fn executes_much_to_read_as_one_after_another(rt: HostRuntime) -> Result<(), Fail> {
+    let alloc = rt.alloc();
+    let mut written = creates(alloc, 1)?;
+    written.push(write_much(alloc, 1, 3)?.as_slice())?;
+    let batch = reads(alloc, 520)?;
+    for engine in ENGINES {
+        for count in [2, 3, 8] {
+            let workers = Workers::new(count).ok_or("workers")?;
+            executes_both_alike(&rt, *engine, workers, &written, &batch)?;
         }
     }
     Ok(())

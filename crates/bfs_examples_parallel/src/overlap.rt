@@ -1,7 +1,7 @@
 //! That requests of a run overlap: each test has a gate that holds a job back until another has come so far.
 ghost use Rattle.std.specs.Prelude.{⊤};
 
-use crate::batches::{ENGINES, batch_at, creates, same_replies, writes};
+use crate::batches::{ENGINES, batch_at, creates, reads, same_replies, writes};
 use crate::requests::write;
 use bfs_handover::{Done, Job, run_job};
 use bfs_parallel::{Engine, execute_parallel};
@@ -17,24 +17,25 @@ use std::sync::Wait;
 use std::test::Fail;
 use std::thread::Threads;
 
-// holds the request of a number back until the one behind it has its result
+// holds the request of a number back until that of another one has its result
 #[derive(Drop)]
-struct OneAfterNext {
+struct OneAfterOther {
     one: u32,
-    next: Meeting,
+    other: u32,
+    done: Meeting,
 }
 
-impl Gate for OneAfterNext {
+impl Gate for OneAfterOther {
     ghost ran = { λ _ _. ⊤ };
 
     fn run(&self, alloc: Global, tree: &Tree, job: Job<'_>) -> Result<Done, Memory> {
         let number = job.number;
         if number == self.one {
-            self.next.wait();
+            self.done.wait();
         }
         let done = run_job(alloc, tree, job)?;
-        if number == self.one.saturating_add(1) {
-            self.next.come();
+        if number == self.other {
+            self.done.come();
         }
         Ok(done)
     }
@@ -79,12 +80,13 @@ fn overlaps<R: Threads + Wait + AllocGlobal + Abort + Sync, G: Gate + Sync>(
 #[test]
 fn second_of_two_writes_ends_first(rt: HostRuntime) -> Result<(), Fail> {
     for engine in ENGINES {
-        let gate = OneAfterNext {
+        let gate = OneAfterOther {
             one: 0,
-            next: Meeting::of(1),
+            other: 1,
+            done: Meeting::of(1),
         };
         overlaps(&rt, *engine, 2, &gate)?;
-        holds!(rt; gate.next.took_place());
+        holds!(rt; gate.done.took_place());
     }
     Ok(())
 }
@@ -99,15 +101,37 @@ fn writes_behind_a_run_of_one_overlap(rt: HostRuntime) -> Result<(), Fail> {
         batch.push(write(alloc, index, file)?.as_slice())?;
     }
     for engine in ENGINES {
-        let gate = OneAfterNext {
+        let gate = OneAfterOther {
             one: 1,
-            next: Meeting::of(1),
+            other: 2,
+            done: Meeting::of(1),
         };
         let mut files = FileSystem::new(alloc)?;
         execute_serial(alloc, &mut files, &creates(alloc, 2)?)?;
         let replies = execute_parallel(&rt, alloc, &mut files, &batch, workers, *engine, &gate)?;
         same!(rt; replies.len(), 3);
-        holds!(rt; gate.next.took_place());
+        holds!(rt; gate.done.took_place());
+    }
+    Ok(())
+}
+
+// READs that together ask for more than 4 MiB get threads, though nothing is written
+#[test]
+fn much_to_read_overlaps(rt: HostRuntime) -> Result<(), Fail> {
+    let alloc = rt.alloc();
+    let workers = Workers::new(3).ok_or("workers")?;
+    let batch = reads(alloc, 520)?;
+    for engine in ENGINES {
+        let gate = OneAfterOther {
+            one: 0,
+            other: 519,
+            done: Meeting::of(1),
+        };
+        let mut files = FileSystem::new(alloc)?;
+        execute_serial(alloc, &mut files, &creates(alloc, 1)?)?;
+        let replies = execute_parallel(&rt, alloc, &mut files, &batch, workers, *engine, &gate)?;
+        same!(rt; replies.len(), 520);
+        holds!(rt; gate.done.took_place());
     }
     Ok(())
 }

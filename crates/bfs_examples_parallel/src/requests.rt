@@ -1,5 +1,5 @@
 //! Requests of the tests.
-use bfs_testing::numbers::{CREATE, GETATTR, REMOVE, STATFS, WRITE};
+use bfs_testing::numbers::{CREATE, GETATTR, READ, REMOVE, STATFS, WRITE};
 use bfs_testing::words::{ROOT, UNSET, call, letters, put_parts};
 use bfs_types::Memory;
 use bfs_xdr::{put_opaque, put_words};
@@ -38,6 +38,14 @@ pub(crate) fn write_much(alloc: Global, xid: u32, file: u32) -> Result<Vec<u8>, 
     let handle = &[0x42465332, 1, file, 0, 0, 0, 0, 0];
     put_parts(&mut bytes, &[handle, &[0, 0, 0]])?;
     put_opaque(&mut bytes, &MUCH)?;
+    Ok(bytes)
+}
+
+/// READ of 8,192 bytes from the beginning of a file.
+pub(crate) fn read_much(alloc: Global, xid: u32, file: u32) -> Result<Vec<u8>, Memory> {
+    let mut bytes = call(alloc, xid, READ)?;
+    let handle = &[0x42465332, 1, file, 0, 0, 0, 0, 0];
+    put_parts(&mut bytes, &[handle, &[0, 8192, 0]])?;
     Ok(bytes)
 }
 

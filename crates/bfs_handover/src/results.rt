@@ -118,7 +118,9 @@ fn refusal(numbers: &[u32], dones: &[Done]) -> Option<MergeError>
     requires sorted { IsNonDecreasingBy (λ done. done.number) dones.now }
     ensures { result ≡ refusal numbers.now dones.now }
 {
-    if has_stranger(numbers, dones) {
+    if are_numbers(numbers, dones) {
+        None
+    } else if has_stranger(numbers, dones) {
         Some(MergeError::Stranger)
     } else if !are_rising(dones) {
         Some(MergeError::Double)
@@ -127,6 +129,21 @@ fn refusal(numbers: &[u32], dones: &[Done]) -> Option<MergeError>
     } else {
         None
     }
+}
+
+// Whether the results have just these numbers, in this order: then nothing is refused, and nothing need be looked for.
+fn are_numbers(numbers: &[u32], dones: &[Done]) -> bool
+    ensures { IsTrue result ↔ (numbers_in dones.now ≡ numbers.now) }
+{
+    if dones.len() != numbers.len() {
+        return false;
+    }
+    for place in 0..dones.len() {
+        if dones[place].number != numbers[place] {
+            return false;
+        }
+    }
+    true
 }
 
 fn has_stranger(numbers: &[u32], dones: &[Done]) -> bool

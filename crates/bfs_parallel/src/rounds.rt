@@ -3,11 +3,11 @@ ghost use Rattle.std.specs.Prelude.{◌<◌};
 use bfs_footprint::Footprint;
 use bfs_levels::Group;
 use bfs_serial::Batch;
-use bfs_types::Memory;
+use bfs_types::{MOST_DATA_BYTES, Memory};
 use bfs_workers::Workers;
 use std::alloc::Global;
 
-// how many bytes the requests of a run, or of a level, have together that always gets threads, and those of a batch in which such are
+// how many bytes the requests of a run, or of a level, move together that always gets threads, and those of a batch in which such are
 // looked for
 const LONG: usize = 4 << 20;
 
@@ -26,6 +26,11 @@ const ROUNDS: u32 = 8;
 // of such a batch, behind requests that were planned and got no threads, so many times as many are executed unplanned, and each time so
 // many times more
 const PAUSE: usize = 4;
+
+// where the number of the procedure stands in a call (RFC 5531 section 9), and that of READ (RFC 1094 section 2.2.7)
+const PROCEDURE: usize = 20;
+
+const READ: u32 = 6;
 
 /// Which requests of a batch are planned together, which of them are executed on threads, and which one after another on the calling
 /// thread. Planning and starting threads cost more than a short run takes, and so a batch of short requests would be slower by them
@@ -49,7 +54,7 @@ impl Rounds {
     pub(crate) fn new(workers: Workers, batch: &Batch) -> Rounds {
         let mut bytes: usize = 0;
         for request in batch.requests() {
-            bytes = bytes.saturating_add(request.as_slice().len());
+            bytes = bytes.saturating_add(bytes_moved(request.as_slice()));
         }
         let (left, first, next_pause) = if batch.len() <= FEW {
             (ROUNDS, FEW, 0)
@@ -111,7 +116,7 @@ impl Rounds {
         let footprints = group.footprints.iter();
         for (level, (request, footprint)) in group.level_of.iter().zip(requests.zip(footprints)) {
             if let Some(level) = levels.get_mut(*level as usize) {
-                level.add(request.as_slice().len(), footprint);
+                level.add(bytes_moved(request.as_slice()), footprint);
             }
         }
         if self.has_long {
@@ -134,6 +139,27 @@ impl Rounds {
             levels,
             next: 0,
         })
+    }
+}
+
+// about how many bytes executing a request moves: its own, and those that a READ asks for, which stand before the last word of its
+// arguments (RFC 1094 section 2.2.7). Nothing but where threads are started depends on it, so it isn't read as a call.
+fn bytes_moved(request: &[u8]) -> usize {
+    let own = request.len();
+    if word_at(request, PROCEDURE) != READ {
+        return own;
+    }
+    let asked = word_at(request, own.saturating_sub(8)) as usize;
+    own.saturating_add(asked.min(MOST_DATA_BYTES))
+}
+
+// the word that begins at that place, or 0 where none does
+fn word_at(bytes: &[u8], place: usize) -> u32 {
+    match bytes.get(place..) {
+        Some([first, second, third, fourth, ..]) => {
+            u32::from_be_bytes([*first, *second, *third, *fourth])
+        }
+        _ => 0,
     }
 }
 

@@ -1,7 +1,15 @@
--- In order, results whose numbers don't rise are double; and of those that rise, some are missing just where they are fewer.
-use Rattle.std.proofs.Common.{sym, ◌∙◌, true≢false}
-use Rattle.bfs_handover.proofs.NumberLemmas.{is_double, is_missing, is_none}
+-- Just these numbers are not refused; else, in order, results whose numbers don't rise are double; and of those that rise, some are missing just
+-- where they are fewer.
+use Rattle.std.proofs.Common.{sym, subst, ◌∙◌, true≢false}
+use Rattle.std.specs.List.Sorted.{IsPermutation}
+use Rattle.std.proofs.lemmas.List.Sorted.{IsPermutation-refl}
+use Rattle.bfs_handover.proofs.NumberLemmas.{complete_results_are_taken, is_double, is_missing, is_none}
 use Rattle.bfs_handover.proofs.results.refusal.Goals as goal
+
+pub returns-then-are_numbers : goal.returns-then-are_numbers
+returns-then-are_numbers c =
+    let numbers = c.args.numbers.now in
+    sym (complete_results_are_taken numbers c.args.dones.now c.requires.rising (subst (IsPermutation numbers) (sym (c.are_numbers.ensures.0 c.if-are_numbers.true)) (IsPermutation-refl numbers)))
 
 pub returns-then-not-are_rising : goal.returns-then-not-are_rising
 returns-then-not-are_rising c =
