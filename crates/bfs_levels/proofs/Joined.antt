@@ -1,10 +1,17 @@
 -- One more call of a plan.
-use Rattle.std.proofs.Common.{◌≡◌, ℕ, ◌+◌, ◌||◌, ◌≤◌, Bool, true, false, nat_lt, max, List, [], ◌∷◌, ◌++◌, if◌then◌else◌, length, refl, ap, sym, subst, ◌∙◌, arith}
+use Rattle.std.proofs.Common.{◌≡◌, ℕ, ◌+◌, ◌||◌, ◌≤◌, Bool, true, false, nat_eq, nat_lt, not, None, Some, max, List, [], ◌∷◌, ◌++◌, if◌then◌else◌, length, map, refl, ap, sym, subst, ◌∙◌, arith}
 use Rattle.std.specs.List.{list_any}
 use Rattle.bfs_model.specs.Footprints.{Footprint}
 use Rattle.bfs_model.specs.Conflicts.{conflict}
-use Rattle.bfs_levels.specs.Planning.{height, level_behind, levels_behind, levels_of}
-use Rattle.bfs_levels.specs.Marking.{IsMarked, IsPlan, levelled, levelled_behind}
+use Rattle.bfs_levels.specs.Planning.{Touch, height, level_behind, levels_behind, levels_of, parts}
+use Rattle.bfs_levels.specs.Marking.{IsMarked, levelled, levelled_behind}
+use Rattle.bfs_levels.specs.Planned.{IsPlan, calls_in, level_joined}
+use Rattle.bfs_levels.specs.declared.plans.Rule.{Rule}
+use Rattle.std.specs.Bool.{then_some}
+use Rattle.bfs_levels.specs.declared.plans.Plan.{Plan}
+use Rattle.bfs_footprint.specs.Seen.{footprint_seen}
+use Rattle.bfs_footprint.specs.declared.footprints.Footprint.{Footprint as Code}
+use Rattle.std.proofs.lemmas.List.{map-append}
 use Rattle.bfs_levels.specs.declared.marks.Marks.{Marks}
 use Rattle.bfs_levels.proofs.Heights.{height_low}
 
@@ -64,6 +71,18 @@ height_positive test (call ∷ calls) = positive_or (test call.0) call.1 (height
 pub parts_told : (test : Footprint → Bool) (footprints : List Footprint) (mark : ℕ) → mark ≡ height test (levelled footprints) → nat_lt 0 mark ≡ list_any test footprints
 parts_told test footprints mark is = ap (nat_lt 0) is ∙ height_positive test (levelled footprints) ∙ any_levelled test footprints
 
+-- and where none parts it, so is its level
+pub level_told : (rule : Rule) (calls : List Footprint) (call : Touch) (parting level : ℕ) → parting ≡ height (λ other. parts rule other call) (levelled calls) → level ≡ level_behind (levelled calls) call.footprint
+    → then_some (nat_eq parting 0) level ≡ level_joined rule calls call
+level_told rule calls call parting level parted is =
+    ap (λ b. then_some b level) (positive_not parting) ∙ ap (λ b. then_some (not b) level) (parts_told (λ other. parts rule other call) calls parting parted) ∙ chosen (list_any (λ other. parts rule other call) calls) ∙ ap (λ l. if list_any (λ other. parts rule other call) calls then None else Some l) is
+  where
+    positive_not : (n : ℕ) → nat_eq n 0 ≡ not (nat_lt 0 n)
+    positive_not n = grind arith
+    chosen : (b : Bool) → then_some (not b) level ≡ (if b then None else Some level)
+    chosen true = refl
+    chosen false = refl
+
 pub level_low : (marks : Marks) (footprints : List Footprint) (footprint : Footprint) → IsMarked marks (levelled footprints) → level_behind (levelled footprints) footprint ≤ length footprints
 level_low marks footprints footprint is =
     let below = height_low (λ other. conflict other footprint) (levelled footprints) in
@@ -71,13 +90,33 @@ level_low marks footprints footprint is =
     let count = length_levelled footprints in
     omega arith
 
-pub plan_more : (footprints : List Footprint) (levels : List ℕ) (marks next : Marks) (footprint : Footprint) (level : ℕ) → IsPlan footprints levels marks → level ≡ level_behind (levelled footprints) footprint
-    → ((earlier : List (Footprint × ℕ)) → level ≤ length earlier → IsMarked marks earlier → IsMarked next ((footprint, level) ∷ earlier)) → IsPlan (footprints ++ footprint ∷ []) (levels ++ level ∷ []) next
-plan_more footprints levels marks next footprint level is is_level more =
-    let within = level_low marks footprints footprint is.marked in
-    let count = length_levelled footprints in
-    let P : List (Footprint × ℕ) → Type 0 = λ calls. IsMarked next calls in
+-- once the footprint stands behind those of a plan, its level behind their levels, and the marks hold it, it is a plan of one call more
+pub planned_more : (plan next : Plan) (footprint : Code) (level : ℕ) → IsPlan plan → level ≡ level_behind (levelled (calls_in plan)) (footprint_seen footprint)
+    → next.footprints.items ≡ plan.footprints.items ++ footprint ∷ [] → next.level_of.items ≡ plan.level_of.items ++ level ∷ []
+    → ((earlier : List (Footprint × ℕ)) → level ≤ length earlier → IsMarked plan.marks earlier → IsMarked next.marks ((footprint_seen footprint, level) ∷ earlier)) → IsPlan next
+planned_more plan next footprint level is is_level footprints levels more =
+    let within = level_low plan.marks (calls_in plan) (footprint_seen footprint) is.marked in
+    let count = length_levelled (calls_in plan) in
+    let calls = sym (ap (map footprint_seen) footprints ∙ map-append footprint_seen plan.footprints.items (footprint ∷ [])) in
+    let P : List (Footprint × ℕ) → Type 0 = λ calls. IsMarked next.marks calls in
     record {
-      levels_are = ap (λ first. first ++ level ∷ []) is.levels_are ∙ ap (λ l. levels_of footprints ++ l ∷ []) is_level ∙ sym (levels_more footprints footprint);
-      marked = subst P (ap (λ l. (footprint, l) ∷ levelled footprints) is_level ∙ sym (levelled_more footprints footprint)) (more (levelled footprints) (omega arith) is.marked);
+      levels_are = levels ∙ ap (λ first. first ++ level ∷ []) is.levels_are ∙ ap (λ l. levels_of (calls_in plan) ++ l ∷ []) is_level ∙ sym (levels_more (calls_in plan) (footprint_seen footprint)) ∙ ap levels_of calls;
+      marked = subst P (ap (λ l. (footprint_seen footprint, l) ∷ levelled (calls_in plan)) is_level ∙ sym (levelled_more (calls_in plan) (footprint_seen footprint)) ∙ ap levelled calls) (more (levelled (calls_in plan)) (omega arith) is.marked);
     }
+
+-- Which calls join -----------------------------------------------------------------------------------------------------------
+
+pub joins : (rule : Rule) (calls : List Footprint) (call : Touch) (level : ℕ) → Some level ≡ level_joined rule calls call
+    → (list_any (λ earlier. parts rule earlier call) calls ≡ false) × (level ≡ level_behind (levelled calls) call.footprint)
+joins rule calls call level is = go (list_any (λ earlier. parts rule earlier call) calls) is
+  where
+    go : (parted : Bool) → Some level ≡ (if parted then None else Some (level_behind (levelled calls) call.footprint)) → (parted ≡ false) × (level ≡ level_behind (levelled calls) call.footprint)
+    go true is = absurd (let no : ⊥ = cc in no)
+    go false is = (refl, let same : level ≡ level_behind (levelled calls) call.footprint = cc in same)
+
+pub joins_none : (rule : Rule) (calls : List Footprint) (call : Touch) → None ≡ level_joined rule calls call → list_any (λ earlier. parts rule earlier call) calls ≡ true
+joins_none rule calls call is = go (list_any (λ earlier. parts rule earlier call) calls) is
+  where
+    go : (parted : Bool) → None ≡ (if parted then None else Some (level_behind (levelled calls) call.footprint)) → parted ≡ true
+    go true is = refl
+    go false is = absurd (let no : ⊥ = cc in no)

@@ -4,7 +4,7 @@ use Rattle.std.specs.HashMap.{HashMap, get}
 use Rattle.bfs_model.specs.Footprints.{Footprint, known, whole}
 use Rattle.bfs_model.specs.Conflicts.{among}
 use Rattle.bfs_model.specs.Conflicts.{is_whole}
-use Rattle.bfs_levels.specs.Planning.{height, level_behind, levels_of}
+use Rattle.bfs_levels.specs.Planning.{height, level_behind}
 use Rattle.bfs_levels.specs.declared.marks.Mark.{Mark}
 use Rattle.bfs_levels.specs.declared.marks.Marks.{Marks}
 
@@ -49,8 +49,3 @@ levelled_behind earlier (footprint ∷ footprints) = levelled_behind ((footprint
 
 abbrev pub levelled : List Footprint → List (Footprint × ℕ)
 levelled footprints = levelled_behind [] footprints
-
--- what a plan keeps of the calls in it: their levels, and the marks of them all
-pub record IsPlan (footprints : List Footprint) (levels : List ℕ) (marks : Marks) : Type 0 where
-  pub levels_are : levels ≡ levels_of footprints
-  pub marked : IsMarked marks (levelled footprints)

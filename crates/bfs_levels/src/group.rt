@@ -55,7 +55,6 @@ pub fn plan_group(
 
 /// The longest group of those of the batch's requests that stand before the place `end`: what `plan_group` gives of a batch that ends there. The
 /// tree is whole.
-#[tactic(auto, using(crate::proofs::Left::length_seen))]
 pub fn plan_group_before(
     alloc: Global,
     tree: &Tree,
@@ -71,8 +70,16 @@ pub fn plan_group_before(
     ensures count { IfOk result (λ group. length group.footprints.items ≡ group_length (at_home tree.now) ordinal time (drop first (take end batch.now.requests))) }
     ensures levels { IfOk result (λ group. group.level_of.items ≡ levels_of (map footprint_seen group.footprints.items)) }
 {
-    let plan = planned(alloc, tree, ordinal, time, batch, first, end, Rule::Groups)?;
-    let (footprints, level_of) = plan.into_parts();
+    let (footprints, level_of) = planned(
+        alloc,
+        tree,
+        ordinal,
+        time,
+        batch,
+        first,
+        end,
+        Rule::Groups,
+    )?;
     Ok(Group {
         first,
         footprints,

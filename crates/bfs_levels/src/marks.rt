@@ -86,6 +86,14 @@ impl Marks {
         }
     }
 
+    // room for so many fileids more
+    pub(crate) fn reserve(&mut self, more: usize) -> Result<(), Memory>
+        ensures { (earlier : List (ModelFootprint × ℕ)) → IsMarked self.old earlier → IsMarked self.new earlier }
+    {
+        self.by_id.reserve(more)?;
+        Ok(())
+    }
+
     // puts one more call to those so far, of that level
     pub(crate) fn add(&mut self, footprint: &Footprint, level: u32) -> Result<(), Memory>
         requires { level + 1 < 2 ^ 32 }
@@ -153,7 +161,7 @@ fn raise(marks: &mut HashMap<u32, Mark>, ids: &[FileId], by: Mark) -> Result<(),
 fn raise_one(marks: &mut HashMap<u32, Mark>, id: FileId, by: Mark) -> Result<(), Memory>
     ensures { OnOk result ((other : ℕ) → mark_at marks.new other ≡ raised by (id == other) (mark_at marks.old other)) }
 {
-    let mark = mark_at(marks, id).higher(by);
-    marks.insert(id.number(), mark)?;
+    let mark = marks.entry(id.number())?.or_insert(Mark::none());
+    *mark = mark.higher(by);
     Ok(())
 }

@@ -1,10 +1,11 @@
 // Calls planned one after another.
-ghost use Rattle.std.specs.Prelude.{◌≡◌, ◌+◌, ◌<◌, ◌^◌, [], ◌∷◌, ◌++◌, drop, length, map, take, IfOk, IsTrue};
-ghost use Rattle.std.specs.List.{list_any};
+ghost use Rattle.std.specs.Prelude.{◌≡◌, ◌+◌, ◌<◌, ◌^◌, [], ◌∷◌, ◌++◌, drop, length, map, take, IfOk, IsTrue, OnOk};
 ghost use Rattle.bfs_model.specs.Groups.{footprints_at};
 ghost use Rattle.bfs_tree.specs.Tree.{at_home, reach_of};
 ghost use Rattle.bfs_footprint.specs.Seen.{footprint_seen};
-ghost use Rattle.bfs_levels.specs.Planning.{levels_of, count_joined, parts, touches_at};
+ghost use Rattle.bfs_levels.specs.Planning.{levels_of, level_behind, count_joined, parts, touches_at};
+ghost use Rattle.bfs_levels.specs.Marking.{levelled};
+ghost use Rattle.bfs_levels.specs.Planned.{IsPlan, calls_in, level_joined};
 ghost use Rattle.bfs_levels.specs.Touching.{touch_seen};
 
 use crate::marks::Marks;
@@ -13,7 +14,6 @@ use bfs_serial::Batch;
 use bfs_tree::Tree;
 use bfs_types::{Memory, Ordinal, Time};
 use std::alloc::Global;
-use std::marker::Model;
 
 // what is planned
 #[derive(Clone, Copy)]
@@ -22,30 +22,21 @@ pub(crate) enum Rule {
     Groups,
 }
 
+// how many calls a plan has when room is made for all that may follow: a short one takes no more than it needs
+const LONG: usize = 32;
+
 // calls with their levels, and the marks of them all
 #[derive(Drop)]
 pub(crate) struct Plan {
-    footprints: Vec<Footprint>,
-    level_of: Vec<u32>,
-    marks: Marks,
-}
-
-impl Model for Plan {
-    ghost use Rattle.std.specs.Prelude.{List, map};
-    ghost use Rattle.bfs_model.specs.Footprints as model;
-    ghost use Rattle.bfs_footprint.specs.Seen.{footprint_seen};
-    ghost use Rattle.bfs_levels.specs.Marking.{IsPlan};
-
-    ghost Value = { List model.Footprint };
-
-    ghost view = { λ plan. map footprint_seen plan.footprints.items };
-
-    ghost invariant = { λ plan. IsPlan (map footprint_seen plan.footprints.items) plan.level_of.items plan.marks };
+    pub(crate) footprints: Vec<Footprint>,
+    pub(crate) level_of: Vec<u32>,
+    pub(crate) marks: Marks,
 }
 
 impl Plan {
     fn new(alloc: Global) -> Plan
-        ensures { result ≡ [] }
+        ensures plan { IsPlan result }
+        ensures empty { calls_in result ≡ [] }
     {
         Plan {
             footprints: Vec::new(alloc),
@@ -54,38 +45,50 @@ impl Plan {
         }
     }
 
-    // whether a call can't be in one run, or group, with those that are planned
-    fn parts(&self, rule: Rule, touch: &Touch) -> bool
-        ensures { result ≡ list_any (λ earlier. parts rule earlier (touch_seen touch.now)) self.now }
+    // the level of a call that can be in one run, or group, with those that are planned
+    fn level(&self, rule: Rule, touch: &Touch) -> Option<u32>
+        requires { IsPlan self.now }
+        ensures { result ≡ level_joined rule (calls_in self.now) (touch_seen touch.now) }
     {
-        match rule {
-            Rule::Runs => self.marks.level(&touch.footprint) > 0,
-            Rule::Groups => self.marks.parting(touch) > 0,
-        }
+        let level = self.marks.level(&touch.footprint);
+        let parting = match rule {
+            Rule::Runs => level,
+            Rule::Groups => self.marks.parting(touch),
+        };
+        (parting == 0).then_some(level)
     }
 
-    // with one more call
-    fn with(mut self, footprint: Footprint) -> Result<Plan, Memory>
-        requires { length self + 1 < 2 ^ 32 }
-        ensures { IfOk result (λ plan. plan ≡ self ++ footprint_seen footprint ∷ []) }
+    // puts one more call behind them
+    fn add(&mut self, footprint: Footprint, level: u32) -> Result<(), Memory>
+        requires plan { IsPlan self.old }
+        requires level { level ≡ level_behind (levelled (calls_in self.old)) (footprint_seen footprint) }
+        requires few { length (calls_in self.old) + 1 < 2 ^ 32 }
+        ensures plan { OnOk result (IsPlan self.new) }
+        ensures calls { OnOk result (calls_in self.new ≡ calls_in self.old ++ footprint_seen footprint ∷ []) }
     {
-        let level = self.marks.level(&footprint);
         self.marks.add(&footprint, level)?;
         self.level_of.push(level)?;
         self.footprints.push(footprint)?;
-        Ok(self)
+        Ok(())
     }
 
-    // the footprints of the calls, and their levels
-    pub(crate) fn into_parts(self) -> (Vec<Footprint>, Vec<u32>)
-        ensures footprints { map footprint_seen result.0.items ≡ self }
-        ensures levels { result.1.items ≡ levels_of self }
+    // once they are many, makes room for so many more
+    fn make_room(&mut self, more: usize) -> Result<(), Memory>
+        requires { IsPlan self.old }
+        ensures plan { IsPlan self.new }
+        ensures calls { calls_in self.new ≡ calls_in self.old }
     {
-        (self.footprints, self.level_of)
+        if self.footprints.len() == LONG {
+            self.footprints.reserve(more)?;
+            self.level_of.reserve(more)?;
+            self.marks.reserve(more)?;
+        }
+        Ok(())
     }
 }
 
-// the longest run, or group, of the batch's requests before that end that begins with that one, which has that ordinal
+// the footprints and the levels of the longest run, or group, of the batch's requests before that end that begins with that one, which has
+// that ordinal
 pub(crate) fn planned(
     alloc: Global,
     tree: &Tree,
@@ -95,20 +98,23 @@ pub(crate) fn planned(
     first: usize,
     end: usize,
     rule: Rule,
-) -> Result<Plan, Memory>
+) -> Result<(Vec<Footprint>, Vec<u32>), Memory>
     requires whole { IsTrue ((reach_of tree.now).whole) }
-    ensures joined { IfOk result (λ plan. let requests = drop first (take end batch.now.requests) in plan ≡ footprints_at (at_home tree.now) ordinal time (take (count_joined (parts rule) [] (touches_at (at_home tree.now) ordinal time requests)) requests)) }
-    ensures count { IfOk result (λ plan. length plan ≡ count_joined (parts rule) [] (touches_at (at_home tree.now) ordinal time (drop first (take end batch.now.requests)))) }
+    ensures joined { IfOk result (λ plan. let requests = drop first (take end batch.now.requests) in map footprint_seen plan.0.items ≡ footprints_at (at_home tree.now) ordinal time (take (count_joined (parts rule) [] (touches_at (at_home tree.now) ordinal time requests)) requests)) }
+    ensures count { IfOk result (λ plan. length plan.0.items ≡ count_joined (parts rule) [] (touches_at (at_home tree.now) ordinal time (drop first (take end batch.now.requests)))) }
+    ensures levels { IfOk result (λ plan. plan.1.items ≡ levels_of (map footprint_seen plan.0.items)) }
 {
+    let stop = end.min(batch.len());
     let mut ordinal = ordinal;
     let mut plan = Plan::new(alloc);
-    for index in first..end.min(batch.len()) {
+    for index in first..stop {
         let touch = touch_of(tree, ordinal, time, batch.request(index));
-        if plan.parts(rule, &touch) {
+        let Some(level) = plan.level(rule, &touch) else {
             break;
-        }
-        plan = plan.with(touch.footprint)?;
+        };
+        plan.make_room(stop - index)?;
+        plan.add(touch.footprint, level)?;
         ordinal = ordinal.next();
     }
-    Ok(plan)
+    Ok((plan.footprints, plan.level_of))
 }

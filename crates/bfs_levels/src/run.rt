@@ -49,7 +49,6 @@ pub fn runs(
 
 /// The longest run of those of the batch's requests that stand before the place `end`: what `runs` gives of a batch that ends there. The
 /// tree is whole.
-#[tactic(auto, using(crate::proofs::Left::length_seen))]
 pub fn runs_before(
     alloc: Global,
     tree: &Tree,
@@ -64,7 +63,6 @@ pub fn runs_before(
     ensures longest { IfOk result (λ run. let requests = drop first (take end batch.now.requests) in map footprint_seen run.footprints.items ≡ footprints_at (at_home tree.now) ordinal time (take (run_length (at_home tree.now) ordinal time requests) requests)) }
     ensures count { IfOk result (λ run. length run.footprints.items ≡ run_length (at_home tree.now) ordinal time (drop first (take end batch.now.requests))) }
 {
-    let plan = planned(alloc, tree, ordinal, time, batch, first, end, Rule::Runs)?;
-    let (footprints, _) = plan.into_parts();
+    let (footprints, _) = planned(alloc, tree, ordinal, time, batch, first, end, Rule::Runs)?;
     Ok(Run { first, footprints })
 }
