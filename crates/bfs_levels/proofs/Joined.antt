@@ -79,6 +79,7 @@ level_told rule calls call parting level parted is =
   where
     positive_not : (n : ℕ) → nat_eq n 0 ≡ not (nat_lt 0 n)
     positive_not n = grind arith
+
     chosen : (b : Bool) → then_some (not b) level ≡ (if b then None else Some level)
     chosen true = refl
     chosen false = refl

@@ -35,7 +35,7 @@ none_joins c = elim c.loop-index-test.branch [
   | else-loop-index-test w ↦ none_left (parts c.args.rule) (at_home c.args.tree.now) c.loop-index.ordinal c.args.time (take c.args.end c.args.batch.now.requests) c.loop-index.index (calls_in c.loop-index.plan) (let stop = w.loop-index-test.false in let end = c.min-stop.ensures in let count = c.len.ensures.value in let long = length-take c.args.end c.args.batch.now.requests in omega arith)
   | then-loop-index-test+in_default w ↦
       count_left (parts c.args.rule) (at_home c.args.tree.now) c.loop-index.ordinal c.args.time (take c.args.end c.args.batch.now.requests) c.loop-index.index w.request.result.now (calls_in c.loop-index.plan) (touch_seen w.touch_of-touch.result) true (before c.args.batch.now.requests c.loop-index.index c.args.end w.request.result.now (let less = w.loop-index-test.true in let end = c.min-stop.ensures in omega arith) w.request.ensures) (λ i. record { footprint = w.touch_of-touch.ensures.footprint i; resolved = w.touch_of-touch.ensures.resolved i })
-          (sym (joins_none c.args.rule (calls_in c.loop-index.plan) (touch_seen w.touch_of-touch.result) (sym w.in_default.is ∙ w.level.ensures)))
+      (sym (joins_none c.args.rule (calls_in c.loop-index.plan) (touch_seen w.touch_of-touch.result) (sym w.in_default.is ∙ w.level.ensures)))
 ]
 
 pub returns-clause-joined : goal.returns-clause-joined
