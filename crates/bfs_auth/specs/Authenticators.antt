@@ -1,6 +1,7 @@
 -- Authenticators: keyed hashes of one message, for each of its receivers.
 use Rattle.std.specs.Prelude.{◌≡◌, ◌≤◌, ℕ, Bool, false, List, [], ◌∷◌, map, length, Option, Some, None, slice_get, bytes_eq, All}
 use Rattle.std.specs.Option.{option_map}
+use Rattle.bfs_model.specs.Limits.{most_replicas}
 use Rattle.bfs_auth.specs.Hmac.{hmac_sha256}
 use Rattle.bfs_auth.specs.Keys.{Keys, shared_with}
 use Rattle.bfs_auth.specs.declared.principals.Principal.{Principal}
@@ -8,7 +9,7 @@ use Rattle.bfs_auth.specs.declared.principals.Principal.TheVariants.{Replica, Cl
 use Rattle.bfs_auth.specs.declared.pairwise.SharedKeys.{SharedKeys}
 
 abbrev pub IsAuthenticator : List (List ℕ) → Type 0
-IsAuthenticator entries = (length entries ≤ 31) × All (λ entry. length entry ≡ 32) entries
+IsAuthenticator entries = (length entries ≤ most_replicas) × All (λ entry. length entry ≡ 32) entries
 
 -- an entry for each replica, by their numbers
 abbrev pub signature : Keys → (text : List ℕ) → List (List ℕ)

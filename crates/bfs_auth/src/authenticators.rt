@@ -1,14 +1,12 @@
 ghost use Rattle.std.specs.Prelude.{◌≡◌, ◌<◌, ◌≤◌, [], ◌∷◌, ◌++◌, length, IfOk, OnOk, OnErr, All};
 ghost use Rattle.std.specs.Option.{option_map};
+ghost use Rattle.bfs_model.specs.Limits.{most_replicas};
 ghost use Rattle.bfs_auth.specs.Authenticators.{IsAuthenticator, entry_for};
 
 use crate::principals::Principal;
 use bfs_types::Memory;
 use std::alloc::Global;
 use std::marker::Model;
-
-/// The most replicas, and so the most entries of an authenticator: 3f + 1 with an f of 10.
-pub const MOST_REPLICAS: usize = 31;
 
 /// The keyed hashes of one message: an entry of 32 bytes for each replica, by their numbers, or one entry for a client (TOCS 2002
 /// section 3). At most `MOST_REPLICAS` entries.
@@ -40,7 +38,7 @@ impl Authenticator {
 
     /// Puts an entry behind the others. `Memory` if memory runs out; then nothing changes.
     pub fn push(&mut self, entry: [u8; 32]) -> Result<(), Memory>
-        requires { length self.old < 31 }
+        requires { length self.old < most_replicas }
         ensures ok { OnOk result (self.new ≡ self.old ++ entry ∷ []) }
         ensures err { OnErr result (self.new ≡ self.old) }
     {

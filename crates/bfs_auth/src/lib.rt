@@ -10,7 +10,8 @@ mod pairwise;
 mod principals;
 mod signing;
 
-pub use authenticators::{Authenticator, MOST_REPLICAS};
+pub use authenticators::Authenticator;
+pub use bfs_types::MOST_REPLICAS;
 pub use checking::{Claimed, check, check_all};
 pub use keyed_hash::hmac;
 pub use laws::{only_the_senders_hash_passes, what_is_signed_passes};

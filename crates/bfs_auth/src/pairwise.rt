@@ -2,6 +2,7 @@ ghost use Rattle.std.specs.Prelude.{◌≡◌, ◌+◌, ◌<◌, ◌≤◌, ◌^
 ghost use Rattle.std.specs.List.{range_with_len};
 ghost use Rattle.std.specs.Option.{option_map};
 ghost use Rattle.bfs_model.specs.Items.{word};
+ghost use Rattle.bfs_model.specs.Limits.{most_replicas};
 ghost use Rattle.bfs_auth.specs.Principals.{number_of};
 ghost use Rattle.bfs_auth.specs.Keys.{clients_known, key_from_to, keys_of, shared_keys, shared_with};
 
@@ -31,17 +32,18 @@ pub struct Keys {
 
 impl Model for Keys {
     ghost use Rattle.std.specs.Prelude.{◌≤◌, length};
+    ghost use Rattle.bfs_model.specs.Limits.{most_replicas};
     ghost use Rattle.bfs_auth.specs.Keys as model;
 
     ghost Value = { model.Keys };
 
     ghost view = { λ keys. record { me = keys.me; replicas = keys.replicas.items; clients = keys.clients.items } };
 
-    ghost invariant = { λ keys. length keys.replicas.items ≤ 31 };
+    ghost invariant = { λ keys. length keys.replicas.items ≤ most_replicas };
 }
 
 impl Keys {
-    /// The keys of a principal, where there are so many replicas, at most 31, and so many clients. The key from one principal to
+    /// The keys of a principal, where there are so many replicas, at most `MOST_REPLICAS`, and so many clients. The key from one principal to
     /// another is the HMAC of their two numbers, 4 bytes each, under a secret of any length, with which all of them are set up.
     /// `Memory` if memory runs out.
     #[tactic(auto, using(crate::proofs::Numbered::as_many))]
@@ -53,7 +55,7 @@ impl Keys {
         clients: u32,
     ) -> Result<Keys, Memory>
         requires me { number_of me < 2 ^ 32 }
-        requires replicas { replicas ≤ 31 }
+        requires replicas { replicas ≤ most_replicas }
         requires clients { 4096 + clients ≤ 2 ^ 32 }
         ensures { IfOk result (λ keys. keys ≡ keys_of secret.now me replicas clients) }
     {
@@ -78,7 +80,7 @@ impl Keys {
     /// How many replicas it shares keys with.
     pub fn replicas(&self) -> usize
         ensures value { result ≡ length self.now.replicas }
-        ensures within { result ≤ 31 }
+        ensures within { result ≤ most_replicas }
     {
         self.replicas.len()
     }
@@ -93,7 +95,7 @@ impl Keys {
     // by their numbers
     pub(crate) fn shared_with_each_replica(&self) -> &[SharedKeys]
         ensures value { result.now ≡ self.now.replicas }
-        ensures within { length result.now ≤ 31 }
+        ensures within { length result.now ≤ most_replicas }
     {
         self.replicas.as_slice()
     }

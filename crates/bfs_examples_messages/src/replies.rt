@@ -1,5 +1,6 @@
 //! The last reply to each client.
 ghost use Rattle.std.specs.Prelude.{◌≤◌, length};
+ghost use Rattle.bfs_model.specs.Limits.{most_reply_bytes};
 
 use bfs_replies::{Class, MOST_CLIENTS, RecordError, ReplyTable};
 use bfs_testing::words::{same_bytes, spells};
@@ -78,7 +79,7 @@ fn replies_grow_to_the_most(rt: HostRuntime) -> Result<(), Fail> {
 }
 
 fn put(table: &mut ReplyTable, client: u32, reply: &[u8]) -> Result<(), RecordError>
-    requires { length reply.now ≤ 16384 }
+    requires { length reply.now ≤ most_reply_bytes }
 {
     if client < table.clients() {
         table.record(client, 18_446_744_073_709_551_615, reply)?;

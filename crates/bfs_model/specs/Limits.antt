@@ -37,3 +37,11 @@ most_reply_bytes = 16384
 -- the requests of a batch
 abbrev pub most_requests : ℕ
 most_requests = 1024
+
+-- the replicas: 3f + 1 of them do where at most f fail, and f is at most 10 (OSDI 1999 section 3)
+abbrev pub most_replicas : ℕ
+most_replicas = 31
+
+-- the clients
+abbrev pub most_clients : ℕ
+most_clients = 1024

@@ -4,4 +4,5 @@
 mod tables;
 mod texts;
 
-pub use tables::{Class, MOST_CLIENTS, RecordError, ReplyTable};
+pub use bfs_types::MOST_CLIENTS;
+pub use tables::{Class, RecordError, ReplyTable};

@@ -1,5 +1,6 @@
 ghost use Rattle.std.specs.Prelude.{◌≡◌, ◌≤◌, ◌<◌, ◌++◌, ◌↔◌, ◌≢◌, length, replicate, None, IfOk, OnOk, OnErr, IsErrOf};
 ghost use Rattle.std.specs.Option.{option_map};
+ghost use Rattle.bfs_model.specs.Limits.{most_clients, most_reply_bytes};
 ghost use Rattle.bfs_replies.specs.Classes.{class_of};
 ghost use Rattle.bfs_replies.specs.Errors.{record_code_of};
 ghost use Rattle.bfs_replies.specs.Tables.{last_of, recorded};
@@ -11,9 +12,6 @@ use bfs_xdr::put_u32;
 use std::alloc::Global;
 use std::marker::Model;
 use thiserror::Error;
-
-/// The most clients of a table.
-pub const MOST_CLIENTS: u32 = 1_024;
 
 /// What a request is to its client's last one.
 #[derive(Clone, Copy, Debug, PartialEq, Eq)]
@@ -66,7 +64,7 @@ impl Model for Last {
 }
 
 /// Of each client, by their numbers from 0 on, the timestamp of its last request that was executed, and the bytes of the reply to
-/// it, at most `MOST_REPLY_BYTES` (OSDI 1999 section 4.1).
+/// it, at most `MOST_REPLY_BYTES` (OSDI 1999 section 4.1). At most `MOST_CLIENTS` clients.
 #[derive(Debug, Drop)]
 pub struct ReplyTable {
     alloc: Global,
@@ -75,19 +73,20 @@ pub struct ReplyTable {
 
 impl Model for ReplyTable {
     ghost use Rattle.std.specs.Prelude.{length, ◌≤◌};
+    ghost use Rattle.bfs_model.specs.Limits.{most_clients};
     ghost use Rattle.bfs_replies.specs.Tables as model;
 
     ghost Value = { model.Table };
 
     ghost view = { λ table. table.clients.items };
 
-    ghost invariant = { λ table. length table.clients.items ≤ 1024 };
+    ghost invariant = { λ table. length table.clients.items ≤ most_clients };
 }
 
 impl ReplyTable {
-    /// A table of so many clients, with no replies. `Memory` if memory runs out.
+    /// A table of so many clients, at most `MOST_CLIENTS`, with no replies. `Memory` if memory runs out.
     pub fn new(alloc: Global, clients: u32) -> Result<ReplyTable, Memory>
-        requires { clients ≤ 1024 }
+        requires { clients ≤ most_clients }
         ensures { IfOk result (λ table. table ≡ replicate clients None) }
     {
         Ok(ReplyTable {
@@ -99,7 +98,7 @@ impl ReplyTable {
     /// How many clients there are: they have the numbers below.
     pub fn clients(&self) -> u32
         ensures value { result ≡ length self.now }
-        ensures within { result ≤ 1024 }
+        ensures within { result ≤ most_clients }
     {
         self.clients.len() as u32
     }
@@ -137,7 +136,7 @@ impl ReplyTable {
     /// Puts a copy of a reply in the place of the client's last one. It is refused unless `classify` answers `New`.
     pub fn record(&mut self, client: u32, timestamp: u64, reply: &[u8]) -> Result<(), RecordError>
         requires known { client < length self.old }
-        requires short { length reply.now ≤ 16384 }
+        requires short { length reply.now ≤ most_reply_bytes }
         ensures ok { OnOk result (self.new ≡ recorded self.old client timestamp reply.now) }
         ensures err { OnErr result (self.new ≡ self.old) }
         ensures newer { IsErrOf result RecordError.NotNewer ↔ (class_of self.old client timestamp ≢ Class.New) }
