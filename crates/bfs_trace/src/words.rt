@@ -3,19 +3,19 @@ ghost use Rattle.bfs_trace.specs.Reading.{Reads};
 ghost use Rattle.bfs_trace.specs.Words.{only_word, parts, parts_left, unless_more, word_in};
 
 use crate::fault::Fault;
+use memchr::memchr;
 use std::marker::Model;
 
 /// The first part of a text between the bytes `at`, and what is behind the byte that ends the part, if one does.
+#[tactic(auto, using(crate::proofs::Cuts::cut_at, crate::proofs::Cuts::cut_none))]
 pub(crate) fn cut(text: &[u8], at: u8) -> (&[u8], Option<&[u8]>)
     ensures shorter { IfSome result.1 (λ rest. length rest.now < length text.now) }
     ensures parts { parts at text.now ≡ result.0.now ∷ parts_left at (option_map (λ rest. rest.now) result.1) }
 {
-    for i in 0..text.len() {
-        if text[i] == at {
-            return (&text[..i], Some(&text[i + 1..]));
-        }
+    match memchr(at, text) {
+        Some(i) => (&text[..i], Some(&text[i + 1..])),
+        None => (text, None),
     }
-    (text, None)
 }
 
 /// The words of a text that are not read yet, with one byte `at` between two words.
