@@ -64,7 +64,21 @@ fn finds_just_the_entries_that_are_left(rt: HostRuntime) -> Result<(), Fail> {
     for pair in 0..500 {
         same!(rt; cookie_of(&directory, &letters(2 * pair)), None);
         same!(rt; cookie_of(&directory, &letters(2 * pair + 1)), Some(2 * pair + 4));
+        holds!(rt; !directory.holds(&letters(2 * pair)));
+        holds!(rt; directory.holds(&letters(2 * pair + 1)));
     }
+    Ok(())
+}
+
+#[test]
+fn holds_the_names_of_its_entries_alone(rt: HostRuntime) -> Result<(), Fail> {
+    let mut directory = Directory::new(rt.alloc(), FileId::root());
+    holds!(rt; !directory.holds(b"ba"));
+    directory.add(9, b"ba", FileId::new(8))?;
+    directory.add(10, b"ab", FileId::new(9))?;
+    holds!(rt; directory.holds(b"ba") && directory.holds(b"ab"));
+    holds!(rt; !directory.holds(b"") && !directory.holds(b"aa") && !directory.holds(b"b"));
+    holds!(rt; !directory.holds(b"baa") && !directory.holds(b"bb"));
     Ok(())
 }
 

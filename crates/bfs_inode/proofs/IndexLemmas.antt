@@ -3,7 +3,7 @@ use Rattle.std.proofs.Common.{◌≡◌, ℕ, ◌+◌, ◌<◌, ◌≤◌, ◌==
 use Rattle.std.specs.Option.{option_map, option_or}
 use Rattle.std.specs.List.{All, AllByRecursion}
 use Rattle.std.specs.Global.{Vec}
-use Rattle.std.specs.Map.{lookup, remove_entry, values_of, KeepsOthers}
+use Rattle.std.specs.Map.{keys_of, lookup, remove_entry, values_of, KeepsOthers}
 use Rattle.std.specs.BTreeMap.{BTreeMap, is_at, insert_entry, UpdatesBy}
 use Rattle.std.specs.BTreeMap.Range.{entries_between, range_contains}
 use Rattle.std.specs.declared.ops.Bound.TheVariants.{Excluded, Unbounded}
@@ -220,6 +220,18 @@ none_in (Some x) is = absurd cc
 
 pub none_found : (pairs : Pairs) (index : List (Vec ℕ × ℕ)) (name : List ℕ) → AreIndexed pairs index → None ≡ cookie_of name index → None ≡ entry_named name (values_of pairs)
 none_found pairs index name h is = none_in (entry_named name (values_of pairs)) (is ∙ h.named name)
+
+-- a name behind the last of an index is none of its names
+pub behind_last : (name last : List ℕ) (index : List (Vec ℕ × ℕ)) → is_lt (slice_cmp nat_cmp last name) ≡ true → All (λ (key : Vec ℕ). is_lt (slice_cmp nat_cmp last key.items) ≡ false) (keys_of index) → cookie_of name index ≡ None
+behind_last name last [] behind up_to = refl
+behind_last name last (pair ∷ index) behind up_to =
+    rw (is_eq-slice_cmp name pair.0.items ∙ other, behind_last name last index behind (All-tail (λ (key : Vec ℕ). is_lt (slice_cmp nat_cmp last key.items) ≡ false) pair.0 (keys_of index) up_to)) refl
+  where
+    first : is_lt (slice_cmp nat_cmp last pair.0.items) ≡ false
+    first = All-head (λ (key : Vec ℕ). is_lt (slice_cmp nat_cmp last key.items) ≡ false) pair.0 (keys_of index) up_to
+
+    other : bytes_eq name pair.0.items ≡ false
+    other = false_from_ne_true (bytes_eq name pair.0.items) (λ same. both_ways (is_lt (slice_cmp nat_cmp last name)) (ap (λ n. is_lt (slice_cmp nat_cmp last n)) ((bytes_eq-Decides name pair.0.items).0 same) ∙ first) behind)
 
 -- without an entry of a name all are left
 pub all_left : (name : List ℕ) (es : List Entry) → None ≡ entry_named name es → es ≡ without_name name es

@@ -1,4 +1,4 @@
-ghost use Rattle.std.specs.Prelude.{◌≡◌, ◌≤◌, ◌↔◌, [], length, slice_get, IsTrue};
+ghost use Rattle.std.specs.Prelude.{◌≡◌, ◌≤◌, ◌↔◌, None, [], length, slice_get, is_some, IsTrue};
 ghost use Rattle.std.specs.Option.{option_copied};
 ghost use Rattle.bfs_model.specs.Directories.{entry_named};
 ghost use Rattle.bfs_model.specs.Limits.{most_entries};
@@ -128,6 +128,24 @@ impl Directory {
         match self.cookies.get(name) {
             Some(cookie) => self.entries.get(cookie),
             None => None,
+        }
+    }
+
+    /// Whether there is an entry of that name. It costs a look-up in one tree, and less where the name is behind all names of the
+    /// directory in the order of their bytes, as that of a new entry often is.
+    pub fn holds(&self, name: &[u8]) -> bool
+        ensures { result ≡ is_some (entry_named name.now self.now.entries) }
+    {
+        !self.is_behind_names(name) && self.cookies.contains_key(name)
+    }
+
+    // whether a name is behind all that are there, so that it is none of them
+    fn is_behind_names(&self, name: &[u8]) -> bool
+        ensures { IsTrue result → entry_named name.now self.now.entries ≡ None }
+    {
+        match self.cookies.last_key_value() {
+            Some((last, _)) => last.as_slice().cmp(name).is_lt(),
+            None => true,
         }
     }
 

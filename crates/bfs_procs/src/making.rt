@@ -156,7 +156,7 @@ fn new_name(context: &Context, directory: &Directory, name: &[u8]) -> Result<Fil
     if is_bad_name(name) {
         return Err(Status::Perm);
     }
-    if directory.entry(name).is_some() {
+    if directory.holds(name) {
         return Err(Status::Exist);
     }
     let id = context.ordinal.file_id().ok_or(Status::NoSpc)?;
