@@ -14,12 +14,17 @@ pub(crate) struct Asked(pub(crate) u32, pub(crate) &'static [&'static [u32]]);
 fn batch_of(alloc: Global, second: u32, calls: &[Asked]) -> Result<Batch, Fail> {
     let mut batch = Batch::new(alloc);
     batch.set_time(Time::new(second, 0).ok_or("a time")?);
-    for Asked(procedure, arguments) in calls {
-        let mut request = call(alloc, 1, *procedure)?;
-        put_parts(&mut request, arguments)?;
-        batch.push(request.as_slice())?;
+    for asked in calls {
+        push(alloc, &mut batch, asked)?;
     }
     Ok(batch)
+}
+
+fn push(alloc: Global, batch: &mut Batch, asked: &Asked) -> Result<(), Fail> {
+    let mut request = call(alloc, 1, asked.0)?;
+    put_parts(&mut request, asked.1)?;
+    batch.push(request.as_slice())?;
+    Ok(())
 }
 
 static MAKING: &[Asked] = &[
@@ -77,6 +82,31 @@ fn plans_no_further_than_an_end(rt: HostRuntime) -> Result<(), Fail> {
     let group = plan_group_before(alloc, tree, ordinal, time, &batch, 0, 3)?;
     same!(rt; group.level_of.as_slice(), [0, 1, 0].as_slice());
     same!(rt; plan_group_before(alloc, tree, ordinal, time, &batch, 0, 100)?.len(), 5);
+    Ok(())
+}
+
+// more calls than a plan has when it makes room for all that are left
+#[test]
+fn plans_many_calls(rt: HostRuntime) -> Result<(), Fail> {
+    let alloc = rt.alloc();
+    let files = with_executed(alloc, MAKING)?;
+    let tree = files.tree().ok_or("a live file system")?;
+    let ordinal = Ordinal::first().next().next();
+    let mut batch = batch_of(alloc, 2, &[])?;
+    for index in 0..50 {
+        let asked = if index == 40 {
+            &WRITING[0]
+        } else {
+            &WRITING[1]
+        };
+        push(alloc, &mut batch, asked)?;
+    }
+    same!(rt; runs(alloc, tree, ordinal, batch.time(), &batch, 0)?.len(), 40);
+    let group = plan_group(alloc, tree, ordinal, batch.time(), &batch, 0)?;
+    same!(rt; group.len(), 50);
+    same!(rt; group.level_of.get(39).copied(), Some(0));
+    same!(rt; group.level_of.get(40).copied(), Some(1));
+    same!(rt; group.level_of.get(41).copied(), Some(2));
     Ok(())
 }
 
