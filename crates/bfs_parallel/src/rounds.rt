@@ -20,7 +20,8 @@ const MANY_WORKERS: u32 = 3;
 // of a batch of more, how many are planned before it is known whether planning those behind them is worth its time
 const FIRST: usize = 16;
 
-// how many runs or levels of a batch of few requests get threads however short they are; of a batch of more requests it is one
+// how many runs or levels of a batch of few requests get threads however short they are; of a batch of more requests it is one, and none
+// where nobody sees whether requests overlap
 const ROUNDS: u32 = 8;
 
 // of such a batch, behind requests that were planned and got no threads, so many times as many are executed unplanned, and each time so
@@ -51,7 +52,8 @@ pub(crate) struct Rounds {
 }
 
 impl Rounds {
-    pub(crate) fn new(workers: Workers, batch: &Batch) -> Rounds {
+    /// Those of a batch: `watched` tells whether it is seen which requests overlap.
+    pub(crate) fn new(workers: Workers, batch: &Batch, watched: bool) -> Rounds {
         let mut bytes: usize = 0;
         for request in batch.requests() {
             bytes = bytes.saturating_add(bytes_moved(request.as_slice()));
@@ -59,7 +61,7 @@ impl Rounds {
         let (left, first, next_pause) = if batch.len() <= FEW {
             (ROUNDS, FEW, 0)
         } else {
-            (1, FIRST, FIRST * PAUSE)
+            (watched as u32, FIRST, FIRST * PAUSE)
         };
         Rounds {
             workers,
