@@ -28,7 +28,7 @@ use Rattle.bfs_footprint.specs.Seen.{footprint_seen}
 use Rattle.bfs_footprint.specs.declared.footprints.Footprint as declared
 use Rattle.bfs_handover.specs.Loans.{ids_of, loaned, put_in, reach_with}
 use Rattle.bfs_handover.specs.Jobs.{CanRun}
-use Rattle.bfs_handover.specs.Moves.{AreAtHome, AreDistinct, AreOwned, lent_out, taken}
+use Rattle.bfs_handover.specs.Moves.{AreAtHome, AreOwned, lent_out, taken}
 use Rattle.bfs_handover.specs.Splitting.{CanBeSplit, IsFoundOn, IsJobOf, IsSplit, Part, footprint_for, footprints_for, ordinal_of, request_of}
 use Rattle.bfs_handover.specs.Taking.{AreJobs, AreOnce, IsTaken, all_ids, all_loans}
 use Rattle.bfs_handover.specs.declared.job.Job.{Job}

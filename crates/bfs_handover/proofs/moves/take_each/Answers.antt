@@ -1,5 +1,5 @@
 -- One more is taken out, or those that were come home.
-use Rattle.std.proofs.Common.{◌≡◌, ◌+◌, ◌++◌, ◌∷◌, [], ℕ, List, drop, take, ap, sym, subst, ◌∙◌, arith, rules}
+use Rattle.std.proofs.Common.{◌≡◌, ◌+◌, ◌++◌, ◌∷◌, [], ℕ, List, drop, take, ap, sym, subst, ◌∙◌, rules}
 use Rattle.std.proofs.lemmas.List.{take_more}
 use Rattle.bfs_tree.specs.Tree.{at_home, lent}
 use Rattle.bfs_tree.specs.Slots.{Slots}

@@ -1,5 +1,5 @@
 -- The next job's comes home before the rest.
-use Rattle.std.proofs.Common.{◌≡◌, ◌∷◌, ◌++◌, ap, sym, subst, ◌∙◌, List}
+use Rattle.std.proofs.Common.{ap, sym, subst, ◌∙◌, List}
 use Rattle.bfs_handover.specs.Moves.{AreLent, brought_home}
 use Rattle.bfs_handover.specs.Taking.{all_loans}
 use Rattle.bfs_handover.specs.declared.job.Job.{Job}

@@ -1,5 +1,5 @@
 -- What was taken out for these numbers is split off.
-use Rattle.std.proofs.Common.{◌≡◌, map, Vec}
+use Rattle.std.proofs.Common.{map}
 use Rattle.bfs_footprint.specs.Seen.{footprint_seen}
 use Rattle.bfs_handover.specs.Splitting.{part_of}
 use Rattle.bfs_handover.proofs.SplitLemmas.{from_both, is_split, requested}

@@ -1,5 +1,5 @@
 -- What was taken out for the number is split off.
-use Rattle.std.proofs.Common.{◌≡◌, [], ◌∷◌, map, ap, sym, subst, ◌∙◌}
+use Rattle.std.proofs.Common.{[], ◌∷◌, map, ap, sym, ◌∙◌}
 use Rattle.std.proofs.lemmas.List.{append-nil}
 use Rattle.std.proofs.lemmas.List.Elements.{All-from_recursion}
 use Rattle.bfs_footprint.specs.Seen.{footprint_seen}
@@ -30,9 +30,9 @@ returns-clause-split c =
     let part = part_of a.first a.ordinal a.time a.batch.now.requests (map footprint_seen a.footprints.now) in
     from_both c.take_one.result
     (λ job is out.
-        is_split a.tree.now c.take_one.new.tree part (a.number ∷ []) (job ∷ []) c.requires.whole (tt, tt)
-        (All-from_recursion (CanBeSplit (at_home a.tree.now) part) (a.number ∷ []) (c.requires.number, tt))
-        (All-from_recursion (IsFoundOn (at_home a.tree.now) part) (a.number ∷ []) (c.requires.footprint, tt))
-        (is, tt)
-        (out ∙ ap (λ ids. lent_out ids a.tree.now) (sym (append-nil (ids_of job.inodes)))))
+    is_split a.tree.now c.take_one.new.tree part (a.number ∷ []) (job ∷ []) c.requires.whole (tt, tt)
+    (All-from_recursion (CanBeSplit (at_home a.tree.now) part) (a.number ∷ []) (c.requires.number, tt))
+    (All-from_recursion (IsFoundOn (at_home a.tree.now) part) (a.number ∷ []) (c.requires.footprint, tt))
+    (is, tt)
+    (out ∙ ap (λ ids. lent_out ids a.tree.now) (sym (append-nil (ids_of job.inodes)))))
     c.take_one.ensures.job c.take_one.ensures.out

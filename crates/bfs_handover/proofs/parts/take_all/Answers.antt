@@ -1,12 +1,12 @@
 -- One more is taken out, or those that were come home.
-use Rattle.std.proofs.Common.{◌≡◌, ◌+◌, ◌++◌, ◌∷◌, [], List, take, length, map, ap, sym, subst, ◌∙◌, arith, rules}
+use Rattle.std.proofs.Common.{◌+◌, ◌++◌, ◌∷◌, [], List, take, ap, sym, subst, ◌∙◌, rules}
 use Rattle.bfs_tree.specs.Tree.{at_home, lent}
 use Rattle.bfs_handover.specs.Moves.{AreLent, brought_home}
-use Rattle.bfs_handover.specs.Taking.{all_ids, all_loans, part_seen}
+use Rattle.bfs_handover.specs.Taking.{all_ids, part_seen}
 use Rattle.bfs_handover.specs.declared.job.Job.{Job}
 use Rattle.bfs_handover.specs.declared.loans.Loan.{Loan}
 use Rattle.bfs_handover.proofs.BackLemmas.{comes_back, home_again, lent_again}
-use Rattle.bfs_handover.proofs.SplitLemmas.{AreBegun, begin, loans_taken, next, next_owned}
+use Rattle.bfs_handover.proofs.SplitLemmas.{AreBegun, loans_taken, next, next_owned}
 use Rattle.bfs_handover.proofs.parts.take_all.Goals as goal
 
 pub take_one-requires-clause-owned : goal.take_one-requires-clause-owned
