@@ -12,10 +12,11 @@ use Rattle.bfs_tree.specs.Slots.{Slots}
 use Rattle.bfs_tree.specs.Tree.{at_home, lent, reserved, reserved_in}
 use Rattle.bfs_tree.specs.declared.slots.Slot.{Slot}
 use Rattle.bfs_tree.specs.declared.slots.Slot.TheVariants.{Free, Lent}
+use Rattle.bfs_tree.proofs.SlotLemmas.{home_free, lent_free, remove_absent, no_home_at, no_loan_at}
 use Rattle.bfs_handover.specs.Loans.{ids_of, loaned}
 use Rattle.bfs_handover.specs.Moves.{AreDistinct, AreOwned}
 use Rattle.bfs_handover.specs.declared.loans.Loan.{Loan}
-use Rattle.bfs_handover.proofs.MoveLemmas.{home_reserved, lent_reserved, home_out, is_out, among_both, distinct_both}
+use Rattle.bfs_handover.proofs.MoveLemmas.{home_out, is_out, among_both, distinct_both}
 use Rattle.bfs_core.specs.Lent.{AreLentOut}
 
 has_reserved_in : (s : Slots) (id : ℕ) (o : Option Slot) → get s id ≡ o → contains_key (reserved_in s id o) id ≡ true
@@ -24,6 +25,20 @@ has_reserved_in s id None is = ap is_some (get-insert nat_cmp_total s id Free id
 
 pub has_reserved : (s : Slots) (id : ℕ) → contains_key (reserved s id) id ≡ true
 has_reserved s id = has_reserved_in s id (get s id) refl
+
+home_reserved_in : (s : Slots) (id : ℕ) (o : Option Slot) → get s id ≡ o → at_home (reserved_in s id o) ≡ at_home s
+home_reserved_in s id (Some slot) is = refl
+home_reserved_in s id None is = home_free s id ∙ remove_absent (at_home s) id (no_home_at s id is)
+
+home_reserved : (s : Slots) (id : ℕ) → at_home (reserved s id) ≡ at_home s
+home_reserved s id = home_reserved_in s id (get s id) refl
+
+lent_reserved_in : (s : Slots) (id : ℕ) (o : Option Slot) → get s id ≡ o → lent (reserved_in s id o) ≡ lent s
+lent_reserved_in s id (Some slot) is = refl
+lent_reserved_in s id None is = lent_free s id ∙ remove_absent (lent s) id (no_loan_at s id is)
+
+lent_reserved : (s : Slots) (id : ℕ) → lent (reserved s id) ≡ lent s
+lent_reserved s id = lent_reserved_in s id (get s id) refl
 
 ids_more : (loans : List Loan) (loan : Loan) → ids_of (loans ++ loan ∷ []) ≡ ids_of loans ++ loan.id ∷ []
 ids_more [] loan = refl
