@@ -30,6 +30,7 @@ use Rattle.bfs_handover.specs.declared.loans.Loan.{Loan}
 use Rattle.bfs_handover.specs.declared.job.Job.{Job}
 use Rattle.bfs_handover.proofs.LoanLemmas.{get-put_in, get_owned, get_borrowed}
 use Rattle.bfs_core.specs.declared.calls.Call.{Call}
+use Rattle.bfs_core.specs.declared.running.Running.TheInside.{Inside}
 use Rattle.bfs_core.specs.declared.calls.State.{State}
 use Rattle.bfs_core.specs.declared.calls.State.TheVariants.{Waiting, Taken, Finished}
 use Rattle.bfs_core.specs.Lent.{AreLentOut, IsCarriedOut}
@@ -42,6 +43,13 @@ use Rattle.bfs_core.proofs.Standings.{CanFinish, can_take, can_finish, both}
 use Rattle.bfs_core.proofs.Stepping.{reached_by_take, reached_by_finish}
 use Rattle.bfs_core.proofs.Sharing.{many, touches, fresh, most}
 use Rattle.bfs_core.proofs.Owning.{has, any_more, any_kept, any_there, none_left, none_but, standing_there, owns_there, waiting_none, not_out, owned, others_lack}
+
+-- the machine that the core stands for, with that tree and these calls
+abbrev seen_at : Inside → Slots → List Call → Machine
+seen_at core tree calls = machine_seen core.first core.ordinal core.time core.batch.now.requests tree calls
+
+abbrev pub seen_of : Inside → Machine
+seen_of core = seen_at core core.tree core.calls.items
 
 moved_written : (g : Footprint) (id : ℕ) → among (moved_for g) id ≡ true → is_written g id ≡ true
 moved_written (known reads writes) id is = is
@@ -73,13 +81,13 @@ none_lent s none =
 pub there_by : (calls : List Call) (place : ℕ) (call : Call) → place < length (map standing_seen calls) → call ≡ get_or calls place call → slice_get calls place ≡ Some call
 there_by calls place call less is = slice_get_read calls (length calls) place call refl (omega (arith, length-map calls standing_seen)) is
 
-pub there_to_take : (first o : ℕ) (t : Time) (batch : List (List ℕ)) (tree : Slots) (calls : List Call) (number : ℕ) (call : Call)
-    → take_refusal (machine_seen first o t batch tree calls) number ≡ None → call ≡ get_or calls (number - first) call → slice_get calls (number - first) ≡ Some call
-there_to_take first o t batch tree calls number call none is = there_by calls (number - first) call (can_take (machine_seen first o t batch tree calls) number none).there is
+pub there_to_take : (core : Inside) (number : ℕ) (call : Call)
+    → take_refusal (seen_of core) number ≡ None → call ≡ get_or core.calls.items (number - core.first) call → slice_get core.calls.items (number - core.first) ≡ Some call
+there_to_take core number call none is = there_by core.calls.items (number - core.first) call (can_take (seen_of core) number none).there is
 
-pub there_to_finish : (first o : ℕ) (t : Time) (batch : List (List ℕ)) (tree : Slots) (calls : List Call) (number : ℕ) (call : Call)
-    → finish_refusal (machine_seen first o t batch tree calls) number ≡ None → call ≡ get_or calls (number - first) call → slice_get calls (number - first) ≡ Some call
-there_to_finish first o t batch tree calls number call none is = there_by calls (number - first) call (can_finish (machine_seen first o t batch tree calls) number none).there is
+pub there_to_finish : (core : Inside) (number : ℕ) (call : Call)
+    → finish_refusal (seen_of core) number ≡ None → call ≡ get_or core.calls.items (number - core.first) call → slice_get core.calls.items (number - core.first) ≡ Some call
+there_to_finish core number call none is = there_by core.calls.items (number - core.first) call (can_finish (seen_of core) number none).there is
 
 done_none : (s : State) → is_done (slot_seen s) ≡ true → lent_for s ≡ []
 done_none Waiting is = refl
@@ -93,43 +101,78 @@ all_done_none (call ∷ calls) q is =
     ap (λ ids. among ids q || list_any (has q) calls) (done_none call.state parts.0) ∙ all_done_none calls q parts.1
 
 -- once all calls are finished the tree is whole
-pub whole_when_done : (first o : ℕ) (t : Time) (batch : List (List ℕ)) (tree : Slots) (calls : List Call) → IsRunning tree calls (machine_seen first o t batch tree calls) → is_complete (machine_seen first o t batch tree calls) ≡ true → (reach_of tree).whole ≡ true
-whole_when_done first o t batch tree calls run is = none_lent tree (λ q. run.out q ∙ all_done_none calls q is)
+pub whole_when_done : (core : Inside) → IsRunning core.tree core.calls.items (seen_of core) → is_complete (seen_of core) ≡ true → (reach_of core.tree).whole ≡ true
+whole_when_done core run is = none_lent core.tree (λ q. run.out q ∙ all_done_none core.calls.items q is)
 
 get-moved : (ids : List ℕ) (m : Inodes) (id : ℕ) → get (moved ids m) id ≡ cond (among ids id) (get m id) None
 get-moved ids m id = get-retain_keys m (among ids) id (λ x tied. ap (among ids) (sym (nat_cmp-IsAntisymmetric id x tied)))
 
-module _ (first o : ℕ) (t : Time) (batch : List (List ℕ)) (tree : Slots) (calls : List Call) (run : IsRunning tree calls (machine_seen first o t batch tree calls)) (number : ℕ) (call : Call) (at : slice_get calls (number - first) ≡ Some call) where
+-- a call of a running core
+pub record AtCall : Type 0 where
+  pub core : Inside
+  pub run : IsRunning core.tree core.calls.items (seen_of core)
+  pub number : ℕ
+  pub call : Call
+  pub there : slice_get core.calls.items (number - core.first) ≡ Some call
+
+-- that can be finished, with what it was lent
+pub record UnderWay (a : AtCall) : Type 0 where
+  pub none : finish_refusal (seen_of a.core) a.number ≡ None
+  pub loans : List Loan
+  pub lent : a.call.state ≡ Taken loans
+
+-- what its request asks for
+pub record RequestAt (a : AtCall) : Type 0 where
+  pub ordinal : ℕ
+  pub bytes : List ℕ
+  pub asks : asked_at a.core.ordinal a.core.time (requests_from a.core.first (length a.core.calls.items) a.core.batch.now.requests) (a.number - a.core.first) ≡ record { ordinal = ordinal; time = a.core.time; bytes = bytes }
+
+-- what carries the call out on the tree itself carries it out
+abbrev pub CarriesOutAlone : Slots → List Loan → (ordinal : ℕ) → Time → (bytes : List ℕ) → Type 0
+CarriesOutAlone tree loans ordinal time bytes =
+    (new : Slots) (job : Job) (reply : List ℕ) → job.ordinal ≡ ordinal → job.time ≡ time → job.request.now ≡ bytes → job.inodes ≡ loans
+    → ◌≡◌ {A = Inodes × List ℕ} (at_home new, reply) (answer (at_home tree) ordinal time bytes) → reach_of new ≡ reach_of tree → IsCarriedOut tree new job reply
+
+module _ (a : AtCall) where
+  abbrev tree : Slots
+  tree = a.core.tree
+
+  abbrev calls : List Call
+  calls = a.core.calls.items
+
   abbrev m : Machine
-  m = machine_seen first o t batch tree calls
+  m = seen_of a.core
+
+  abbrev requests : List (List ℕ)
+  requests = m.requests
 
   abbrev place : ℕ
-  place = number - first
+  place = a.number - a.core.first
 
   abbrev f : Footprint
-  f = footprint_seen call.footprint
+  f = footprint_seen a.call.footprint
 
-  stands : standing_of m number ≡ standing_seen call
-  stands = standing_there calls place call at
+  stands : standing_of m a.number ≡ standing_seen a.call
+  stands = standing_there calls place a.call a.there
 
-  pub foot : (standing_of m number).footprint ≡ f
+  pub foot : (standing_of m a.number).footprint ≡ f
   foot = ap (λ (s : Standing). s.footprint) stands
 
   abbrev with_state : State → List Call
-  with_state s = set calls place (record { footprint = call.footprint; state = s })
+  with_state s = set calls place (record { footprint = a.call.footprint; state = s })
 
   seen_with : (s : State) → map standing_seen (with_state s) ≡ set (map standing_seen calls) place (record { footprint = f; slot = slot_seen s })
-  seen_with s = map-set standing_seen calls place (record { footprint = call.footprint; state = s })
+  seen_with s = map-set standing_seen calls place (record { footprint = a.call.footprint; state = s })
 
-  requests_with : (s : State) → requests_from first (length (with_state s)) batch ≡ requests_from first (length calls) batch
-  requests_with s = ap (λ n. requests_from first n batch) (length-set calls place (record { footprint = call.footprint; state = s }))
+  requests_with : (s : State) → requests_from a.core.first (length (with_state s)) a.core.batch.now.requests ≡ requests
+  requests_with s = ap (λ n. requests_from a.core.first n a.core.batch.now.requests) (length-set calls place (record { footprint = a.call.footprint; state = s }))
 
-  pub owned_to_take : take_refusal m number ≡ None → AreOwned tree (moved_for f)
-  owned_to_take none = subst (λ g. AreOwned tree (moved_for g)) foot (owned tree calls m run refl number none)
+  pub owned_to_take : take_refusal m a.number ≡ None → AreOwned tree (moved_for f)
+  owned_to_take none = subst (λ g. AreOwned tree (moved_for g)) foot (owned tree calls m a.run refl a.number none)
 
   -- Taken ------------------------------------------------------------------------------------------------------------------------
 
-  module _ (none : take_refusal m number ≡ None) (new : Slots) (loans : List Loan) (out : AreLentOut tree new (moved_for f) loans) where
+  module _ (none : take_refusal m a.number ≡ None) (new : Slots) (loans : List Loan) (out : AreLentOut tree new (moved_for f) loans) where
     goes : put_in loans empty ≡ moved (moved_for f) (at_home tree)
     goes = same_inodes _ _ (λ q. get-put_in loans empty q ∙ ap (cond (among (ids_of loans) q) (loaned loans q)) (get-empty nat_cmp q) ∙ by_test q (among (moved_for f) q) refl ∙ sym (get-moved (moved_for f) (at_home tree) q))
       where
@@ -137,47 +180,50 @@ module _ (first o : ℕ) (t : Time) (batch : List (List ℕ)) (tree : Slots) (ca
         by_test q true is = ap (λ b. cond b (loaned loans q) None) (out.same q ∙ is) ∙ out.values q is
         by_test q false is = ap (λ b. cond b (loaned loans q) None) (out.same q ∙ is)
 
-    pub taken_seen : machine_seen first o t batch new (with_state (Taken loans)) ≡ after_take m number
+    pub taken_seen : seen_at a.core new (with_state (Taken loans)) ≡ after_take m a.number
     taken_seen = λ i. record {
-      first = first;
-      ordinal = o;
-      time = t;
+      first = a.core.first;
+      ordinal = a.core.ordinal;
+      time = a.core.time;
       requests = requests_with (Taken loans) i;
       home = (out.home ∙ ap (λ g. without (moved_for g) (at_home tree)) (sym foot)) i;
       standings = (seen_with (Taken loans) ∙ ap (λ s. set (map standing_seen calls) place s) standing_is) i;
     }
       where
-        standing_is : ◌≡◌ {A = Standing} (record { footprint = f; slot = taken (put_in loans empty) }) (record { footprint = (standing_of m number).footprint; slot = taken (moved (moved_for (standing_of m number).footprint) (at_home tree)) })
+        standing_is : ◌≡◌ {A = Standing} (record { footprint = f; slot = taken (put_in loans empty) }) (record { footprint = (standing_of m a.number).footprint; slot = taken (moved (moved_for (standing_of m a.number).footprint) (at_home tree)) })
         standing_is = ap (λ home. record { footprint = f; slot = taken home }) goes ∙ ap (λ g. record { footprint = g; slot = taken (moved (moved_for g) (at_home tree)) }) (sym foot)
 
-    pub taken_running : IsRunning new (with_state (Taken loans)) (machine_seen first o t batch new (with_state (Taken loans)))
+    pub taken_running : IsRunning new (with_state (Taken loans)) (seen_at a.core new (with_state (Taken loans)))
     taken_running =
-        let waits : slot_seen call.state ≡ waiting = ap (λ (s : Standing). s.slot) (sym stands) ∙ (can_take m number none).waits in record {
-          reached = subst IsReached (sym taken_seen) (reached_by_take m number run.reached none);
+        let waits : slot_seen a.call.state ≡ waiting = ap (λ (s : Standing). s.slot) (sym stands) ∙ (can_take m a.number none).waits in record {
+          reached = subst IsReached (sym taken_seen) (reached_by_take m a.number a.run.reached none);
           out = λ id. out.out id
               ∙ ap (λ b. b || is_some (get (lent tree) id)) (sym (out.same id))
-              ∙ ap (λ b. among (ids_of loans) id || b) (run.out id)
-              ∙ sym (any_more (has id) calls place call (record { footprint = call.footprint; state = Taken loans }) at (ap (λ ids. among ids id) (waiting_none call.state waits)));
-          own = All-set OwnsWritten calls place (record { footprint = call.footprint; state = Taken loans }) (out.distinct, out.same) run.own;
+              ∙ ap (λ b. among (ids_of loans) id || b) (a.run.out id)
+              ∙ sym (any_more (has id) calls place a.call (record { footprint = a.call.footprint; state = Taken loans }) a.there (ap (λ ids. among ids id) (waiting_none a.call.state waits)));
+          own = All-set OwnsWritten calls place (record { footprint = a.call.footprint; state = Taken loans }) (out.distinct, out.same) a.run.own;
         }
 
   -- Finished ---------------------------------------------------------------------------------------------------------------------
 
-  module _ (none : finish_refusal m number ≡ None) (loans : List Loan) (is : call.state ≡ Taken loans) where
-    can : CanFinish m number
-    can = can_finish m number none
+  module _ (w : UnderWay a) where
+    abbrev loans : List Loan
+    loans = w.loans
+
+    can : CanFinish m a.number
+    can = can_finish m a.number w.none
 
     owns : HasItsOwn f (Taken loans)
-    owns = subst (HasItsOwn f) is (owns_there calls place call run.own at)
+    owns = subst (HasItsOwn f) w.lent (owns_there calls place a.call a.run.own a.there)
 
     abbrev away_now : Inodes
     away_now = put_in loans empty
 
-    away : away_in (standing_of m number).slot ≡ away_now
-    away = ap (λ (s : Standing). away_in s.slot) stands ∙ ap (λ s. away_in (slot_seen s)) is
+    away : away_in (standing_of m a.number).slot ≡ away_now
+    away = ap (λ (s : Standing). away_in s.slot) stands ∙ ap (λ s. away_in (slot_seen s)) w.lent
 
     -- the call is handed its own inodes and what is at home
-    handed_is : put_back (moved_for (standing_of m number).footprint) (away_in (standing_of m number).slot) (at_home tree) ≡ put_in loans (at_home tree)
+    handed_is : put_back (moved_for (standing_of m a.number).footprint) (away_in (standing_of m a.number).slot) (at_home tree) ≡ put_in loans (at_home tree)
     handed_is = (λ i. put_back (moved_for (foot i)) (away i) (at_home tree)) ∙ same_inodes _ _ (λ q. get-put_back (moved_for f) away_now (at_home tree) q ∙ by_test q (among (moved_for f) q) refl ∙ sym (get-put_in loans (at_home tree) q))
       where
         by_test : (q : ℕ) (b : Bool) → among (moved_for f) q ≡ b → cond b (get away_now q) (get (at_home tree) q) ≡ cond (among (ids_of loans) q) (loaned loans q) (get (at_home tree) q)
@@ -185,31 +231,34 @@ module _ (first o : ℕ) (t : Time) (batch : List (List ℕ)) (tree : Slots) (ca
             get_owned loans empty q (owns.1 q ∙ it) ∙ sym (ap (λ b. cond b (loaned loans q) (get (at_home tree) q)) (owns.1 q ∙ it))
         by_test q false it = sym (ap (λ b. cond b (loaned loans q) (get (at_home tree) q)) (owns.1 q ∙ it))
 
-    fits : place < length (requests_from first (length calls) batch)
-    fits = let less : place < length (map standing_seen calls) = can.there in let count : length (map standing_seen calls) ≡ length (requests_from first (length calls) batch) = many m run.reached in omega arith
+    fits : place < length requests
+    fits = let less : place < length (map standing_seen calls) = can.there in let count : length (map standing_seen calls) ≡ length requests = many m a.run.reached in omega arith
 
-    pub in_batch : number < length batch
+    pub in_batch : a.number < length a.core.batch.now.requests
     in_batch =
-        let from : first ≤ number = can.from in
-        let taken_len : length (requests_from first (length calls) batch) ≡ min (length calls) (length (drop first batch)) = length-take (length calls) (drop first batch) in
-        let dropped : length (drop first batch) ≡ length batch - first = length-drop first batch in
+        let from : a.core.first ≤ a.number = can.from in
+        let taken_len : length requests ≡ min (length calls) (length (drop a.core.first a.core.batch.now.requests)) = length-take (length calls) (drop a.core.first a.core.batch.now.requests) in
+        let dropped : length (drop a.core.first a.core.batch.now.requests) ≡ length a.core.batch.now.requests - a.core.first = length-drop a.core.first a.core.batch.now.requests in
         let small = fits in
         omega arith
 
-    -- what the job asks for is the request of its place
-    pub its_request : (request : List ℕ) (jo : ℕ) → slice_get batch number ≡ Some request → jo ≡ ordinal_after o place
-        → asked_at o t (requests_from first (length calls) batch) place ≡ record { ordinal = jo; time = t; bytes = request }
-    its_request request jo there after =
-        let from : first ≤ number = can.from in
+    pub asked_for : (bytes : List ℕ) (ordinal : ℕ) → slice_get a.core.batch.now.requests a.number ≡ Some bytes → ordinal ≡ ordinal_after a.core.ordinal place
+        → asked_at a.core.ordinal a.core.time requests place ≡ record { ordinal = ordinal; time = a.core.time; bytes = bytes }
+    asked_for bytes ordinal there after =
+        let from : a.core.first ≤ a.number = can.from in
         let less : place < length (map standing_seen calls) = can.there in
         let few : place < length calls = omega (arith, length-map calls standing_seen) in
-        let back : first + place ≡ number = omega arith in
-        let bytes : get_or (requests_from first (length calls) batch) place [] ≡ request =
-        get_or-take (length calls) (drop first batch) place [] few ∙ get_or-drop first batch place [] ∙ ap (λ k. get_or batch k []) back ∙ get_or_from_slice_get batch number request [] there in
-        asked_is o t (requests_from first (length calls) batch) place (most m run.reached number can) fits ∙ (λ i. record { ordinal = sym after i; time = t; bytes = bytes i })
+        let back : a.core.first + place ≡ a.number = omega arith in
+        let read : get_or requests place [] ≡ bytes =
+        get_or-take (length calls) (drop a.core.first a.core.batch.now.requests) place [] few ∙ get_or-drop a.core.first a.core.batch.now.requests place [] ∙ ap (λ k. get_or a.core.batch.now.requests k []) back ∙ get_or_from_slice_get a.core.batch.now.requests a.number bytes [] there in
+        asked_is a.core.ordinal a.core.time requests place (most m a.run.reached a.number can) fits ∙ (λ i. record { ordinal = sym after i; time = a.core.time; bytes = read i })
+
+    -- what the job asks for is the request of its place
+    abbrev pub its_request : (bytes : List ℕ) (ordinal : ℕ) → slice_get a.core.batch.now.requests a.number ≡ Some bytes → ordinal ≡ ordinal_after a.core.ordinal place → RequestAt a
+    its_request bytes ordinal there after = record { ordinal = ordinal; bytes = bytes; asks = asked_for bytes ordinal there after }
 
     -- The request, under its ordinal
-    module _ (jo : ℕ) (jt : Time) (bytes : List ℕ) (asks : asked_at o t (requests_from first (length calls) batch) place ≡ record { ordinal = jo; time = jt; bytes = bytes }) where
+    module _ (request : RequestAt a) where
       abbrev home : Inodes
       home = at_home tree
 
@@ -217,17 +266,17 @@ module _ (first o : ℕ) (t : Time) (batch : List (List ℕ)) (tree : Slots) (ca
       own = put_in loans home
 
       -- it has its footprint there
-      its_foot : footprint_of own jo jt bytes ≡ f
-      its_foot = (λ i. footprint_of (sym handed_is i) (sym asks i).ordinal (sym asks i).time (sym asks i).bytes) ∙ touches m run.reached number can ∙ foot
+      its_foot : footprint_of own request.ordinal a.core.time request.bytes ≡ f
+      its_foot = (λ i. footprint_of (sym handed_is i) (sym request.asks i).ordinal (sym request.asks i).time (sym request.asks i).bytes) ∙ touches m a.run.reached a.number can ∙ foot
 
-      pub its_fresh : IsFreshFor own jo (footprint_of own jo jt bytes)
-      its_fresh = subst (IsFreshFor own jo) (sym its_foot)
-          (subst (λ g. IsFreshFor own jo g) foot (subst (λ k. IsFreshFor own k (standing_of m number).footprint) (ap (λ (a : Asked). a.ordinal) asks)
-          (subst (λ n. IsFreshFor n (asked_at o t (requests_from first (length calls) batch) place).ordinal (standing_of m number).footprint) handed_is (fresh m run.reached number can))))
+      pub its_fresh : IsFreshFor own request.ordinal (footprint_of own request.ordinal a.core.time request.bytes)
+      its_fresh = subst (IsFreshFor own request.ordinal) (sym its_foot)
+          (subst (λ g. IsFreshFor own request.ordinal g) foot (subst (λ k. IsFreshFor own k (standing_of m a.number).footprint) (ap (λ (asked : Asked). asked.ordinal) request.asks)
+          (subst (λ n. IsFreshFor n (asked_at a.core.ordinal a.core.time requests place).ordinal (standing_of m a.number).footprint) handed_is (fresh m a.run.reached a.number can))))
 
       -- no other call has what it touches
       lack : (q : ℕ) → is_touched f q ≡ true → (j : ℕ) (other : Call) → (place ≡ j → ⊥) → slice_get calls j ≡ Some other → has q other ≡ false
-      lack q touched = others_lack tree calls m run refl number none q (ap (λ g. is_touched g q) foot ∙ touched)
+      lack q touched = others_lack tree calls m a.run refl a.number w.none q (ap (λ g. is_touched g q) foot ∙ touched)
 
       -- what it touches is its own or at home
       pub known_there : (q : ℕ) → is_touched f q ≡ true → (among (ids_of loans) q || not (is_some (get (lent tree) q))) ≡ true
@@ -235,7 +284,7 @@ module _ (first o : ℕ) (t : Time) (batch : List (List ℕ)) (tree : Slots) (ca
         where
           by_test : (b : Bool) → among (ids_of loans) q ≡ b → (b || not (is_some (get (lent tree) q))) ≡ true
           by_test true its = refl
-          by_test false its = ap not (not_out tree calls m run refl q (none_but (has q) calls place call at (ap (λ s. among (lent_for s) q) is ∙ its) (lack q touched)))
+          by_test false its = ap not (not_out tree calls m a.run refl q (none_but (has q) calls place a.call a.there (ap (λ s. among (lent_for s) q) w.lent ∙ its) (lack q touched)))
 
       knows : (g : Footprint) → is_whole g ≡ false → f ≡ g → Knows (reach_with (lent tree) home (ids_of loans)) g
       knows (known reads writes) part same = (
@@ -244,11 +293,11 @@ module _ (first o : ℕ) (t : Time) (batch : List (List ℕ)) (tree : Slots) (ca
       )
       knows whole part same = absurd (true≢false part)
 
-      pub can_run_known : is_whole f ≡ false → Knows (reach_with (lent tree) home (ids_of loans)) (footprint_of own jo jt bytes)
+      pub can_run_known : is_whole f ≡ false → Knows (reach_with (lent tree) home (ids_of loans)) (footprint_of own request.ordinal a.core.time request.bytes)
       can_run_known part = subst (Knows (reach_with (lent tree) home (ids_of loans))) (sym its_foot) (knows f part refl)
 
       pub is_out : (q : ℕ) → among (ids_of loans) q ≡ true → is_some (get (lent tree) q) ≡ true
-      is_out q its = run.out q ∙ any_there (has q) calls place call at (ap (λ s. among (lent_for s) q) is ∙ its)
+      is_out q its = a.run.out q ∙ any_there (has q) calls place a.call a.there (ap (λ s. among (lent_for s) q) w.lent ∙ its)
 
       pub distinct : AreDistinct (ids_of loans)
       distinct = owns.0
@@ -273,10 +322,9 @@ module _ (first o : ℕ) (t : Time) (batch : List (List ℕ)) (tree : Slots) (ca
             touched_all whole is q = refl
 
         is_whole_tree : (reach_of tree).whole ≡ true
-        is_whole_tree = none_lent tree (λ q. not_out tree calls m run refl q (none_but (has q) calls place call at (ap (λ s. among (lent_for s) q) is ∙ none_its q) (lack q (touches_all q))))
+        is_whole_tree = none_lent tree (λ q. not_out tree calls m a.run refl q (none_but (has q) calls place a.call a.there (ap (λ s. among (lent_for s) q) w.lent ∙ none_its q) (lack q (touches_all q))))
 
-        -- carried out on the tree itself
-        pub alone_is : (new : Slots) (job : Job) (reply : List ℕ) → job.ordinal ≡ jo → job.time ≡ jt → job.request.now ≡ bytes → job.inodes ≡ loans → ◌≡◌ {A = Inodes × List ℕ} (at_home new, reply) (answer home jo jt bytes) → reach_of new ≡ reach_of tree → IsCarriedOut tree new job reply
+        pub alone_is : CarriesOutAlone tree loans request.ordinal a.core.time request.bytes
         alone_is new job reply jo_is jt_is bytes_is loans_are answers reach = record {
           answers = answers ∙ (λ i. answer (sym own_is_home i) (sym jo_is i) (sym jt_is i) (sym bytes_is i)) ∙ ap (λ ls. answer (put_in ls home) job.ordinal job.time job.request.now) (sym loans_are);
           still_out = λ q. not_same (is_some (get (lent new) q)) (is_some (get (lent tree) q)) (ap (λ (reach : Reach). reach.known q) reach)
@@ -289,7 +337,7 @@ module _ (first o : ℕ) (t : Time) (batch : List (List ℕ)) (tree : Slots) (ca
             not_same false true is = absurd (true≢false is)
             not_same false false is = refl
 
-        pub knows_all : Knows (reach_of tree) (footprint_of own jo jt bytes)
+        pub knows_all : Knows (reach_of tree) (footprint_of own request.ordinal a.core.time request.bytes)
         knows_all = subst (Knows (reach_of tree)) (sym its_foot) (whole_known f all)
           where
             whole_known : (g : Footprint) → is_whole g ≡ true → Knows (reach_of tree) g
@@ -297,16 +345,16 @@ module _ (first o : ℕ) (t : Time) (batch : List (List ℕ)) (tree : Slots) (ca
             whole_known whole is = is_whole_tree
 
       -- What it leaves
-      module _ (new : Slots) (reply : Vec ℕ Global) (answers : ◌≡◌ {A = Inodes × List ℕ} (at_home new, reply.items) (answer own jo jt bytes))
+      module _ (new : Slots) (reply : Vec ℕ Global) (answers : ◌≡◌ {A = Inodes × List ℕ} (at_home new, reply.items) (answer own request.ordinal a.core.time request.bytes))
           (still_out : (q : ℕ) → is_some (get (lent new) q) ≡ cond (among (ids_of loans) q) false (is_some (get (lent tree) q))) where
         abbrev left : Inodes
-        left = (answer own jo jt bytes).0
+        left = (answer own request.ordinal a.core.time request.bytes).0
 
         -- what it does not write stays
         stays : (q : ℕ) → is_written f q ≡ false → get left q ≡ get home q
         stays q misses =
-            ap (λ outcome. get outcome.0 q) (requests_keep_to_footprints own own jo jt bytes (λ id touched. refl))
-            ∙ get-closed (footprint_of own jo jt bytes) left own q
+            ap (λ outcome. get outcome.0 q) (requests_keep_to_footprints own own request.ordinal a.core.time request.bytes (λ id touched. refl))
+            ∙ get-closed (footprint_of own request.ordinal a.core.time request.bytes) left own q
             ∙ ap (λ b. cond b (get left q) (get own q)) (ap (λ g. is_written g q) its_foot ∙ misses)
             ∙ get_borrowed loans home q (owns.1 q ∙ moved_is_written f q misses)
 
@@ -317,36 +365,36 @@ module _ (first o : ℕ) (t : Time) (batch : List (List ℕ)) (tree : Slots) (ca
             by_test q true it = refl
             by_test q false it = sym (stays q it)
 
-        outcome_is : outcome_of m number ≡ answer own jo jt bytes
-        outcome_is = λ i. answer (handed_is i) (asks i).ordinal (asks i).time (asks i).bytes
+        outcome_is : outcome_of m a.number ≡ answer own request.ordinal a.core.time request.bytes
+        outcome_is = λ i. answer (handed_is i) (request.asks i).ordinal (request.asks i).time (request.asks i).bytes
 
-        pub finished_seen : machine_seen first o t batch new (with_state (Finished reply)) ≡ after_finish m number
+        pub finished_seen : seen_at a.core new (with_state (Finished reply)) ≡ after_finish m a.number
         finished_seen = λ i. record {
-          first = first;
-          ordinal = o;
-          time = t;
+          first = a.core.first;
+          ordinal = a.core.ordinal;
+          time = a.core.time;
           requests = requests_with (Finished reply) i;
           home = home_is i;
           standings = (seen_with (Finished reply) ∙ ap (λ s. set (map standing_seen calls) place s) standing_is) i;
         }
           where
-            home_is : at_home new ≡ closed (standing_of m number).footprint (outcome_of m number).0 home
+            home_is : at_home new ≡ closed (standing_of m a.number).footprint (outcome_of m a.number).0 home
             home_is = ap (λ outcome. outcome.0) answers ∙ sym closed_is ∙ (λ i. closed (sym foot i) (sym outcome_is i).0 home)
 
-            standing_is : ◌≡◌ {A = Standing} (record { footprint = f; slot = finished reply.items }) (record { footprint = (standing_of m number).footprint; slot = finished (outcome_of m number).1 })
+            standing_is : ◌≡◌ {A = Standing} (record { footprint = f; slot = finished reply.items }) (record { footprint = (standing_of m a.number).footprint; slot = finished (outcome_of m a.number).1 })
             standing_is = λ i. record { footprint = sym foot i; slot = finished ((ap (λ outcome. outcome.1) answers ∙ ap (λ outcome. outcome.1) (sym outcome_is)) i) }
 
-        pub finished_running : IsRunning new (with_state (Finished reply)) (machine_seen first o t batch new (with_state (Finished reply)))
+        pub finished_running : IsRunning new (with_state (Finished reply)) (seen_at a.core new (with_state (Finished reply)))
         finished_running = record {
-          reached = subst IsReached (sym finished_seen) (reached_by_finish m number run.reached none);
+          reached = subst IsReached (sym finished_seen) (reached_by_finish m a.number a.run.reached w.none);
           out = λ q. still_out q ∙ by_test q (among (ids_of loans) q) refl;
-          own = All-set OwnsWritten calls place (record { footprint = call.footprint; state = Finished reply }) tt run.own;
+          own = All-set OwnsWritten calls place (record { footprint = a.call.footprint; state = Finished reply }) tt a.run.own;
         }
           where
             done : Call
-            done = record { footprint = call.footprint; state = Finished reply }
+            done = record { footprint = a.call.footprint; state = Finished reply }
 
             by_test : (q : ℕ) (b : Bool) → among (ids_of loans) q ≡ b → cond b false (is_some (get (lent tree) q)) ≡ list_any (has q) (with_state (Finished reply))
-            by_test q true its = sym (none_left (has q) calls place (record { footprint = call.footprint; state = Finished reply }) refl
+            by_test q true its = sym (none_left (has q) calls place (record { footprint = a.call.footprint; state = Finished reply }) refl
                 (lack q (written_is_touched f q (moved_written f q (sym (owns.1 q) ∙ its)))))
-            by_test q false its = run.out q ∙ sym (any_kept (has q) calls place call (record { footprint = call.footprint; state = Finished reply }) at (ap (λ s. among (lent_for s) q) is ∙ its) refl)
+            by_test q false its = a.run.out q ∙ sym (any_kept (has q) calls place a.call (record { footprint = a.call.footprint; state = Finished reply }) a.there (ap (λ s. among (lent_for s) q) w.lent ∙ its) refl)

@@ -11,8 +11,11 @@ use bfs_testing::numbers::NULL;
 use bfs_testing::words::{call, same_bytes, spelled};
 use bfs_tree::Tree;
 use bfs_types::{Memory, Ordinal, Time};
+use bfs_workers::{Gate, Workers, run_queue, run_split};
 use std::alloc::Global;
+use std::sync::Wait;
 use std::test::Fail;
+use std::thread::Threads;
 
 /// Calls of NULL, with the xids from 0 on.
 pub(crate) fn calls(alloc: Global, count: u32) -> Result<Vec<Vec<u8>>, Memory> {
@@ -59,6 +62,33 @@ fn job_of<'a>(alloc: Global, tree: &Tree, number: u32, request: &'a [u8]) -> Res
         time,
         inodes: Loans::new(alloc),
     })
+}
+
+/// How workers come by their jobs: each is dealt its share before it starts, or they take them from one queue.
+#[derive(Clone, Copy)]
+pub(crate) enum Way {
+    Dealt,
+    Queued,
+}
+
+pub(crate) static WAYS: &[Way] = &[Way::Dealt, Way::Queued];
+
+/// Runs the jobs that way.
+pub(crate) fn run<R: Threads + Wait + Sync, G: Gate + Sync>(
+    way: Way,
+    rt: &R,
+    alloc: Global,
+    workers: Workers,
+    tree: &Tree,
+    jobs: Vec<Job<'_>>,
+    gate: &G,
+) -> Result<Vec<Done>, Memory>
+    requires { All (CanRun tree.now) jobs.items }
+{
+    match way {
+        Way::Dealt => run_split(rt, alloc, workers, tree, jobs, gate),
+        Way::Queued => run_queue(rt, alloc, workers, tree, jobs, gate),
+    }
 }
 
 fn is_none(footprint: &Footprint) -> bool

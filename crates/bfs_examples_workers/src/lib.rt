@@ -8,8 +8,6 @@ mod merges;
 #[cfg(test)]
 mod overlap;
 #[cfg(test)]
-mod queue;
-#[cfg(test)]
 mod results;
 #[cfg(test)]
 mod splits;

@@ -1,13 +1,13 @@
 //! That jobs overlap: each test has a gate that holds a job back until another has come so far.
 ghost use Rattle.std.specs.Prelude.{⊤};
 
-use crate::jobs::{calls, each_once, jobs_of};
+use crate::jobs::{WAYS, calls, each_once, jobs_of, run};
 use bfs_handover::{Done, Job, run_job};
 use bfs_testing::holds;
 use bfs_testing::meetings::Meeting;
 use bfs_tree::Tree;
 use bfs_types::Memory;
-use bfs_workers::{Gate, Workers, run_split};
+use bfs_workers::{Gate, Workers};
 use std::alloc::Global;
 use std::test::Fail;
 
@@ -52,14 +52,17 @@ fn second_of_two_jobs_ends_first(rt: HostRuntime) -> Result<(), Fail> {
     let alloc = rt.alloc();
     let tree = Tree::new(alloc)?;
     let requests = calls(alloc, 2)?;
-    let jobs = jobs_of(alloc, &tree, requests.as_slice())?;
-    let workers = Workers::new(2).ok_or("workers")?;
-    let gate = FirstAfterSecond {
-        second: Meeting::of(1),
-    };
-    let dones = run_split(&rt, alloc, workers, &tree, jobs, &gate)?;
-    holds!(rt; gate.second.took_place());
-    each_once(alloc, dones.as_slice(), 2)
+    for way in WAYS {
+        let jobs = jobs_of(alloc, &tree, requests.as_slice())?;
+        let workers = Workers::new(2).ok_or("workers")?;
+        let gate = FirstAfterSecond {
+            second: Meeting::of(1),
+        };
+        let dones = run(*way, &rt, alloc, workers, &tree, jobs, &gate)?;
+        holds!(rt; gate.second.took_place());
+        each_once(alloc, dones.as_slice(), 2)?;
+    }
+    Ok(())
 }
 
 #[test]
@@ -68,14 +71,16 @@ fn as_many_jobs_as_workers_overlap(rt: HostRuntime) -> Result<(), Fail> {
     let tree = Tree::new(alloc)?;
     for count in [2, 3, 64] {
         let requests = calls(alloc, count)?;
-        let jobs = jobs_of(alloc, &tree, requests.as_slice())?;
-        let workers = Workers::new(count).ok_or("workers")?;
-        let gate = AllAtOnce {
-            all: Meeting::of(count as u64),
-        };
-        let dones = run_split(&rt, alloc, workers, &tree, jobs, &gate)?;
-        holds!(rt; gate.all.took_place());
-        each_once(alloc, dones.as_slice(), count)?;
+        for way in WAYS {
+            let jobs = jobs_of(alloc, &tree, requests.as_slice())?;
+            let workers = Workers::new(count).ok_or("workers")?;
+            let gate = AllAtOnce {
+                all: Meeting::of(count as u64),
+            };
+            let dones = run(*way, &rt, alloc, workers, &tree, jobs, &gate)?;
+            holds!(rt; gate.all.took_place());
+            each_once(alloc, dones.as_slice(), count)?;
+        }
     }
     Ok(())
 }

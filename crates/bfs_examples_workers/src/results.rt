@@ -1,9 +1,9 @@
 //! That each job has its result once, whatever the number of workers, and which numbers of workers there are.
-use crate::jobs::{calls, each_once, jobs_of};
+use crate::jobs::{WAYS, calls, each_once, jobs_of, run};
 use bfs_testing::{holds, same};
 use bfs_tree::Tree;
 use bfs_types::Memory;
-use bfs_workers::{NoGate, Workers, run_here, run_split};
+use bfs_workers::{NoGate, Workers, run_here};
 use std::test::Fail;
 
 #[test]
@@ -12,10 +12,12 @@ fn each_job_has_its_result_once(rt: HostRuntime) -> Result<(), Fail> {
     let tree = Tree::new(alloc)?;
     let requests = calls(alloc, 1024)?;
     for count in [1, 2, 3, 64] {
-        let jobs = jobs_of(alloc, &tree, requests.as_slice())?;
-        let workers = Workers::new(count).ok_or("workers")?;
-        let dones = run_split(&rt, alloc, workers, &tree, jobs, &NoGate)?;
-        each_once(alloc, dones.as_slice(), 1024)?;
+        for way in WAYS {
+            let jobs = jobs_of(alloc, &tree, requests.as_slice())?;
+            let workers = Workers::new(count).ok_or("workers")?;
+            let dones = run(*way, &rt, alloc, workers, &tree, jobs, &NoGate)?;
+            each_once(alloc, dones.as_slice(), 1024)?;
+        }
     }
     Ok(())
 }
@@ -40,9 +42,12 @@ fn jobs_run_here_in_order(rt: HostRuntime) -> Result<(), Fail> {
 fn no_jobs_have_no_results(rt: HostRuntime) -> Result<(), Fail> {
     let alloc = rt.alloc();
     let tree = Tree::new(alloc)?;
-    let jobs = jobs_of(alloc, &tree, &[])?;
-    let workers = Workers::new(64).ok_or("workers")?;
-    same!(rt; run_split(&rt, alloc, workers, &tree, jobs, &NoGate)?.len(), 0);
+    for way in WAYS {
+        let jobs = jobs_of(alloc, &tree, &[])?;
+        let workers = Workers::new(64).ok_or("workers")?;
+        let dones = run(*way, &rt, alloc, workers, &tree, jobs, &NoGate)?;
+        same!(rt; dones.len(), 0);
+    }
     Ok(())
 }
 
