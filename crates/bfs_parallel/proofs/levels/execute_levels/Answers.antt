@@ -1,5 +1,5 @@
 -- Each level asks for what the group has, and leaves it on its way.
-use Rattle.std.proofs.Common.{◌≡◌, [], ℕ, List, length, map, ap, sym, subst, ◌∙◌, arith, rules}
+use Rattle.std.proofs.Common.{◌≡◌, [], ◌∷◌, ℕ, List, length, map, ap, sym, subst, ◌∙◌, arith, rules}
 use Rattle.std.specs.Global.{Global}
 use Rattle.std.specs.declared.vec.Vec.{Vec}
 use Rattle.std.proofs.lemmas.List.{length-map}
@@ -12,8 +12,9 @@ use Rattle.bfs_handover.specs.Carrying.{AreCarriedOut}
 use Rattle.bfs_handover.specs.Splitting.{part_of}
 use Rattle.bfs_parallel.specs.Levels.{texts_of}
 use Rattle.bfs_parallel.specs.Ran.{AllRan}
-use Rattle.bfs_parallel.proofs.Levelled.{IsOnItsWay, arrives, as_many_levels, further, none_left, places_there, ready, sets_out}
+use Rattle.bfs_parallel.proofs.Levelled.{IsOnItsWay, IsReady, arrives, as_many_levels, further, none_left, places_there, ready, sets_out}
 use Rattle.bfs_parallel.proofs.Places.{length-all_put}
+use Rattle.bfs_parallel.proofs.levels.execute_levels.Goals.{After-as_slice-in-loop-numbers, In_ok-replies}
 use Rattle.bfs_parallel.proofs.levels.execute_levels.Goals as goal
 
 pub levels_in-requires : goal.levels_in-requires
@@ -39,81 +40,66 @@ loop-numbers-init g c =
           (length-map texts (λ (text : Vec ℕ Global). text.items) ∙ count ∙ sym (length-map a.group.now.footprints.items footprint_seen)));
     }
 
-pub carry_out-requires-clause-footprints : goal.carry_out-requires-clause-footprints
-carry_out-requires-clause-footprints g c κs within =
+-- the group is on its way, with the level whose turn it is before the others that are left
+way : (g : _) (c : After-as_slice-in-loop-numbers g)
+    → IsOnItsWay g.G.Gate.ran (at_home c.args.tree.now) c.args.group.now.first c.args.ordinal c.args.time c.args.batch.now.requests (map footprint_seen c.args.group.now.footprints.items) c.args.group.now.level_of.items (at_home c.loop-numbers.tree) (texts_of c.loop-numbers.texts.items) (c.in-Some.numbers ∷ c.next.new.self.rest.items)
+way g c =
     let a = c.args in
-    let fs = map footprint_seen a.group.now.footprints.items in
-    let texts = texts_of c.loop-numbers.texts.items in
-    let way = subst (λ left. IsOnItsWay g.G.Gate.ran (at_home a.tree.now) a.group.now.first a.ordinal a.time a.batch.now.requests fs a.group.now.level_of.items (at_home c.loop-numbers.tree) texts left) c.in-Some.ensures.steps.0 c.loop-numbers.invariant.way in
-    rw (c.as_slice.ensures.value, c.as_slice-in-loop-numbers.ensures.value)
-    (ready g.G.Gate.ran (at_home a.tree.now) a.group.now.first a.ordinal a.time a.batch.now.requests fs a.group.now.level_of.items (at_home c.loop-numbers.tree) texts c.in-Some.numbers c.next.new.self.rest.items way).found
+    subst (λ left. IsOnItsWay g.G.Gate.ran (at_home a.tree.now) a.group.now.first a.ordinal a.time a.batch.now.requests (map footprint_seen a.group.now.footprints.items) a.group.now.level_of.items (at_home c.loop-numbers.tree) (texts_of c.loop-numbers.texts.items) left) c.in-Some.ensures.steps.0 c.loop-numbers.invariant.way
+
+-- what that level asks for
+level : (g : _) (c : After-as_slice-in-loop-numbers g)
+    → IsReady g.G.Gate.ran (at_home c.args.tree.now) c.args.group.now.first c.args.ordinal c.args.time c.args.batch.now.requests (map footprint_seen c.args.group.now.footprints.items) c.args.group.now.level_of.items (at_home c.loop-numbers.tree) (texts_of c.loop-numbers.texts.items) c.in-Some.numbers.items
+level g c =
+    let a = c.args in
+    ready g.G.Gate.ran (at_home a.tree.now) a.group.now.first a.ordinal a.time a.batch.now.requests (map footprint_seen a.group.now.footprints.items) a.group.now.level_of.items (at_home c.loop-numbers.tree) (texts_of c.loop-numbers.texts.items) c.in-Some.numbers c.next.new.self.rest.items (way g c)
+
+pub carry_out-requires-clause-footprints : goal.carry_out-requires-clause-footprints
+carry_out-requires-clause-footprints g c κs within = rw (c.as_slice.ensures.value, c.as_slice-in-loop-numbers.ensures.value) (level g (goal.at.carry_out-requires-clause-footprints g c).After-as_slice-in-loop-numbers).found
 
 pub carry_out-requires-clause-numbers : goal.carry_out-requires-clause-numbers
-carry_out-requires-clause-numbers g c κs within =
-    let a = c.args in
-    let fs = map footprint_seen a.group.now.footprints.items in
-    let texts = texts_of c.loop-numbers.texts.items in
-    let way = subst (λ left. IsOnItsWay g.G.Gate.ran (at_home a.tree.now) a.group.now.first a.ordinal a.time a.batch.now.requests fs a.group.now.level_of.items (at_home c.loop-numbers.tree) texts left) c.in-Some.ensures.steps.0 c.loop-numbers.invariant.way in
-    rw (c.as_slice.ensures.value, c.as_slice-in-loop-numbers.ensures.value)
-    (ready g.G.Gate.ran (at_home a.tree.now) a.group.now.first a.ordinal a.time a.batch.now.requests fs a.group.now.level_of.items (at_home c.loop-numbers.tree) texts c.in-Some.numbers c.next.new.self.rest.items way).can
+carry_out-requires-clause-numbers g c κs within = rw (c.as_slice.ensures.value, c.as_slice-in-loop-numbers.ensures.value) (level g (goal.at.carry_out-requires-clause-numbers g c).After-as_slice-in-loop-numbers).can
 
 pub carry_out-requires-clause-disjoint : goal.carry_out-requires-clause-disjoint
-carry_out-requires-clause-disjoint g c κs within =
-    let a = c.args in
-    let fs = map footprint_seen a.group.now.footprints.items in
-    let texts = texts_of c.loop-numbers.texts.items in
-    let way = subst (λ left. IsOnItsWay g.G.Gate.ran (at_home a.tree.now) a.group.now.first a.ordinal a.time a.batch.now.requests fs a.group.now.level_of.items (at_home c.loop-numbers.tree) texts left) c.in-Some.ensures.steps.0 c.loop-numbers.invariant.way in
-    rw (c.as_slice.ensures.value, c.as_slice-in-loop-numbers.ensures.value)
-    (ready g.G.Gate.ran (at_home a.tree.now) a.group.now.first a.ordinal a.time a.batch.now.requests fs a.group.now.level_of.items (at_home c.loop-numbers.tree) texts c.in-Some.numbers c.next.new.self.rest.items way).apart
+carry_out-requires-clause-disjoint g c κs within = rw (c.as_slice.ensures.value, c.as_slice-in-loop-numbers.ensures.value) (level g (goal.at.carry_out-requires-clause-disjoint g c).After-as_slice-in-loop-numbers).apart
 
 pub carry_out-requires-clause-rising : goal.carry_out-requires-clause-rising
-carry_out-requires-clause-rising g c κs within =
+carry_out-requires-clause-rising g c κs within = rw c.as_slice-in-loop-numbers.ensures.value (level g (goal.at.carry_out-requires-clause-rising g c).After-as_slice-in-loop-numbers).rise
+
+-- the level whose turn it was has been carried out
+carried : (g : _) (c : In_ok-replies g)
+    → AreCarriedOut (at_home c.loop-numbers.tree) (at_home c.carry_out.new.tree) (part_of c.args.group.now.first c.args.ordinal c.args.time c.args.batch.now.requests (map footprint_seen c.args.group.now.footprints.items)) c.in-Some.numbers.items c.in_ok-replies.replies.items
+carried g c =
     let a = c.args in
-    let fs = map footprint_seen a.group.now.footprints.items in
-    let texts = texts_of c.loop-numbers.texts.items in
-    let way = subst (λ left. IsOnItsWay g.G.Gate.ran (at_home a.tree.now) a.group.now.first a.ordinal a.time a.batch.now.requests fs a.group.now.level_of.items (at_home c.loop-numbers.tree) texts left) c.in-Some.ensures.steps.0 c.loop-numbers.invariant.way in
-    rw c.as_slice-in-loop-numbers.ensures.value
-    (ready g.G.Gate.ran (at_home a.tree.now) a.group.now.first a.ordinal a.time a.batch.now.requests fs a.group.now.level_of.items (at_home c.loop-numbers.tree) texts c.in-Some.numbers c.next.new.self.rest.items way).rise
+    let first = a.group.now.first in
+    let batch = a.batch.now.requests in
+    let home = at_home c.loop-numbers.tree in
+    let after = at_home c.carry_out.new.tree in
+    let replies = c.in_ok-replies.replies.items in
+    subst (λ ns. AreCarriedOut home after (part_of first a.ordinal a.time batch (map footprint_seen a.group.now.footprints.items)) ns replies) c.as_slice-in-loop-numbers.ensures.value
+    (subst (λ (items : List declared.Footprint). AreCarriedOut home after (part_of first a.ordinal a.time batch (map footprint_seen items)) c.as_slice-in-loop-numbers.result.now replies) c.as_slice.ensures.value c.in_ok-replies.ensures.done)
 
 pub place-requires : goal.place-requires
 place-requires g c =
     let a = c.args in
-    let m = at_home a.tree.now in
-    let first = a.group.now.first in
-    let batch = a.batch.now.requests in
     let fs = map footprint_seen a.group.now.footprints.items in
-    let home = at_home c.loop-numbers.tree in
-    let after = at_home c.carry_out.new.tree in
-    let texts = texts_of c.loop-numbers.texts.items in
-    let replies = c.in_ok-replies.replies.items in
-    let way = subst (λ left. IsOnItsWay g.G.Gate.ran m first a.ordinal a.time batch fs a.group.now.level_of.items home texts left) c.in-Some.ensures.steps.0 c.loop-numbers.invariant.way in
-    let carried : AreCarriedOut home after (part_of first a.ordinal a.time batch fs) c.in-Some.numbers.items replies =
-    subst (λ ns. AreCarriedOut home after (part_of first a.ordinal a.time batch fs) ns replies) c.as_slice-in-loop-numbers.ensures.value
-    (subst (λ (items : List declared.Footprint). AreCarriedOut home after (part_of first a.ordinal a.time batch (map footprint_seen items)) c.as_slice-in-loop-numbers.result.now replies) c.as_slice.ensures.value c.in_ok-replies.ensures.done) in
-    places_there g.G.Gate.ran m first a.ordinal a.time batch fs a.group.now.level_of.items home texts c.in-Some.numbers.items after replies (length c.loop-numbers.texts.items)
-    (ready g.G.Gate.ran m first a.ordinal a.time batch fs a.group.now.level_of.items home texts c.in-Some.numbers c.next.new.self.rest.items way) carried (c.loop-numbers.invariant.count ∙ sym (length-map a.group.now.footprints.items footprint_seen))
+    places_there g.G.Gate.ran (at_home a.tree.now) a.group.now.first a.ordinal a.time a.batch.now.requests fs a.group.now.level_of.items (at_home c.loop-numbers.tree) (texts_of c.loop-numbers.texts.items) c.in-Some.numbers.items (at_home c.carry_out.new.tree) c.in_ok-replies.replies.items (length c.loop-numbers.texts.items)
+    (level g (goal.at.place-requires g c).After-as_slice-in-loop-numbers) (carried g (goal.at.place-requires g c).In_ok-replies) (c.loop-numbers.invariant.count ∙ sym (length-map a.group.now.footprints.items footprint_seen))
 
 pub loop-numbers-preserved : goal.loop-numbers-preserved
 loop-numbers-preserved g c =
     let a = c.args in
-    let m = at_home a.tree.now in
     let first = a.group.now.first in
-    let batch = a.batch.now.requests in
     let fs = map footprint_seen a.group.now.footprints.items in
-    let home = at_home c.loop-numbers.tree in
-    let after = at_home c.carry_out.new.tree in
     let texts = texts_of c.loop-numbers.texts.items in
     let replies = c.in_ok-replies.replies.items in
-    let way = subst (λ left. IsOnItsWay g.G.Gate.ran m first a.ordinal a.time batch fs a.group.now.level_of.items home texts left) c.in-Some.ensures.steps.0 c.loop-numbers.invariant.way in
-    let carried : AreCarriedOut home after (part_of first a.ordinal a.time batch fs) c.in-Some.numbers.items replies =
-    subst (λ ns. AreCarriedOut home after (part_of first a.ordinal a.time batch fs) ns replies) c.as_slice-in-loop-numbers.ensures.value
-    (subst (λ (items : List declared.Footprint). AreCarriedOut home after (part_of first a.ordinal a.time batch (map footprint_seen items)) c.as_slice-in-loop-numbers.result.now replies) c.as_slice.ensures.value c.in_ok-replies.ensures.done) in
     record {
       whole = c.in_ok-replies.ensures.whole;
       count = sym (length-map c.place.new.texts.items (λ (text : Vec ℕ Global). text.items)) ∙ ap length c.place.ensures ∙ length-all_put first replies texts
           ∙ length-map c.loop-numbers.texts.items (λ (text : Vec ℕ Global). text.items) ∙ c.loop-numbers.invariant.count;
       way = rw c.place.ensures
-          (further g.G.Gate.ran m first a.ordinal a.time batch fs a.group.now.level_of.items home texts c.in-Some.numbers c.next.new.self.rest.items way after replies carried c.in_ok-replies.ensures.ran);
+          (further g.G.Gate.ran (at_home a.tree.now) first a.ordinal a.time a.batch.now.requests fs a.group.now.level_of.items (at_home c.loop-numbers.tree) texts c.in-Some.numbers c.next.new.self.rest.items
+          (way g (goal.at.loop-numbers-preserved g c).After-as_slice-in-loop-numbers) (at_home c.carry_out.new.tree) replies (carried g (goal.at.loop-numbers-preserved g c).In_ok-replies) c.in_ok-replies.ensures.ran);
     }
 
 pub returns : goal.returns
