@@ -127,7 +127,7 @@ pub record RequestAt (a : AtCall) : Type 0 where
   pub bytes : List ℕ
   pub asks : asked_at a.core.ordinal a.core.time (requests_from a.core.first (length a.core.calls.items) a.core.batch.now.requests) (a.number - a.core.first) ≡ record { ordinal = ordinal; time = a.core.time; bytes = bytes }
 
--- what carries the call out on the tree itself carries it out
+-- what answering a job on the tree itself leaves is what carrying it out leaves
 abbrev pub CarriesOutAlone : Slots → List Loan → (ordinal : ℕ) → Time → (bytes : List ℕ) → Type 0
 CarriesOutAlone tree loans ordinal time bytes =
     (new : Slots) (job : Job) (reply : List ℕ) → job.ordinal ≡ ordinal → job.time ≡ time → job.request.now ≡ bytes → job.inodes ≡ loans
@@ -391,9 +391,6 @@ module _ (a : AtCall) where
           own = All-set OwnsWritten calls place (record { footprint = a.call.footprint; state = Finished reply }) tt a.run.own;
         }
           where
-            done : Call
-            done = record { footprint = a.call.footprint; state = Finished reply }
-
             by_test : (q : ℕ) (b : Bool) → among (ids_of loans) q ≡ b → cond b false (is_some (get (lent tree) q)) ≡ list_any (has q) (with_state (Finished reply))
             by_test q true its = sym (none_left (has q) calls place (record { footprint = a.call.footprint; state = Finished reply }) refl
                 (lack q (written_is_touched f q (moved_written f q (sym (owns.1 q) ∙ its)))))
