@@ -73,22 +73,23 @@ pub(crate) enum Way {
 
 pub(crate) static WAYS: &[Way] = &[Way::Dealt, Way::Queued];
 
-/// Runs the jobs that way.
-pub(crate) fn run<R: Threads + Wait + Sync, G: Gate + Sync>(
-    way: Way,
+/// The results of a job for each of these requests, run that way by so many workers.
+pub(crate) fn results_of<R: Threads + Wait + Sync, G: Gate + Sync>(
     rt: &R,
     alloc: Global,
-    workers: Workers,
-    tree: &Tree,
-    jobs: Vec<Job<'_>>,
+    way: Way,
+    count: u32,
+    requests: &[Vec<u8>],
     gate: &G,
-) -> Result<Vec<Done>, Memory>
-    requires { All (CanRun tree.now) jobs.items }
-{
-    match way {
-        Way::Dealt => run_split(rt, alloc, workers, tree, jobs, gate),
-        Way::Queued => run_queue(rt, alloc, workers, tree, jobs, gate),
-    }
+) -> Result<Vec<Done>, Fail> {
+    let tree = Tree::new(alloc)?;
+    let jobs = jobs_of(alloc, &tree, requests)?;
+    let workers = Workers::new(count).ok_or("workers")?;
+    let dones = match way {
+        Way::Dealt => run_split(rt, alloc, workers, &tree, jobs, gate)?,
+        Way::Queued => run_queue(rt, alloc, workers, &tree, jobs, gate)?,
+    };
+    Ok(dones)
 }
 
 fn is_none(footprint: &Footprint) -> bool

@@ -1,13 +1,13 @@
 //! That jobs overlap: each test has a gate that holds a job back until another has come so far.
 ghost use Rattle.std.specs.Prelude.{⊤};
 
-use crate::jobs::{WAYS, calls, each_once, jobs_of, run};
+use crate::jobs::{WAYS, calls, each_once, results_of};
 use bfs_handover::{Done, Job, run_job};
 use bfs_testing::holds;
 use bfs_testing::meetings::Meeting;
 use bfs_tree::Tree;
 use bfs_types::Memory;
-use bfs_workers::{Gate, Workers};
+use bfs_workers::Gate;
 use std::alloc::Global;
 use std::test::Fail;
 
@@ -50,15 +50,12 @@ impl Gate for AllAtOnce {
 #[test]
 fn second_of_two_jobs_ends_first(rt: HostRuntime) -> Result<(), Fail> {
     let alloc = rt.alloc();
-    let tree = Tree::new(alloc)?;
     let requests = calls(alloc, 2)?;
     for way in WAYS {
-        let jobs = jobs_of(alloc, &tree, requests.as_slice())?;
-        let workers = Workers::new(2).ok_or("workers")?;
         let gate = FirstAfterSecond {
             second: Meeting::of(1),
         };
-        let dones = run(*way, &rt, alloc, workers, &tree, jobs, &gate)?;
+        let dones = results_of(&rt, alloc, *way, 2, requests.as_slice(), &gate)?;
         holds!(rt; gate.second.took_place());
         each_once(alloc, dones.as_slice(), 2)?;
     }
@@ -68,16 +65,13 @@ fn second_of_two_jobs_ends_first(rt: HostRuntime) -> Result<(), Fail> {
 #[test]
 fn as_many_jobs_as_workers_overlap(rt: HostRuntime) -> Result<(), Fail> {
     let alloc = rt.alloc();
-    let tree = Tree::new(alloc)?;
     for count in [2, 3, 64] {
         let requests = calls(alloc, count)?;
         for way in WAYS {
-            let jobs = jobs_of(alloc, &tree, requests.as_slice())?;
-            let workers = Workers::new(count).ok_or("workers")?;
             let gate = AllAtOnce {
                 all: Meeting::of(count as u64),
             };
-            let dones = run(*way, &rt, alloc, workers, &tree, jobs, &gate)?;
+            let dones = results_of(&rt, alloc, *way, count, requests.as_slice(), &gate)?;
             holds!(rt; gate.all.took_place());
             each_once(alloc, dones.as_slice(), count)?;
         }

@@ -1,5 +1,5 @@
 //! That each job has its result once, whatever the number of workers, and which numbers of workers there are.
-use crate::jobs::{WAYS, calls, each_once, jobs_of, run};
+use crate::jobs::{WAYS, calls, each_once, jobs_of, results_of};
 use bfs_testing::{holds, same};
 use bfs_tree::Tree;
 use bfs_types::Memory;
@@ -9,13 +9,10 @@ use std::test::Fail;
 #[test]
 fn each_job_has_its_result_once(rt: HostRuntime) -> Result<(), Fail> {
     let alloc = rt.alloc();
-    let tree = Tree::new(alloc)?;
     let requests = calls(alloc, 1024)?;
     for count in [1, 2, 3, 64] {
         for way in WAYS {
-            let jobs = jobs_of(alloc, &tree, requests.as_slice())?;
-            let workers = Workers::new(count).ok_or("workers")?;
-            let dones = run(*way, &rt, alloc, workers, &tree, jobs, &NoGate)?;
+            let dones = results_of(&rt, alloc, *way, count, requests.as_slice(), &NoGate)?;
             each_once(alloc, dones.as_slice(), 1024)?;
         }
     }
@@ -41,11 +38,8 @@ fn jobs_run_here_in_order(rt: HostRuntime) -> Result<(), Fail> {
 #[test]
 fn no_jobs_have_no_results(rt: HostRuntime) -> Result<(), Fail> {
     let alloc = rt.alloc();
-    let tree = Tree::new(alloc)?;
     for way in WAYS {
-        let jobs = jobs_of(alloc, &tree, &[])?;
-        let workers = Workers::new(64).ok_or("workers")?;
-        let dones = run(*way, &rt, alloc, workers, &tree, jobs, &NoGate)?;
+        let dones = results_of(&rt, alloc, *way, 64, &[], &NoGate)?;
         same!(rt; dones.len(), 0);
     }
     Ok(())
