@@ -1,7 +1,6 @@
 pub mod Zips
 pub mod Dealing
 pub mod Numbers
-pub mod Orders
 pub mod Accounts
 pub mod Steps
 pub mod Queued
