@@ -5,3 +5,5 @@ pub mod Accounts
 pub mod Steps
 pub mod Queued
 pub mod Working
+pub mod Alone
+pub mod Ones

@@ -4,3 +4,5 @@ pub mod Results
 pub mod Dealt
 pub mod Laws
 pub mod Rule
+pub mod Alone
+pub mod Answered

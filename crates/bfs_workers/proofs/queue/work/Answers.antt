@@ -25,5 +25,5 @@ loop-job-preserved g c =
     let queue = c.in-Some.ensures.queue in
     let took = c.in-Some.ensures.rule in
     let same = same_but_taken (view c.args.seat.pass).parts (view c.args.seat.pass).put (view c.loop-job.pass) (view c.pop_as.new.pass) c.in-Some.job before.same took in
-    let given = gives_more g.G.Gate.ran c.args.tree.now (view c.loop-job.pass) (view c.pop_as.new.pass) c.in-Some.job c.loop-job.dones.items c.in_ok-run.value took before.given c.in_ok-run.ensures in
+    let given = gives_more g.G.Gate.ran c.args.tree.now (view c.loop-job.pass) (view c.pop_as.new.pass) c.in-Some.job c.loop-job.dones.items c.in_ok-run.field-0 took before.given c.in_ok-run.ensures in
     record { queue = (queue.0 ∙ before.queue.0, queue.2 ∙ before.queue.1); same = same; given = rw c.in_ok-push.ensures.items given }
