@@ -6,8 +6,8 @@ use Rattle.bfs_model.specs.Serial.{Batch, execute}
 use Rattle.bfs_model.specs.Tree.{FileSystem, new_file_system}
 use Rattle.bfs_digest.specs.Digests.{digest_of}
 use Rattle.bfs_trace.specs.Events.{Block, Request}
-use Rattle.bfs_trace.specs.declared.events.Event.{Event}
-use Rattle.bfs_trace.specs.declared.events.Event.TheVariants as event
+use Rattle.bfs_trace.specs.declared.events.TraceEvent.{TraceEvent}
+use Rattle.bfs_trace.specs.declared.events.TraceEvent.TheVariants as event
 
 -- a reply as it is printed: lower-case hexadecimal digits, or `-` for no bytes
 abbrev pub reply_text : List ℕ → List ℕ
@@ -30,20 +30,24 @@ as_batch block = record { time = block.time; requests = map (λ request. request
 abbrev pub block_output : FileSystem → Block → List ℕ
 block_output files block = reply_lines block.requests (execute files (as_batch block)).1
 
--- what an event prints that happens to a file system
-abbrev pub event_output : FileSystem → Event → List ℕ
+-- what an event prints that happens to a file system. Who is silent prints nothing
+abbrev pub event_output : FileSystem → TraceEvent → List ℕ
 event_output files (event.Block block) = block_output files block
+event_output files (event.Silent replica) = []
+event_output files (event.Heard replica) = []
 
 -- the file system after an event
-abbrev pub files_after : FileSystem → Event → FileSystem
+abbrev pub files_after : FileSystem → TraceEvent → FileSystem
 files_after files (event.Block block) = (execute files (as_batch block)).0
+files_after files (event.Silent replica) = files
+files_after files (event.Heard replica) = files
 
 -- the file system and what was printed, after one event more
-abbrev pub with_event : FileSystem × List ℕ → Event → FileSystem × List ℕ
+abbrev pub with_event : FileSystem × List ℕ → TraceEvent → FileSystem × List ℕ
 with_event run event = (files_after run.0 event, run.1 ++ event_output run.0 event)
 
 -- the file system and what was printed after the events of a trace, on a new file system
-abbrev pub run_of : List Event → FileSystem × List ℕ
+abbrev pub run_of : List TraceEvent → FileSystem × List ℕ
 run_of events = fold with_event (new_file_system, []) events
 
 -- the line that tells the digest of a replica's file system: `digest <replica> <hex>`
@@ -54,5 +58,5 @@ digest_line replica digest = codes "digest " ++ decimal replica ++ codes " " ++ 
 abbrev pub with_digest : FileSystem × List ℕ → List ℕ
 with_digest run = run.1 ++ digest_line 0 (digest_of run.0)
 
-abbrev pub output_of : List Event → List ℕ
+abbrev pub output_of : List TraceEvent → List ℕ
 output_of events = with_digest (run_of events)

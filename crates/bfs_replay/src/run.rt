@@ -11,7 +11,7 @@ use crate::executor::Executor;
 use crate::replies::print_replies;
 use bfs_parallel::Engine;
 use bfs_serial::{Batch, ExecError, FileSystem, PushError};
-use bfs_trace::{Block, Event, Trace};
+use bfs_trace::{Block, Trace, TraceEvent};
 use bfs_workers::Workers;
 use std::alloc::Global;
 use std::io::Write;
@@ -56,7 +56,8 @@ impl ReplayError {
 /// Lets the events of a trace happen one after another on a new file system: the requests of a block are executed as one
 /// batch, by the workers as the engine says, or one after another where there is no engine; and then a line is written for each of
 /// them: `c<client> t<timestamp> <reply>`, the reply in lower-case hexadecimal digits, or `-` where it has no bytes. At the end comes a line
-/// `digest 0 <digest>`: the digest that the file system then has, in such digits. What is written depends on the trace alone.
+/// `digest 0 <digest>`: the digest that the file system then has, in such digits. What is written depends on the trace alone, and not on
+/// who falls silent or is heard in it.
 pub fn run_trace<R: AllocGlobal + Threads + Wait + Sync, W: Write>(
     rt: &R,
     trace: &Trace,
@@ -103,7 +104,7 @@ fn run_event<R: Threads + Wait + Sync, W: Write>(
     alloc: Global,
     executor: &Executor,
     files: &mut FileSystem,
-    event: &Event,
+    event: &TraceEvent,
     writer: &mut W,
 ) -> Result<(), ReplayError>
     requires live { IsSome files.old }
@@ -112,7 +113,8 @@ fn run_event<R: Threads + Wait + Sync, W: Write>(
     ensures fails { IfErr result (λ e. e ≢ ReplayError.Failed) }
 {
     match event {
-        Event::Block(block) => run_block(rt, alloc, executor, files, block, writer),
+        TraceEvent::Block(block) => run_block(rt, alloc, executor, files, block, writer),
+        TraceEvent::Silent(_) | TraceEvent::Heard(_) => Ok(()),
     }
 }
 

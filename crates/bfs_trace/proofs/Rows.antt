@@ -10,90 +10,95 @@ use Rattle.bfs_trace.specs.Lines.{call_spelled, line_spelled}
 use Rattle.bfs_trace.specs.Operands.{file_spelled, mode_in, number_setting_in, set_time_spelled, settings_in, time_setting_in, time_spelled}
 use Rattle.bfs_trace.specs.Messages.{arguments, call_header, credential_body, settings_item}
 use Rattle.bfs_trace.specs.Trace.{is_passed_over, read_lines, trace_spelled}
+use Rattle.bfs_trace.specs.Population.{Population}
 use Rattle.bfs_trace.specs.Texts.{data_spelled, escape_spelled, text_after, text_spelled}
 use Rattle.bfs_trace.specs.Verbs.{call_in_words, named_with_settings_words, named_words, procedure_named, rename_words, set_attributes_words, symbolic_link_words, write_words}
 use Rattle.bfs_trace.specs.Words.{digits_spelled, parts}
-use Rattle.bfs_trace.specs.declared.events.Event.{Event}
-use Rattle.bfs_trace.specs.declared.events.Event.TheVariants as event
+use Rattle.bfs_trace.specs.declared.events.TraceEvent.{TraceEvent}
+use Rattle.bfs_trace.specs.declared.events.TraceEvent.TheVariants as event
 
 -- what computes what a text says
 unfoldable pub read_on_literals : ⊤
 unfolding hex_on_literals parts digits_spelled time_spelled procedure_named call_spelled line_spelled is_passed_over read_lines
 read_on_literals = tt
 
-abbrev pub block_at : (seconds useconds : ℕ) → List Request → Event
+-- one replica
+abbrev pub sixteen_clients : Population
+sixteen_clients = record { clients = 16; replicas = 1 }
+
+abbrev pub block_at : (seconds useconds : ℕ) → List Request → TraceEvent
 block_at s u requests = event.Block (record { time = record { seconds = s; useconds = u }; requests = requests })
 
 abbrev pub request_by : (client timestamp : ℕ) → (call : List ℕ) → Request
 request_by c t bytes = record { client = c; timestamp = t; call = bytes }
 
 -- comments and empty lines, leading zeros, both cases of digits, and a last line with no newline
-pub row-two_requests : trace_spelled (codes "# a\n\nbatch 01.000000\n0 1 raw 00Ff\n15 007 raw aB")
+pub row-two_requests : trace_spelled sixteen_clients (codes "# a\n\nbatch 01.000000\n0 1 raw 00Ff\n15 007 raw aB")
     ≡ Ok (block_at 1 0 (request_by 0 1 (0 ∷ 255 ∷ []) ∷ request_by 15 7 (171 ∷ []) ∷ []) ∷ [])
 unfolding read_on_literals
 row-two_requests = refl
 
 -- the ends of what numbers may be
-pub row-last_numbers : trace_spelled (codes "batch 4294967295.999999\n15 18446744073709551615 raw 00\n")
+pub row-last_numbers : trace_spelled sixteen_clients (codes "batch 4294967295.999999\n15 18446744073709551615 raw 00\n")
     ≡ Ok (block_at 4294967295 999999 (request_by 15 18446744073709551615 (0 ∷ []) ∷ []) ∷ [])
 unfolding read_on_literals
 row-last_numbers = refl
 
-pub row-nothing : trace_spelled [] ≡ Ok []
+pub row-nothing : trace_spelled sixteen_clients [] ≡ Ok []
 unfolding read_on_literals
 row-nothing = refl
 
 -- Lines that break the grammar -------------------------------------------------------------------------------------
 
-pub row-no_block : trace_spelled (codes "# a\n0 1 raw 00\n") ≡ Err 2
+pub row-no_block : trace_spelled sixteen_clients (codes "# a\n0 1 raw 00\n") ≡ Err 2
 unfolding read_on_literals
 row-no_block = refl
 
-pub row-other_verb : trace_spelled (codes "batch 1.000000\n0 1 raw 00\n0 2 Raw 00\n") ≡ Err 3
+pub row-other_verb : trace_spelled sixteen_clients (codes "batch 1.000000\n0 1 raw 00\n0 2 Raw 00\n") ≡ Err 3
 unfolding read_on_literals
 row-other_verb = refl
 
-pub row-carriage_return : trace_spelled (codes "batch 1.000000\r\n") ≡ Err 1
+pub row-carriage_return : trace_spelled sixteen_clients (codes "batch 1.000000\r\n") ≡ Err 1
 unfolding read_on_literals
 row-carriage_return = refl
 
-pub row-carriage_return_behind_call : trace_spelled (codes "batch 1.000000\n0 1 raw 00\r\n") ≡ Err 2
+pub row-carriage_return_behind_call : trace_spelled sixteen_clients (codes "batch 1.000000\n0 1 raw 00\r\n") ≡ Err 2
 unfolding read_on_literals
 row-carriage_return_behind_call = refl
 
-pub row-carriage_return_alone : trace_spelled (codes "# a comment\r\n\r\n") ≡ Err 2
+pub row-carriage_return_alone : trace_spelled sixteen_clients (codes "# a comment\r\n\r\n") ≡ Err 2
 unfolding read_on_literals
 row-carriage_return_alone = refl
 
-pub row-two_spaces : trace_spelled (codes "batch  1.000000\n") ≡ Err 1
+pub row-two_spaces : trace_spelled sixteen_clients (codes "batch  1.000000\n") ≡ Err 1
 unfolding read_on_literals
 row-two_spaces = refl
 
-pub row-last_space : trace_spelled (codes "batch 1.000000 \n") ≡ Err 1
+pub row-last_space : trace_spelled sixteen_clients (codes "batch 1.000000 \n") ≡ Err 1
 unfolding read_on_literals
 row-last_space = refl
 
-pub row-five_digits : trace_spelled (codes "batch 1.00000\n") ≡ Err 1
+pub row-five_digits : trace_spelled sixteen_clients (codes "batch 1.00000\n") ≡ Err 1
 unfolding read_on_literals
 row-five_digits = refl
 
-pub row-sign : trace_spelled (codes "batch +1.000000\n") ≡ Err 1
+pub row-sign : trace_spelled sixteen_clients (codes "batch +1.000000\n") ≡ Err 1
 unfolding read_on_literals
 row-sign = refl
 
-pub row-late_time : trace_spelled (codes "batch 4294967296.000000\n") ≡ Err 1
+pub row-late_time : trace_spelled sixteen_clients (codes "batch 4294967296.000000\n") ≡ Err 1
 unfolding read_on_literals
 row-late_time = refl
 
-pub row-other_client : trace_spelled (codes "batch 1.000000\n16 1 raw 00") ≡ Err 2
+pub row-other_client : trace_spelled sixteen_clients (codes "batch 1.000000\n16 1 raw 00") ≡ Err 2
 unfolding read_on_literals
 row-other_client = refl
 
-pub row-odd_digits : trace_spelled (codes "batch 1.000000\n0 1 raw 000") ≡ Err 2
+pub row-odd_digits : trace_spelled sixteen_clients (codes "batch 1.000000\n0 1 raw 000") ≡ Err 2
 unfolding read_on_literals
 row-odd_digits = refl
 
-pub row-no_bytes : trace_spelled (codes "batch 1.000000\n0 1 raw ") ≡ Err 2
+pub row-no_bytes : trace_spelled sixteen_clients (codes "batch 1.000000\n0 1 raw ") ≡ Err 2
 unfolding read_on_literals
 row-no_bytes = refl
 
@@ -101,11 +106,11 @@ abbrev pub requests_behind_batch : ℕ → List ℕ
 requests_behind_batch count = codes "batch 1.000000\n" ++ flat_map (λ line. line) (replicate count (codes "0 1 raw 00\n"))
 
 -- a block has room for 1,024 requests
-pub row-full_block : is_ok (trace_spelled (requests_behind_batch 1024)) ≡ true
+pub row-full_block : is_ok (trace_spelled sixteen_clients (requests_behind_batch 1024)) ≡ true
 unfolding read_on_literals
 row-full_block = refl
 
-pub row-request_too_many : trace_spelled (requests_behind_batch 1025) ≡ Err 1026
+pub row-request_too_many : trace_spelled sixteen_clients (requests_behind_batch 1025) ≡ Err 1026
 unfolding read_on_literals
 row-request_too_many = refl
 
@@ -117,38 +122,59 @@ unfolding read_on_literals call_in_words digits_spelled file_spelled text_spelle
 calls_on_literals = tt
 
 -- octal digits, and both kinds of time
-pub row-set_attributes : line_spelled (codes "0 3 setattr #3 644 1001 0 4294967294 now 7.250000")
-    ≡ line_spelled (codes "0 3 raw 000000030000000000000002000186a30000000200000002000000010000001c00000000000000067265706c61790000000003e8000000640000000000000000000000004246533200000001000000030000000000000000000000000000000000000000000001a4000003e900000000fffffffe00000000000f4240000000070003d090")
+pub row-set_attributes : line_spelled sixteen_clients (codes "0 3 setattr #3 644 1001 0 4294967294 now 7.250000")
+    ≡ line_spelled sixteen_clients (codes "0 3 raw 000000030000000000000002000186a30000000200000002000000010000001c00000000000000067265706c61790000000003e8000000640000000000000000000000004246533200000001000000030000000000000000000000000000000000000000000001a4000003e900000000fffffffe00000000000f4240000000070003d090")
 unfolding calls_on_literals
 row-set_attributes = refl
 
 -- a name with bytes by their digits
-pub row-look_up : line_spelled (codes "0 4 lookup #02 a%20b%25%fF~!")
-    ≡ line_spelled (codes "0 4 raw 000000040000000000000002000186a30000000200000004000000010000001c00000000000000067265706c61790000000003e80000006400000000000000000000000042465332000000010000000200000000000000000000000000000000000000000000000761206225ff7e2100")
+pub row-look_up : line_spelled sixteen_clients (codes "0 4 lookup #02 a%20b%25%fF~!")
+    ≡ line_spelled sixteen_clients (codes "0 4 raw 000000040000000000000002000186a30000000200000004000000010000001c00000000000000067265706c61790000000003e80000006400000000000000000000000042465332000000010000000200000000000000000000000000000000000000000000000761206225ff7e2100")
 unfolding calls_on_literals
 row-look_up = refl
 
 -- bytes of a file, with their padding
-pub row-write : line_spelled (codes "0 8 write #3 1048576 x00aBCdEF10")
-    ≡ line_spelled (codes "0 8 raw 000000080000000000000002000186a30000000200000008000000010000001c00000000000000067265706c61790000000003e80000006400000000000000000000000042465332000000010000000300000000000000000000000000000000000000000000000000100000000000000000000500abcdef10000000")
+pub row-write : line_spelled sixteen_clients (codes "0 8 write #3 1048576 x00aBCdEF10")
+    ≡ line_spelled sixteen_clients (codes "0 8 raw 000000080000000000000002000186a30000000200000008000000010000001c00000000000000067265706c61790000000003e80000006400000000000000000000000042465332000000010000000300000000000000000000000000000000000000000000000000100000000000000000000500abcdef10000000")
 unfolding calls_on_literals
 row-write = refl
 
 -- two names
-pub row-rename : line_spelled (codes "0 11 rename #2 f #4 gamma")
-    ≡ line_spelled (codes "0 11 raw 0000000b0000000000000002000186a3000000020000000b000000010000001c00000000000000067265706c61790000000003e8000000640000000000000000000000004246533200000001000000020000000000000000000000000000000000000000000000016600000042465332000000010000000400000000000000000000000000000000000000000000000567616d6d61000000")
+pub row-rename : line_spelled sixteen_clients (codes "0 11 rename #2 f #4 gamma")
+    ≡ line_spelled sixteen_clients (codes "0 11 raw 0000000b0000000000000002000186a3000000020000000b000000010000001c00000000000000067265706c61790000000003e8000000640000000000000000000000004246533200000001000000020000000000000000000000000000000000000000000000016600000042465332000000010000000400000000000000000000000000000000000000000000000567616d6d61000000")
 unfolding calls_on_literals
 row-rename = refl
 
 -- what is not set
-pub row-make_symbolic_link : line_spelled (codes "0 13 symlink #2 s d/b%20c - - - - 1.000002 -")
-    ≡ line_spelled (codes "0 13 raw 0000000d0000000000000002000186a3000000020000000d000000010000001c00000000000000067265706c61790000000003e8000000640000000000000000000000004246533200000001000000020000000000000000000000000000000000000000000000017300000000000005642f622063000000ffffffffffffffffffffffffffffffff0000000100000002ffffffffffffffff")
+pub row-make_symbolic_link : line_spelled sixteen_clients (codes "0 13 symlink #2 s d/b%20c - - - - 1.000002 -")
+    ≡ line_spelled sixteen_clients (codes "0 13 raw 0000000d0000000000000002000186a3000000020000000d000000010000001c00000000000000067265706c61790000000003e8000000640000000000000000000000004246533200000001000000020000000000000000000000000000000000000000000000017300000000000005642f622063000000ffffffffffffffffffffffffffffffff0000000100000002ffffffffffffffff")
 unfolding calls_on_literals
 row-make_symbolic_link = refl
 
 -- Events --------------------------------------------------------------------------------------------------------------
 
-pub row-blocks : trace_spelled (codes "batch 1.000000\n0 1 raw 00\n3 1 raw 01\nbatch 2.000000\n# a comment\r\nbatch 3.000000\n0 2 raw 02\n")
+pub row-blocks : trace_spelled sixteen_clients (codes "batch 1.000000\n0 1 raw 00\n3 1 raw 01\nbatch 2.000000\n# a comment\r\nbatch 3.000000\n0 2 raw 02\n")
     ≡ Ok (block_at 1 0 (request_by 0 1 (0 ∷ []) ∷ request_by 3 1 (1 ∷ []) ∷ []) ∷ block_at 2 0 [] ∷ block_at 3 0 (request_by 0 2 (2 ∷ []) ∷ []) ∷ [])
 unfolding read_on_literals
 row-blocks = refl
+
+-- a replica falls silent and is heard again, where there are several
+abbrev pub four_replicas : Population
+four_replicas = record { clients = 16; replicas = 4 }
+
+pub row-silence : trace_spelled four_replicas (codes "silent 3\nbatch 1.000000\n0 1 raw 00\nheard 03\n")
+    ≡ Ok (event.Silent 3 ∷ block_at 1 0 (request_by 0 1 (0 ∷ []) ∷ []) ∷ event.Heard 3 ∷ [])
+unfolding read_on_literals
+row-silence = refl
+
+pub row-silence_ends_a_block : trace_spelled four_replicas (codes "batch 1.000000\nsilent 0\n0 1 raw 00\n") ≡ Err 3
+unfolding read_on_literals
+row-silence_ends_a_block = refl
+
+pub row-no_such_replica : trace_spelled four_replicas (codes "silent 3\nsilent 4\n") ≡ Err 2
+unfolding read_on_literals
+row-no_such_replica = refl
+
+pub row-the_only_replica : trace_spelled sixteen_clients (codes "batch 1.000000\nsilent 0\n") ≡ Err 2
+unfolding read_on_literals
+row-the_only_replica = refl

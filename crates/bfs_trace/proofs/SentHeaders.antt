@@ -2,6 +2,7 @@
 use Rattle.std.proofs.Common.{◌≡◌, ℕ, ◌+◌, ◌%◌, ◌<◌, ◌≤◌, false, List, [], ◌++◌, Some, Ok, codes, refl, append_assoc, append-nil, arith}
 use Rattle.std.proofs.lemmas.Bool.{le-leb}
 use Rattle.bfs_model.specs.Call.{after_words, call_of, credential_of, header_of, opaque_auth_at, system_credential_of}
+use Rattle.bfs_model.specs.Limits.{most_clients}
 use Rattle.bfs_model.specs.Items.{counted, fixed, opaque_at, word}
 use Rattle.bfs_model.proofs.Laws.{opaque_again, word_again}
 use Rattle.bfs_trace.specs.Messages.{call_header, credential_body}
@@ -13,7 +14,7 @@ credential_words : (client : ℕ) → credential_body client ≡ word 0 ++ (coun
 unfolding credential_body counted word
 credential_words client = refl
 
-credential_read : (client : ℕ) → client < 16 → credential_of 1 (credential_body client) ≡ Some (record { uid = 1000 + client; gid = 100 })
+credential_read : (client : ℕ) → client < most_clients → credential_of 1 (credential_body client) ≡ Some (record { uid = 1000 + client; gid = 100 })
 unfolding credential_of system_credential_of after_words
 credential_read client lt =
     rw (

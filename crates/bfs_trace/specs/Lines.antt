@@ -6,10 +6,11 @@ use Rattle.bfs_model.specs.Call.{◌>>=◌}
 use Rattle.bfs_model.specs.Limits.{most_request_bytes}
 use Rattle.bfs_trace.specs.Messages.{message}
 use Rattle.bfs_trace.specs.Operands.{time_spelled}
+use Rattle.bfs_trace.specs.Population.{Population}
 use Rattle.bfs_trace.specs.Texts.{within_request}
 use Rattle.bfs_trace.specs.Verbs.{call_in_words, procedure_named}
 use Rattle.bfs_trace.specs.Words.{number_spelled, only_word, parts}
-use Rattle.bfs_trace.specs.declared.lines.TheConstants.{CLIENTS}
+use Rattle.bfs_trace.specs.declared.events.TraceEvent.TheVariants as event
 use Rattle.bfs_trace.specs.declared.lines.Line.{Line}
 use Rattle.bfs_trace.specs.declared.lines.Line.TheVariants as line
 
@@ -33,26 +34,45 @@ abbrev pub call_by_verb : (client timestamp : ℕ) → List (List ℕ) → Optio
 call_by_verb client timestamp [] = None
 call_by_verb client timestamp (verb ∷ words) = if bytes_eq verb (codes "raw") then raw_call words else verb_call client timestamp verb words
 
--- what stands behind `batch`: `S.UUUUUU`
+-- what stands behind `batch`: `S.UUUUUU`, the time of a block, which has no requests yet
 abbrev pub batch_line : List (List ℕ) → Option Line
 batch_line words = do
   word ← only_word words
   time ← time_spelled word
-  Some (line.Batch time)
+  Some (line.Event (event.Block (record { time = time; requests = [] })))
+
+-- what stands behind `silent` and `heard`: a replica. The only one there is can't fall silent
+abbrev pub replica_named : Population → List (List ℕ) → Option ℕ
+replica_named population words = do
+  word ← only_word words
+  if population.replicas == 1 then None else number_spelled (population.replicas - 1) word
+
+abbrev pub silent_line : Population → List (List ℕ) → Option Line
+silent_line population words = do
+  replica ← replica_named population words
+  Some (line.Event (event.Silent replica))
+
+abbrev pub heard_line : Population → List (List ℕ) → Option Line
+heard_line population words = do
+  replica ← replica_named population words
+  Some (line.Event (event.Heard replica))
 
 -- `CLIENT T VERB ..`: a client below the number of clients, a timestamp below 2^64, and a call
-abbrev pub request_line : (client : List ℕ) → List (List ℕ) → Option Line
-request_line client [] = None
-request_line client (timestamp ∷ words) = do
-  c ← number_spelled (CLIENTS - 1) client
+abbrev pub request_line : Population → (client : List ℕ) → List (List ℕ) → Option Line
+request_line population client [] = None
+request_line population client (timestamp ∷ words) = do
+  c ← number_spelled (population.clients - 1) client
   t ← number_spelled 18446744073709551615 timestamp
   call ← call_by_verb c t words
   Some (line.Request (record { client = c; timestamp = t; call = call }))
 
-abbrev pub line_in : List (List ℕ) → Option Line
-line_in [] = None
-line_in (first ∷ words) = if bytes_eq first (codes "batch") then batch_line words else request_line first words
+abbrev pub line_in : Population → List (List ℕ) → Option Line
+line_in population [] = None
+line_in population (first ∷ words) =
+    if bytes_eq first (codes "batch") then batch_line words else (
+    if bytes_eq first (codes "silent") then silent_line population words else (
+    if bytes_eq first (codes "heard") then heard_line population words else request_line population first words))
 
 -- what a line says, or None where it breaks the grammar
-unfoldable pub line_spelled : List ℕ → Option Line
-line_spelled text = line_in (parts 32 text)
+unfoldable pub line_spelled : Population → List ℕ → Option Line
+line_spelled population text = line_in population (parts 32 text)

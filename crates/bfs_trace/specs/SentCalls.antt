@@ -2,7 +2,7 @@
 use Rattle.std.specs.Prelude.{◌≡◌, ℕ, ◌+◌, ◌%◌, ◌<◌, ◌≤◌, List, length, ◌++◌, Option, Some, Ok, IfSome}
 use Rattle.bfs_model.specs.Arguments.{Call, Settings, arguments_of, time_set, word_set, null, get_attributes, set_attributes, root, look_up, read_link, read, write_cache, write, create, remove, rename, make_link, make_symbolic_link, make_directory, remove_directory, read_directory, file_system_status}
 use Rattle.bfs_model.specs.Call.{call_of}
-use Rattle.bfs_model.specs.Limits.{most_data_bytes, most_name_bytes, most_path_bytes}
+use Rattle.bfs_model.specs.Limits.{most_clients, most_data_bytes, most_name_bytes, most_path_bytes}
 use Rattle.bfs_model.specs.Stored.{IsWord}
 use Rattle.bfs_model.specs.Tree.{Time}
 use Rattle.bfs_trace.specs.Messages.{arguments, call_header, seconds_word, setting_word, useconds_word}
@@ -10,9 +10,9 @@ use Rattle.bfs_trace.specs.Verbs.{call_in_words}
 
 -- The header -----------------------------------------------------------------------------------------------------------
 
--- a header is read as that of a call of that procedure by the client's user, whatever its arguments
+-- a header is read as that of a call of that procedure by the client's user, whatever client there may be and whatever its arguments
 abbrev pub HeadersAreRead : Type 0
-HeadersAreRead = (client timestamp procedure : ℕ) (rest : List ℕ) → client < 16 → procedure ≤ 17
+HeadersAreRead = (client timestamp procedure : ℕ) (rest : List ℕ) → client < most_clients → procedure ≤ 17
     → call_of (call_header client timestamp procedure ++ rest)
     ≡ Ok (record { xid = timestamp % 4294967296; procedure = procedure; credential = record { uid = 1000 + client; gid = 100 }; arguments = rest })
 

@@ -1,6 +1,6 @@
 ghost use Rattle.std.specs.Prelude.{◌≡◌, ◌≤◌, [], length};
 ghost use Rattle.bfs_model.specs.Limits.{most_request_bytes, most_requests};
-ghost use Rattle.bfs_trace.specs.Reading.{Reads};
+ghost use Rattle.bfs_trace.specs.Reading.{Parses};
 ghost use Rattle.bfs_trace.specs.Trace.{block_with, event_with};
 
 use crate::fault::Fault;
@@ -96,7 +96,7 @@ impl Block {
 
     /// Puts a request behind the others, if there is room for it.
     pub(crate) fn push(&mut self, request: Request) -> Result<(), Fault>
-        ensures { Reads (λ _. self.new) result (block_with request self.old) }
+        ensures { Parses (λ _. self.new) result (block_with request self.old) }
     {
         if self.requests.len() == MOST_REQUESTS {
             return Err(Fault::Bad);
@@ -125,18 +125,23 @@ impl Block {
 
 /// One thing that happens in a trace.
 #[derive(Debug, Drop)]
-pub enum Event {
+pub enum TraceEvent {
     /// Requests are executed as one batch.
     Block(Block),
+    /// The replica of that number falls silent: it sends and receives nothing.
+    Silent(u32),
+    /// The replica of that number is heard again.
+    Heard(u32),
 }
 
-impl Event {
-    /// Puts a request behind the others of a block with room for it.
+impl TraceEvent {
+    /// Puts a request behind the others of a block with room for it. Other events have no requests.
     pub(crate) fn push_request(&mut self, request: Request) -> Result<(), Fault>
-        ensures { Reads (λ _. self.new) result (event_with request self.old) }
+        ensures { Parses (λ _. self.new) result (event_with request self.old) }
     {
         match self {
-            Event::Block(block) => block.push(request),
+            TraceEvent::Block(block) => block.push(request),
+            _ => Err(Fault::Bad),
         }
     }
 }

@@ -1,4 +1,5 @@
 ghost use Rattle.std.specs.Prelude.{◌≡◌, ◌<◌, ◌≤◌, ◌++◌, length, IfOk, OnOk};
+ghost use Rattle.bfs_model.specs.Limits.{most_clients};
 ghost use Rattle.bfs_trace.specs.Messages.{call_header, credential_body};
 
 use bfs_types::Memory;
@@ -27,7 +28,7 @@ const GID: u32 = 100;
 /// The body of an AUTH_SYS credential (RFC 5531 appendix A), with a stamp of 0, and no further gids.
 #[tactic(auto, unfolding(crate::specs::Messages::credential_body), using(std::proofs::lemmas::List::append_assoc))]
 fn write_credential(alloc: Global, client: u32) -> Result<Vec<u8>, Memory>
-    requires { client < 16 }
+    requires { client < most_clients }
     ensures { IfOk result (λ body. body.items ≡ credential_body client) }
 {
     let mut body = Vec::new(alloc);
@@ -46,7 +47,7 @@ pub(crate) fn put_header(
     procedure: u32,
     out: &mut Vec<u8>,
 ) -> Result<(), Memory>
-    requires { client < 16 }
+    requires { client < most_clients }
     ensures { OnOk result (out.new.items ≡ out.old.items ++ call_header client timestamp procedure) }
 {
     let credential = write_credential(alloc, client)?;

@@ -9,6 +9,7 @@ mod lines;
 mod numbers;
 mod operands;
 mod parser;
+mod population;
 pub mod sent_calls;
 mod texts;
 mod times;
@@ -16,6 +17,7 @@ mod trace;
 mod verbs;
 mod words;
 
-pub use events::{Block, Event, Request};
+pub use events::{Block, Request, TraceEvent};
 pub use parser::parse_trace;
+pub use population::Population;
 pub use trace::{Trace, TraceError};

@@ -1,27 +1,25 @@
 ghost use Rattle.std.specs.Prelude.{◌≡◌, ◌<◌, ◌≤◌, length, IfOk};
-ghost use Rattle.bfs_model.specs.Limits.{most_request_bytes};
-ghost use Rattle.bfs_trace.specs.Lines.{batch_line, call_by_verb, call_spelled, line_spelled, raw_call, request_line, verb_call};
-ghost use Rattle.bfs_trace.specs.Reading.{Reads};
+ghost use Rattle.bfs_model.specs.Limits.{most_clients, most_request_bytes};
+ghost use Rattle.bfs_trace.specs.Lines.{batch_line, call_by_verb, call_spelled, heard_line, line_spelled, replica_named, raw_call, request_line, silent_line, verb_call};
+ghost use Rattle.bfs_trace.specs.Reading.{Parses};
 
-use crate::events::Request;
+use crate::events::{Block, Request, TraceEvent};
 use crate::fault::Fault;
 use crate::header::put_header;
 use crate::numbers::parse_number;
+use crate::population::Population;
 use crate::times::parse_time;
 use crate::verbs::{procedure_named, put_arguments};
 use crate::words::Words;
-use bfs_types::{MOST_REQUEST_BYTES, Time};
+use bfs_types::MOST_REQUEST_BYTES;
 use hex::FromHexError;
 use std::alloc::Global;
-
-/// How many clients there are: their numbers are below it.
-const CLIENTS: u64 = 16;
 
 /// What a line says that is neither empty nor a comment.
 #[derive(Drop)]
 pub(crate) enum Line {
-    /// A block begins, whose requests are executed at that time.
-    Batch(Time),
+    /// Something happens behind what happened before.
+    Event(TraceEvent),
     /// A request of the block before it.
     Request(Request),
 }
@@ -29,7 +27,7 @@ pub(crate) enum Line {
 /// Reads the bytes of a call from their hexadecimal digits.
 #[tactic(auto, unfolding(crate::specs::Lines::call_spelled), using(crate::proofs::Digits::half))]
 fn parse_call(alloc: Global, word: &[u8]) -> Result<Vec<u8>, Fault>
-    ensures value { Reads (λ bytes. bytes.items) result (call_spelled word.now) }
+    ensures value { Parses (λ bytes. bytes.items) result (call_spelled word.now) }
     ensures within { IfOk result (λ bytes. length bytes.items ≤ most_request_bytes) }
 {
     if word.is_empty() || word.len() > 2 * MOST_REQUEST_BYTES {
@@ -44,7 +42,7 @@ fn parse_call(alloc: Global, word: &[u8]) -> Result<Vec<u8>, Fault>
 
 /// Reads the word behind `raw`: the whole call.
 fn parse_raw(alloc: Global, words: &mut Words<'_>) -> Result<Vec<u8>, Fault>
-    ensures value { Reads (λ bytes. bytes.items) result (raw_call words.old) }
+    ensures value { Parses (λ bytes. bytes.items) result (raw_call words.old) }
     ensures within { IfOk result (λ bytes. length bytes.items ≤ most_request_bytes) }
 {
     let digits = words.last_word().ok_or(Fault::Bad)?;
@@ -59,8 +57,8 @@ fn parse_call_of_verb(
     verb: &[u8],
     words: &mut Words<'_>,
 ) -> Result<Vec<u8>, Fault>
-    requires { client < CLIENTS }
-    ensures value { Reads (λ bytes. bytes.items) result (verb_call client timestamp verb.now words.old) }
+    requires { client < most_clients }
+    ensures value { Parses (λ bytes. bytes.items) result (verb_call client timestamp verb.now words.old) }
     ensures within { IfOk result (λ bytes. length bytes.items ≤ most_request_bytes) }
 {
     let procedure = procedure_named(verb).ok_or(Fault::Bad)?;
@@ -80,8 +78,8 @@ fn parse_verb(
     timestamp: u64,
     words: &mut Words<'_>,
 ) -> Result<Vec<u8>, Fault>
-    requires { client < CLIENTS }
-    ensures value { Reads (λ bytes. bytes.items) result (call_by_verb client timestamp words.old) }
+    requires { client < most_clients }
+    ensures value { Parses (λ bytes. bytes.items) result (call_by_verb client timestamp words.old) }
     ensures within { IfOk result (λ bytes. length bytes.items ≤ most_request_bytes) }
 {
     let verb = words.word()?;
@@ -93,20 +91,53 @@ fn parse_verb(
 }
 
 /// Reads the word behind `batch`: `S.UUUUUU`.
-fn parse_batch(words: &mut Words<'_>) -> Result<Line, Fault>
-    ensures { Reads (λ line. line) result (batch_line words.old) }
+fn parse_batch(alloc: Global, words: &mut Words<'_>) -> Result<Line, Fault>
+    ensures { Parses (λ line. line) result (batch_line words.old) }
 {
     let word = words.last_word().ok_or(Fault::Bad)?;
     let time = parse_time(word).ok_or(Fault::Bad)?;
-    Ok(Line::Batch(time))
+    Ok(Line::Event(TraceEvent::Block(Block::new(alloc, time))))
+}
+
+/// Reads the word behind `silent` or `heard`: a replica's number, where there is another replica.
+fn parse_replica(population: Population, words: &mut Words<'_>) -> Result<u32, Fault>
+    ensures { Parses (λ replica. replica) result (replica_named population words.old) }
+{
+    let word = words.last_word().ok_or(Fault::Bad)?;
+    let replicas = population.replicas();
+    if replicas == 1 {
+        return Err(Fault::Bad);
+    }
+    let replica = parse_number(replicas as u64 - 1, word).ok_or(Fault::Bad)?;
+    Ok(replica as u32)
+}
+
+fn parse_silent(population: Population, words: &mut Words<'_>) -> Result<Line, Fault>
+    ensures { Parses (λ line. line) result (silent_line population words.old) }
+{
+    let replica = parse_replica(population, words)?;
+    Ok(Line::Event(TraceEvent::Silent(replica)))
+}
+
+fn parse_heard(population: Population, words: &mut Words<'_>) -> Result<Line, Fault>
+    ensures { Parses (λ line. line) result (heard_line population words.old) }
+{
+    let replica = parse_replica(population, words)?;
+    Ok(Line::Event(TraceEvent::Heard(replica)))
 }
 
 /// Reads `CLIENT T VERB ..`, whose first word is read already.
-fn parse_request(alloc: Global, client: &[u8], words: &mut Words<'_>) -> Result<Line, Fault>
-    ensures { Reads (λ line. line) result (request_line client.now words.old) }
+fn parse_request(
+    alloc: Global,
+    population: Population,
+    client: &[u8],
+    words: &mut Words<'_>,
+) -> Result<Line, Fault>
+    ensures { Parses (λ line. line) result (request_line population client.now words.old) }
 {
     let timestamp = words.word()?;
-    let client = parse_number(CLIENTS - 1, client).ok_or(Fault::Bad)? as u32;
+    let most_client = population.clients() as u64 - 1;
+    let client = parse_number(most_client, client).ok_or(Fault::Bad)? as u32;
     let timestamp = parse_number(u64::MAX, timestamp).ok_or(Fault::Bad)?;
     let call = parse_verb(alloc, client, timestamp, words)?;
     Ok(Line::Request(Request::new(client, timestamp, call)))
@@ -114,14 +145,18 @@ fn parse_request(alloc: Global, client: &[u8], words: &mut Words<'_>) -> Result<
 
 /// Reads a line that is neither empty nor a comment.
 #[tactic(auto, unfolding(crate::specs::Lines::line_spelled))]
-pub(crate) fn parse_line(alloc: Global, text: &[u8]) -> Result<Line, Fault>
-    ensures { Reads (λ line. line) result (line_spelled text.now) }
+pub(crate) fn parse_line(alloc: Global, population: Population, text: &[u8]) -> Result<Line, Fault>
+    ensures { Parses (λ line. line) result (line_spelled population text.now) }
 {
     let mut words = Words::new(text, b' ');
     let first = words.next_word().ok_or(Fault::Bad)?;
     if first == b"batch".as_slice() {
-        parse_batch(&mut words)
+        parse_batch(alloc, &mut words)
+    } else if first == b"silent".as_slice() {
+        parse_silent(population, &mut words)
+    } else if first == b"heard".as_slice() {
+        parse_heard(population, &mut words)
     } else {
-        parse_request(alloc, first, &mut words)
+        parse_request(alloc, population, first, &mut words)
     }
 }

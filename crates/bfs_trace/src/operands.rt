@@ -2,7 +2,7 @@
 ghost use Rattle.std.specs.Prelude.{◌≤◌, length, IfOk};
 ghost use Rattle.bfs_model.specs.Limits.{most_request_bytes};
 ghost use Rattle.bfs_trace.specs.Operands.{file_in, file_spelled, most_number, mode_in, number_in, number_setting_in, settings_in, text_in, time_setting_in};
-ghost use Rattle.bfs_trace.specs.Reading.{Reads};
+ghost use Rattle.bfs_trace.specs.Reading.{Parses};
 ghost use Rattle.bfs_trace.specs.Words.{number_spelled};
 
 use crate::fault::Fault;
@@ -15,7 +15,7 @@ use std::alloc::Global;
 
 /// Reads a number below 2^32.
 fn parse_word(word: &[u8]) -> Result<u32, Fault>
-    ensures { Reads (λ number. number) result (number_spelled most_number word.now) }
+    ensures { Parses (λ number. number) result (number_spelled most_number word.now) }
 {
     let number = parse_number(u32::MAX as u64, word).ok_or(Fault::Bad)?;
     Ok(number as u32)
@@ -24,7 +24,7 @@ fn parse_word(word: &[u8]) -> Result<u32, Fault>
 /// Reads `H`: `#` and a fileid.
 #[tactic(auto, unfolding(crate::specs::Operands::file_spelled))]
 fn parse_file(word: &[u8]) -> Result<FileId, Fault>
-    ensures { Reads (λ file. file) result (file_spelled word.now) }
+    ensures { Parses (λ file. file) result (file_spelled word.now) }
 {
     let [b'#', digits @ ..] = word else {
         return Err(Fault::Bad);
@@ -35,7 +35,7 @@ fn parse_file(word: &[u8]) -> Result<FileId, Fault>
 impl<'a> Words<'a> {
     /// Reads `H`: `#` and a fileid.
     pub(crate) fn file(&mut self) -> Result<FileId, Fault>
-        ensures { Reads (λ file. (file, self.new)) result (file_in self.old) }
+        ensures { Parses (λ file. (file, self.new)) result (file_in self.old) }
     {
         let word = self.word()?;
         parse_file(word)
@@ -43,7 +43,7 @@ impl<'a> Words<'a> {
 
     /// Reads a number below 2^32.
     pub(crate) fn number(&mut self) -> Result<u32, Fault>
-        ensures { Reads (λ number. (number, self.new)) result (number_in self.old) }
+        ensures { Parses (λ number. (number, self.new)) result (number_in self.old) }
     {
         let word = self.word()?;
         parse_word(word)
@@ -51,7 +51,7 @@ impl<'a> Words<'a> {
 
     /// Reads a `NAME` or a `PATH`.
     pub(crate) fn text(&mut self, alloc: Global) -> Result<Vec<u8>, Fault>
-        ensures value { Reads (λ text. (text.items, self.new)) result (text_in self.old) }
+        ensures value { Parses (λ text. (text.items, self.new)) result (text_in self.old) }
         ensures within { IfOk result (λ text. length text.items ≤ most_request_bytes) }
     {
         let word = self.word()?;
@@ -60,7 +60,7 @@ impl<'a> Words<'a> {
 
     #[tactic(auto, unfolding(crate::specs::Operands::mode_in))]
     fn mode(&mut self) -> Result<Option<u32>, Fault>
-        ensures { Reads (λ mode. (mode, self.new)) result (mode_in self.old) }
+        ensures { Parses (λ mode. (mode, self.new)) result (mode_in self.old) }
     {
         let word = self.word()?;
         if word == b"-".as_slice() {
@@ -72,7 +72,7 @@ impl<'a> Words<'a> {
 
     #[tactic(auto, unfolding(crate::specs::Operands::number_setting_in))]
     fn number_setting(&mut self) -> Result<Option<u32>, Fault>
-        ensures { Reads (λ number. (number, self.new)) result (number_setting_in self.old) }
+        ensures { Parses (λ number. (number, self.new)) result (number_setting_in self.old) }
     {
         let word = self.word()?;
         if word == b"-".as_slice() {
@@ -83,7 +83,7 @@ impl<'a> Words<'a> {
 
     #[tactic(auto, unfolding(crate::specs::Operands::time_setting_in))]
     fn time_setting(&mut self) -> Result<Option<SetTime>, Fault>
-        ensures { Reads (λ time. (time, self.new)) result (time_setting_in self.old) }
+        ensures { Parses (λ time. (time, self.new)) result (time_setting_in self.old) }
     {
         let word = self.word()?;
         if word == b"-".as_slice() {
@@ -96,7 +96,7 @@ impl<'a> Words<'a> {
     /// Reads `SATTR`: mode, uid, gid, size, atime and mtime.
     #[tactic(auto, unfolding(crate::specs::Operands::settings_in))]
     pub(crate) fn settings(&mut self) -> Result<Settings, Fault>
-        ensures { Reads (λ settings. (settings, self.new)) result (settings_in self.old) }
+        ensures { Parses (λ settings. (settings, self.new)) result (settings_in self.old) }
     {
         Ok(Settings {
             mode: self.mode()?,

@@ -1,7 +1,8 @@
 //! What the server reads of the calls that verbs spell.
 ghost use Rattle.bfs_trace.specs.SentCalls.{ArgumentsAreRead, HeadersAreRead, SpelledCallsAreRead};
 
-/// The header of a call is read as that of a call of its procedure, by the user of its client, whatever arguments follow.
+/// The header of a call is read as that of a call of its procedure, by the user of its client, whichever client there may be and whatever
+/// arguments follow.
 #[tactic(auto, using(crate::proofs::SentHeaders::headers_are_read))]
 pub fn headers_are_read()
     ensures { HeadersAreRead }

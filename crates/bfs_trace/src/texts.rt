@@ -3,7 +3,7 @@ ghost use Rattle.std.specs.Result.{result_ok};
 ghost use Rattle.hex.specs.Hex.{decode_of};
 ghost use Rattle.bfs_model.specs.Items.{counted, padding_of};
 ghost use Rattle.bfs_model.specs.Limits.{most_request_bytes};
-ghost use Rattle.bfs_trace.specs.Reading.{Reads};
+ghost use Rattle.bfs_trace.specs.Reading.{Parses};
 ghost use Rattle.bfs_trace.specs.Texts.{are_printable, data_spelled, escape_spelled, text_in_parts, text_spelled};
 ghost use Rattle.bfs_trace.specs.Words.{parts};
 
@@ -24,7 +24,7 @@ fn are_printable(bytes: &[u8]) -> bool
 // appends what stands behind a `%`: a byte by two hexadecimal digits, and printable bytes
 #[tactic(auto, unfolding(crate::specs::Texts::escape_spelled))]
 fn push_escape(part: &[u8], text: &mut Vec<u8>) -> Result<(), Fault>
-    ensures { Reads (λ _. text.new.items) result (option_map (λ bytes. text.old.items ++ bytes) (escape_spelled part.now)) }
+    ensures { Parses (λ _. text.new.items) result (option_map (λ bytes. text.old.items ++ bytes) (escape_spelled part.now)) }
 {
     let [high, low, plain @ ..] = part else {
         return Err(Fault::Bad);
@@ -43,7 +43,7 @@ fn push_escape(part: &[u8], text: &mut Vec<u8>) -> Result<(), Fault>
 // the text of a word that isn't `%` alone
 #[tactic(auto, unfolding(crate::specs::Texts::text_after))]
 fn parse_escapes(alloc: Global, word: &[u8]) -> Result<Vec<u8>, Fault>
-    ensures { Reads (λ text. text.items) result (text_in_parts (parts 37 word.now)) }
+    ensures { Parses (λ text. text.items) result (text_in_parts (parts 37 word.now)) }
 {
     let mut parts = Words::new(word, b'%');
     let plain = parts.next_word().ok_or(Fault::Bad)?;
@@ -61,7 +61,7 @@ fn parse_escapes(alloc: Global, word: &[u8]) -> Result<Vec<u8>, Fault>
 /// Reads a `NAME` or a `PATH`: printable bytes, and `%` with two hexadecimal digits for any byte. The word `%` is no bytes.
 #[tactic(auto, unfolding(crate::specs::Texts::text_spelled))]
 pub(crate) fn parse_text(alloc: Global, word: &[u8]) -> Result<Vec<u8>, Fault>
-    ensures value { Reads (λ text. text.items) result (text_spelled word.now) }
+    ensures value { Parses (λ text. text.items) result (text_spelled word.now) }
     ensures within { IfOk result (λ text. length text.items ≤ most_request_bytes) }
 {
     if word.is_empty() {
@@ -79,7 +79,7 @@ pub(crate) fn parse_text(alloc: Global, word: &[u8]) -> Result<Vec<u8>, Fault>
 
 // appends the bytes that hexadecimal digits spell
 fn push_decoded(digits: &[u8], out: &mut Vec<u8>) -> Result<(), Fault>
-    ensures { Reads (λ _. out.new.items) result (option_map (λ bytes. out.old.items ++ bytes) (result_ok (decode_of digits.now))) }
+    ensures { Parses (λ _. out.new.items) result (option_map (λ bytes. out.old.items ++ bytes) (result_ok (decode_of digits.now))) }
 {
     let start = out.len();
     out.resize(start + digits.len() / 2, 0)?;
@@ -98,7 +98,7 @@ fn put_padding(count: usize, out: &mut Vec<u8>) -> Result<(), Memory>
 // appends the bytes that hexadecimal digits spell, behind their length
 fn put_decoded(digits: &[u8], out: &mut Vec<u8>) -> Result<(), Fault>
     requires { length digits.now ≤ 2 * most_request_bytes }
-    ensures { Reads (λ _. out.new.items) result (option_map (λ bytes. out.old.items ++ counted bytes) (result_ok (decode_of digits.now))) }
+    ensures { Parses (λ _. out.new.items) result (option_map (λ bytes. out.old.items ++ counted bytes) (result_ok (decode_of digits.now))) }
 {
     let count = digits.len() / 2;
     put_u32(out, count as u32)?;
@@ -110,7 +110,7 @@ fn put_decoded(digits: &[u8], out: &mut Vec<u8>) -> Result<(), Fault>
 /// Appends the `BYTES` of a file behind their length: `x`, and two hexadecimal digits for each byte. They are decoded in their place.
 #[tactic(auto, unfolding(crate::specs::Texts::data_spelled))]
 pub(crate) fn put_data(word: &[u8], out: &mut Vec<u8>) -> Result<(), Fault>
-    ensures { Reads (λ _. out.new.items) result (option_map (λ bytes. out.old.items ++ counted bytes) (data_spelled word.now)) }
+    ensures { Parses (λ _. out.new.items) result (option_map (λ bytes. out.old.items ++ counted bytes) (data_spelled word.now)) }
 {
     let [b'x', digits @ ..] = word else {
         return Err(Fault::Bad);

@@ -1,11 +1,10 @@
 ghost use Rattle.std.specs.Prelude.{◌≡◌, [], ◌∷◌, ◌++◌, OnOk};
 ghost use Rattle.bfs_trace.specs.Errors.{trace_error_code};
-ghost use Rattle.bfs_trace.specs.Reading.{Reads};
-ghost use Rattle.bfs_trace.specs.Trace.{with_batch, with_request};
+ghost use Rattle.bfs_trace.specs.Reading.{Parses};
+ghost use Rattle.bfs_trace.specs.Trace.{with_event, with_request};
 
-use crate::events::{Block, Event, Request};
+use crate::events::{Request, TraceEvent};
 use crate::fault::Fault;
-use bfs_types::Time;
 use std::alloc::Global;
 use std::marker::Model;
 use thiserror::Error;
@@ -13,15 +12,14 @@ use thiserror::Error;
 /// The events of a trace, in their order.
 #[derive(Debug, Drop)]
 pub struct Trace {
-    alloc: Global,
-    events: Vec<Event>,
+    events: Vec<TraceEvent>,
 }
 
 impl Model for Trace {
     ghost use Rattle.std.specs.Prelude.{List};
-    ghost use Rattle.bfs_trace.specs.declared.events.Event.{Event};
+    ghost use Rattle.bfs_trace.specs.declared.events.TraceEvent.{TraceEvent};
 
-    ghost Value = { List Event };
+    ghost Value = { List TraceEvent };
 
     ghost view = { λ trace. trace.events.items };
 }
@@ -32,17 +30,15 @@ impl Trace {
         ensures { result ≡ [] }
     {
         Trace {
-            alloc,
             events: Vec::new(alloc),
         }
     }
 
-    /// Begins a block at that time.
-    pub(crate) fn push_batch(&mut self, time: Time) -> Result<(), Fault>
-        ensures { Reads (λ _. self.new) result (with_batch self.old time) }
+    /// Puts an event behind the others.
+    pub(crate) fn push_event(&mut self, event: TraceEvent) -> Result<(), Fault>
+        ensures { Parses (λ _. self.new) result (with_event self.old event) }
     {
-        let block = Block::new(self.alloc, time);
-        match self.events.push(Event::Block(block)) {
+        match self.events.push(event) {
             Ok(()) => Ok(()),
             Err(_) => Err(Fault::Memory),
         }
@@ -50,7 +46,7 @@ impl Trace {
 
     /// Puts a request behind the others of the last event, where that is a block with room for it.
     pub(crate) fn push_request(&mut self, request: Request) -> Result<(), Fault>
-        ensures { Reads (λ _. self.new) result (with_request self.old request) }
+        ensures { Parses (λ _. self.new) result (with_request self.old request) }
     {
         let Some(event) = self.events.last_mut() else {
             return Err(Fault::Bad);
@@ -59,7 +55,7 @@ impl Trace {
     }
 
     /// The events in their order.
-    pub fn events(&self) -> &[Event]
+    pub fn events(&self) -> &[TraceEvent]
         ensures { result.now ≡ self.now }
     {
         self.events.as_slice()

@@ -1,5 +1,5 @@
 ghost use Rattle.std.specs.Prelude.{◌≡◌, ◌∷◌, ◌<◌, ◌↔◌, [], length, IsTrue, IfSome, IfNone, option_map};
-ghost use Rattle.bfs_trace.specs.Reading.{Reads};
+ghost use Rattle.bfs_trace.specs.Reading.{Parses};
 ghost use Rattle.bfs_trace.specs.Words.{only_word, parts, parts_left, unless_more, word_in};
 
 use crate::fault::Fault;
@@ -58,7 +58,7 @@ impl<'a> Words<'a> {
 
     /// Reads a word.
     pub(crate) fn word(&mut self) -> Result<&'a [u8], Fault>
-        ensures { Reads (λ word. (word.now, self.new)) result (word_in self.old) }
+        ensures { Parses (λ word. (word.now, self.new)) result (word_in self.old) }
     {
         self.next_word().ok_or(Fault::Bad)
     }
@@ -85,7 +85,7 @@ impl<'a> Words<'a> {
 
     /// A fault where a word is left.
     pub(crate) fn end(&self) -> Result<(), Fault>
-        ensures { Reads (λ end. end) result (unless_more self.now tt) }
+        ensures { Parses (λ end. end) result (unless_more self.now tt) }
     {
         if self.is_at_end() {
             Ok(())

@@ -1,7 +1,9 @@
 //! Replays a trace of NFS calls: `replay [--workers N] [--engine runs|levels|serial] TRACE`. docs/TRACE.md says what a trace is and what is printed.
 #![tactic(auto)]
 
-use bfs_replay::{Failure, Outcome, options, parse_trace, read_input, run_trace};
+use bfs_replay::{
+    Failure, Outcome, default_population, options, parse_trace, read_input, run_trace,
+};
 use std::fs::File;
 use std::io;
 use std::io::{BufWriter, ErrorKind, Write};
@@ -38,7 +40,7 @@ fn replay<R: Runtime + AllocGlobal + Threads + Wait + Sync, W: Write + Drop>(
     };
     let file = File::open(rt, options.trace).map_err(|error| memory_or(error, Failure::Input))?;
     let text = read_input(alloc, file)?;
-    let trace = parse_trace(alloc, text.as_slice())?;
+    let trace = parse_trace(alloc, text.as_slice(), default_population())?;
     let mut out = BufWriter::new(alloc, output).map_err(not_written)?;
     let outcome = run_trace(rt, &trace, options.workers, options.engine, &mut out)?;
     out.flush().map_err(not_written)?;

@@ -2,7 +2,7 @@
 //!
 //! What is printed was put together by hand, from the layouts of RFC 5531 section 9 and RFC 1094 section 2.3, and from what each call does;
 //! the digests are those of another implementation.
-use bfs_replay::{Engine, Workers, parse_trace, run_trace};
+use bfs_replay::{Engine, Workers, default_population, parse_trace, run_trace};
 use bfs_testing::holds;
 use std::alloc::Global;
 use std::sync::Wait;
@@ -70,7 +70,7 @@ fn output<R: AllocGlobal + Threads + Wait + Sync>(
     workers: u32,
     engine: Option<Engine>,
 ) -> Result<Vec<u8>, Fail> {
-    let trace = parse_trace(rt.alloc(), text)?;
+    let trace = parse_trace(rt.alloc(), text, default_population())?;
     let workers = Workers::new(workers).ok_or("workers")?;
     let mut out = Vec::new(rt.alloc());
     run_trace(rt, &trace, workers, engine, &mut out)?;

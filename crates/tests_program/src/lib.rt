@@ -10,6 +10,8 @@ mod input;
 #[cfg(test)]
 mod output;
 #[cfg(test)]
+mod populations;
+#[cfg(test)]
 mod traces;
 #[cfg(test)]
 mod verbs;

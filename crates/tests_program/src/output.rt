@@ -1,6 +1,7 @@
 //! What the run of a trace writes, and where it stops.
 use bfs_replay::{
-    Engine, Failure, Outcome, ReplayError, TraceError, Workers, parse_trace, run_trace,
+    Engine, Failure, Outcome, Population, ReplayError, TraceError, Workers, default_population,
+    parse_trace, run_trace,
 };
 use bfs_testing::{holds, same};
 use std::alloc::Global;
@@ -19,7 +20,7 @@ const ROOT_OUTPUT: &[u8] =
 
 #[test]
 fn prints_a_line_for_each_request(rt: HostRuntime) -> Result<(), Fail> {
-    let trace = parse_trace(rt.alloc(), ROOT_TRACE)?;
+    let trace = parse_trace(rt.alloc(), ROOT_TRACE, default_population())?;
     let mut out = Vec::new(rt.alloc());
     same!(rt; run_trace(&rt, &trace, Workers::one(), None, &mut out)?, Outcome::Agree);
     holds!(rt; out.as_slice() == ROOT_OUTPUT);
@@ -35,6 +36,7 @@ fn prints_a_dash_for_what_is_no_call(rt: HostRuntime) -> Result<(), Fail> {
     let silent = parse_trace(
         rt.alloc(),
         b"# no call\n\nbatch 0.000000\n15 018446744073709551615 raw aB",
+        default_population(),
     )?;
     let mut out = Vec::new(rt.alloc());
     run_trace(&rt, &silent, Workers::one(), None, &mut out)?;
@@ -47,12 +49,23 @@ const NEW_OUTPUT: &[u8] =
 
 #[test]
 fn prints_the_digest_of_a_new_file_system(rt: HostRuntime) -> Result<(), Fail> {
-    let empty = parse_trace(rt.alloc(), b"# no block\n")?;
+    let empty = parse_trace(rt.alloc(), b"# no block\n", default_population())?;
     for engine in [None, Some(Engine::Runs), Some(Engine::Levels)] {
         let mut out = Vec::new(rt.alloc());
         run_trace(&rt, &empty, Workers::one(), engine, &mut out)?;
         holds!(rt; out.as_slice() == NEW_OUTPUT);
     }
+    Ok(())
+}
+
+#[test]
+fn prints_nothing_of_who_is_silent(rt: HostRuntime) -> Result<(), Fail> {
+    let text = format!(in rt.alloc(); "silent 3\n{}heard 3\n", str::from_utf8(ROOT_TRACE)?)?;
+    let four_replicas = Population::new(16, 4).ok_or("population")?;
+    let trace = parse_trace(rt.alloc(), text.as_bytes(), four_replicas)?;
+    let mut out = Vec::new(rt.alloc());
+    run_trace(&rt, &trace, Workers::one(), None, &mut out)?;
+    holds!(rt; out.as_slice() == ROOT_OUTPUT);
     Ok(())
 }
 
@@ -82,7 +95,7 @@ impl Write for Refusing {
 
 #[test]
 fn stops_where_the_writer_refuses(rt: HostRuntime) -> Result<(), Fail> {
-    let trace = parse_trace(rt.alloc(), ROOT_TRACE)?;
+    let trace = parse_trace(rt.alloc(), ROOT_TRACE, default_population())?;
     for room in 0..ROOT_OUTPUT.len() {
         let mut writer = Refusing {
             room,
@@ -106,7 +119,7 @@ fn stops_where_the_writer_refuses(rt: HostRuntime) -> Result<(), Fail> {
 
 #[test]
 fn tells_that_the_writer_wants_memory(rt: HostRuntime) -> Result<(), Fail> {
-    let trace = parse_trace(rt.alloc(), ROOT_TRACE)?;
+    let trace = parse_trace(rt.alloc(), ROOT_TRACE, default_population())?;
     let mut writer = Refusing {
         room: 10,
         kind: ErrorKind::OutOfMemory,
@@ -135,7 +148,7 @@ fn trace_of_long_word(
 
 /// What the run of a trace prints.
 fn output<R: AllocGlobal + Threads + Wait + Sync>(rt: &R, text: &str) -> Result<Vec<u8>, Fail> {
-    let trace = parse_trace(rt.alloc(), text.as_bytes())?;
+    let trace = parse_trace(rt.alloc(), text.as_bytes(), default_population())?;
     let mut out = Vec::new(rt.alloc());
     run_trace(rt, &trace, Workers::one(), None, &mut out)?;
     Ok(out)

@@ -2,8 +2,9 @@
 //!
 //! The bytes of the calls are those of another implementation: `rpcgen` made the encoders of the arguments from the declarations of
 //! RFC 1094 section 2, and libtirpc's `xdr_callmsg` and `xdr_authunix_parms` wrote the header and the credential before them.
+use crate::populations::{only_requests, parse_alone};
 use bfs_testing::same;
-use bfs_trace::{Event, Request, TraceError, parse_trace};
+use bfs_trace::TraceError;
 use std::alloc::Global;
 use std::test::Fail;
 
@@ -206,18 +207,10 @@ static FAULTS: [&str; 100] = [
     "timeout",
 ];
 
-/// The requests of the only block of a trace.
-fn only_requests(events: &[Event]) -> &[Request] {
-    match events {
-        [Event::Block(block)] => block.requests(),
-        _ => &[],
-    }
-}
-
 /// Whether a line spells the call of those digits.
 fn spells(alloc: Global, line: &str, digits: &str) -> Result<bool, Fail> {
     let text = format!(in alloc; "batch 1.000000\n{line}\n0 1 raw {digits}\n")?;
-    let trace = parse_trace(alloc, text.as_bytes())?;
+    let trace = parse_alone(alloc, text.as_bytes())?;
     match only_requests(trace.events()) {
         [request, raw] => Ok(request.call() == raw.call()),
         _ => Ok(false),
@@ -235,7 +228,7 @@ fn spells_the_call_of_each_verb(rt: HostRuntime) -> Result<(), Fail> {
 /// Whether the second line of a trace is the first at fault.
 fn is_refused(alloc: Global, line: &str) -> Result<bool, Fail> {
     let text = format!(in alloc; "batch 1.000000\n{line}\n0 1 null\n")?;
-    Ok(parse_trace(alloc, text.as_bytes()).err() == Some(TraceError::BadLine(2)))
+    Ok(parse_alone(alloc, text.as_bytes()).err() == Some(TraceError::BadLine(2)))
 }
 
 #[test]
@@ -264,7 +257,7 @@ fn trace_of_long_word(
 
 /// How many bytes the only call of that trace has, if it is one.
 fn length_of_call(alloc: Global, text: &str) -> Option<usize> {
-    let trace = parse_trace(alloc, text.as_bytes()).ok()?;
+    let trace = parse_alone(alloc, text.as_bytes()).ok()?;
     match only_requests(trace.events()) {
         [request] => Some(request.call().len()),
         _ => None,
