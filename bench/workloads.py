@@ -150,6 +150,34 @@ def half_lookup(trace):
     lookup(trace, 25_000)
 
 
+# Workloads of many short batches, as ordering makes them.
+
+
+def short_pairs(trace):
+    """20,000 batches of two WRITEs of 8 bytes, each to a file of its own."""
+    make_files(trace, 2)
+    for _ in range(20_000):
+        trace.block((8, handle(FIRST + i) + words(0, 0, 0) + opaque(bytes(8))) for i in range(2))
+
+
+def short_mix(trace):
+    """2,000 times batches of 1, 2, 16 and 64 calls: in turn GETATTR, WRITE of 8 bytes, LOOKUP and READ of 8, of 64 files."""
+    make_files(trace, 64)
+
+    def small(i):
+        file = handle(FIRST + i % 64)
+        return [
+            (1, file),
+            (8, file + words(0, 0, 0) + opaque(bytes(8))),
+            (4, handle(2) + opaque(b"f%d" % (i % 64))),
+            (6, file + words(0, 8, 0)),
+        ][i % 4]
+
+    for turn in range(2_000):
+        for count in (1, 2, 16, 64):
+            trace.block(small(turn + i) for i in range(count))
+
+
 # Workloads of one batch: the last block is what is planned or executed, and the blocks before it make what it touches.
 
 
@@ -254,6 +282,8 @@ TO_RUN = {
     "directory": directory,
     "readdir": readdir,
     "lookup": lookup,
+    "short_pairs": short_pairs,
+    "short_mix": short_mix,
     "half_directory": half_directory,
     "half_readdir": half_readdir,
     "half_lookup": half_lookup,

@@ -2,19 +2,16 @@
 use Rattle.std.proofs.Common.{◌≡◌, ℕ, zero, suc, ◌+◌, ◌-◌, ◌<◌, ◌≤◌, IsTrue, List, [], ◌∷◌, ◌++◌, length, map, take, drop, get_or, refl, ap, sym, subst, ◌∙◌, arith}
 use Rattle.std.proofs.lemmas.List.{append_assoc, append-nil, drop_all, length-take-le, length-drop}
 use Rattle.bfs_model.specs.Tree.{Time, Inodes}
-use Rattle.bfs_model.specs.Footprints.{Footprint, footprint_of}
-use Rattle.bfs_model.specs.Groups.{footprints_at, footprints_in_order}
 use Rattle.bfs_model.specs.Serial.{ordinal_after, answer, inodes_after, replies_to}
 use Rattle.bfs_model.specs.WellFormed.{IsWellFormed}
 use Rattle.bfs_model.proofs.Kept.{answer_keeps, formed_again, servable}
-use Rattle.bfs_footprint.specs.Seen.{footprint_seen}
-use Rattle.bfs_footprint.specs.declared.footprints.Footprint as declared
 use Rattle.bfs_levels.specs.Requests.{requests_from}
 use Rattle.bfs_tree.specs.Slots.{Slots}
 use Rattle.bfs_tree.specs.Tree.{at_home, reach_of}
+use Rattle.bfs_workers.proofs.Ones.{one_there}
 use Rattle.bfs_parallel.specs.Parts.{IsPartExecuted}
 use Rattle.bfs_parallel.specs.Ran.{AllRan}
-use Rattle.bfs_parallel.proofs.Ones.{one_there}
+
 
 -- the next of them, and those behind it
 next_left : (batch : List (List ℕ)) (first n k place : ℕ) → place ≡ first + k → first + n ≤ length batch → k < n
@@ -28,18 +25,7 @@ next_left (request ∷ batch) zero (suc n) (suc k) (suc place) there within more
 next_left (request ∷ batch) (suc first) n k zero there within more = absurd (omega arith)
 next_left (request ∷ batch) (suc first) n k (suc place) there within more = next_left batch first n k place (omega arith) (omega arith) more
 
-behind : {X : Type 0} (k : ℕ) (xs : List X) (x : X) (rest : List X) → drop k xs ≡ x ∷ rest → drop (suc k) xs ≡ rest
-behind zero xs x rest is = ap (drop 1) is
-behind (suc k) [] x rest is = absurd (let wrong : 0 ≡ suc (length rest) = ap length is in omega arith)
-behind (suc k) (y ∷ ys) x rest is = behind k ys x rest is
-
-only_next : (k : ℕ) (items : List declared.Footprint) (f : Footprint) (rest : List Footprint) → drop k (map footprint_seen items) ≡ f ∷ rest → map footprint_seen (take 1 (drop k items)) ≡ f ∷ []
-only_next zero [] f rest is = absurd (let wrong : 0 ≡ suc (length rest) = ap length is in omega arith)
-only_next zero (item ∷ items) f rest is = ap (take 1) is
-only_next (suc k) [] f rest is = absurd (let wrong : 0 ≡ suc (length rest) = ap length is in omega arith)
-only_next (suc k) (item ∷ items) f rest is = only_next k items f rest is
-
-module _ (ran : ℕ → List ℕ → Type 0) (t : Time) (batch : List (List ℕ)) (first n : ℕ) (within : first + n ≤ length batch) (begun : Inodes) (earliest : ℕ) (before : List (List ℕ)) (items : List declared.Footprint) where
+module _ (ran : ℕ → List ℕ → Type 0) (t : Time) (batch : List (List ℕ)) (first n : ℕ) (within : first + n ≤ length batch) (begun : Inodes) (earliest : ℕ) (before : List (List ℕ)) where
   abbrev all : List (List ℕ)
   all = requests_from first n batch
 
@@ -48,15 +34,13 @@ module _ (ran : ℕ → List ℕ → Type 0) (t : Time) (batch : List (List ℕ)
     pub formed : IsWellFormed (record { tree = m; next_ordinal = o; last_time = t })
     pub inodes : inodes_after m o t (drop k all) ≡ inodes_after begun earliest t all
     pub texts : replies ++ replies_to m o t (drop k all) ≡ before ++ replies_to begun earliest t all
-    pub found : drop k (map footprint_seen items) ≡ footprints_in_order m o t (drop k all)
     pub gated : AllRan ran (first + k) (drop k all) (replies_to m o t (drop k all)) → AllRan ran first all (replies_to begun earliest t all)
 
-  pub begins : IsWellFormed (record { tree = begun; next_ordinal = earliest; last_time = t }) → map footprint_seen items ≡ footprints_in_order begun earliest t all → IsGoingOn 0 begun earliest before
-  begins formed found = record {
+  pub begins : IsWellFormed (record { tree = begun; next_ordinal = earliest; last_time = t }) → IsGoingOn 0 begun earliest before
+  begins formed = record {
     formed = formed;
     inodes = refl;
     texts = refl;
-    found = found;
     gated = subst (λ number. AllRan ran number all (replies_to begun earliest t all)) (omega arith);
   }
 
@@ -73,12 +57,6 @@ module _ (ran : ℕ → List ℕ → Type 0) (t : Time) (batch : List (List ℕ)
     here : requests_from (first + k) 1 batch ≡ request ∷ []
     here = one_there batch (first + k) (omega arith)
 
-    found_there : drop k (map footprint_seen items) ≡ footprint_of m o t request ∷ footprints_in_order (answer m o t request).0 (ordinal_after o 1) t rest
-    found_there = going.found ∙ ap (footprints_in_order m o t) left
-
-    pub is_found : map footprint_seen (take 1 (drop k items)) ≡ footprints_at m o t (requests_from (first + k) 1 batch)
-    is_found = only_next k items (footprint_of m o t request) (footprints_in_order (answer m o t request).0 (ordinal_after o 1) t rest) found_there ∙ sym (ap (footprints_at m o t) here)
-
     pub goes_on : (old new : Slots) (after : List (List ℕ)) → at_home old ≡ m → IsPartExecuted ran old new o t batch (first + k) 1 replies after → IsGoingOn (k + 1) (at_home new) (ordinal_after o 1) after
     goes_on old new after same executed =
         let moved : at_home new ≡ (answer m o t request).0 = executed.inodes ∙ ap (λ m. inodes_after m o t (requests_from (first + k) 1 batch)) same ∙ ap (inodes_after m o t) here in
@@ -90,8 +68,6 @@ module _ (ran : ℕ → List ℕ → Type 0) (t : Time) (batch : List (List ℕ)
           inodes = ap (λ m. inodes_after m (ordinal_after o 1) t rest) moved ∙ sym (ap (inodes_after m o t) left) ∙ going.inodes;
           texts = ap (λ m. after ++ replies_to m (ordinal_after o 1) t rest) moved ∙ ap (λ rs. rs ++ replies_to (answer m o t request).0 (ordinal_after o 1) t rest) said
               ∙ append_assoc replies ((answer m o t request).1 ∷ []) (replies_to (answer m o t request).0 (ordinal_after o 1) t rest) ∙ sym (ap (λ rs. replies ++ replies_to m o t rs) left) ∙ going.texts;
-          found = behind k (map footprint_seen items) (footprint_of m o t request) (footprints_in_order (answer m o t request).0 (ordinal_after o 1) t rest) found_there
-              ∙ sym (ap (λ m. footprints_in_order m (ordinal_after o 1) t rest) moved);
           gated = λ later. going.gated (subst (λ rs. AllRan ran (first + k) rs (replies_to m o t rs)) (sym left)
               (has_run.0, subst (λ m. AllRan ran (first + k + 1) rest (replies_to m (ordinal_after o 1) t rest)) moved (subst (λ number. AllRan ran number rest (replies_to (at_home new) (ordinal_after o 1) t rest)) (omega arith) later)));
         })

@@ -1,5 +1,4 @@
 pub mod Progress
-pub mod Alone
 mod Ones
 mod InOrder
 pub mod Carried

@@ -81,7 +81,7 @@ fn execute_in_parts<R: Threads + Wait + Sync, G: Gate + Sync>(
     ensures replies { IfOk result (λ replies. replies ≡ replies_to (at_home tree.old) first time batch.now.requests) }
     ensures ran { IfOk result (λ replies. AllRan G.ran 0 batch.now.requests replies) }
 {
-    let mut rounds = Rounds::new(workers, batch, gate.watches());
+    let mut rounds = Rounds::new(workers, batch, gate.asks_for_threads());
     let mut replies = Replies::new(alloc);
     let mut ordinal = first;
     let mut done = 0;

@@ -8,7 +8,7 @@ ghost use Rattle.bfs_parallel.specs.Ran.{AllRan};
 ghost use Rattle.bfs_parallel.specs.Levels.{AreInLevels, AreKept, IsGroupOf, all_put, numbers_in, texts_of};
 
 use crate::carrying::carry_out;
-use crate::rounds::LevelRounds;
+use crate::rounds::Rounds;
 use bfs_handover::Reply;
 use bfs_levels::Group;
 use bfs_serial::Batch;
@@ -29,11 +29,13 @@ pub(crate) fn execute_levels<R: Threads + Wait + Sync, G: Gate + Sync>(
     ordinal: Ordinal,
     time: Time,
     group: &Group,
-    turns: LevelRounds,
+    levels: Vec<Vec<u32>>,
+    rounds: &Rounds,
     gate: &G,
 ) -> Result<Vec<Vec<u8>>, Memory>
     requires whole { IsTrue ((reach_of tree.old).whole) }
     requires group { IsGroupOf (at_home tree.old) group.now.first ordinal time batch.now.requests (map footprint_seen group.now.footprints.items) group.now.level_of.items }
+    requires levels { AreInLevels group.now.first group.now.level_of.items 0 levels.items }
     ensures inodes { IfOk result (λ _. at_home tree.new ≡ inodes_after (at_home tree.old) ordinal time (requests_from group.now.first (length group.now.footprints.items) batch.now.requests)) }
     ensures whole { IfOk result (λ _. IsTrue ((reach_of tree.new).whole)) }
     ensures replies { IfOk result (λ texts. texts_of texts.items ≡ replies_to (at_home tree.old) ordinal time (requests_from group.now.first (length group.now.footprints.items) batch.now.requests)) }
@@ -41,11 +43,9 @@ pub(crate) fn execute_levels<R: Threads + Wait + Sync, G: Gate + Sync>(
 {
     let count = batch.len();
     prove!(group.first + group.len() <= count);
-    let levels = levels_in(alloc, group)?;
     let mut texts = no_texts(alloc, group.len())?;
-    let mut turns = turns;
     for numbers in levels {
-        let workers = turns.next_workers();
+        let workers = rounds.workers_for(batch, numbers.as_slice());
         let replies = carry_out(
             rt,
             alloc,
@@ -64,8 +64,8 @@ pub(crate) fn execute_levels<R: Threads + Wait + Sync, G: Gate + Sync>(
     Ok(texts)
 }
 
-// the numbers of a group's requests, level after level
-fn levels_in(alloc: Global, group: &Group) -> Result<Vec<Vec<u32>>, Memory>
+/// The numbers of a group's requests, level after level.
+pub(crate) fn levels_in(alloc: Global, group: &Group) -> Result<Vec<Vec<u32>>, Memory>
     requires { group.now.first + length group.now.level_of.items ≤ 4294967295 }
     ensures { IfOk result (λ levels. AreInLevels group.now.first group.now.level_of.items 0 levels.items) }
 {

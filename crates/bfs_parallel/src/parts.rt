@@ -5,15 +5,14 @@ ghost use Rattle.bfs_model.specs.Limits.{most_reply_bytes};
 ghost use Rattle.bfs_model.specs.WellFormed.{IsWellFormed};
 ghost use Rattle.bfs_footprint.specs.Seen.{footprint_seen};
 ghost use Rattle.bfs_tree.specs.Tree.{at_home, reach_of};
-ghost use Rattle.bfs_parallel.specs.Levels.{IsGroupOf, texts_of};
+ghost use Rattle.bfs_parallel.specs.Levels.{AreInLevels, IsGroupOf, texts_of};
 ghost use Rattle.bfs_parallel.specs.Parts.{IsPartExecuted};
 
 use crate::engine::Engine;
-use crate::levels::execute_levels;
+use crate::levels::{execute_levels, levels_in};
 use crate::planning::plan;
-use crate::requests::{execute_in_order, execute_in_place, execute_one};
-use crate::rounds::{LevelRounds, Rounds};
-use bfs_footprint::touch_of;
+use crate::requests::execute_in_order;
+use crate::rounds::Rounds;
 use bfs_levels::Group;
 use bfs_serial::{Batch, Replies};
 use bfs_tree::Tree;
@@ -43,56 +42,28 @@ pub(crate) fn execute_part<R: Threads + Wait + Sync, G: Gate + Sync>(
     requires more { place < length batch.now.requests }
     ensures { IfOk result (λ count. IsPartExecuted G.ran tree.old tree.new ordinal time batch.now.requests place count replies.old replies.new) }
 {
-    if !rounds.plans() {
-        return execute_next(alloc, tree, ordinal, time, batch, place, gate, replies);
+    let unplanned = rounds.unplanned(batch.len() - place);
+    if unplanned > 0 {
+        execute_in_order(
+            alloc, tree, batch, ordinal, time, place, unplanned, gate, replies,
+        )?;
+        return Ok(unplanned);
     }
     let group = plan(alloc, tree, ordinal, time, batch, place, engine, rounds)?;
-    let turns = rounds.for_levels(alloc, batch, &group)?;
-    if group.len() == 1 || turns.are_none() {
-        rounds.put_off();
-        let footprints = group.footprints.as_slice();
-        return execute_in_order(
-            alloc, tree, batch, ordinal, time, place, footprints, gate, replies,
-        );
+    if group.len() > 1 {
+        let levels = levels_in(alloc, &group)?;
+        if rounds.start(batch, levels.as_slice()) {
+            return execute_group(
+                rt, alloc, tree, ordinal, time, batch, &group, levels, rounds, gate, replies,
+            );
+        }
     }
-    execute_group(
-        rt, alloc, tree, ordinal, time, batch, &group, turns, gate, replies,
-    )
-}
-
-// the next request, on the calling thread
-fn execute_next<G: Gate>(
-    alloc: Global,
-    tree: &mut Tree,
-    ordinal: Ordinal,
-    time: Time,
-    batch: &Batch,
-    place: usize,
-    gate: &G,
-    replies: &mut Replies,
-) -> Result<usize, Memory>
-    requires whole { IsTrue ((reach_of tree.old).whole) }
-    requires formed { IsWellFormed (record { tree = at_home tree.old; next_ordinal = ordinal; last_time = time }) }
-    requires more { place < length batch.now.requests }
-    ensures { IfOk result (λ count. IsPartExecuted G.ran tree.old tree.new ordinal time batch.now.requests place count replies.old replies.new) }
-{
-    if !gate.watches() {
-        execute_in_place::<G>(alloc, tree, batch, ordinal, time, place, replies)?;
-        return Ok(1);
-    }
-    let footprints = [touch_of(tree, ordinal, time, batch.request(place)).footprint];
-    execute_one(
-        alloc,
-        tree,
-        batch,
-        ordinal,
-        time,
-        place,
-        &footprints,
-        gate,
-        replies,
+    rounds.put_off();
+    let count = group.len();
+    execute_in_order(
+        alloc, tree, batch, ordinal, time, place, count, gate, replies,
     )?;
-    Ok(1)
+    Ok(count)
 }
 
 // requests of which it is known what they touch, level after level
@@ -104,16 +75,20 @@ fn execute_group<R: Threads + Wait + Sync, G: Gate + Sync>(
     time: Time,
     batch: &Batch,
     group: &Group,
-    turns: LevelRounds,
+    levels: Vec<Vec<u32>>,
+    rounds: &Rounds,
     gate: &G,
     replies: &mut Replies,
 ) -> Result<usize, Memory>
     requires whole { IsTrue ((reach_of tree.old).whole) }
     requires group { IsGroupOf (at_home tree.old) group.now.first ordinal time batch.now.requests (map footprint_seen group.now.footprints.items) group.now.level_of.items }
+    requires levels { AreInLevels group.now.first group.now.level_of.items 0 levels.items }
     requires some { 0 < length group.now.footprints.items }
     ensures { IfOk result (λ count. IsPartExecuted G.ran tree.old tree.new ordinal time batch.now.requests group.now.first count replies.old replies.new) }
 {
-    let texts = execute_levels(rt, alloc, tree, batch, ordinal, time, group, turns, gate)?;
+    let texts = execute_levels(
+        rt, alloc, tree, batch, ordinal, time, group, levels, rounds, gate,
+    )?;
     put_texts(replies, texts)?;
     Ok(group.len())
 }

@@ -1,5 +1,5 @@
 // READ, READLINK and WRITE.
-ghost use Rattle.std.specs.Prelude.{◌≡◌, ◌+◌, ◌≤◌, length, nat_lt};
+ghost use Rattle.std.specs.Prelude.{◌≡◌, ◌+◌, ◌≤◌, length, nat_lt, IfOk};
 ghost use Rattle.std.specs.Result.{result_map_both};
 ghost use Rattle.bfs_model.specs.Arguments as call;
 ghost use Rattle.bfs_model.specs.Bytes as model;
@@ -8,15 +8,23 @@ ghost use Rattle.bfs_model.specs.Limits.{most_file_bytes, most_data_bytes};
 ghost use Rattle.bfs_model.specs.Refusals.{bytes_in};
 ghost use Rattle.bfs_model.specs.Procedures.Data.{file_read, file_written, link_read};
 ghost use Rattle.bfs_procs.specs.Answers.{Answers};
+ghost use Rattle.bfs_procs.specs.Borrowed.{contents_seen};
 ghost use Rattle.bfs_tree.specs.Reach.{Knows};
 ghost use Rattle.bfs_wire.specs.Replies.{status_seen};
 
 use crate::not_done::NotDone;
 use bfs_inode::{FileId, Inode};
 use bfs_tree::Store;
-use bfs_types::{Context, LinkPath, MOST_DATA_BYTES, MOST_FILE_BYTES};
+use bfs_types::{Attributes, Context, LinkPath, MOST_DATA_BYTES, MOST_FILE_BYTES};
 use bfs_wire::{FileBytes, NfsReply, Status};
 use std::alloc::Global;
+
+/// What READ gives (RFC 1094 section 2.2.7). The bytes are borrowed from the file.
+#[derive(Clone, Copy, Debug)]
+pub(crate) struct Contents<'a> {
+    pub(crate) attributes: Attributes,
+    pub(crate) bytes: &'a [u8],
+}
 
 /// READ (RFC 1094 section 2.2.7).
 pub(crate) fn read<S: Store>(
@@ -30,12 +38,33 @@ pub(crate) fn read<S: Store>(
     requires { Knows (S.reach store.now) (footprint (S.inodes store.now) context.now (call.read file offset count)) }
     ensures { Answers (S.inodes store.now) (S.inodes store.now) result (file_read (S.inodes store.now) context.now file offset count) }
 {
+    match read_contents(store, context, file, offset, count) {
+        Ok(read) => Ok(NfsReply::Contents {
+            attributes: read.attributes,
+            bytes: FileBytes::new(alloc, read.bytes)?,
+        }),
+        Err(status) => Err(NotDone::Refused(status)),
+    }
+}
+
+/// What READ gives, or why it is refused.
+pub(crate) fn read_contents<'a, S: Store>(
+    store: &'a S,
+    context: &Context,
+    file: Option<FileId>,
+    offset: u32,
+    count: u32,
+) -> Result<Contents<'a>, Status>
+    requires { Knows (S.reach store.now) (footprint (S.inodes store.now) context.now (call.read file offset count)) }
+    ensures value { result_map_both (λ read. (S.inodes store.now, contents_seen read)) status_seen result ≡ file_read (S.inodes store.now) context.now file offset count }
+    ensures short { IfOk result (λ read. length read.bytes.now ≤ most_data_bytes) }
+{
     let id = file.ok_or(Status::Stale)?;
     let inode = store.get(id).ok_or(Status::Stale)?;
     let bytes = bytes_of(inode)?;
-    Ok(NfsReply::Contents {
+    Ok(Contents {
         attributes: inode.attributes(id),
-        bytes: FileBytes::new(alloc, bytes_from(bytes, offset, count))?,
+        bytes: bytes_from(bytes, offset, count),
     })
 }
 

@@ -12,6 +12,7 @@ mod renaming;
 mod requests;
 mod status;
 mod steps;
+mod successes;
 
 pub use calls::run;
 pub use requests::answer;

@@ -1,5 +1,6 @@
 // LOOKUP and READDIR.
 ghost use Rattle.std.specs.Prelude.{◌≡◌, ◌≤◌, length, IfOk};
+ghost use Rattle.std.specs.Result.{result_map_both};
 ghost use Rattle.bfs_model.specs.Arguments as call;
 ghost use Rattle.bfs_model.specs.Footprints.{footprint};
 ghost use Rattle.bfs_model.specs.Limits.{most_name_bytes};
@@ -7,8 +8,9 @@ ghost use Rattle.bfs_model.specs.Replies as replies;
 ghost use Rattle.bfs_model.specs.Procedures.Names.{looked_up, directory_read};
 ghost use Rattle.bfs_inode.specs.Pages.{listed_seen};
 ghost use Rattle.bfs_procs.specs.Answers.{Answers};
+ghost use Rattle.bfs_procs.specs.Borrowed.{page_seen};
 ghost use Rattle.bfs_tree.specs.Reach.{Knows};
-ghost use Rattle.bfs_wire.specs.Replies.{reply_seen};
+ghost use Rattle.bfs_wire.specs.Replies.{reply_seen, status_seen};
 
 use crate::not_done::NotDone;
 use bfs_inode::{FileId, Listed, Page, is_no_name};
@@ -51,10 +53,27 @@ pub(crate) fn read_directory<S: Store>(
     requires { Knows (S.reach store.now) (footprint (S.inodes store.now) context.now (call.read_directory dir cookie count)) }
     ensures { Answers (S.inodes store.now) (S.inodes store.now) result (directory_read (S.inodes store.now) context.now dir cookie count) }
 {
+    match read_page(store, context, dir, cookie, count) {
+        Ok(page) => Ok(list(alloc, page)?),
+        Err(status) => Err(NotDone::Refused(status)),
+    }
+}
+
+/// The page that READDIR lists, or why it is refused.
+pub(crate) fn read_page<'a, S: Store>(
+    store: &'a S,
+    context: &Context,
+    dir: Option<FileId>,
+    cookie: u32,
+    count: u32,
+) -> Result<Page<'a>, Status>
+    requires { Knows (S.reach store.now) (footprint (S.inodes store.now) context.now (call.read_directory dir cookie count)) }
+    ensures { result_map_both (λ page. (S.inodes store.now, page_seen page)) status_seen result ≡ directory_read (S.inodes store.now) context.now dir cookie count }
+{
     let id = dir.ok_or(Status::Stale)?;
     let inode = store.get(id).ok_or(Status::Stale)?;
     let directory = inode.directory().ok_or(Status::NotDir)?;
-    Ok(list(alloc, directory.page(id, cookie, count))?)
+    Ok(directory.page(id, cookie, count))
 }
 
 fn list(alloc: Global, mut page: Page) -> Result<NfsReply, Memory>

@@ -1,18 +1,19 @@
 ghost use Rattle.std.specs.Prelude.{◌≡◌, IfOk};
 ghost use Rattle.bfs_model.specs.Call as model;
-ghost use Rattle.bfs_model.specs.Replies.{results, success};
 ghost use Rattle.bfs_model.specs.Serial.{answer, answer_call};
 ghost use Rattle.bfs_model.specs.Footprints.{footprint_of, footprint_of_call, IsFreshFor};
 ghost use Rattle.bfs_tree.specs.Reach.{Knows};
 ghost use Rattle.bfs_rpc.specs.Calls.{request_seen};
-ghost use Rattle.bfs_wire.specs.Replies.{reply_seen};
 
 use crate::calls::run;
+use crate::data::read_contents;
+use crate::names::read_page;
+use crate::successes::{success_of, success_of_contents, success_of_page};
 use bfs_inode::Time;
-use bfs_rpc::{Call, parse_call, put_success, write_garbage, write_reject};
+use bfs_rpc::{Call, parse_call, write_garbage, write_reject};
 use bfs_tree::Store;
-use bfs_types::{Memory, Ordinal};
-use bfs_wire::{NfsReply, parse_args, put_reply};
+use bfs_types::{Context, Memory, Ordinal};
+use bfs_wire::{NfsCall, parse_args};
 use std::alloc::Global;
 
 /// Answers the request that the bytes spell, under its ordinal and at the time of its batch: gives the bytes of the reply,
@@ -52,31 +53,27 @@ fn answer_call<S: Store>(
     let Ok(arguments) = parse_args(call.proc, call.args) else {
         return write_garbage(alloc, call.xid);
     };
-    let reply = run(alloc, store, ordinal, time, &call.cred, &arguments)?;
-    success_of(alloc, call.xid, &reply)
-}
-
-// the reply's results behind the header of a success, in one vector
-#[tactic(auto, unfolding(bfs_model::specs::Replies::success))]
-fn success_of(alloc: Global, xid: u32, reply: &NfsReply) -> Result<Vec<u8>, Memory>
-    ensures { IfOk result (λ bytes. bytes.items ≡ success xid (results (reply_seen reply.now))) }
-{
-    let mut bytes = Vec::with_capacity(alloc, room_for(reply))?;
-    put_success(&mut bytes, xid)?;
-    put_reply(&mut bytes, reply)?;
-    Ok(bytes)
-}
-
-// the bytes that a reply begins with room for: its header, its status and attributes, and what was read. Longer ones grow.
-fn room_for(reply: &NfsReply) -> usize {
-    match reply {
-        NfsReply::Void => 24,
-        NfsReply::Refused(_) | NfsReply::Done => 28,
-        NfsReply::FreeBlocks(_) => 48,
-        NfsReply::Attributes(_) => 96,
-        NfsReply::Found { .. } => 128,
-        NfsReply::Contents { bytes, .. } => bytes.len() + 103,
-        NfsReply::Path(path) => path.len() + 35,
-        NfsReply::Listed { .. } => 512,
+    let context = Context {
+        ordinal,
+        time,
+        caller: call.cred,
+    };
+    match arguments {
+        NfsCall::Read {
+            file,
+            offset,
+            count,
+        } => {
+            let read = read_contents(store, &context, file, offset, count);
+            success_of_contents(alloc, call.xid, &read)
+        }
+        NfsCall::ReadDirectory { dir, cookie, count } => {
+            let listed = read_page(store, &context, dir, cookie, count);
+            success_of_page(alloc, call.xid, count, listed)
+        }
+        _ => {
+            let reply = run(alloc, store, ordinal, time, &call.cred, &arguments)?;
+            success_of(alloc, call.xid, &reply)
+        }
     }
 }

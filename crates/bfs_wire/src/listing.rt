@@ -1,6 +1,8 @@
 // What READDIR lists (RFC 1094 section 2.2.17).
-ghost use Rattle.std.specs.Prelude.{◌≡◌, [], ◌∷◌, ◌++◌, take, length, OnOk, OnErr};
+ghost use Rattle.std.specs.Prelude.{◌≡◌, ◌≤◌, [], ◌∷◌, ◌++◌, take, length, false, OnOk, OnErr};
 ghost use Rattle.std.specs.List.{flat_map};
+ghost use Rattle.bfs_model.specs.Items.{boolean};
+ghost use Rattle.bfs_model.specs.Limits.{most_name_bytes};
 ghost use Rattle.bfs_model.specs.Replies.{entry_item};
 
 use bfs_types::{FileId, Memory, Name};
@@ -82,19 +84,31 @@ fn put_each(out: &mut Vec<u8>, entries: &[ListedEntry]) -> Result<(), Memory>
     ensures err { OnErr result (take (length out.old.items) out.new.items ≡ out.old.items) }
 {
     for entry in entries {
-        put_entry(out, entry)?;
+        put_entry(out, entry.cookie, entry.name.as_slice(), entry.child)?;
     }
     Ok(())
 }
 
-// an entry behind the word that says that there is one
+/// Appends an entry, as READDIR lists it (RFC 1094 section 2.2.17), behind the word that says that there is one. `Memory` if
+/// memory runs out; then some of it may stand behind what was there.
 #[tactic(auto, using(std::proofs::lemmas::List::append_assoc))]
-fn put_entry(out: &mut Vec<u8>, entry: &ListedEntry) -> Result<(), Memory>
-    ensures ok { OnOk result (out.new.items ≡ out.old.items ++ entry_item entry.now) }
+pub fn put_entry(out: &mut Vec<u8>, cookie: u32, name: &[u8], child: FileId) -> Result<(), Memory>
+    requires { length name.now ≤ most_name_bytes }
+    ensures ok { OnOk result (out.new.items ≡ out.old.items ++ entry_item (record { cookie = cookie; name = name.now; child = child })) }
     ensures err { OnErr result (take (length out.old.items) out.new.items ≡ out.old.items) }
 {
     put_bool(out, true)?;
-    put_u32(out, entry.child.number())?;
-    put_opaque(out, entry.name.as_slice())?;
-    put_u32(out, entry.cookie)
+    put_u32(out, child.number())?;
+    put_opaque(out, name)?;
+    put_u32(out, cookie)
+}
+
+/// Appends the word that says that there is no further entry in the list, and whether the entries in front of it are all that the
+/// directory has (RFC 1094 section 2.2.17). `Memory` if memory runs out; then some of it may stand behind what was there.
+pub fn put_end_of_entries(out: &mut Vec<u8>, all: bool) -> Result<(), Memory>
+    ensures ok { OnOk result (out.new.items ≡ out.old.items ++ boolean false ++ boolean all) }
+    ensures err { OnErr result (take (length out.old.items) out.new.items ≡ out.old.items) }
+{
+    put_bool(out, false)?;
+    put_bool(out, all)
 }

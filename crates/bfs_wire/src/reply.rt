@@ -1,11 +1,13 @@
-ghost use Rattle.std.specs.Prelude.{◌≡◌, ◌++◌, take, length, OnOk, OnErr, IfOk};
+ghost use Rattle.std.specs.Prelude.{◌≡◌, ◌≤◌, [], ◌∷◌, ◌++◌, take, length, OnOk, OnErr, IfOk};
 ghost use Rattle.bfs_model.specs.Attributes.{blocks_of as model_blocks_of};
+ghost use Rattle.bfs_model.specs.Items.{words};
+ghost use Rattle.bfs_model.specs.Limits.{most_data_bytes};
 ghost use Rattle.bfs_model.specs.Replies as model;
 ghost use Rattle.bfs_wire.specs.Replies.{reply_seen};
 
 use crate::file_type::{type_bits, type_number};
 use crate::handle::handle_bytes;
-use crate::listing::{ListedEntries, put_entries};
+use crate::listing::{ListedEntries, put_end_of_entries, put_entries};
 use crate::status::Status;
 use bfs_types::{
     Attributes, BLOCK_SIZE, Bytes, FileId, LinkPath, MOST_DATA_BYTES, Memory, TOTAL_BLOCKS,
@@ -93,14 +95,23 @@ fn put_results(out: &mut Vec<u8>, reply: &NfsReply) -> Result<(), Memory>
     match reply {
         NfsReply::Void => Ok(()),
         NfsReply::Refused(status) => put_words(out, &[status.number()]),
-        NfsReply::Done => put_words(out, &[DONE]),
+        NfsReply::Done => put_done(out),
         NfsReply::Attributes(attributes) => put_attributes(out, attributes),
         NfsReply::Found { file, attributes } => put_found(out, *file, attributes),
-        NfsReply::Contents { attributes, bytes } => put_contents(out, attributes, bytes),
+        NfsReply::Contents { attributes, bytes } => put_contents(out, attributes, bytes.as_slice()),
         NfsReply::Path(path) => put_path(out, path),
         NfsReply::Listed { entries, all } => put_listed(out, entries, *all),
         NfsReply::FreeBlocks(free) => put_free_blocks(out, *free),
     }
+}
+
+/// Appends the status of a procedure that was done (RFC 1094 section 2.3.1, NFS_OK); its other results are to follow. `Memory` if
+/// memory runs out; then nothing is appended.
+pub fn put_done(out: &mut Vec<u8>) -> Result<(), Memory>
+    ensures ok { OnOk result (out.new.items ≡ out.old.items ++ words (0 ∷ [])) }
+    ensures err { OnErr result (out.new.items ≡ out.old.items) }
+{
+    put_words(out, &[DONE])
 }
 
 // attrstat where the attributes were found (RFC 1094 section 2.3.6)
@@ -109,7 +120,7 @@ fn put_attributes(out: &mut Vec<u8>, attributes: &Attributes) -> Result<(), Memo
     ensures ok { OnOk result (out.new.items ≡ out.old.items ++ model.results (model.attributes attributes.now)) }
     ensures err { OnErr result (take (length out.old.items) out.new.items ≡ out.old.items) }
 {
-    put_words(out, &[DONE])?;
+    put_done(out)?;
     put_words(out, &attribute_words(attributes))
 }
 
@@ -119,20 +130,22 @@ fn put_found(out: &mut Vec<u8>, file: FileId, attributes: &Attributes) -> Result
     ensures ok { OnOk result (out.new.items ≡ out.old.items ++ model.results (model.found file attributes.now)) }
     ensures err { OnErr result (take (length out.old.items) out.new.items ≡ out.old.items) }
 {
-    put_words(out, &[DONE])?;
+    put_done(out)?;
     out.extend_from_slice(&handle_bytes(file))?;
     put_words(out, &attribute_words(attributes))
 }
 
-// readres where bytes were read (RFC 1094 section 2.2.7)
+/// Appends the results of a READ that was done (RFC 1094 section 2.2.7): the file's attributes, and the bytes that were read of
+/// it. `Memory` if memory runs out; then some of them may stand behind what was there.
 #[tactic(auto, using(std::proofs::lemmas::List::append_assoc), unfolding(bfs_model::specs::Replies::results))]
-fn put_contents(out: &mut Vec<u8>, attributes: &Attributes, bytes: &FileBytes) -> Result<(), Memory>
+pub fn put_contents(out: &mut Vec<u8>, attributes: &Attributes, bytes: &[u8]) -> Result<(), Memory>
+    requires { length bytes.now ≤ most_data_bytes }
     ensures ok { OnOk result (out.new.items ≡ out.old.items ++ model.results (model.contents attributes.now bytes.now)) }
     ensures err { OnErr result (take (length out.old.items) out.new.items ≡ out.old.items) }
 {
-    put_words(out, &[DONE])?;
+    put_done(out)?;
     put_words(out, &attribute_words(attributes))?;
-    put_opaque(out, bytes.as_slice())
+    put_opaque(out, bytes)
 }
 
 // readlinkres where the path was read (RFC 1094 section 2.2.6)
@@ -141,21 +154,19 @@ fn put_path(out: &mut Vec<u8>, path: &LinkPath) -> Result<(), Memory>
     ensures ok { OnOk result (out.new.items ≡ out.old.items ++ model.results (model.path path.now)) }
     ensures err { OnErr result (take (length out.old.items) out.new.items ≡ out.old.items) }
 {
-    put_words(out, &[DONE])?;
+    put_done(out)?;
     put_opaque(out, path.as_slice())
 }
 
-// readdirres where entries were listed (RFC 1094 section 2.2.17): the entries, the word that says that there is no
-// further one, and whether they are all
+// readdirres where entries were listed (RFC 1094 section 2.2.17)
 #[tactic(auto, using(std::proofs::lemmas::List::append_assoc), unfolding(bfs_model::specs::Replies::results))]
 fn put_listed(out: &mut Vec<u8>, entries: &ListedEntries, all: bool) -> Result<(), Memory>
     ensures ok { OnOk result (out.new.items ≡ out.old.items ++ model.results (model.listed entries.now all)) }
     ensures err { OnErr result (take (length out.old.items) out.new.items ≡ out.old.items) }
 {
-    put_words(out, &[DONE])?;
+    put_done(out)?;
     put_entries(out, entries)?;
-    put_bool(out, false)?;
-    put_bool(out, all)
+    put_end_of_entries(out, all)
 }
 
 // statfsres where the room was told (RFC 1094 section 2.2.18)

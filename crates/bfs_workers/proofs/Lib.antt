@@ -1,8 +1,9 @@
 pub mod Zips
 pub mod Dealing
 pub mod Numbers
-pub mod Orders
 pub mod Accounts
 pub mod Steps
 pub mod Queued
 pub mod Working
+pub mod Alone
+pub mod Ones

@@ -1,15 +1,20 @@
-ghost use Rattle.std.specs.Prelude.{ℕ, List, ⊤, IfOk, IsFalse};
+ghost use Rattle.std.specs.Prelude.{ℕ, ◌<◌, [], List, ⊤, IfOk, IsTrue, get_or, length};
+ghost use Rattle.bfs_model.specs.WellFormed.{IsWellFormed};
+ghost use Rattle.bfs_tree.specs.Tree.{at_home, reach_of};
 ghost use Rattle.bfs_handover.specs.Jobs.{CanRun};
+ghost use Rattle.bfs_workers.specs.Answered.{IsAnswered};
 ghost use Rattle.bfs_workers.specs.Results.{Gives};
 
-use bfs_handover::{Done, Job, run_job};
+use bfs_footprint::touch_of;
+use bfs_handover::{Done, Job, merge_one, run_job, split_one};
+use bfs_serial::{Batch, answer_next};
 use bfs_tree::Tree;
-use bfs_types::Memory;
+use bfs_types::{Memory, Ordinal, Time};
 use std::alloc::Global;
 
-/// By which jobs are run, and by it alone, so that it sees each job begin and end.
+/// By which requests are answered, and by it alone, so that it sees each of them begin and end: as jobs, or one alone on the whole tree.
 pub trait Gate {
-    // what it promises of the number and the reply of each result, and no other call does
+    // what it promises of the number and the reply of each request that it runs, and no other call does
     ghost ran: { ℕ → List ℕ → Type 0 };
 
     /// The result of `run_job`. `Memory` if memory runs out: the job's inodes are lost then.
@@ -17,16 +22,44 @@ pub trait Gate {
         requires { CanRun tree.now job }
         ensures { IfOk result (λ done. Gives ran tree.now job.entry done) };
 
-    /// Whether it has something to see or to promise where a job is run. What a gate that does not watch promises holds of every reply,
-    /// so a request that gets no thread may be answered without a job. A gate watches unless it says otherwise.
-    fn watches(&self) -> bool
-        ensures { IsFalse result → (number : ℕ) → (reply : List ℕ) → ran number reply }
+    /// Executes the batch's request at that place, which has that ordinal, on the whole tree, and gives its reply. It is split off as a job,
+    /// run by the gate and brought home; one that may touch any inode is answered in place. `Memory` if memory runs out; the tree may then
+    /// not be whole.
+    fn answer_one(
+        &self,
+        alloc: Global,
+        tree: &mut Tree,
+        batch: &Batch,
+        place: usize,
+        ordinal: Ordinal,
+        time: Time,
+    ) -> Result<Vec<u8>, Memory>
+        requires whole { IsTrue ((reach_of tree.old).whole) }
+        requires formed { IsWellFormed (record { tree = at_home tree.old; next_ordinal = ordinal; last_time = time }) }
+        requires within { place < length batch.now.requests }
+        ensures { IfOk result (λ reply. IsAnswered ran tree.old tree.new place ordinal time (get_or batch.now.requests place []) reply.items) }
     {
+        let count = batch.len();
+        prove!(place < count);
+        let request = batch.request(place);
+        let footprint = touch_of(tree, ordinal, time, request).footprint;
+        if footprint.is_whole() {
+            return answer_next(alloc, tree, ordinal, time, request);
+        }
+        let footprints = [footprint];
+        let number = place as u32;
+        let job = split_one(alloc, tree, batch, ordinal, time, place, &footprints, number)?;
+        let done = self.run(alloc, tree, job)?;
+        Ok(merge_one(tree, done).bytes)
+    }
+
+    /// Whether it asks for threads also where requests are too short to pay for them. Only where threads are started depends on it.
+    fn asks_for_threads(&self) -> bool {
         true
     }
 }
 
-/// A gate that only runs the jobs.
+/// A gate that only runs the jobs, and answers one request in place.
 #[derive(Clone, Copy, Debug)]
 pub struct NoGate;
 
@@ -37,7 +70,19 @@ impl Gate for NoGate {
         run_job(alloc, tree, job)
     }
 
-    fn watches(&self) -> bool {
+    fn answer_one(
+        &self,
+        alloc: Global,
+        tree: &mut Tree,
+        batch: &Batch,
+        place: usize,
+        ordinal: Ordinal,
+        time: Time,
+    ) -> Result<Vec<u8>, Memory> {
+        answer_next(alloc, tree, ordinal, time, batch.request(place))
+    }
+
+    fn asks_for_threads(&self) -> bool {
         false
     }
 }

@@ -3,12 +3,11 @@ ghost use Rattle.std.specs.List.{All};
 ghost use Rattle.std.specs.Thread.{IsSync};
 ghost use Rattle.crossbeam_queue.specs.Passes.{IsPassOf, ruled_capacity, view};
 ghost use Rattle.bfs_handover.specs.Jobs.{CanRun};
-ghost use Rattle.bfs_workers.specs.Hands.{AddsAll, CanRunAll, GivesAll, held};
-ghost use Rattle.bfs_workers.specs.Results.{EachOnce};
+ghost use Rattle.bfs_workers.specs.Results.{CanRunAll, EachOnce, GivesAll};
 ghost use Rattle.bfs_workers.specs.Rule.{account, all_parts};
 
 use crate::gate::Gate;
-use crate::rule::{Hand, HandPass, HandQueue, OneMore, Puts, Seat, Takes};
+use crate::rule::{JobPass, JobQueue, OneMore, Puts, Seat, Takes};
 use crate::sequence::run_here;
 use crate::workers::Workers;
 use bfs_handover::{Done, Job};
@@ -16,15 +15,12 @@ use bfs_tree::Tree;
 use bfs_types::Memory;
 use std::alloc::Global;
 use std::sync::Wait;
+use std::thread;
 use std::thread::Threads;
-use std::{mem, thread};
 
-// about how many hands there are for each worker: with more of them a slow worker keeps fewer jobs, and the queue is used more often
-const HANDS_FOR_EACH_WORKER: usize = 4;
-
-/// Runs the jobs by the workers, each of which takes the next hand from one queue until it finds it empty, and gives their results
-/// in some order. A hand is some jobs that stand one behind another, or one job where there are few for each worker. The calling thread
-/// is one of the workers, and runs what is left where threads can't be started; one worker runs the jobs in their order, without a queue.
+/// Runs the jobs by the workers, each of which takes the next job from one queue until it finds it empty, and gives their results in some
+/// order. The calling thread is one of the workers, and runs what is left where threads can't be started; one worker runs the jobs in
+/// their order, without a queue.
 /// `Memory` if memory runs out: the inodes of all jobs are lost then, and no job is running any more.
 #[tactic(auto, using(crate::proofs::Steps::begins, crate::proofs::Queued::all_drawn))]
 pub fn run_queue<R: Threads + Wait + Sync, G: Gate + Sync>(
@@ -42,10 +38,8 @@ pub fn run_queue<R: Threads + Wait + Sync, G: Gate + Sync>(
     if count <= 1 {
         return run_here(alloc, tree, jobs, gate);
     }
-    let size = (jobs.len() / (HANDS_FOR_EACH_WORKER * count as usize)).max(1);
-    let hands = in_hands(alloc, size, jobs)?;
-    let (queue, pass) = HandQueue::ruled(alloc, hands.len())?;
-    let (pass, back) = fill(rt, alloc, &queue, pass, hands)?;
+    let (queue, pass) = JobQueue::ruled(alloc, jobs.len())?;
+    let (pass, back) = fill(rt, alloc, &queue, pass, jobs)?;
     let seat = Seat {
         queue: &queue,
         pass,
@@ -61,49 +55,29 @@ pub fn run_queue<R: Threads + Wait + Sync, G: Gate + Sync>(
     Ok(dones)
 }
 
-// the jobs in their order, so many in each hand, and perhaps fewer in the last
-#[tactic(auto, using(crate::proofs::Queued::hand_full, crate::proofs::Queued::hand_longer))]
-fn in_hands<'a>(alloc: Global, size: usize, jobs: Vec<Job<'a>>) -> Result<Vec<Hand<'a>>, Memory>
-    requires { 0 < size }
-    ensures some { IfOk result (λ hands. 0 < length hands.items) }
-    ensures jobs { IfOk result (λ hands. held hands.items ≡ jobs.entry.items) }
-{
-    let mut hands = Vec::with_capacity(alloc, jobs.len().div_ceil(size))?;
-    let mut hand = Vec::with_capacity(alloc, size)?;
-    for job in jobs {
-        if hand.len() == size {
-            let next = Vec::with_capacity(alloc, size)?;
-            hands.push(mem::replace(&mut hand, next))?;
-        }
-        hand.push_reserved(job);
-    }
-    hands.push(hand)?;
-    Ok(hands)
-}
-
-// puts the hands in the queue, and gives back the jobs of those for which it has no room
+// puts the jobs in the queue, and gives back those for which it has no room
 #[tactic(auto, using(crate::proofs::Steps::puts, crate::proofs::Queued::came_back, crate::proofs::Queued::was_put))]
 fn fill<'a, R: Wait>(
     rt: &R,
     alloc: Global,
-    queue: &HandQueue<'a>,
-    mut pass: HandPass<'a>,
-    hands: Vec<Hand<'a>>,
-) -> Result<(HandPass<'a>, Vec<Job<'a>>), Memory>
+    queue: &JobQueue<'a>,
+    mut pass: JobPass<'a>,
+    jobs: Vec<Job<'a>>,
+) -> Result<(JobPass<'a>, Vec<Job<'a>>), Memory>
     requires pass { IsPassOf queue.now pass × (view pass ≡ account all_parts [] []) }
     ensures pass { IfOk result (λ r. IsPassOf queue.now r.0 × (view r.0 ≡ account all_parts (view r.0).put [])) }
-    ensures jobs { IfOk result (λ r. IsPermutation (held hands.entry.items) (held (view r.0).put ++ r.1.items)) }
+    ensures jobs { IfOk result (λ r. IsPermutation jobs.entry.items ((view r.0).put ++ r.1.items)) }
 {
     let mut back = Vec::new(alloc);
-    for hand in hands {
-        if let Err(mut hand) = queue.push_as::<Puts, R>(rt, &mut pass, hand) {
-            back.append(&mut hand)?;
+    for job in jobs {
+        if let Err(job) = queue.push_as::<Puts, R>(rt, &mut pass, job) {
+            back.push(job)?;
         }
     }
     Ok((pass, back))
 }
 
-// takes hands and runs their jobs until the queue is found empty
+// takes jobs and runs them until the queue is found empty
 fn work<'a, R: Wait, G: Gate>(
     rt: &R,
     alloc: Global,
@@ -111,37 +85,19 @@ fn work<'a, R: Wait, G: Gate>(
     seat: Seat<'_, 'a>,
     mut dones: Vec<Done>,
     gate: &G,
-) -> Result<(HandPass<'a>, Vec<Done>), Memory>
+) -> Result<(JobPass<'a>, Vec<Done>), Memory>
     requires pass { IsPassOf seat.queue.now seat.pass × (0 < (view seat.pass).parts) }
-    requires jobs { CanRunAll tree.now (held (view seat.pass).put) }
-    requires dones { GivesAll G.ran tree.now (held (view seat.pass).taken) dones.items }
+    requires jobs { CanRunAll tree.now (view seat.pass).put }
+    requires dones { GivesAll G.ran tree.now (view seat.pass).taken dones.items }
     ensures pass { IfOk result (λ r. IsPassOf seat.entry.queue.now r.0 × (view r.0 ≡ account (view seat.entry.pass).parts (view seat.entry.pass).put (view r.0).taken)) }
-    ensures dones { IfOk result (λ r. GivesAll G.ran tree.now (held (view r.0).taken) r.1.items) }
+    ensures dones { IfOk result (λ r. GivesAll G.ran tree.now (view r.0).taken r.1.items) }
     ensures empty { IfOk result (λ r. (view seat.entry.pass).parts ≡ all_parts → IsPermutation (view r.0).put (view r.0).taken) }
 {
     let Seat { queue, mut pass } = seat;
-    while let Some(hand) = queue.pop_as::<Takes, R>(rt, &mut pass) {
-        run_hand(alloc, tree, hand, &mut dones, gate)?;
-    }
-    Ok((pass, dones))
-}
-
-// runs the jobs in their order, and puts their results behind those that are there
-#[tactic(auto, using(crate::proofs::Working::adds_none, crate::proofs::Working::adds_one))]
-fn run_hand<G: Gate>(
-    alloc: Global,
-    tree: &Tree,
-    hand: Hand<'_>,
-    dones: &mut Vec<Done>,
-    gate: &G,
-) -> Result<(), Memory>
-    requires { All (CanRun tree.now) hand.items }
-    ensures { IfOk result (λ _. AddsAll G.ran tree.now hand.entry.items dones.old.items dones.new.items) }
-{
-    for job in hand {
+    while let Some(job) = queue.pop_as::<Takes, R>(rt, &mut pass) {
         dones.push(gate.run(alloc, tree, job)?)?;
     }
-    Ok(())
+    Ok((pass, dones))
 }
 
 // work by so many threads, of which this one is the last
@@ -154,11 +110,11 @@ fn run_workers<'a, R: Threads + Wait + Sync, G: Gate + Sync>(
     seat: Seat<'_, 'a>,
     count: u32,
     gate: &G,
-) -> Result<(HandPass<'a>, Vec<Done>), Memory>
+) -> Result<(JobPass<'a>, Vec<Done>), Memory>
     requires pass { IsPassOf seat.queue.now seat.pass × (count < (view seat.pass).parts) × ((view seat.pass).taken ≡ []) }
-    requires jobs { CanRunAll tree.now (held (view seat.pass).put) }
+    requires jobs { CanRunAll tree.now (view seat.pass).put }
     ensures pass { IfOk result (λ r. IsPassOf seat.entry.queue.now r.0 × (view r.0 ≡ account (view seat.entry.pass).parts (view seat.entry.pass).put (view r.0).taken)) }
-    ensures dones { IfOk result (λ r. GivesAll G.ran tree.now (held (view r.0).taken) r.1.items) }
+    ensures dones { IfOk result (λ r. GivesAll G.ran tree.now (view r.0).taken r.1.items) }
 {
     if count <= 1 {
         return work(rt, alloc, tree, seat, Vec::new(alloc), gate);
@@ -172,14 +128,14 @@ fn run_workers<'a, R: Threads + Wait + Sync, G: Gate + Sync>(
     let (one, others) = thread::join(
         rt,
         move ||
-            requires { IsSync R.row × IsSync G.row × IsPassOf one.queue.now one.pass × (view one.pass ≡ account 1 (view one.pass).put []) × CanRunAll tree.now (held (view one.pass).put) }
+            requires { IsSync R.row × IsSync G.row × IsPassOf one.queue.now one.pass × (view one.pass ≡ account 1 (view one.pass).put []) × CanRunAll tree.now (view one.pass).put }
             ensures pass { IfOk result (λ r. IsPassOf one.entry.queue.now r.0 × (view r.0 ≡ account 1 (view one.entry.pass).put (view r.0).taken)) }
-            ensures dones { IfOk result (λ r. GivesAll G.ran tree.entry.now (held (view r.0).taken) r.1.items) }
+            ensures dones { IfOk result (λ r. GivesAll G.ran tree.entry.now (view r.0).taken r.1.items) }
         { work(rt, alloc, tree, one, Vec::new(alloc), gate) },
         move ||
-            requires { IsSync R.row × IsSync G.row × IsPassOf others.queue.now others.pass × (0 < count) × (count - 1 < (view others.pass).parts) × ((view others.pass).taken ≡ []) × CanRunAll tree.now (held (view others.pass).put) }
+            requires { IsSync R.row × IsSync G.row × IsPassOf others.queue.now others.pass × (0 < count) × (count - 1 < (view others.pass).parts) × ((view others.pass).taken ≡ []) × CanRunAll tree.now (view others.pass).put }
             ensures pass { IfOk result (λ r. IsPassOf others.entry.queue.now r.0 × (view r.0 ≡ account (view others.entry.pass).parts (view others.entry.pass).put (view r.0).taken)) }
-            ensures dones { IfOk result (λ r. GivesAll G.ran tree.entry.now (held (view r.0).taken) r.1.items) }
+            ensures dones { IfOk result (λ r. GivesAll G.ran tree.entry.now (view r.0).taken r.1.items) }
         { run_workers(rt, alloc, tree, others, count - 1, gate) },
     );
     let (one, mut done) = one?;

@@ -1,4 +1,4 @@
-//! The rule of the queue from which workers draw hands of jobs.
+//! The rule of the queue from which workers draw jobs.
 ghost use Rattle.std.specs.Prelude.{⊤};
 ghost use Rattle.bfs_workers.specs.Rule.{KnowsAll, PutOne, TookOne};
 
@@ -7,19 +7,16 @@ use crossbeam_queue::protocol::{Join, Lesson, Outcome, Protocol, Split};
 use crossbeam_queue::{Pass, RuledArrayQueue};
 use std::collections::LinkedList;
 
-// jobs that stand one behind another, and are run by one worker
-pub(crate) type Hand<'a> = Vec<Job<'a>>;
-
 // what was put when a pass was given out, what was taken by it, and its parts of the right to put: no value of it is made
 pub(crate) struct Account<'a> {
     pub(crate) parts: u32,
-    pub(crate) put: LinkedList<Hand<'a>>,
-    pub(crate) taken: LinkedList<Hand<'a>>,
+    pub(crate) put: LinkedList<Job<'a>>,
+    pub(crate) taken: LinkedList<Job<'a>>,
 }
 
 pub(crate) struct EachOnce;
 
-impl<'a> Protocol<Hand<'a>, Account<'a>> for EachOnce {
+impl<'a> Protocol<Job<'a>, Account<'a>> for EachOnce {
     ghost use Rattle.std.specs.Prelude.{[]};
     ghost use Rattle.bfs_workers.specs.Rule.{Balanced, account, all_parts};
 
@@ -51,31 +48,31 @@ impl<'a> Join<Account<'a>> for OneMore {
 
 pub(crate) struct Puts;
 
-impl<'a> Outcome<Hand<'a>, Account<'a>> for Puts {
+impl<'a> Outcome<Job<'a>, Account<'a>> for Puts {
     ghost then = { PutOne };
 }
 
-impl<'a> Lesson<Hand<'a>, Account<'a>> for Puts {
+impl<'a> Lesson<Job<'a>, Account<'a>> for Puts {
     ghost fact = { λ _ _. ⊤ };
 }
 
 pub(crate) struct Takes;
 
-impl<'a> Outcome<Hand<'a>, Account<'a>> for Takes {
+impl<'a> Outcome<Job<'a>, Account<'a>> for Takes {
     ghost then = { TookOne };
 }
 
-impl<'a> Lesson<Hand<'a>, Account<'a>> for Takes {
+impl<'a> Lesson<Job<'a>, Account<'a>> for Takes {
     ghost fact = { KnowsAll };
 }
 
-pub(crate) type HandQueue<'a> = RuledArrayQueue<Hand<'a>, Account<'a>, EachOnce>;
+pub(crate) type JobQueue<'a> = RuledArrayQueue<Job<'a>, Account<'a>, EachOnce>;
 
-pub(crate) type HandPass<'a> = Pass<Hand<'a>, Account<'a>>;
+pub(crate) type JobPass<'a> = Pass<Job<'a>, Account<'a>>;
 
 // a pass with its queue
 #[derive(Drop)]
 pub(crate) struct Seat<'q, 'a> {
-    pub(crate) queue: &'q HandQueue<'a>,
-    pub(crate) pass: HandPass<'a>,
+    pub(crate) queue: &'q JobQueue<'a>,
+    pub(crate) pass: JobPass<'a>,
 }

@@ -2,8 +2,8 @@ ghost use Rattle.std.specs.Prelude.{◌≡◌, [], ◌<◌, ◌++◌, IfOk, IsPe
 ghost use Rattle.std.specs.List.{All, AllZip};
 ghost use Rattle.std.specs.Thread.{IsSync};
 ghost use Rattle.bfs_handover.specs.Jobs.{CanRun};
-ghost use Rattle.bfs_workers.specs.Hands.{CanRunAll, GivesAll, held};
-ghost use Rattle.bfs_workers.specs.Results.{EachOnce, Gives};
+ghost use Rattle.bfs_workers.specs.Dealt.{jobs_in};
+ghost use Rattle.bfs_workers.specs.Results.{CanRunAll, EachOnce, Gives, GivesAll};
 
 use crate::gate::Gate;
 use crate::sequence::run_here;
@@ -33,60 +33,60 @@ pub fn run_split<R: Threads + Sync, G: Gate + Sync>(
     if count <= 1 {
         return run_here(alloc, tree, jobs, gate);
     }
-    let hands = deal(alloc, count, jobs)?;
-    run_hands(rt, alloc, tree, hands, gate)
+    let lists = deal(alloc, count, jobs)?;
+    run_lists(rt, alloc, tree, lists, gate)
 }
 
-// so many hands, with job k in hand k modulo their number
+// so many lists, with job k in list k modulo their number
 fn deal<'a>(alloc: Global, count: usize, jobs: Vec<Job<'a>>) -> Result<Vec<Vec<Job<'a>>>, Memory>
     requires { 0 < count }
-    ensures { IfOk result (λ hands. IsPermutation jobs.entry.items (held hands.items)) }
+    ensures { IfOk result (λ lists. IsPermutation jobs.entry.items (jobs_in lists.items)) }
 {
-    let mut hands = no_jobs(alloc, count)?;
+    let mut lists = no_jobs(alloc, count)?;
     let mut turn = 0;
     for job in jobs {
-        hands[turn].push(job)?;
+        lists[turn].push(job)?;
         turn += 1;
         if turn == count {
             turn = 0;
         }
     }
-    Ok(hands)
+    Ok(lists)
 }
 
 fn no_jobs<'a>(alloc: Global, count: usize) -> Result<Vec<Vec<Job<'a>>>, Memory>
-    ensures count { IfOk result (λ hands. length hands.items ≡ count) }
-    ensures empty { IfOk result (λ hands. held hands.items ≡ []) }
+    ensures count { IfOk result (λ lists. length lists.items ≡ count) }
+    ensures empty { IfOk result (λ lists. jobs_in lists.items ≡ []) }
 {
-    let mut hands = Vec::with_capacity(alloc, count)?;
+    let mut lists = Vec::with_capacity(alloc, count)?;
     for _ in 0..count {
-        hands.push_reserved(Vec::new(alloc));
+        lists.push_reserved(Vec::new(alloc));
     }
-    Ok(hands)
+    Ok(lists)
 }
 
-#[cycle(hands)]
-fn run_hands<R: Threads + Sync, G: Gate + Sync>(
+#[cycle(lists)]
+fn run_lists<R: Threads + Sync, G: Gate + Sync>(
     rt: &R,
     alloc: Global,
     tree: &Tree,
-    mut hands: Vec<Vec<Job<'_>>>,
+    mut lists: Vec<Vec<Job<'_>>>,
     gate: &G,
 ) -> Result<Vec<Done>, Memory>
-    requires { CanRunAll tree.now (held hands.items) }
-    ensures { IfOk result (λ dones. GivesAll G.ran tree.now (held hands.entry.items) dones.items) }
+    requires { CanRunAll tree.now (jobs_in lists.items) }
+    ensures { IfOk result (λ dones. GivesAll G.ran tree.now (jobs_in lists.entry.items) dones.items) }
 {
-    let Some(mine) = hands.pop() else {
+    let Some(mine) = lists.pop() else {
         return Ok(Vec::new(alloc));
     };
-    if hands.is_empty() {
+    if lists.is_empty() {
         return run_here(alloc, tree, mine, gate);
     }
-    run_both(rt, alloc, tree, mine, hands, gate)
+    run_both(rt, alloc, tree, mine, lists, gate)
 }
 
-// the last hand in a new thread, and the others in this one
-#[cycle(hands)]
+// the jobs of the last list in a new thread, and the others in this one
+#[cycle(lists)]
 fn run_both<R: Threads + Sync, G: Gate + Sync>(
     rt: &R,
     alloc: Global,
@@ -96,19 +96,19 @@ fn run_both<R: Threads + Sync, G: Gate + Sync>(
     gate: &G,
 ) -> Result<Vec<Done>, Memory>
     requires last { CanRunAll tree.now last.items }
-    requires others { CanRunAll tree.now (held others.items) }
-    ensures { IfOk result (λ dones. GivesAll G.ran tree.now (held others.entry.items ++ last.entry.items) dones.items) }
+    requires others { CanRunAll tree.now (jobs_in others.items) }
+    ensures { IfOk result (λ dones. GivesAll G.ran tree.now (jobs_in others.entry.items ++ last.entry.items) dones.items) }
 {
     let (one, rest) = thread::join(
         rt,
         move || -> Result<Vec<Done>, Memory>
             requires { IsSync G.row × CanRunAll tree.now last.items }
             ensures { IfOk result (λ dones. GivesAll G.ran tree.entry.now last.entry.items dones.items) }
-        { run_hand(alloc, tree, last, gate) },
+        { run_list(alloc, tree, last, gate) },
         move || -> Result<Vec<Done>, Memory>
-            requires { IsSync R.row × IsSync G.row × CanRunAll tree.now (held others.items) }
-            ensures { IfOk result (λ dones. GivesAll G.ran tree.entry.now (held others.entry.items) dones.items) }
-        { run_hands(rt, alloc, tree, others, gate) },
+            requires { IsSync R.row × IsSync G.row × CanRunAll tree.now (jobs_in others.items) }
+            ensures { IfOk result (λ dones. GivesAll G.ran tree.entry.now (jobs_in others.entry.items) dones.items) }
+        { run_lists(rt, alloc, tree, others, gate) },
     );
     let mut one = one?;
     let mut dones = rest?;
@@ -116,14 +116,14 @@ fn run_both<R: Threads + Sync, G: Gate + Sync>(
     Ok(dones)
 }
 
-fn run_hand<G: Gate>(
+fn run_list<G: Gate>(
     alloc: Global,
     tree: &Tree,
-    hand: Vec<Job<'_>>,
+    list: Vec<Job<'_>>,
     gate: &G,
 ) -> Result<Vec<Done>, Memory>
-    requires { CanRunAll tree.now hand.items }
-    ensures { IfOk result (λ dones. GivesAll G.ran tree.now hand.entry.items dones.items) }
+    requires { CanRunAll tree.now list.items }
+    ensures { IfOk result (λ dones. GivesAll G.ran tree.now list.entry.items dones.items) }
 {
-    run_here(alloc, tree, hand, gate)
+    run_here(alloc, tree, list, gate)
 }

@@ -2,7 +2,10 @@
 use bfs_testing::words::{THIRD, same_bytes, spelled};
 use bfs_testing::{holds, same};
 use bfs_types::{Attributes, FileId, FileType, LinkPath, Memory, Name, Time};
-use bfs_wire::{FileBytes, ListedEntries, ListedEntry, NfsReply, Status, put_reply, write_reply};
+use bfs_wire::{
+    FileBytes, ListedEntries, ListedEntry, NfsReply, Status, put_contents, put_done,
+    put_end_of_entries, put_entry, put_reply, write_reply,
+};
 use std::alloc::Global;
 use std::test::Fail;
 
@@ -138,4 +141,21 @@ fn writes_listings(rt: HostRuntime) -> Result<(), Fail> {
     let first = &[1, 2, 1, 0x2e000000, 1];
     let second = &[1, 8, 5, 0x61626364, 0x65000000, 9];
     writes(alloc, listed, &[&[0], first, second, &[0, 1]])
+}
+
+#[test]
+fn writes_results_by_their_parts(rt: HostRuntime) -> Result<(), Fail> {
+    let alloc = rt.alloc();
+    let mut out = Vec::new(alloc);
+    put_done(&mut out)?;
+    put_entry(&mut out, 9, b"abcde", FileId::new(8))?;
+    put_end_of_entries(&mut out, true)?;
+    put_contents(
+        &mut out,
+        &attributes_of(FileType::Regular, 0o644, 4097)?,
+        b"abc",
+    )?;
+    let entry = &[1, 8, 5, 0x61626364, 0x65000000, 9];
+    let wanted = spelled(alloc, &[&[0], entry, &[0, 1], &[0], FILE, &[3, 0x61626300]])?;
+    same_bytes(alloc, out.as_slice(), wanted.as_slice())
 }

@@ -17,26 +17,18 @@ use Rattle.bfs_parallel.proofs.Places.{length-all_put}
 use Rattle.bfs_parallel.proofs.levels.execute_levels.Goals.{After-as_slice-in-loop-numbers, In_ok-replies}
 use Rattle.bfs_parallel.proofs.levels.execute_levels.Goals as goal
 
-pub levels_in-requires : goal.levels_in-requires
-levels_in-requires g c =
-    let a = c.args in
-    let fs = map footprint_seen a.group.now.footprints.items in
-    let long = as_many_levels (at_home a.tree.now) a.group.now.first a.ordinal a.time a.batch.now.requests fs a.group.now.level_of.items c.requires.group in
-    let fit = c.requires.group.within in
-    omega (arith, c.len-count.ensures.value, c.len-count.ensures.within)
-
 pub loop-numbers-init : goal.loop-numbers-init
 loop-numbers-init g c =
     let a = c.args in
     let fs = map footprint_seen a.group.now.footprints.items in
     let texts = c.in_ok-texts.texts.items in
     let count : length texts ≡ length a.group.now.footprints.items = c.in_ok-texts.ensures ∙ c.len-2.ensures in
-    let gives : c.into_iter-numbers-iterator.result.rest.items ≡ c.in_ok-levels.levels.items = search rules in
+    let gives : c.into_iter-numbers-iterator.result.rest.items ≡ a.levels.items = search rules in
     record {
       whole = c.requires.whole;
       count = count;
       way = rw gives
-          (sets_out g.G.Gate.ran (at_home a.tree.now) a.group.now.first a.ordinal a.time a.batch.now.requests fs a.group.now.level_of.items (texts_of texts) c.in_ok-levels.levels.items c.requires.group c.in_ok-levels.ensures
+          (sets_out g.G.Gate.ran (at_home a.tree.now) a.group.now.first a.ordinal a.time a.batch.now.requests fs a.group.now.level_of.items (texts_of texts) a.levels.items c.requires.group c.requires.levels
           (length-map texts (λ (text : Vec ℕ Global). text.items) ∙ count ∙ sym (length-map a.group.now.footprints.items footprint_seen)));
     }
 

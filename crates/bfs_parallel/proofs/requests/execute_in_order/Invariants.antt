@@ -7,6 +7,6 @@ use Rattle.bfs_parallel.proofs.requests.execute_in_order.Given as goal
 abbrev pub invariant-loop-done : goal.invariant-loop-done
 invariant-loop-done g l = record {
   whole : IsTrue ((reach_of l.tree).whole);
-  within : l.place + length l.footprints ≤ length l.batch.requests;
-  going : IsGoingOn g.G.Gate.ran l.time l.batch.requests l.place (length l.footprints) within (at_home l.fn.tree) l.fn.ordinal l.fn.replies l.footprints l.done (at_home l.tree) l.ordinal l.replies;
+  within : l.place + l.count ≤ length l.batch.requests;
+  going : IsGoingOn g.G.Gate.ran l.time l.batch.requests l.place l.count within (at_home l.fn.tree) l.fn.ordinal l.fn.replies l.done (at_home l.tree) l.ordinal l.replies;
 }

@@ -1,12 +1,12 @@
--- A request that may touch any inode spells RENAME or STATFS, and is run by no gate.
-use Rattle.std.proofs.Common.{◌≡◌, ℕ, ◌+◌, true, true≢false, List, [], ◌∷◌, Option, Some, None, Result, Ok, Err, refl, sym, ◌∙◌}
+-- A request that may touch any inode spells RENAME or STATFS.
+use Rattle.std.proofs.Common.{◌≡◌, ℕ, true, true≢false, List, Option, Some, None, Result, Ok, Err, refl, sym}
 use Rattle.bfs_model.specs.Tree.{Time, Inodes}
 use Rattle.bfs_model.specs.Call.{Request, Refusal, call_of}
 use Rattle.bfs_model.specs.Context.{Context}
 use Rattle.bfs_model.specs.Arguments.{Call, null, get_attributes, set_attributes, root, look_up, read_link, read, write_cache, write, create, remove, rename, make_link, make_symbolic_link, make_directory, remove_directory, read_directory, file_system_status, arguments_of}
 use Rattle.bfs_model.specs.Footprints.{footprint, footprint_of, footprint_of_arguments, footprint_of_call}
 use Rattle.bfs_model.specs.Conflicts.{is_whole}
-use Rattle.bfs_parallel.specs.Ran.{AllRan, is_of_all, are_of_all, is_read_as_of_all}
+use Rattle.bfs_workers.specs.Alone.{are_of_all, is_alone, is_of_all, is_read_as_of_all}
 
 of_all : (m : Inodes) (c : Context) (call : Call) → is_whole (footprint m c call) ≡ true → is_of_all call ≡ true
 of_all m c null is = absurd (true≢false (sym is))
@@ -36,12 +36,5 @@ call_of_all : (m : Inodes) (o : ℕ) (t : Time) (call : Result Request Refusal) 
 call_of_all m o t (Err refusal) is = absurd (true≢false (sym is))
 call_of_all m o t (Ok request) is = arguments_of_all m o t request (arguments_of request.procedure request.arguments) is
 
--- what a gate promises of every reply holds of these
-pub ran_unwatched : (ran : ℕ → List ℕ → Type 0) → ((number : ℕ) (reply : List ℕ) → ran number reply) → (number : ℕ) (requests replies : List (List ℕ)) → AllRan ran number requests replies
-ran_unwatched ran all number [] replies = tt
-ran_unwatched ran all number (request ∷ requests) [] = tt
-ran_unwatched ran all number (request ∷ requests) (reply ∷ replies) = ((λ _. all number reply), ran_unwatched ran all (number + 1) requests replies)
-
--- so no gate runs it
-pub ran_alone : (ran : ℕ → List ℕ → Type 0) (m : Inodes) (o : ℕ) (t : Time) (number : ℕ) (request reply : List ℕ) → is_whole (footprint_of m o t request) ≡ true → AllRan ran number (request ∷ []) (reply ∷ [])
-ran_alone ran m o t number request reply is = ((λ not_alone. absurd (true≢false (sym (call_of_all m o t (call_of request) is) ∙ not_alone))), tt)
+pub alone : (m : Inodes) (o : ℕ) (t : Time) (request : List ℕ) → is_whole (footprint_of m o t request) ≡ true → is_alone request ≡ true
+alone m o t request is = call_of_all m o t (call_of request) is

@@ -1,9 +1,9 @@
--- One hand is taken out before the others are run.
+-- One list is taken out before the others are run.
 use Rattle.std.proofs.Common.{◌+◌, ◌*◌, length}
-use Rattle.bfs_workers.proofs.split.+hands.Given as goal
+use Rattle.bfs_workers.proofs.split.+lists.Given as goal
 
-abbrev pub decreases-run_hands : goal.decreases-run_hands
-decreases-run_hands g l = 3 * length l.hands.items
+abbrev pub decreases-run_lists : goal.decreases-run_lists
+decreases-run_lists g l = 3 * length l.lists.items
 
 abbrev pub decreases-run_both : goal.decreases-run_both
 decreases-run_both g l = 3 * length l.others.items + 2

@@ -1,0 +1,18 @@
+-- What READ and READDIR give, before it is spelled, as replies of the model.
+use Rattle.std.specs.Prelude.{Result, Ok, Err}
+use Rattle.bfs_model.specs.Replies as model
+use Rattle.bfs_inode.specs.Pages.{Page}
+use Rattle.bfs_procs.specs.declared.data.Contents.{Contents}
+use Rattle.bfs_wire.specs.declared.status.Status.{Status}
+use Rattle.bfs_wire.specs.Replies.{status_seen}
+
+abbrev pub contents_seen : Contents → model.Reply
+contents_seen contents = model.contents contents.attributes contents.bytes.now
+
+abbrev pub page_seen : Page → model.Reply
+page_seen page = model.listed page.listed page.all
+
+-- what was found, or the status of a refusal
+abbrev pub found_or_refused : {Found : Type 0} → (seen : Found → model.Reply) → Result Found Status → model.Reply
+found_or_refused seen (Ok found) = seen found
+found_or_refused seen (Err status) = model.refused (status_seen status)

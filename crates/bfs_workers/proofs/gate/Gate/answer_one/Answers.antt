@@ -1,0 +1,24 @@
+-- What is split off alone, run and brought home is what the request gives on the whole tree.
+use Rattle.std.proofs.Common.{sym, ◌∙◌}
+use Rattle.bfs_workers.proofs.Ones.{answered_one, can_one, found_one, out_one}
+use Rattle.bfs_workers.proofs.gate.Gate.answer_one.Goals as goal
+
+pub split_one-requires-clause-footprint : goal.split_one-requires-clause-footprint
+split_one-requires-clause-footprint g c =
+    found_one g.Self.Gate.ran c.args.tree.now c.args.ordinal c.args.time c.args.batch.now.requests c.args.place c.requires.formed c.requires.within c.request-request.result.now c.touch_of-footprint.result.footprint c.request-request.ensures
+    c.touch_of-footprint.ensures.footprint
+
+pub split_one-requires-clause-number : goal.split_one-requires-clause-number
+split_one-requires-clause-number g c =
+    can_one g.Self.Gate.ran c.args.tree.now c.args.ordinal c.args.time c.args.batch.now.requests c.args.place c.requires.formed c.requires.within c.request-request.result.now c.touch_of-footprint.result.footprint c.request-request.ensures
+    c.touch_of-footprint.ensures.footprint (sym c.is_whole.ensures ∙ c.if-is_whole.false)
+
+pub merge_one-requires : goal.merge_one-requires
+merge_one-requires g c =
+    out_one g.Self.Gate.ran c.args.tree.now c.args.ordinal c.args.time c.args.batch.now.requests c.args.place c.requires.formed c.requires.within c.request-request.result.now c.touch_of-footprint.result.footprint c.request-request.ensures
+    c.touch_of-footprint.ensures.footprint c.split_one.new.tree c.in_ok-job.job c.in_ok-done.done c.in_ok-job.ensures.split c.in_ok-done.ensures
+
+pub returns : goal.returns
+returns g c =
+    answered_one g.Self.Gate.ran c.args.tree.now c.args.ordinal c.args.time c.args.batch.now.requests c.args.place c.requires.formed c.requires.within c.request-request.result.now c.touch_of-footprint.result.footprint c.request-request.ensures
+    c.touch_of-footprint.ensures.footprint c.split_one.new.tree c.in_ok-job.job c.in_ok-done.done c.in_ok-job.ensures.split c.in_ok-done.ensures c.merge_one.new.tree c.merge_one.result c.merge_one.ensures
