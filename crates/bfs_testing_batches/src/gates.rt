@@ -1,4 +1,4 @@
-//! Gates that hold jobs back until others have come so far, or that count them.
+//! Gates that ask for threads: some hold jobs back until others have come so far, or count them.
 ghost use Rattle.std.specs.Prelude.{⊤};
 
 use bfs_handover::{Done, Job, run_job};
@@ -8,6 +8,18 @@ use bfs_types::Memory;
 use bfs_workers::Gate;
 use std::alloc::Global;
 use std::sync::atomic::{AtomicU64, Ordering};
+
+/// Runs jobs, and asks for threads however short they are.
+#[derive(Clone, Copy, Debug)]
+pub struct AsksForThreads;
+
+impl Gate for AsksForThreads {
+    ghost ran = { λ _ _. ⊤ };
+
+    fn run(&self, alloc: Global, tree: &Tree, job: Job<'_>) -> Result<Done, Memory> {
+        run_job(alloc, tree, job)
+    }
+}
 
 /// Holds the job of one number back until those of others have their results.
 #[derive(Drop)]

@@ -11,7 +11,6 @@ use std::alloc::Global;
 use std::process::Abort;
 use std::test::Fail;
 
-// so many that the batches are short, of which several runs get threads
 const FILES: u32 = 9;
 
 fn push(alloc: Global, batch: &mut Batch, xid: u32, asked: Asked) -> Result<(), Fail> {
@@ -63,8 +62,7 @@ fn executes_as_many_requests_as_there_are(rt: HostRuntime) -> Result<(), Fail> {
     Ok(())
 }
 
-// so many bytes that each engine plans the whole batch, and starts threads for it where there are workers enough; and then a file is read
-// so often that the READs get threads
+// so many bytes that each engine plans the whole batch, and starts threads for it where there are workers enough, whatever the gate asks for
 #[test]
 fn executes_much_to_write_and_to_read_as_one_after_another(rt: HostRuntime) -> Result<(), Fail> {
     let alloc = rt.alloc();

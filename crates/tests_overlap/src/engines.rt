@@ -76,7 +76,7 @@ fn third_of_three_writes_ends_before_another(rt: HostRuntime) -> Result<(), Fail
     Ok(())
 }
 
-// READs that together ask for more than 4 MiB get threads, though nothing is written
+// where the gate asks, READs get threads too, though nothing is written
 #[test]
 fn much_to_read_overlaps(rt: HostRuntime) -> Result<(), Fail> {
     let batch = large_reads(rt.alloc(), 520)?;

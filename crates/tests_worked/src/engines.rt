@@ -4,8 +4,9 @@ use bfs_serial::{Batch, ExecError, FileSystem, Replies, execute_serial};
 use bfs_testing::asserts::compared;
 use bfs_testing::steps::Step;
 use bfs_testing::words::same_bytes;
+use bfs_testing_batches::gates::AsksForThreads;
 use bfs_types::Time;
-use bfs_workers::{NoGate, Workers};
+use bfs_workers::Workers;
 use std::alloc::{AllocGlobal, Global};
 use std::sync::Wait;
 use std::test::Fail;
@@ -39,7 +40,15 @@ impl Executor {
         match self.engine {
             None => execute_serial(alloc, files, batch),
             Some(engine) => {
-                execute_parallel(rt, alloc, files, batch, self.workers, engine, &NoGate)
+                execute_parallel(
+                    rt,
+                    alloc,
+                    files,
+                    batch,
+                    self.workers,
+                    engine,
+                    &AsksForThreads,
+                )
             }
         }
     }
