@@ -21,16 +21,24 @@ impl Gate for AsksForThreads {
     }
 }
 
-/// Holds the job of one number back until that of another one has its result.
+/// Holds the job of one number back until those of others have their results.
 #[derive(Drop)]
-pub struct OneAfterOther {
+pub struct OneAfterOthers {
     pub one: u32,
-    pub other: u32,
-    /// Of one.
+    pub others: &'static [u32],
+    /// Of the others.
     pub done: Meeting,
 }
 
-impl Gate for OneAfterOther {
+impl OneAfterOthers {
+    /// Where none of them is done.
+    pub fn new(one: u32, others: &'static [u32]) -> OneAfterOthers {
+        let done = Meeting::of(others.len() as u64);
+        OneAfterOthers { one, others, done }
+    }
+}
+
+impl Gate for OneAfterOthers {
     ghost ran = { λ _ _. ⊤ };
 
     fn run(&self, alloc: Global, tree: &Tree, job: Job<'_>) -> Result<Done, Memory> {
@@ -39,7 +47,7 @@ impl Gate for OneAfterOther {
             self.done.wait();
         }
         let done = run_job(alloc, tree, job)?;
-        if number == self.other {
+        if self.others.contains(&number) {
             self.done.come();
         }
         Ok(done)

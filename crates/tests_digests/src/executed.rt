@@ -4,13 +4,16 @@ use bfs_replay::{Engine, execute_and_digest};
 use bfs_serial::{Batch, FileSystem, Replies, execute_serial};
 use bfs_testing::numbers::{CREATE, GETATTR};
 use bfs_testing::texts::{NEARLY_SPENT, NEW, SOME};
-use bfs_testing::words::{A, B, ROOT, UNSET, call, put_parts, spelled, spells};
+use bfs_testing::words::{A, B, ROOT, UNSET, call, put_parts, same_bytes, spelled, spells};
 use bfs_testing::{holds, same};
+use bfs_testing_batches::gates::AsksForThreads;
 use bfs_types::{Memory, Time};
-use bfs_workers::{NoGate, Workers};
+use bfs_workers::Workers;
 use std::alloc::Global;
 use std::process::Abort;
+use std::sync::Wait;
 use std::test::Fail;
+use std::thread::Threads;
 
 fn restored(alloc: Global, text: &str) -> Result<FileSystem, Fail> {
     Ok(restore(alloc, hex::decode(alloc, text)?.as_slice())?)
@@ -48,37 +51,73 @@ fn is_reply(replies: &Replies, place: usize, wanted: &[u8]) -> bool {
     place < replies.len() && replies.get(place) == wanted
 }
 
+// by an engine with so many workers, or one request after another
+fn executed<R: Threads + Wait + Sync>(
+    rt: &R,
+    alloc: Global,
+    files: &mut FileSystem,
+    batch: &Batch,
+    by: Option<(Engine, u32)>,
+) -> Result<Replies, Fail> {
+    let Some((engine, count)) = by else {
+        return Ok(execute_serial(alloc, files, batch)?);
+    };
+    let workers = Workers::new(count).ok_or("workers")?;
+    let answered = execute_and_digest(rt, alloc, files, batch, workers, engine, &AsksForThreads)?;
+    same_bytes(
+        alloc,
+        answered.1.as_slice(),
+        digest_serial(files)?.as_slice(),
+    )?;
+    Ok(answered.0)
+}
+
+static BY: &[Option<(Engine, u32)>] = &[
+    None,
+    Some((Engine::Runs, 1)),
+    Some((Engine::Runs, 2)),
+    Some((Engine::Runs, 7)),
+    Some((Engine::Levels, 1)),
+    Some((Engine::Levels, 2)),
+    Some((Engine::Levels, 7)),
+];
+
+const LAST: u32 = 4_294_967_295;
+
+// the words of the replies to the batch at the last ordinal: that of the second CREATE is spent
+static AT_THE_LAST: &[&[&[u32]]] = &[
+    &[
+        &[1, 1, 0, 0, 0, 0, 0],
+        &[0x42465332, 1, LAST, 0, 0, 0, 0, 0],
+        &[
+            1, 0x81a4, 1, 65534, 65534, 0, 4096, 0, 0, 1, LAST, 7, 0, 7, 0, 7, 0,
+        ],
+    ],
+    &[&[2, 1, 0, 0, 0, 0, 28]],
+    &[
+        &[3, 1, 0, 0, 0, 0, 0],
+        &[2, 0x41ed, 2, 0, 0, 96, 4096, 0, 1, 1, 2, 0, 0, 7, 0, 7, 0],
+    ],
+];
+
 #[test]
 fn goes_on_where_ordinals_end(rt: HostRuntime) -> Result<(), Fail> {
     let alloc = rt.alloc();
-    let mut files = restored(alloc, NEARLY_SPENT)?;
-    let replies = execute_serial(alloc, &mut files, &batch_at(alloc, 7)?)?;
-    let last = 4_294_967_295;
-    let made = spelled(
-        alloc,
-        &[
-            &[1, 1, 0, 0, 0, 0, 0],
-            &[0x42465332, 1, last, 0, 0, 0, 0, 0],
-            &[
-                1, 0x81a4, 1, 65534, 65534, 0, 4096, 0, 0, 1, last, 7, 0, 7, 0, 7, 0,
-            ],
-        ],
-    )?;
-    holds!(rt; is_reply(&replies, 0, made.as_slice()));
-    let spent = spelled(alloc, &[&[2, 1, 0, 0, 0, 0, 28]])?;
-    holds!(rt; is_reply(&replies, 1, spent.as_slice()));
-    let root = spelled(
-        alloc,
-        &[
-            &[3, 1, 0, 0, 0, 0, 0],
-            &[2, 0x41ed, 2, 0, 0, 96, 4096, 0, 1, 1, 2, 0, 0, 7, 0, 7, 0],
-        ],
-    )?;
-    holds!(rt; is_reply(&replies, 2, root.as_slice()));
-    same!(rt; files.next_ordinal(), Some(4_294_967_296));
-    // a spent ordinal is stored too
-    let again = restore(alloc, snapshot(alloc, &files)?.as_slice())?;
-    holds!(rt; digest_serial(&again)? == digest_serial(&files)?);
+    let batch = batch_at(alloc, 7)?;
+    for by in BY {
+        let mut files = restored(alloc, NEARLY_SPENT)?;
+        let replies = executed(&rt, alloc, &mut files, &batch, *by)?;
+        same!(rt; replies.len(), 3);
+        let mut place = 0;
+        for wanted in AT_THE_LAST {
+            holds!(rt; is_reply(&replies, place, spelled(alloc, wanted)?.as_slice()));
+            place = usize::saturating_add(place, 1);
+        }
+        same!(rt; files.next_ordinal(), Some(4_294_967_296));
+        // a spent ordinal is stored too
+        let again = restore(alloc, snapshot(alloc, &files)?.as_slice())?;
+        holds!(rt; digest_serial(&again)? == digest_serial(&files)?);
+    }
     Ok(())
 }
 
@@ -108,16 +147,10 @@ fn executes_the_same_where_it_was_restored(rt: HostRuntime) -> Result<(), Fail> 
 fn digests_what_its_workers_leave(rt: HostRuntime) -> Result<(), Fail> {
     let alloc = rt.alloc();
     let batch = batch_at(alloc, 1)?;
-    for engine in [Engine::Runs, Engine::Levels] {
-        for count in [1, 2, 7] {
-            let workers = Workers::new(count).ok_or("workers")?;
-            let mut files = FileSystem::new(alloc)?;
-            let answered = execute_and_digest(
-                &rt, alloc, &mut files, &batch, workers, engine, &NoGate,
-            )?;
-            spells(alloc, answered.1.as_slice(), AFTER_DIGEST)?;
-            is_told(alloc, &files, AFTER, AFTER_DIGEST)?;
-        }
+    for by in BY {
+        let mut files = FileSystem::new(alloc)?;
+        executed(&rt, alloc, &mut files, &batch, *by)?;
+        is_told(alloc, &files, AFTER, AFTER_DIGEST)?;
     }
     Ok(())
 }

@@ -12,8 +12,9 @@ use bfs_testing::steps::Step;
 use bfs_testing::words::{
     A, B, C, D, E, EIGHTH, F, FIFTH, FOURTH, G, L, ROOT, SEVENTH, SIXTH, THIRD, UNSET,
 };
+use bfs_testing_batches::gates::AsksForThreads;
 use bfs_types::{FileId, Time};
-use bfs_workers::{NoGate, Workers};
+use bfs_workers::Workers;
 use std::alloc::Global;
 use std::process::Abort;
 use std::test::Fail;
@@ -182,7 +183,15 @@ fn goes_with_an_inode_to_a_worker(rt: HostRuntime) -> Result<(), Fail> {
     for engine in [Engine::Runs, Engine::Levels] {
         let mut files = made(alloc)?;
         refresh(&rt, alloc, &mut files)?;
-        execute_and_digest(&rt, alloc, &mut files, &batch, workers, engine, &NoGate)?;
+        execute_and_digest(
+            &rt,
+            alloc,
+            &mut files,
+            &batch,
+            workers,
+            engine,
+            &AsksForThreads,
+        )?;
         is_kept_but(&rt, alloc, &files, &[5])?;
     }
     Ok(())

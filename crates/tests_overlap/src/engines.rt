@@ -5,7 +5,7 @@ use bfs_testing::asked::Asked;
 use bfs_testing::meetings::Meeting;
 use bfs_testing::{holds, same};
 use bfs_testing_batches::batches::{batch_of, creates, large_reads, same_replies, writes};
-use bfs_testing_batches::gates::{AllAtOnce, Counts, OneAfterOther};
+use bfs_testing_batches::gates::{AllAtOnce, Counts, OneAfterOthers};
 use bfs_workers::{Gate, Workers};
 use std::alloc::AllocGlobal;
 use std::sync::Wait;
@@ -36,21 +36,16 @@ fn overlaps<R: Threads + Wait + AllocGlobal + Sync, G: Gate + Sync>(
     Ok(replies)
 }
 
-// that the request of one number ends after that of another
+// whether one request can end after others
 fn ends_after<R: Threads + Wait + AllocGlobal + Sync>(
     rt: &R,
     engine: Engine,
+    workers: u32,
     files: u32,
     batch: &Batch,
-    one: u32,
-    other: u32,
+    gate: OneAfterOthers,
 ) -> Result<bool, Fail> {
-    let gate = OneAfterOther {
-        one,
-        other,
-        done: Meeting::of(1),
-    };
-    overlaps(rt, engine, 2, files, batch, &gate)?;
+    overlaps(rt, engine, workers, files, batch, &gate)?;
     Ok(gate.done.took_place())
 }
 
@@ -58,12 +53,12 @@ fn ends_after<R: Threads + Wait + AllocGlobal + Sync>(
 fn second_of_two_writes_ends_first(rt: HostRuntime) -> Result<(), Fail> {
     let batch = writes(rt.alloc(), 2)?;
     for engine in ENGINES {
-        holds!(rt; ends_after(&rt, *engine, 2, &batch, 0, 1)?);
+        holds!(rt; ends_after(&rt, *engine, 2, 2, &batch, OneAfterOthers::new(0, &[1]))?);
     }
     Ok(())
 }
 
-// two WRITEs to one file and one to another: the last two are a run, and the first and the last a level
+// two WRITEs to one file and one to another: the last two are a run, the first and the last a level
 static WRITES: &[Asked] = &[
     Asked::Write { file: 3, value: 1 },
     Asked::Write { file: 3, value: 2 },
@@ -73,9 +68,11 @@ static WRITES: &[Asked] = &[
 #[test]
 fn third_of_three_writes_ends_before_another(rt: HostRuntime) -> Result<(), Fail> {
     let batch = batch_of(rt.alloc(), 2, WRITES)?;
-    holds!(rt; ends_after(&rt, Engine::Runs, 2, &batch, 1, 2)?);
-    holds!(rt; ends_after(&rt, Engine::Levels, 2, &batch, 1, 2)?);
-    holds!(rt; ends_after(&rt, Engine::Levels, 2, &batch, 0, 2)?);
+    for engine in ENGINES {
+        holds!(rt; ends_after(&rt, *engine, 2, 2, &batch, OneAfterOthers::new(1, &[2]))?);
+    }
+    // it overtakes the second too, which has to wait for the first
+    holds!(rt; ends_after(&rt, Engine::Levels, 2, 2, &batch, OneAfterOthers::new(0, &[2]))?);
     Ok(())
 }
 
@@ -84,7 +81,7 @@ fn third_of_three_writes_ends_before_another(rt: HostRuntime) -> Result<(), Fail
 fn much_to_read_overlaps(rt: HostRuntime) -> Result<(), Fail> {
     let batch = large_reads(rt.alloc(), 520)?;
     for engine in ENGINES {
-        holds!(rt; ends_after(&rt, *engine, 1, &batch, 0, 519)?);
+        holds!(rt; ends_after(&rt, *engine, 3, 1, &batch, OneAfterOthers::new(0, &[519]))?);
     }
     Ok(())
 }

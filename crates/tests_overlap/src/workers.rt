@@ -1,8 +1,8 @@
 //! That jobs overlap: each test has a gate that holds a job back until another has come so far.
-use crate::jobs::{WAYS, calls, each_once, results_of};
+use crate::jobs::{WAYS, Way, calls, each_once, results_of};
 use bfs_testing::holds;
 use bfs_testing::meetings::Meeting;
-use bfs_testing_batches::gates::{AllAtOnce, OneAfterOther};
+use bfs_testing_batches::gates::{AllAtOnce, OneAfterOthers};
 use std::test::Fail;
 
 #[test]
@@ -10,16 +10,23 @@ fn second_of_two_jobs_ends_first(rt: HostRuntime) -> Result<(), Fail> {
     let alloc = rt.alloc();
     let requests = calls(alloc, 2)?;
     for way in WAYS {
-        let gate = OneAfterOther {
-            one: 0,
-            other: 1,
-            done: Meeting::of(1),
-        };
+        let gate = OneAfterOthers::new(0, &[1]);
         let dones = results_of(&rt, alloc, *way, 2, requests.as_slice(), &gate)?;
         holds!(rt; gate.done.took_place());
         each_once(alloc, dones.as_slice(), 2)?;
     }
     Ok(())
+}
+
+// job 2 would be dealt to the worker that is held back
+#[test]
+fn a_worker_takes_the_next_job_from_the_queue(rt: HostRuntime) -> Result<(), Fail> {
+    let alloc = rt.alloc();
+    let requests = calls(alloc, 3)?;
+    let gate = OneAfterOthers::new(0, &[1, 2]);
+    let dones = results_of(&rt, alloc, Way::Queued, 2, requests.as_slice(), &gate)?;
+    holds!(rt; gate.done.took_place());
+    each_once(alloc, dones.as_slice(), 3)
 }
 
 #[test]

@@ -3,8 +3,6 @@
 //! What is printed was put together by hand, from the layouts of RFC 5531 section 9 and RFC 1094 section 2.3, and from what each call does;
 //! the digests are those of another implementation.
 use bfs_replay::{Engine, Workers, default_population, parse_trace, run_trace};
-use bfs_testing::holds;
-use std::alloc::Global;
 use std::sync::Wait;
 use std::test::Fail;
 use std::thread::Threads;
@@ -101,57 +99,5 @@ fn prints_the_same_by_each_engine(rt: HostRuntime) -> Result<(), Fail> {
     for (text, wanted) in WORKED.iter() {
         assert!(rt; prints(&rt, text.as_bytes(), wanted.as_bytes())?, "{text}");
     }
-    Ok(())
-}
-
-// the digest then, by another implementation
-const DIGEST_OF_FILES: &str =
-    "digest 0 a977cc137d0491461a74e1ec3c5e2fa3baf09ac317e55cb09416bbf415fa80d0\n";
-
-// how many files one batch makes, and the next one writes to
-const FILES: u32 = 1_024;
-
-// files made by one batch, and a byte written to each of them by the next
-fn calls_on_files(alloc: Global) -> Result<String, Fail> {
-    let mut text = String::from_str(alloc, "batch 1.000000\n")?;
-    for number in 1..=FILES {
-        let line = format!(in alloc; "0 {number} create #2 f{number} - - - - - -\n")?;
-        text.push_str(line.as_str())?;
-    }
-    text.push_str("batch 2.000000\n")?;
-    for number in 1..=FILES {
-        let file = number.saturating_add(2);
-        let line = format!(in alloc; "0 {number} write #{file} 0 x61\n")?;
-        text.push_str(line.as_str())?;
-    }
-    Ok(text)
-}
-
-// what these calls print: of CREATE the handle and the attributes of an empty file, of WRITE the attributes of a file with a byte
-fn lines_of_files(alloc: Global) -> Result<String, Fail> {
-    let mut text = String::new(alloc);
-    for number in 1..=FILES {
-        let file = number.saturating_add(2);
-        let line = format!(in alloc;
-            "c0 t{number} {number:08x}0000000100000000000000000000000000000000000000004246533200000001{file:08x}000000000000000000000000000000000000000000000001000081a400000001000003e8000000640000000000001000000000000000000000000001{file:08x}000000010000000000000001000000000000000100000000\n"
-        )?;
-        text.push_str(line.as_str())?;
-    }
-    for number in 1..=FILES {
-        let file = number.saturating_add(2);
-        let line = format!(in alloc;
-            "c0 t{number} {number:08x}00000001000000000000000000000000000000000000000000000001000081a400000001000003e8000000640000000100001000000000000000000100000001{file:08x}000000010000000000000002000000000000000200000000\n"
-        )?;
-        text.push_str(line.as_str())?;
-    }
-    text.push_str(DIGEST_OF_FILES)?;
-    Ok(text)
-}
-
-#[test]
-fn writes_to_many_files_at_one_time(rt: HostRuntime) -> Result<(), Fail> {
-    let text = calls_on_files(rt.alloc())?;
-    let wanted = lines_of_files(rt.alloc())?;
-    holds!(rt; prints(&rt, text.as_bytes(), wanted.as_bytes())?);
     Ok(())
 }
