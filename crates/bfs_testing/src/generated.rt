@@ -3,7 +3,7 @@ use crate::numbers::{
     CREATE, GETATTR, LINK, LOOKUP, MKDIR, READ, READDIR, READLINK, REMOVE, RENAME, RMDIR, SETATTR,
     STATFS, SYMLINK, WRITE,
 };
-use crate::words::{A, B, C, D, DOT, DOT_DOT, E, F, NO_NAME, UNSET, call, put_parts};
+use crate::words::{A, B, C, D, DOT, DOT_DOT, E, F, NO_NAME, SIZE_OF_ONE, UNSET, call, put_parts};
 use bfs_types::Memory;
 use std::alloc::Global;
 
@@ -48,7 +48,7 @@ impl Generator {
             STATFS => self.put_dir(bytes),
             SETATTR => {
                 self.put_file(bytes)?;
-                put_parts(bytes, &[UNSET])
+                put_parts(bytes, &[SIZE_OF_ONE])
             }
             LOOKUP | REMOVE | RMDIR => self.put_named(bytes),
             READ => {
@@ -58,7 +58,7 @@ impl Generator {
             WRITE => {
                 self.put_file(bytes)?;
                 let offset = self.next() % 8;
-                put_parts(bytes, &[&[0, offset, 0, 1, 0x61000000]])
+                put_parts(bytes, &[&[0, offset, 0, 1, 0x61000000 + (offset << 24)]])
             }
             CREATE | MKDIR => {
                 self.put_named(bytes)?;

@@ -20,6 +20,11 @@ pub const UNSET: &[u32] = &[
     0xffffffff, 0xffffffff, 0xffffffff, 0xffffffff, 0xffffffff, 0xffffffff, 0xffffffff, 0xffffffff,
 ];
 
+/// The words of settings that set the size alone, to a byte.
+pub const SIZE_OF_ONE: &[u32] = &[
+    0xffffffff, 0xffffffff, 0xffffffff, 1, 0xffffffff, 0xffffffff, 0xffffffff, 0xffffffff,
+];
+
 /// The words of the root's file handle, and of those of the first files that are made.
 pub const ROOT: &[u32] = &[0x42465332, 1, 2, 0, 0, 0, 0, 0];
 

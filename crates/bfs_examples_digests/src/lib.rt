@@ -1,9 +1,0 @@
-//! Texts and digests of file systems, as tests whose expected values come from another implementation.
-#![tactic(auto)]
-
-#[cfg(test)]
-mod executed;
-#[cfg(test)]
-mod hostile;
-#[cfg(test)]
-mod texts;

@@ -1,5 +1,0 @@
-//! Texts of file systems that are not well formed, as tests.
-#![tactic(auto)]
-
-#[cfg(test)]
-mod formed;

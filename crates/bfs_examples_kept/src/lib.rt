@@ -1,5 +1,0 @@
-//! Digests that inodes keep, as tests.
-#![tactic(auto)]
-
-#[cfg(test)]
-mod kept;

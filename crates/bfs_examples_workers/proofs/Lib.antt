@@ -1,3 +1,0 @@
-pub mod Nothing
-pub mod Out
-pub mod Parts

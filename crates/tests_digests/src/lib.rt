@@ -1,0 +1,7 @@
+//! What is executed on file systems that were restored, and the digests that inodes keep, as tests.
+#![tactic(auto)]
+
+#[cfg(test)]
+mod executed;
+#[cfg(test)]
+mod kept;

@@ -1,0 +1,15 @@
+//! The command line, traces and their verbs, and runs of traces, as tests whose expected values come from outside.
+#![tactic(auto)]
+
+#[cfg(test)]
+mod command_line;
+#[cfg(test)]
+mod engines;
+#[cfg(test)]
+mod input;
+#[cfg(test)]
+mod output;
+#[cfg(test)]
+mod traces;
+#[cfg(test)]
+mod verbs;

@@ -1,0 +1,20 @@
+//! Procedures and batches, one request after another, as tests whose expected values come from outside: the standards' own
+//! tables, and bytes that were written by hand.
+#![tactic(auto)]
+
+#[cfg(test)]
+mod answers;
+#[cfg(test)]
+mod batches;
+#[cfg(test)]
+mod fresh;
+#[cfg(test)]
+mod limits;
+#[cfg(test)]
+mod parts;
+#[cfg(test)]
+mod refusals;
+#[cfg(test)]
+mod session;
+#[cfg(test)]
+mod steps;

@@ -1,0 +1,9 @@
+//! Texts and digests of file systems, as tests whose expected values come from another implementation.
+#![tactic(auto)]
+
+#[cfg(test)]
+mod formed;
+#[cfg(test)]
+mod hostile;
+#[cfg(test)]
+mod texts;

@@ -1,0 +1,112 @@
+//! Texts of file systems and their digests.
+use bfs_digest::{RestoreError, digest_parallel, digest_serial, restore, snapshot};
+use bfs_serial::{ExecError, FileSystem};
+use bfs_testing::texts::{NEW, SOME};
+use bfs_testing::words::spells;
+use bfs_testing::{holds, same};
+use std::alloc::Global;
+use std::process::Abort;
+use std::test::Fail;
+use std::thread::Threads;
+
+const NEW_DIGEST: &str = "be27e39566f317750eebee1ffd539c1e05bb6276147755f12c9fc1c293bb36b4";
+
+const SOME_DIGEST: &str = "709b67f9148510d579111eefe972e554475c95431df3de76860ec8124f791b06";
+
+pub(crate) fn bytes_of(alloc: Global, text: &str) -> Result<Vec<u8>, Fail> {
+    Ok(hex::decode(alloc, text)?)
+}
+
+/// The number of the refusal, or 0 where the text is restored.
+pub(crate) fn refusal(alloc: Global, text: &[u8]) -> u32 {
+    match restore(alloc, text) {
+        Ok(_) => 0,
+        Err(error) => error.code(),
+    }
+}
+
+// both digests, and the text again, are the given ones
+fn is_told(
+    rt: &(impl Threads + Sync),
+    alloc: Global,
+    files: &FileSystem,
+    text: &str,
+    digest: &str,
+) -> Result<(), Fail> {
+    spells(alloc, snapshot(alloc, files)?.as_slice(), text)?;
+    spells(alloc, digest_serial(files)?.as_slice(), digest)?;
+    spells(alloc, digest_parallel(rt, alloc, files)?.as_slice(), digest)
+}
+
+#[test]
+fn tells_a_new_file_system(rt: HostRuntime) -> Result<(), Fail> {
+    let alloc = rt.alloc();
+    let files = FileSystem::new(alloc)?;
+    is_told(&rt, alloc, &files, NEW, NEW_DIGEST)
+}
+
+#[test]
+fn restores_what_a_text_spells(rt: HostRuntime) -> Result<(), Fail> {
+    let alloc = rt.alloc();
+    let files = restore(alloc, bytes_of(alloc, NEW)?.as_slice())?;
+    same!(rt; files.next_ordinal(), Some(3));
+    is_told(&rt, alloc, &files, NEW, NEW_DIGEST)?;
+    let files = restore(alloc, bytes_of(alloc, SOME)?.as_slice())?;
+    holds!(rt; files.is_live());
+    same!(rt; files.next_ordinal(), Some(9));
+    is_told(&rt, alloc, &files, SOME, SOME_DIGEST)
+}
+
+#[test]
+fn tells_nothing_of_one_that_has_failed(rt: HostRuntime) -> Result<(), Fail> {
+    let alloc = rt.alloc();
+    let mut files = FileSystem::new(alloc)?;
+    holds!(rt; files.take_parts().is_some());
+    holds!(rt; snapshot(alloc, &files).err() == Some(ExecError::Failed));
+    holds!(rt; digest_serial(&files).err() == Some(ExecError::Failed));
+    holds!(rt; digest_parallel(&rt, alloc, &files).err() == Some(ExecError::Failed));
+    Ok(())
+}
+
+#[test]
+fn refuses_a_text_cut_short(rt: HostRuntime) -> Result<(), Fail> {
+    let alloc = rt.alloc();
+    for text in [NEW, SOME] {
+        let bytes = bytes_of(alloc, text)?;
+        for length in 0..bytes.len() {
+            same!(rt; refusal(alloc, &bytes.as_slice()[..length]), 20);
+        }
+        let mut longer = bytes;
+        longer.push(0)?;
+        same!(rt; refusal(alloc, longer.as_slice()), 20);
+    }
+    Ok(())
+}
+
+// whether a byte that is changed makes another file system, or none
+fn is_other(alloc: Global, changed: &[u8], digest: [u8; 32]) -> bool {
+    match restore(alloc, changed) {
+        Ok(files) => match digest_serial(&files) {
+            Ok(other) => other.as_slice() != digest.as_slice(),
+            Err(_) => false,
+        },
+        Err(error) => error != RestoreError::Memory,
+    }
+}
+
+#[test]
+fn tells_each_changed_byte(rt: HostRuntime) -> Result<(), Fail> {
+    let alloc = rt.alloc();
+    for text in [NEW, SOME] {
+        let bytes = bytes_of(alloc, text)?;
+        let digest = digest_serial(&restore(alloc, bytes.as_slice())?)?;
+        for place in 0..bytes.len() {
+            for bit in [0x01, 0x10, 0x80] {
+                let mut changed = bytes.clone()?;
+                changed.as_mut_slice()[place] ^= bit;
+                holds!(rt; is_other(alloc, changed.as_slice(), digest));
+            }
+        }
+    }
+    Ok(())
+}
