@@ -1,13 +1,14 @@
 -- Calls and refusals of the code as those of the model, and the numbers of refusals.
 use Rattle.std.specs.Prelude.{ℕ}
 use Rattle.bfs_model.specs.Call as model
+use Rattle.bfs_types.specs.Procedures.{number_of}
 use Rattle.bfs_rpc.specs.declared.call.Call.{Call}
 use Rattle.bfs_rpc.specs.declared.call.Header.{Header}
 use Rattle.bfs_rpc.specs.declared.reject.Reject.{Reject}
 use Rattle.bfs_rpc.specs.declared.reject.Reject.TheVariants.{Silent, RpcMismatch, BadCred, ProgUnavail, ProgMismatch, ProcUnavail}
 
 abbrev pub request_seen : Call → model.Request
-request_seen call = record { xid = call.xid; procedure = call.proc; credential = call.cred; arguments = call.args.now }
+request_seen call = record { xid = call.xid; procedure = number_of call.proc; credential = call.cred; arguments = call.args.now }
 
 abbrev pub header_seen : Header → model.Header
 header_seen h = record { xid = h.xid; rpc_version = h.rpc_version; program = h.program; program_version = h.program_version; procedure = h.procedure; flavor = h.flavor; body = h.body.now; arguments = h.arguments.now }

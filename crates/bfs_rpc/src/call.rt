@@ -6,7 +6,7 @@ ghost use Rattle.bfs_rpc.specs.Calls.{header_seen, request_seen, refusal_seen};
 
 use crate::cred::cred_of;
 use crate::reject::Reject;
-use bfs_types::Cred;
+use bfs_types::{Cred, Procedure};
 use bfs_xdr::Reader;
 
 /// A call of a procedure of NFS version 2 (RFC 5531 section 9, call_body).
@@ -14,8 +14,8 @@ use bfs_xdr::Reader;
 pub struct Call<'a> {
     /// The number by which the caller tells the reply to this call from others.
     pub xid: u32,
-    /// The number of the procedure, from 0 to 17 (RFC 1094 section 2.2).
-    pub proc: u32,
+    /// The procedure (RFC 1094 section 2.2).
+    pub proc: Procedure,
     /// The caller.
     pub cred: Cred,
     /// The bytes of the procedure's arguments.
@@ -43,9 +43,6 @@ const NFS_PROGRAM: u32 = 100_003;
 
 const NFS_VERSION: u32 = 2;
 
-// STATFS (RFC 1094 section 2.2.18)
-const LAST_PROCEDURE: u32 = 17;
-
 // the most bytes of a credential's or a verifier's body (RFC 5531 section 8.2, opaque_auth)
 const MAX_AUTH_BYTES: u32 = 400;
 
@@ -67,21 +64,13 @@ pub fn parse_call(bytes: &[u8]) -> Result<Call<'_>, Reject>
     if header.program_version != NFS_VERSION {
         return Err(Reject::ProgMismatch(xid));
     }
-    if !is_procedure(header.procedure) {
-        return Err(Reject::ProcUnavail(xid));
-    }
+    let proc = Procedure::new(header.procedure).ok_or(Reject::ProcUnavail(xid))?;
     Ok(Call {
         xid,
-        proc: header.procedure,
+        proc,
         cred,
         args: header.arguments,
     })
-}
-
-fn is_procedure(procedure: u32) -> bool
-    ensures { result ≡ model.is_procedure procedure }
-{
-    procedure <= LAST_PROCEDURE
 }
 
 #[tactic(auto, unfolding(bfs_model::specs::Call::header_of))]

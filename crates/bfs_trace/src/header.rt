@@ -1,8 +1,9 @@
 ghost use Rattle.std.specs.Prelude.{◌≡◌, ◌<◌, ◌≤◌, ◌++◌, length, IfOk, OnOk};
 ghost use Rattle.bfs_model.specs.Limits.{most_clients};
+ghost use Rattle.bfs_types.specs.Procedures.{number_of};
 ghost use Rattle.bfs_trace.specs.Messages.{call_header, credential_body};
 
-use bfs_types::Memory;
+use bfs_types::{Memory, Procedure};
 use bfs_xdr::{put_opaque, put_u32, put_words};
 use std::alloc::Global;
 
@@ -44,11 +45,11 @@ pub(crate) fn put_header(
     alloc: Global,
     client: u32,
     timestamp: u64,
-    procedure: u32,
+    procedure: Procedure,
     out: &mut Vec<u8>,
 ) -> Result<(), Memory>
     requires { client < most_clients }
-    ensures { OnOk result (out.new.items ≡ out.old.items ++ call_header client timestamp procedure) }
+    ensures { OnOk result (out.new.items ≡ out.old.items ++ call_header client timestamp (number_of procedure)) }
 {
     let credential = write_credential(alloc, client)?;
     let xid = (timestamp % 4_294_967_296) as u32;
@@ -60,7 +61,7 @@ pub(crate) fn put_header(
             RPC_VERSION,
             NFS_PROGRAM,
             NFS_VERSION,
-            procedure,
+            procedure.number(),
             AUTH_SYS,
         ],
     )?;

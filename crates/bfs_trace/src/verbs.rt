@@ -1,5 +1,7 @@
 // The verbs of a request, and the words behind them.
 ghost use Rattle.std.specs.Prelude.{◌≡◌};
+ghost use Rattle.std.specs.Option.{option_map};
+ghost use Rattle.bfs_types.specs.Procedures.{number_of};
 ghost use Rattle.bfs_trace.specs.Reading.{AppendsCall};
 ghost use Rattle.bfs_trace.specs.Verbs.{call_in_words, procedure_named};
 
@@ -13,6 +15,7 @@ mod status;
 
 use crate::fault::Fault;
 use crate::words::Words;
+use bfs_types::Procedure;
 use attributes::{get_attributes, set_attributes};
 use data::{read, read_link, write};
 use making::{create, link, make_directory, make_symbolic_link};
@@ -22,47 +25,47 @@ use renaming::rename;
 use status::file_system_status;
 use std::alloc::Global;
 
-/// The number of the procedure that a verb names (RFC 1094 section 2.2).
+/// The procedure that a verb names (RFC 1094 section 2.2).
 #[tactic(auto, unfolding(crate::specs::Verbs::procedure_named))]
-pub(crate) fn procedure_named(verb: &[u8]) -> Option<u32>
-    ensures { result ≡ procedure_named verb.now }
+pub(crate) fn procedure_named(verb: &[u8]) -> Option<Procedure>
+    ensures { option_map number_of result ≡ procedure_named verb.now }
 {
     let procedure = if verb == b"null".as_slice() {
-        0
+        Procedure::Null
     } else if verb == b"getattr".as_slice() {
-        1
+        Procedure::GetAttr
     } else if verb == b"setattr".as_slice() {
-        2
+        Procedure::SetAttr
     } else if verb == b"root".as_slice() {
-        3
+        Procedure::Root
     } else if verb == b"lookup".as_slice() {
-        4
+        Procedure::LookUp
     } else if verb == b"readlink".as_slice() {
-        5
+        Procedure::ReadLink
     } else if verb == b"read".as_slice() {
-        6
+        Procedure::Read
     } else if verb == b"writecache".as_slice() {
-        7
+        Procedure::WriteCache
     } else if verb == b"write".as_slice() {
-        8
+        Procedure::Write
     } else if verb == b"create".as_slice() {
-        9
+        Procedure::Create
     } else if verb == b"remove".as_slice() {
-        10
+        Procedure::Remove
     } else if verb == b"rename".as_slice() {
-        11
+        Procedure::Rename
     } else if verb == b"link".as_slice() {
-        12
+        Procedure::Link
     } else if verb == b"symlink".as_slice() {
-        13
+        Procedure::SymbolicLink
     } else if verb == b"mkdir".as_slice() {
-        14
+        Procedure::MakeDirectory
     } else if verb == b"rmdir".as_slice() {
-        15
+        Procedure::RemoveDirectory
     } else if verb == b"readdir".as_slice() {
-        16
+        Procedure::ReadDirectory
     } else if verb == b"statfs".as_slice() {
-        17
+        Procedure::FileSystemStatus
     } else {
         return None;
     };
@@ -73,31 +76,30 @@ pub(crate) fn procedure_named(verb: &[u8]) -> Option<u32>
 #[tactic(auto, unfolding(crate::specs::Verbs::call_in_words, crate::specs::Messages::arguments))]
 pub(crate) fn put_arguments(
     alloc: Global,
-    procedure: u32,
+    procedure: Procedure,
     words: &mut Words<'_>,
     out: &mut Vec<u8>,
 ) -> Result<(), Fault>
-    ensures { AppendsCall result out.old.items out.new.items (call_in_words procedure words.old) }
+    ensures { AppendsCall result out.old.items out.new.items (call_in_words (number_of procedure) words.old) }
 {
     match procedure {
-        0 => words.end(),
-        1 => get_attributes(words, out),
-        2 => set_attributes(words, out),
-        3 => words.end(),
-        4 => look_up(alloc, words, out),
-        5 => read_link(words, out),
-        6 => read(words, out),
-        7 => words.end(),
-        8 => write(words, out),
-        9 => create(alloc, words, out),
-        10 => remove(alloc, words, out),
-        11 => rename(alloc, words, out),
-        12 => link(alloc, words, out),
-        13 => make_symbolic_link(alloc, words, out),
-        14 => make_directory(alloc, words, out),
-        15 => remove_directory(alloc, words, out),
-        16 => read_directory(words, out),
-        17 => file_system_status(words, out),
-        _ => Err(Fault::Bad),
+        Procedure::Null => words.end(),
+        Procedure::GetAttr => get_attributes(words, out),
+        Procedure::SetAttr => set_attributes(words, out),
+        Procedure::Root => words.end(),
+        Procedure::LookUp => look_up(alloc, words, out),
+        Procedure::ReadLink => read_link(words, out),
+        Procedure::Read => read(words, out),
+        Procedure::WriteCache => words.end(),
+        Procedure::Write => write(words, out),
+        Procedure::Create => create(alloc, words, out),
+        Procedure::Remove => remove(alloc, words, out),
+        Procedure::Rename => rename(alloc, words, out),
+        Procedure::Link => link(alloc, words, out),
+        Procedure::SymbolicLink => make_symbolic_link(alloc, words, out),
+        Procedure::MakeDirectory => make_directory(alloc, words, out),
+        Procedure::RemoveDirectory => remove_directory(alloc, words, out),
+        Procedure::ReadDirectory => read_directory(words, out),
+        Procedure::FileSystemStatus => file_system_status(words, out),
     }
 }

@@ -4,10 +4,11 @@ use Rattle.std.specs.Prelude.{⊤, ◌==◌, IsTrue}
 use Rattle.std.specs.Option.{option_and_then}
 use Rattle.std.specs.BTreeMap.{BTreeMap, btree_map_len, IsOrdered}
 use Rattle.std.specs.Ordering.{nat_cmp, eq_by_cmp}
-use Rattle.std.specs.FinMap.{FinMap, contains_key, get, insert, remove, len, get-remove, empty, get-empty, len-empty, same_map, nat_cmp-IsAntisymmetric}
+use Rattle.std.specs.FinMap.{FinMap, contains_key, get, insert, remove, len, get-insert, get-remove, empty, get-empty, len-empty, same_map, nat_cmp-IsAntisymmetric}
 use Rattle.std.proofs.lemmas.Cmp.{nat_cmp_total}
 use Rattle.std.proofs.lemmas.Option.{none-some}
 use Rattle.std.proofs.lemmas.Map.Views.{tells_apart}
+use Rattle.bfs_model.proofs.WellFormed.Sums.{itself}
 use Rattle.bfs_model.specs.Tree.{Inode}
 use Rattle.bfs_tree.specs.declared.slots.Slot.{Slot}
 use Rattle.bfs_tree.specs.declared.slots.Slot.TheVariants.{Home, Free, Lent}
@@ -53,6 +54,9 @@ has_place s k (Some slot) is loan = ap is_some is
 pub loan_has_place : (s : Slots) (k : ℕ) → IsTrue (contains_key (lent s) k) → IsTrue (contains_key s k)
 loan_has_place s k loan = has_place s k (get s k) refl loan
 
+pub has_inserted : (s : Slots) (k : ℕ) (slot : Slot) → IsTrue (contains_key (insert s k slot) k)
+has_inserted s k slot = ap is_some (get-insert nat_cmp_total s k slot k) ∙ ap (λ b. is_some (cond b (Some slot) (get s k))) (itself k)
+
 pub home_insert : (s : Slots) (k : ℕ) (x : Inode) → at_home (insert s k (Home x)) ≡ insert (at_home s) k x
 home_insert s k x = picked-insert inode_in s k (Home x) x refl
 
@@ -76,6 +80,13 @@ lent_free s k = picked-none loan_in s k Free refl
 
 pub lent_remove : (s : Slots) (k : ℕ) → lent (remove s k) ≡ remove (lent s) k
 lent_remove s k = picked-remove loan_in s k
+
+-- what is reserved, what leaves, and what comes home
+pub ruleset reserving = (home_free, lent_free, no_home_at, no_loan_at, remove_absent, has_inserted)
+
+pub ruleset leaving = (home_at, no_home_at, home_lent, lent_lent)
+
+pub ruleset coming = (home_insert, home_remove, lent_insert, lent_remove)
 
 -- the reach stays where what is changed is not lent out
 pub reach_insert : (s : Slots) (k : ℕ) (x : Inode) → IsTrue ((reach_of s).owned k) → reach_of (insert s k (Home x)) ≡ reach_of s

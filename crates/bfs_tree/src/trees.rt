@@ -1,7 +1,8 @@
 ghost use Rattle.std.specs.Prelude.{◌≡◌, IfOk, OnOk, OnErr, IsTrue};
 ghost use Rattle.std.specs.Option.{option_copied};
-ghost use Rattle.std.specs.FinMap.{contains_key, empty, entries, get, insert, keys};
+ghost use Rattle.std.specs.FinMap.{contains_key, empty, entries, get, insert, keys, remove};
 ghost use Rattle.std.specs.List.Sorted.{IsStrictlyIncreasing};
+ghost use Rattle.bfs_model.specs.Conflicts.{set_at};
 ghost use Rattle.bfs_model.specs.Tree.{Inodes, new_tree};
 ghost use Rattle.bfs_model.specs.Procedures.Status.{used_blocks};
 ghost use Rattle.bfs_tree.specs.Reach.{Reach};
@@ -73,8 +74,12 @@ impl Tree {
 
     /// Makes a place for what may come to a fileid, so that it can be lent out though no inode has it. `Memory` if memory runs out;
     /// then nothing changes.
+    #[tactic(auto, using(crate::proofs::SlotLemmas::reserving))]
     pub fn reserve(&mut self, id: FileId) -> Result<(), Memory>
         ensures ok { OnOk result (self.new ≡ reserved self.old id) }
+        ensures place { OnOk result (IsTrue (contains_key self.new id)) }
+        ensures home { at_home self.new ≡ at_home self.old }
+        ensures out { lent self.new ≡ lent self.old }
         ensures err { OnErr result (self.new ≡ self.old) }
     {
         if self.places.get(id).is_some() {
@@ -87,23 +92,27 @@ impl Tree {
     }
 
     /// Takes the inode of a fileid out of its place, or `None` if no inode has it, until it is brought home. It takes no memory.
-    #[tactic(auto, using(crate::proofs::SlotLemmas::home_at, crate::proofs::SlotLemmas::no_home_at))]
+    #[tactic(auto, using(crate::proofs::SlotLemmas::leaving))]
     pub fn lend_out(&mut self, id: FileId) -> Option<BoxedInode>
         requires place { IsTrue (contains_key self.old id) }
         requires home { IsTrue ((reach_of self.old).owned id) }
         ensures value { result ≡ get (at_home self.old) id }
         ensures lent { self.new ≡ insert self.old id slot.Lent }
+        ensures home { at_home self.new ≡ remove (at_home self.old) id }
+        ensures out { lent self.new ≡ insert (lent self.old) id tt }
     {
         self.places.replace(id, Slot::Lent)?.into_boxed()
     }
 
     /// Takes the inode of a fileid out of the tree, or `None` if no inode has it, until it is brought home: what `reserve` and `lend_out` do
     /// one after the other, by one look-up. `Memory` if memory runs out; then nothing changes.
-    #[tactic(auto, using(crate::proofs::SlotLemmas::home_at, crate::proofs::SlotLemmas::no_home_at))]
+    #[tactic(auto, using(crate::proofs::SlotLemmas::leaving))]
     pub fn lend(&mut self, id: FileId) -> Result<Option<BoxedInode>, Memory>
         requires home { IsTrue ((reach_of self.old).owned id) }
         ensures value { IfOk result (λ inode. inode ≡ get (at_home self.old) id) }
         ensures lent { OnOk result (self.new ≡ insert self.old id slot.Lent) }
+        ensures home { OnOk result (at_home self.new ≡ remove (at_home self.old) id) }
+        ensures out { OnOk result (lent self.new ≡ insert (lent self.old) id tt) }
         ensures err { OnErr result (self.new ≡ self.old) }
     {
         match self.places.insert(id, Slot::Lent) {
@@ -114,10 +123,12 @@ impl Tree {
     }
 
     /// Puts an inode back in the place that was lent out. `None` says that no inode has the fileid from then on. It takes no memory.
-    #[tactic(auto, using(crate::proofs::SlotLemmas::loan_has_place))]
+    #[tactic(auto, using(crate::proofs::SlotLemmas::loan_has_place, crate::proofs::SlotLemmas::coming))]
     pub fn bring_home(&mut self, id: FileId, inode: Option<BoxedInode>)
         requires { IsTrue (contains_key (lent self.old) id) }
-        ensures { self.new ≡ brought self.old id inode }
+        ensures brought { self.new ≡ brought self.old id inode }
+        ensures home { at_home self.new ≡ set_at (at_home self.old) id inode }
+        ensures out { lent self.new ≡ remove (lent self.old) id }
     {
         match inode {
             Some(inode) => {

@@ -10,6 +10,7 @@ mod file_id;
 mod limits;
 mod memory;
 mod ordinal;
+mod procedure;
 mod settings;
 mod time;
 
@@ -25,5 +26,6 @@ pub use limits::{
 };
 pub use memory::Memory;
 pub use ordinal::Ordinal;
+pub use procedure::Procedure;
 pub use settings::{SetTime, Settings};
 pub use time::Time;

@@ -2,6 +2,7 @@ ghost use Rattle.std.specs.Prelude.{◌≡◌, None, IfOk, IfSome, if◌then◌e
 ghost use Rattle.std.specs.Option.{option_map};
 ghost use Rattle.std.specs.Result.{result_ok};
 ghost use Rattle.bfs_model.specs.Arguments as model;
+ghost use Rattle.bfs_types.specs.Procedures.{number_of};
 ghost use Rattle.bfs_wire.specs.Calls.{call_seen, IsReadAs};
 ghost use Rattle.bfs_model.specs.Short.{IsShort};
 
@@ -14,7 +15,7 @@ use crate::arguments::removing::{remove, remove_directory};
 use crate::arguments::renaming::rename;
 use crate::arguments::status::file_system_status;
 use crate::garbage::GarbageArgs;
-use bfs_types::{FileId, Settings};
+use bfs_types::{FileId, Procedure, Settings};
 
 /// A procedure with its arguments (RFC 1094 section 2.2). A file handle stands as the fileid that it leads to, or as `None` if
 /// it is no handle of this file system. Names, paths and file bytes are borrowed from the request.
@@ -110,12 +111,11 @@ pub enum NfsCall<'a> {
     },
 }
 
-/// The call of a procedure, by its number in RFC 1094 section 2.2, with the arguments that the bytes spell. The bytes of the
-/// padding may have any value. `GarbageArgs` if there is no such procedure, if the bytes don't spell its arguments, or if
-/// further bytes follow.
+/// The call of a procedure (RFC 1094 section 2.2) with the arguments that the bytes spell. The bytes of the padding may have
+/// any value. `GarbageArgs` if the bytes don't spell its arguments, or if further bytes follow.
 #[tactic(auto, unfolding(bfs_model::specs::Arguments::arguments_of))]
-pub fn parse_args(procedure: u32, args: &[u8]) -> Result<NfsCall<'_>, GarbageArgs>
-    ensures value { option_map call_seen (result_ok result) ≡ model.arguments_of procedure args.now }
+pub fn parse_args(procedure: Procedure, args: &[u8]) -> Result<NfsCall<'_>, GarbageArgs>
+    ensures value { option_map call_seen (result_ok result) ≡ model.arguments_of (number_of procedure) args.now }
     ensures short { IfOk result (λ call. IsShort (call_seen call)) }
 {
     let mut arguments = Arguments::new(args);
@@ -130,28 +130,27 @@ pub fn parse_args(procedure: u32, args: &[u8]) -> Result<NfsCall<'_>, GarbageArg
 
 // a procedure's arguments
 #[tactic(auto, unfolding(bfs_model::specs::Arguments::fields_at))]
-fn fields<'a>(procedure: u32, arguments: &mut Arguments<'a>) -> Option<NfsCall<'a>>
-    ensures { IsReadAs (model.fields_at procedure arguments.old) result arguments.new }
+fn fields<'a>(procedure: Procedure, arguments: &mut Arguments<'a>) -> Option<NfsCall<'a>>
+    ensures { IsReadAs (model.fields_at (number_of procedure) arguments.old) result arguments.new }
 {
     match procedure {
-        0 => Some(NfsCall::Null),
-        1 => get_attributes(arguments),
-        2 => set_attributes(arguments),
-        3 => Some(NfsCall::Root),
-        4 => look_up(arguments),
-        5 => read_link(arguments),
-        6 => read(arguments),
-        7 => Some(NfsCall::WriteCache),
-        8 => write(arguments),
-        9 => create(arguments),
-        10 => remove(arguments),
-        11 => rename(arguments),
-        12 => link(arguments),
-        13 => make_symbolic_link(arguments),
-        14 => make_directory(arguments),
-        15 => remove_directory(arguments),
-        16 => read_directory(arguments),
-        17 => file_system_status(arguments),
-        _ => None,
+        Procedure::Null => Some(NfsCall::Null),
+        Procedure::GetAttr => get_attributes(arguments),
+        Procedure::SetAttr => set_attributes(arguments),
+        Procedure::Root => Some(NfsCall::Root),
+        Procedure::LookUp => look_up(arguments),
+        Procedure::ReadLink => read_link(arguments),
+        Procedure::Read => read(arguments),
+        Procedure::WriteCache => Some(NfsCall::WriteCache),
+        Procedure::Write => write(arguments),
+        Procedure::Create => create(arguments),
+        Procedure::Remove => remove(arguments),
+        Procedure::Rename => rename(arguments),
+        Procedure::Link => link(arguments),
+        Procedure::SymbolicLink => make_symbolic_link(arguments),
+        Procedure::MakeDirectory => make_directory(arguments),
+        Procedure::RemoveDirectory => remove_directory(arguments),
+        Procedure::ReadDirectory => read_directory(arguments),
+        Procedure::FileSystemStatus => file_system_status(arguments),
     }
 }

@@ -5,7 +5,7 @@ use bfs_testing::numbers::{
 };
 use bfs_testing::words::{ROOT, THIRD, spelled};
 use bfs_testing::{holds, numbers, same};
-use bfs_types::{FileId, SetTime, Settings};
+use bfs_types::{FileId, Procedure, SetTime, Settings};
 use bfs_wire::{GarbageArgs, NfsCall, parse_args};
 use std::alloc::Global;
 use std::process::Abort;
@@ -42,6 +42,12 @@ fn third() -> Option<FileId> {
     Some(FileId::new(3))
 }
 
+// of a procedure's number
+fn call_of(procedure: u32, arguments: &[u8]) -> Result<NfsCall<'_>, GarbageArgs> {
+    let procedure = Procedure::new(procedure).ok_or(GarbageArgs)?;
+    parse_args(procedure, arguments)
+}
+
 // the words of a call's arguments
 fn reads(
     rt: &impl Abort,
@@ -51,7 +57,7 @@ fn reads(
     call: &NfsCall,
 ) -> Result<(), Fail> {
     let bytes = spelled(alloc, words)?;
-    match parse_args(procedure, bytes.as_slice()) {
+    match call_of(procedure, bytes.as_slice()) {
         Ok(given) => holds!(rt; given == *call),
         Err(_) => assert!(rt; false, "the arguments of procedure {procedure}"),
     }
@@ -175,7 +181,7 @@ static GOOD: &[(u32, &[&[u32]])] = &[
 ];
 
 fn is_garbage(procedure: u32, bytes: &[u8]) -> bool {
-    parse_args(procedure, bytes) == Err(GarbageArgs)
+    call_of(procedure, bytes) == Err(GarbageArgs)
 }
 
 // all of the words, and neither fewer bytes nor one more
@@ -186,7 +192,7 @@ fn reads_all_alone(
     words: &[&[u32]],
 ) -> Result<(), Fail> {
     let mut bytes = spelled(alloc, words)?;
-    let whole = parse_args(procedure, bytes.as_slice()).is_ok();
+    let whole = call_of(procedure, bytes.as_slice()).is_ok();
     same!(rt; (procedure, whole), (procedure, true));
     for length in 0..bytes.len() {
         let cut = is_garbage(procedure, &bytes[..length]);

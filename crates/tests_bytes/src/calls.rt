@@ -2,7 +2,7 @@
 use bfs_rpc::{Reject, parse_call, put_success, write_garbage, write_reject, write_success};
 use bfs_testing::words::{ROOT_REQUEST, spelled, spells};
 use bfs_testing::{holds, same};
-use bfs_types::{FileId, Memory};
+use bfs_types::{FileId, Memory, Procedure};
 use bfs_wire::{
     GarbageArgs, NfsCall, NfsReply, Status, handle_bytes, handle_id, parse_args, put_reply,
     write_reply,
@@ -15,7 +15,7 @@ fn reads_a_call(rt: HostRuntime) -> Result<(), Fail> {
     let request = hex::decode(rt.alloc(), ROOT_REQUEST)?;
     match parse_call(request.as_slice()) {
         Ok(call) => {
-            same!(rt; (call.xid, call.proc), (1, 1));
+            same!(rt; (call.xid, call.proc), (1, Procedure::GetAttr));
             same!(rt; (call.cred.uid, call.cred.gid), (65534, 65534));
             holds!(rt; is_getattr_of_root(call.proc, call.args));
             same!(rt; handle_id(call.args), Some(FileId::root()));
@@ -25,16 +25,23 @@ fn reads_a_call(rt: HostRuntime) -> Result<(), Fail> {
     Ok(())
 }
 
-fn is_getattr_of_root(procedure: u32, arguments: &[u8]) -> bool {
+fn is_getattr_of_root(procedure: Procedure, arguments: &[u8]) -> bool {
     let file = Some(FileId::root());
     parse_args(procedure, arguments) == Ok(NfsCall::GetAttr { file })
+}
+
+#[test]
+fn numbers_are_those_of_procedures(rt: HostRuntime) {
+    same!(rt; Procedure::new(8), Some(Procedure::Write));
+    same!(rt; Procedure::FileSystemStatus.number(), 17);
+    same!(rt; Procedure::new(18), None);
 }
 
 #[test]
 fn reads_handles(rt: HostRuntime) {
     let third = FileId::new(3);
     same!(rt; handle_id(handle_bytes(third).as_slice()), Some(third));
-    holds!(rt; parse_args(1, &[]) == Err(GarbageArgs));
+    holds!(rt; parse_args(Procedure::GetAttr, &[]) == Err(GarbageArgs));
     holds!(rt; matches!(parse_call(&[]), Err(Reject::Silent)));
 }
 

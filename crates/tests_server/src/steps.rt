@@ -14,7 +14,7 @@ use bfs_testing::asserts::compared;
 use bfs_testing::steps::Step;
 use bfs_testing::words::{same_bytes, spelled};
 use bfs_tree::{Store, Tree};
-use bfs_types::{Memory, Ordinal, Time};
+use bfs_types::{Memory, Ordinal, Procedure, Time};
 use bfs_wire::{NfsCall, NfsReply, parse_args, write_reply};
 use std::alloc::Global;
 use std::test::Fail;
@@ -109,7 +109,8 @@ fn run_words(alloc: Global, tree: &mut Tree, ordinal: Ordinal, step: &Step) -> R
     }
     let Step(procedure, arguments, _) = step;
     let arguments = spelled(alloc, arguments)?;
-    match parse_args(*procedure, arguments.as_slice()) {
+    let named = Procedure::new(*procedure).ok_or(Fail::new("a procedure"))?;
+    match parse_args(named, arguments.as_slice()) {
         Ok(call) => {
             let time = Time::new(1, 0).unwrap_or(Time::epoch());
             let reply = run_whole(alloc, tree, ordinal, time, &NOBODY, &call)?;
