@@ -15,8 +15,8 @@ mod status;
 
 use crate::fault::Fault;
 use crate::words::Words;
-use bfs_types::Procedure;
 use attributes::{get_attributes, set_attributes};
+use bfs_types::Procedure;
 use data::{read, read_link, write};
 use making::{create, link, make_directory, make_symbolic_link};
 use names::{look_up, read_directory};
