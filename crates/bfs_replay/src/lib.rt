@@ -3,10 +3,8 @@
 
 mod command_line;
 mod digests;
-mod executor;
 mod failure;
 mod input;
-mod replicas;
 mod replies;
 mod run;
 mod usage;
@@ -17,6 +15,5 @@ pub use bfs_workers::Workers;
 pub use command_line::options;
 pub use failure::Failure;
 pub use input::{MOST_TRACE_BYTES, read_input};
-pub use replicas::execute_and_digest;
 pub use run::{Outcome, ReplayError, run_trace};
 pub use usage::{Options, UsageError};

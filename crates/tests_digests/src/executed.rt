@@ -1,6 +1,6 @@
 //! File systems that are restored, and then executed on.
 use bfs_digest::{digest_serial, refresh, restore, snapshot};
-use bfs_replay::{Engine, execute_and_digest};
+use bfs_executor::{Engine, Executor};
 use bfs_serial::{Batch, FileSystem, Replies, execute_serial};
 use bfs_testing::numbers::{CREATE, GETATTR};
 use bfs_testing::texts::{NEARLY_SPENT, NEW, SOME};
@@ -112,9 +112,10 @@ fn digests_what_its_workers_leave(rt: HostRuntime) -> Result<(), Fail> {
         for count in [1, 2, 7] {
             let workers = Workers::new(count).ok_or("workers")?;
             let mut files = FileSystem::new(alloc)?;
-            let answered = execute_and_digest(
-                &rt, alloc, &mut files, &batch, workers, engine, &NoGate,
-            )?;
+            let engine = Some(engine);
+            let executor = Executor { workers, engine };
+            let answered =
+                executor.execute_and_digest(&rt, alloc, &mut files, &batch, &NoGate)?;
             spells(alloc, answered.1.as_slice(), AFTER_DIGEST)?;
             is_told(alloc, &files, AFTER, AFTER_DIGEST)?;
         }
