@@ -33,7 +33,7 @@ refusal_is part tree calls number place call held has at there waits is =
 pub refused_at : (part : Part) (tree : Slots) (calls : List Call) (m : Machine) (number place : ℕ) (call : Call) (held : Bool) → machine_seen part tree calls ≡ m
     → ◌≡◌ {A = Option ℕ} (cond (has_call m number) (Some (number - m.first)) None) (Some place) → call ≡ get_or calls place call → is_waiting (slot_seen call.state) ≡ true
     → is_held (take place (map standing_seen calls)) (footprint_seen call.footprint) ≡ held → take_refusal m number ≡ cond held (Some error.NotReady) None
-refused_at first o t batch tree calls m number place call held seen placed there waits is =
+refused_at part tree calls m number place call held seen placed there waits is =
     let s = machine_seen part tree calls in
     let found = has_place (has_call s number) (number - part.first) place (ap (λ n. cond (has_call n number) (Some (number - n.first)) None) seen ∙ placed) in
     let less : place < length (map standing_seen calls) = subst (λ k. k < length (map standing_seen calls)) found.1 (within s number found.0).1 in
