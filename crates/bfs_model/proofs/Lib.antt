@@ -30,6 +30,9 @@ pub mod ReplyForms
 pub mod ResultsAgain
 pub mod RepliesAgain
 pub mod ReplyFits
+pub mod ReplyBytes
+pub mod Exact
+pub mod Turns
 pub mod Live
 pub mod ReadingRows
 pub mod Pages

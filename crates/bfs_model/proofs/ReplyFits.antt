@@ -54,14 +54,15 @@ entries_fit [] are named = All-nil EntryIsSpellable
 entries_fit (entry ∷ entries) are named =
     All-cons EntryIsSpellable entry entries (record { child = are.0.child; name = named.1; cookie = are.0.cookie }) (entries_fit entries are.1 named.3)
 
-held_fit_by : (test : Bool) (entry : Entry) (entries : List Entry) → EntryIsSpellable entry → All EntryIsSpellable entries → All EntryIsSpellable (cond test (entry ∷ entries) [])
-held_fit_by true entry entries is are = All-cons EntryIsSpellable entry entries is are
-held_fit_by false entry entries is are = All-nil EntryIsSpellable
+held_by_test : (P : Entry → Type 0) (test : Bool) (entry : Entry) (entries : List Entry) → P entry → All P entries → All P (cond test (entry ∷ entries) [])
+held_by_test P true entry entries is are = All-cons P entry entries is are
+held_by_test P false entry entries is are = All-nil P
 
-held_fit : (room : ℕ) (entries : List Entry) → All EntryIsSpellable entries → All EntryIsSpellable (held_by room entries)
-held_fit room [] are = are
-held_fit room (entry ∷ entries) are =
-    held_fit_by (nat_le (listed_size entry) room) entry (held_by (room - listed_size entry) entries) (All-head EntryIsSpellable entry entries are) (held_fit (room - listed_size entry) entries (All-tail EntryIsSpellable entry entries are))
+-- what holds of all entries holds of those that a page holds
+pub all_held : (P : Entry → Type 0) (room : ℕ) (entries : List Entry) → All P entries → All P (held_by room entries)
+all_held P room [] are = are
+all_held P room (entry ∷ entries) are =
+    held_by_test P (nat_le (listed_size entry) room) entry (held_by (room - listed_size entry) entries) (All-head P entry entries are) (all_held P (room - listed_size entry) entries (All-tail P entry entries are))
 
 listing_fits : (links id : ℕ) (body : Body) (listing : Listing) → body ≡ directory listing → IsWord id → BodyIsStorable body → BodyIsLimited links body → All EntryIsSpellable (all_listed id listing)
 listing_fits links id (file bytes) listing holds is are limited = absurd cc
@@ -99,7 +100,7 @@ module _ (m : Inodes) (c : Context) where
   call_fits (read_directory handle cookie count) = λ dir found storable limited.
       let at = directory_at m handle dir found in
       let is = storable dir.id dir.inode at.there in
-      held_fit (min count most_data_bytes - 12) _ (All-filter (λ entry. nat_lt cookie entry.cookie) EntryIsSpellable (all_listed dir.id dir.listing) (listing_fits dir.inode.links dir.id dir.inode.body dir.listing at.holds is.fileid is.body (limited dir.id dir.inode at.there).body))
+      all_held EntryIsSpellable (min count most_data_bytes - 12) _ (All-filter (λ entry. nat_lt cookie entry.cookie) EntryIsSpellable (all_listed dir.id dir.listing) (listing_fits dir.inode.links dir.id dir.inode.body dir.listing at.holds is.fileid is.body (limited dir.id dir.inode at.there).body))
   call_fits (file_system_status handle) = λ x found storable limited. omega arith
 
   pub reply_fits : (call : Call) → AreStorable (procedure m c call).0 → AreLimited (procedure m c call).0 → FitsItems (procedure m c call).1

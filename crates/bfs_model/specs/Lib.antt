@@ -28,3 +28,4 @@ pub mod Groups
 pub mod Shares
 pub mod Events
 pub mod OvertakingLaw
+pub mod Formats

@@ -3,11 +3,9 @@
 
 mod command_line;
 mod digests;
-mod executor;
 mod failure;
 mod input;
 mod population;
-mod replicas;
 mod replies;
 mod run;
 mod usage;
@@ -21,6 +19,5 @@ pub use command_line::options;
 pub use failure::Failure;
 pub use input::{MOST_TRACE_BYTES, read_input};
 pub use population::default_population;
-pub use replicas::execute_and_digest;
 pub use run::{Outcome, ReplayError, run_trace};
 pub use usage::{Options, UsageError};

@@ -7,12 +7,12 @@ ghost use Rattle.bfs_replay.specs.Errors.{replay_error_code};
 ghost use Rattle.bfs_replay.specs.Output.{as_batch, block_output, digest_line, files_after, event_output, output_of};
 
 use crate::digests::print_digest;
-use crate::executor::Executor;
 use crate::replies::print_replies;
+use bfs_executor::Executor;
 use bfs_parallel::Engine;
 use bfs_serial::{Batch, ExecError, FileSystem, PushError};
 use bfs_trace::{Block, Trace, TraceEvent};
-use bfs_workers::Workers;
+use bfs_workers::{NoGate, Workers};
 use std::alloc::Global;
 use std::io::Write;
 use std::sync::Wait;
@@ -133,7 +133,7 @@ fn run_block<R: Threads + Wait + Sync, W: Write>(
     ensures fails { IfErr result (λ e. e ≢ ReplayError.Failed) }
 {
     let batch = make_batch(alloc, block)?;
-    match executor.execute(rt, alloc, files, &batch) {
+    match executor.execute(rt, alloc, files, &batch, &NoGate) {
         Ok(replies) => print_replies(alloc, block.requests(), &replies, writer),
         Err(ExecError::Memory) => Err(ReplayError::Memory),
         Err(ExecError::Failed) => Err(ReplayError::Failed),

@@ -3,3 +3,5 @@ pub mod Classes
 pub mod Errors
 pub mod Tables
 pub mod Texts
+pub mod TextReading
+pub mod Parsing

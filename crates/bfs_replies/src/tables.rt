@@ -1,9 +1,9 @@
-ghost use Rattle.std.specs.Prelude.{◌≡◌, ◌≤◌, ◌<◌, ◌++◌, ◌↔◌, ◌≢◌, length, replicate, None, IfOk, OnOk, OnErr, IsErrOf};
+ghost use Rattle.std.specs.Prelude.{◌≡◌, ◌≤◌, ◌<◌, ◌++◌, ◌↔◌, ◌≢◌, length, replicate, None, IfOk, IfSome, OnOk, OnErr, IsErrOf};
 ghost use Rattle.std.specs.Option.{option_map};
 ghost use Rattle.bfs_model.specs.Limits.{most_clients, most_reply_bytes};
 ghost use Rattle.bfs_replies.specs.Classes.{class_of};
 ghost use Rattle.bfs_replies.specs.Errors.{record_code_of};
-ghost use Rattle.bfs_replies.specs.Tables.{last_of, recorded};
+ghost use Rattle.bfs_replies.specs.Tables.{IsKept, last_of, recorded};
 ghost use Rattle.bfs_replies.specs.Texts.{table_text};
 
 use crate::texts::put_all;
@@ -63,28 +63,40 @@ impl Model for Last {
     ghost view = { λ last. record { timestamp = last.timestamp; reply = last.reply } };
 }
 
+impl Last {
+    /// With a copy of a reply. `Memory` if memory runs out.
+    pub(crate) fn new(alloc: Global, timestamp: u64, reply: &[u8]) -> Result<Last, Memory>
+        requires { length reply.now ≤ most_reply_bytes }
+        ensures { IfOk result (λ last. last ≡ record { timestamp = timestamp; reply = reply.now }) }
+    {
+        Ok(Last {
+            timestamp,
+            reply: Bytes::new(alloc, reply)?,
+        })
+    }
+}
+
 /// Of each client, by their numbers from 0 on, the timestamp of its last request that was executed, and the bytes of the reply to
 /// it, at most `MOST_REPLY_BYTES` (OSDI 1999 section 4.1). At most `MOST_CLIENTS` clients.
 #[derive(Debug, Drop)]
 pub struct ReplyTable {
-    alloc: Global,
-    clients: Vec<Option<Last>>,
+    pub(crate) alloc: Global,
+    pub(crate) clients: Vec<Option<Last>>,
 }
 
 impl Model for ReplyTable {
-    ghost use Rattle.std.specs.Prelude.{length, ◌≤◌};
-    ghost use Rattle.bfs_model.specs.Limits.{most_clients};
     ghost use Rattle.bfs_replies.specs.Tables as model;
 
     ghost Value = { model.Table };
 
     ghost view = { λ table. table.clients.items };
 
-    ghost invariant = { λ table. length table.clients.items ≤ most_clients };
+    ghost invariant = { λ table. model.IsKept table.clients.items };
 }
 
 impl ReplyTable {
     /// A table of so many clients, at most `MOST_CLIENTS`, with no replies. `Memory` if memory runs out.
+    #[tactic(auto, using(crate::proofs::Keeping::none_kept))]
     pub fn new(alloc: Global, clients: u32) -> Result<ReplyTable, Memory>
         requires { clients ≤ most_clients }
         ensures { IfOk result (λ table. table ≡ replicate clients None) }
@@ -95,10 +107,12 @@ impl ReplyTable {
         })
     }
 
-    /// How many clients there are: they have the numbers below.
+    /// How many clients there are: they have the numbers below. Every table keeps timestamps of 64 bits, and replies of at most
+    /// `MOST_REPLY_BYTES` bytes.
     pub fn clients(&self) -> u32
         ensures value { result ≡ length self.now }
         ensures within { result ≤ most_clients }
+        ensures kept { IsKept self.now }
     {
         self.clients.len() as u32
     }
@@ -125,7 +139,8 @@ impl ReplyTable {
     /// A client's last timestamp, with the reply to it; `None` where there is no reply to it yet, or no such client. It takes no
     /// memory.
     pub fn last(&self, client: u32) -> Option<(u64, &[u8])>
-        ensures { option_map (λ last. record { timestamp = last.0; reply = last.1.now }) result ≡ last_of self.now client }
+        ensures value { option_map (λ last. record { timestamp = last.0; reply = last.1.now }) result ≡ last_of self.now client }
+        ensures short { IfSome result (λ last. length last.1.now ≤ most_reply_bytes) }
     {
         match self.clients.get(client as usize) {
             Some(Some(last)) => Some((last.timestamp, last.reply.as_slice())),
@@ -134,6 +149,7 @@ impl ReplyTable {
     }
 
     /// Puts a copy of a reply in the place of the client's last one. It is refused unless `classify` answers `New`.
+    #[tactic(auto, using(crate::proofs::Keeping::recorded_kept))]
     pub fn record(&mut self, client: u32, timestamp: u64, reply: &[u8]) -> Result<(), RecordError>
         requires known { client < length self.old }
         requires short { length reply.now ≤ most_reply_bytes }
@@ -144,21 +160,27 @@ impl ReplyTable {
         if self.classify(client, timestamp) != Class::New {
             return Err(RecordError::NotNewer);
         }
-        let Ok(reply) = Bytes::new(self.alloc, reply) else {
+        let Ok(last) = Last::new(self.alloc, timestamp, reply) else {
             return Err(RecordError::Memory);
         };
-        self.clients[client as usize] = Some(Last { timestamp, reply });
+        self.clients[client as usize] = Some(last);
         Ok(())
     }
 
     /// Appends the text of the table: the number of clients, and of each whether a request of it was executed, followed by the timestamp of
-    /// its last one and the reply to it. `Memory` if memory runs out; what is there then begins with what was there.
+    /// its last one and the reply to it. `Memory` if memory runs out; then nothing is appended.
     #[tactic(auto, using(std::proofs::lemmas::List::append_assoc), unfolding(crate::specs::Texts::table_text))]
     pub fn put_text(&self, out: &mut Vec<u8>) -> Result<(), Memory>
-        ensures { OnOk result (out.new.items ≡ out.old.items ++ table_text self.now) }
+        ensures ok { OnOk result (out.new.items ≡ out.old.items ++ table_text self.now) }
+        ensures err { OnErr result (out.new.items ≡ out.old.items) }
     {
+        let before = out.len();
         put_u32(out, self.clients())?;
-        put_all(out, &self.clients)
+        if put_all(out, &self.clients).is_err() {
+            out.truncate(before);
+            return Err(Memory);
+        }
+        Ok(())
     }
 
     /// An equal table. `Memory` if memory runs out.
@@ -198,9 +220,9 @@ fn copy_of(alloc: Global, last: &Option<Last>) -> Result<Option<Last>, Memory>
 {
     match last {
         None => Ok(None),
-        Some(last) => Ok(Some(Last {
-            timestamp: last.timestamp,
-            reply: Bytes::new(alloc, last.reply.as_slice())?,
-        })),
+        Some(last) => {
+            let copy = Last::new(alloc, last.timestamp, last.reply.as_slice())?;
+            Ok(Some(copy))
+        }
     }
 }

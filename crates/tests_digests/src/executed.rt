@@ -1,6 +1,6 @@
 //! File systems that are restored, and then executed on.
 use bfs_digest::{digest_serial, refresh, restore, snapshot};
-use bfs_replay::{Engine, execute_and_digest};
+use bfs_executor::{Engine, Executor};
 use bfs_serial::{Batch, FileSystem, Replies, execute_serial};
 use bfs_testing::numbers::{CREATE, GETATTR};
 use bfs_testing::texts::{NEARLY_SPENT, NEW, SOME};
@@ -63,7 +63,9 @@ fn executed<R: Threads + Wait + Sync>(
         return Ok(execute_serial(alloc, files, batch)?);
     };
     let workers = Workers::new(count).ok_or("workers")?;
-    let answered = execute_and_digest(rt, alloc, files, batch, workers, engine, &AsksForThreads)?;
+    let engine = Some(engine);
+    let executor = Executor { workers, engine };
+    let answered = executor.execute_and_digest(rt, alloc, files, batch, &AsksForThreads)?;
     same_bytes(
         alloc,
         answered.1.as_slice(),

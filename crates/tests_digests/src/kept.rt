@@ -1,6 +1,6 @@
 //! Digests that inodes keep: which there are, that a change of an inode drops its own alone, and what the digest of the file system is then.
 use bfs_digest::{digest_parallel, digest_serial, refresh, restore, snapshot};
-use bfs_replay::{Engine, execute_and_digest};
+use bfs_executor::{Engine, Executor};
 use bfs_serial::{Batch, ExecError, FileSystem, execute_serial};
 use bfs_testing::asserts::compared;
 use bfs_testing::holds;
@@ -183,15 +183,9 @@ fn goes_with_an_inode_to_a_worker(rt: HostRuntime) -> Result<(), Fail> {
     for engine in [Engine::Runs, Engine::Levels] {
         let mut files = made(alloc)?;
         refresh(&rt, alloc, &mut files)?;
-        execute_and_digest(
-            &rt,
-            alloc,
-            &mut files,
-            &batch,
-            workers,
-            engine,
-            &AsksForThreads,
-        )?;
+        let engine = Some(engine);
+        let executor = Executor { workers, engine };
+        executor.execute_and_digest(&rt, alloc, &mut files, &batch, &AsksForThreads)?;
         is_kept_but(&rt, alloc, &files, &[5])?;
     }
     Ok(())

@@ -2,7 +2,7 @@
 ghost use Rattle.std.specs.Prelude.{◌≤◌, length};
 ghost use Rattle.bfs_model.specs.Limits.{most_reply_bytes};
 
-use bfs_replies::{Class, MOST_CLIENTS, RecordError, ReplyTable};
+use bfs_replies::{Class, MOST_CLIENTS, ReadError, RecordError, ReplyTable};
 use bfs_testing::words::{same_bytes, spells};
 use bfs_testing::{holds, same};
 use bfs_types::MOST_REPLY_BYTES;
@@ -62,6 +62,44 @@ fn a_table_has_a_text(rt: HostRuntime) -> Result<(), Fail> {
 }
 
 #[test]
+fn a_text_is_read_with_what_is_behind_it(rt: HostRuntime) -> Result<(), Fail> {
+    let alloc = rt.alloc();
+    let mut bytes = hex::decode(alloc, TEXT)?;
+    bytes.push(9)?;
+    let (table, rest) = ReplyTable::read(alloc, bytes.as_slice())?;
+    same_bytes(alloc, rest, &[9])?;
+    same!(rt; table.clients(), 3);
+    holds!(rt; table.last(0).is_none());
+    holds!(rt; table.last(2).is_none());
+    let (timestamp, reply) = table.last(1).ok_or("a reply")?;
+    same!(rt; timestamp, 5);
+    same_bytes(alloc, reply, b"abc")
+}
+
+#[test]
+fn other_bytes_spell_no_table(rt: HostRuntime) -> Result<(), Fail> {
+    let texts = [
+        // no number of clients, and one client more than there may be
+        "000000",
+        "00000401",
+        // a client without its boolean, or with a number in its place
+        "00000001",
+        "0000000100000002",
+        // half a timestamp, a reply that is too short, one that is too long, and padding that is not zeros
+        "000000010000000100000000",
+        "0000000100000001000000000000000500000004616263",
+        "0000000100000001000000000000000500004001",
+        "000000010000000100000000000000050000000361626301",
+    ];
+    for text in &texts {
+        let bytes = hex::decode(rt.alloc(), text)?;
+        let read = ReplyTable::read(rt.alloc(), bytes.as_slice());
+        holds!(rt; matches!(read, Err(ReadError::Malformed)));
+    }
+    Ok(())
+}
+
+#[test]
 fn replies_grow_to_the_most(rt: HostRuntime) -> Result<(), Fail> {
     let alloc = rt.alloc();
     let mut table = ReplyTable::new(alloc, MOST_CLIENTS)?;
@@ -96,4 +134,6 @@ fn length_of_last(table: &ReplyTable, client: u32) -> Option<usize> {
 fn refusals_have_numbers(rt: HostRuntime) {
     same!(rt; RecordError::NotNewer.code(), 33);
     same!(rt; RecordError::Memory.code(), 40);
+    same!(rt; ReadError::Malformed.code(), 20);
+    same!(rt; ReadError::Memory.code(), 40);
 }

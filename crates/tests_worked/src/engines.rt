@@ -1,6 +1,6 @@
 //! Batches of calls, each with the results that it is to get, executed by each engine.
-use bfs_parallel::{Engine, execute_parallel};
-use bfs_serial::{Batch, ExecError, FileSystem, Replies, execute_serial};
+use bfs_executor::{Engine, Executor};
+use bfs_serial::{Batch, FileSystem, Replies};
 use bfs_testing::asserts::compared;
 use bfs_testing::steps::Step;
 use bfs_testing::words::same_bytes;
@@ -17,41 +17,10 @@ pub(crate) static ENGINES: &[Option<Engine>] = &[None, Some(Engine::Runs), Some(
 
 static WORKERS: &[u32] = &[1, 2, 3, 8, 64];
 
-/// An engine with a number of workers.
-#[derive(Clone, Copy, Debug)]
-pub(crate) struct Executor {
-    engine: Option<Engine>,
-    workers: Workers,
-}
-
-impl Executor {
-    pub(crate) fn new(engine: Option<Engine>, workers: u32) -> Option<Executor> {
-        let workers = Workers::new(workers)?;
-        Some(Executor { engine, workers })
-    }
-
-    pub(crate) fn execute<R: Threads + Wait + Sync>(
-        &self,
-        rt: &R,
-        alloc: Global,
-        files: &mut FileSystem,
-        batch: &Batch,
-    ) -> Result<Replies, ExecError> {
-        match self.engine {
-            None => execute_serial(alloc, files, batch),
-            Some(engine) => {
-                execute_parallel(
-                    rt,
-                    alloc,
-                    files,
-                    batch,
-                    self.workers,
-                    engine,
-                    &AsksForThreads,
-                )
-            }
-        }
-    }
+/// An engine with a number of workers, if there may be so many.
+pub(crate) fn executor(engine: Option<Engine>, workers: u32) -> Option<Executor> {
+    let workers = Workers::new(workers)?;
+    Some(Executor { workers, engine })
 }
 
 /// Each engine with each number of workers.
@@ -59,7 +28,7 @@ pub(crate) fn executors(alloc: Global) -> Result<Vec<Executor>, Fail> {
     let mut executors = Vec::new(alloc);
     for engine in ENGINES {
         for count in WORKERS {
-            executors.push(Executor::new(*engine, *count).ok_or("workers")?)?;
+            executors.push(executor(*engine, *count).ok_or("workers")?)?;
         }
     }
     Ok(executors)
@@ -78,7 +47,7 @@ pub(crate) fn files_by_each_engine<R: Threads + Wait + AllocGlobal + Sync>(
         let mut second = 1;
         for steps in batches {
             let batch = batch_of(alloc, second, steps)?;
-            let replies = executor.execute(rt, alloc, &mut files, &batch)?;
+            let replies = executor.execute(rt, alloc, &mut files, &batch, &AsksForThreads)?;
             compare(alloc, &replies, steps)?;
             second = second.saturating_add(1);
         }

@@ -4,6 +4,7 @@ use bfs_serial::{Batch, FileSystem, Replies};
 use bfs_testing::numbers::{CREATE, WRITE};
 use bfs_testing::words::{ROOT, UNSET, call, put_parts, spelled};
 use bfs_testing::{holds, same};
+use bfs_testing_batches::gates::AsksForThreads;
 use bfs_types::{Memory, Time};
 use bfs_xdr::{put_opaque, put_words};
 use std::alloc::Global;
@@ -89,8 +90,8 @@ fn writes_to_a_thousand_files(rt: HostRuntime) -> Result<(), Fail> {
     let writes = writes(alloc)?;
     for executor in executors(alloc)? {
         let mut files = FileSystem::new(alloc)?;
-        executor.execute(&rt, alloc, &mut files, &creates)?;
-        let replies = executor.execute(&rt, alloc, &mut files, &writes)?;
+        executor.execute(&rt, alloc, &mut files, &creates, &AsksForThreads)?;
+        let replies = executor.execute(&rt, alloc, &mut files, &writes, &AsksForThreads)?;
         same!(rt; files.next_ordinal(), Some(2051));
         compares(&rt, alloc, &replies)?;
     }

@@ -1,7 +1,8 @@
 //! A batch of many kinds of calls by each engine, whose replies are right, or memory has run out and the file system has failed. Nothing
 //! is refused in the gate's run of the tests: `.ci/refusals` runs this one with each growth of memory, and each start of a thread,
 //! refused in turn.
-use crate::engines::{ENGINES, Executor, batch_of, compare};
+use crate::engines::{ENGINES, batch_of, compare, executor};
+use bfs_executor::Executor;
 use bfs_serial::{Batch, ExecError, FileSystem, execute_serial};
 use bfs_testing::numbers::{
     CREATE, GETATTR, LINK, MKDIR, OK, READDIR, REMOVE, RENAME, STATFS, SYMLINK, WRITE,
@@ -9,6 +10,7 @@ use bfs_testing::numbers::{
 use bfs_testing::steps::Step;
 use bfs_testing::words::{A, B, C, D, E, F, FIFTH, FOURTH, G, H, L, ROOT, SIXTH, THIRD, UNSET};
 use bfs_testing::{attributes, holds};
+use bfs_testing_batches::gates::AsksForThreads;
 use std::alloc::AllocGlobal;
 use std::process::Abort;
 use std::sync::Wait;
@@ -79,7 +81,7 @@ const A_RENAMED: &[u32] = attributes!(file 4, links 1, size 1, blocks 1, times 1
 fn replies_rightly_or_has_failed(rt: HostRuntime) -> Result<(), Fail> {
     for engine in ENGINES {
         for count in [1, 2, 4] {
-            let executor = Executor::new(*engine, count).ok_or("workers")?;
+            let executor = executor(*engine, count).ok_or("workers")?;
             replies_or_fails(&rt, executor)?;
         }
     }
@@ -94,7 +96,7 @@ fn replies_or_fails<R: Threads + Wait + AllocGlobal + Abort + Sync>(
     let mut files = FileSystem::new(alloc)?;
     execute_serial(alloc, &mut files, &batch_of(alloc, 1, MADE)?)?;
     let batch = batch_of(alloc, 2, ASKED)?;
-    match executor.execute(rt, alloc, &mut files, &batch) {
+    match executor.execute(rt, alloc, &mut files, &batch, &AsksForThreads) {
         Ok(replies) => compare(alloc, &replies, ASKED),
         Err(error) => {
             has_failed(rt, executor, &mut files, &batch);
@@ -115,6 +117,6 @@ fn has_failed<R: Threads + Wait + AllocGlobal + Abort + Sync>(
     holds!(rt; files.tree().is_none());
     holds!(rt; files.next_ordinal().is_none());
     holds!(rt; execute_serial(alloc, files, batch).err() == Some(ExecError::Failed));
-    holds!(rt; executor.execute(rt, alloc, files, batch).err() == Some(ExecError::Failed));
+    holds!(rt; executor.execute(rt, alloc, files, batch, &AsksForThreads).err() == Some(ExecError::Failed));
     holds!(rt; !files.is_live());
 }

@@ -1,7 +1,9 @@
 //! What an empty batch does: it moves the time alone.
-use crate::engines::{Executor, executors};
+use crate::engines::executors;
+use bfs_executor::Executor;
 use bfs_serial::{Batch, FileSystem};
 use bfs_testing::{holds, same};
+use bfs_testing_batches::gates::AsksForThreads;
 use bfs_types::{FileId, Time};
 use std::alloc::AllocGlobal;
 use std::process::Abort;
@@ -30,7 +32,7 @@ fn moves_time<R: Threads + Wait + AllocGlobal + Abort + Sync>(
     holds!(rt; batch.is_empty());
     same!(rt; batch.time(), Time::epoch());
     batch.set_time(proposed.ok_or("a time")?);
-    let replies = executor.execute(rt, rt.alloc(), files, &batch)?;
+    let replies = executor.execute(rt, rt.alloc(), files, &batch, &AsksForThreads)?;
     same!(rt; replies.len(), 0);
     same!(rt; files.last_time(), last);
     same!(rt; files.next_ordinal(), Some(3));
