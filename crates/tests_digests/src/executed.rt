@@ -114,8 +114,7 @@ fn digests_what_its_workers_leave(rt: HostRuntime) -> Result<(), Fail> {
             let mut files = FileSystem::new(alloc)?;
             let engine = Some(engine);
             let executor = Executor { workers, engine };
-            let answered =
-                executor.execute_and_digest(&rt, alloc, &mut files, &batch, &NoGate)?;
+            let answered = executor.execute_and_digest(&rt, alloc, &mut files, &batch, &NoGate)?;
             spells(alloc, answered.1.as_slice(), AFTER_DIGEST)?;
             is_told(alloc, &files, AFTER, AFTER_DIGEST)?;
         }
