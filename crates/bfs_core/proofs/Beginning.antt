@@ -23,10 +23,12 @@ use Rattle.bfs_core.specs.declared.calls.State.TheVariants.{Waiting}
 use Rattle.bfs_core.specs.declared.claims.Claims.{Claims}
 use Rattle.bfs_core.specs.Claims.{AreClaimed, all_wait}
 use Rattle.bfs_core.specs.Laws.{PlansAreGroups}
-use Rattle.bfs_core.specs.Machine.{Standing, at_start}
+use Rattle.bfs_core.specs.Machine.{Standing}
 use Rattle.bfs_core.specs.Reached.{IsReached}
+use Rattle.bfs_levels.specs.Parts.{first_requests}
 use Rattle.bfs_levels.specs.Requests.{requests_from}
-use Rattle.bfs_core.specs.Seen.{standing_seen, machine_seen}
+use Rattle.bfs_levels.specs.declared.part.Part.{Part}
+use Rattle.bfs_core.specs.Seen.{standing_seen, machine_seen, start_of}
 use Rattle.bfs_core.specs.Running.{OwnsWritten, IsRunning}
 use Rattle.bfs_core.proofs.Stepping.{start_reached}
 use Rattle.bfs_core.proofs.Owning.{has}
@@ -49,14 +51,14 @@ all_own : (fs : List declared.Footprint) → AllByRecursion OwnsWritten (map wai
 all_own [] = tt
 all_own (f ∷ fs) = (tt, all_own fs)
 
-module _ (first o : ℕ) (t : Time) (batch : List (List ℕ)) (tree : Slots) (fs : List declared.Footprint) (calls : List Call) (are : calls ≡ map waits fs)
-    (planned : map footprint_seen fs ≡ footprints_at (at_home tree) o t (requests_from first (length fs) batch)) where
-  pub new_seen : machine_seen first o t batch tree calls ≡ at_start first o t (requests_from first (length fs) batch) (at_home tree)
+module _ (part : Part) (tree : Slots) (fs : List declared.Footprint) (calls : List Call) (are : calls ≡ map waits fs)
+    (planned : map footprint_seen fs ≡ footprints_at (at_home tree) part.ordinal part.time (first_requests part (length fs))) where
+  pub new_seen : machine_seen part tree calls ≡ start_of part (length fs) (at_home tree)
   new_seen = λ i. record {
-    first = first;
-    ordinal = o;
-    time = t;
-    requests = requests_from first ((ap length are ∙ length-map fs waits) i) batch;
+    first = part.first;
+    ordinal = part.ordinal;
+    time = part.time;
+    requests = first_requests part ((ap length are ∙ length-map fs waits) i);
     home = at_home tree;
     standings = (ap (map standing_seen) are ∙ standings_seen fs ∙ ap (map waits_there) planned) i;
   }
@@ -64,9 +66,9 @@ module _ (first o : ℕ) (t : Time) (batch : List (List ℕ)) (tree : Slots) (fs
   pub new_claimed : (claims : Claims) → AreClaimed claims (all_wait (map footprint_seen fs)) → AreClaimed claims (map standing_seen calls)
   new_claimed claims claimed = subst (AreClaimed claims) (sym (ap (map standing_seen) are ∙ standings_seen fs)) claimed
 
-  pub new_running : (reach_of tree).whole ≡ true → IsGroup (record { tree = at_home tree; next_ordinal = o; last_time = t }) t (requests_from first (length fs) batch) → IsRunning tree calls (machine_seen first o t batch tree calls)
+  pub new_running : (reach_of tree).whole ≡ true → IsGroup (held tree part.ordinal part.time) part.time (first_requests part (length fs)) → IsRunning tree calls (machine_seen part tree calls)
   new_running whole group = record {
-    reached = subst IsReached (sym new_seen) (start_reached first o t (requests_from first (length fs) batch) (at_home tree) group);
+    reached = subst IsReached (sym new_seen) (start_reached part.first part.ordinal part.time (first_requests part (length fs)) (at_home tree) group);
     out = λ q. not_true (is_some (get (lent tree) q)) (knows_all (lent tree) whole q) ∙ sym (ap (list_any (has q)) are ∙ none_has fs q);
     own = subst (All OwnsWritten) (sym are) (All-from_recursion OwnsWritten (map waits fs) (all_own fs));
   }

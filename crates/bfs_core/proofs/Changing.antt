@@ -7,7 +7,7 @@ use Rattle.std.specs.List.{list_any, list_all, slice_get}
 use Rattle.std.specs.FinMap.{get, len, empty, get-empty, get-retain_keys, len-empty, same_map, nat_cmp-IsAntisymmetric}
 use Rattle.std.proofs.lemmas.Cmp.{nat_cmp_total}
 use Rattle.std.proofs.lemmas.Bool.{or_left}
-use Rattle.std.proofs.lemmas.List.{length-map, length-set, length-take, length-drop, map-set, get_or-take, get_or-drop}
+use Rattle.std.proofs.lemmas.List.{length-map, length-set, length-take, length-drop, map-set, get_or-take}
 use Rattle.std.proofs.lemmas.List.Elements.{All-set}
 use Rattle.std.proofs.lemmas.Option.{slice_get_read, get_or_from_slice_get}
 use Rattle.bfs_model.specs.Tree.{Time, Inodes, spent_ordinal}
@@ -35,7 +35,7 @@ use Rattle.bfs_core.specs.declared.calls.State.{State}
 use Rattle.bfs_core.specs.declared.calls.State.TheVariants.{Waiting, Taken, Finished}
 use Rattle.bfs_core.specs.Lent.{AreLentOut, IsCarriedOut}
 use Rattle.bfs_core.specs.Machine.{Standing, Machine, standing_of, away_in, is_complete, take_refusal, finish_refusal, after_take, outcome_of, after_finish}
-use Rattle.bfs_levels.specs.Requests.{requests_from}
+use Rattle.bfs_levels.specs.Parts.{first_requests, requests_in}
 use Rattle.bfs_core.specs.Seen.{slot_seen, standing_seen, machine_seen}
 use Rattle.bfs_core.specs.Running.{lent_for, HasItsOwn, OwnsWritten, IsRunning}
 use Rattle.bfs_core.specs.Reached.{IsReached}
@@ -46,7 +46,7 @@ use Rattle.bfs_core.proofs.Owning.{has, any_more, any_kept, any_there, none_left
 
 -- the machine that the core stands for, with that tree and these calls
 abbrev seen_at : Inside → Slots → List Call → Machine
-seen_at core tree calls = machine_seen core.first core.ordinal core.time core.batch.now.requests tree calls
+seen_at core tree calls = machine_seen core.part tree calls
 
 abbrev pub seen_of : Inside → Machine
 seen_of core = seen_at core core.tree core.calls.items
@@ -82,12 +82,12 @@ pub there_by : (calls : List Call) (place : ℕ) (call : Call) → place < lengt
 there_by calls place call less is = slice_get_read calls (length calls) place call refl (omega (arith, length-map calls standing_seen)) is
 
 pub there_to_take : (core : Inside) (number : ℕ) (call : Call)
-    → take_refusal (seen_of core) number ≡ None → call ≡ get_or core.calls.items (number - core.first) call → slice_get core.calls.items (number - core.first) ≡ Some call
-there_to_take core number call none is = there_by core.calls.items (number - core.first) call (can_take (seen_of core) number none).there is
+    → take_refusal (seen_of core) number ≡ None → call ≡ get_or core.calls.items (number - core.part.first) call → slice_get core.calls.items (number - core.part.first) ≡ Some call
+there_to_take core number call none is = there_by core.calls.items (number - core.part.first) call (can_take (seen_of core) number none).there is
 
 pub there_to_finish : (core : Inside) (number : ℕ) (call : Call)
-    → finish_refusal (seen_of core) number ≡ None → call ≡ get_or core.calls.items (number - core.first) call → slice_get core.calls.items (number - core.first) ≡ Some call
-there_to_finish core number call none is = there_by core.calls.items (number - core.first) call (can_finish (seen_of core) number none).there is
+    → finish_refusal (seen_of core) number ≡ None → call ≡ get_or core.calls.items (number - core.part.first) call → slice_get core.calls.items (number - core.part.first) ≡ Some call
+there_to_finish core number call none is = there_by core.calls.items (number - core.part.first) call (can_finish (seen_of core) number none).there is
 
 done_none : (s : State) → is_done (slot_seen s) ≡ true → lent_for s ≡ []
 done_none Waiting is = refl
@@ -113,7 +113,7 @@ pub record AtCall : Type 0 where
   pub run : IsRunning core.tree core.calls.items (seen_of core)
   pub number : ℕ
   pub call : Call
-  pub there : slice_get core.calls.items (number - core.first) ≡ Some call
+  pub there : slice_get core.calls.items (number - core.part.first) ≡ Some call
 
 -- that can be finished, with what it was lent
 pub record UnderWay (a : AtCall) : Type 0 where
@@ -125,7 +125,7 @@ pub record UnderWay (a : AtCall) : Type 0 where
 pub record RequestAt (a : AtCall) : Type 0 where
   pub ordinal : ℕ
   pub bytes : List ℕ
-  pub asks : asked_at a.core.ordinal a.core.time (requests_from a.core.first (length a.core.calls.items) a.core.batch.now.requests) (a.number - a.core.first) ≡ record { ordinal = ordinal; time = a.core.time; bytes = bytes }
+  pub asks : asked_at a.core.part.ordinal a.core.part.time (first_requests a.core.part (length a.core.calls.items)) (a.number - a.core.part.first) ≡ record { ordinal = ordinal; time = a.core.part.time; bytes = bytes }
 
 -- what answering a job on the tree itself leaves is what carrying it out leaves
 abbrev pub CarriesOutAlone : Slots → List Loan → (ordinal : ℕ) → Time → (bytes : List ℕ) → Type 0
@@ -147,7 +147,7 @@ module _ (a : AtCall) where
   requests = m.requests
 
   abbrev place : ℕ
-  place = a.number - a.core.first
+  place = a.number - a.core.part.first
 
   abbrev f : Footprint
   f = footprint_seen a.call.footprint
@@ -164,8 +164,8 @@ module _ (a : AtCall) where
   seen_with : (s : State) → map standing_seen (with_state s) ≡ set (map standing_seen calls) place (record { footprint = f; slot = slot_seen s })
   seen_with s = map-set standing_seen calls place (record { footprint = a.call.footprint; state = s })
 
-  requests_with : (s : State) → requests_from a.core.first (length (with_state s)) a.core.batch.now.requests ≡ requests
-  requests_with s = ap (λ n. requests_from a.core.first n a.core.batch.now.requests) (length-set calls place (record { footprint = a.call.footprint; state = s }))
+  requests_with : (s : State) → first_requests a.core.part (length (with_state s)) ≡ requests
+  requests_with s = ap (λ n. first_requests a.core.part n) (length-set calls place (record { footprint = a.call.footprint; state = s }))
 
   pub owned_to_take : take_refusal m a.number ≡ None → AreOwned tree (moved_for f)
   owned_to_take none = subst (λ g. AreOwned tree (moved_for g)) foot (owned tree calls m a.run refl a.number none)
@@ -182,9 +182,9 @@ module _ (a : AtCall) where
 
     pub taken_seen : seen_at a.core new (with_state (Taken loans)) ≡ after_take m a.number
     taken_seen = λ i. record {
-      first = a.core.first;
-      ordinal = a.core.ordinal;
-      time = a.core.time;
+      first = a.core.part.first;
+      ordinal = a.core.part.ordinal;
+      time = a.core.part.time;
       requests = requests_with (Taken loans) i;
       home = (out.home ∙ ap (λ g. without (moved_for g) (at_home tree)) (sym foot)) i;
       standings = (seen_with (Taken loans) ∙ ap (λ s. set (map standing_seen calls) place s) standing_is) i;
@@ -234,27 +234,24 @@ module _ (a : AtCall) where
     fits : place < length requests
     fits = let less : place < length (map standing_seen calls) = can.there in let count : length (map standing_seen calls) ≡ length requests = many m a.run.reached in omega arith
 
-    pub in_batch : a.number < length a.core.batch.now.requests
+    pub in_batch : a.number < length a.core.part.batch.now.requests
     in_batch =
-        let from : a.core.first ≤ a.number = can.from in
-        let taken_len : length requests ≡ min (length calls) (length (drop a.core.first a.core.batch.now.requests)) = length-take (length calls) (drop a.core.first a.core.batch.now.requests) in
-        let dropped : length (drop a.core.first a.core.batch.now.requests) ≡ length a.core.batch.now.requests - a.core.first = length-drop a.core.first a.core.batch.now.requests in
+        let from : a.core.part.first ≤ a.number = can.from in
+        let taken_len : length requests ≡ min (length calls) (length (drop a.core.part.first a.core.part.batch.now.requests)) = length-take (length calls) (drop a.core.part.first a.core.part.batch.now.requests) in
+        let dropped : length (drop a.core.part.first a.core.part.batch.now.requests) ≡ length a.core.part.batch.now.requests - a.core.part.first = length-drop a.core.part.first a.core.part.batch.now.requests in
         let small = fits in
         omega arith
 
-    pub asked_for : (bytes : List ℕ) (ordinal : ℕ) → slice_get a.core.batch.now.requests a.number ≡ Some bytes → ordinal ≡ ordinal_after a.core.ordinal place
-        → asked_at a.core.ordinal a.core.time requests place ≡ record { ordinal = ordinal; time = a.core.time; bytes = bytes }
+    pub asked_for : (bytes : List ℕ) (ordinal : ℕ) → slice_get (requests_in a.core.part) place ≡ Some bytes → ordinal ≡ ordinal_after a.core.part.ordinal place
+        → asked_at a.core.part.ordinal a.core.part.time requests place ≡ record { ordinal = ordinal; time = a.core.part.time; bytes = bytes }
     asked_for bytes ordinal there after =
-        let from : a.core.first ≤ a.number = can.from in
         let less : place < length (map standing_seen calls) = can.there in
         let few : place < length calls = omega (arith, length-map calls standing_seen) in
-        let back : a.core.first + place ≡ a.number = omega arith in
-        let read : get_or requests place [] ≡ bytes =
-        get_or-take (length calls) (drop a.core.first a.core.batch.now.requests) place [] few ∙ get_or-drop a.core.first a.core.batch.now.requests place [] ∙ ap (λ k. get_or a.core.batch.now.requests k []) back ∙ get_or_from_slice_get a.core.batch.now.requests a.number bytes [] there in
-        asked_is a.core.ordinal a.core.time requests place (most m a.run.reached a.number can) fits ∙ (λ i. record { ordinal = sym after i; time = a.core.time; bytes = read i })
+        let read : get_or requests place [] ≡ bytes = get_or-take (length calls) (requests_in a.core.part) place [] few ∙ get_or_from_slice_get (requests_in a.core.part) place bytes [] there in
+        asked_is a.core.part.ordinal a.core.part.time requests place (most m a.run.reached a.number can) fits ∙ (λ i. record { ordinal = sym after i; time = a.core.part.time; bytes = read i })
 
     -- what the job asks for is the request of its place
-    abbrev pub its_request : (bytes : List ℕ) (ordinal : ℕ) → slice_get a.core.batch.now.requests a.number ≡ Some bytes → ordinal ≡ ordinal_after a.core.ordinal place → RequestAt a
+    abbrev pub its_request : (bytes : List ℕ) (ordinal : ℕ) → slice_get (requests_in a.core.part) place ≡ Some bytes → ordinal ≡ ordinal_after a.core.part.ordinal place → RequestAt a
     its_request bytes ordinal there after = record { ordinal = ordinal; bytes = bytes; asks = asked_for bytes ordinal there after }
 
     -- The request, under its ordinal
@@ -266,13 +263,13 @@ module _ (a : AtCall) where
       own = put_in loans home
 
       -- it has its footprint there
-      its_foot : footprint_of own request.ordinal a.core.time request.bytes ≡ f
+      its_foot : footprint_of own request.ordinal a.core.part.time request.bytes ≡ f
       its_foot = (λ i. footprint_of (sym handed_is i) (sym request.asks i).ordinal (sym request.asks i).time (sym request.asks i).bytes) ∙ touches m a.run.reached a.number can ∙ foot
 
-      pub its_fresh : IsFreshFor own request.ordinal (footprint_of own request.ordinal a.core.time request.bytes)
+      pub its_fresh : IsFreshFor own request.ordinal (footprint_of own request.ordinal a.core.part.time request.bytes)
       its_fresh = subst (IsFreshFor own request.ordinal) (sym its_foot)
           (subst (λ g. IsFreshFor own request.ordinal g) foot (subst (λ k. IsFreshFor own k (standing_of m a.number).footprint) (ap (λ (asked : Asked). asked.ordinal) request.asks)
-          (subst (λ n. IsFreshFor n (asked_at a.core.ordinal a.core.time requests place).ordinal (standing_of m a.number).footprint) handed_is (fresh m a.run.reached a.number can))))
+          (subst (λ n. IsFreshFor n (asked_at a.core.part.ordinal a.core.part.time requests place).ordinal (standing_of m a.number).footprint) handed_is (fresh m a.run.reached a.number can))))
 
       -- no other call has what it touches
       lack : (q : ℕ) → is_touched f q ≡ true → (j : ℕ) (other : Call) → (place ≡ j → ⊥) → slice_get calls j ≡ Some other → has q other ≡ false
@@ -293,7 +290,7 @@ module _ (a : AtCall) where
       )
       knows whole part same = absurd (true≢false part)
 
-      pub can_run_known : is_whole f ≡ false → Knows (reach_with (lent tree) home (ids_of loans)) (footprint_of own request.ordinal a.core.time request.bytes)
+      pub can_run_known : is_whole f ≡ false → Knows (reach_with (lent tree) home (ids_of loans)) (footprint_of own request.ordinal a.core.part.time request.bytes)
       can_run_known part = subst (Knows (reach_with (lent tree) home (ids_of loans))) (sym its_foot) (knows f part refl)
 
       pub is_out : (q : ℕ) → among (ids_of loans) q ≡ true → is_some (get (lent tree) q) ≡ true
@@ -324,7 +321,7 @@ module _ (a : AtCall) where
         is_whole_tree : (reach_of tree).whole ≡ true
         is_whole_tree = none_lent tree (λ q. not_out tree calls m a.run refl q (none_but (has q) calls place a.call a.there (ap (λ s. among (lent_for s) q) w.lent ∙ none_its q) (lack q (touches_all q))))
 
-        pub alone_is : CarriesOutAlone tree loans request.ordinal a.core.time request.bytes
+        pub alone_is : CarriesOutAlone tree loans request.ordinal a.core.part.time request.bytes
         alone_is new job reply jo_is jt_is bytes_is loans_are answers reach = record {
           answers = answers ∙ (λ i. answer (sym own_is_home i) (sym jo_is i) (sym jt_is i) (sym bytes_is i)) ∙ ap (λ ls. answer (put_in ls home) job.ordinal job.time job.request.now) (sym loans_are);
           still_out = λ q. not_same (is_some (get (lent new) q)) (is_some (get (lent tree) q)) (ap (λ (reach : Reach). reach.known q) reach)
@@ -337,7 +334,7 @@ module _ (a : AtCall) where
             not_same false true is = absurd (true≢false is)
             not_same false false is = refl
 
-        pub knows_all : Knows (reach_of tree) (footprint_of own request.ordinal a.core.time request.bytes)
+        pub knows_all : Knows (reach_of tree) (footprint_of own request.ordinal a.core.part.time request.bytes)
         knows_all = subst (Knows (reach_of tree)) (sym its_foot) (whole_known f all)
           where
             whole_known : (g : Footprint) → is_whole g ≡ true → Knows (reach_of tree) g
@@ -345,16 +342,16 @@ module _ (a : AtCall) where
             whole_known whole is = is_whole_tree
 
       -- What it leaves
-      module _ (new : Slots) (reply : Vec ℕ Global) (answers : ◌≡◌ {A = Inodes × List ℕ} (at_home new, reply.items) (answer own request.ordinal a.core.time request.bytes))
+      module _ (new : Slots) (reply : Vec ℕ Global) (answers : ◌≡◌ {A = Inodes × List ℕ} (at_home new, reply.items) (answer own request.ordinal a.core.part.time request.bytes))
           (still_out : (q : ℕ) → is_some (get (lent new) q) ≡ cond (among (ids_of loans) q) false (is_some (get (lent tree) q))) where
         abbrev left : Inodes
-        left = (answer own request.ordinal a.core.time request.bytes).0
+        left = (answer own request.ordinal a.core.part.time request.bytes).0
 
         -- what it does not write stays
         stays : (q : ℕ) → is_written f q ≡ false → get left q ≡ get home q
         stays q misses =
-            ap (λ outcome. get outcome.0 q) (requests_keep_to_footprints own own request.ordinal a.core.time request.bytes (λ id touched. refl))
-            ∙ get-closed (footprint_of own request.ordinal a.core.time request.bytes) left own q
+            ap (λ outcome. get outcome.0 q) (requests_keep_to_footprints own own request.ordinal a.core.part.time request.bytes (λ id touched. refl))
+            ∙ get-closed (footprint_of own request.ordinal a.core.part.time request.bytes) left own q
             ∙ ap (λ b. cond b (get left q) (get own q)) (ap (λ g. is_written g q) its_foot ∙ misses)
             ∙ get_borrowed loans home q (owns.1 q ∙ moved_is_written f q misses)
 
@@ -365,14 +362,14 @@ module _ (a : AtCall) where
             by_test q true it = refl
             by_test q false it = sym (stays q it)
 
-        outcome_is : outcome_of m a.number ≡ answer own request.ordinal a.core.time request.bytes
+        outcome_is : outcome_of m a.number ≡ answer own request.ordinal a.core.part.time request.bytes
         outcome_is = λ i. answer (handed_is i) (request.asks i).ordinal (request.asks i).time (request.asks i).bytes
 
         pub finished_seen : seen_at a.core new (with_state (Finished reply)) ≡ after_finish m a.number
         finished_seen = λ i. record {
-          first = a.core.first;
-          ordinal = a.core.ordinal;
-          time = a.core.time;
+          first = a.core.part.first;
+          ordinal = a.core.part.ordinal;
+          time = a.core.part.time;
           requests = requests_with (Finished reply) i;
           home = home_is i;
           standings = (seen_with (Finished reply) ∙ ap (λ s. set (map standing_seen calls) place s) standing_is) i;

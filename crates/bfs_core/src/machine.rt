@@ -6,6 +6,8 @@ ghost use Rattle.bfs_footprint.specs.Seen.{footprint_seen};
 ghost use Rattle.bfs_serial.specs.Held.{held};
 ghost use Rattle.bfs_tree.specs.Tree.{at_home, reach_of};
 ghost use Rattle.bfs_core.specs.Machine.{Happens, Plays, at_start, is_complete, played, reply_to};
+ghost use Rattle.bfs_core.specs.Seen.{start_of};
+ghost use Rattle.bfs_levels.specs.Parts.{first_requests};
 ghost use Rattle.bfs_levels.specs.Requests.{requests_from};
 ghost use Rattle.bfs_core.specs.declared.events.Event.TheVariants as event;
 
@@ -14,7 +16,8 @@ use crate::claims::claims_of;
 use crate::errors::CoreError;
 use crate::events::Event;
 use crate::running::Running;
-use bfs_levels::Group;
+use bfs_footprint::Footprint;
+use bfs_levels::{Group, Part};
 use bfs_serial::Batch;
 use bfs_tree::Tree;
 use bfs_types::{Memory, Ordinal, Time};
@@ -59,20 +62,35 @@ impl<'a> Core<'a> {
         requires planned { map footprint_seen group.footprints.items ≡ footprints_at (at_home tree) ordinal time (requests_from group.first (length group.footprints.items) batch.now.requests) }
         ensures { IfOk result (λ core. core ≡ Some (at_start group.first ordinal time (requests_from group.first (length group.footprints.items) batch.now.requests) (at_home tree))) }
     {
-        let Group {
-            first,
-            footprints,
-            ..
-        } = group;
+        let part = Part {
+            batch,
+            first: group.first,
+            ordinal,
+            time,
+        };
+        Core::of(alloc, tree, &part, group.footprints)
+    }
+
+    /// The core of a group that was planned on that tree, all of whose calls wait: the first of the part's requests, which have these
+    /// footprints. With the ordinal of the first and the time the inodes are well formed. `Memory` if memory runs out; the tree is
+    /// then dropped.
+    pub fn of(
+        alloc: Global,
+        tree: Tree,
+        part: &Part<'a>,
+        footprints: Vec<Footprint>,
+    ) -> Result<Core<'a>, Memory>
+        requires whole { IsTrue ((reach_of tree).whole) }
+        requires group { IsGroup (held tree part.now.ordinal part.now.time) part.now.time (first_requests part.now (length footprints.items)) }
+        requires planned { map footprint_seen footprints.items ≡ footprints_at (at_home tree) part.now.ordinal part.now.time (first_requests part.now (length footprints.items)) }
+        ensures { IfOk result (λ core. core ≡ Some (start_of part.now (length footprints.items) (at_home tree))) }
+    {
         let claims = claims_of(alloc, footprints.as_slice())?;
         let calls = all_waiting(alloc, footprints)?;
         Ok(Core {
             running: Some(Running {
                 alloc,
-                batch,
-                first,
-                ordinal,
-                time,
+                part: Part { ..*part },
                 tree,
                 calls,
                 claims,
@@ -164,7 +182,29 @@ impl<'a> Core<'a> {
         requires planned { map footprint_seen group.footprints.items ≡ footprints_at (at_home tree) ordinal time (requests_from group.first (length group.footprints.items) batch.now.requests) }
         ensures { Plays (played events.now (at_start group.first ordinal time (requests_from group.first (length group.footprints.items) batch.now.requests) (at_home tree))) result }
     {
-        let mut core = Core::new(alloc, tree, group, batch, ordinal, time)?;
+        let part = Part {
+            batch,
+            first: group.first,
+            ordinal,
+            time,
+        };
+        Core::after(alloc, tree, &part, group.footprints, events)
+    }
+
+    /// The core of the first of a part's requests, which are a group and have these footprints, after these events: what `play` gives.
+    pub fn after(
+        alloc: Global,
+        tree: Tree,
+        part: &Part<'a>,
+        footprints: Vec<Footprint>,
+        events: &[Event],
+    ) -> Result<Core<'a>, CoreError>
+        requires whole { IsTrue ((reach_of tree).whole) }
+        requires group { IsGroup (held tree part.now.ordinal part.now.time) part.now.time (first_requests part.now (length footprints.items)) }
+        requires planned { map footprint_seen footprints.items ≡ footprints_at (at_home tree) part.now.ordinal part.now.time (first_requests part.now (length footprints.items)) }
+        ensures { Plays (played events.now (start_of part.now (length footprints.items) (at_home tree))) result }
+    {
+        let mut core = Core::of(alloc, tree, part, footprints)?;
         for event in events {
             core.happen(*event)?;
         }

@@ -8,20 +8,17 @@ use crate::claims::Claims;
 use crate::errors::CoreError;
 use crate::loans::{carry_out, carry_out_alone, lend};
 use bfs_handover::Job;
-use bfs_serial::Batch;
+use bfs_levels::Part;
 use bfs_tree::Tree;
-use bfs_types::{Memory, Ordinal, Time};
+use bfs_types::Memory;
 use std::alloc::Global;
 use std::marker::Model;
 
-// The calls of a group, of which the first has that number in the batch and that ordinal, over a tree that lends inodes out.
+// The calls of a group, of which the first is the first request of the part, over a tree that lends inodes out.
 #[derive(Drop)]
 pub(crate) struct Running<'a> {
     pub(crate) alloc: Global,
-    pub(crate) batch: &'a Batch,
-    pub(crate) first: usize,
-    pub(crate) ordinal: Ordinal,
-    pub(crate) time: Time,
+    pub(crate) part: Part<'a>,
     pub(crate) tree: Tree,
     pub(crate) calls: Vec<Call>,
     pub(crate) claims: Claims,
@@ -39,9 +36,9 @@ impl<'a> Model for Running<'a> {
     ghost use Rattle.bfs_core.specs.Seen.{machine_seen};
     ghost use Rattle.bfs_core.specs.Running.{IsKept};
 
-    ghost view = { λ running. machine_seen running.first running.ordinal running.time running.batch.now.requests running.tree running.calls.items };
+    ghost view = { λ running. machine_seen running.part running.tree running.calls.items };
 
-    ghost invariant = { λ running. IsKept running.tree running.calls.items running.claims (machine_seen running.first running.ordinal running.time running.batch.now.requests running.tree running.calls.items) };
+    ghost invariant = { λ running. IsKept running.tree running.calls.items running.claims (machine_seen running.part running.tree running.calls.items) };
 }
 
 impl<'a> Running<'a> {
@@ -58,8 +55,9 @@ impl<'a> Running<'a> {
         ensures { result ≡ (if has_call self.now number then Some (number - self.now.first) else None) }
     {
         let number = number as usize;
-        if self.first <= number && number - self.first < self.calls.len() {
-            Some(number - self.first)
+        let first = self.part.first;
+        if first <= number && number - first < self.calls.len() {
+            Some(number - first)
         } else {
             None
         }
@@ -113,24 +111,18 @@ impl<'a> Running<'a> {
     {
         let Running {
             alloc,
-            batch,
-            first,
-            ordinal,
-            time,
+            part,
             mut tree,
             mut calls,
             claims,
         } = self;
-        let place = number as usize - first;
+        let place = number as usize - part.first;
         let call = &mut calls[place];
         let loans = lend(alloc, &mut tree, &call.footprint)?;
         call.state = State::Taken(loans);
         Ok(Running {
             alloc,
-            batch,
-            first,
-            ordinal,
-            time,
+            part,
             tree,
             calls,
             claims,
@@ -144,24 +136,21 @@ impl<'a> Running<'a> {
     {
         let Running {
             alloc,
-            batch,
-            first,
-            ordinal,
-            time,
+            part,
             mut tree,
             mut calls,
             mut claims,
         } = self;
-        let place = number as usize - first;
+        let place = number as usize - part.first;
         let call = &mut calls[place];
         let State::Taken(inodes) = std::mem::replace(&mut call.state, State::Waiting) else {
             unreachable!()
         };
         let job = Job {
             number,
-            request: batch.request(number as usize),
-            ordinal: ordinal.after(place as u64),
-            time,
+            request: part.request(number as usize),
+            ordinal: part.ordinal_of(number as usize),
+            time: part.time,
             inodes,
         };
         let reply = if call.footprint.is_whole() {
@@ -173,10 +162,7 @@ impl<'a> Running<'a> {
         call.state = State::Finished(reply);
         Ok(Running {
             alloc,
-            batch,
-            first,
-            ordinal,
-            time,
+            part,
             tree,
             calls,
             claims,

@@ -60,11 +60,6 @@ once_added once ids x are new = record {
 
 -- One number -----------------------------------------------------------------------------------------------------------------
 
-pub request_is : (first : ℕ) (batch : List (List ℕ)) (number : ℕ) (request : List ℕ) → first ≤ number → slice_get batch number ≡ Some request → request ≡ get_or (drop first batch) (number - first) []
-request_is first batch number request from is =
-    let place : first + (number - first) ≡ number = omega arith in
-    sym (get_or-drop first batch (number - first) [] ∙ ap (λ n. get_or batch n []) place ∙ get_or_from_slice_get batch number request [] is)
-
 pub footprint_is : (footprints : List declared.Footprint) (k : ℕ) (d : declared.Footprint) → k < length (map footprint_seen footprints) → footprint_at (map footprint_seen footprints) k ≡ footprint_seen (get_or footprints k d)
 footprint_is [] k d less = absurd (omega arith)
 footprint_is (first ∷ rest) zero d less = refl

@@ -10,6 +10,9 @@ use Rattle.bfs_model.specs.OvertakingLaw.{footprint_at}
 use Rattle.bfs_model.specs.Shares.{moved_for, all_moved, without, share_of}
 use Rattle.bfs_tree.specs.Slots.{Slots}
 use Rattle.bfs_tree.specs.Tree.{at_home, lent}
+use Rattle.bfs_footprint.specs.Seen.{footprint_seen}
+use Rattle.bfs_footprint.specs.declared.footprints.Footprint as declared
+use Rattle.bfs_levels.specs.declared.part.Part as levels
 use Rattle.bfs_handover.specs.Loans.{ids_of, put_in}
 use Rattle.bfs_handover.specs.Moves.{AreDistinct}
 use Rattle.bfs_handover.specs.Jobs.{CanRun}
@@ -26,6 +29,10 @@ pub record Part : Type 0 where
 -- those of a batch from the place `first` on
 abbrev pub part_of : (first ordinal : ℕ) → Time → (batch : List (List ℕ)) → List Footprint → Part
 part_of first ordinal time batch footprints = record { first = first; ordinal = ordinal; time = time; requests = drop first batch; footprints = footprints }
+
+-- those of a part of a batch
+abbrev pub part_with : levels.Part → List declared.Footprint → Part
+part_with part footprints = part_of part.first part.ordinal part.time part.batch.now.requests (map footprint_seen footprints)
 
 abbrev pub request_of : Part → (number : ℕ) → List ℕ
 request_of part number = get_or part.requests (number - part.first) []

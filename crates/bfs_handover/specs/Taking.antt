@@ -1,18 +1,13 @@
 -- What is taken out of a tree for the requests of a batch, one after another.
-use Rattle.std.specs.Prelude.{◌≡◌, ℕ, ◌+◌, ◌<◌, ◌≤◌, ⊤, List, [], ◌∷◌, ◌++◌, length, map}
+use Rattle.std.specs.Prelude.{◌≡◌, ℕ, ◌+◌, ◌<◌, ◌≤◌, ⊤, List, [], ◌∷◌, ◌++◌, length}
 use Rattle.bfs_model.specs.Conflicts.{among}
 use Rattle.bfs_model.specs.Shares.{moved_for}
-use Rattle.bfs_footprint.specs.Seen.{footprint_seen}
 use Rattle.bfs_tree.specs.Slots.{Slots}
 use Rattle.bfs_handover.specs.Loans.{ids_of}
 use Rattle.bfs_handover.specs.Moves.{AreDistinct, lent_out, taken}
-use Rattle.bfs_handover.specs.Splitting.{Part, part_of, request_of, ordinal_of, footprint_for}
+use Rattle.bfs_handover.specs.Splitting.{Part, request_of, ordinal_of, footprint_for}
 use Rattle.bfs_handover.specs.declared.job.Job.{Job}
 use Rattle.bfs_handover.specs.declared.loans.Loan.{Loan}
-use Rattle.bfs_handover.specs.declared.parts.Part as declared
-
-abbrev pub part_seen : declared.Part → Part
-part_seen part = part_of part.first part.ordinal part.time part.batch.now.requests (map footprint_seen part.footprints.now)
 
 -- a number of these requests, and of those of the batch
 pub record IsWithin (requests : ℕ) (part : Part) (number : ℕ) : Type 0 where

@@ -2,8 +2,10 @@ ghost use Rattle.std.specs.Prelude.{◌≡◌, drop, length, map, take, IfOk, Is
 ghost use Rattle.bfs_model.specs.Groups.{footprints_at};
 ghost use Rattle.bfs_tree.specs.Tree.{at_home, reach_of};
 ghost use Rattle.bfs_footprint.specs.Seen.{footprint_seen};
+ghost use Rattle.bfs_levels.specs.Parts.{footprints_before, group_count};
 ghost use Rattle.bfs_levels.specs.Planning.{group_length, levels_of};
 
+use crate::part::Part;
 use crate::plans::{Rule, planned};
 use bfs_footprint::Footprint;
 use bfs_serial::Batch;
@@ -33,8 +35,6 @@ impl Group {
 }
 
 /// The longest group of the batch's requests that begins with the one at that place, which has that ordinal. The tree is whole.
-///
-/// It costs a few look-ups in a map of the inodes that the group touches for each request.
 #[tactic(auto, using(crate::proofs::Left::all_before))]
 pub fn plan_group(
     alloc: Global,
@@ -50,7 +50,13 @@ pub fn plan_group(
     ensures count { IfOk result (λ group. length group.footprints.items ≡ group_length (at_home tree.now) ordinal time (drop first batch.now.requests)) }
     ensures levels { IfOk result (λ group. group.level_of.items ≡ levels_of (map footprint_seen group.footprints.items)) }
 {
-    plan_group_before(alloc, tree, ordinal, time, batch, first, batch.len())
+    let part = Part {
+        batch,
+        first,
+        ordinal,
+        time,
+    };
+    part.group_before(alloc, tree, batch.len())
 }
 
 /// The longest group of those of the batch's requests that stand before the place `end`: what `plan_group` gives of a batch that ends there. The
@@ -70,19 +76,31 @@ pub fn plan_group_before(
     ensures count { IfOk result (λ group. length group.footprints.items ≡ group_length (at_home tree.now) ordinal time (drop first (take end batch.now.requests))) }
     ensures levels { IfOk result (λ group. group.level_of.items ≡ levels_of (map footprint_seen group.footprints.items)) }
 {
-    let (footprints, level_of) = planned(
-        alloc,
-        tree,
-        ordinal,
-        time,
+    let part = Part {
         batch,
         first,
-        end,
-        Rule::Groups,
-    )?;
-    Ok(Group {
-        first,
-        footprints,
-        level_of,
-    })
+        ordinal,
+        time,
+    };
+    part.group_before(alloc, tree, end)
+}
+
+impl Part<'_> {
+    /// The longest group of its requests before the place `end` that begins with the first. The tree is whole.
+    ///
+    /// It costs a few look-ups in a map of the inodes that the group touches for each request.
+    pub fn group_before(&self, alloc: Global, tree: &Tree, end: usize) -> Result<Group, Memory>
+        requires whole { IsTrue ((reach_of tree.now).whole) }
+        ensures first { IfOk result (λ group. group.first ≡ self.now.first) }
+        ensures longest { IfOk result (λ group. map footprint_seen group.footprints.items ≡ footprints_before (at_home tree.now) self.now end (group_count (at_home tree.now) self.now end)) }
+        ensures count { IfOk result (λ group. length group.footprints.items ≡ group_count (at_home tree.now) self.now end) }
+        ensures levels { IfOk result (λ group. group.level_of.items ≡ levels_of (map footprint_seen group.footprints.items)) }
+    {
+        let (footprints, level_of) = planned(alloc, tree, self, end, Rule::Groups)?;
+        Ok(Group {
+            first: self.first,
+            footprints,
+            level_of,
+        })
+    }
 }

@@ -4,9 +4,11 @@
 mod group;
 mod laws;
 mod marks;
+mod part;
 mod plans;
 mod run;
 
 pub use group::{Group, plan_group, plan_group_before};
 pub use laws::{groups_are_cut, groups_are_longest, levels_rise, runs_are_longest};
+pub use part::Part;
 pub use run::{Run, runs, runs_before};

@@ -1,18 +1,18 @@
 // Calls planned one after another.
-ghost use Rattle.std.specs.Prelude.{◌≡◌, ◌+◌, ◌<◌, ◌^◌, [], ◌∷◌, ◌++◌, drop, length, map, take, IfOk, IsTrue, OnOk};
-ghost use Rattle.bfs_model.specs.Groups.{footprints_at};
+ghost use Rattle.std.specs.Prelude.{◌≡◌, ◌+◌, ◌<◌, ◌^◌, [], ◌∷◌, ◌++◌, length, map, IfOk, IsTrue, OnOk};
 ghost use Rattle.bfs_tree.specs.Tree.{at_home, reach_of};
 ghost use Rattle.bfs_footprint.specs.Seen.{footprint_seen};
-ghost use Rattle.bfs_levels.specs.Planning.{levels_of, level_behind, count_joined, parts, touches_at};
+ghost use Rattle.bfs_levels.specs.Planning.{levels_of, level_behind};
 ghost use Rattle.bfs_levels.specs.Marking.{levelled};
-ghost use Rattle.bfs_levels.specs.Planned.{IsPlan, calls_in, level_joined};
+ghost use Rattle.bfs_levels.specs.Planned.{IsPlan, calls_in, level_joined, planned_count};
+ghost use Rattle.bfs_levels.specs.Parts.{footprints_before};
 ghost use Rattle.bfs_levels.specs.Touching.{touch_seen};
 
 use crate::marks::Marks;
+use crate::part::Part;
 use bfs_footprint::{Footprint, Touch, touch_of};
-use bfs_serial::Batch;
 use bfs_tree::Tree;
-use bfs_types::{Memory, Ordinal, Time};
+use bfs_types::Memory;
 use std::alloc::Global;
 
 // what is planned
@@ -87,28 +87,24 @@ impl Plan {
     }
 }
 
-// the footprints and the levels of the longest run, or group, of the batch's requests before that end that begins with that one, which has
-// that ordinal
+// the footprints and the levels of the longest run, or group, of the part's requests before that end that begins with the first
 pub(crate) fn planned(
     alloc: Global,
     tree: &Tree,
-    ordinal: Ordinal,
-    time: Time,
-    batch: &Batch,
-    first: usize,
+    part: &Part<'_>,
     end: usize,
     rule: Rule,
 ) -> Result<(Vec<Footprint>, Vec<u32>), Memory>
     requires whole { IsTrue ((reach_of tree.now).whole) }
-    ensures joined { IfOk result (λ plan. let requests = drop first (take end batch.now.requests) in map footprint_seen plan.0.items ≡ footprints_at (at_home tree.now) ordinal time (take (count_joined (parts rule) [] (touches_at (at_home tree.now) ordinal time requests)) requests)) }
-    ensures count { IfOk result (λ plan. length plan.0.items ≡ count_joined (parts rule) [] (touches_at (at_home tree.now) ordinal time (drop first (take end batch.now.requests)))) }
+    ensures joined { IfOk result (λ plan. map footprint_seen plan.0.items ≡ footprints_before (at_home tree.now) part.now end (planned_count rule (at_home tree.now) part.now end)) }
+    ensures count { IfOk result (λ plan. length plan.0.items ≡ planned_count rule (at_home tree.now) part.now end) }
     ensures levels { IfOk result (λ plan. plan.1.items ≡ levels_of (map footprint_seen plan.0.items)) }
 {
-    let stop = end.min(batch.len());
-    let mut ordinal = ordinal;
+    let stop = end.min(part.batch.len());
+    let mut ordinal = part.ordinal;
     let mut plan = Plan::new(alloc);
-    for index in first..stop {
-        let touch = touch_of(tree, ordinal, time, batch.request(index));
+    for index in part.first..stop {
+        let touch = touch_of(tree, ordinal, part.time, part.batch.request(index));
         let Some(level) = plan.level(rule, &touch) else {
             break;
         };

@@ -2,8 +2,10 @@ ghost use Rattle.std.specs.Prelude.{◌≡◌, drop, length, map, take, IfOk, Is
 ghost use Rattle.bfs_model.specs.Groups.{footprints_at};
 ghost use Rattle.bfs_tree.specs.Tree.{at_home, reach_of};
 ghost use Rattle.bfs_footprint.specs.Seen.{footprint_seen};
+ghost use Rattle.bfs_levels.specs.Parts.{footprints_before, run_count};
 ghost use Rattle.bfs_levels.specs.Planning.{run_length};
 
+use crate::part::Part;
 use crate::plans::{Rule, planned};
 use bfs_footprint::Footprint;
 use bfs_serial::Batch;
@@ -44,7 +46,13 @@ pub fn runs(
     ensures longest { IfOk result (λ run. let requests = drop first batch.now.requests in map footprint_seen run.footprints.items ≡ footprints_at (at_home tree.now) ordinal time (take (run_length (at_home tree.now) ordinal time requests) requests)) }
     ensures count { IfOk result (λ run. length run.footprints.items ≡ run_length (at_home tree.now) ordinal time (drop first batch.now.requests)) }
 {
-    runs_before(alloc, tree, ordinal, time, batch, first, batch.len())
+    let part = Part {
+        batch,
+        first,
+        ordinal,
+        time,
+    };
+    part.run_before(alloc, tree, batch.len())
 }
 
 /// The longest run of those of the batch's requests that stand before the place `end`: what `runs` gives of a batch that ends there. The
@@ -63,6 +71,27 @@ pub fn runs_before(
     ensures longest { IfOk result (λ run. let requests = drop first (take end batch.now.requests) in map footprint_seen run.footprints.items ≡ footprints_at (at_home tree.now) ordinal time (take (run_length (at_home tree.now) ordinal time requests) requests)) }
     ensures count { IfOk result (λ run. length run.footprints.items ≡ run_length (at_home tree.now) ordinal time (drop first (take end batch.now.requests))) }
 {
-    let (footprints, _) = planned(alloc, tree, ordinal, time, batch, first, end, Rule::Runs)?;
-    Ok(Run { first, footprints })
+    let part = Part {
+        batch,
+        first,
+        ordinal,
+        time,
+    };
+    part.run_before(alloc, tree, end)
+}
+
+impl Part<'_> {
+    /// The longest run of its requests before the place `end` that begins with the first. The tree is whole.
+    pub fn run_before(&self, alloc: Global, tree: &Tree, end: usize) -> Result<Run, Memory>
+        requires whole { IsTrue ((reach_of tree.now).whole) }
+        ensures first { IfOk result (λ run. run.first ≡ self.now.first) }
+        ensures longest { IfOk result (λ run. map footprint_seen run.footprints.items ≡ footprints_before (at_home tree.now) self.now end (run_count (at_home tree.now) self.now end)) }
+        ensures count { IfOk result (λ run. length run.footprints.items ≡ run_count (at_home tree.now) self.now end) }
+    {
+        let (footprints, _) = planned(alloc, tree, self, end, Rule::Runs)?;
+        Ok(Run {
+            first: self.first,
+            footprints,
+        })
+    }
 }

@@ -1,5 +1,5 @@
 ghost use Rattle.bfs_model.specs.Limits.{most_reply_bytes};
-ghost use Rattle.std.specs.Prelude.{◌≡◌, ◌<◌, ◌≤◌, ◌↔◌, [], ◌∷◌, ◌++◌, length, slice_get, Some, IsTrue, OnOk, OnErr};
+ghost use Rattle.std.specs.Prelude.{◌≡◌, ◌<◌, ◌≤◌, ◌↔◌, [], ◌∷◌, ◌++◌, length, replicate, slice_get, slice_set, Some, IsTrue, OnOk, OnErr};
 
 use bfs_types::Memory;
 use std::alloc::Global;
@@ -45,7 +45,7 @@ impl Model for Replies {
 }
 
 impl Replies {
-    /// No replies yet. This and `push` are for executors.
+    /// No replies yet. This and what changes them are for executors.
     pub fn new(alloc: Global) -> Replies
         ensures { result ≡ [] }
     {
@@ -63,6 +63,32 @@ impl Replies {
     {
         self.replies.push(Reply { bytes })?;
         Ok(())
+    }
+
+    /// Makes so many places more behind the others, each of which has a reply of no bytes until `put` fills it. `Memory` if memory runs
+    /// out; then nothing changes.
+    #[tactic(auto, using(std::proofs::lemmas::List::replicate_more))]
+    pub fn add_places(&mut self, alloc: Global, more: usize) -> Result<(), Memory>
+        ensures ok { OnOk result (self.new ≡ self.old ++ replicate more []) }
+        ensures err { OnErr result (self.new ≡ self.old) }
+    {
+        self.replies.reserve(more)?;
+        for _ in 0..more {
+            self.replies.push_reserved(Reply {
+                bytes: Vec::new(alloc),
+            });
+        }
+        Ok(())
+    }
+
+    /// Puts the reply to the request at that place, from 0 on, where another may be: at most `MOST_REPLY_BYTES` bytes, none if the
+    /// request can't be answered. It takes no memory.
+    pub fn put(&mut self, place: usize, bytes: Vec<u8>)
+        requires within { place < length self.old }
+        requires short { length bytes.items ≤ most_reply_bytes }
+        ensures { self.new ≡ slice_set self.old place bytes.items }
+    {
+        self.replies[place] = Reply { bytes };
     }
 
     /// How many replies there are: as many as the batch has requests.

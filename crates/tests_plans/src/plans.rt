@@ -1,5 +1,5 @@
 //! The runs, groups and levels of worked batches, planned on a file system with the files `a`, of fileid 3, and `b`, of fileid 4.
-use bfs_levels::{plan_group, plan_group_before, runs, runs_before};
+use bfs_levels::{Part, plan_group, plan_group_before, runs, runs_before};
 use bfs_serial::{Batch, FileSystem, execute_serial};
 use bfs_testing::numbers::{CREATE, LOOKUP, READ, REMOVE, STATFS, WRITE};
 use bfs_testing::same;
@@ -82,6 +82,29 @@ fn plans_no_further_than_an_end(rt: HostRuntime) -> Result<(), Fail> {
     let group = plan_group_before(alloc, tree, ordinal, time, &batch, 0, 3)?;
     same!(rt; group.level_of.as_slice(), [0, 1, 0].as_slice());
     same!(rt; plan_group_before(alloc, tree, ordinal, time, &batch, 0, 100)?.len(), 5);
+    Ok(())
+}
+
+#[test]
+fn plans_the_rest_of_a_batch(rt: HostRuntime) -> Result<(), Fail> {
+    let alloc = rt.alloc();
+    let files = with_executed(alloc, MAKING)?;
+    let tree = files.tree().ok_or("a live file system")?;
+    let batch = batch_of(alloc, 2, WRITING)?;
+    let part = Part {
+        batch: &batch,
+        first: 0,
+        ordinal: Ordinal::first().next().next(),
+        time: batch.time(),
+    };
+    assert_eq!(rt; part.len(), 5);
+    let rest = part.after(1);
+    same!(rt; rest.len(), 4);
+    same!(rt; rest.first, 1);
+    same!(rt; rest.ordinal_of(3).number(), part.ordinal_of(3).number());
+    same!(rt; rest.request(3), batch.request(3));
+    same!(rt; rest.run_before(alloc, tree, 3)?.len(), 2);
+    same!(rt; part.group_before(alloc, tree, 3)?.level_of.as_slice(), [0, 1, 0].as_slice());
     Ok(())
 }
 

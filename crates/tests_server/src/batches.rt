@@ -51,6 +51,20 @@ fn keeps_replies_in_their_order(rt: HostRuntime) -> Result<(), Fail> {
     Ok(())
 }
 
+#[test]
+fn puts_replies_at_their_places(rt: HostRuntime) -> Result<(), Fail> {
+    let mut replies = pushed(rt.alloc())?;
+    replies.add_places(rt.alloc(), 3)?;
+    assert_eq!(rt; replies.len(), 5);
+    replies.put(3, vec![in rt.alloc(); 9u8; 32]?);
+    assert_eq!(rt; replies.len(), 5);
+    same!(rt; replies.get(1).len(), 8_800);
+    same!(rt; replies.get(2).len(), 0);
+    same!(rt; replies.get(3), [9u8; 32].as_slice());
+    same!(rt; replies.get(4).len(), 0);
+    Ok(())
+}
+
 fn front(bytes: &[u8], count: usize) -> &[u8] {
     if count < bytes.len() {
         &bytes[..count]

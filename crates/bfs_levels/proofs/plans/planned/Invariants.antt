@@ -8,13 +8,13 @@ use Rattle.bfs_levels.proofs.plans.planned.Given as goal
 
 abbrev pub invariant-loop-index : goal.invariant-loop-index
 invariant-loop-index l =
-    let requests = take l.end l.batch.requests in
+    let requests = take l.end l.part.batch.now.requests in
     let left = drop l.index requests in
-    let all = drop l.first requests in
+    let all = drop l.part.first requests in
     let calls = calls_in l.plan in
     record {
       plan : IsPlan l.plan;
-      place : length calls + l.first ≡ l.index;
-      kept : calls ++ footprints_at (at_home l.tree) l.ordinal l.time left ≡ footprints_at (at_home l.tree) l.fn.ordinal l.time all;
-      joined : count_joined (parts l.rule) calls (touches_at (at_home l.tree) l.ordinal l.time left) + length calls ≡ count_joined (parts l.rule) [] (touches_at (at_home l.tree) l.fn.ordinal l.time all);
+      place : length calls + l.part.first ≡ l.index;
+      kept : calls ++ footprints_at (at_home l.tree) l.ordinal l.part.time left ≡ footprints_at (at_home l.tree) l.part.ordinal l.part.time all;
+      joined : count_joined (parts l.rule) calls (touches_at (at_home l.tree) l.ordinal l.part.time left) + length calls ≡ count_joined (parts l.rule) [] (touches_at (at_home l.tree) l.part.ordinal l.part.time all);
     }

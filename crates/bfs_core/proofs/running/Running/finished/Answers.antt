@@ -31,28 +31,28 @@ at c = record {
 abbrev way : (c : In-Taken) → UnderWay (at c)
 way c = record { none = none c; loans = c.in-Taken.inodes; lent = sym c.replace.ensures.value ∙ c.in-Taken.is }
 
-pub request-requires : goal.request-requires
-request-requires c = let taken = (goal.at.request-requires c).In-Taken in in_batch (at taken) (way taken)
+pub request-requires-clause-within : goal.request-requires-clause-within
+request-requires-clause-within c = let taken = (goal.at.request-requires-clause-within c).In-Taken in in_batch (at taken) (way taken)
 
 pub carry_out_alone-requires-clause-known : goal.carry_out_alone-requires-clause-known
 carry_out_alone-requires-clause-known c =
     let taken = (goal.at.carry_out_alone-requires-clause-known c).In-Taken in
-    let asked = its_request (at taken) (way taken) c.request.result.now c.after.result c.request.ensures c.after.ensures in
+    let asked = its_request (at taken) (way taken) c.request.result.now c.ordinal_of.result c.request.ensures c.ordinal_of.ensures in
     let all = sym c.is_whole.ensures ∙ c.if-is_whole.true in
-    subst (λ (n : Inodes). Knows (reach_of c.self.inside.tree) (footprint_of n c.after.result c.self.inside.time c.request.result.now)) (own_is_home (at taken) (way taken) asked all)
+    subst (λ (n : Inodes). Knows (reach_of c.self.inside.tree) (footprint_of n c.ordinal_of.result c.self.inside.part.time c.request.result.now)) (own_is_home (at taken) (way taken) asked all)
     (knows_all (at taken) (way taken) asked all)
 
 pub carry_out_alone-requires-clause-fresh : goal.carry_out_alone-requires-clause-fresh
 carry_out_alone-requires-clause-fresh c =
     let taken = (goal.at.carry_out_alone-requires-clause-fresh c).In-Taken in
-    let asked = its_request (at taken) (way taken) c.request.result.now c.after.result c.request.ensures c.after.ensures in
-    subst (λ (n : Inodes). IsFreshFor n c.after.result (footprint_of n c.after.result c.self.inside.time c.request.result.now))
+    let asked = its_request (at taken) (way taken) c.request.result.now c.ordinal_of.result c.request.ensures c.ordinal_of.ensures in
+    subst (λ (n : Inodes). IsFreshFor n c.ordinal_of.result (footprint_of n c.ordinal_of.result c.self.inside.part.time c.request.result.now))
     (own_is_home (at taken) (way taken) asked (sym c.is_whole.ensures ∙ c.if-is_whole.true)) (its_fresh (at taken) (way taken) asked)
 
 pub carry_out-requires-clause-can_run : goal.carry_out-requires-clause-can_run
 carry_out-requires-clause-can_run c =
     let taken = (goal.at.carry_out-requires-clause-can_run c).In-Taken in
-    let asked = its_request (at taken) (way taken) c.request.result.now c.after.result c.request.ensures c.after.ensures in
+    let asked = its_request (at taken) (way taken) c.request.result.now c.ordinal_of.result c.request.ensures c.ordinal_of.ensures in
     record {
       known = can_run_known (at taken) (way taken) asked (sym c.is_whole.ensures ∙ c.if-is_whole.false);
       fresh = its_fresh (at taken) (way taken) asked;
@@ -61,15 +61,15 @@ carry_out-requires-clause-can_run c =
 pub carry_out-requires-clause-out : goal.carry_out-requires-clause-out
 carry_out-requires-clause-out c =
     let taken = (goal.at.carry_out-requires-clause-out c).In-Taken in
-    let asked = its_request (at taken) (way taken) c.request.result.now c.after.result c.request.ensures c.after.ensures in
+    let asked = its_request (at taken) (way taken) c.request.result.now c.ordinal_of.result c.request.ensures c.ordinal_of.ensures in
     record { distinct = distinct (at taken) (way taken) asked; lent_out = is_out (at taken) (way taken) asked }
 
 abbrev job : goal.Joined-call → Job
-job c = record { number = c.args.number; request = c.request.result; ordinal = c.after.result; time = c.self.inside.time; inodes = c.in-Taken.inodes }
+job c = record { number = c.args.number; request = c.request.result; ordinal = c.ordinal_of.result; time = c.self.inside.part.time; inodes = c.in-Taken.inodes }
 
 -- the call has been carried out, on the whole tree or on what it was lent
 carried : (c : goal.Joined-call)
-    → (is_whole (footprint_seen c.index_mut-call.result.now.footprint) ≡ true → CarriesOutAlone c.self.inside.tree c.in-Taken.inodes c.after.result c.self.inside.time c.request.result.now)
+    → (is_whole (footprint_seen c.index_mut-call.result.now.footprint) ≡ true → CarriesOutAlone c.self.inside.tree c.in-Taken.inodes c.ordinal_of.result c.self.inside.part.time c.request.result.now)
     → IsCarriedOut c.self.inside.tree c.if-is_whole.tree (job c) c.if-is_whole.reply.items
 carried c alone = elim c.if-is_whole.branch [
   | then-is_whole+in_ok-reply w ↦
@@ -84,19 +84,19 @@ carried c alone = elim c.if-is_whole.branch [
 pub invariant_of-result : goal.invariant_of-result
 invariant_of-result c =
     let taken = (goal.at.invariant_of-result c).In-Taken in
-    let asked = its_request (at taken) (way taken) c.request.result.now c.after.result c.request.ensures c.after.ensures in
+    let asked = its_request (at taken) (way taken) c.request.result.now c.ordinal_of.result c.request.ensures c.ordinal_of.ensures in
     let done = carried c (alone_is (at taken) (way taken) asked) in
     let claims = c.remove.new.self in
     record {
       running = finished_running (at taken) (way taken) asked c.if-is_whole.tree c.if-is_whole.reply done.answers done.still_out;
       claimed = subst (λ (m : Machine). AreClaimed claims m.standings) (sym (finished_seen (at taken) (way taken) asked c.if-is_whole.tree c.if-is_whole.reply done.answers done.still_out))
           (finished_claimed c.self.inside.claims claims (seen_of c.self.inside) c.args.number c.self.invariant.claimed
-          (subst (AreSet false c.self.inside.claims claims (c.args.number - c.self.inside.first)) (sym (foot (at taken))) c.remove.ensures));
+          (subst (AreSet false c.self.inside.claims claims (c.args.number - c.self.inside.part.first)) (sym (foot (at taken))) c.remove.ensures));
     }
 
 pub returns : goal.returns
 returns c =
     let taken = (goal.at.returns c).In-Taken in
-    let asked = its_request (at taken) (way taken) c.request.result.now c.after.result c.request.ensures c.after.ensures in
+    let asked = its_request (at taken) (way taken) c.request.result.now c.ordinal_of.result c.request.ensures c.ordinal_of.ensures in
     let done = carried c (alone_is (at taken) (way taken) asked) in
     finished_seen (at taken) (way taken) asked c.if-is_whole.tree c.if-is_whole.reply done.answers done.still_out ∙ ap (λ m. after_finish m c.args.number) c.self.view_is

@@ -7,21 +7,21 @@ use Rattle.bfs_tree.specs.Tree.{at_home}
 use Rattle.bfs_core.specs.declared.errors.CoreError.{CoreError}
 use Rattle.bfs_core.specs.declared.events.Event.{Event}
 use Rattle.bfs_core.specs.declared.events.Event.TheVariants.{Take}
-use Rattle.bfs_core.specs.Machine.{Machine, Plays, at_start, played}
-use Rattle.bfs_levels.specs.Requests.{requests_from}
+use Rattle.bfs_core.specs.Machine.{Machine, Plays, played}
+use Rattle.bfs_core.specs.Seen.{start_of}
 use Rattle.bfs_core.proofs.Playing.{Leads, all_happened, happened, next_is, refused}
-use Rattle.bfs_core.proofs.machine.Core.play.Goals as goal
+use Rattle.bfs_core.proofs.machine.Core.after.Goals as goal
 
 pub loop-event-init : goal.loop-event-init
 loop-event-init c =
     let a = c.args in
-    let end = played a.events.now (at_start a.group.first a.ordinal a.time (requests_from a.group.first (length a.group.footprints.items) a.batch.now.requests) (at_home a.tree)) in
+    let end = played a.events.now (start_of a.part.now (length a.footprints.items) (at_home a.tree)) in
     subst (λ (core : Option Machine). Leads core a.events.now end) (sym c.in_ok-core.ensures) refl
 
 pub returns-in_err-happen : goal.returns-in_err-happen
 returns-in_err-happen c =
     let a = c.args in
-    let end = played a.events.now (at_start a.group.first a.ordinal a.time (requests_from a.group.first (length a.group.footprints.items) a.batch.now.requests) (at_home a.tree)) in
+    let end = played a.events.now (start_of a.part.now (length a.footprints.items) (at_home a.tree)) in
     let k = c.loop-event.event-index in
     let event = get_or a.events.now k (Take 0) in
     let p = err_from_is_err_and c.from_residual-in_err-happen.result c.from_residual-in_err-happen.ensures.1 in
@@ -33,7 +33,7 @@ returns-in_err-happen c =
 pub loop-event-preserved : goal.loop-event-preserved
 loop-event-preserved c =
     let a = c.args in
-    let end = played a.events.now (at_start a.group.first a.ordinal a.time (requests_from a.group.first (length a.group.footprints.items) a.batch.now.requests) (at_home a.tree)) in
+    let end = played a.events.now (start_of a.part.now (length a.footprints.items) (at_home a.tree)) in
     let k = c.loop-event.event-index in
     let event = get_or a.events.now k (Take 0) in
     let leads = subst (λ (es : List Event). Leads c.loop-event.core es end) (next_is a.events.now k (Take 0) c.loop-event-test.true) c.loop-event.invariant in
@@ -42,6 +42,6 @@ loop-event-preserved c =
 pub returns : goal.returns
 returns c =
     let a = c.args in
-    let end = played a.events.now (at_start a.group.first a.ordinal a.time (requests_from a.group.first (length a.group.footprints.items) a.batch.now.requests) (at_home a.tree)) in
+    let end = played a.events.now (start_of a.part.now (length a.footprints.items) (at_home a.tree)) in
     let over : length a.events.now ≤ c.loop-event.event-index = omega arith in
     all_happened c.loop-event.core end (subst (λ (es : List Event). Leads c.loop-event.core es end) (drop_of_length-le a.events.now over) c.loop-event.invariant)

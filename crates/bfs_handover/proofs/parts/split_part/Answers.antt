@@ -1,9 +1,7 @@
 -- What was taken out for these numbers is split off.
-use Rattle.std.proofs.Common.{map}
-use Rattle.bfs_footprint.specs.Seen.{footprint_seen}
-use Rattle.bfs_handover.specs.Splitting.{part_of}
+use Rattle.bfs_handover.specs.Splitting.{part_with}
 use Rattle.bfs_handover.proofs.SplitLemmas.{from_both, is_split, requested}
-use Rattle.bfs_handover.proofs.parts.split.Goals as goal
+use Rattle.bfs_handover.proofs.parts.split_part.Goals as goal
 
 pub take_all-requires-clause-within : goal.take_all-requires-clause-within
 take_all-requires-clause-within c = λ k d less.
@@ -12,13 +10,13 @@ take_all-requires-clause-within c = λ k d less.
     record {
       from = can.from;
       within = can.within;
-      requested = requested a.first _ a.batch.now.requests can.from (c.requires.footprints k d less).requested;
+      requested = requested a.part.now.first _ a.part.now.batch.now.requests can.from (c.requires.footprints k d less).requested;
     }
 
 pub returns-clause-split : goal.returns-clause-split
 returns-clause-split c =
     let a = c.args in
-    let part = part_of a.first a.ordinal a.time a.batch.now.requests (map footprint_seen a.footprints.now) in
+    let part = part_with a.part.now a.footprints.now in
     from_both c.take_all.result
     (λ jobs are out. is_split a.tree.now c.take_all.new.tree part a.numbers.now jobs.items c.requires.whole c.requires.disjoint c.requires.numbers c.requires.footprints are out)
     c.take_all.ensures.jobs c.take_all.ensures.out
