@@ -40,7 +40,15 @@ impl Executor {
         match self.engine {
             None => execute_serial(alloc, files, batch),
             Some(engine) => {
-                execute_parallel(rt, alloc, files, batch, self.workers, engine, &AsksForThreads)
+                execute_parallel(
+                    rt,
+                    alloc,
+                    files,
+                    batch,
+                    self.workers,
+                    engine,
+                    &AsksForThreads,
+                )
             }
         }
     }
