@@ -12,7 +12,6 @@ use Rattle.bfs_workers.proofs.Ones.{one_there}
 use Rattle.bfs_parallel.specs.Parts.{IsPartExecuted}
 use Rattle.bfs_parallel.specs.Ran.{AllRan}
 
-
 -- the next of them, and those behind it
 next_left : (batch : List (List ℕ)) (first n k place : ℕ) → place ≡ first + k → first + n ≤ length batch → k < n
     → drop k (requests_from first n batch) ≡ get_or batch place [] ∷ drop (suc k) (requests_from first n batch)

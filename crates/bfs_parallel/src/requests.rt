@@ -33,7 +33,16 @@ pub(crate) fn execute_in_order<G: Gate>(
     prove!(place + count <= all);
     let mut ordinal = ordinal;
     for done in 0..count {
-        execute_one(alloc, tree, batch, ordinal, time, place + done, gate, replies)?;
+        execute_one(
+            alloc,
+            tree,
+            batch,
+            ordinal,
+            time,
+            place + done,
+            gate,
+            replies,
+        )?;
         ordinal = ordinal.next();
     }
     Ok(())

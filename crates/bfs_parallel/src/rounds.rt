@@ -83,9 +83,7 @@ impl Rounds {
 
     /// Whether one of these levels gets threads.
     pub(crate) fn start(&self, batch: &Batch, levels: &[Vec<u32>]) -> bool {
-        levels
-            .iter()
-            .any(|numbers| self.workers_for(batch, numbers.as_slice()).count() > 1)
+        levels.iter().any(|numbers| self.workers_for(batch, numbers.as_slice()).count() > 1)
     }
 
     /// The workers of the level with the requests of these numbers: all of them, or the calling thread alone.

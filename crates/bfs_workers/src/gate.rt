@@ -48,7 +48,16 @@ pub trait Gate {
         }
         let footprints = [footprint];
         let number = place as u32;
-        let job = split_one(alloc, tree, batch, ordinal, time, place, &footprints, number)?;
+        let job = split_one(
+            alloc,
+            tree,
+            batch,
+            ordinal,
+            time,
+            place,
+            &footprints,
+            number,
+        )?;
         let done = self.run(alloc, tree, job)?;
         Ok(merge_one(tree, done).bytes)
     }

@@ -14,7 +14,7 @@ use Rattle.bfs_parallel.specs.Levels.{texts_of}
 use Rattle.bfs_parallel.specs.Ran.{AllRan}
 use Rattle.bfs_parallel.proofs.Levelled.{IsOnItsWay, IsReady, arrives, as_many_levels, further, none_left, places_there, ready, sets_out}
 use Rattle.bfs_parallel.proofs.Places.{length-all_put}
-use Rattle.bfs_parallel.proofs.levels.execute_levels.Goals.{After-as_slice-in-loop-numbers, In_ok-replies}
+use Rattle.bfs_parallel.proofs.levels.execute_levels.Goals.{After-as_slice-in-loop-numbers-2, In_ok-replies}
 use Rattle.bfs_parallel.proofs.levels.execute_levels.Goals as goal
 
 pub loop-numbers-init : goal.loop-numbers-init
@@ -33,30 +33,30 @@ loop-numbers-init g c =
     }
 
 -- the group is on its way, with the level whose turn it is before the others that are left
-way : (g : _) (c : After-as_slice-in-loop-numbers g)
+way : (g : _) (c : After-as_slice-in-loop-numbers-2 g)
     → IsOnItsWay g.G.Gate.ran (at_home c.args.tree.now) c.args.group.now.first c.args.ordinal c.args.time c.args.batch.now.requests (map footprint_seen c.args.group.now.footprints.items) c.args.group.now.level_of.items (at_home c.loop-numbers.tree) (texts_of c.loop-numbers.texts.items) (c.in-Some.numbers ∷ c.next.new.self.rest.items)
 way g c =
     let a = c.args in
     subst (λ left. IsOnItsWay g.G.Gate.ran (at_home a.tree.now) a.group.now.first a.ordinal a.time a.batch.now.requests (map footprint_seen a.group.now.footprints.items) a.group.now.level_of.items (at_home c.loop-numbers.tree) (texts_of c.loop-numbers.texts.items) left) c.in-Some.ensures.steps.0 c.loop-numbers.invariant.way
 
 -- what that level asks for
-level : (g : _) (c : After-as_slice-in-loop-numbers g)
+level : (g : _) (c : After-as_slice-in-loop-numbers-2 g)
     → IsReady g.G.Gate.ran (at_home c.args.tree.now) c.args.group.now.first c.args.ordinal c.args.time c.args.batch.now.requests (map footprint_seen c.args.group.now.footprints.items) c.args.group.now.level_of.items (at_home c.loop-numbers.tree) (texts_of c.loop-numbers.texts.items) c.in-Some.numbers.items
 level g c =
     let a = c.args in
     ready g.G.Gate.ran (at_home a.tree.now) a.group.now.first a.ordinal a.time a.batch.now.requests (map footprint_seen a.group.now.footprints.items) a.group.now.level_of.items (at_home c.loop-numbers.tree) (texts_of c.loop-numbers.texts.items) c.in-Some.numbers c.next.new.self.rest.items (way g c)
 
 pub carry_out-requires-clause-footprints : goal.carry_out-requires-clause-footprints
-carry_out-requires-clause-footprints g c κs within = rw (c.as_slice.ensures.value, c.as_slice-in-loop-numbers.ensures.value) (level g (goal.at.carry_out-requires-clause-footprints g c).After-as_slice-in-loop-numbers).found
+carry_out-requires-clause-footprints g c κs within = rw (c.as_slice-in-loop-numbers.ensures.value, c.as_slice-in-loop-numbers-2.ensures.value) (level g (goal.at.carry_out-requires-clause-footprints g c).After-as_slice-in-loop-numbers-2).found
 
 pub carry_out-requires-clause-numbers : goal.carry_out-requires-clause-numbers
-carry_out-requires-clause-numbers g c κs within = rw (c.as_slice.ensures.value, c.as_slice-in-loop-numbers.ensures.value) (level g (goal.at.carry_out-requires-clause-numbers g c).After-as_slice-in-loop-numbers).can
+carry_out-requires-clause-numbers g c κs within = rw (c.as_slice-in-loop-numbers.ensures.value, c.as_slice-in-loop-numbers-2.ensures.value) (level g (goal.at.carry_out-requires-clause-numbers g c).After-as_slice-in-loop-numbers-2).can
 
 pub carry_out-requires-clause-disjoint : goal.carry_out-requires-clause-disjoint
-carry_out-requires-clause-disjoint g c κs within = rw (c.as_slice.ensures.value, c.as_slice-in-loop-numbers.ensures.value) (level g (goal.at.carry_out-requires-clause-disjoint g c).After-as_slice-in-loop-numbers).apart
+carry_out-requires-clause-disjoint g c κs within = rw (c.as_slice-in-loop-numbers.ensures.value, c.as_slice-in-loop-numbers-2.ensures.value) (level g (goal.at.carry_out-requires-clause-disjoint g c).After-as_slice-in-loop-numbers-2).apart
 
 pub carry_out-requires-clause-rising : goal.carry_out-requires-clause-rising
-carry_out-requires-clause-rising g c κs within = rw c.as_slice-in-loop-numbers.ensures.value (level g (goal.at.carry_out-requires-clause-rising g c).After-as_slice-in-loop-numbers).rise
+carry_out-requires-clause-rising g c κs within = rw c.as_slice-in-loop-numbers-2.ensures.value (level g (goal.at.carry_out-requires-clause-rising g c).After-as_slice-in-loop-numbers-2).rise
 
 -- the level whose turn it was has been carried out
 carried : (g : _) (c : In_ok-replies g)
@@ -68,15 +68,15 @@ carried g c =
     let home = at_home c.loop-numbers.tree in
     let after = at_home c.carry_out.new.tree in
     let replies = c.in_ok-replies.replies.items in
-    subst (λ ns. AreCarriedOut home after (part_of first a.ordinal a.time batch (map footprint_seen a.group.now.footprints.items)) ns replies) c.as_slice-in-loop-numbers.ensures.value
-    (subst (λ (items : List declared.Footprint). AreCarriedOut home after (part_of first a.ordinal a.time batch (map footprint_seen items)) c.as_slice-in-loop-numbers.result.now replies) c.as_slice.ensures.value c.in_ok-replies.ensures.done)
+    subst (λ ns. AreCarriedOut home after (part_of first a.ordinal a.time batch (map footprint_seen a.group.now.footprints.items)) ns replies) c.as_slice-in-loop-numbers-2.ensures.value
+    (subst (λ (items : List declared.Footprint). AreCarriedOut home after (part_of first a.ordinal a.time batch (map footprint_seen items)) c.as_slice-in-loop-numbers-2.result.now replies) c.as_slice-in-loop-numbers.ensures.value c.in_ok-replies.ensures.done)
 
 pub place-requires : goal.place-requires
 place-requires g c =
     let a = c.args in
     let fs = map footprint_seen a.group.now.footprints.items in
     places_there g.G.Gate.ran (at_home a.tree.now) a.group.now.first a.ordinal a.time a.batch.now.requests fs a.group.now.level_of.items (at_home c.loop-numbers.tree) (texts_of c.loop-numbers.texts.items) c.in-Some.numbers.items (at_home c.carry_out.new.tree) c.in_ok-replies.replies.items (length c.loop-numbers.texts.items)
-    (level g (goal.at.place-requires g c).After-as_slice-in-loop-numbers) (carried g (goal.at.place-requires g c).In_ok-replies) (c.loop-numbers.invariant.count ∙ sym (length-map a.group.now.footprints.items footprint_seen))
+    (level g (goal.at.place-requires g c).After-as_slice-in-loop-numbers-2) (carried g (goal.at.place-requires g c).In_ok-replies) (c.loop-numbers.invariant.count ∙ sym (length-map a.group.now.footprints.items footprint_seen))
 
 pub loop-numbers-preserved : goal.loop-numbers-preserved
 loop-numbers-preserved g c =
@@ -91,7 +91,7 @@ loop-numbers-preserved g c =
           ∙ length-map c.loop-numbers.texts.items (λ (text : Vec ℕ Global). text.items) ∙ c.loop-numbers.invariant.count;
       way = rw c.place.ensures
           (further g.G.Gate.ran (at_home a.tree.now) first a.ordinal a.time a.batch.now.requests fs a.group.now.level_of.items (at_home c.loop-numbers.tree) texts c.in-Some.numbers c.next.new.self.rest.items
-          (way g (goal.at.loop-numbers-preserved g c).After-as_slice-in-loop-numbers) (at_home c.carry_out.new.tree) replies (carried g (goal.at.loop-numbers-preserved g c).In_ok-replies) c.in_ok-replies.ensures.ran);
+          (way g (goal.at.loop-numbers-preserved g c).After-as_slice-in-loop-numbers-2) (at_home c.carry_out.new.tree) replies (carried g (goal.at.loop-numbers-preserved g c).In_ok-replies) c.in_ok-replies.ensures.ran);
     }
 
 pub returns : goal.returns
