@@ -30,7 +30,7 @@ as_batch block = record { time = block.time; requests = map (λ request. request
 abbrev pub block_output : FileSystem → Block → List ℕ
 block_output files block = reply_lines block.requests (execute files (as_batch block)).1
 
--- what an event prints that happens to a file system. Who is silent prints nothing
+-- what an event prints that happens to a file system. Only replies are printed, and not who falls silent or is heard
 abbrev pub event_output : FileSystem → TraceEvent → List ℕ
 event_output files (event.Block block) = block_output files block
 event_output files (event.Silent replica) = []
