@@ -109,7 +109,9 @@ fn run_words(alloc: Global, tree: &mut Tree, ordinal: Ordinal, step: &Step) -> R
     }
     let Step(procedure, arguments, _) = step;
     let arguments = spelled(alloc, arguments)?;
-    let named = Procedure::new(*procedure).ok_or(Fail::new("a procedure"))?;
+    let Some(named) = Procedure::new(*procedure) else {
+        return Err(Fail::new("a procedure"));
+    };
     match parse_args(named, arguments.as_slice()) {
         Ok(call) => {
             let time = Time::new(1, 0).unwrap_or(Time::epoch());
