@@ -1,4 +1,4 @@
-// Names in directories (RFC 1094 section 2.3.9).
+// Names in directories (RFC 1094 section 2.3.7).
 ghost use Rattle.std.specs.Prelude.{◌≡◌, ◌==◌, ◌||◌};
 ghost use Rattle.std.specs.List.{list_any};
 ghost use Rattle.bfs_model.specs.Directories as model;

@@ -70,15 +70,15 @@ handle_at bytes = do
   item ← result_ok (fixed_at false 32 bytes)
   Some (handle_id item.0, item.1)
 
--- a name of at most 255 bytes (RFC 1094 section 2.3.9)
+-- a name of at most 255 bytes (RFC 1094 section 2.3.7)
 abbrev pub name_at : List ℕ → Option (List ℕ × List ℕ)
 name_at bytes = result_ok (opaque_at false most_name_bytes bytes)
 
--- a path of at most 1,024 bytes (RFC 1094 section 2.3.10)
+-- a path of at most 1,024 bytes (RFC 1094 section 2.3.8)
 abbrev pub path_at : List ℕ → Option (List ℕ × List ℕ)
 path_at bytes = result_ok (opaque_at false most_path_bytes bytes)
 
--- a file's bytes, at most 8,192 in one call (RFC 1094 section 2.3.11)
+-- a file's bytes, at most 8,192 in one call (RFC 1094 sections 2.2.7 and 2.2.9, nfsdata)
 abbrev pub data_at : List ℕ → Option (List ℕ × List ℕ)
 data_at bytes = result_ok (opaque_at false most_data_bytes bytes)
 

@@ -1,10 +1,10 @@
--- The call that bytes spell, or the first reason to refuse it (RFC 5531 section 9). Padding is not looked at.
+-- The call that bytes spell, or the first reason to refuse it (RFC 5531 sections 9 and 10.1, appendix A). Padding is not looked at.
 use Rattle.std.specs.Prelude.{ℕ, zero, suc, Bool, true, false, List, length, Option, Some, None, option_and_then, Result, Ok, Err, nat_lt, ◌==◌, if◌then◌else◌, nat_le}
 use Rattle.std.specs.Option.{ok_or}
 use Rattle.std.specs.Result.{result_ok}
 use Rattle.bfs_model.specs.Items.{word_at, opaque_at}
 
--- for whom a call is made (RFC 5531 sections 8.2 and 14)
+-- for whom a call is made (RFC 5531 section 8.2, appendix A)
 pub record Credential : Type 0 where
   pub uid : ℕ
   pub gid : ℕ

@@ -5,7 +5,7 @@ use Rattle.bfs_model.specs.Limits.{most_data_bytes}
 use Rattle.bfs_model.specs.Items.{padding_of}
 use Rattle.bfs_model.specs.Tree.{Entry, Listing}
 
--- Names (RFC 1094 section 2.3.9) -------------------------------------------------------------------------------------
+-- Names (RFC 1094 section 2.3.7) -------------------------------------------------------------------------------------
 
 abbrev pub dot : List ℕ
 dot = codes "."

@@ -1,4 +1,4 @@
--- One call after another: from the bytes of requests to the bytes of replies, by a server of some of the procedures.
+-- One call after another: from the bytes of requests to the bytes of replies.
 use Rattle.std.specs.Prelude.{ℕ, ◌+◌, Bool, ◌&&◌, ◌||◌, min, List, [], ◌∷◌, length, Option, Some, None, Result, Ok, Err, nat_lt, ◌==◌, if◌then◌else◌}
 use Rattle.bfs_model.specs.Tree.{Time, Inodes, FileSystem, spent_ordinal}
 use Rattle.bfs_model.specs.Call.{Request, Refusal, call_of}

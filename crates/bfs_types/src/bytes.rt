@@ -12,10 +12,10 @@ pub struct Bytes<const MOST: usize> {
     bytes: Vec<u8>,
 }
 
-/// A name in a directory: at most `MOST_NAME_BYTES` (RFC 1094 section 2.3.9, filename).
+/// A name in a directory: at most `MOST_NAME_BYTES` (RFC 1094 section 2.3.7, filename).
 pub type Name = Bytes<MOST_NAME_BYTES>;
 
-/// The path that a symbolic link holds: at most `MOST_PATH_BYTES` (RFC 1094 section 2.3.10, path).
+/// The path that a symbolic link holds: at most `MOST_PATH_BYTES` (RFC 1094 section 2.3.8, path).
 pub type LinkPath = Bytes<MOST_PATH_BYTES>;
 
 impl<const MOST: usize> Model for Bytes<MOST> {

@@ -80,7 +80,7 @@ impl<'a> Arguments<'a> {
         self.reader.opaque(most).ok()
     }
 
-    // a name (RFC 1094 section 2.3.9)
+    // a name (RFC 1094 section 2.3.7)
     pub(crate) fn name(&mut self) -> Option<&'a [u8]>
         ensures value { option_map (λ name. (name.now, self.new)) result ≡ model.name_at self.old }
         ensures short { IfSome result (λ name. length name.now ≤ most_name_bytes) }
@@ -88,7 +88,7 @@ impl<'a> Arguments<'a> {
         self.opaque(MOST_NAME_BYTES as u32)
     }
 
-    // a path (RFC 1094 section 2.3.10)
+    // a path (RFC 1094 section 2.3.8)
     pub(crate) fn path(&mut self) -> Option<&'a [u8]>
         ensures value { option_map (λ path. (path.now, self.new)) result ≡ model.path_at self.old }
         ensures short { IfSome result (λ path. length path.now ≤ most_path_bytes) }
@@ -96,7 +96,7 @@ impl<'a> Arguments<'a> {
         self.opaque(MOST_PATH_BYTES as u32)
     }
 
-    // a file's bytes (RFC 1094 section 2.3.11)
+    // a file's bytes (RFC 1094 section 2.2.9, nfsdata)
     pub(crate) fn data(&mut self) -> Option<&'a [u8]>
         ensures value { option_map (λ bytes. (bytes.now, self.new)) result ≡ model.data_at self.old }
         ensures short { IfSome result (λ bytes. length bytes.now ≤ most_data_bytes) }

@@ -16,7 +16,7 @@ use bfs_types::{
 use bfs_xdr::{put_bool, put_opaque, put_words};
 use std::alloc::Global;
 
-/// Bytes of a file that READ gives: at most `MOST_DATA_BYTES` (RFC 1094 section 2.3.11, nfsdata).
+/// Bytes of a file that READ gives: at most `MOST_DATA_BYTES` (RFC 1094 section 2.2.7, nfsdata).
 pub type FileBytes = Bytes<MOST_DATA_BYTES>;
 
 /// The results of a procedure (RFC 1094 section 2.2).
