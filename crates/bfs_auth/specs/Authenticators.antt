@@ -1,7 +1,7 @@
 -- Authenticators: keyed hashes of one message, for each of its receivers.
 use Rattle.std.specs.Prelude.{◌≡◌, ◌≤◌, ℕ, Bool, false, List, [], ◌∷◌, map, length, Option, Some, None, slice_get, bytes_eq, All}
 use Rattle.std.specs.Option.{option_map}
-use Rattle.bfs_model.specs.Limits.{most_replicas}
+use Rattle.bfs_model.specs.Server.Limits.{most_replicas}
 use Rattle.bfs_auth.specs.Hmac.{hmac_sha256}
 use Rattle.bfs_auth.specs.Keys.{Keys, shared_with}
 use Rattle.bfs_auth.specs.declared.principals.Principal.{Principal}

@@ -1,7 +1,7 @@
 -- The keys that principals share: one for each direction between two.
 use Rattle.std.specs.Prelude.{ℕ, List, ◌++◌, map, Option, slice_get}
 use Rattle.std.specs.List.{range_with_len}
-use Rattle.bfs_model.specs.Items.{word}
+use Rattle.bfs_model.specs.Bytes.Items.{word}
 use Rattle.bfs_auth.specs.Hmac.{hmac_sha256}
 use Rattle.bfs_auth.specs.Principals.{number_of}
 use Rattle.bfs_auth.specs.declared.principals.Principal.{Principal}

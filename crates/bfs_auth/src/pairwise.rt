@@ -1,8 +1,8 @@
 ghost use Rattle.std.specs.Prelude.{◌≡◌, ◌+◌, ◌<◌, ◌≤◌, ◌^◌, ◌++◌, map, length, slice_get, Some, IfOk};
 ghost use Rattle.std.specs.List.{range_with_len};
 ghost use Rattle.std.specs.Option.{option_map};
-ghost use Rattle.bfs_model.specs.Items.{word};
-ghost use Rattle.bfs_model.specs.Limits.{most_replicas};
+ghost use Rattle.bfs_model.specs.Bytes.Items.{word};
+ghost use Rattle.bfs_model.specs.Server.Limits.{most_replicas};
 ghost use Rattle.bfs_auth.specs.Principals.{number_of};
 ghost use Rattle.bfs_auth.specs.Keys.{clients_known, key_from_to, keys_of, shared_keys, shared_with};
 
@@ -32,7 +32,7 @@ pub struct Keys {
 
 impl Model for Keys {
     ghost use Rattle.std.specs.Prelude.{◌≤◌, length};
-    ghost use Rattle.bfs_model.specs.Limits.{most_replicas};
+    ghost use Rattle.bfs_model.specs.Server.Limits.{most_replicas};
     ghost use Rattle.bfs_auth.specs.Keys as model;
 
     ghost Value = { model.Keys };
@@ -173,7 +173,7 @@ fn key_from_to(secret: &[u8], from: Principal, to: Principal) -> [u8; 32]
 }
 
 // the bytes of two numbers, the most significant first
-#[tactic(auto, unfolding(bfs_model::specs::Items::word))]
+#[tactic(auto, unfolding(bfs_model::specs::Bytes::Items::word))]
 fn both(first: u32, second: u32) -> [u8; 8]
     ensures { result ≡ word first ++ word second }
 {

@@ -5,10 +5,10 @@ use Rattle.std.specs.Ordering.{nat_cmp, eq_by_cmp}
 use Rattle.std.specs.FinMap.{find, empty, from_entries, insert, from_entries_push, nat_cmp-IsAntisymmetric}
 use Rattle.std.proofs.lemmas.Cmp.{nat_cmp_total}
 use Rattle.std.proofs.lemmas.Map.Views.{tells_apart}
-use Rattle.bfs_model.specs.Tree.{Inode, Inodes, root_id}
-use Rattle.bfs_model.specs.WellFormed.{IsLimited}
+use Rattle.bfs_model.specs.Server.Tree.{Inode, Inodes, root_id}
+use Rattle.bfs_model.specs.Server.WellFormed.{IsLimited}
 use Rattle.bfs_inode.specs.Records.{Reading, record_from}
-use Rattle.bfs_digest.specs.TextReading.{records_from}
+use Rattle.bfs_digest.specs.Inside.TextReading.{records_from}
 use Rattle.bfs_digest.proofs.Rising.{ReadsRising, First, first_of, records_rise}
 use Rattle.bfs_digest.proofs.Exact.{some_is}
 

@@ -4,11 +4,11 @@ use Rattle.std.specs.Option.{unwrap_or}
 use Rattle.std.specs.Ordering.{nat_cmp}
 use Rattle.std.specs.FinMap.{get, insert, empty, get-empty}
 use Rattle.std.proofs.lemmas.List.Sums.{sum_by-cons}
-use Rattle.bfs_model.specs.Tree.{Entry, Inode}
-use Rattle.bfs_model.specs.WellFormed.{times}
-use Rattle.bfs_model.proofs.WellFormed.Sums.{get-set_at}
-use Rattle.bfs_digest.specs.Names.{Counted, most_counted, counted_at, AreWithin, Adds}
-use Rattle.bfs_tree.proofs.WellFormed.Loops.{names_at}
+use Rattle.bfs_model.specs.Server.Tree.{Entry, Inode}
+use Rattle.bfs_model.specs.Server.WellFormed.{times}
+use Rattle.bfs_model.proofs.Public.{get-set_at}
+use Rattle.bfs_digest.specs.Inside.Names.{Counted, most_counted, counted_at, AreWithin, Adds}
+use Rattle.bfs_tree.proofs.Public.{names_at}
 
 pub none_counted_yet : (names : Counted) → names ≡ empty → (id : ℕ) → counted_at names id ≡ 0
 none_counted_yet names is id = ap (λ m. counted_at m id) is ∙ ap (λ o. unwrap_or o 0) (get-empty nat_cmp id)

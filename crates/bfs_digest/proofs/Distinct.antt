@@ -12,10 +12,10 @@ use Rattle.std.proofs.lemmas.Cmp.{nat_list_cmp_total}
 use Rattle.std.proofs.lemmas.List.Sorted.{IsPermutation-map, IsPermutation-sym}
 use Rattle.std.proofs.lemmas.Map.Keys.{IsDistinct-IsPermutation, IsDistinct-from_sorted}
 use Rattle.std.proofs.lemmas.Map.Text.{is_eq-slice_cmp}
-use Rattle.bfs_model.specs.Directories.{entry_named}
-use Rattle.bfs_model.specs.Tree.{Entry}
-use Rattle.bfs_model.specs.WellFormed.{NamesDiffer}
-use Rattle.bfs_inode.proofs.DirectoryLemmas.{none_further, other_name}
+use Rattle.bfs_model.specs.Server.Directories.{entry_named}
+use Rattle.bfs_model.specs.Server.Tree.{Entry}
+use Rattle.bfs_model.specs.Server.WellFormed.{NamesDiffer}
+use Rattle.bfs_inode.proofs.Public.{none_further, other_name}
 use Rattle.bfs_digest.proofs.Taken.{name_of}
 
 -- Names of entries ---------------------------------------------------------------------------------------------------------

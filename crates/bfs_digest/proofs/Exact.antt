@@ -5,10 +5,10 @@ use Rattle.std.specs.List.{slice_index}
 use Rattle.std.proofs.lemmas.Grind.{get_or_default_zero}
 use Rattle.std.proofs.lemmas.List.{drop_at, take_at}
 use Rattle.std.proofs.lemmas.List.Elements.{All-drop, All-take}
-use Rattle.bfs_model.specs.Items.{word, counted, fixed, padding_of, word_at, opaque_at}
-use Rattle.bfs_model.specs.Call.{◌>>=◌}
-use Rattle.bfs_model.specs.Stored.{IsWord, AreBytes}
-use Rattle.bfs_model.proofs.Laws.{word_again, word_written, opaque_again, opaque_written}
+use Rattle.bfs_model.specs.Bytes.Items.{word, counted, fixed, padding_of, word_at, opaque_at}
+use Rattle.bfs_model.specs.Bytes.Call.{◌>>=◌}
+use Rattle.bfs_model.specs.Server.Stored.{IsWord, AreBytes}
+use Rattle.bfs_model.proofs.Public.{word_again, word_written, opaque_again, opaque_written}
 use Rattle.bfs_inode.specs.Records.{Reading, word_from, bytes_from}
 
 -- Tools --------------------------------------------------------------------------------------------------------------

@@ -4,15 +4,15 @@ use Rattle.std.specs.Prelude.{◌↔◌, All}
 use Rattle.std.specs.Global.{Vec}
 use Rattle.std.specs.List.{AllByRecursion, list_all}
 use Rattle.std.specs.FinMap.{get, entries, from_entries}
-use Rattle.bfs_model.specs.Tree.{Inode, Inodes, root_id, is_directory, parent_of}
-use Rattle.bfs_model.specs.WellFormed.{named, IsNumbered, IsWellFormed}
-use Rattle.bfs_tree.proofs.WellFormed.Lists.{each_of_all, all_of_each}
-use Rattle.bfs_digest.specs.Formation.{IsCounted, LeadsToRoot, IsPlaced, TakesRecords, AreMarks, names_in}
-use Rattle.bfs_digest.specs.Names.{Counted, most_counted, counted_at}
-use Rattle.bfs_digest.specs.Outlines.{mark_of, marked, outline, is_named, MarksRise}
-use Rattle.bfs_digest.specs.Taking.{AreRecords}
+use Rattle.bfs_model.specs.Server.Tree.{Inode, Inodes, root_id, is_directory, parent_of}
+use Rattle.bfs_model.specs.Server.WellFormed.{named, IsNumbered, IsWellFormed}
+use Rattle.bfs_tree.proofs.Public.{each_of_all, all_of_each}
+use Rattle.bfs_digest.specs.Inside.Formation.{IsCounted, LeadsToRoot, IsPlaced, TakesRecords, AreMarks, names_in}
+use Rattle.bfs_digest.specs.Inside.Names.{Counted, most_counted, counted_at}
+use Rattle.bfs_digest.specs.Inside.Outlines.{mark_of, marked, outline, is_named, MarksRise}
+use Rattle.bfs_digest.specs.Inside.Taking.{AreRecords}
 use Rattle.bfs_digest.specs.Text.{Header}
-use Rattle.bfs_digest.specs.TextReading.{files_with, records_from}
+use Rattle.bfs_digest.specs.Inside.TextReading.{files_with, records_from}
 use Rattle.bfs_digest.specs.declared.outlines.Mark.{Mark}
 use Rattle.bfs_digest.proofs.Forming.{all_counted, all_numbered, all_placed, all_named}
 use Rattle.bfs_digest.proofs.Indexed as indexed

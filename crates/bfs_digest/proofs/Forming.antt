@@ -4,15 +4,15 @@ use Rattle.std.specs.Prelude.{◌==◌, ◌||◌}
 use Rattle.std.specs.List.{AllByRecursion, list_all}
 use Rattle.std.specs.FinMap.{from_entries}
 use Rattle.std.proofs.lemmas.Bool.{and_parts, and_from, not-true, leb-true, le-leb, ltb-true, lt-ltb}
-use Rattle.bfs_model.specs.Directories.{is_bad_name}
-use Rattle.bfs_model.specs.Limits.{most_links}
-use Rattle.bfs_model.specs.Tree.{Entry, Body, file, directory, link, Inode, Inodes, root_id, first_ordinal, spent_ordinal, entries_in, parent_in}
-use Rattle.bfs_model.specs.WellFormed.{named, directories_among, IsRising, HasNames, NamesDiffer, BodyIsLimited, IsLimited, IsNumbered}
+use Rattle.bfs_model.specs.Server.Directories.{is_bad_name}
+use Rattle.bfs_model.specs.Server.Limits.{most_links}
+use Rattle.bfs_model.specs.Server.Tree.{Entry, Body, file, directory, link, Inode, Inodes, root_id, first_ordinal, spent_ordinal, entries_in, parent_in}
+use Rattle.bfs_model.specs.Server.WellFormed.{named, directories_among, IsRising, HasNames, NamesDiffer, BodyIsLimited, IsLimited, IsNumbered}
 use Rattle.bfs_inode.specs.Records.{EntryIsRecordable, BodyIsRecordable}
 use Rattle.bfs_tree.specs.WellFormed.{is_child}
-use Rattle.bfs_digest.specs.Formation.{is_counted, IsCounted, may_stand, BodyIsPlaced, IsPlaced}
-use Rattle.bfs_digest.specs.Names.{Counted, most_counted, counted_at}
-use Rattle.bfs_digest.specs.Outlines.{mark_of, is_named_so, is_named}
+use Rattle.bfs_digest.specs.Inside.Formation.{is_counted, IsCounted, may_stand, BodyIsPlaced, IsPlaced}
+use Rattle.bfs_digest.specs.Inside.Names.{Counted, most_counted, counted_at}
+use Rattle.bfs_digest.specs.Inside.Outlines.{mark_of, is_named_so, is_named}
 use Rattle.bfs_digest.proofs.Exact.{some_is}
 use Rattle.bfs_digest.proofs.Indexed.{counts_from}
 use Rattle.bfs_digest.proofs.InodeParts.{differ_of}

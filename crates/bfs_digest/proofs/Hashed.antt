@@ -3,11 +3,11 @@ use Rattle.std.proofs.Common.{◌≡◌, ℕ, List, [], ◌∷◌, ◌++◌, map
 use Rattle.std.specs.List.{All, AllByRecursion, flat_map}
 use Rattle.std.proofs.lemmas.List.Elements.{All-map}
 use Rattle.std.specs.FinMap.{get, entries, keys}
-use Rattle.bfs_model.specs.Items.{word}
-use Rattle.bfs_model.specs.Tree.{Inode, Inodes}
-use Rattle.bfs_tree.proofs.WellFormed.Lists.{all_of_each}
+use Rattle.bfs_model.specs.Bytes.Items.{word}
+use Rattle.bfs_model.specs.Server.Tree.{Inode, Inodes}
+use Rattle.bfs_tree.proofs.Public.{all_of_each}
 use Rattle.bfs_digest.specs.Digests.{digests_text}
-use Rattle.bfs_digest.specs.Hashed.{IsHashed, digest_in, hashed_at, hashed_text}
+use Rattle.bfs_digest.specs.Inside.Hashed.{IsHashed, digest_in, hashed_at, hashed_text}
 
 abbrev IsThere : Inodes → ℕ × Inode → Type 0
 IsThere m inode = get m inode.0 ≡ Some inode.1

@@ -5,12 +5,11 @@ use Rattle.std.specs.Prelude.{◌==◌, ◌||◌}
 use Rattle.std.specs.List.{AllByRecursion, list_all}
 use Rattle.std.specs.FinMap.{get, entries}
 use Rattle.std.proofs.lemmas.Bool.{and_parts, and_from}
-use Rattle.bfs_model.specs.Tree.{Listing, Body, file, directory, link, Inode, Inodes, root_id, is_directory_body, is_directory, entries_in, entries_at, parent_of}
-use Rattle.bfs_model.specs.WellFormed.{times, named, directories_among, IsTree, IsWellFormedTree, ReachesRoot}
+use Rattle.bfs_model.specs.Server.Tree.{Listing, Body, file, directory, link, Inode, Inodes, root_id, is_directory_body, is_directory, entries_in, entries_at, parent_of}
+use Rattle.bfs_model.specs.Server.WellFormed.{times, named, directories_among, IsTree, IsWellFormedTree, ReachesRoot}
 use Rattle.bfs_tree.specs.WellFormed.{is_child}
-use Rattle.bfs_digest.specs.Formation.{is_directory_counted, is_counted, IsCounted, LeadsToRoot}
-use Rattle.bfs_tree.proofs.WellFormed.Lists.{each_of_all, all_of_each, named_of_all}
-use Rattle.bfs_tree.proofs.WellFormed.Deciding.{in_parent, there_at, root_unnamed, children_of}
+use Rattle.bfs_digest.specs.Inside.Formation.{is_directory_counted, is_counted, IsCounted, LeadsToRoot}
+use Rattle.bfs_tree.proofs.Public.{all_of_each, children_of, each_of_all, in_parent, named_of_all, root_unnamed, there_at}
 
 -- From the counts ------------------------------------------------------------------------------------------------------
 

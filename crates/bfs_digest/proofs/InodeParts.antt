@@ -1,11 +1,11 @@
 -- An inode that is built of its record, part by part.
 use Rattle.std.proofs.Common.{◌≡◌, ℕ, ◌<◌, ◌≤◌, cond, ltb, List, [], ◌∷◌, Some, None, sym, ap, subst, ◌∙◌, arith}
-use Rattle.bfs_model.specs.Limits.{most_entries, most_links}
-use Rattle.bfs_model.specs.Tree.{Entry, Listing, Body, directory, Inode, first_ordinal}
-use Rattle.bfs_model.specs.WellFormed.{BodyIsLimited, IsLimited, HasNames, NamesDiffer}
+use Rattle.bfs_model.specs.Server.Limits.{most_entries, most_links}
+use Rattle.bfs_model.specs.Server.Tree.{Entry, Listing, Body, directory, Inode, first_ordinal}
+use Rattle.bfs_model.specs.Server.WellFormed.{BodyIsLimited, IsLimited, HasNames, NamesDiffer}
 use Rattle.bfs_inode.specs.Directories.{AreEntries}
 use Rattle.bfs_inode.specs.Records.{Head, word_from, entries_from, listing_from, directory_from, body_from, head_from, with_body, record_from}
-use Rattle.bfs_digest.specs.Taking.{BodyMayBe}
+use Rattle.bfs_digest.specs.Inside.Taking.{BodyMayBe}
 use Rattle.bfs_digest.proofs.Exact.{refused_not, some_is, chosen}
 
 -- Records ---------------------------------------------------------------------------------------------------------------

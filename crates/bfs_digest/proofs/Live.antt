@@ -4,15 +4,15 @@ use Rattle.std.specs.List.{AllByRecursion}
 use Rattle.std.specs.FinMap.{entries, len, len-entries}
 use Rattle.std.specs.Option.{option_map, ForSome}
 use Rattle.std.proofs.lemmas.List.{drop_at}
-use Rattle.bfs_model.specs.Items.{word}
-use Rattle.bfs_model.specs.Limits.{most_links}
-use Rattle.bfs_model.specs.Stored.{BodyIsStorable, EntryIsStorable, IsLive}
-use Rattle.bfs_model.specs.Tree.{Entry, Body, file, directory, link, Inodes, FileSystem, root_id, first_ordinal, spent_ordinal, entries_in}
-use Rattle.bfs_model.specs.WellFormed.{IsRising, HasNames, BodyIsLimited, IsWellFormed}
+use Rattle.bfs_model.specs.Bytes.Items.{word}
+use Rattle.bfs_model.specs.Server.Limits.{most_links}
+use Rattle.bfs_model.specs.Server.Stored.{BodyIsStorable, EntryIsStorable, IsLive}
+use Rattle.bfs_model.specs.Server.Tree.{Entry, Body, file, directory, link, Inodes, FileSystem, root_id, first_ordinal, spent_ordinal, entries_in}
+use Rattle.bfs_model.specs.Server.WellFormed.{IsRising, HasNames, BodyIsLimited, IsWellFormed}
 use Rattle.bfs_inode.specs.Records.{EntryIsRecordable, BodyIsRecordable}
 use Rattle.bfs_digest.specs.Text.{magic, version, snapshot_text, IsSpellable, Spells}
 use Rattle.bfs_digest.proofs.Texts.{behind_version, few, tree_rises, files_again}
-use Rattle.bfs_digest.specs.TextReading.{files_from}
+use Rattle.bfs_digest.specs.Inside.TextReading.{files_from}
 use Rattle.bfs_digest.proofs.Exact.{some_is}
 
 -- From a live file system ------------------------------------------------------------------------------------------------

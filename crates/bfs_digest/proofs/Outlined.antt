@@ -6,10 +6,10 @@ use Rattle.std.specs.Ordering.{nat_cmp, eq_by_cmp}
 use Rattle.std.specs.FinMap.{find, get, from_entries, get-from_entries}
 use Rattle.std.specs.List.{list_all}
 use Rattle.std.proofs.lemmas.Cmp.{nat_cmp_total}
-use Rattle.bfs_model.specs.Tree.{Entry, Body, file, directory, link, Inode, Inodes, root_id, is_directory_body, is_directory, parent_in, parent_at, parent_of}
-use Rattle.bfs_model.specs.WellFormed.{directories_among, ReachesRoot, at_root, step}
+use Rattle.bfs_model.specs.Server.Tree.{Entry, Body, file, directory, link, Inode, Inodes, root_id, is_directory_body, is_directory, parent_in, parent_at, parent_of}
+use Rattle.bfs_model.specs.Server.WellFormed.{directories_among, ReachesRoot, at_root, step}
 use Rattle.bfs_tree.specs.WellFormed.{may_name, is_child}
-use Rattle.bfs_digest.specs.Outlines.{bare, bare_body, mark_of, marked, outline}
+use Rattle.bfs_digest.specs.Inside.Outlines.{bare, bare_body, mark_of, marked, outline}
 
 -- what is left of an inode
 abbrev pub bared : Inode → Inode

@@ -10,8 +10,8 @@ use Rattle.std.proofs.lemmas.Bool.{cases_lt, cond-true, cond-false}
 use Rattle.std.proofs.lemmas.Bool.Decides.{nat_tests}
 use Rattle.std.proofs.lemmas.Cmp.{nat_cmp_total, ranked}
 use Rattle.std.proofs.lemmas.Map.Views.{tells_apart}
-use Rattle.bfs_model.proofs.WellFormed.Sums.{itself}
-use Rattle.bfs_digest.specs.Outlines.{marked, outline, MarksRise}
+use Rattle.bfs_model.proofs.Public.{itself}
+use Rattle.bfs_digest.specs.Inside.Outlines.{marked, outline, MarksRise}
 use Rattle.bfs_digest.specs.declared.outlines.Mark.{Mark}
 use Rattle.bfs_digest.proofs.Texts.{both, of_lt, entries_from}
 

@@ -2,7 +2,7 @@
 use Rattle.std.proofs.Common.{◌≡◌, ◌++◌, Option, Some, None, refl}
 use Rattle.std.specs.Option.{option_map}
 use Rattle.std.specs.FinMap.{entries}
-use Rattle.bfs_model.specs.Tree.{Inodes, FileSystem}
+use Rattle.bfs_model.specs.Server.Tree.{Inodes, FileSystem}
 use Rattle.bfs_digest.specs.Text.{Header, header_of, header_text, records_text, snapshot_text}
 use Rattle.bfs_digest.specs.Digests.{digest_with, digest_of}
 

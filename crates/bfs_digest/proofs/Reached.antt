@@ -6,12 +6,12 @@ use Rattle.std.specs.List.{list_any}
 use Rattle.std.specs.Ordering.{nat_cmp, is_eq}
 use Rattle.std.specs.FinMap.{len, nat_cmp-IsAntisymmetric}
 use Rattle.std.proofs.lemmas.Map.Views.{tells_apart}
-use Rattle.bfs_model.specs.Tree.{Inodes, root_id, parent_of}
-use Rattle.bfs_model.specs.Procedures.Renaming.{is_within}
-use Rattle.bfs_model.specs.WellFormed.{ReachesRoot, at_root, step}
-use Rattle.bfs_model.proofs.WellFormed.Walks.{reaches_within}
-use Rattle.bfs_digest.specs.Formation.{AreReached}
-use Rattle.bfs_tree.proofs.Below.{at_the_end}
+use Rattle.bfs_model.specs.Server.Tree.{Inodes, root_id, parent_of}
+use Rattle.bfs_model.specs.Server.Procedures.Renaming.{is_within}
+use Rattle.bfs_model.specs.Server.WellFormed.{ReachesRoot, at_root, step}
+use Rattle.bfs_model.proofs.Public.{reaches_within}
+use Rattle.bfs_digest.specs.Inside.Formation.{AreReached}
+use Rattle.bfs_tree.proofs.Public.{at_the_end}
 
 -- one step up
 pub up_from : (above : ℕ → Option ℕ) (id parent : ℕ) → above id ≡ Some parent → (id ≡ root_id → ⊥) → ReachesRoot above id → ReachesRoot above parent

@@ -2,14 +2,14 @@
 use Rattle.std.proofs.Common.{◌≡◌, ℕ, zero, suc, ◌+◌, ◌<◌, ◌≤◌, Bool, true, false, cond, ◌||◌, eqb, ltb, List, [], ◌∷◌, ◌++◌, length, Some, None, refl, sym, ap, subst, ◌∙◌, append_assoc, arith}
 use Rattle.std.specs.List.{AllByRecursion}
 use Rattle.std.proofs.lemmas.Bool.{ltb-false, ltb-true, le-ltb, lt-ltb, eqb-true}
-use Rattle.bfs_model.specs.Items.{word, counted}
-use Rattle.bfs_model.specs.Call.{◌>>=◌}
-use Rattle.bfs_model.specs.Limits.{most_name_bytes, most_path_bytes, most_entries}
-use Rattle.bfs_model.specs.Stored.{IsWord, AreBytes, IsTime}
-use Rattle.bfs_model.specs.Tree.{Time, Entry, Listing, Body, file, directory, link, Inode, root_id, first_ordinal, spent_ordinal}
-use Rattle.bfs_model.specs.Attributes.{type_of}
-use Rattle.bfs_model.specs.Replies.{type_number}
-use Rattle.bfs_model.specs.WellFormed.{IsRising}
+use Rattle.bfs_model.specs.Bytes.Items.{word, counted}
+use Rattle.bfs_model.specs.Bytes.Call.{◌>>=◌}
+use Rattle.bfs_model.specs.Server.Limits.{most_name_bytes, most_path_bytes, most_entries}
+use Rattle.bfs_model.specs.Server.Stored.{IsWord, AreBytes, IsTime}
+use Rattle.bfs_model.specs.Server.Tree.{Time, Entry, Listing, Body, file, directory, link, Inode, root_id, first_ordinal, spent_ordinal}
+use Rattle.bfs_model.specs.Bytes.Attributes.{type_of}
+use Rattle.bfs_model.specs.Bytes.Replies.{type_number}
+use Rattle.bfs_model.specs.Server.WellFormed.{IsRising}
 use Rattle.bfs_inode.specs.Records.{Reading, Head, most_recorded_bytes, entry_text, entries_text, body_text, record_text, EntryIsRecordable, BodyIsRecordable, IsRecordable, bytes_from, time_from, entry_from, entries_from, listing_from, file_from, directory_from, link_from, body_from, head_from, with_body, record_from}
 use Rattle.bfs_digest.proofs.Exact.{passed, refused_not, unrefused, some_is, or_parts, IsExact, word_exact, AreFew, bytes_exact, go_on, went_on, chosen}
 

@@ -2,17 +2,17 @@
 use Rattle.std.proofs.Common.{◌≡◌, ℕ, eqb, List, [], ◌++◌, Option, Some, None, refl, sym, ap, subst, ◌∙◌, append_assoc, arith, eqb-true}
 use Rattle.std.specs.List.{AllByRecursion}
 use Rattle.std.specs.FinMap.{from_entries}
-use Rattle.bfs_model.specs.Items.{word}
-use Rattle.bfs_model.specs.Stored.{IsWord, AreBytes, IsLive}
-use Rattle.bfs_model.specs.Tree.{Inode, FileSystem, root_id}
-use Rattle.bfs_model.specs.WellFormed.{IsLimited, IsWellFormed}
+use Rattle.bfs_model.specs.Bytes.Items.{word}
+use Rattle.bfs_model.specs.Server.Stored.{IsWord, AreBytes, IsLive}
+use Rattle.bfs_model.specs.Server.Tree.{Inode, FileSystem, root_id}
+use Rattle.bfs_model.specs.Server.WellFormed.{IsLimited, IsWellFormed}
 use Rattle.bfs_tree.specs.Slots.{Slots}
 use Rattle.bfs_serial.specs.Held.{held}
-use Rattle.bfs_tree.proofs.WellFormed.Lists.{each_of_all, all_of_each}
+use Rattle.bfs_tree.proofs.Public.{each_of_all, all_of_each}
 use Rattle.bfs_digest.specs.Text.{Header, magic, version, IsSpellable, Spells}
-use Rattle.bfs_digest.specs.TextReading.{records_from, version_from, files_with, files_from}
+use Rattle.bfs_digest.specs.Inside.TextReading.{records_from, version_from, files_with, files_from}
 use Rattle.bfs_digest.specs.Outcomes.{HasOtherVersion, IsMalformed, SpellsIllFormed, IsRestored}
-use Rattle.bfs_digest.specs.Taking.{AreSpelled, AreRecords, IsText, BuildsTree, BuildsFiles}
+use Rattle.bfs_digest.specs.Inside.Taking.{AreSpelled, AreRecords, IsText, BuildsTree, BuildsFiles}
 use Rattle.bfs_digest.proofs.Exact.{passed, some_is, word_exact, go_on, went_on}
 use Rattle.bfs_digest.proofs.Records.{Recordable}
 use Rattle.bfs_digest.proofs.Texts.{behind_version, numbers_exact, records_written, rising_sorted, entries_from, all_recordable, files_again, files_written}

@@ -2,9 +2,9 @@
 use Rattle.std.proofs.Common.{◌≡◌, ℕ, suc, ◌+◌, ◌<◌, ◌≤◌, cond, ltb, List, [], ◌∷◌, Option, Some, None, refl, sym, ap, ◌∙◌}
 use Rattle.std.specs.Option.{option_map}
 use Rattle.std.proofs.lemmas.Bool.{ltb-false, le-ltb, lt-ltb}
-use Rattle.bfs_model.specs.Call.{◌>>=◌}
+use Rattle.bfs_model.specs.Bytes.Call.{◌>>=◌}
 use Rattle.bfs_inode.specs.Records.{Reading, entry_from, entries_from, record_from}
-use Rattle.bfs_digest.specs.TextReading.{records_from}
+use Rattle.bfs_digest.specs.Inside.TextReading.{records_from}
 use Rattle.bfs_digest.proofs.Exact.{refused_not, some_is, chosen}
 
 -- how a list of items is read

@@ -1,8 +1,8 @@
 -- Opaque data that are read are no longer than they may be.
 use Rattle.std.proofs.Common.{◌≡◌, ℕ, ◌≤◌, Bool, true, false, cond, ltb, List, length, Result, Ok, Err, refl, arith}
 use Rattle.std.proofs.lemmas.Bool.{ltb-false}
-use Rattle.bfs_model.specs.Items.{◌>>=◌, Fault, too_long, word_at, fixed_at, opaque_at}
-use Rattle.bfs_model.proofs.Laws.{fixed_written}
+use Rattle.bfs_model.specs.Bytes.Items.{◌>>=◌, Fault, too_long, word_at, fixed_at, opaque_at}
+use Rattle.bfs_model.proofs.Public.{fixed_written}
 
 pub short_bytes : (most : ℕ) (bytes item rest : List ℕ) → opaque_at true most bytes ≡ Ok (item, rest) → length item ≤ most
 unfolding opaque_at

@@ -6,13 +6,13 @@ use Rattle.std.specs.List.{list_all, AllByRecursion}
 use Rattle.std.specs.Option.{option_map}
 use Rattle.std.specs.FinMap.{get, empty}
 use Rattle.std.proofs.lemmas.List.{map-append}
-use Rattle.bfs_model.specs.Tree.{Entry, Inode, Inodes, is_directory}
-use Rattle.bfs_model.specs.WellFormed.{directories_among}
+use Rattle.bfs_model.specs.Server.Tree.{Entry, Inode, Inodes, is_directory}
+use Rattle.bfs_model.specs.Server.WellFormed.{directories_among}
 use Rattle.bfs_inode.specs.Records.{Reading}
-use Rattle.bfs_tree.proofs.WellFormed.Loops.{all_further}
-use Rattle.bfs_digest.specs.Formation.{may_stand, IsPlaced, names_in, names_in_entries}
-use Rattle.bfs_digest.specs.Names.{Counted, most_counted, counted_at, AreWithin, Adds}
-use Rattle.bfs_digest.specs.Outlines.{mark_of}
+use Rattle.bfs_tree.proofs.Public.{all_further}
+use Rattle.bfs_digest.specs.Inside.Formation.{may_stand, IsPlaced, names_in, names_in_entries}
+use Rattle.bfs_digest.specs.Inside.Names.{Counted, most_counted, counted_at, AreWithin, Adds}
+use Rattle.bfs_digest.specs.Inside.Outlines.{mark_of}
 use Rattle.bfs_digest.specs.declared.outlines.Mark.{Mark}
 use Rattle.bfs_digest.proofs.Counting.{EntriesCounted, entries_begin, entries_more, entries_end, InodesCounted, inodes_begin, inodes_more, inodes_end}
 use Rattle.bfs_digest.proofs.Exact.{some_is}

@@ -10,14 +10,14 @@ use Rattle.std.specs.FinMap.{get, entries, len, len-entries, entries_sorted, is_
 use Rattle.std.specs.FinMap.Entries.{below_all}
 use Rattle.std.proofs.lemmas.Cmp.{nat_cmp_total}
 use Rattle.std.proofs.lemmas.Bool.{ltb-false, le-ltb, eqb-true}
-use Rattle.bfs_model.specs.Items.{word, hyper, hyper_at}
-use Rattle.bfs_model.specs.Stored.{IsWord, AreBytes, IsTime}
-use Rattle.bfs_model.specs.Tree.{Inode, Inodes, FileSystem, root_id, first_ordinal, spent_ordinal}
-use Rattle.bfs_model.proofs.Laws.{hyper_again, hyper_written}
-use Rattle.bfs_tree.proofs.WellFormed.Lists.{each_of_all, all_of_each}
+use Rattle.bfs_model.specs.Bytes.Items.{word, hyper, hyper_at}
+use Rattle.bfs_model.specs.Server.Stored.{IsWord, AreBytes, IsTime}
+use Rattle.bfs_model.specs.Server.Tree.{Inode, Inodes, FileSystem, root_id, first_ordinal, spent_ordinal}
+use Rattle.bfs_model.proofs.Public.{hyper_again, hyper_written}
+use Rattle.bfs_tree.proofs.Public.{each_of_all, all_of_each}
 use Rattle.bfs_inode.specs.Records.{IsRecordable}
 use Rattle.bfs_digest.specs.Text.{Header, header_of, numbers_text, records_text, IsSpellable}
-use Rattle.bfs_digest.specs.TextReading.{records_from, hyper_from, numbers_from, is_nothing, files_from}
+use Rattle.bfs_digest.specs.Inside.TextReading.{records_from, hyper_from, numbers_from, is_nothing, files_from}
 use Rattle.bfs_digest.proofs.Exact.{ok_some, passed, refused_not, unrefused, some_is, or_parts, behind, IsExact, word_exact, go_on, went_on, chosen}
 use Rattle.bfs_digest.proofs.Records.{time_text, time_exact, record_of, Recordable, record_exact}
 

@@ -3,8 +3,8 @@ use Rattle.std.specs.Prelude.{ℕ, List, ◌++◌}
 use Rattle.std.specs.List.{flat_map}
 use Rattle.std.specs.FinMap.{entries}
 use Rattle.sha2.specs.Sha256.{sha256}
-use Rattle.bfs_model.specs.Items.{word}
-use Rattle.bfs_model.specs.Tree.{Inode, Inodes, FileSystem}
+use Rattle.bfs_model.specs.Bytes.Items.{word}
+use Rattle.bfs_model.specs.Server.Tree.{Inode, Inodes, FileSystem}
 use Rattle.bfs_inode.specs.Records.{record_digest}
 use Rattle.bfs_digest.specs.Text.{Header, header_of, header_text}
 

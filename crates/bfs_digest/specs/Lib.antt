@@ -1,10 +1,5 @@
 pub mod Text
-pub mod TextReading
-pub mod Laws
 pub mod Digests
-pub mod Hashed
-pub mod Taking
 pub mod Outcomes
-pub mod Names
-pub mod Outlines
-pub mod Formation
+pub mod Laws
+pub mod Inside

@@ -1,9 +1,9 @@
 -- What `restore` makes of bytes.
 use Rattle.std.specs.Prelude.{◌≡◌, ℕ, List, ◌++◌, Option, Some, None}
-use Rattle.bfs_model.specs.Items.{word}
-use Rattle.bfs_model.specs.Stored.{IsWord, IsLive}
-use Rattle.bfs_model.specs.Tree.{FileSystem}
-use Rattle.bfs_model.specs.WellFormed.{IsWellFormed}
+use Rattle.bfs_model.specs.Bytes.Items.{word}
+use Rattle.bfs_model.specs.Server.Stored.{IsWord, IsLive}
+use Rattle.bfs_model.specs.Server.Tree.{FileSystem}
+use Rattle.bfs_model.specs.Server.WellFormed.{IsWellFormed}
 use Rattle.bfs_digest.specs.Text.{magic, version, Spells}
 use Rattle.bfs_digest.specs.declared.errors.RestoreError.{RestoreError}
 use Rattle.bfs_digest.specs.declared.errors.RestoreError.TheVariants as error

@@ -2,9 +2,9 @@
 use Rattle.std.specs.Prelude.{◌≡◌, ℕ, ◌≤◌, List, ◌++◌, Some}
 use Rattle.std.specs.List.{flat_map}
 use Rattle.std.specs.FinMap.{get, entries, len}
-use Rattle.bfs_model.specs.Items.{word, hyper}
-use Rattle.bfs_model.specs.Stored.{IsTime}
-use Rattle.bfs_model.specs.Tree.{Time, Inode, FileSystem, first_ordinal, spent_ordinal}
+use Rattle.bfs_model.specs.Bytes.Items.{word, hyper}
+use Rattle.bfs_model.specs.Server.Stored.{IsTime}
+use Rattle.bfs_model.specs.Server.Tree.{Time, Inode, FileSystem, first_ordinal, spent_ordinal}
 use Rattle.bfs_inode.specs.Records.{record_text, IsRecordable}
 
 -- the word in front of every text, whose bytes are `BFSS`

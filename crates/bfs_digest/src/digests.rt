@@ -4,11 +4,11 @@ ghost use Rattle.std.specs.FinMap.{entries};
 ghost use Rattle.sha2.specs.Sha256.{sha256};
 ghost use Rattle.sha2.specs.Hashers.{Holds256};
 ghost use Rattle.bfs_inode.specs.Records.{record_digest};
-ghost use Rattle.bfs_model.specs.Items.{hyper, word};
+ghost use Rattle.bfs_model.specs.Bytes.Items.{hyper, word};
 ghost use Rattle.bfs_tree.specs.Tree.{at_home};
 ghost use Rattle.bfs_digest.specs.Text.{header_text};
 ghost use Rattle.bfs_digest.specs.Digests as model;
-ghost use Rattle.bfs_digest.specs.Hashed.{hashed_at, hashed_text};
+ghost use Rattle.bfs_digest.specs.Inside.Hashed.{hashed_at, hashed_text};
 
 use crate::hashes::{hash_word, record_digest};
 use crate::headers::{Header, MAGIC, VERSION, parts_of};
@@ -134,7 +134,7 @@ fn hash_header(hasher: &mut Sha256, header: &Header)
     hash_word(hasher, header.count);
 }
 
-#[tactic(auto, unfolding(bfs_model::specs::Items::hyper))]
+#[tactic(auto, unfolding(bfs_model::specs::Bytes::Items::hyper))]
 fn hash_double(hasher: &mut Sha256, number: u64)
     ensures { (m : List ℕ) → Holds256 hasher.old m → Holds256 hasher.new (m ++ hyper number) }
 {

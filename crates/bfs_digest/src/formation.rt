@@ -1,9 +1,9 @@
 // Whether a text spells a well-formed file system, told of the text itself: nothing is built of it.
 ghost use Rattle.std.specs.Prelude.{◌≡◌, IfOk};
 ghost use Rattle.std.specs.List.{list_all};
-ghost use Rattle.bfs_digest.specs.Formation.{TellsFormed};
-ghost use Rattle.bfs_digest.specs.Outlines.{is_named};
-ghost use Rattle.bfs_digest.specs.Taking.{AreRecords};
+ghost use Rattle.bfs_digest.specs.Inside.Formation.{TellsFormed};
+ghost use Rattle.bfs_digest.specs.Inside.Outlines.{is_named};
+ghost use Rattle.bfs_digest.specs.Inside.Taking.{AreRecords};
 
 use crate::headers::Header;
 use crate::names::Names;

@@ -1,7 +1,7 @@
 // The record of an inode fed to a hasher, piece by piece: no byte of a file is copied.
 ghost use Rattle.std.specs.Prelude.{◌≡◌, ◌<◌, ◌^◌, ◌++◌, List, ℕ, length, replicate};
 ghost use Rattle.sha2.specs.Hashers.{Holds256};
-ghost use Rattle.bfs_model.specs.Items.{counted, word, words};
+ghost use Rattle.bfs_model.specs.Bytes.Items.{counted, word, words};
 ghost use Rattle.bfs_inode.specs.Inodes.{body_seen};
 ghost use Rattle.bfs_inode.specs.Records.{body_text, entries_text, entry_text, record_digest};
 
@@ -64,7 +64,7 @@ fn hash_entry(hasher: &mut Sha256, entry: &Entry)
 }
 
 /// An unsigned integer (RFC 4506 section 4.2).
-#[tactic(auto, unfolding(bfs_model::specs::Items::word))]
+#[tactic(auto, unfolding(bfs_model::specs::Bytes::Items::word))]
 pub(crate) fn hash_word(hasher: &mut Sha256, number: u32)
     ensures { (m : List ℕ) → Holds256 hasher.old m → Holds256 hasher.new (m ++ word number) }
 {

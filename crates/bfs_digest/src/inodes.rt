@@ -3,11 +3,11 @@ ghost use Rattle.std.specs.Prelude.{◌≡◌, IfOk, IsTrue, OnOk};
 ghost use Rattle.std.specs.FinMap.{insert};
 ghost use Rattle.bfs_tree.specs.Tree.{at_home, reach_of};
 ghost use Rattle.bfs_inode.specs.Inodes.{body_seen};
-ghost use Rattle.bfs_model.specs.Tree.{first_ordinal, root_id};
-ghost use Rattle.bfs_model.specs.WellFormed.{IsLimited};
+ghost use Rattle.bfs_model.specs.Server.Tree.{first_ordinal, root_id};
+ghost use Rattle.bfs_model.specs.Server.WellFormed.{IsLimited};
 ghost use Rattle.bfs_inode.specs.Records.{body_from, directory_from, entries_from, record_from};
-ghost use Rattle.bfs_digest.specs.TextReading.{records_from};
-ghost use Rattle.bfs_digest.specs.Taking.{BodyMayBe, Builds, BuildsTree};
+ghost use Rattle.bfs_digest.specs.Inside.TextReading.{records_from};
+ghost use Rattle.bfs_digest.specs.Inside.Taking.{BodyMayBe, Builds, BuildsTree};
 
 use crate::readers::{MOST_RECORDED_BYTES, TextReader};
 use bfs_inode::{Body, Directory, Entry, FileData, FileId, Inode};

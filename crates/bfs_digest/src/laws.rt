@@ -1,5 +1,5 @@
 // What holds of texts. The bodies are empty: what is said is the contracts.
-ghost use Rattle.bfs_digest.specs.Laws.{AFileSystemHasOneText, ATextSpellsOneFileSystem, LiveFilesAreSpellable};
+ghost use Rattle.bfs_digest.specs.Laws.Texts.{AFileSystemHasOneText, ATextSpellsOneFileSystem, LiveFilesAreSpellable};
 
 /// A file system has one text.
 pub fn a_file_system_has_one_text()

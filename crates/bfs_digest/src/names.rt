@@ -1,7 +1,7 @@
 // How often entries name each inode.
 ghost use Rattle.std.specs.Prelude.{◌≡◌, ◌==◌, OnOk, if◌then◌else◌};
 ghost use Rattle.std.specs.FinMap.{empty};
-ghost use Rattle.bfs_digest.specs.Names.{counted_at, Adds, AreWithin};
+ghost use Rattle.bfs_digest.specs.Inside.Names.{counted_at, Adds, AreWithin};
 
 use bfs_types::{FileId, Memory};
 use std::alloc::Global;
@@ -17,7 +17,7 @@ pub(crate) struct Names {
 impl Model for Names {
     ghost use Rattle.std.specs.FinMap as map;
     ghost use Rattle.std.specs.Coded.{coded_ℕ};
-    ghost use Rattle.bfs_digest.specs.Names.{Counted};
+    ghost use Rattle.bfs_digest.specs.Inside.Names.{Counted};
 
     ghost Value = { Counted };
 

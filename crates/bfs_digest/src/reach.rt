@@ -2,10 +2,10 @@
 ghost use Rattle.std.specs.Prelude.{◌↔◌, All, IsTrue, IfOk, OnOk};
 ghost use Rattle.std.specs.BTreeSet.{contains};
 ghost use Rattle.std.specs.Ordering.{nat_cmp};
-ghost use Rattle.bfs_model.specs.Tree as model;
-ghost use Rattle.bfs_model.specs.WellFormed.{ReachesRoot};
-ghost use Rattle.bfs_digest.specs.Formation.{AreReached, LeadsToRoot};
-ghost use Rattle.bfs_digest.specs.Outlines.{marked, outline, MarksRise};
+ghost use Rattle.bfs_model.specs.Server.Tree as model;
+ghost use Rattle.bfs_model.specs.Server.WellFormed.{ReachesRoot};
+ghost use Rattle.bfs_digest.specs.Inside.Formation.{AreReached, LeadsToRoot};
+ghost use Rattle.bfs_digest.specs.Inside.Outlines.{marked, outline, MarksRise};
 
 use crate::outlines::{Mark, parent_of};
 use bfs_types::{FileId, Memory};

@@ -1,10 +1,10 @@
 // A strict reader of a text, and what is read of it without memory.
 ghost use Rattle.std.specs.Prelude.{◌≡◌, ◌≤◌, length, IfOk};
 ghost use Rattle.bfs_inode.specs.Records.{bytes_from, entry_from, head_from, time_from, word_from};
-ghost use Rattle.bfs_digest.specs.TextReading.{hyper_from, is_nothing, numbers_from, version_from};
-ghost use Rattle.bfs_digest.specs.Taking.{Reads, entry_seen, head_seen};
+ghost use Rattle.bfs_digest.specs.Inside.TextReading.{hyper_from, is_nothing, numbers_from, version_from};
+ghost use Rattle.bfs_digest.specs.Inside.Taking.{Reads, entry_seen, head_seen};
 ghost use Rattle.bfs_types.specs.declared.limits.TheConstants.{MOST_PERMISSIONS};
-ghost use Rattle.bfs_model.specs.Limits.{most_name_bytes};
+ghost use Rattle.bfs_model.specs.Server.Limits.{most_name_bytes};
 
 use crate::errors::Malformed;
 use crate::headers::{Header, MAGIC};
@@ -145,7 +145,7 @@ impl<'a> TextReader<'a> {
     }
 
     /// The version of a text.
-    #[tactic(auto, unfolding(crate::specs::TextReading::version_from))]
+    #[tactic(auto, unfolding(crate::specs::Inside::TextReading::version_from))]
     pub(crate) fn version(&mut self) -> Result<u32, Malformed>
         ensures { Reads (λ x. x) result (version_from self.old) self.new }
     {
@@ -159,7 +159,7 @@ impl<'a> TextReader<'a> {
     }
 
     /// What stands between the version and the records.
-    #[tactic(auto, unfolding(crate::specs::TextReading::numbers_from))]
+    #[tactic(auto, unfolding(crate::specs::Inside::TextReading::numbers_from))]
     pub(crate) fn numbers(&mut self) -> Result<Header, Malformed>
         ensures { Reads (λ x. x) result (numbers_from self.old) self.new }
     {

@@ -2,7 +2,7 @@
 ghost use Rattle.std.specs.Prelude.{◌≡◌, ◌↔◌, None, IsErrOf, IsTrue};
 ghost use Rattle.std.specs.List.{All};
 ghost use Rattle.bfs_tree.specs.Tree.{at_home, reach_of};
-ghost use Rattle.bfs_digest.specs.Hashed.{IsHashed};
+ghost use Rattle.bfs_digest.specs.Inside.Hashed.{IsHashed};
 
 use crate::digests::digests_at;
 use bfs_inode::{FileId, RecordDigest};
@@ -71,7 +71,7 @@ fn keep_each<S: Store>(store: &mut S, digests: &[RecordDigest])
 }
 
 // in the inode of its fileid, if there is one
-#[tactic(auto, using(bfs_tree::proofs::Laws::insert_same))]
+#[tactic(auto, using(bfs_tree::proofs::Public::insert_same))]
 fn keep<S: Store>(store: &mut S, hashed: &RecordDigest)
     requires owned { IsTrue ((S.reach store.old).owned hashed.now.id) }
     requires hashed { IsHashed (S.inodes store.old) hashed.now }

@@ -1,7 +1,7 @@
 ghost use Rattle.std.specs.Prelude.{◌≡◌, ◌≤◌, ◌↔◌, IfOk, IsErrOf};
-ghost use Rattle.bfs_model.specs.Tree.{spent_ordinal};
+ghost use Rattle.bfs_model.specs.Server.Tree.{spent_ordinal};
 ghost use Rattle.bfs_digest.specs.Outcomes.{HasOtherVersion, IsMalformed, IsRestored, SpellsIllFormed};
-ghost use Rattle.bfs_digest.specs.Taking.{AreRecords, BuildsFiles, IsText};
+ghost use Rattle.bfs_digest.specs.Inside.Taking.{AreRecords, BuildsFiles, IsText};
 
 use crate::errors::RestoreError;
 use crate::formation::is_well_formed;

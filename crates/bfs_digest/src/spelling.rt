@@ -1,12 +1,12 @@
 // Whether a text spells inodes, without memory: nothing is built of it. And the marks of those that it spells.
 ghost use Rattle.std.specs.Prelude.{◌≡◌, None, IfOk, OnErr};
 ghost use Rattle.std.specs.Option.{option_map};
-ghost use Rattle.bfs_model.specs.Tree.{first_ordinal, parent_in, root_id};
+ghost use Rattle.bfs_model.specs.Server.Tree.{first_ordinal, parent_in, root_id};
 ghost use Rattle.bfs_inode.specs.Records.{body_from, entries_from, listing_from, record_from};
-ghost use Rattle.bfs_digest.specs.Formation.{AreMarks};
-ghost use Rattle.bfs_digest.specs.Outlines.{mark_of};
-ghost use Rattle.bfs_digest.specs.TextReading.{files_from, records_from};
-ghost use Rattle.bfs_digest.specs.Taking.{AreSpelled, Reads, Skips};
+ghost use Rattle.bfs_digest.specs.Inside.Formation.{AreMarks};
+ghost use Rattle.bfs_digest.specs.Inside.Outlines.{mark_of};
+ghost use Rattle.bfs_digest.specs.Inside.TextReading.{files_from, records_from};
+ghost use Rattle.bfs_digest.specs.Inside.Taking.{AreSpelled, Reads, Skips};
 
 use crate::errors::Malformed;
 use crate::headers::Header;
@@ -17,7 +17,7 @@ use bfs_types::{MOST_ENTRIES, MOST_PATH_BYTES, Memory};
 use std::alloc::Global;
 
 /// The header of a text of which the version was read, and the bytes of its records, which end where the text does.
-#[tactic(auto, unfolding(crate::specs::TextReading::files_from))]
+#[tactic(auto, unfolding(crate::specs::Inside::TextReading::files_from))]
 pub(crate) fn spelled<'a>(reader: &mut TextReader<'a>) -> Result<(Header, &'a [u8]), Malformed>
     ensures ok { IfOk result (λ text. AreSpelled reader.old text.0 text.1.now) }
     ensures err { OnErr result (files_from reader.old ≡ None) }

@@ -2,13 +2,13 @@
 // that can be told before all entries are counted.
 ghost use Rattle.std.specs.Prelude.{◌≡◌, ◌≤◌, ◌<◌, ◌↔◌, IfOk, IsTrue, bytes_eq, map};
 ghost use Rattle.std.specs.List.{IsDistinct};
-ghost use Rattle.bfs_model.specs.Tree.{first_ordinal, root_id};
+ghost use Rattle.bfs_model.specs.Server.Tree.{first_ordinal, root_id};
 ghost use Rattle.bfs_inode.specs.Records.{body_from, entries_from, listing_from, record_from};
-ghost use Rattle.bfs_digest.specs.Formation.{AreNames, BodyIsPlaced, IsPlaced, ListingIsPlaced, Takes, TakesEntries, TakesRecords, TellsNames, may_stand, names_in, names_in_body, names_in_listing};
-ghost use Rattle.bfs_digest.specs.Names.{AreWithin};
-ghost use Rattle.bfs_digest.specs.Outlines.{MarksRise, outline};
-ghost use Rattle.bfs_digest.specs.Taking.{entry_seen};
-ghost use Rattle.bfs_digest.specs.TextReading.{records_from};
+ghost use Rattle.bfs_digest.specs.Inside.Formation.{AreNames, BodyIsPlaced, IsPlaced, ListingIsPlaced, Takes, TakesEntries, TakesRecords, TellsNames, may_stand, names_in, names_in_body, names_in_listing};
+ghost use Rattle.bfs_digest.specs.Inside.Names.{AreWithin};
+ghost use Rattle.bfs_digest.specs.Inside.Outlines.{MarksRise, outline};
+ghost use Rattle.bfs_digest.specs.Inside.Taking.{entry_seen};
+ghost use Rattle.bfs_digest.specs.Inside.TextReading.{records_from};
 
 use crate::names::Names;
 use crate::outlines::{Mark, is_child, is_directory};

@@ -1,7 +1,7 @@
 // The words in front of what an inode holds, and in front of a directory's entries.
 ghost use Rattle.std.specs.Prelude.{◌≡◌};
 ghost use Rattle.bfs_inode.specs.Records as record_specs;
-ghost use Rattle.bfs_model.specs.Replies.{type_number};
+ghost use Rattle.bfs_model.specs.Bytes.Replies.{type_number};
 ghost use Rattle.bfs_types.specs.Attributes.{file_type_seen};
 
 use bfs_inode::{FileId, Inode};

@@ -1,7 +1,7 @@
 // The text of a file system, appended piece by piece: each byte is written once.
 ghost use Rattle.std.specs.Prelude.{◌≡◌, ◌++◌, length, OnOk};
 ghost use Rattle.std.specs.FinMap.{entries};
-ghost use Rattle.bfs_model.specs.Items.{word};
+ghost use Rattle.bfs_model.specs.Bytes.Items.{word};
 ghost use Rattle.bfs_inode.specs.Inodes.{body_seen};
 ghost use Rattle.bfs_inode.specs.Records.{body_text, entries_text, entry_text, record_text};
 ghost use Rattle.bfs_tree.specs.Tree.{at_home};

@@ -1,6 +1,6 @@
 ghost use Rattle.std.specs.Prelude.{◌≡◌, ◌↔◌, Some, None, length, IfOk, IsErrOf, IsSome};
 ghost use Rattle.std.specs.Option.{option_map};
-ghost use Rattle.bfs_model.specs.Serial.{execute};
+ghost use Rattle.bfs_model.specs.Server.Serial.{execute};
 ghost use Rattle.bfs_digest.specs.Digests.{digest_of};
 ghost use Rattle.bfs_parallel.specs.Ran.{AllRan};
 ghost use Rattle.bfs_serial.specs.Executed.{Executed};

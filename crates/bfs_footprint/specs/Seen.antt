@@ -1,5 +1,5 @@
 -- Footprints of the code as those of the model.
-use Rattle.bfs_model.specs.Footprints as model
+use Rattle.bfs_model.specs.Server.Footprints as model
 use Rattle.bfs_footprint.specs.declared.footprints.Footprint.{Footprint}
 use Rattle.bfs_footprint.specs.declared.footprints.Footprint.TheVariants.{Known, Whole}
 

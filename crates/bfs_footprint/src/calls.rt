@@ -1,10 +1,10 @@
 ghost use Rattle.std.specs.Prelude.{◌≡◌, ◌++◌, IsTrue};
 ghost use Rattle.std.specs.Option.{option_copied};
 ghost use Rattle.std.specs.FinMap.{get};
-ghost use Rattle.bfs_model.specs.Arguments.{rename};
-ghost use Rattle.bfs_model.specs.Footprints as model;
-ghost use Rattle.bfs_model.specs.Footprints.{ids_in};
-ghost use Rattle.bfs_model.specs.Tree.{listing_at};
+ghost use Rattle.bfs_model.specs.Bytes.Arguments.{rename};
+ghost use Rattle.bfs_model.specs.Server.Footprints as model;
+ghost use Rattle.bfs_model.specs.Server.Footprints.{ids_in};
+ghost use Rattle.bfs_model.specs.Server.Tree.{listing_at};
 ghost use Rattle.bfs_wire.specs.Calls.{call_seen};
 ghost use Rattle.bfs_tree.specs.Tree.{at_home, reach_of};
 ghost use Rattle.bfs_footprint.specs.Seen.{footprint_seen};

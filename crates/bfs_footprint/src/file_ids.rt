@@ -1,6 +1,6 @@
 ghost use Rattle.std.specs.Prelude.{◌≡◌, ◌<◌, ◌≤◌, ◌+◌, [], ◌∷◌, ◌++◌, length};
-ghost use Rattle.bfs_model.specs.Conflicts.{among};
-ghost use Rattle.bfs_model.specs.Footprints.{ids_in};
+ghost use Rattle.bfs_model.specs.Server.Conflicts.{among};
+ghost use Rattle.bfs_model.specs.Server.Footprints.{ids_in};
 
 use bfs_types::FileId;
 use std::marker::Model;

@@ -1,7 +1,7 @@
 ghost use Rattle.std.specs.Prelude.{◌≡◌, []};
 ghost use Rattle.std.specs.List.{list_any};
-ghost use Rattle.bfs_model.specs.Conflicts as model_conflicts;
-ghost use Rattle.bfs_model.specs.Footprints as model;
+ghost use Rattle.bfs_model.specs.Server.Conflicts as model_conflicts;
+ghost use Rattle.bfs_model.specs.Server.Footprints as model;
 ghost use Rattle.bfs_footprint.specs.Seen.{footprint_seen};
 
 use crate::file_ids::FileIds;

@@ -1,6 +1,6 @@
 ghost use Rattle.std.specs.Prelude.{◌≡◌, [], ◌++◌, IsTrue};
-ghost use Rattle.bfs_model.specs.Conflicts.{resolved_of};
-ghost use Rattle.bfs_model.specs.Footprints.{known, ids_in, footprint_of};
+ghost use Rattle.bfs_model.specs.Server.Conflicts.{resolved_of};
+ghost use Rattle.bfs_model.specs.Server.Footprints.{known, ids_in, footprint_of};
 ghost use Rattle.bfs_tree.specs.Tree.{at_home, reach_of};
 ghost use Rattle.bfs_footprint.specs.Seen.{footprint_seen};
 

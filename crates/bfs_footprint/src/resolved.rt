@@ -1,6 +1,6 @@
 ghost use Rattle.std.specs.Prelude.{◌≡◌, [], ◌++◌};
-ghost use Rattle.bfs_model.specs.Conflicts as model;
-ghost use Rattle.bfs_model.specs.Footprints.{ids_in};
+ghost use Rattle.bfs_model.specs.Server.Conflicts as model;
+ghost use Rattle.bfs_model.specs.Server.Footprints.{ids_in};
 ghost use Rattle.bfs_wire.specs.Calls.{call_seen};
 
 use bfs_types::FileId;

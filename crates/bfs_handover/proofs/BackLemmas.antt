@@ -4,7 +4,7 @@ use Rattle.std.specs.Prelude.{◌||◌, ⊤}
 use Rattle.std.specs.FinMap.{get, same_map, nat_cmp-IsAntisymmetric}
 use Rattle.std.proofs.lemmas.Bool.{not-true}
 use Rattle.std.proofs.lemmas.Cmp.{nat_cmp_total}
-use Rattle.bfs_model.specs.Conflicts.{among}
+use Rattle.bfs_model.specs.Server.Conflicts.{among}
 use Rattle.bfs_tree.specs.Slots.{Slots}
 use Rattle.bfs_tree.specs.Tree.{at_home, brought, lent}
 use Rattle.bfs_handover.specs.Loans.{ids_of, put_in}

@@ -4,17 +4,17 @@ use Rattle.std.specs.List.{AllByRecursion, AllZip, list_any}
 use Rattle.std.specs.List.Sorted.{IsStrictlyIncreasing}
 use Rattle.std.specs.FinMap.{get}
 use Rattle.std.proofs.lemmas.List.Elements.{recursion_from_All}
-use Rattle.bfs_model.specs.Tree.{Inodes}
-use Rattle.bfs_model.specs.Serial.{answer}
-use Rattle.bfs_model.specs.Conflicts.{among, is_whole, is_written, closed}
-use Rattle.bfs_model.proofs.Footprints.Agreement.{get-closed, same_inodes}
+use Rattle.bfs_model.specs.Server.Tree.{Inodes}
+use Rattle.bfs_model.specs.Server.Serial.{answer}
+use Rattle.bfs_model.specs.Server.Conflicts.{among, is_whole, is_written, closed}
+use Rattle.bfs_model.proofs.Public.{get-closed, same_inodes}
 use Rattle.bfs_tree.specs.Slots.{Slots}
 use Rattle.bfs_tree.specs.Tree.{at_home, lent}
 use Rattle.bfs_handover.specs.Loans.{ids_of, loaned, put_in}
 use Rattle.bfs_handover.specs.Jobs.{IsDone}
 use Rattle.bfs_handover.specs.Splitting.{CanBeSplit, IsJobOf, Part, footprint_for}
 use Rattle.bfs_handover.specs.Merging.{all_in, reply_in}
-use Rattle.bfs_handover.specs.Carrying.{SplitRequestsAreCarriedOut, all_back, outcome_for}
+use Rattle.bfs_handover.specs.Laws.Carrying.{SplitRequestsAreCarriedOut, all_back, outcome_for}
 use Rattle.bfs_handover.specs.declared.job.Job.{Job}
 use Rattle.bfs_handover.specs.declared.job.Done.{Done}
 use Rattle.bfs_handover.specs.declared.results.Reply.{Reply}

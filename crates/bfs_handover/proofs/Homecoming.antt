@@ -13,17 +13,14 @@ use Rattle.std.proofs.lemmas.List.FromFn.{length-range_with_len, get_or-range_wi
 use Rattle.std.proofs.lemmas.List.Kept.{AllPairs-from_increasing}
 use Rattle.std.proofs.lemmas.List.Sorted.{All-permutation, Contains-permutation, IsPermutation-sym}
 use Rattle.std.proofs.lemmas.Slice.Zip.{AllZip-long}
-use Rattle.bfs_model.specs.Tree.{Time, Inodes, spent_ordinal}
-use Rattle.bfs_model.specs.Serial.{ordinal_after, answer, inodes_after, replies_to}
-use Rattle.bfs_model.specs.Footprints.{Footprint, known, whole, footprint_of}
-use Rattle.bfs_model.specs.Conflicts.{among, is_whole, is_written, is_touched, conflict, closed}
-use Rattle.bfs_model.specs.OvertakingLaw.{footprint_at}
-use Rattle.bfs_model.specs.Groups.{footprints_at, AreDisjoint, all_closed, all_replies}
-use Rattle.bfs_model.specs.Shares.{moved_for, all_moved, without, share_of, footprints_on}
-use Rattle.bfs_model.proofs.Footprints.Agreement.{get-closed, same_inodes, written_is_touched}
-use Rattle.bfs_model.proofs.Footprints.Apart.{apart}
-use Rattle.bfs_model.proofs.Footprints.Own.{among_left, among_right}
-use Rattle.bfs_model.proofs.Footprints.Shared.{runs_come_home, shares_have_footprints}
+use Rattle.bfs_model.specs.Server.Tree.{Time, Inodes, spent_ordinal}
+use Rattle.bfs_model.specs.Server.Serial.{ordinal_after, answer, inodes_after, replies_to}
+use Rattle.bfs_model.specs.Server.Footprints.{Footprint, known, whole, footprint_of}
+use Rattle.bfs_model.specs.Server.Conflicts.{among, is_whole, is_written, is_touched, conflict, closed}
+use Rattle.bfs_model.specs.Laws.Overtaking.{footprint_at}
+use Rattle.bfs_model.specs.Server.Groups.{footprints_at, AreDisjoint, all_closed, all_replies}
+use Rattle.bfs_model.specs.Server.Shares.{moved_for, all_moved, without, share_of, footprints_on}
+use Rattle.bfs_model.proofs.Public.{among_left, among_right, apart, get-closed, runs_come_home, same_inodes, shares_have_footprints, written_is_touched}
 use Rattle.bfs_tree.specs.Reach.{Reach, Knows}
 use Rattle.bfs_tree.specs.Slots.{Slots}
 use Rattle.bfs_tree.specs.Tree.{at_home, lent, reach_of}
@@ -32,7 +29,7 @@ use Rattle.bfs_handover.specs.Moves.{AreDistinct}
 use Rattle.bfs_handover.specs.Jobs.{CanRun, IsDone}
 use Rattle.bfs_handover.specs.Splitting.{Part, IsJobOf, footprint_for, footprints_for}
 use Rattle.bfs_handover.specs.Merging.{IsOut, all_in, reply_in}
-use Rattle.bfs_handover.specs.Homecoming.{numbers_from, numbers_of, requests_of, ResultsAreOut, ResultsComeHome}
+use Rattle.bfs_handover.specs.Laws.Homecoming.{numbers_from, numbers_of, requests_of, ResultsAreOut, ResultsComeHome}
 use Rattle.bfs_handover.specs.declared.job.Job.{Job}
 use Rattle.bfs_handover.specs.declared.job.Done.{Done}
 use Rattle.bfs_handover.specs.declared.results.Reply.{Reply}

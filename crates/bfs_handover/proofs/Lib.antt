@@ -6,3 +6,4 @@ pub mod MergeLemmas
 pub mod BackLemmas
 pub mod Homecoming
 pub mod Carrying
+pub mod Public

@@ -6,11 +6,11 @@ use Rattle.std.specs.Borrow.{MutBor}
 use Rattle.std.specs.List.{list_any, position, position_or_len}
 use Rattle.std.specs.FinMap.{get, insert, remove, same_map, nat_cmp-IsAntisymmetric}
 use Rattle.std.proofs.lemmas.Cmp.{nat_cmp_total}
-use Rattle.bfs_model.specs.Tree.{Inode, Inodes}
-use Rattle.bfs_model.proofs.WellFormed.Sums as sums
+use Rattle.bfs_model.specs.Server.Tree.{Inode, Inodes}
+use Rattle.bfs_model.proofs.Public as sums
 use Rattle.bfs_handover.specs.declared.loans.Loan.{Loan}
-use Rattle.bfs_handover.specs.Places.{IsPlace, IsNowhere}
-use Rattle.bfs_model.specs.Conflicts.{among, set_at}
+use Rattle.bfs_handover.specs.Inside.Places.{IsPlace, IsNowhere}
+use Rattle.bfs_model.specs.Server.Conflicts.{among, set_at}
 use Rattle.bfs_handover.specs.Loans.{ids_of, loaned, with_loan, put_in}
 
 pub among_ids : (loans : List Loan) (id : ℕ) → list_any (λ loan. loan.id == id) loans ≡ among (ids_of loans) id

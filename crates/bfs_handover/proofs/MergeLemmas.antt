@@ -8,13 +8,12 @@ use Rattle.std.proofs.lemmas.Bool.{or_right, cond-false, false_from_ne_true}
 use Rattle.std.proofs.lemmas.Cmp.{nat_cmp_total}
 use Rattle.std.proofs.lemmas.List.Elements.{All-head, All-tail}
 use Rattle.std.proofs.lemmas.List.Sorted.{All-permutation, IsPermutation-refl}
-use Rattle.bfs_model.specs.Tree.{Inode}
-use Rattle.bfs_model.specs.Conflicts.{among, set_at}
-use Rattle.bfs_model.proofs.WellFormed.Sums.{get-set_at}
-use Rattle.bfs_model.proofs.Footprints.Own.{itself_among}
+use Rattle.bfs_model.specs.Server.Tree.{Inode}
+use Rattle.bfs_model.specs.Server.Conflicts.{among, set_at}
+use Rattle.bfs_model.proofs.Public.{get-set_at, itself_among}
 use Rattle.bfs_tree.specs.Slots.{Slots}
 use Rattle.bfs_tree.specs.Tree.{at_home, lent, brought}
-use Rattle.bfs_tree.proofs.SlotLemmas.{home_insert, home_remove, lent_insert, lent_remove}
+use Rattle.bfs_tree.proofs.Public.{home_insert, home_remove, lent_insert, lent_remove}
 use Rattle.bfs_handover.specs.Loans.{ids_of, loaned, put_in}
 use Rattle.bfs_handover.specs.Moves.{AreDistinct, AreLent, brought_home}
 use Rattle.bfs_handover.specs.Merging.{AreAllLent, AreOut, IsMerged, IsOut, all_home, all_in, numbers_in, refusal, reply_in}

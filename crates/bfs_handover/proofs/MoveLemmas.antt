@@ -3,16 +3,16 @@ use Rattle.std.proofs.Common.{◌≡◌, ℕ, zero, suc, ◌+◌, ◌<◌, lengt
 use Rattle.std.specs.Prelude.{◌==◌, ◌||◌, ⊤}
 use Rattle.std.proofs.Math.Bool.{or_assoc}
 use Rattle.std.proofs.Math.Seq.{drop-cons}
-use Rattle.bfs_model.proofs.WellFormed.Sums.{itself, same_test}
+use Rattle.bfs_model.proofs.Public.{itself, same_test}
 use Rattle.std.specs.FinMap.{get, insert, remove, get-insert, same_map, nat_cmp-IsAntisymmetric}
 use Rattle.std.proofs.lemmas.Bool.{false_from_ne_true, or_from, or_right}
 use Rattle.std.proofs.lemmas.Cmp.{nat_cmp_total}
-use Rattle.bfs_model.specs.Tree.{Inode, Inodes}
+use Rattle.bfs_model.specs.Server.Tree.{Inode, Inodes}
 use Rattle.bfs_tree.specs.Slots.{Slots}
 use Rattle.bfs_tree.specs.Tree.{at_home, lent, reach_of}
 use Rattle.bfs_tree.specs.declared.slots.Slot.TheVariants.{Lent}
-use Rattle.bfs_tree.proofs.SlotLemmas.{home_lent, lent_lent}
-use Rattle.bfs_model.specs.Conflicts.{among, set_at}
+use Rattle.bfs_tree.proofs.Public.{home_lent, lent_lent}
+use Rattle.bfs_model.specs.Server.Conflicts.{among, set_at}
 use Rattle.bfs_handover.specs.Loans.{ids_of, loaned, put_in}
 use Rattle.bfs_handover.specs.Moves.{AreAtHome, AreDistinct, AreOwned, lent_out, taken}
 use Rattle.bfs_handover.specs.declared.loans.Loan.{Loan}

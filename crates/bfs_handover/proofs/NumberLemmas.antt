@@ -10,9 +10,8 @@ use Rattle.std.proofs.lemmas.List.Elements.{All-head, All-tail}
 use Rattle.std.proofs.lemmas.List.Kept.{AllPairs-from_increasing}
 use Rattle.std.proofs.lemmas.List.Sorted.{IsPermutation-map, list_any-IsPermutation, sum_by-IsPermutation}
 use Rattle.std.proofs.lemmas.List.Sums.{length-filter}
-use Rattle.bfs_model.specs.Conflicts.{among}
-use Rattle.bfs_model.proofs.Footprints.Apart.{none_hit}
-use Rattle.bfs_model.proofs.Footprints.Own.{itself_among}
+use Rattle.bfs_model.specs.Server.Conflicts.{among}
+use Rattle.bfs_model.proofs.Public.{itself_among, none_hit}
 use Rattle.bfs_handover.specs.Moves.{AreDistinct}
 use Rattle.bfs_handover.specs.Merging.{CompleteResultsAreTaken, numbers_in, refusal, results_of}
 use Rattle.bfs_handover.specs.declared.job.Done.{Done}

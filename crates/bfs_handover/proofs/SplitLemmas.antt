@@ -7,18 +7,14 @@ use Rattle.std.proofs.Math.Bool.{or-false, or_comm}
 use Rattle.std.proofs.lemmas.Bool.{false_from_ne_true, or_left, or_right}
 use Rattle.std.proofs.lemmas.List.{append-nil, append_assoc, get_or-take, length-drop, length-take, take_more}
 use Rattle.std.proofs.lemmas.List.Elements.{All-from_recursion, recursion_from_All}
-use Rattle.bfs_model.specs.Tree.{Time, Inodes, spent_ordinal}
-use Rattle.bfs_model.specs.Serial.{ordinal_after}
-use Rattle.bfs_model.specs.Footprints.{Footprint, known, whole, footprint_of, IsFreshFor}
-use Rattle.bfs_model.specs.Conflicts.{among, is_whole, is_written, is_touched, conflict, AgreeOn}
-use Rattle.bfs_model.specs.Groups.{footprints_at, AreDisjoint}
-use Rattle.bfs_model.specs.OvertakingLaw.{footprint_at}
-use Rattle.bfs_model.specs.Shares.{moved_for, all_moved, without, share_of, is_there}
-use Rattle.bfs_model.proofs.Footprints.Agreement.{same_inodes, all_among, get-closed, written_is_touched}
-use Rattle.bfs_model.proofs.Footprints.Apart.{apart}
-use Rattle.bfs_model.proofs.Footprints.Requests.{request_footprints_agree}
-use Rattle.bfs_model.proofs.Footprints.Shared.{get-without, moved_is_written, shares_know}
-use Rattle.bfs_model.proofs.Footprints.Stable.{new_in}
+use Rattle.bfs_model.specs.Server.Tree.{Time, Inodes, spent_ordinal}
+use Rattle.bfs_model.specs.Server.Serial.{ordinal_after}
+use Rattle.bfs_model.specs.Server.Footprints.{Footprint, known, whole, footprint_of, IsFreshFor}
+use Rattle.bfs_model.specs.Server.Conflicts.{among, is_whole, is_written, is_touched, conflict, AgreeOn}
+use Rattle.bfs_model.specs.Server.Groups.{footprints_at, AreDisjoint}
+use Rattle.bfs_model.specs.Laws.Overtaking.{footprint_at}
+use Rattle.bfs_model.specs.Server.Shares.{moved_for, all_moved, without, share_of, is_there}
+use Rattle.bfs_model.proofs.Public.{all_among, apart, get-closed, get-without, moved_is_written, new_in, request_footprints_agree, same_inodes, shares_know, written_is_touched}
 use Rattle.bfs_tree.specs.Reach.{Knows}
 use Rattle.bfs_tree.specs.Slots.{Slots}
 use Rattle.bfs_tree.specs.Tree.{at_home, lent, reach_of}
@@ -29,7 +25,7 @@ use Rattle.bfs_handover.specs.Loans.{ids_of, loaned, put_in, reach_with}
 use Rattle.bfs_handover.specs.Jobs.{CanRun}
 use Rattle.bfs_handover.specs.Moves.{AreAtHome, AreOwned, lent_out, taken}
 use Rattle.bfs_handover.specs.Splitting.{CanBeSplit, IsFoundOn, IsJobOf, IsSplit, Part, footprint_for, footprints_for, ordinal_of, request_of}
-use Rattle.bfs_handover.specs.Taking.{AreJobs, AreOnce, IsTaken, all_ids, all_loans}
+use Rattle.bfs_handover.specs.Inside.Taking.{AreJobs, AreOnce, IsTaken, all_ids, all_loans}
 use Rattle.bfs_handover.specs.declared.job.Job.{Job}
 use Rattle.bfs_handover.specs.declared.loans.Loan.{Loan}
 use Rattle.bfs_handover.proofs.LoanLemmas.{get-put_in}

@@ -1,7 +1,7 @@
 -- What a job asks of the tree that it borrows, and what its result is.
 use Rattle.std.specs.Prelude.{◌≡◌}
-use Rattle.bfs_model.specs.Serial.{answer}
-use Rattle.bfs_model.specs.Footprints.{footprint_of, IsFreshFor}
+use Rattle.bfs_model.specs.Server.Serial.{answer}
+use Rattle.bfs_model.specs.Server.Footprints.{footprint_of, IsFreshFor}
 use Rattle.bfs_tree.specs.Reach.{Knows}
 use Rattle.bfs_tree.specs.Slots.{Slots}
 use Rattle.bfs_tree.specs.Tree.{at_home, lent}

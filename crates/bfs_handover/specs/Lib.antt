@@ -1,13 +1,8 @@
 pub mod Errors
 pub mod Loans
-pub mod Held
-pub mod LoanLending
-pub mod Laws
-pub mod Places
 pub mod Jobs
 pub mod Moves
 pub mod Splitting
-pub mod Taking
 pub mod Merging
-pub mod Homecoming
-pub mod Carrying
+pub mod Laws
+pub mod Inside

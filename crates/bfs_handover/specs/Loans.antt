@@ -2,8 +2,8 @@
 use Rattle.std.specs.Prelude.{ℕ, false, not, ◌==◌, ◌||◌, ⊤, List, [], ◌∷◌, map, Option, None, is_some, if◌then◌else◌}
 use Rattle.std.specs.Ordering.{nat_cmp}
 use Rattle.std.specs.FinMap.{FinMap, get}
-use Rattle.bfs_model.specs.Tree.{Inode, Inodes}
-use Rattle.bfs_model.specs.Conflicts.{among, set_at}
+use Rattle.bfs_model.specs.Server.Tree.{Inode, Inodes}
+use Rattle.bfs_model.specs.Server.Conflicts.{among, set_at}
 use Rattle.bfs_tree.specs.Reach.{Reach}
 use Rattle.bfs_handover.specs.declared.loans.Loan.{Loan}
 

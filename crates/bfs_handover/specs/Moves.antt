@@ -1,7 +1,7 @@
 -- What leaves a tree and comes home, one fileid after another.
 use Rattle.std.specs.Prelude.{ℕ, ⊤, IsTrue, IsFalse, List, [], ◌∷◌}
 use Rattle.std.specs.FinMap.{get, insert, contains_key}
-use Rattle.bfs_model.specs.Conflicts.{among}
+use Rattle.bfs_model.specs.Server.Conflicts.{among}
 use Rattle.bfs_tree.specs.Slots.{Slots}
 use Rattle.bfs_tree.specs.Tree.{at_home, lent, reach_of, brought}
 use Rattle.bfs_tree.specs.declared.slots.Slot.TheVariants as slot

@@ -2,12 +2,12 @@
 use Rattle.std.specs.Prelude.{◌≡◌, ◌≤◌, ◌<◌, ◌+◌, ◌-◌, ℕ, IsFalse, List, [], map, length, is_some, All, get_or, drop}
 use Rattle.std.specs.List.{AllZip}
 use Rattle.std.specs.FinMap.{get}
-use Rattle.bfs_model.specs.Tree.{Time, Inodes}
-use Rattle.bfs_model.specs.Serial.{ordinal_after}
-use Rattle.bfs_model.specs.Footprints.{Footprint, IsFreshFor, footprint_of}
-use Rattle.bfs_model.specs.Conflicts.{among, is_whole}
-use Rattle.bfs_model.specs.OvertakingLaw.{footprint_at}
-use Rattle.bfs_model.specs.Shares.{moved_for, all_moved, without, share_of}
+use Rattle.bfs_model.specs.Server.Tree.{Time, Inodes}
+use Rattle.bfs_model.specs.Server.Serial.{ordinal_after}
+use Rattle.bfs_model.specs.Server.Footprints.{Footprint, IsFreshFor, footprint_of}
+use Rattle.bfs_model.specs.Server.Conflicts.{among, is_whole}
+use Rattle.bfs_model.specs.Laws.Overtaking.{footprint_at}
+use Rattle.bfs_model.specs.Server.Shares.{moved_for, all_moved, without, share_of}
 use Rattle.bfs_tree.specs.Slots.{Slots}
 use Rattle.bfs_tree.specs.Tree.{at_home, lent}
 use Rattle.bfs_footprint.specs.Seen.{footprint_seen}

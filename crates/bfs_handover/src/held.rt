@@ -2,9 +2,9 @@ ghost use Rattle.std.specs.Prelude.{◌≡◌, ◌==◌, ◌++◌, ◌∷◌, []
 ghost use Rattle.std.specs.List.{position};
 ghost use Rattle.std.specs.Option.{option_copied, option_copied_mut};
 ghost use Rattle.std.specs.Borrow.{sem};
-ghost use Rattle.bfs_handover.specs.Places.{IsPlace, IsNowhere};
+ghost use Rattle.bfs_handover.specs.Inside.Places.{IsPlace, IsNowhere};
 ghost use Rattle.bfs_handover.specs.Loans.{loaned, with_loan};
-ghost use Rattle.bfs_handover.specs.Held.{LendsHeld, loans_in};
+ghost use Rattle.bfs_handover.specs.Inside.Held.{LendsHeld, loans_in};
 
 use crate::loans::Loan;
 use bfs_inode::Inode;

@@ -1,5 +1,5 @@
-ghost use Rattle.bfs_handover.specs.Carrying.{SplitRequestsAreCarriedOut};
-ghost use Rattle.bfs_handover.specs.Homecoming.{ResultsAreOut, ResultsComeHome};
+ghost use Rattle.bfs_handover.specs.Laws.Carrying.{SplitRequestsAreCarriedOut};
+ghost use Rattle.bfs_handover.specs.Laws.Homecoming.{ResultsAreOut, ResultsComeHome};
 ghost use Rattle.bfs_handover.specs.Merging.{CompleteResultsAreTaken};
 
 /// Results of which each number has just one are not refused: `merge` then fails only if memory runs out.

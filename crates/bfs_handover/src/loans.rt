@@ -2,10 +2,10 @@ ghost use Rattle.std.specs.Prelude.{◌≡◌, ◌==◌, ◌++◌, ◌∷◌, []
 ghost use Rattle.std.specs.List.{list_any};
 ghost use Rattle.std.specs.Option.{option_copied, option_copied_mut};
 ghost use Rattle.std.specs.Borrow.{sem};
-ghost use Rattle.bfs_model.specs.Conflicts.{among};
+ghost use Rattle.bfs_model.specs.Server.Conflicts.{among};
 ghost use Rattle.bfs_handover.specs.Loans.{ids_of, loaned, with_loan};
-ghost use Rattle.bfs_handover.specs.LoanLending.{LendsInode, LendsLoan};
-ghost use Rattle.bfs_handover.specs.Held.{loans_in};
+ghost use Rattle.bfs_handover.specs.Inside.LoanLending.{LendsInode, LendsLoan};
+ghost use Rattle.bfs_handover.specs.Inside.Held.{loans_in};
 
 use crate::held::Held;
 use bfs_inode::Inode;
@@ -47,7 +47,7 @@ impl Model for Loans {
 
     ghost Value = { List Loan };
 
-    ghost use Rattle.bfs_handover.specs.Held.{loans_in};
+    ghost use Rattle.bfs_handover.specs.Inside.Held.{loans_in};
 
     ghost view = { λ loans. loans_in loans.held };
 }

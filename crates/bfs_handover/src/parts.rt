@@ -1,12 +1,12 @@
 ghost use Rattle.std.specs.Prelude.{◌≡◌, ◌≤◌, [], ◌∷◌, All, IfOk, IsTrue, OnErr, length, map, vec_capacity};
-ghost use Rattle.bfs_model.specs.Groups.{AreDisjoint};
-ghost use Rattle.bfs_model.specs.Shares.{moved_for};
+ghost use Rattle.bfs_model.specs.Server.Groups.{AreDisjoint};
+ghost use Rattle.bfs_model.specs.Server.Shares.{moved_for};
 ghost use Rattle.bfs_footprint.specs.Seen.{footprint_seen};
 ghost use Rattle.bfs_tree.specs.Tree.{at_home, lent, reach_of};
 ghost use Rattle.bfs_handover.specs.Loans.{ids_of};
 ghost use Rattle.bfs_handover.specs.Moves.{AreLent, AreOwned, brought_home, lent_out};
 ghost use Rattle.bfs_handover.specs.Splitting.{CanBeSplit, IsFoundOn, IsSplit, footprint_for, footprints_for, part_of, part_with};
-ghost use Rattle.bfs_handover.specs.Taking.{AreJobs, AreOnce, IsTaken, IsWithin, all_ids, all_loans};
+ghost use Rattle.bfs_handover.specs.Inside.Taking.{AreJobs, AreOnce, IsTaken, IsWithin, all_ids, all_loans};
 
 use crate::job::Job;
 use crate::moves::{bring, take};

@@ -1,7 +1,7 @@
 ghost use Rattle.std.specs.Prelude.{◌≡◌, ◌≤◌, ◌⊎◌, ◌↔◌, [], ◌∷◌, IfErr, IfOk, IsTrue, None, OnErr, OnOk, Some, length, map, not, vec_capacity};
 ghost use Rattle.std.specs.List.{list_any};
 ghost use Rattle.std.specs.List.Sorted.{IsNonDecreasingBy, IsPermutation, IsStrictlyIncreasing};
-ghost use Rattle.bfs_model.specs.Conflicts.{among};
+ghost use Rattle.bfs_model.specs.Server.Conflicts.{among};
 ghost use Rattle.bfs_handover.specs.Errors.{merge_code_of};
 ghost use Rattle.bfs_handover.specs.Merging.{AreAllLent, AreOut, IsMerged, all_home, numbers_in, refusal, reply_in};
 ghost use Rattle.bfs_handover.specs.declared.job.Done.{Done};

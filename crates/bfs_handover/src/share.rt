@@ -2,7 +2,7 @@ ghost use Rattle.std.specs.Prelude.{◌≡◌, refl, true, false};
 ghost use Rattle.bfs_tree.specs.Reach.{Reach};
 ghost use Rattle.bfs_tree.specs.Tree.{at_home, lent};
 ghost use Rattle.bfs_handover.specs.Loans.{ids_of, put_in, reach_with};
-ghost use Rattle.bfs_handover.specs.Laws.{knows_owned, never_whole};
+ghost use Rattle.bfs_handover.specs.Laws.Shares.{knows_owned, never_whole};
 
 use crate::loans::Loans;
 use bfs_inode::Inode;

@@ -6,11 +6,11 @@ use Rattle.std.proofs.lemmas.Bool.{both_ways, false_from_ne_true}
 use Rattle.std.proofs.lemmas.List.{length-append}
 use Rattle.std.proofs.lemmas.List.Folds.{find-append}
 use Rattle.std.proofs.lemmas.Slice.Eq.{bytes_eq-Decides}
-use Rattle.bfs_model.specs.Limits.{most_entries}
-use Rattle.bfs_model.specs.Tree.{Entry, spent_ordinal}
-use Rattle.bfs_model.specs.Directories.{entry_named, without_name}
-use Rattle.bfs_model.specs.WellFormed.{NamesDiffer}
-use Rattle.bfs_model.proofs.WellFormed.Entries.{rising_pushed, rising_without, differ_without, no_longer}
+use Rattle.bfs_model.specs.Server.Limits.{most_entries}
+use Rattle.bfs_model.specs.Server.Tree.{Entry, spent_ordinal}
+use Rattle.bfs_model.specs.Server.Directories.{entry_named, without_name}
+use Rattle.bfs_model.specs.Server.WellFormed.{NamesDiffer}
+use Rattle.bfs_model.proofs.Public.{rising_pushed, rising_without, differ_without, no_longer}
 use Rattle.bfs_inode.specs.Directories.{AreEntries}
 
 -- One more -------------------------------------------------------------------------------------------------------------

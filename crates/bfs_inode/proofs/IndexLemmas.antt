@@ -18,9 +18,9 @@ use Rattle.std.proofs.lemmas.List.Elements.{All-head, All-tail}
 use Rattle.std.proofs.lemmas.List.Folds.{find-append}
 use Rattle.std.proofs.lemmas.Map.Text.{is_eq-slice_cmp}
 use Rattle.std.proofs.lemmas.Slice.Eq.{bytes_eq-Decides}
-use Rattle.bfs_model.specs.Directories.{entry_named, listed_behind, without_name}
-use Rattle.bfs_model.specs.Tree.{Entry, spent_ordinal}
-use Rattle.bfs_model.specs.WellFormed.{IsRising, NamesDiffer}
+use Rattle.bfs_model.specs.Server.Directories.{entry_named, listed_behind, without_name}
+use Rattle.bfs_model.specs.Server.Tree.{Entry, spent_ordinal}
+use Rattle.bfs_model.specs.Server.WellFormed.{IsRising, NamesDiffer}
 use Rattle.bfs_inode.specs.Directories.{AreEntries, AreIndexed, cookie_of}
 use Rattle.bfs_inode.proofs.DirectoryLemmas.{name_gone}
 

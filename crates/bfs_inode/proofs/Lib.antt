@@ -1,3 +1,4 @@
 pub mod DirectoryLemmas
 pub mod IndexLemmas
 pub mod OrderLemmas
+pub mod Public

@@ -4,9 +4,9 @@ use Rattle.std.specs.Option.{is_some, option_or}
 use Rattle.std.specs.List.{All}
 use Rattle.std.proofs.lemmas.List.Elements.{All-nil, All-cons}
 use Rattle.std.proofs.lemmas.List.Folds.{find-append}
-use Rattle.bfs_model.specs.Tree.{Entry}
-use Rattle.bfs_model.specs.Directories.{entry_named}
-use Rattle.bfs_model.specs.WellFormed.{IsRising, NamesDiffer}
+use Rattle.bfs_model.specs.Server.Tree.{Entry}
+use Rattle.bfs_model.specs.Server.Directories.{entry_named}
+use Rattle.bfs_model.specs.Server.WellFormed.{IsRising, NamesDiffer}
 use Rattle.bfs_inode.proofs.DirectoryLemmas.{none_further, other_name}
 
 no_less : (least : ℕ) (es rest : List Entry) (e : Entry) (o : ℕ) → IsRising least (es ++ e ∷ rest) o → least ≤ e.cookie

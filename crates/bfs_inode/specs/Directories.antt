@@ -6,10 +6,10 @@ use Rattle.std.specs.BTreeMap.{is_at}
 use Rattle.std.specs.Map.{lookup, values_of}
 use Rattle.std.specs.Ordering.{nat_cmp}
 use Rattle.std.specs.Cmp.Lexicographic.{slice_cmp}
-use Rattle.bfs_model.specs.Directories.{entry_named}
-use Rattle.bfs_model.specs.Limits.{most_entries}
-use Rattle.bfs_model.specs.Tree.{Entry, spent_ordinal}
-use Rattle.bfs_model.specs.WellFormed.{IsRising, NamesDiffer}
+use Rattle.bfs_model.specs.Server.Directories.{entry_named}
+use Rattle.bfs_model.specs.Server.Limits.{most_entries}
+use Rattle.bfs_model.specs.Server.Tree.{Entry, spent_ordinal}
+use Rattle.bfs_model.specs.Server.WellFormed.{IsRising, NamesDiffer}
 
 pub record AreEntries (entries : List Entry) : Type 0 where
   pub few : length entries ≤ most_entries

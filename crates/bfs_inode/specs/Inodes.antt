@@ -1,8 +1,8 @@
 -- What an inode holds, as the model has it.
 use Rattle.std.specs.Prelude.{ℕ, ◌+◌, ◌*◌, max, List, Option, Some, None}
-use Rattle.bfs_model.specs.Attributes.{blocks_of}
-use Rattle.bfs_model.specs.Limits.{most_file_bytes, most_entries}
-use Rattle.bfs_model.specs.Tree as model
+use Rattle.bfs_model.specs.Bytes.Attributes.{blocks_of}
+use Rattle.bfs_model.specs.Server.Limits.{most_file_bytes, most_entries}
+use Rattle.bfs_model.specs.Server.Tree as model
 use Rattle.bfs_inode.specs.declared.bodies.Body.{Body}
 use Rattle.bfs_inode.specs.declared.bodies.Body.TheVariants.{File, Directory, Link}
 

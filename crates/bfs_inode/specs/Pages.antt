@@ -1,7 +1,7 @@
 -- What a page of READDIR has yet to list of a directory (RFC 1094 section 2.2.17).
 use Rattle.std.specs.Prelude.{ℕ, ◌==◌, Bool, List, length}
-use Rattle.bfs_model.specs.Tree as model
-use Rattle.bfs_model.specs.Directories.{held_by}
+use Rattle.bfs_model.specs.Server.Tree as model
+use Rattle.bfs_model.specs.Server.Directories.{held_by}
 use Rattle.bfs_inode.specs.declared.directories.pages.Listed.{Listed}
 use Rattle.bfs_inode.specs.declared.directories.pages.Page.TheInside.{Inside}
 

@@ -4,14 +4,14 @@ use Rattle.std.specs.Prelude.{ℕ, zero, suc, ◌+◌, ◌==◌, ◌≤◌, true
 use Rattle.std.specs.List.{flat_map, AllByRecursion}
 use Rattle.std.specs.Result.{result_ok}
 use Rattle.sha2.specs.Sha256.{sha256}
-use Rattle.bfs_model.specs.Attributes.{type_of}
-use Rattle.bfs_model.specs.Call.{◌>>=◌}
-use Rattle.bfs_model.specs.Items.{word, words, counted, word_at, opaque_at}
-use Rattle.bfs_model.specs.Limits.{most_name_bytes, most_path_bytes, most_entries}
-use Rattle.bfs_model.specs.Replies.{type_number}
-use Rattle.bfs_model.specs.Stored.{IsWord, AreBytes, IsTime, EntryIsStorable}
-use Rattle.bfs_model.specs.Tree.{Time, Entry, Listing, Body, file, directory, link, Inode, root_id, first_ordinal, spent_ordinal}
-use Rattle.bfs_model.specs.WellFormed.{IsRising}
+use Rattle.bfs_model.specs.Bytes.Attributes.{type_of}
+use Rattle.bfs_model.specs.Bytes.Call.{◌>>=◌}
+use Rattle.bfs_model.specs.Bytes.Items.{word, words, counted, word_at, opaque_at}
+use Rattle.bfs_model.specs.Server.Limits.{most_name_bytes, most_path_bytes, most_entries}
+use Rattle.bfs_model.specs.Bytes.Replies.{type_number}
+use Rattle.bfs_model.specs.Server.Stored.{IsWord, AreBytes, IsTime, EntryIsStorable}
+use Rattle.bfs_model.specs.Server.Tree.{Time, Entry, Listing, Body, file, directory, link, Inode, root_id, first_ordinal, spent_ordinal}
+use Rattle.bfs_model.specs.Server.WellFormed.{IsRising}
 
 -- the bytes of a file in a record of version 1, whatever a file may have later
 abbrev pub most_recorded_bytes : ℕ

@@ -1,7 +1,7 @@
 -- What is left to list of a directory.
 use Rattle.std.specs.Prelude.{ℕ, List, [], ◌∷◌, drop}
-use Rattle.bfs_model.specs.Tree as model
-use Rattle.bfs_model.specs.Directories.{all_listed}
+use Rattle.bfs_model.specs.Server.Tree as model
+use Rattle.bfs_model.specs.Server.Directories.{all_listed}
 use Rattle.bfs_inode.specs.declared.directories.rest.Next.{Next}
 use Rattle.bfs_inode.specs.declared.directories.rest.Next.TheVariants.{Dot, DotDot, Entry, End}
 

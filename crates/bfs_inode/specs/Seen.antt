@@ -1,8 +1,8 @@
 -- An inode of the code as one of the model, its limits, and the digest that it keeps.
 use Rattle.std.specs.Prelude.{◌≡◌, ◌≤◌}
 use Rattle.std.specs.Option.{ForSome}
-use Rattle.bfs_model.specs.Limits.{most_links}
-use Rattle.bfs_model.specs.Tree as model
+use Rattle.bfs_model.specs.Server.Limits.{most_links}
+use Rattle.bfs_model.specs.Server.Tree as model
 use Rattle.bfs_types.specs.declared.limits.TheConstants.{MOST_PERMISSIONS}
 use Rattle.bfs_inode.specs.declared.inodes.Inode.TheInside.{Inside}
 use Rattle.bfs_inode.specs.Inodes.{body_seen}

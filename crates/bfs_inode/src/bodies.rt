@@ -1,10 +1,10 @@
 ghost use Rattle.std.specs.Prelude.{◌≡◌, ◌+◌, ◌<◌, ◌≤◌, None, [], ◌∷◌, ◌++◌, length, IsSome, OnOk, OnErr};
 ghost use Rattle.std.specs.List.{All};
-ghost use Rattle.bfs_model.specs.Tree.{entries_in};
-ghost use Rattle.bfs_model.specs.Attributes.{size_of, type_of};
-ghost use Rattle.bfs_model.specs.Limits.{most_name_bytes, most_file_bytes, most_entries};
-ghost use Rattle.bfs_model.specs.Changes.{overwritten_body, resized_body, with_listing};
-ghost use Rattle.bfs_model.specs.Directories.{entry_named, without_name};
+ghost use Rattle.bfs_model.specs.Server.Tree.{entries_in};
+ghost use Rattle.bfs_model.specs.Bytes.Attributes.{size_of, type_of};
+ghost use Rattle.bfs_model.specs.Server.Limits.{most_name_bytes, most_file_bytes, most_entries};
+ghost use Rattle.bfs_model.specs.Server.Changes.{overwritten_body, resized_body, with_listing};
+ghost use Rattle.bfs_model.specs.Server.Directories.{entry_named, without_name};
 ghost use Rattle.bfs_types.specs.Attributes.{file_type_seen};
 ghost use Rattle.bfs_inode.specs.Inodes.{body_seen, file_in, most_size};
 

@@ -1,10 +1,10 @@
 ghost use Rattle.std.specs.Prelude.{◌≡◌, ◌≤◌, ◌↔◌, None, [], length, slice_get, is_some, IsTrue};
 ghost use Rattle.std.specs.Option.{option_copied};
-ghost use Rattle.bfs_model.specs.Directories.{entry_named};
-ghost use Rattle.bfs_model.specs.Limits.{most_entries};
-ghost use Rattle.bfs_model.specs.Procedures.Names.{child_named};
-ghost use Rattle.bfs_model.specs.Tree.{spent_ordinal};
-ghost use Rattle.bfs_model.specs.WellFormed.{IsRising, NamesDiffer};
+ghost use Rattle.bfs_model.specs.Server.Directories.{entry_named};
+ghost use Rattle.bfs_model.specs.Server.Limits.{most_entries};
+ghost use Rattle.bfs_model.specs.Server.Procedures.Names.{child_named};
+ghost use Rattle.bfs_model.specs.Server.Tree.{spent_ordinal};
+ghost use Rattle.bfs_model.specs.Server.WellFormed.{IsRising, NamesDiffer};
 
 mod changes;
 mod entries;
@@ -32,7 +32,7 @@ pub struct Entry {
 }
 
 impl Model for Entry {
-    ghost use Rattle.bfs_model.specs.Tree as model;
+    ghost use Rattle.bfs_model.specs.Server.Tree as model;
 
     ghost Value = { model.Entry };
 
@@ -56,7 +56,7 @@ pub struct Directory {
 
 impl Model for Directory {
     ghost use Rattle.std.specs.BTreeMap.{values};
-    ghost use Rattle.bfs_model.specs.Tree as model;
+    ghost use Rattle.bfs_model.specs.Server.Tree as model;
     ghost use Rattle.bfs_inode.specs.Directories.{AreEntries, AreIndexed};
 
     ghost Value = { model.Listing };

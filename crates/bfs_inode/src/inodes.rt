@@ -1,11 +1,11 @@
 ghost use Rattle.std.specs.Prelude.{◌≡◌, ◌≤◌, length, unwrap_or, is_some, option_map, IfOk, IfSome};
 ghost use Rattle.std.specs.Option.{option_copied, option_map_or};
-ghost use Rattle.bfs_model.specs.Tree.{new_root, is_directory_body, listing_in, spent_ordinal};
-ghost use Rattle.bfs_model.specs.Attributes.{attributes_of, blocks_of, size_of};
-ghost use Rattle.bfs_model.specs.Limits.{most_path_bytes, most_file_bytes, most_links};
-ghost use Rattle.bfs_model.specs.Changes.{new_inode, permission_bits, time_or};
-ghost use Rattle.bfs_model.specs.Procedures.Making.{new_file, new_directory, new_symbolic_link};
-ghost use Rattle.bfs_model.specs.WellFormed.{IsRising, NamesDiffer};
+ghost use Rattle.bfs_model.specs.Server.Tree.{new_root, is_directory_body, listing_in, spent_ordinal};
+ghost use Rattle.bfs_model.specs.Bytes.Attributes.{attributes_of, blocks_of, size_of};
+ghost use Rattle.bfs_model.specs.Server.Limits.{most_path_bytes, most_file_bytes, most_links};
+ghost use Rattle.bfs_model.specs.Server.Changes.{new_inode, permission_bits, time_or};
+ghost use Rattle.bfs_model.specs.Server.Procedures.Making.{new_file, new_directory, new_symbolic_link};
+ghost use Rattle.bfs_model.specs.Server.WellFormed.{IsRising, NamesDiffer};
 ghost use Rattle.bfs_inode.specs.Inodes.{body_seen, file_in, path_in, most_blocks};
 
 mod changes;
@@ -58,7 +58,7 @@ pub struct Metadata {
 }
 
 impl Model for Inode {
-    ghost use Rattle.bfs_model.specs.Tree as model;
+    ghost use Rattle.bfs_model.specs.Server.Tree as model;
 
     ghost Value = { model.Inode };
 

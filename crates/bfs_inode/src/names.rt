@@ -1,7 +1,7 @@
 // Names in directories (RFC 1094 section 2.3.7).
 ghost use Rattle.std.specs.Prelude.{◌≡◌, ◌==◌, ◌||◌};
 ghost use Rattle.std.specs.List.{list_any};
-ghost use Rattle.bfs_model.specs.Directories as model;
+ghost use Rattle.bfs_model.specs.Server.Directories as model;
 
 /// Whether no call may make, take or replace the name: no directory holds it, or it is `.` or `..`, which every directory has
 /// of itself.

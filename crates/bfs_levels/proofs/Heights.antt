@@ -3,9 +3,9 @@ use Rattle.std.proofs.Common.{◌≡◌, ℕ, ◌+◌, ◌==◌, ◌||◌, ◌�
 use Rattle.std.specs.List.{list_any}
 use Rattle.std.specs.HashMap.{HashMap}
 use Rattle.std.proofs.lemmas.List.Folds.{list_any-append}
-use Rattle.bfs_model.specs.Footprints.{Footprint, known, whole}
-use Rattle.bfs_model.specs.Conflicts.{among, conflict, is_touched}
-use Rattle.bfs_model.specs.Conflicts.{is_whole}
+use Rattle.bfs_model.specs.Server.Footprints.{Footprint, known, whole}
+use Rattle.bfs_model.specs.Server.Conflicts.{among, conflict, is_touched}
+use Rattle.bfs_model.specs.Server.Conflicts.{is_whole}
 use Rattle.bfs_levels.specs.Planning.{Touch, height, level_behind, parts_groups}
 use Rattle.bfs_levels.specs.Marking.{IsMarked, highest_at, higher, mark_at, names_written, names_touched, no_mark}
 use Rattle.bfs_levels.specs.declared.marks.Mark.{Mark}

@@ -1,8 +1,8 @@
 -- One more call of a plan.
 use Rattle.std.proofs.Common.{◌≡◌, ℕ, ◌+◌, ◌||◌, ◌≤◌, Bool, true, false, nat_eq, nat_lt, not, None, Some, max, List, [], ◌∷◌, ◌++◌, if◌then◌else◌, length, map, refl, ap, sym, subst, ◌∙◌, arith}
 use Rattle.std.specs.List.{list_any}
-use Rattle.bfs_model.specs.Footprints.{Footprint}
-use Rattle.bfs_model.specs.Conflicts.{conflict}
+use Rattle.bfs_model.specs.Server.Footprints.{Footprint}
+use Rattle.bfs_model.specs.Server.Conflicts.{conflict}
 use Rattle.bfs_levels.specs.Planning.{Touch, height, level_behind, levels_behind, levels_of, parts}
 use Rattle.bfs_levels.specs.Marking.{IsMarked, levelled, levelled_behind}
 use Rattle.bfs_levels.specs.Planned.{IsPlan, calls_in, level_joined}

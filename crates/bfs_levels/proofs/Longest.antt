@@ -2,13 +2,13 @@
 use Rattle.std.proofs.Common.{◌≡◌, ℕ, ◌+◌, ◌≤◌, ◌↔◌, ◌||◌, Bool, true, false, if◌then◌else◌, IsFalse, List, [], ◌∷◌, ◌++◌, zero, suc, length, take, refl, ap, sym, subst, ◌∙◌, arith}
 use Rattle.std.specs.List.{AllByRecursion, list_any}
 use Rattle.std.proofs.lemmas.List.Folds.{list_any-append}
-use Rattle.bfs_model.specs.Conflicts.{conflict, is_written, resolved_of}
-use Rattle.bfs_model.specs.Groups.{footprints_at, AreDisjoint, IsCut, IsCutBefore}
-use Rattle.bfs_model.specs.Serial.{ordinal_after}
-use Rattle.bfs_model.specs.Footprints.{Footprint, footprint_of}
-use Rattle.bfs_model.specs.Tree.{Time, Inodes}
-use Rattle.bfs_model.specs.Conflicts.{is_whole}
-use Rattle.bfs_model.proofs.Footprints.Apart.{none_hit}
+use Rattle.bfs_model.specs.Server.Conflicts.{conflict, is_written, resolved_of}
+use Rattle.bfs_model.specs.Server.Groups.{footprints_at, AreDisjoint, IsCut, IsCutBefore}
+use Rattle.bfs_model.specs.Server.Serial.{ordinal_after}
+use Rattle.bfs_model.specs.Server.Footprints.{Footprint, footprint_of}
+use Rattle.bfs_model.specs.Server.Tree.{Time, Inodes}
+use Rattle.bfs_model.specs.Server.Conflicts.{is_whole}
+use Rattle.bfs_model.proofs.Public.{none_hit}
 use Rattle.bfs_levels.specs.Laws.{AreJoined}
 use Rattle.bfs_levels.specs.Planning.{Touch, count_joined, group_length, parts_groups, parts_runs, run_length, touch_by, touches_at}
 

@@ -1,8 +1,8 @@
 -- Levels rise from a call to a later one that conflicts with it.
 use Rattle.std.proofs.Common.{◌≡◌, ℕ, ◌+◌, ◌<◌, ◌⊎◌, inl, inr, Bool, true, IsTrue, List, [], ◌∷◌, if◌then◌else◌, zero, suc, length, get_or, refl, ap, sym, ◌∙◌, arith}
-use Rattle.bfs_model.specs.Conflicts.{conflict}
-use Rattle.bfs_model.specs.OvertakingLaw.{footprint_at}
-use Rattle.bfs_model.specs.Footprints.{Footprint}
+use Rattle.bfs_model.specs.Server.Conflicts.{conflict}
+use Rattle.bfs_model.specs.Laws.Overtaking.{footprint_at}
+use Rattle.bfs_model.specs.Server.Footprints.{Footprint}
 use Rattle.bfs_levels.specs.Planning.{height, level_behind, levels_behind, levels_of}
 
 -- that call is one of these

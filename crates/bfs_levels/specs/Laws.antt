@@ -1,11 +1,11 @@
 -- What the plans are, in their own words.
 use Rattle.std.specs.Prelude.{ℕ, ◌<◌, ◌≤◌, ◌↔◌, Bool, IsTrue, IsFalse, List, [], ◌∷◌, length, take, get_or}
 use Rattle.std.specs.List.{AllByRecursion}
-use Rattle.bfs_model.specs.Conflicts.{conflict}
-use Rattle.bfs_model.specs.Groups.{footprints_at, AreDisjoint, IsCut}
-use Rattle.bfs_model.specs.OvertakingLaw.{footprint_at}
-use Rattle.bfs_model.specs.Footprints.{Footprint}
-use Rattle.bfs_model.specs.Tree.{Time, Inodes}
+use Rattle.bfs_model.specs.Server.Conflicts.{conflict}
+use Rattle.bfs_model.specs.Server.Groups.{footprints_at, AreDisjoint, IsCut}
+use Rattle.bfs_model.specs.Laws.Overtaking.{footprint_at}
+use Rattle.bfs_model.specs.Server.Footprints.{Footprint}
+use Rattle.bfs_model.specs.Server.Tree.{Time, Inodes}
 use Rattle.bfs_levels.specs.Planning.{Touch, group_length, levels_of, parts_groups, run_length, touches_at}
 
 -- none is parted from an earlier one

@@ -1,9 +1,9 @@
 -- The marks by which a call's level is found from its own fileids.
 use Rattle.std.specs.Prelude.{◌≡◌, ℕ, nat_eq, Bool, true, false, ◌||◌, max, List, [], ◌∷◌, length, ◌≤◌, unwrap_or, if◌then◌else◌}
 use Rattle.std.specs.HashMap.{HashMap, get}
-use Rattle.bfs_model.specs.Footprints.{Footprint, known, whole}
-use Rattle.bfs_model.specs.Conflicts.{among}
-use Rattle.bfs_model.specs.Conflicts.{is_whole}
+use Rattle.bfs_model.specs.Server.Footprints.{Footprint, known, whole}
+use Rattle.bfs_model.specs.Server.Conflicts.{among}
+use Rattle.bfs_model.specs.Server.Conflicts.{is_whole}
 use Rattle.bfs_levels.specs.Planning.{height, level_behind}
 use Rattle.bfs_levels.specs.declared.marks.Mark.{Mark}
 use Rattle.bfs_levels.specs.declared.marks.Marks.{Marks}

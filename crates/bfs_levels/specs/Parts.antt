@@ -1,9 +1,9 @@
 -- The requests of a batch from a place on.
 use Rattle.std.specs.Prelude.{ℕ, ◌+◌, ◌-◌, List, drop, take}
-use Rattle.bfs_model.specs.Tree.{Inodes}
-use Rattle.bfs_model.specs.Footprints.{Footprint}
-use Rattle.bfs_model.specs.Groups.{footprints_at}
-use Rattle.bfs_model.specs.Serial.{ordinal_after}
+use Rattle.bfs_model.specs.Server.Tree.{Inodes}
+use Rattle.bfs_model.specs.Server.Footprints.{Footprint}
+use Rattle.bfs_model.specs.Server.Groups.{footprints_at}
+use Rattle.bfs_model.specs.Server.Serial.{ordinal_after}
 use Rattle.bfs_levels.specs.Planning.{group_length, run_length}
 use Rattle.bfs_levels.specs.Requests.{requests_from}
 use Rattle.bfs_levels.specs.declared.part.Part.{Part}

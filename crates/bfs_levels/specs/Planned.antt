@@ -1,9 +1,9 @@
 -- What a plan keeps of the calls in it, and which calls join them.
 use Rattle.std.specs.Prelude.{◌≡◌, ℕ, List, [], map, Option, None, Some, if◌then◌else◌}
 use Rattle.std.specs.List.{list_any}
-use Rattle.bfs_model.specs.Footprints.{Footprint}
+use Rattle.bfs_model.specs.Server.Footprints.{Footprint}
 use Rattle.bfs_footprint.specs.Seen.{footprint_seen}
-use Rattle.bfs_model.specs.Tree.{Inodes}
+use Rattle.bfs_model.specs.Server.Tree.{Inodes}
 use Rattle.bfs_levels.specs.Planning.{Touch, count_joined, level_behind, levels_of, parts, touches_at}
 use Rattle.bfs_levels.specs.Parts.{requests_before}
 use Rattle.bfs_levels.specs.declared.part.Part.{Part}

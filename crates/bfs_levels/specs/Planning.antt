@@ -1,11 +1,11 @@
 -- Runs, groups and levels of calls, by their footprints.
 use Rattle.std.specs.Prelude.{ℕ, ◌+◌, max, Bool, ◌||◌, List, [], ◌∷◌, ◌++◌, if◌then◌else◌}
 use Rattle.std.specs.List.{list_any}
-use Rattle.bfs_model.specs.Tree.{Time, Inodes}
-use Rattle.bfs_model.specs.Serial.{ordinal_after}
-use Rattle.bfs_model.specs.Footprints.{Footprint, footprint_of}
-use Rattle.bfs_model.specs.Conflicts.{conflict, is_written, resolved_of}
-use Rattle.bfs_model.specs.Conflicts.{is_whole}
+use Rattle.bfs_model.specs.Server.Tree.{Time, Inodes}
+use Rattle.bfs_model.specs.Server.Serial.{ordinal_after}
+use Rattle.bfs_model.specs.Server.Footprints.{Footprint, footprint_of}
+use Rattle.bfs_model.specs.Server.Conflicts.{conflict, is_written, resolved_of}
+use Rattle.bfs_model.specs.Server.Conflicts.{is_whole}
 use Rattle.bfs_levels.specs.declared.plans.Rule.{Rule}
 use Rattle.bfs_levels.specs.declared.plans.Rule.TheVariants.{Runs, Groups}
 

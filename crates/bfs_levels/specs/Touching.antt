@@ -1,6 +1,6 @@
 -- A call of the code as the model plans it.
 use Rattle.std.specs.Prelude.{◌++◌}
-use Rattle.bfs_model.specs.Footprints.{ids_in}
+use Rattle.bfs_model.specs.Server.Footprints.{ids_in}
 use Rattle.bfs_footprint.specs.Seen.{footprint_seen}
 use Rattle.bfs_levels.specs.Planning as model
 use Rattle.bfs_footprint.specs.declared.requests.Touch.{Touch}

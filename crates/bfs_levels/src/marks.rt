@@ -1,7 +1,7 @@
 // How high the calls so far stand, by the inodes that they touch.
 ghost use Rattle.std.specs.Prelude.{◌≡◌, ℕ, ◌+◌, ◌<◌, ◌≤◌, ◌==◌, ◌^◌, [], ◌∷◌, length, List, OnOk};
-ghost use Rattle.bfs_model.specs.Conflicts.{among};
-ghost use Rattle.bfs_model.specs.Footprints.{Footprint as ModelFootprint, ids_in};
+ghost use Rattle.bfs_model.specs.Server.Conflicts.{among};
+ghost use Rattle.bfs_model.specs.Server.Footprints.{Footprint as ModelFootprint, ids_in};
 ghost use Rattle.bfs_footprint.specs.Seen.{footprint_seen};
 ghost use Rattle.bfs_levels.specs.Planning.{height, level_behind, parts_groups};
 ghost use Rattle.bfs_levels.specs.Touching.{touch_seen};

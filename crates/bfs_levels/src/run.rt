@@ -1,5 +1,5 @@
 ghost use Rattle.std.specs.Prelude.{◌≡◌, drop, length, map, take, IfOk, IsTrue};
-ghost use Rattle.bfs_model.specs.Groups.{footprints_at};
+ghost use Rattle.bfs_model.specs.Server.Groups.{footprints_at};
 ghost use Rattle.bfs_tree.specs.Tree.{at_home, reach_of};
 ghost use Rattle.bfs_footprint.specs.Seen.{footprint_seen};
 ghost use Rattle.bfs_levels.specs.Parts.{footprints_before, run_count};

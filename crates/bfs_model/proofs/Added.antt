@@ -1,19 +1,19 @@
 -- The inode that a call adds is that of its ordinal, and the others that stay are of the types that they were of.
 use Rattle.std.proofs.Common.{◌≡◌, ℕ, Bool, true, false, ◌⊎◌, inl, inr, List, [], ◌∷◌, Option, Some, None, Ok, is_some, IsTrue, nat_lt, unwrap_or, refl, subst}
 use Rattle.std.specs.FinMap.{get, insert}
-use Rattle.bfs_model.specs.Limits.{most_file_bytes}
-use Rattle.bfs_model.specs.Tree.{Inode, Inodes}
-use Rattle.bfs_model.specs.Context.{Context}
-use Rattle.bfs_model.specs.Attributes.{type_of}
-use Rattle.bfs_model.specs.Arguments.{Call, set_attributes, write, create, remove, rename, make_link, make_symbolic_link, make_directory, remove_directory}
-use Rattle.bfs_model.specs.Replies.{fbig, nospc}
-use Rattle.bfs_model.specs.Changes.{without_entry, with_parent, with_link, with_link_less, with_ctime}
-use Rattle.bfs_model.specs.Refusals.{FoundDirectory, has_most_links, directory_found}
-use Rattle.bfs_model.specs.Procedures.{procedure}
-use Rattle.bfs_model.specs.Procedures.Making.{with_name, entry_made}
-use Rattle.bfs_model.specs.Procedures.Renaming.{Renaming, Replaced, moves_directory, name_lost, name_cleared, moved_below, renamed, renaming_of}
-use Rattle.bfs_model.specs.Footprints.{IsFresh}
-use Rattle.bfs_model.specs.ProcedureLaws.{NoOtherInodeIsAdded, TypesStay}
+use Rattle.bfs_model.specs.Server.Limits.{most_file_bytes}
+use Rattle.bfs_model.specs.Server.Tree.{Inode, Inodes}
+use Rattle.bfs_model.specs.Server.Context.{Context}
+use Rattle.bfs_model.specs.Bytes.Attributes.{type_of}
+use Rattle.bfs_model.specs.Bytes.Arguments.{Call, set_attributes, write, create, remove, rename, make_link, make_symbolic_link, make_directory, remove_directory}
+use Rattle.bfs_model.specs.Bytes.Replies.{fbig, nospc}
+use Rattle.bfs_model.specs.Server.Changes.{without_entry, with_parent, with_link, with_link_less, with_ctime}
+use Rattle.bfs_model.specs.Server.Refusals.{FoundDirectory, has_most_links, directory_found}
+use Rattle.bfs_model.specs.Server.Procedures.{procedure}
+use Rattle.bfs_model.specs.Server.Procedures.Making.{with_name, entry_made}
+use Rattle.bfs_model.specs.Server.Procedures.Renaming.{Renaming, Replaced, moves_directory, name_lost, name_cleared, moved_below, renamed, renaming_of}
+use Rattle.bfs_model.specs.Server.Footprints.{IsFresh}
+use Rattle.bfs_model.specs.Laws.Procedures.{NoOtherInodeIsAdded, TypesStay}
 use Rattle.bfs_model.proofs.Found.{inode_at, directory_at, file_at}
 use Rattle.bfs_model.proofs.Attempts.{IfChanged, kept}
 use Rattle.bfs_model.proofs.Fresh.{made_is_none}

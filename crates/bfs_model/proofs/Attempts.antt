@@ -5,25 +5,25 @@ use Rattle.std.specs.Bool.{⊤}
 use Rattle.std.specs.Option.{ok_or, option_map_or}
 use Rattle.std.specs.Prelude.{option_map}
 use Rattle.std.specs.FinMap.{get, insert, remove}
-use Rattle.bfs_model.specs.Items.{◌>>=◌}
-use Rattle.bfs_model.specs.Limits.{most_file_bytes}
-use Rattle.bfs_model.specs.Tree.{Entry, Inodes, listing_in, is_directory_body}
-use Rattle.bfs_model.specs.Context.{Context}
-use Rattle.bfs_model.specs.Attributes.{attributes_of, total_blocks}
-use Rattle.bfs_model.specs.Bytes.{bytes_from}
-use Rattle.bfs_model.specs.Directories.{is_bad_name, is_no_name, entry_named, all_listed, listed_behind}
-use Rattle.bfs_model.specs.Arguments.{Call, null, get_attributes, set_attributes, root, look_up, read_link, read, write_cache, write, create, remove as remove_file, rename, make_link, make_symbolic_link, make_directory, remove_directory, read_directory, file_system_status}
-use Rattle.bfs_model.specs.Changes.{with_settings, with_bytes, without_entry, with_link, with_link_less, changed, link_lost}
-use Rattle.bfs_model.specs.Replies.{Status, perm, noent, isdir, notdir, notempty, fbig, nospc, stale, void, refused, done, attributes, found, path, contents, free_blocks}
-use Rattle.bfs_model.specs.Refusals.{Outcome, FoundInode, FoundDirectory, FoundFile, checked, has_most_links, inode_found, directory_found, bytes_in, file_found}
-use Rattle.bfs_model.specs.Procedures.{attempted, procedure, or_refused}
-use Rattle.bfs_model.specs.Procedures.Attributes.{size_refusals}
-use Rattle.bfs_model.specs.Procedures.Names.{child_named, page_listed}
-use Rattle.bfs_model.specs.Procedures.Data.{path_in}
-use Rattle.bfs_model.specs.Procedures.Making.{new_name_refusals, with_name, new_file, new_directory, new_symbolic_link}
-use Rattle.bfs_model.specs.Procedures.Removing.{child_found, has_entries}
-use Rattle.bfs_model.specs.Procedures.Renaming.{Renaming, Replaced, renaming_refusals, renamed, replaced_by, moves_directory, renaming_of, renaming_found, if_allowed, renaming_planned}
-use Rattle.bfs_model.specs.Procedures.Status.{used_blocks}
+use Rattle.bfs_model.specs.Bytes.Items.{◌>>=◌}
+use Rattle.bfs_model.specs.Server.Limits.{most_file_bytes}
+use Rattle.bfs_model.specs.Server.Tree.{Entry, Inodes, listing_in, is_directory_body}
+use Rattle.bfs_model.specs.Server.Context.{Context}
+use Rattle.bfs_model.specs.Bytes.Attributes.{attributes_of, total_blocks}
+use Rattle.bfs_model.specs.Server.FileBytes.{bytes_from}
+use Rattle.bfs_model.specs.Server.Directories.{is_bad_name, is_no_name, entry_named, all_listed, listed_behind}
+use Rattle.bfs_model.specs.Bytes.Arguments.{Call, null, get_attributes, set_attributes, root, look_up, read_link, read, write_cache, write, create, remove as remove_file, rename, make_link, make_symbolic_link, make_directory, remove_directory, read_directory, file_system_status}
+use Rattle.bfs_model.specs.Server.Changes.{with_settings, with_bytes, without_entry, with_link, with_link_less, changed, link_lost}
+use Rattle.bfs_model.specs.Bytes.Replies.{Status, perm, noent, isdir, notdir, notempty, fbig, nospc, stale, void, refused, done, attributes, found, path, contents, free_blocks}
+use Rattle.bfs_model.specs.Server.Refusals.{Outcome, FoundInode, FoundDirectory, FoundFile, checked, has_most_links, inode_found, directory_found, bytes_in, file_found}
+use Rattle.bfs_model.specs.Server.Procedures.{attempted, procedure, or_refused}
+use Rattle.bfs_model.specs.Server.Procedures.Attributes.{size_refusals}
+use Rattle.bfs_model.specs.Server.Procedures.Names.{child_named, page_listed}
+use Rattle.bfs_model.specs.Server.Procedures.Data.{path_in}
+use Rattle.bfs_model.specs.Server.Procedures.Making.{new_name_refusals, with_name, new_file, new_directory, new_symbolic_link}
+use Rattle.bfs_model.specs.Server.Procedures.Removing.{child_found, has_entries}
+use Rattle.bfs_model.specs.Server.Procedures.Renaming.{Renaming, Replaced, renaming_refusals, renamed, replaced_by, moves_directory, renaming_of, renaming_found, if_allowed, renaming_planned}
+use Rattle.bfs_model.specs.Server.Procedures.Status.{used_blocks}
 use Rattle.bfs_model.proofs.Found.{was_there, inode_at, child_at, IsChildAt, IsRenamed, IsOnto, IsPlanned, planned_was}
 
 -- Attempts that are alike --------------------------------------------------------------------------------------------

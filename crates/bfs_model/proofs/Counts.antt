@@ -1,7 +1,7 @@
 -- Each request of a batch gets one reply.
 use Rattle.std.proofs.Common.{◌≡◌, ℕ, suc, List, [], ◌∷◌, length, refl, ap}
-use Rattle.bfs_model.specs.Tree.{Time, Inodes, FileSystem}
-use Rattle.bfs_model.specs.Serial.{Batch, answer, execute, effective_time, ordinal_after, replies_to}
+use Rattle.bfs_model.specs.Server.Tree.{Time, Inodes, FileSystem}
+use Rattle.bfs_model.specs.Server.Serial.{Batch, answer, execute, effective_time, ordinal_after, replies_to}
 
 length-replies_to : (m : Inodes) (o : ℕ) (t : Time) (requests : List (List ℕ)) → length (replies_to m o t requests) ≡ length requests
 length-replies_to m o t [] = refl

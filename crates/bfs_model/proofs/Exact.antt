@@ -6,10 +6,10 @@ use Rattle.std.proofs.lemmas.Bool.{ltb-false}
 use Rattle.std.proofs.lemmas.Grind.{get_or_default_zero}
 use Rattle.std.proofs.lemmas.List.{drop_at, take_at}
 use Rattle.std.proofs.lemmas.List.Elements.{All-drop, All-take}
-use Rattle.bfs_model.specs.Call.{◌>>=◌}
-use Rattle.bfs_model.specs.Formats.{Reading, word_from, hyper_from, boolean_from, bytes_from, items_from}
-use Rattle.bfs_model.specs.Items.{too_long, fixed_at, word, hyper, boolean, counted, fixed, padding_of, word_at, hyper_at, boolean_at, opaque_at}
-use Rattle.bfs_model.specs.Stored.{IsWord, IsByte, AreBytes}
+use Rattle.bfs_model.specs.Bytes.Call.{◌>>=◌}
+use Rattle.bfs_model.specs.Bytes.Formats.{Reading, word_from, hyper_from, boolean_from, bytes_from, items_from}
+use Rattle.bfs_model.specs.Bytes.Items.{too_long, fixed_at, word, hyper, boolean, counted, fixed, padding_of, word_at, hyper_at, boolean_at, opaque_at}
+use Rattle.bfs_model.specs.Server.Stored.{IsWord, IsByte, AreBytes}
 use Rattle.bfs_model.proofs.Laws.{word_again, word_written, hyper_again, hyper_written, boolean_again, boolean_written, opaque_again, opaque_written, fixed_written, bind_ok, guard_then}
 
 -- Tools --------------------------------------------------------------------------------------------------------------

@@ -3,10 +3,10 @@ use Rattle.std.proofs.Common.{◌≡◌, ℕ, Bool, true, false, cond, ◌⊎◌
 use Rattle.std.specs.Ordering.{nat_cmp, eq_by_cmp}
 use Rattle.std.specs.FinMap.{get, insert, remove, nat_cmp-IsAntisymmetric}
 use Rattle.std.proofs.lemmas.Map.Views.{tells_apart}
-use Rattle.bfs_model.specs.Tree.{Time, Entry, Listing, Body, file, directory, link, Inode, Inodes}
-use Rattle.bfs_model.specs.Attributes.{type_of}
-use Rattle.bfs_model.specs.Arguments.{Settings}
-use Rattle.bfs_model.specs.Changes.{resized_body, with_size, with_settings, overwritten_body, with_bytes, with_listing, with_entry, without_entry, with_parent, with_link_less, changed, link_lost}
+use Rattle.bfs_model.specs.Server.Tree.{Time, Entry, Listing, Body, file, directory, link, Inode, Inodes}
+use Rattle.bfs_model.specs.Bytes.Attributes.{type_of}
+use Rattle.bfs_model.specs.Bytes.Arguments.{Settings}
+use Rattle.bfs_model.specs.Server.Changes.{resized_body, with_size, with_settings, overwritten_body, with_bytes, with_listing, with_entry, without_entry, with_parent, with_link_less, changed, link_lost}
 use Rattle.bfs_model.proofs.Maps.{got, got_removed}
 
 -- One fileid ---------------------------------------------------------------------------------------------------------------

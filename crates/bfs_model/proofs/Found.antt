@@ -4,14 +4,14 @@ use Rattle.std.specs.Bool.{⊤}
 use Rattle.std.proofs.lemmas.Option.{same_Some}
 use Rattle.std.specs.Option.{ok_or, option_map_or}
 use Rattle.std.specs.FinMap.{get}
-use Rattle.bfs_model.specs.Items.{◌>>=◌}
-use Rattle.bfs_model.specs.Context.{Context}
-use Rattle.bfs_model.specs.Tree.{Entry, Listing, Body, file, directory, link, Inode, Inodes, listing_in, is_directory_body}
-use Rattle.bfs_model.specs.Replies.{Status, perm, noent, notdir, stale}
-use Rattle.bfs_model.specs.Directories.{is_bad_name, entry_named}
-use Rattle.bfs_model.specs.Procedures.Removing.{child_found, has_entries}
-use Rattle.bfs_model.specs.Procedures.Renaming.{Renaming, Replaced, renaming_refusals, replaced_by, renaming_of, renaming_found, if_allowed, renaming_planned}
-use Rattle.bfs_model.specs.Refusals.{FoundInode, FoundDirectory, FoundFile, checked, inode_found, directory_found, bytes_in, file_found}
+use Rattle.bfs_model.specs.Bytes.Items.{◌>>=◌}
+use Rattle.bfs_model.specs.Server.Context.{Context}
+use Rattle.bfs_model.specs.Server.Tree.{Entry, Listing, Body, file, directory, link, Inode, Inodes, listing_in, is_directory_body}
+use Rattle.bfs_model.specs.Bytes.Replies.{Status, perm, noent, notdir, stale}
+use Rattle.bfs_model.specs.Server.Directories.{is_bad_name, entry_named}
+use Rattle.bfs_model.specs.Server.Procedures.Removing.{child_found, has_entries}
+use Rattle.bfs_model.specs.Server.Procedures.Renaming.{Renaming, Replaced, renaming_refusals, replaced_by, renaming_of, renaming_found, if_allowed, renaming_planned}
+use Rattle.bfs_model.specs.Server.Refusals.{FoundInode, FoundDirectory, FoundFile, checked, inode_found, directory_found, bytes_in, file_found}
 
 -- Tests by their name ------------------------------------------------------------------------------------------------
 

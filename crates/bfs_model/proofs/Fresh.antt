@@ -2,12 +2,12 @@
 use Rattle.std.proofs.Common.{◌≡◌, ℕ, Bool, false, inl, inr, List, [], ◌++◌, Option, Some, None, Ok, refl}
 use Rattle.std.specs.Bool.{⊤}
 use Rattle.std.specs.FinMap.{get}
-use Rattle.bfs_model.specs.Tree.{Listing, Inodes}
-use Rattle.bfs_model.specs.Context.{Context}
-use Rattle.bfs_model.specs.Replies.{Status}
-use Rattle.bfs_model.specs.Refusals.{checked, is_spent}
-use Rattle.bfs_model.specs.Procedures.Making.{new_name_refusals}
-use Rattle.bfs_model.specs.Footprints.{known, ids_in, new_ids, IsFreshFor}
+use Rattle.bfs_model.specs.Server.Tree.{Listing, Inodes}
+use Rattle.bfs_model.specs.Server.Context.{Context}
+use Rattle.bfs_model.specs.Bytes.Replies.{Status}
+use Rattle.bfs_model.specs.Server.Refusals.{checked, is_spent}
+use Rattle.bfs_model.specs.Server.Procedures.Making.{new_name_refusals}
+use Rattle.bfs_model.specs.Server.Footprints.{known, ids_in, new_ids, IsFreshFor}
 use Rattle.bfs_model.proofs.WellFormed.NewNames.{new_name}
 
 -- what is fresh where a call writes a directory and a new inode

@@ -5,9 +5,9 @@ use Rattle.std.specs.Str.{bytes_eq}
 use Rattle.std.proofs.lemmas.Nat.{from_be_bytes-to_be_bytes_4}
 use Rattle.std.proofs.lemmas.Slice.Eq.{bytes_eq-Decides}
 use Rattle.std.proofs.lemmas.Option.{cond_some}
-use Rattle.bfs_model.specs.Items.{word}
-use Rattle.bfs_model.specs.Arguments.{handle, handle_id}
-use Rattle.bfs_model.specs.Laws.{HandleLeadsToItsFile, OnlyTheHandleLeadsToAFile}
+use Rattle.bfs_model.specs.Bytes.Items.{word}
+use Rattle.bfs_model.specs.Bytes.Arguments.{handle, handle_id}
+use Rattle.bfs_model.specs.Laws.Spelling.{HandleLeadsToItsFile, OnlyTheHandleLeadsToAFile}
 
 -- the fileid that stands in a handle
 abbrev id_in : List ℕ → ℕ

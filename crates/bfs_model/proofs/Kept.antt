@@ -1,16 +1,16 @@
 -- What calls and requests keep of a file system.
 use Rattle.std.proofs.Common.{◌≡◌, ℕ, suc, ◌≤◌, List, [], ◌∷◌, length, Option, Some, None, Result, Ok, Err, refl, sym, subst, arith, lit≤}
-use Rattle.bfs_model.specs.Limits.{most_reply_bytes}
-use Rattle.bfs_model.specs.Tree.{Time, Inodes, FileSystem, first_ordinal, spent_ordinal, new_tree, new_file_system}
-use Rattle.bfs_model.specs.Call.{Request, Refusal, call_of}
-use Rattle.bfs_model.specs.Arguments.{Call, arguments_of}
-use Rattle.bfs_model.specs.Context.{Context}
-use Rattle.bfs_model.specs.Procedures.{procedure}
-use Rattle.bfs_model.specs.Footprints.{IsFreshFor, footprint_of}
-use Rattle.bfs_model.specs.Serial.{Batch, effective_time, execute, answer_arguments, answer_call, answer, inodes_after, ordinal_after}
-use Rattle.bfs_model.specs.Short.{IsShort}
-use Rattle.bfs_model.specs.WellFormed.{IsWellFormed, IsWellFormedTree}
-use Rattle.bfs_model.specs.ProcedureLaws.{CallsKeepTreesWellFormed, CallsKeepFilesWellFormed}
+use Rattle.bfs_model.specs.Server.Limits.{most_reply_bytes}
+use Rattle.bfs_model.specs.Server.Tree.{Time, Inodes, FileSystem, first_ordinal, spent_ordinal, new_tree, new_file_system}
+use Rattle.bfs_model.specs.Bytes.Call.{Request, Refusal, call_of}
+use Rattle.bfs_model.specs.Bytes.Arguments.{Call, arguments_of}
+use Rattle.bfs_model.specs.Server.Context.{Context}
+use Rattle.bfs_model.specs.Server.Procedures.{procedure}
+use Rattle.bfs_model.specs.Server.Footprints.{IsFreshFor, footprint_of}
+use Rattle.bfs_model.specs.Server.Serial.{Batch, effective_time, execute, answer_arguments, answer_call, answer, inodes_after, ordinal_after}
+use Rattle.bfs_model.specs.Server.Short.{IsShort}
+use Rattle.bfs_model.specs.Server.WellFormed.{IsWellFormed, IsWellFormedTree}
+use Rattle.bfs_model.specs.Laws.Procedures.{CallsKeepTreesWellFormed, CallsKeepFilesWellFormed}
 use Rattle.bfs_model.proofs.Short.{arguments_are_short}
 use Rattle.bfs_model.proofs.ReplyLengths.{short_replies}
 use Rattle.bfs_model.proofs.WellFormed.Words.{new_tree_formed}

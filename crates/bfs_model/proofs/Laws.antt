@@ -5,9 +5,9 @@ use Rattle.std.proofs.lemmas.Bool.{and_parts, not-false, cases_lt, ltb-false, le
 use Rattle.std.proofs.lemmas.List.{take_at, drop_at, take-append-drop, length-append, length-take, length-replicate, get_or-take, get_or_past}
 use Rattle.std.proofs.lemmas.List.Elements.{All-get_or}
 use Rattle.std.proofs.lemmas.Nat.{be_bytes_4, be_bytes_8, from_be_bytes-to_be_bytes_4, from_be_bytes-to_be_bytes_8}
-use Rattle.bfs_model.specs.Items.{Fault, short, too_long, bad_boolean, bad_padding, ◌>>=◌, padding_of, are_zeros, word_at, hyper_at, boolean_at, bytes_at, fixed_at, opaque_at, word, hyper, boolean, fixed, counted}
-use Rattle.bfs_model.specs.Stored.{AreBytes}
-use Rattle.bfs_model.specs.Laws.{WordIsReadAgain, HyperIsReadAgain, BooleanIsReadAgain, FixedIsReadAgain, OpaqueIsReadAgain, WordWasWritten, HyperWasWritten, BooleanWasWritten, FixedWasWritten, OpaqueWasWritten}
+use Rattle.bfs_model.specs.Bytes.Items.{Fault, short, too_long, bad_boolean, bad_padding, ◌>>=◌, padding_of, are_zeros, word_at, hyper_at, boolean_at, bytes_at, fixed_at, opaque_at, word, hyper, boolean, fixed, counted}
+use Rattle.bfs_model.specs.Server.Stored.{AreBytes}
+use Rattle.bfs_model.specs.Laws.Spelling.{WordIsReadAgain, HyperIsReadAgain, BooleanIsReadAgain, FixedIsReadAgain, OpaqueIsReadAgain, WordWasWritten, HyperWasWritten, BooleanWasWritten, FixedWasWritten, OpaqueWasWritten}
 
 -- Tools -----------------------------------------------------------------------------------------------------------
 

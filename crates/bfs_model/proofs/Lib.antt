@@ -38,3 +38,4 @@ pub mod ReadingRows
 pub mod Pages
 pub mod Kept
 pub mod Footprints
+pub mod Public

@@ -4,18 +4,18 @@ use Rattle.std.specs.Prelude.{nat_lt, IfSome}
 use Rattle.std.proofs.lemmas.Bool.{ltb-true}
 use Rattle.std.proofs.lemmas.List.Elements.{All-head, All-tail}
 use Rattle.std.specs.FinMap.{empty}
-use Rattle.bfs_model.specs.Tree.{Time, Inodes, FileSystem, root_id, new_root, new_tree, new_file_system}
-use Rattle.bfs_model.specs.Context.{Context}
-use Rattle.bfs_model.specs.Call.{Request, Refusal, call_of}
-use Rattle.bfs_model.specs.Arguments.{Call, arguments_of}
-use Rattle.bfs_model.specs.Replies.{results}
-use Rattle.bfs_model.specs.Procedures.{procedure}
-use Rattle.bfs_model.specs.Serial.{Batch, is_after, next_microsecond, effective_time, execute, answer_arguments, answer_call, answer, inodes_after, ordinal_after}
-use Rattle.bfs_model.specs.WellFormed.{IsWellFormed}
-use Rattle.bfs_model.specs.ProcedureLaws.{CallsKeepFilesWellFormed}
-use Rattle.bfs_model.specs.ReplyReading.{Verdict, succeeded, reply_of, refusal_told}
-use Rattle.bfs_model.specs.Stored.{IsWord, AreBytes, IsTime, IsStorable, AreStorable, IsLive, RequestIsStorable}
-use Rattle.bfs_model.specs.StoredLaws.{BatchesKeepFilesLive, AnswersAreReadBack, GarbageAnswersAreReadBack, RefusedAnswersAreReadBack}
+use Rattle.bfs_model.specs.Server.Tree.{Time, Inodes, FileSystem, root_id, new_root, new_tree, new_file_system}
+use Rattle.bfs_model.specs.Server.Context.{Context}
+use Rattle.bfs_model.specs.Bytes.Call.{Request, Refusal, call_of}
+use Rattle.bfs_model.specs.Bytes.Arguments.{Call, arguments_of}
+use Rattle.bfs_model.specs.Bytes.Replies.{results}
+use Rattle.bfs_model.specs.Server.Procedures.{procedure}
+use Rattle.bfs_model.specs.Server.Serial.{Batch, is_after, next_microsecond, effective_time, execute, answer_arguments, answer_call, answer, inodes_after, ordinal_after}
+use Rattle.bfs_model.specs.Server.WellFormed.{IsWellFormed}
+use Rattle.bfs_model.specs.Laws.Procedures.{CallsKeepFilesWellFormed}
+use Rattle.bfs_model.specs.Bytes.ReplyReading.{Verdict, succeeded, reply_of, refusal_told}
+use Rattle.bfs_model.specs.Server.Stored.{IsWord, AreBytes, IsTime, IsStorable, AreStorable, IsLive, RequestIsStorable}
+use Rattle.bfs_model.specs.Laws.Stored.{BatchesKeepFilesLive, AnswersAreReadBack, GarbageAnswersAreReadBack, RefusedAnswersAreReadBack}
 use Rattle.bfs_model.proofs.Maps.{got_of_none}
 use Rattle.bfs_model.proofs.Short.{arguments_are_short, arguments_are_storable}
 use Rattle.bfs_model.proofs.Requests.{requests_are_storable, refusal_xid}

@@ -5,9 +5,9 @@ use Rattle.std.specs.Cmp.{nat_cmp_total}
 use Rattle.std.specs.FinMap.{put, len, get, empty, insert, remove, entries, from_sorted, entries-insert, len-insert, len-empty, get-insert, get-remove, get-empty, entries-from_sorted, empty_of_len, len-entries, same_map, same_entries_map, nat_cmp-IsAntisymmetric}
 use Rattle.std.proofs.lemmas.Cmp.{eq_by_cmp_equiv}
 use Rattle.std.proofs.lemmas.Map.Views.{tells_apart}
-use Rattle.bfs_model.specs.Tree.{Inode, Inodes}
-use Rattle.bfs_model.specs.Replies.{Reply}
-use Rattle.bfs_model.specs.Refusals.{Outcome}
+use Rattle.bfs_model.specs.Server.Tree.{Inode, Inodes}
+use Rattle.bfs_model.specs.Bytes.Replies.{Reply}
+use Rattle.bfs_model.specs.Server.Refusals.{Outcome}
 
 abbrev none : Inodes
 none = empty

@@ -5,17 +5,17 @@ use Rattle.std.proofs.lemmas.List.{length-append, nil_from_length}
 use Rattle.std.proofs.lemmas.List.Elements.{All-filter, All-head, All-tail}
 use Rattle.std.specs.List.{AllByRecursion}
 use Rattle.std.specs.FinMap.{get}
-use Rattle.bfs_model.specs.Tree.{Entry, Listing, Body, file, directory, link, Inode, Inodes, FileSystem, first_ordinal, spent_ordinal, listing_at, listing_in, entries_in}
-use Rattle.bfs_model.specs.Directories.{all_listed, listed_behind, listed_size, held_by, page_of}
-use Rattle.bfs_model.specs.Limits.{most_data_bytes}
-use Rattle.bfs_model.specs.Replies.{Reply, listed}
-use Rattle.bfs_model.specs.Refusals.{Outcome}
-use Rattle.bfs_model.specs.Context.{Context}
-use Rattle.bfs_model.specs.Arguments.{read_directory}
-use Rattle.bfs_model.specs.Procedures.{procedure}
-use Rattle.bfs_model.specs.Procedures.Names.{page_listed}
-use Rattle.bfs_model.specs.WellFormed.{IsRising, BodyIsLimited, IsWellFormed}
-use Rattle.bfs_model.specs.Paging.{page_read, entries_told, end_told, cookie_after, pages_read, IsListed, HasRoom, DirectoriesAreListed, PageIsTold, CookiesRise, PagesFollowEachOther, EndIsToldAtTheEnd, AllIsReadAtTheEnd, PageWithRoomIsNotEmpty, EnoughPagesAreAll}
+use Rattle.bfs_model.specs.Server.Tree.{Entry, Listing, Body, file, directory, link, Inode, Inodes, FileSystem, first_ordinal, spent_ordinal, listing_at, listing_in, entries_in}
+use Rattle.bfs_model.specs.Server.Directories.{all_listed, listed_behind, listed_size, held_by, page_of}
+use Rattle.bfs_model.specs.Server.Limits.{most_data_bytes}
+use Rattle.bfs_model.specs.Bytes.Replies.{Reply, listed}
+use Rattle.bfs_model.specs.Server.Refusals.{Outcome}
+use Rattle.bfs_model.specs.Server.Context.{Context}
+use Rattle.bfs_model.specs.Bytes.Arguments.{read_directory}
+use Rattle.bfs_model.specs.Server.Procedures.{procedure}
+use Rattle.bfs_model.specs.Server.Procedures.Names.{page_listed}
+use Rattle.bfs_model.specs.Server.WellFormed.{IsRising, BodyIsLimited, IsWellFormed}
+use Rattle.bfs_model.specs.Laws.Paging.{page_read, entries_told, end_told, cookie_after, pages_read, IsListed, HasRoom, DirectoriesAreListed, PageIsTold, CookiesRise, PagesFollowEachOther, EndIsToldAtTheEnd, AllIsReadAtTheEnd, PageWithRoomIsNotEmpty, EnoughPagesAreAll}
 
 -- Rising cookies -----------------------------------------------------------------------------------------------------
 

@@ -1,11 +1,11 @@
 -- Worked examples of reading replies, each with values from outside.
 use Rattle.std.proofs.Common.{◌≡◌, [], ◌∷◌, drop, Ok, Err, true, refl, codes}
-use Rattle.bfs_model.specs.Items.{short, bad_boolean, bad_padding, too_long, word_at, boolean_at, bytes_at, fixed_at, opaque_at, word, words}
-use Rattle.bfs_model.specs.Tree.{epoch}
-use Rattle.bfs_model.specs.Attributes.{Attributes, directory_type}
-use Rattle.bfs_model.specs.Arguments.{handle, handle_id}
-use Rattle.bfs_model.specs.Replies.{noent, void, refused, attributes, found, path, listed, free_blocks}
-use Rattle.bfs_model.specs.ReplyReading.{misspelled, unknown, left_over, after_number, at_end, succeeded, program_versions, rpc_versions, refused_credential, after_no_verifier, versions_of, accepted_of, bad_credential_of, denied_of, reply_body_of, reply_of, handle_told_at, time_told_at, attributes_told_at, by_status, attributes_arm, found_arm, path_arm, entry_told_at, chain_at, listed_arm, blocks_arm, results_of}
+use Rattle.bfs_model.specs.Bytes.Items.{short, bad_boolean, bad_padding, too_long, word_at, boolean_at, bytes_at, fixed_at, opaque_at, word, words}
+use Rattle.bfs_model.specs.Server.Tree.{epoch}
+use Rattle.bfs_model.specs.Bytes.Attributes.{Attributes, directory_type}
+use Rattle.bfs_model.specs.Bytes.Arguments.{handle, handle_id}
+use Rattle.bfs_model.specs.Bytes.Replies.{noent, void, refused, attributes, found, path, listed, free_blocks}
+use Rattle.bfs_model.specs.Bytes.ReplyReading.{misspelled, unknown, left_over, after_number, at_end, succeeded, program_versions, rpc_versions, refused_credential, after_no_verifier, versions_of, accepted_of, bad_credential_of, denied_of, reply_body_of, reply_of, handle_told_at, time_told_at, attributes_told_at, by_status, attributes_arm, found_arm, path_arm, entry_told_at, chain_at, listed_arm, blocks_arm, results_of}
 use Rattle.bfs_model.proofs.Rows.{root_reply}
 
 -- Messages -----------------------------------------------------------------------------------------------------------

@@ -7,9 +7,9 @@ use Rattle.std.specs.Str.{bytes_eq}
 use Rattle.std.proofs.lemmas.Bool.{ltb-false}
 use Rattle.std.proofs.lemmas.List.{length-take}
 use Rattle.std.proofs.lemmas.List.Elements.{All-take, All-drop}
-use Rattle.bfs_model.specs.Items.{Fault, short, too_long, ◌>>=◌, padding_of, word_at, bytes_at, fixed_at, opaque_at}
-use Rattle.bfs_model.specs.Arguments.{Settings, all_ones, word_set, time_set, handle, handle_id, handle_at, settings_at}
-use Rattle.bfs_model.specs.Stored.{IsWord, IsByte, AreBytes, TimeIsSpellable, SettingsAreStorable, HandleIsStorable}
+use Rattle.bfs_model.specs.Bytes.Items.{Fault, short, too_long, ◌>>=◌, padding_of, word_at, bytes_at, fixed_at, opaque_at}
+use Rattle.bfs_model.specs.Bytes.Arguments.{Settings, all_ones, word_set, time_set, handle, handle_id, handle_at, settings_at}
+use Rattle.bfs_model.specs.Server.Stored.{IsWord, IsByte, AreBytes, TimeIsSpellable, SettingsAreStorable, HandleIsStorable}
 use Rattle.bfs_model.proofs.Laws.{word_below}
 
 -- Tools ------------------------------------------------------------------------------------------------------------------------

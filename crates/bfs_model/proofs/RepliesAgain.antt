@@ -1,11 +1,12 @@
 -- The messages of replies are read again.
 use Rattle.std.proofs.Common.{◌≡◌, ℕ, ◌^◌, ◌<◌, true, List, [], ◌++◌, Option, Some, Ok, refl, ap, ◌∙◌, append_assoc, append-nil, arith}
 use Rattle.std.proofs.lemmas.Bool.{eq-eqb}
-use Rattle.bfs_model.specs.Items.{opaque_at, word, fixed, counted}
-use Rattle.bfs_model.specs.Call.{silent, rpc_mismatch, bad_credential, program_unavailable, program_mismatch, procedure_unavailable}
-use Rattle.bfs_model.specs.Replies.{success, garbage, refusal}
-use Rattle.bfs_model.specs.Stored.{IsWord}
-use Rattle.bfs_model.specs.ReplyReading.{after_number, at_end, Verdict, succeeded, no_program, program_versions, no_procedure, garbage_arguments, rpc_versions, refused_credential, after_no_verifier, versions_of, accepted_by, accepted_of, bad_credential_of, denied_of, reply_body_of, reply_of, SuccessIsReadBack, GarbageIsReadBack, RefusalsAreReadBack}
+use Rattle.bfs_model.specs.Bytes.Items.{opaque_at, word, fixed, counted}
+use Rattle.bfs_model.specs.Bytes.Call.{silent, rpc_mismatch, bad_credential, program_unavailable, program_mismatch, procedure_unavailable}
+use Rattle.bfs_model.specs.Bytes.Replies.{success, garbage, refusal}
+use Rattle.bfs_model.specs.Server.Stored.{IsWord}
+use Rattle.bfs_model.specs.Laws.ReplyReading.{SuccessIsReadBack, GarbageIsReadBack, RefusalsAreReadBack}
+use Rattle.bfs_model.specs.Bytes.ReplyReading.{after_number, at_end, Verdict, succeeded, no_program, program_versions, no_procedure, garbage_arguments, rpc_versions, refused_credential, after_no_verifier, versions_of, accepted_by, accepted_of, bad_credential_of, denied_of, reply_body_of, reply_of}
 use Rattle.bfs_model.proofs.Laws.{word_again, opaque_again}
 
 -- Items --------------------------------------------------------------------------------------------------------------

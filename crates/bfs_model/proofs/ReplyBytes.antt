@@ -4,22 +4,22 @@ use Rattle.std.specs.Int.{byte_at, bytes_high_first}
 use Rattle.std.specs.FinMap.{get}
 use Rattle.std.specs.List.{flat_map, AllByRecursion}
 use Rattle.std.proofs.lemmas.List.Elements.{All-nil, All-cons, All-head, All-tail, All-append, All-replicate, All-take, All-drop, All-filter, All-weaker, All-from_recursion}
-use Rattle.bfs_model.specs.Arguments.{Call, null, get_attributes, set_attributes, root, look_up, read_link, read, write_cache, write, create, remove, rename, make_link, make_symbolic_link, make_directory, remove_directory, read_directory, file_system_status, handle, arguments_of}
-use Rattle.bfs_model.specs.Attributes.{Attributes, block_size, transfer_size, total_blocks}
-use Rattle.bfs_model.specs.Bytes.{bytes_from}
-use Rattle.bfs_model.specs.Call.{Refusal, silent, rpc_mismatch, bad_credential, program_unavailable, program_mismatch, procedure_unavailable, Request, call_of}
-use Rattle.bfs_model.specs.Context.{Context}
-use Rattle.bfs_model.specs.Directories.{dot, dot_dot, all_listed, listed_behind, held_by}
-use Rattle.bfs_model.specs.Items.{padding_of, word, words, boolean, fixed, counted}
-use Rattle.bfs_model.specs.Limits.{most_data_bytes}
-use Rattle.bfs_model.specs.Procedures.{procedure}
-use Rattle.bfs_model.specs.Procedures.Data.{path_in}
-use Rattle.bfs_model.specs.Procedures.Names.{page_listed}
-use Rattle.bfs_model.specs.Replies.{Status, Reply, void, refused, done, attributes, found, path, contents, listed, free_blocks, status_number, attribute_words, entry_item, results, success, garbage, refusal}
-use Rattle.bfs_model.specs.ReplyLengths.{RepliesAreBytes}
-use Rattle.bfs_model.specs.Serial.{answer, answer_call, answer_arguments}
-use Rattle.bfs_model.specs.Stored.{IsByte, AreBytes, EntryIsStorable, BodyIsStorable, AreStorable}
-use Rattle.bfs_model.specs.Tree.{Time, Entry, Listing, Body, file, directory, link, Inode, Inodes}
+use Rattle.bfs_model.specs.Bytes.Arguments.{Call, null, get_attributes, set_attributes, root, look_up, read_link, read, write_cache, write, create, remove, rename, make_link, make_symbolic_link, make_directory, remove_directory, read_directory, file_system_status, handle, arguments_of}
+use Rattle.bfs_model.specs.Bytes.Attributes.{Attributes, block_size, transfer_size, total_blocks}
+use Rattle.bfs_model.specs.Server.FileBytes.{bytes_from}
+use Rattle.bfs_model.specs.Bytes.Call.{Refusal, silent, rpc_mismatch, bad_credential, program_unavailable, program_mismatch, procedure_unavailable, Request, call_of}
+use Rattle.bfs_model.specs.Server.Context.{Context}
+use Rattle.bfs_model.specs.Server.Directories.{dot, dot_dot, all_listed, listed_behind, held_by}
+use Rattle.bfs_model.specs.Bytes.Items.{padding_of, word, words, boolean, fixed, counted}
+use Rattle.bfs_model.specs.Server.Limits.{most_data_bytes}
+use Rattle.bfs_model.specs.Server.Procedures.{procedure}
+use Rattle.bfs_model.specs.Server.Procedures.Data.{path_in}
+use Rattle.bfs_model.specs.Server.Procedures.Names.{page_listed}
+use Rattle.bfs_model.specs.Bytes.Replies.{Status, Reply, void, refused, done, attributes, found, path, contents, listed, free_blocks, status_number, attribute_words, entry_item, results, success, garbage, refusal}
+use Rattle.bfs_model.specs.Laws.ReplyLengths.{RepliesAreBytes}
+use Rattle.bfs_model.specs.Server.Serial.{answer, answer_call, answer_arguments}
+use Rattle.bfs_model.specs.Server.Stored.{IsByte, AreBytes, EntryIsStorable, BodyIsStorable, AreStorable}
+use Rattle.bfs_model.specs.Server.Tree.{Time, Entry, Listing, Body, file, directory, link, Inode, Inodes}
 use Rattle.bfs_model.proofs.Attempts.{IfItIsDone, procedure_holds}
 use Rattle.bfs_model.proofs.Found.{inode_at, directory_at, file_at}
 use Rattle.bfs_model.proofs.ReplyFits.{all_held}

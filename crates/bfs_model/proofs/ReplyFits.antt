@@ -4,17 +4,17 @@ use Rattle.std.specs.List.{AllByRecursion}
 use Rattle.std.specs.FinMap.{get}
 use Rattle.std.proofs.lemmas.List.{length-take}
 use Rattle.std.proofs.lemmas.List.Elements.{All-nil, All-cons, All-head, All-tail, All-filter}
-use Rattle.bfs_model.specs.Limits.{most_data_bytes, most_file_bytes, most_path_bytes, most_entries, most_links}
-use Rattle.bfs_model.specs.Tree.{Time, Entry, Listing, Body, file, directory, link, Inode, Inodes}
-use Rattle.bfs_model.specs.Context.{Context}
-use Rattle.bfs_model.specs.Attributes.{size_of, attributes_of}
-use Rattle.bfs_model.specs.Directories.{dot, dot_dot, all_listed, listed_size, held_by}
-use Rattle.bfs_model.specs.Arguments.{Call, null, get_attributes, set_attributes, root, look_up, read_link, read, write_cache, write, create, remove, rename, make_link, make_symbolic_link, make_directory, remove_directory, read_directory, file_system_status}
-use Rattle.bfs_model.specs.Refusals.{Outcome}
-use Rattle.bfs_model.specs.Procedures.{procedure}
-use Rattle.bfs_model.specs.WellFormed.{BodyIsLimited, HasNames}
-use Rattle.bfs_model.specs.Stored.{IsWord, TimeIsSpellable, IsTime, EntryIsStorable, BodyIsStorable, AreStorable}
-use Rattle.bfs_model.specs.ReplyReading.{AttributesAreSpellable, EntryIsSpellable, FitsItems}
+use Rattle.bfs_model.specs.Server.Limits.{most_data_bytes, most_file_bytes, most_path_bytes, most_entries, most_links}
+use Rattle.bfs_model.specs.Server.Tree.{Time, Entry, Listing, Body, file, directory, link, Inode, Inodes}
+use Rattle.bfs_model.specs.Server.Context.{Context}
+use Rattle.bfs_model.specs.Bytes.Attributes.{size_of, attributes_of}
+use Rattle.bfs_model.specs.Server.Directories.{dot, dot_dot, all_listed, listed_size, held_by}
+use Rattle.bfs_model.specs.Bytes.Arguments.{Call, null, get_attributes, set_attributes, root, look_up, read_link, read, write_cache, write, create, remove, rename, make_link, make_symbolic_link, make_directory, remove_directory, read_directory, file_system_status}
+use Rattle.bfs_model.specs.Server.Refusals.{Outcome}
+use Rattle.bfs_model.specs.Server.Procedures.{procedure}
+use Rattle.bfs_model.specs.Server.WellFormed.{BodyIsLimited, HasNames}
+use Rattle.bfs_model.specs.Server.Stored.{IsWord, TimeIsSpellable, IsTime, EntryIsStorable, BodyIsStorable, AreStorable}
+use Rattle.bfs_model.specs.Bytes.ReplyReading.{AttributesAreSpellable, EntryIsSpellable, FitsItems}
 use Rattle.bfs_model.proofs.Found.{inode_at, directory_at, file_at}
 use Rattle.bfs_model.proofs.Attempts.{IfItIsDone, procedure_holds}
 use Rattle.bfs_model.proofs.Maps.{got_put}

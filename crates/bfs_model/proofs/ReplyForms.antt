@@ -1,13 +1,14 @@
 -- The reply to each procedure's call has the form of its results.
 use Rattle.std.proofs.Common.{◌≡◌, ℕ, Bool, true, false, cond, eqb, List, length, Option, Some, None, MatchOption, refl, subst, sym, ◌∙◌}
 use Rattle.std.proofs.lemmas.Option.{same_Some}
-use Rattle.bfs_model.specs.Tree.{Inodes}
-use Rattle.bfs_model.specs.Context.{Context}
-use Rattle.bfs_model.specs.Call.{◌>>=◌}
-use Rattle.bfs_model.specs.Arguments.{Settings, Call, null, get_attributes, set_attributes, root, look_up, read_link, read, write_cache, write, create, remove, rename, make_link, make_symbolic_link, make_directory, remove_directory, read_directory, file_system_status, file_at, named_at, named_with_settings_at, set_attributes_at, read_at, write_at, rename_at, link_at, symbolic_link_at, read_directory_at, fields_at, arguments_of}
-use Rattle.bfs_model.specs.Refusals.{Outcome}
-use Rattle.bfs_model.specs.Procedures.{procedure}
-use Rattle.bfs_model.specs.ReplyReading.{ResultsForm, void_form, status_form, attributes_form, found_form, path_form, contents_form, listed_form, blocks_form, form_of, HasForm, RepliesHaveTheirForm}
+use Rattle.bfs_model.specs.Server.Tree.{Inodes}
+use Rattle.bfs_model.specs.Server.Context.{Context}
+use Rattle.bfs_model.specs.Bytes.Call.{◌>>=◌}
+use Rattle.bfs_model.specs.Bytes.Arguments.{Settings, Call, null, get_attributes, set_attributes, root, look_up, read_link, read, write_cache, write, create, remove, rename, make_link, make_symbolic_link, make_directory, remove_directory, read_directory, file_system_status, file_at, named_at, named_with_settings_at, set_attributes_at, read_at, write_at, rename_at, link_at, symbolic_link_at, read_directory_at, fields_at, arguments_of}
+use Rattle.bfs_model.specs.Server.Refusals.{Outcome}
+use Rattle.bfs_model.specs.Server.Procedures.{procedure}
+use Rattle.bfs_model.specs.Laws.ReplyReading.{RepliesHaveTheirForm}
+use Rattle.bfs_model.specs.Bytes.ReplyReading.{ResultsForm, void_form, status_form, attributes_form, found_form, path_form, contents_form, listed_form, blocks_form, form_of, HasForm}
 use Rattle.bfs_model.proofs.Attempts.{IfItIsDone, procedure_holds}
 
 -- Calls ------------------------------------------------------------------------------------------------------------------

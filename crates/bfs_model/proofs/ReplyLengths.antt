@@ -4,22 +4,22 @@ use Rattle.std.specs.FinMap.{get}
 use Rattle.std.specs.List.{flat_map}
 use Rattle.std.proofs.lemmas.List.{length-append, length-take, length-replicate}
 use Rattle.std.proofs.lemmas.Bool.{leb-true}
-use Rattle.bfs_model.specs.Items.{padding_of, word, boolean, fixed, counted}
-use Rattle.bfs_model.specs.Limits.{most_data_bytes, most_path_bytes, most_reply_bytes}
-use Rattle.bfs_model.specs.Tree.{Time, Entry, Body, file, directory, link, Inode, Inodes}
-use Rattle.bfs_model.specs.Context.{Context}
-use Rattle.bfs_model.specs.Attributes.{Attributes}
-use Rattle.bfs_model.specs.Bytes.{bytes_from}
-use Rattle.bfs_model.specs.Directories.{listed_size, held_by}
-use Rattle.bfs_model.specs.Call.{Refusal, silent, rpc_mismatch, bad_credential, program_unavailable, program_mismatch, procedure_unavailable, Request, call_of}
-use Rattle.bfs_model.specs.Arguments.{Call, null, get_attributes, set_attributes, root, look_up, read_link, read, write_cache, write, create, remove, rename, make_link, make_symbolic_link, make_directory, remove_directory, read_directory, file_system_status, handle, arguments_of}
-use Rattle.bfs_model.specs.Replies.{Status, Reply, void, refused, done, attributes, found, path, contents, listed, free_blocks, entry_item, results, success, garbage, refusal}
-use Rattle.bfs_model.specs.Procedures.{procedure}
-use Rattle.bfs_model.specs.Procedures.Names.{page_listed}
-use Rattle.bfs_model.specs.Procedures.Data.{path_in}
-use Rattle.bfs_model.specs.Serial.{answer, answer_call, answer_arguments}
-use Rattle.bfs_model.specs.WellFormed.{BodyIsLimited, IsLimited}
-use Rattle.bfs_model.specs.ReplyLengths.{RepliesAreShort}
+use Rattle.bfs_model.specs.Bytes.Items.{padding_of, word, boolean, fixed, counted}
+use Rattle.bfs_model.specs.Server.Limits.{most_data_bytes, most_path_bytes, most_reply_bytes}
+use Rattle.bfs_model.specs.Server.Tree.{Time, Entry, Body, file, directory, link, Inode, Inodes}
+use Rattle.bfs_model.specs.Server.Context.{Context}
+use Rattle.bfs_model.specs.Bytes.Attributes.{Attributes}
+use Rattle.bfs_model.specs.Server.FileBytes.{bytes_from}
+use Rattle.bfs_model.specs.Server.Directories.{listed_size, held_by}
+use Rattle.bfs_model.specs.Bytes.Call.{Refusal, silent, rpc_mismatch, bad_credential, program_unavailable, program_mismatch, procedure_unavailable, Request, call_of}
+use Rattle.bfs_model.specs.Bytes.Arguments.{Call, null, get_attributes, set_attributes, root, look_up, read_link, read, write_cache, write, create, remove, rename, make_link, make_symbolic_link, make_directory, remove_directory, read_directory, file_system_status, handle, arguments_of}
+use Rattle.bfs_model.specs.Bytes.Replies.{Status, Reply, void, refused, done, attributes, found, path, contents, listed, free_blocks, entry_item, results, success, garbage, refusal}
+use Rattle.bfs_model.specs.Server.Procedures.{procedure}
+use Rattle.bfs_model.specs.Server.Procedures.Names.{page_listed}
+use Rattle.bfs_model.specs.Server.Procedures.Data.{path_in}
+use Rattle.bfs_model.specs.Server.Serial.{answer, answer_call, answer_arguments}
+use Rattle.bfs_model.specs.Server.WellFormed.{BodyIsLimited, IsLimited}
+use Rattle.bfs_model.specs.Laws.ReplyLengths.{RepliesAreShort}
 use Rattle.bfs_model.proofs.Found.{inode_at}
 use Rattle.bfs_model.proofs.Attempts.{IfItIsDone, procedure_holds}
 

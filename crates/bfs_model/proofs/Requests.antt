@@ -3,11 +3,11 @@ use Rattle.std.proofs.Common.{◌≡◌, ℕ, Bool, true, false, List, length, O
 use Rattle.std.specs.Prelude.{◌==◌, nat_lt, IfSome, if◌then◌else◌}
 use Rattle.std.specs.Option.{ok_or}
 use Rattle.std.specs.Result.{result_ok}
-use Rattle.bfs_model.specs.Items.{word_at}
-use Rattle.bfs_model.specs.Call.{Credential, Request, Refusal, silent, rpc_mismatch, bad_credential, program_unavailable, program_mismatch, procedure_unavailable, Header, nobody, after_words, system_credential_of, credential_of, opaque_auth_at, header_of, ◌>>◌, only_if, is_procedure, call_of}
-use Rattle.bfs_model.specs.ReplyReading.{refusal_told}
-use Rattle.bfs_model.specs.Stored.{IsWord, AreBytes, CallerIsStorable, RequestIsStorable}
-use Rattle.bfs_model.specs.StoredLaws.{RequestsAreStorable}
+use Rattle.bfs_model.specs.Bytes.Items.{word_at}
+use Rattle.bfs_model.specs.Bytes.Call.{Credential, Request, Refusal, silent, rpc_mismatch, bad_credential, program_unavailable, program_mismatch, procedure_unavailable, Header, nobody, after_words, system_credential_of, credential_of, opaque_auth_at, header_of, ◌>>◌, only_if, is_procedure, call_of}
+use Rattle.bfs_model.specs.Bytes.ReplyReading.{refusal_told}
+use Rattle.bfs_model.specs.Server.Stored.{IsWord, AreBytes, CallerIsStorable, RequestIsStorable}
+use Rattle.bfs_model.specs.Laws.Stored.{RequestsAreStorable}
 use Rattle.bfs_model.proofs.Readings.{Gives, gives, gives_none, then_gives, after, chosen, IsWordRead, word_given, next_word, next_item}
 
 -- F says that the request is bytes

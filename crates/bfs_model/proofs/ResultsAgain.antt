@@ -2,14 +2,15 @@
 use Rattle.std.proofs.Common.{◌≡◌, ℕ, zero, suc, ◌+◌, ◌-◌, ◌^◌, ◌<◌, ◌≤◌, Bool, true, false, eqb, List, [], ◌∷◌, ◌++◌, length, replicate, All, Some, Ok, refl, sym, ap, subst, ◌∙◌, append_assoc, append-nil, arith, flat_map}
 use Rattle.std.proofs.lemmas.List.{length-append}
 use Rattle.std.proofs.lemmas.List.Elements.{All-head, All-tail}
-use Rattle.bfs_model.specs.Items.{padding_of, fixed_at, word, words, boolean, fixed, counted}
-use Rattle.bfs_model.specs.Limits.{most_name_bytes, most_path_bytes, most_data_bytes}
-use Rattle.bfs_model.specs.Tree.{Time, Entry}
-use Rattle.bfs_model.specs.Attributes.{FileType, regular, directory_type, symbolic_link, Attributes, block_size, blocks_of, transfer_size, total_blocks}
-use Rattle.bfs_model.specs.Arguments.{handle}
-use Rattle.bfs_model.specs.Replies.{Status, perm, noent, exist, notdir, isdir, fbig, nospc, notempty, stale, status_number, Reply, void, refused, done, attributes, found, path, contents, listed, free_blocks, type_number, type_bits, attribute_words, entry_item, results}
-use Rattle.bfs_model.specs.Stored.{IsWord, TimeIsSpellable}
-use Rattle.bfs_model.specs.ReplyReading.{Reading, status_of, handle_told_at, time_told_at, type_told, permissions_told, attributes_told_at, ResultsForm, void_form, status_form, attributes_form, found_form, path_form, contents_form, listed_form, blocks_form, by_status, attributes_arm, found_arm, path_arm, contents_arm, entry_told_at, chain_at, listed_arm, blocks_arm, results_at, results_of, AttributesAreSpellable, EntryIsSpellable, FitsItems, HasForm, ResultsAreReadBack}
+use Rattle.bfs_model.specs.Bytes.Items.{padding_of, fixed_at, word, words, boolean, fixed, counted}
+use Rattle.bfs_model.specs.Server.Limits.{most_name_bytes, most_path_bytes, most_data_bytes}
+use Rattle.bfs_model.specs.Server.Tree.{Time, Entry}
+use Rattle.bfs_model.specs.Bytes.Attributes.{FileType, regular, directory_type, symbolic_link, Attributes, block_size, blocks_of, transfer_size, total_blocks}
+use Rattle.bfs_model.specs.Bytes.Arguments.{handle}
+use Rattle.bfs_model.specs.Bytes.Replies.{Status, perm, noent, exist, notdir, isdir, fbig, nospc, notempty, stale, status_number, Reply, void, refused, done, attributes, found, path, contents, listed, free_blocks, type_number, type_bits, attribute_words, entry_item, results}
+use Rattle.bfs_model.specs.Server.Stored.{IsWord, TimeIsSpellable}
+use Rattle.bfs_model.specs.Laws.ReplyReading.{ResultsAreReadBack}
+use Rattle.bfs_model.specs.Bytes.ReplyReading.{Reading, status_of, handle_told_at, time_told_at, type_told, permissions_told, attributes_told_at, ResultsForm, void_form, status_form, attributes_form, found_form, path_form, contents_form, listed_form, blocks_form, by_status, attributes_arm, found_arm, path_arm, contents_arm, entry_told_at, chain_at, listed_arm, blocks_arm, results_at, results_of, AttributesAreSpellable, EntryIsSpellable, FitsItems, HasForm}
 use Rattle.bfs_model.proofs.Laws.{word_again, boolean_again, fixed_again, opaque_again}
 use Rattle.bfs_model.proofs.Handles.{handle_leads, length_of_handle}
 use Rattle.bfs_model.proofs.RepliesAgain.{after_number_again, at_end_again}

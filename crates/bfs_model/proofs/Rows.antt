@@ -2,16 +2,16 @@
 use Rattle.std.proofs.Common.{◌≡◌, ℕ, List, [], ◌∷◌, ◌++◌, take, Ok, Err, Some, true, false, refl, ap}
 use Rattle.std.specs.Cmp.{nat_cmp_total}
 use Rattle.std.specs.FinMap.{get, empty, get-insert}
-use Rattle.bfs_model.specs.Items.{short, too_long, bad_boolean, bad_padding, word_at, boolean_at, bytes_at, fixed_at, opaque_at, word, words}
-use Rattle.bfs_model.specs.Tree.{Time, Inodes, FileSystem, root_id, new_root, new_tree, new_file_system}
-use Rattle.bfs_model.specs.Attributes.{attributes_of}
-use Rattle.bfs_model.specs.Call.{call_of, header_of, opaque_auth_at, credential_of, nobody}
-use Rattle.bfs_model.specs.Arguments.{handle, handle_id, handle_at, file_at, fields_at, arguments_of}
-use Rattle.bfs_model.specs.Replies.{attributes, results, success, garbage, refusal}
-use Rattle.bfs_model.specs.Procedures.{procedure}
-use Rattle.bfs_model.specs.Procedures.Attributes.{attributes_got}
-use Rattle.bfs_model.specs.Context.{Context}
-use Rattle.bfs_model.specs.Serial.{answer, execute}
+use Rattle.bfs_model.specs.Bytes.Items.{short, too_long, bad_boolean, bad_padding, word_at, boolean_at, bytes_at, fixed_at, opaque_at, word, words}
+use Rattle.bfs_model.specs.Server.Tree.{Time, Inodes, FileSystem, root_id, new_root, new_tree, new_file_system}
+use Rattle.bfs_model.specs.Bytes.Attributes.{attributes_of}
+use Rattle.bfs_model.specs.Bytes.Call.{call_of, header_of, opaque_auth_at, credential_of, nobody}
+use Rattle.bfs_model.specs.Bytes.Arguments.{handle, handle_id, handle_at, file_at, fields_at, arguments_of}
+use Rattle.bfs_model.specs.Bytes.Replies.{attributes, results, success, garbage, refusal}
+use Rattle.bfs_model.specs.Server.Procedures.{procedure}
+use Rattle.bfs_model.specs.Server.Procedures.Attributes.{attributes_got}
+use Rattle.bfs_model.specs.Server.Context.{Context}
+use Rattle.bfs_model.specs.Server.Serial.{answer, execute}
 
 -- Items ---------------------------------------------------------------------------------------------------------
 

@@ -1,15 +1,15 @@
 -- How worked examples spell requests and replies as words, and how a batch is followed request by request.
 use Rattle.std.proofs.Common.{◌≡◌, ℕ, List, [], ◌∷◌, ◌++◌, length, Some, None, Ok, refl}
 use Rattle.std.specs.FinMap.{from_entries}
-use Rattle.bfs_model.specs.Items.{words}
-use Rattle.bfs_model.specs.Tree.{Time, Entry, Inode, Inodes, FileSystem, file, directory}
-use Rattle.bfs_model.specs.Context.{Context}
-use Rattle.bfs_model.specs.Call.{Credential, call_of, nobody}
-use Rattle.bfs_model.specs.Arguments.{Settings, Call, arguments_of}
-use Rattle.bfs_model.specs.Replies.{Reply, results, success}
-use Rattle.bfs_model.specs.Refusals.{Outcome}
-use Rattle.bfs_model.specs.Procedures.{procedure}
-use Rattle.bfs_model.specs.Serial.{Batch, answer, inodes_after, replies_to, ordinal_after, effective_time, execute}
+use Rattle.bfs_model.specs.Bytes.Items.{words}
+use Rattle.bfs_model.specs.Server.Tree.{Time, Entry, Inode, Inodes, FileSystem, file, directory}
+use Rattle.bfs_model.specs.Server.Context.{Context}
+use Rattle.bfs_model.specs.Bytes.Call.{Credential, call_of, nobody}
+use Rattle.bfs_model.specs.Bytes.Arguments.{Settings, Call, arguments_of}
+use Rattle.bfs_model.specs.Bytes.Replies.{Reply, results, success}
+use Rattle.bfs_model.specs.Server.Refusals.{Outcome}
+use Rattle.bfs_model.specs.Server.Procedures.{procedure}
+use Rattle.bfs_model.specs.Server.Serial.{Batch, answer, inodes_after, replies_to, ordinal_after, effective_time, execute}
 
 -- Requests -----------------------------------------------------------------------------------------------------------
 

@@ -1,14 +1,14 @@
 -- Worked examples of directories: links, listings and renames.
 use Rattle.std.proofs.Common.{◌≡◌, [], ◌∷◌, ◌++◌, Some, refl, codes}
-use Rattle.bfs_model.specs.Items.{word, word_at, bytes_at, fixed_at, opaque_at}
-use Rattle.bfs_model.specs.Tree.{Inode, Inodes, new_tree, new_file_system}
-use Rattle.bfs_model.specs.Call.{call_of, header_of, opaque_auth_at, credential_of}
-use Rattle.bfs_model.specs.Arguments.{create, write, rename, make_directory, handle, handle_id, handle_at, write_at, rename_at, settings_at, named_with_settings_at, fields_at, arguments_of}
-use Rattle.bfs_model.specs.Replies.{found, attributes, refused, perm, results, success}
-use Rattle.bfs_model.specs.Attributes.{attributes_of}
-use Rattle.bfs_model.specs.Procedures.{procedure}
-use Rattle.bfs_model.specs.Procedures.Renaming.{is_within}
-use Rattle.bfs_model.specs.Serial.{execute}
+use Rattle.bfs_model.specs.Bytes.Items.{word, word_at, bytes_at, fixed_at, opaque_at}
+use Rattle.bfs_model.specs.Server.Tree.{Inode, Inodes, new_tree, new_file_system}
+use Rattle.bfs_model.specs.Bytes.Call.{call_of, header_of, opaque_auth_at, credential_of}
+use Rattle.bfs_model.specs.Bytes.Arguments.{create, write, rename, make_directory, handle, handle_id, handle_at, write_at, rename_at, settings_at, named_with_settings_at, fields_at, arguments_of}
+use Rattle.bfs_model.specs.Bytes.Replies.{found, attributes, refused, perm, results, success}
+use Rattle.bfs_model.specs.Bytes.Attributes.{attributes_of}
+use Rattle.bfs_model.specs.Server.Procedures.{procedure}
+use Rattle.bfs_model.specs.Server.Procedures.Renaming.{is_within}
+use Rattle.bfs_model.specs.Server.Serial.{execute}
 use Rattle.bfs_model.proofs.Maps.{inode_gets, inode_entries, same}
 use Rattle.bfs_model.proofs.Runs.{under, of_file, names_unset, writes, renames, unset, succeeds, told, at, a_file, a_directory, the_root, entry, holding, ends, next, executed}
 

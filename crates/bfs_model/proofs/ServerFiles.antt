@@ -1,15 +1,15 @@
 -- Worked examples of files: made, read, written and removed.
 use Rattle.std.proofs.Common.{◌≡◌, ℕ, List, [], ◌∷◌, ◌++◌, Some, refl, codes}
 use Rattle.std.specs.FinMap.{empty, insert}
-use Rattle.bfs_model.specs.Items.{words, word, word_at, bytes_at, fixed_at, opaque_at, fixed, counted}
-use Rattle.bfs_model.specs.Tree.{Inode, Inodes, new_tree, new_file_system}
-use Rattle.bfs_model.specs.Call.{Credential, call_of, header_of, opaque_auth_at, credential_of, system_credential_of, after_words}
-use Rattle.bfs_model.specs.Arguments.{create, get_attributes, look_up, read, write, remove, handle, handle_id, handle_at, file_at, named_at, read_at, write_at, settings_at, named_with_settings_at, fields_at, arguments_of}
-use Rattle.bfs_model.specs.Replies.{found, attributes, contents, done, refused, stale, results, success}
-use Rattle.bfs_model.specs.Attributes.{attributes_of}
-use Rattle.bfs_model.specs.Changes.{link_lost}
-use Rattle.bfs_model.specs.Procedures.{procedure}
-use Rattle.bfs_model.specs.Serial.{execute}
+use Rattle.bfs_model.specs.Bytes.Items.{words, word, word_at, bytes_at, fixed_at, opaque_at, fixed, counted}
+use Rattle.bfs_model.specs.Server.Tree.{Inode, Inodes, new_tree, new_file_system}
+use Rattle.bfs_model.specs.Bytes.Call.{Credential, call_of, header_of, opaque_auth_at, credential_of, system_credential_of, after_words}
+use Rattle.bfs_model.specs.Bytes.Arguments.{create, get_attributes, look_up, read, write, remove, handle, handle_id, handle_at, file_at, named_at, read_at, write_at, settings_at, named_with_settings_at, fields_at, arguments_of}
+use Rattle.bfs_model.specs.Bytes.Replies.{found, attributes, contents, done, refused, stale, results, success}
+use Rattle.bfs_model.specs.Bytes.Attributes.{attributes_of}
+use Rattle.bfs_model.specs.Server.Changes.{link_lost}
+use Rattle.bfs_model.specs.Server.Procedures.{procedure}
+use Rattle.bfs_model.specs.Server.Serial.{execute}
 use Rattle.bfs_model.proofs.Maps.{inode_gets, inode_entries, same}
 use Rattle.bfs_model.proofs.Runs.{under, calls, of_file, unset_words, unset, succeeds, told, at, a_file, the_root, entry, ends, next, executed}
 

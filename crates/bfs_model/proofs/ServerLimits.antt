@@ -1,16 +1,16 @@
 -- Worked examples of limits: the last ordinal, and the longest file.
 use Rattle.std.proofs.Common.{◌≡◌, ℕ, zero, suc, ◌+◌, ◌-◌, true, false, nat_lt, List, [], ◌∷◌, ◌++◌, length, take, drop, replicate, Some, refl, ap, ◌∙◌, append_assoc, arith, codes}
 use Rattle.std.proofs.lemmas.List.{length-append, length-replicate}
-use Rattle.bfs_model.specs.Items.{word, word_at, bytes_at, fixed_at, opaque_at, fixed, counted}
-use Rattle.bfs_model.specs.Tree.{Inode, Inodes, new_tree, new_file_system}
-use Rattle.bfs_model.specs.Call.{call_of, header_of, opaque_auth_at, credential_of}
-use Rattle.bfs_model.specs.Arguments.{create, get_attributes, read, write, handle, handle_id, handle_at, file_at, read_at, write_at, settings_at, named_with_settings_at, fields_at, arguments_of}
-use Rattle.bfs_model.specs.Replies.{found, attributes, contents, refused, nospc, fbig, results, success}
-use Rattle.bfs_model.specs.Attributes.{Attributes, attributes_of, blocks_of}
-use Rattle.bfs_model.specs.Limits.{most_file_bytes}
-use Rattle.bfs_model.specs.Bytes.{overwritten}
-use Rattle.bfs_model.specs.Procedures.{procedure}
-use Rattle.bfs_model.specs.Serial.{execute}
+use Rattle.bfs_model.specs.Bytes.Items.{word, word_at, bytes_at, fixed_at, opaque_at, fixed, counted}
+use Rattle.bfs_model.specs.Server.Tree.{Inode, Inodes, new_tree, new_file_system}
+use Rattle.bfs_model.specs.Bytes.Call.{call_of, header_of, opaque_auth_at, credential_of}
+use Rattle.bfs_model.specs.Bytes.Arguments.{create, get_attributes, read, write, handle, handle_id, handle_at, file_at, read_at, write_at, settings_at, named_with_settings_at, fields_at, arguments_of}
+use Rattle.bfs_model.specs.Bytes.Replies.{found, attributes, contents, refused, nospc, fbig, results, success}
+use Rattle.bfs_model.specs.Bytes.Attributes.{Attributes, attributes_of, blocks_of}
+use Rattle.bfs_model.specs.Server.Limits.{most_file_bytes}
+use Rattle.bfs_model.specs.Server.FileBytes.{overwritten}
+use Rattle.bfs_model.specs.Server.Procedures.{procedure}
+use Rattle.bfs_model.specs.Server.Serial.{execute}
 use Rattle.bfs_model.proofs.Maps.{inode_gets, inode_entries, same}
 use Rattle.bfs_model.proofs.Runs.{under, calls, of_file, names_unset, writes, unset, succeeds, told, at, a_file, the_root, entry, holding, ends, next, executed}
 

@@ -1,15 +1,15 @@
 -- Worked examples of READDIR and of STATFS, and of names that a directory has already.
 use Rattle.std.proofs.Common.{◌≡◌, List, [], ◌∷◌, ◌++◌, Some, true, false, refl, codes}
-use Rattle.bfs_model.specs.Items.{word, word_at, bytes_at, fixed_at, opaque_at, fixed, counted, boolean}
-use Rattle.bfs_model.specs.Tree.{Inode, Inodes, Entry, new_tree, new_file_system}
-use Rattle.bfs_model.specs.Call.{call_of, header_of, opaque_auth_at, credential_of}
-use Rattle.bfs_model.specs.Arguments.{create, look_up, remove, rename, make_link, make_directory, read_directory, file_system_status, handle, handle_id, handle_at, file_at, named_at, rename_at, link_at, read_directory_at, settings_at, named_with_settings_at, fields_at, arguments_of}
-use Rattle.bfs_model.specs.Replies.{found, done, refused, perm, isdir, notdir, listed, free_blocks, results, success}
-use Rattle.bfs_model.specs.Attributes.{attributes_of}
-use Rattle.bfs_model.specs.Changes.{changed, link_lost}
-use Rattle.bfs_model.specs.Procedures.{procedure}
-use Rattle.bfs_model.specs.Procedures.Renaming.{is_within}
-use Rattle.bfs_model.specs.Serial.{execute}
+use Rattle.bfs_model.specs.Bytes.Items.{word, word_at, bytes_at, fixed_at, opaque_at, fixed, counted, boolean}
+use Rattle.bfs_model.specs.Server.Tree.{Inode, Inodes, Entry, new_tree, new_file_system}
+use Rattle.bfs_model.specs.Bytes.Call.{call_of, header_of, opaque_auth_at, credential_of}
+use Rattle.bfs_model.specs.Bytes.Arguments.{create, look_up, remove, rename, make_link, make_directory, read_directory, file_system_status, handle, handle_id, handle_at, file_at, named_at, rename_at, link_at, read_directory_at, settings_at, named_with_settings_at, fields_at, arguments_of}
+use Rattle.bfs_model.specs.Bytes.Replies.{found, done, refused, perm, isdir, notdir, listed, free_blocks, results, success}
+use Rattle.bfs_model.specs.Bytes.Attributes.{attributes_of}
+use Rattle.bfs_model.specs.Server.Changes.{changed, link_lost}
+use Rattle.bfs_model.specs.Server.Procedures.{procedure}
+use Rattle.bfs_model.specs.Server.Procedures.Renaming.{is_within}
+use Rattle.bfs_model.specs.Server.Serial.{execute}
 use Rattle.bfs_model.proofs.Maps.{inode_gets, inode_entries, same}
 use Rattle.bfs_model.proofs.Runs.{under, calls, of_file, names, names_unset, renames, lists, unset, succeeds, told, at, a_file, a_directory, the_root, entry, holding, ends, next, executed}
 

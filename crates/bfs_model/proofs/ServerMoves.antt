@@ -1,15 +1,15 @@
 -- Worked examples of RENAME from one directory to another, and of RMDIR.
 use Rattle.std.proofs.Common.{◌≡◌, List, [], ◌∷◌, ◌++◌, Some, refl, codes}
-use Rattle.bfs_model.specs.Items.{word, word_at, bytes_at, fixed_at, opaque_at}
-use Rattle.bfs_model.specs.Tree.{Entry, Inode, Inodes, new_tree, new_file_system}
-use Rattle.bfs_model.specs.Call.{call_of, header_of, opaque_auth_at, credential_of}
-use Rattle.bfs_model.specs.Arguments.{create, look_up, rename, make_directory, remove_directory, handle, handle_id, handle_at, named_at, rename_at, settings_at, named_with_settings_at, fields_at, arguments_of}
-use Rattle.bfs_model.specs.Replies.{found, done, refused, notempty, results, success}
-use Rattle.bfs_model.specs.Attributes.{attributes_of}
-use Rattle.bfs_model.specs.Changes.{changed, link_lost}
-use Rattle.bfs_model.specs.Procedures.{procedure}
-use Rattle.bfs_model.specs.Procedures.Renaming.{is_within}
-use Rattle.bfs_model.specs.Serial.{execute}
+use Rattle.bfs_model.specs.Bytes.Items.{word, word_at, bytes_at, fixed_at, opaque_at}
+use Rattle.bfs_model.specs.Server.Tree.{Entry, Inode, Inodes, new_tree, new_file_system}
+use Rattle.bfs_model.specs.Bytes.Call.{call_of, header_of, opaque_auth_at, credential_of}
+use Rattle.bfs_model.specs.Bytes.Arguments.{create, look_up, rename, make_directory, remove_directory, handle, handle_id, handle_at, named_at, rename_at, settings_at, named_with_settings_at, fields_at, arguments_of}
+use Rattle.bfs_model.specs.Bytes.Replies.{found, done, refused, notempty, results, success}
+use Rattle.bfs_model.specs.Bytes.Attributes.{attributes_of}
+use Rattle.bfs_model.specs.Server.Changes.{changed, link_lost}
+use Rattle.bfs_model.specs.Server.Procedures.{procedure}
+use Rattle.bfs_model.specs.Server.Procedures.Renaming.{is_within}
+use Rattle.bfs_model.specs.Server.Serial.{execute}
 use Rattle.bfs_model.proofs.Maps.{inode_gets, inode_entries, same}
 use Rattle.bfs_model.proofs.Runs.{under, calls, of_file, names, names_unset, renames, unset, succeeds, told, at, a_file, a_directory, the_root, entry, holding, ends, next, executed}
 

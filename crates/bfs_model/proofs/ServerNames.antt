@@ -1,14 +1,14 @@
 -- Worked examples of names: hard links, symbolic links, listings, and the names that directories have of themselves.
 use Rattle.std.proofs.Common.{◌≡◌, [], ◌∷◌, ◌++◌, Some, refl, codes}
-use Rattle.bfs_model.specs.Items.{word, word_at, bytes_at, fixed_at, opaque_at, fixed, counted}
-use Rattle.bfs_model.specs.Tree.{Inodes, link, new_tree, new_file_system}
-use Rattle.bfs_model.specs.Call.{call_of, header_of, opaque_auth_at, credential_of}
-use Rattle.bfs_model.specs.Arguments.{create, get_attributes, set_attributes, remove, read_link, make_link, make_symbolic_link, make_directory, remove_directory, handle, handle_id, handle_at, file_at, named_at, set_attributes_at, link_at, symbolic_link_at, settings_at, named_with_settings_at, fields_at, arguments_of}
-use Rattle.bfs_model.specs.Replies.{found, done, path, refused, stale, perm, notdir, results, success}
-use Rattle.bfs_model.specs.Attributes.{attributes_of}
-use Rattle.bfs_model.specs.Changes.{changed, link_lost}
-use Rattle.bfs_model.specs.Procedures.{procedure}
-use Rattle.bfs_model.specs.Serial.{execute}
+use Rattle.bfs_model.specs.Bytes.Items.{word, word_at, bytes_at, fixed_at, opaque_at, fixed, counted}
+use Rattle.bfs_model.specs.Server.Tree.{Inodes, link, new_tree, new_file_system}
+use Rattle.bfs_model.specs.Bytes.Call.{call_of, header_of, opaque_auth_at, credential_of}
+use Rattle.bfs_model.specs.Bytes.Arguments.{create, get_attributes, set_attributes, remove, read_link, make_link, make_symbolic_link, make_directory, remove_directory, handle, handle_id, handle_at, file_at, named_at, set_attributes_at, link_at, symbolic_link_at, settings_at, named_with_settings_at, fields_at, arguments_of}
+use Rattle.bfs_model.specs.Bytes.Replies.{found, done, path, refused, stale, perm, notdir, results, success}
+use Rattle.bfs_model.specs.Bytes.Attributes.{attributes_of}
+use Rattle.bfs_model.specs.Server.Changes.{changed, link_lost}
+use Rattle.bfs_model.specs.Server.Procedures.{procedure}
+use Rattle.bfs_model.specs.Server.Serial.{execute}
 use Rattle.bfs_model.proofs.Maps.{inode_gets, inode_entries, same}
 use Rattle.bfs_model.proofs.Runs.{under, calls, of_file, names, names_unset, unset_words, unset, succeeds, told, at, a_file, a_directory, the_root, entry, holding, ends, next, executed}
 

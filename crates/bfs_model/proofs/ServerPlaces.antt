@@ -1,15 +1,15 @@
 -- Where refusals stand: which of two that fit is answered, and from which number on a limit holds.
 use Rattle.std.proofs.Common.{◌≡◌, ℕ, List, [], ◌∷◌, length, Some, None, true, false, ◌+◌, ◌-◌, nat_le, nat_lt, refl, codes, take}
-use Rattle.bfs_model.specs.Tree.{Entry, Inode, Inodes, link}
-use Rattle.bfs_model.specs.Arguments.{set_attributes, look_up, write, create, remove, rename, make_link, make_symbolic_link, make_directory, remove_directory, read_directory}
-use Rattle.bfs_model.specs.Replies.{found, done, refused, listed, perm, exist, notdir, isdir, nospc, notempty, stale, fbig}
-use Rattle.bfs_model.specs.Attributes.{attributes_of}
-use Rattle.bfs_model.specs.Bytes.{bytes_from}
-use Rattle.bfs_model.specs.Directories.{entry_named}
-use Rattle.bfs_model.specs.Changes.{changed}
-use Rattle.bfs_model.specs.Limits.{most_file_bytes, most_entries, most_links, most_data_bytes}
-use Rattle.bfs_model.specs.Procedures.{procedure}
-use Rattle.bfs_model.specs.Procedures.Renaming.{is_within}
+use Rattle.bfs_model.specs.Server.Tree.{Entry, Inode, Inodes, link}
+use Rattle.bfs_model.specs.Bytes.Arguments.{set_attributes, look_up, write, create, remove, rename, make_link, make_symbolic_link, make_directory, remove_directory, read_directory}
+use Rattle.bfs_model.specs.Bytes.Replies.{found, done, refused, listed, perm, exist, notdir, isdir, nospc, notempty, stale, fbig}
+use Rattle.bfs_model.specs.Bytes.Attributes.{attributes_of}
+use Rattle.bfs_model.specs.Server.FileBytes.{bytes_from}
+use Rattle.bfs_model.specs.Server.Directories.{entry_named}
+use Rattle.bfs_model.specs.Server.Changes.{changed}
+use Rattle.bfs_model.specs.Server.Limits.{most_file_bytes, most_entries, most_links, most_data_bytes}
+use Rattle.bfs_model.specs.Server.Procedures.{procedure}
+use Rattle.bfs_model.specs.Server.Procedures.Renaming.{is_within}
 use Rattle.bfs_model.proofs.Maps.{inode_gets, inode_entries, same}
 use Rattle.bfs_model.proofs.Runs.{under, unset, at, a_file, a_directory, the_root, entry, holding}
 

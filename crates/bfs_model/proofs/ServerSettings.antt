@@ -1,13 +1,13 @@
 -- Worked examples of settings: those of a new file, and SETATTR.
 use Rattle.std.proofs.Common.{◌≡◌, ℕ, List, [], ◌∷◌, ◌++◌, Some, refl, codes}
-use Rattle.bfs_model.specs.Items.{word, word_at, bytes_at, fixed_at, opaque_at, fixed, counted}
-use Rattle.bfs_model.specs.Tree.{Time, Inode, Inodes, file, new_tree, new_file_system}
-use Rattle.bfs_model.specs.Call.{call_of, header_of, opaque_auth_at, credential_of}
-use Rattle.bfs_model.specs.Arguments.{Settings, create, set_attributes, read, handle, handle_id, handle_at, set_attributes_at, read_at, settings_at, named_with_settings_at, fields_at, arguments_of}
-use Rattle.bfs_model.specs.Replies.{found, attributes, contents, refused, isdir, results, success}
-use Rattle.bfs_model.specs.Attributes.{attributes_of}
-use Rattle.bfs_model.specs.Procedures.{procedure}
-use Rattle.bfs_model.specs.Serial.{execute}
+use Rattle.bfs_model.specs.Bytes.Items.{word, word_at, bytes_at, fixed_at, opaque_at, fixed, counted}
+use Rattle.bfs_model.specs.Server.Tree.{Time, Inode, Inodes, file, new_tree, new_file_system}
+use Rattle.bfs_model.specs.Bytes.Call.{call_of, header_of, opaque_auth_at, credential_of}
+use Rattle.bfs_model.specs.Bytes.Arguments.{Settings, create, set_attributes, read, handle, handle_id, handle_at, set_attributes_at, read_at, settings_at, named_with_settings_at, fields_at, arguments_of}
+use Rattle.bfs_model.specs.Bytes.Replies.{found, attributes, contents, refused, isdir, results, success}
+use Rattle.bfs_model.specs.Bytes.Attributes.{attributes_of}
+use Rattle.bfs_model.specs.Server.Procedures.{procedure}
+use Rattle.bfs_model.specs.Server.Serial.{execute}
 use Rattle.bfs_model.proofs.Maps.{inode_gets, inode_entries, same}
 use Rattle.bfs_model.proofs.Runs.{under, calls, of_file, unset, succeeds, at, the_root, entry, holding, ends, next, executed}
 

@@ -1,11 +1,11 @@
 -- The arguments that bytes spell are short, and storable: what is read of variable length is within its limit, and what is read of bytes is words and bytes.
 use Rattle.std.proofs.Common.{◌≡◌, ℕ, ◌≤◌, List, length, Option, Some, None}
 use Rattle.std.specs.Prelude.{◌==◌}
-use Rattle.bfs_model.specs.Limits.{most_name_bytes, most_path_bytes, most_data_bytes}
-use Rattle.bfs_model.specs.Arguments.{Settings, Call, null, get_attributes, set_attributes, root, look_up, read_link, read, write_cache, write, create, remove, rename, make_link, make_symbolic_link, make_directory, remove_directory, read_directory, file_system_status, file_at, named_at, named_with_settings_at, set_attributes_at, read_at, write_at, rename_at, link_at, symbolic_link_at, read_directory_at, fields_at, arguments_of}
-use Rattle.bfs_model.specs.Short.{IsShort}
-use Rattle.bfs_model.specs.Stored.{AreBytes, SettingsAreStorable, HandleIsStorable, CallIsStorable}
-use Rattle.bfs_model.specs.StoredLaws.{ArgumentsAreStorable}
+use Rattle.bfs_model.specs.Server.Limits.{most_name_bytes, most_path_bytes, most_data_bytes}
+use Rattle.bfs_model.specs.Bytes.Arguments.{Settings, Call, null, get_attributes, set_attributes, root, look_up, read_link, read, write_cache, write, create, remove, rename, make_link, make_symbolic_link, make_directory, remove_directory, read_directory, file_system_status, file_at, named_at, named_with_settings_at, set_attributes_at, read_at, write_at, rename_at, link_at, symbolic_link_at, read_directory_at, fields_at, arguments_of}
+use Rattle.bfs_model.specs.Server.Short.{IsShort}
+use Rattle.bfs_model.specs.Server.Stored.{AreBytes, SettingsAreStorable, HandleIsStorable, CallIsStorable}
+use Rattle.bfs_model.specs.Laws.Stored.{ArgumentsAreStorable}
 use Rattle.bfs_model.proofs.Readings.{Gives, gives, gives_none, then_gives, chosen, next_word, next_item, next_handle, next_settings}
 
 -- Forms of arguments --------------------------------------------------------------------------------------------------------------

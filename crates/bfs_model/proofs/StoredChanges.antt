@@ -5,13 +5,13 @@ use Rattle.std.specs.Option.{option_map_or}
 use Rattle.std.specs.List.{AllByRecursion}
 use Rattle.std.proofs.lemmas.Bool.{ltb-true}
 use Rattle.std.proofs.lemmas.List.Elements.{All-append, All-take, All-drop, All-replicate}
-use Rattle.bfs_model.specs.Tree.{Time, Entry, Body, file, directory, link, Inode}
-use Rattle.bfs_model.specs.Bytes.{filled_to}
-use Rattle.bfs_model.specs.Directories.{without_name}
-use Rattle.bfs_model.specs.Context.{Context}
-use Rattle.bfs_model.specs.Arguments.{Settings}
-use Rattle.bfs_model.specs.Changes.{permission_bits, time_or, touched, resized_body, with_size, with_settings, overwritten_body, with_bytes, with_listing, with_entry, without_entry, with_parent, new_inode}
-use Rattle.bfs_model.specs.Stored.{IsWord, IsByte, AreBytes, TimeIsSpellable, IsTime, EntryIsStorable, BodyIsStorable, IsStorable, ContextIsStorable, SettingsAreStorable}
+use Rattle.bfs_model.specs.Server.Tree.{Time, Entry, Body, file, directory, link, Inode}
+use Rattle.bfs_model.specs.Server.FileBytes.{filled_to}
+use Rattle.bfs_model.specs.Server.Directories.{without_name}
+use Rattle.bfs_model.specs.Server.Context.{Context}
+use Rattle.bfs_model.specs.Bytes.Arguments.{Settings}
+use Rattle.bfs_model.specs.Server.Changes.{permission_bits, time_or, touched, resized_body, with_size, with_settings, overwritten_body, with_bytes, with_listing, with_entry, without_entry, with_parent, new_inode}
+use Rattle.bfs_model.specs.Server.Stored.{IsWord, IsByte, AreBytes, TimeIsSpellable, IsTime, EntryIsStorable, BodyIsStorable, IsStorable, ContextIsStorable, SettingsAreStorable}
 
 -- Parts ----------------------------------------------------------------------------------------------------------------
 

@@ -2,17 +2,17 @@
 use Rattle.std.proofs.Common.{◌≡◌, ℕ, ◌<◌, Bool, true, false, inl, inr, List, [], ◌∷◌, Option, Some, None, nat_lt, unwrap_or, arith}
 use Rattle.std.proofs.lemmas.Bool.{leb-false}
 use Rattle.std.specs.FinMap.{insert}
-use Rattle.bfs_model.specs.Limits.{most_file_bytes}
-use Rattle.bfs_model.specs.Tree.{Inode, Inodes, spent_ordinal}
-use Rattle.bfs_model.specs.Context.{Context}
-use Rattle.bfs_model.specs.Arguments.{Call, set_attributes, write, create, remove as remove_file, rename, make_link, make_symbolic_link, make_directory, remove_directory}
-use Rattle.bfs_model.specs.Replies.{fbig, nospc}
-use Rattle.bfs_model.specs.Changes.{without_entry, with_parent, with_link, with_link_less, with_ctime, changed, link_lost}
-use Rattle.bfs_model.specs.Refusals.{is_spent, has_most_links}
-use Rattle.bfs_model.specs.Procedures.Making.{entry_made, with_name}
-use Rattle.bfs_model.specs.Procedures.Renaming.{Renaming, Replaced, moves_directory, renaming_refusals, renaming_of, name_lost, name_cleared, moved_below, renamed}
-use Rattle.bfs_model.specs.Stored.{IsWord, AreBytes, IsStorable, AreStorable, ContextIsStorable, CallIsStorable}
-use Rattle.bfs_model.specs.StoredLaws.{CallsKeepInodesStorable}
+use Rattle.bfs_model.specs.Server.Limits.{most_file_bytes}
+use Rattle.bfs_model.specs.Server.Tree.{Inode, Inodes, spent_ordinal}
+use Rattle.bfs_model.specs.Server.Context.{Context}
+use Rattle.bfs_model.specs.Bytes.Arguments.{Call, set_attributes, write, create, remove as remove_file, rename, make_link, make_symbolic_link, make_directory, remove_directory}
+use Rattle.bfs_model.specs.Bytes.Replies.{fbig, nospc}
+use Rattle.bfs_model.specs.Server.Changes.{without_entry, with_parent, with_link, with_link_less, with_ctime, changed, link_lost}
+use Rattle.bfs_model.specs.Server.Refusals.{is_spent, has_most_links}
+use Rattle.bfs_model.specs.Server.Procedures.Making.{entry_made, with_name}
+use Rattle.bfs_model.specs.Server.Procedures.Renaming.{Renaming, Replaced, moves_directory, renaming_refusals, renaming_of, name_lost, name_cleared, moved_below, renamed}
+use Rattle.bfs_model.specs.Server.Stored.{IsWord, AreBytes, IsStorable, AreStorable, ContextIsStorable, CallIsStorable}
+use Rattle.bfs_model.specs.Laws.Stored.{CallsKeepInodesStorable}
 use Rattle.bfs_model.proofs.Found.{fails, inode_at, directory_at, file_at}
 use Rattle.bfs_model.proofs.Attempts.{IfChanged, kept}
 use Rattle.bfs_model.proofs.WellFormed.NewNames.{new_name}

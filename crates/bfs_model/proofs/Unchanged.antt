@@ -1,11 +1,11 @@
 -- Calls that leave the inodes as they are: those that are refused, and those that only read.
 use Rattle.std.proofs.Common.{◌≡◌, IsTrue, refl}
-use Rattle.bfs_model.specs.Tree.{Inodes}
-use Rattle.bfs_model.specs.Context.{Context}
-use Rattle.bfs_model.specs.Arguments.{Call, null, get_attributes, set_attributes, root, look_up, read_link, read, write_cache, write, create, remove, rename, make_link, make_symbolic_link, make_directory, remove_directory, read_directory, file_system_status}
-use Rattle.bfs_model.specs.Replies.{Status, refused}
-use Rattle.bfs_model.specs.Refusals.{Outcome}
-use Rattle.bfs_model.specs.ProcedureLaws.{only_reads, ARefusedCallChangesNothing, ReadingChangesNothing}
+use Rattle.bfs_model.specs.Server.Tree.{Inodes}
+use Rattle.bfs_model.specs.Server.Context.{Context}
+use Rattle.bfs_model.specs.Bytes.Arguments.{Call, null, get_attributes, set_attributes, root, look_up, read_link, read, write_cache, write, create, remove, rename, make_link, make_symbolic_link, make_directory, remove_directory, read_directory, file_system_status}
+use Rattle.bfs_model.specs.Bytes.Replies.{Status, refused}
+use Rattle.bfs_model.specs.Server.Refusals.{Outcome}
+use Rattle.bfs_model.specs.Laws.Procedures.{only_reads, ARefusedCallChangesNothing, ReadingChangesNothing}
 use Rattle.bfs_model.proofs.Attempts.{IfItIsDone, IfChanged, procedure_holds, kept}
 
 -- Refused ------------------------------------------------------------------------------------------------------------------

@@ -1,6 +1,6 @@
-ghost use Rattle.bfs_model.specs.Groups.{RunsKeepFootprints, RunsAreMerged, GroupsKeepFootprints, PartsFollow};
-ghost use Rattle.bfs_model.specs.Shares.{RunsComeHome, SharesKnow, SharesHaveFootprints};
-ghost use Rattle.bfs_model.specs.OvertakingLaw.{RequestsOvertake, DisjointRequestsOvertake, LegalOrdersAreAsTheBatch, LevelsAreAsTheBatch, FootprintsHold, WaitingFootprintsHold};
+ghost use Rattle.bfs_model.specs.Laws.Groups.{RunsKeepFootprints, RunsAreMerged, GroupsKeepFootprints, PartsFollow};
+ghost use Rattle.bfs_model.specs.Laws.Shares.{RunsComeHome, SharesKnow, SharesHaveFootprints};
+ghost use Rattle.bfs_model.specs.Laws.Overtaking.{RequestsOvertake, DisjointRequestsOvertake, LegalOrdersAreAsTheBatch, LevelsAreAsTheBatch, FootprintsHold, WaitingFootprintsHold};
 
 /// Whatever the inodes, requests of which none conflicts with another have, one after another, the footprints found at first.
 #[tactic(auto, using(crate::proofs::Footprints::Grouped::runs_keep_footprints))]

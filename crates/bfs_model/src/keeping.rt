@@ -1,8 +1,8 @@
 ghost use Rattle.std.specs.Prelude.{◌≡◌, ℕ, Bool, length};
-ghost use Rattle.bfs_model.specs.Tree.{FileSystem, new_file_system, new_tree};
-ghost use Rattle.bfs_model.specs.Serial.{Batch, execute};
-ghost use Rattle.bfs_model.specs.ProcedureLaws.{CallsKeepTreesWellFormed, CallsKeepFilesWellFormed};
-ghost use Rattle.bfs_model.specs.WellFormed.{IsWellFormed, IsWellFormedTree};
+ghost use Rattle.bfs_model.specs.Server.Tree.{FileSystem, new_file_system, new_tree};
+ghost use Rattle.bfs_model.specs.Server.Serial.{Batch, execute};
+ghost use Rattle.bfs_model.specs.Laws.Procedures.{CallsKeepTreesWellFormed, CallsKeepFilesWellFormed};
+ghost use Rattle.bfs_model.specs.Server.WellFormed.{IsWellFormed, IsWellFormedTree};
 
 /// A new file system is well formed.
 #[tactic(auto, using(crate::proofs::Kept::new_is_well_formed))]

@@ -1,4 +1,4 @@
-ghost use Rattle.bfs_model.specs.Paging.{DirectoriesAreListed, PageIsTold, CookiesRise, PagesFollowEachOther, EndIsToldAtTheEnd, AllIsReadAtTheEnd, PageWithRoomIsNotEmpty, EnoughPagesAreAll};
+ghost use Rattle.bfs_model.specs.Laws.Paging.{DirectoriesAreListed, PageIsTold, CookiesRise, PagesFollowEachOther, EndIsToldAtTheEnd, AllIsReadAtTheEnd, PageWithRoomIsNotEmpty, EnoughPagesAreAll};
 
 /// Each directory of a well-formed file system is one that the other functions here speak of.
 #[tactic(auto, using(crate::proofs::Pages::directories_are_listed))]

@@ -1,4 +1,4 @@
-ghost use Rattle.bfs_model.specs.ProcedureLaws.{NoOtherInodeIsAdded, TypesStay, TreesStay, ARefusedCallChangesNothing, ReadingChangesNothing};
+ghost use Rattle.bfs_model.specs.Laws.Procedures.{NoOtherInodeIsAdded, TypesStay, TreesStay, ARefusedCallChangesNothing, ReadingChangesNothing};
 
 /// Whatever the inodes, a call adds none but that of its ordinal: a fileid that led nowhere before it and leads somewhere after
 /// it is the ordinal.

@@ -1,4 +1,4 @@
-ghost use Rattle.bfs_model.specs.ReplyLengths.{RepliesAreBytes, RepliesAreShort};
+ghost use Rattle.bfs_model.specs.Laws.ReplyLengths.{RepliesAreBytes, RepliesAreShort};
 
 /// Where each inode is within the limits, the reply to any bytes is at most 16,384 bytes long.
 pub fn replies_are_short()

@@ -1,4 +1,4 @@
-ghost use Rattle.bfs_model.specs.ReplyReading.{ResultsAreReadBack, RepliesHaveTheirForm, SuccessIsReadBack, GarbageIsReadBack, RefusalsAreReadBack};
+ghost use Rattle.bfs_model.specs.Laws.ReplyReading.{ResultsAreReadBack, RepliesHaveTheirForm, SuccessIsReadBack, GarbageIsReadBack, RefusalsAreReadBack};
 
 /// A strict reader of a procedure's results has the reply that they were spelled of (RFC 1094 section 2.2).
 pub fn results_are_read_back()

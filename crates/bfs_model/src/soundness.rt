@@ -1,4 +1,4 @@
-ghost use Rattle.bfs_model.specs.FootprintLaws.{CallsKeepToFootprints, FootprintsAgree, ResolvedIsTouched, FootprintsFollow, CallsCommute, FootprintsStay, FreshOrdinalsAgree, AddedIsWritten, RequestsKeepToFootprints, RequestFootprintsAgree, RequestFootprintsStay, RequestsKeepTrees, ResolvedIsTouchedByRequests, RequestsCommute};
+ghost use Rattle.bfs_model.specs.Laws.Footprints.{CallsKeepToFootprints, FootprintsAgree, ResolvedIsTouched, FootprintsFollow, CallsCommute, FootprintsStay, FreshOrdinalsAgree, AddedIsWritten, RequestsKeepToFootprints, RequestFootprintsAgree, RequestFootprintsStay, RequestsKeepTrees, ResolvedIsTouchedByRequests, RequestsCommute};
 
 /// Whatever the inodes, a call does on them what it does on others that are the same where it looks, and nothing elsewhere.
 #[tactic(auto, using(crate::proofs::Footprints::Agreement::calls_keep_to_footprints))]

@@ -1,4 +1,4 @@
-ghost use Rattle.bfs_model.specs.Laws.{WordIsReadAgain, HyperIsReadAgain, BooleanIsReadAgain, FixedIsReadAgain, OpaqueIsReadAgain, WordWasWritten, HyperWasWritten, BooleanWasWritten, FixedWasWritten, OpaqueWasWritten, HandleLeadsToItsFile, OnlyTheHandleLeadsToAFile};
+ghost use Rattle.bfs_model.specs.Laws.Spelling.{WordIsReadAgain, HyperIsReadAgain, BooleanIsReadAgain, FixedIsReadAgain, OpaqueIsReadAgain, WordWasWritten, HyperWasWritten, BooleanWasWritten, FixedWasWritten, OpaqueWasWritten, HandleLeadsToItsFile, OnlyTheHandleLeadsToAFile};
 
 /// An unsigned integer below 2^32 that was written is read again, whatever follows it (RFC 4506 section 4.2).
 #[tactic(auto, using(crate::proofs::Laws::word_again))]

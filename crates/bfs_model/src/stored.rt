@@ -1,6 +1,6 @@
-ghost use Rattle.bfs_model.specs.Tree.{new_file_system};
-ghost use Rattle.bfs_model.specs.Stored.{IsLive};
-ghost use Rattle.bfs_model.specs.StoredLaws.{CallsKeepInodesStorable, RequestsAreStorable, ArgumentsAreStorable, BatchesKeepFilesLive, AnswersAreReadBack, GarbageAnswersAreReadBack, RefusedAnswersAreReadBack};
+ghost use Rattle.bfs_model.specs.Server.Tree.{new_file_system};
+ghost use Rattle.bfs_model.specs.Server.Stored.{IsLive};
+ghost use Rattle.bfs_model.specs.Laws.Stored.{CallsKeepInodesStorable, RequestsAreStorable, ArgumentsAreStorable, BatchesKeepFilesLive, AnswersAreReadBack, GarbageAnswersAreReadBack, RefusedAnswersAreReadBack};
 
 /// Where each inode can be stored, as 32-bit words and bytes, a call of such words and bytes leaves inodes that can be stored.
 #[tactic(auto, using(crate::proofs::Storing::calls_keep_storable))]

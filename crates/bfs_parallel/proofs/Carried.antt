@@ -11,8 +11,7 @@ use Rattle.bfs_handover.specs.Splitting.{CanBeSplit, IsSplit, Part}
 use Rattle.bfs_handover.specs.declared.job.Job.{Job}
 use Rattle.bfs_handover.specs.declared.job.Done.{Done}
 use Rattle.bfs_handover.specs.declared.results.Reply.{Reply}
-use Rattle.bfs_handover.proofs.Carrying.{split_requests_are_carried_out}
-use Rattle.bfs_handover.proofs.Homecoming.{results_are_out}
+use Rattle.bfs_handover.proofs.Public.{results_are_out, split_requests_are_carried_out}
 use Rattle.bfs_workers.specs.Results.{EachOnce, Gives}
 use Rattle.bfs_parallel.specs.Parts.{IsCarriedOut}
 

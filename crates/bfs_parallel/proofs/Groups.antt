@@ -7,23 +7,20 @@ use Rattle.std.specs.declared.vec.Vec.{Vec}
 use Rattle.std.proofs.lemmas.Bool.{false_from_ne_true}
 use Rattle.std.proofs.lemmas.List.{length-drop, length-map, length-take, length-take-le}
 use Rattle.std.proofs.lemmas.List.Elements.{All-from_recursion}
-use Rattle.bfs_model.specs.Tree.{Time, Inodes}
-use Rattle.bfs_model.specs.Limits.{most_reply_bytes}
-use Rattle.bfs_model.specs.Serial.{ordinal_after, answer, replies_to}
-use Rattle.bfs_model.specs.Footprints.{Footprint, known, whole, footprint_of}
-use Rattle.bfs_model.specs.Conflicts.{conflict, is_whole, is_written}
-use Rattle.bfs_model.specs.Groups.{AreDisjoint, IsCut, IsCutBefore, footprints_at, footprints_in_order}
-use Rattle.bfs_model.specs.WellFormed.{IsWellFormed}
-use Rattle.bfs_model.proofs.Footprints.Apart.{apart}
-use Rattle.bfs_model.proofs.Footprints.Grouped.{groups_keep_footprints}
-use Rattle.bfs_model.proofs.Footprints.Requests.{resolved_is_touched_by_requests}
-use Rattle.bfs_model.proofs.Kept.{answer_keeps, formed_again, reply_is_short, servable}
+use Rattle.bfs_model.specs.Server.Tree.{Time, Inodes}
+use Rattle.bfs_model.specs.Server.Limits.{most_reply_bytes}
+use Rattle.bfs_model.specs.Server.Serial.{ordinal_after, answer, replies_to}
+use Rattle.bfs_model.specs.Server.Footprints.{Footprint, known, whole, footprint_of}
+use Rattle.bfs_model.specs.Server.Conflicts.{conflict, is_whole, is_written}
+use Rattle.bfs_model.specs.Server.Groups.{AreDisjoint, IsCut, IsCutBefore, footprints_at, footprints_in_order}
+use Rattle.bfs_model.specs.Server.WellFormed.{IsWellFormed}
+use Rattle.bfs_model.proofs.Public.{answer_keeps, apart, formed_again, groups_keep_footprints, reply_is_short, resolved_is_touched_by_requests, servable}
 use Rattle.bfs_footprint.specs.Seen.{footprint_seen}
 use Rattle.bfs_footprint.specs.declared.footprints.Footprint as declared
 use Rattle.bfs_levels.specs.Laws.{AreJoined}
 use Rattle.bfs_levels.specs.Planning.{Touch, count_joined, level_behind, levels_behind, levels_of, parts_groups, parts_runs, touches_at}
 use Rattle.bfs_levels.specs.Requests.{requests_from}
-use Rattle.bfs_levels.proofs.Longest.{joined_cut, joined_just_if, runs_are_longest}
+use Rattle.bfs_levels.proofs.Public.{joined_cut, joined_just_if, runs_are_longest}
 use Rattle.bfs_levels.specs.declared.group.Group.{Group}
 use Rattle.bfs_levels.specs.declared.run.Run.{Run}
 use Rattle.bfs_parallel.specs.Levels.{IsGroupOf, IsPlanned, texts_of}

@@ -1,14 +1,14 @@
 -- Requests that are executed one after another: what is left of them gives, behind the replies so far, what all of them give.
 use Rattle.std.proofs.Common.{◌≡◌, ℕ, zero, suc, ◌+◌, ◌-◌, ◌<◌, ◌≤◌, IsTrue, List, [], ◌∷◌, ◌++◌, length, map, take, drop, get_or, refl, ap, sym, subst, ◌∙◌, arith}
 use Rattle.std.proofs.lemmas.List.{append_assoc, append-nil, drop_all, length-take-le, length-drop}
-use Rattle.bfs_model.specs.Tree.{Time, Inodes}
-use Rattle.bfs_model.specs.Serial.{ordinal_after, answer, inodes_after, replies_to}
-use Rattle.bfs_model.specs.WellFormed.{IsWellFormed}
-use Rattle.bfs_model.proofs.Kept.{answer_keeps, formed_again, servable}
+use Rattle.bfs_model.specs.Server.Tree.{Time, Inodes}
+use Rattle.bfs_model.specs.Server.Serial.{ordinal_after, answer, inodes_after, replies_to}
+use Rattle.bfs_model.specs.Server.WellFormed.{IsWellFormed}
+use Rattle.bfs_model.proofs.Public.{answer_keeps, formed_again, servable}
 use Rattle.bfs_levels.specs.Requests.{requests_from}
 use Rattle.bfs_tree.specs.Slots.{Slots}
 use Rattle.bfs_tree.specs.Tree.{at_home, reach_of}
-use Rattle.bfs_workers.proofs.Ones.{one_there}
+use Rattle.bfs_workers.proofs.Public.{one_there}
 use Rattle.bfs_parallel.specs.Parts.{IsPartExecuted}
 use Rattle.bfs_parallel.specs.Ran.{AllRan}
 

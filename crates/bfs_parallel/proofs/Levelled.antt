@@ -8,25 +8,22 @@ use Rattle.std.specs.declared.vec.Vec.{Vec}
 use Rattle.std.proofs.lemmas.Bool.{false_from_ne_true, cases_lt}
 use Rattle.std.proofs.lemmas.List.{get_or-take, length-take}
 use Rattle.std.proofs.lemmas.List.Elements.{All-from_recursion, recursion_from_All}
-use Rattle.bfs_model.specs.Tree.{Time, Inodes, spent_ordinal}
-use Rattle.bfs_model.specs.Serial.{ordinal_after, answer, inodes_after, replies_to}
-use Rattle.bfs_model.specs.Footprints.{Footprint, IsFreshFor, footprint_of}
-use Rattle.bfs_model.specs.Conflicts.{among, is_whole, is_touched, conflict, AgreeOn, closed}
-use Rattle.bfs_model.specs.Shares.{all_moved, without, share_of, is_there}
-use Rattle.bfs_model.specs.Groups.{AreDisjoint, footprints_at, footprints_in_order}
-use Rattle.bfs_model.specs.Events.{Slot, waiting, taken, finished, is_done, World}
-use Rattle.bfs_model.specs.OvertakingLaw.{Asked, answered, asked_at, footprint_at, slots_of, plan, calls, at_first, MayBeTaken, IsAsInOrder}
-use Rattle.bfs_model.proofs.Kept.{servable}
-use Rattle.bfs_model.proofs.Footprints.Grouped.{groups_keep_footprints}
-use Rattle.bfs_model.proofs.Footprints.OvertakingRequests.{levels_follow}
-use Rattle.bfs_model.proofs.Footprints.Shared.{get-without, shares_know}
+use Rattle.bfs_model.specs.Server.Tree.{Time, Inodes, spent_ordinal}
+use Rattle.bfs_model.specs.Server.Serial.{ordinal_after, answer, inodes_after, replies_to}
+use Rattle.bfs_model.specs.Server.Footprints.{Footprint, IsFreshFor, footprint_of}
+use Rattle.bfs_model.specs.Server.Conflicts.{among, is_whole, is_touched, conflict, AgreeOn, closed}
+use Rattle.bfs_model.specs.Server.Shares.{all_moved, without, share_of, is_there}
+use Rattle.bfs_model.specs.Server.Groups.{AreDisjoint, footprints_at, footprints_in_order}
+use Rattle.bfs_model.specs.Server.Events.{Slot, waiting, taken, finished, is_done, World}
+use Rattle.bfs_model.specs.Laws.Overtaking.{Asked, answered, asked_at, footprint_at, slots_of, plan, calls, at_first, MayBeTaken, IsAsInOrder}
+use Rattle.bfs_model.proofs.Public.{get-without, groups_keep_footprints, levels_follow, servable, shares_know}
 use Rattle.bfs_levels.specs.Planning.{level_behind, levels_behind}
 use Rattle.bfs_levels.specs.Requests.{requests_from}
-use Rattle.bfs_levels.proofs.Rising.{levels_rise}
-use Rattle.bfs_handover.specs.Carrying.{AreCarriedOut, all_back, outcome_for, stays}
+use Rattle.bfs_levels.proofs.Public.{levels_rise}
+use Rattle.bfs_handover.specs.Laws.Carrying.{AreCarriedOut, all_back, outcome_for, stays}
 use Rattle.bfs_handover.specs.Splitting.{CanBeSplit, IsFoundOn, Part, footprint_for, footprints_for, ordinal_of, part_of, request_of}
 use Rattle.bfs_handover.specs.declared.results.Reply.{Reply}
-use Rattle.bfs_handover.proofs.SplitLemmas.{length-footprints_at, share_seen}
+use Rattle.bfs_handover.proofs.Public.{length-footprints_at, share_seen}
 use Rattle.bfs_parallel.specs.Levels.{AreInLevels, IsGroupOf, all_put, places_from}
 use Rattle.bfs_parallel.specs.Ran.{AllRan}
 use Rattle.bfs_parallel.proofs.Places.{AreFor, all_told, are_places, is_there as is_among, length-all_put, numbers_rise, places_differ, Climb, climb, put_elsewhere, put_there}

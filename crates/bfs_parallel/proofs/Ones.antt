@@ -1,14 +1,14 @@
 -- A request that the gate has answered is a part of the batch.
 use Rattle.std.proofs.Common.{◌≡◌, ℕ, ◌<◌, ◌≤◌, List, [], ◌∷◌, ◌++◌, length, get_or, ap, sym, subst, ◌∙◌, arith}
-use Rattle.bfs_model.specs.Tree.{Time, Inodes}
-use Rattle.bfs_model.specs.Serial.{answer, inodes_after, replies_to}
-use Rattle.bfs_model.specs.Limits.{most_reply_bytes}
-use Rattle.bfs_model.specs.WellFormed.{IsWellFormed}
+use Rattle.bfs_model.specs.Server.Tree.{Time, Inodes}
+use Rattle.bfs_model.specs.Server.Serial.{answer, inodes_after, replies_to}
+use Rattle.bfs_model.specs.Server.Limits.{most_reply_bytes}
+use Rattle.bfs_model.specs.Server.WellFormed.{IsWellFormed}
 use Rattle.bfs_levels.specs.Requests.{requests_from}
 use Rattle.bfs_tree.specs.Slots.{Slots}
 use Rattle.bfs_tree.specs.Tree.{at_home}
 use Rattle.bfs_workers.specs.Answered.{IsAnswered}
-use Rattle.bfs_workers.proofs.Ones.{one_there}
+use Rattle.bfs_workers.proofs.Public.{one_there}
 use Rattle.bfs_parallel.specs.Parts.{IsPartExecuted}
 use Rattle.bfs_parallel.specs.Ran.{AllRan}
 use Rattle.bfs_parallel.proofs.Groups.{replies_are_short}

@@ -6,7 +6,7 @@ use Rattle.std.specs.List.{AllByRecursion}
 use Rattle.std.specs.List.Sorted.{IsStrictlyIncreasing}
 use Rattle.std.specs.declared.vec.Vec.{Vec}
 use Rattle.std.proofs.lemmas.List.{append-nil, get_or-set_same, get_or-set_other, length-set, map-set}
-use Rattle.bfs_model.specs.Conflicts.{among}
+use Rattle.bfs_model.specs.Server.Conflicts.{among}
 use Rattle.bfs_handover.specs.declared.results.Reply.{Reply}
 use Rattle.bfs_parallel.specs.Levels.{AreInLevels, AreKept, all_put, numbers_at, numbers_in, places_from, texts_of}
 use Rattle.bfs_parallel.proofs.Standing.{Differ}

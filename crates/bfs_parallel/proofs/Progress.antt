@@ -1,11 +1,10 @@
 -- What is left of a batch, part after part.
 use Rattle.std.proofs.Common.{◌≡◌, ℕ, zero, suc, ◌+◌, ◌-◌, ◌≤◌, List, [], ◌∷◌, ◌++◌, length, take, drop, refl, ap, sym, subst, ◌∙◌, arith}
 use Rattle.std.proofs.lemmas.List.{take-append-drop, length-take-le, length-drop, append_assoc}
-use Rattle.bfs_model.specs.Tree.{Time, Inodes}
-use Rattle.bfs_model.specs.Serial.{ordinal_after, answer, inodes_after, replies_to}
-use Rattle.bfs_model.specs.WellFormed.{IsWellFormed}
-use Rattle.bfs_model.proofs.Kept.{servable, formed_again, requests_keep}
-use Rattle.bfs_model.proofs.Footprints.Parts.{parts_follow}
+use Rattle.bfs_model.specs.Server.Tree.{Time, Inodes}
+use Rattle.bfs_model.specs.Server.Serial.{ordinal_after, answer, inodes_after, replies_to}
+use Rattle.bfs_model.specs.Server.WellFormed.{IsWellFormed}
+use Rattle.bfs_model.proofs.Public.{formed_again, parts_follow, requests_keep, servable}
 use Rattle.bfs_parallel.specs.Ran.{AllRan}
 
 nothing : {X : Type 0} (n : ℕ) → drop {A = X} n [] ≡ []

@@ -3,22 +3,16 @@ use Rattle.std.proofs.Common.{◌≡◌, ℕ, zero, suc, ◌<◌, Bool, true, fa
 use Rattle.std.specs.List.{AllByRecursion}
 use Rattle.std.specs.FinMap.{get}
 use Rattle.std.proofs.lemmas.Bool.{cond-true, cond-false}
-use Rattle.bfs_model.specs.Tree.{Time, Inodes}
-use Rattle.bfs_model.specs.Serial.{ordinal_after, answer}
-use Rattle.bfs_model.specs.Footprints.{Footprint, IsFreshFor}
-use Rattle.bfs_model.specs.Conflicts.{among, is_written, AgreeOn, closed, outcome_on}
-use Rattle.bfs_model.specs.Shares.{moved_for, all_moved}
-use Rattle.bfs_model.specs.Groups.{footprints_at, footprints_in_order}
-use Rattle.bfs_model.specs.Events.{Slot, taken, finished, is_done, World, moved, state, carried_out, took, ended, took_all, ended_all, AreDistinct, IsLevel, InLevels}
-use Rattle.bfs_model.specs.OvertakingLaw.{Asked, answered, asked_at, plan, calls, at_first, MayBeTaken, HasItsFootprint, LevelsLead}
-use Rattle.bfs_model.proofs.Kept.{IsServable, fresh_for_request, answer_keeps}
-use Rattle.bfs_model.proofs.Footprints.Agreement.{same_inodes, get-closed}
-use Rattle.bfs_model.proofs.Footprints.Shared.{get-without, moved_is_written}
-use Rattle.bfs_model.proofs.Footprints.Stable.{new_in}
-use Rattle.bfs_model.proofs.Footprints.Overtaking.{Kept, start_kept}
-use Rattle.bfs_model.proofs.Footprints.Turns.{AllHome, agrees, turn_keeps, still_home}
-use Rattle.bfs_model.proofs.Footprints.OvertakingRequests.{shifted, its_own, local, holds_on}
-use Rattle.bfs_handover.proofs.MoveLemmas.{among_both, none_among}
+use Rattle.bfs_model.specs.Server.Tree.{Time, Inodes}
+use Rattle.bfs_model.specs.Server.Serial.{ordinal_after, answer}
+use Rattle.bfs_model.specs.Server.Footprints.{Footprint, IsFreshFor}
+use Rattle.bfs_model.specs.Server.Conflicts.{among, is_written, AgreeOn, closed, outcome_on}
+use Rattle.bfs_model.specs.Server.Shares.{moved_for, all_moved}
+use Rattle.bfs_model.specs.Server.Groups.{footprints_at, footprints_in_order}
+use Rattle.bfs_model.specs.Server.Events.{Slot, taken, finished, is_done, World, moved, state, carried_out, took, ended, took_all, ended_all, AreDistinct, IsLevel, InLevels}
+use Rattle.bfs_model.specs.Laws.Overtaking.{Asked, answered, asked_at, plan, calls, at_first, MayBeTaken, HasItsFootprint, LevelsLead}
+use Rattle.bfs_model.proofs.Public.{AllHome, IsServable, Kept, agrees, answer_keeps, fresh_for_request, get-closed, get-without, holds_on, its_own, local, moved_is_written, new_in, same_inodes, shifted, start_kept, still_home, turn_keeps}
+use Rattle.bfs_handover.proofs.Public.{among_both, none_among}
 
 -- One put over another ------------------------------------------------------------------------------------------------------
 

@@ -3,11 +3,11 @@ use Rattle.std.specs.Prelude.{◌≡◌, ℕ, zero, suc, ◌+◌, ◌-◌, ◌<�
 use Rattle.std.specs.Global.{Global}
 use Rattle.std.specs.List.{AllByRecursion}
 use Rattle.std.specs.declared.vec.Vec.{Vec}
-use Rattle.bfs_model.specs.Tree.{Time, Inodes}
-use Rattle.bfs_model.specs.Footprints.{Footprint}
-use Rattle.bfs_model.specs.Conflicts.{is_whole}
-use Rattle.bfs_model.specs.Groups.{IsCut, footprints_at, footprints_in_order}
-use Rattle.bfs_model.specs.WellFormed.{IsWellFormed}
+use Rattle.bfs_model.specs.Server.Tree.{Time, Inodes}
+use Rattle.bfs_model.specs.Server.Footprints.{Footprint}
+use Rattle.bfs_model.specs.Server.Conflicts.{is_whole}
+use Rattle.bfs_model.specs.Server.Groups.{IsCut, footprints_at, footprints_in_order}
+use Rattle.bfs_model.specs.Server.WellFormed.{IsWellFormed}
 use Rattle.bfs_levels.specs.Planning.{levels_of}
 use Rattle.bfs_levels.specs.Requests.{requests_from}
 use Rattle.bfs_levels.specs.declared.group.Group.{Group}

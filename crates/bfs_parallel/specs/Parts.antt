@@ -1,11 +1,11 @@
 -- What has come of a part of a batch that was executed on a tree.
 use Rattle.std.specs.Prelude.{◌≡◌, ◌<◌, ◌≤◌, ◌+◌, ◌++◌, ◌∷◌, [], ℕ, IsTrue, List, length}
-use Rattle.bfs_model.specs.Tree.{Time}
-use Rattle.bfs_model.specs.Serial.{inodes_after, replies_to}
+use Rattle.bfs_model.specs.Server.Tree.{Time}
+use Rattle.bfs_model.specs.Server.Serial.{inodes_after, replies_to}
 use Rattle.bfs_levels.specs.Requests.{requests_from}
 use Rattle.bfs_tree.specs.Slots.{Slots}
 use Rattle.bfs_tree.specs.Tree.{at_home, reach_of}
-use Rattle.bfs_handover.specs.Carrying.{AreCarriedOut}
+use Rattle.bfs_handover.specs.Laws.Carrying.{AreCarriedOut}
 use Rattle.bfs_handover.specs.Splitting.{Part}
 use Rattle.bfs_handover.specs.declared.results.Reply.{Reply}
 use Rattle.bfs_parallel.specs.Ran.{AllRan}

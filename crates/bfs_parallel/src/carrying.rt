@@ -1,9 +1,9 @@
 ghost use Rattle.std.specs.Prelude.{IfOk, IsTrue, map};
 ghost use Rattle.std.specs.List.{All};
 ghost use Rattle.std.specs.List.Sorted.{IsPermutation, IsStrictlyIncreasing};
-ghost use Rattle.bfs_model.specs.Groups.{AreDisjoint};
+ghost use Rattle.bfs_model.specs.Server.Groups.{AreDisjoint};
 ghost use Rattle.bfs_footprint.specs.Seen.{footprint_seen};
-ghost use Rattle.bfs_handover.specs.Carrying.{AreCarriedOut};
+ghost use Rattle.bfs_handover.specs.Laws.Carrying.{AreCarriedOut};
 ghost use Rattle.bfs_handover.specs.Merging.{AreOut, IsMerged, numbers_in};
 ghost use Rattle.bfs_handover.specs.Splitting.{CanBeSplit, IsFoundOn, footprints_for, part_of};
 ghost use Rattle.bfs_tree.specs.Tree.{at_home, reach_of};

@@ -1,6 +1,6 @@
 ghost use Rattle.std.specs.Prelude.{◌≡◌, ◌≤◌, ◌↔◌, length, IsTrue, IfOk, IsErrOf, Some, None};
-ghost use Rattle.bfs_model.specs.Serial.{inodes_after, replies_to};
-ghost use Rattle.bfs_model.specs.WellFormed.{IsWellFormed};
+ghost use Rattle.bfs_model.specs.Server.Serial.{inodes_after, replies_to};
+ghost use Rattle.bfs_model.specs.Server.WellFormed.{IsWellFormed};
 ghost use Rattle.bfs_serial.specs.Executed.{Executed};
 ghost use Rattle.bfs_tree.specs.Tree.{at_home, reach_of};
 ghost use Rattle.bfs_parallel.specs.Ran.{AllRan};
@@ -18,7 +18,7 @@ use std::thread::Threads;
 
 /// Executes the batch's requests on threads, at the batch's effective time, and gives their replies. Replies and file system are those
 /// of executing the requests one after another. Every request but those that `is_alone` names is run by the gate.
-#[tactic(auto, unfolding(bfs_model::specs::Serial::execute))]
+#[tactic(auto, unfolding(bfs_model::specs::Server::Serial::execute))]
 pub fn execute_parallel<R: Threads + Wait + Sync, G: Gate + Sync>(
     rt: &R,
     alloc: Global,

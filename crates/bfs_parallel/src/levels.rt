@@ -1,6 +1,6 @@
 ghost use Rattle.std.specs.Prelude.{◌≡◌, ◌<◌, ◌≤◌, ◌+◌, ◌-◌, ◌++◌, ℕ, [], ◌∷◌, IfOk, IsTrue, List, OnOk, length, map};
 ghost use Rattle.std.specs.List.{All};
-ghost use Rattle.bfs_model.specs.Serial.{inodes_after, replies_to};
+ghost use Rattle.bfs_model.specs.Server.Serial.{inodes_after, replies_to};
 ghost use Rattle.bfs_footprint.specs.Seen.{footprint_seen};
 ghost use Rattle.bfs_levels.specs.Requests.{requests_from};
 ghost use Rattle.bfs_tree.specs.Tree.{at_home, reach_of};

@@ -1,8 +1,8 @@
 // The parts of a batch that are executed one after another: runs, or groups.
 ghost use Rattle.std.specs.Prelude.{◌<◌, ◌≤◌, ◌++◌, ◌≡◌, IfOk, IsTrue, length, map};
 ghost use Rattle.std.specs.List.{All};
-ghost use Rattle.bfs_model.specs.Limits.{most_reply_bytes};
-ghost use Rattle.bfs_model.specs.WellFormed.{IsWellFormed};
+ghost use Rattle.bfs_model.specs.Server.Limits.{most_reply_bytes};
+ghost use Rattle.bfs_model.specs.Server.WellFormed.{IsWellFormed};
 ghost use Rattle.bfs_footprint.specs.Seen.{footprint_seen};
 ghost use Rattle.bfs_tree.specs.Tree.{at_home, reach_of};
 ghost use Rattle.bfs_parallel.specs.Levels.{AreInLevels, IsGroupOf, texts_of};

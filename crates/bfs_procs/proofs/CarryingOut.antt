@@ -4,15 +4,14 @@ use Rattle.std.specs.List.{AllByRecursion}
 use Rattle.std.specs.Option.{ForSome}
 use Rattle.std.proofs.lemmas.Bool.{leb-false}
 use Rattle.std.proofs.lemmas.Option.{same_Some}
-use Rattle.bfs_model.specs.Context.{Context}
-use Rattle.bfs_model.specs.Tree.{Entry, Inodes, entries_at, entries_in, spent_ordinal}
-use Rattle.bfs_model.specs.Directories.{entry_named}
-use Rattle.bfs_model.specs.Arguments.{rename}
-use Rattle.bfs_model.specs.Footprints.{Footprint, known, whole, ids_in, child_at, moves_a_directory, footprint, IsNewAt, IsNewIn, IsFresh}
-use Rattle.bfs_model.specs.Procedures.Renaming.{Renaming, Replaced, renaming_refusals, renaming_of, renaming_planned}
-use Rattle.bfs_model.specs.Refusals.{FoundInode, FoundDirectory, is_spent, directory_found}
-use Rattle.bfs_model.proofs.Found.{IsDirectoryAt, IsOnto, onto_none, onto_entry, fails, planned_was}
-use Rattle.bfs_model.proofs.WellFormed.RenamingRoom.{CanRename, room_made, link_free}
+use Rattle.bfs_model.specs.Server.Context.{Context}
+use Rattle.bfs_model.specs.Server.Tree.{Entry, Inodes, entries_at, entries_in, spent_ordinal}
+use Rattle.bfs_model.specs.Server.Directories.{entry_named}
+use Rattle.bfs_model.specs.Bytes.Arguments.{rename}
+use Rattle.bfs_model.specs.Server.Footprints.{Footprint, known, whole, ids_in, child_at, moves_a_directory, footprint, IsNewAt, IsNewIn, IsFresh}
+use Rattle.bfs_model.specs.Server.Procedures.Renaming.{Renaming, Replaced, renaming_refusals, renaming_of, renaming_planned}
+use Rattle.bfs_model.specs.Server.Refusals.{FoundInode, FoundDirectory, is_spent, directory_found}
+use Rattle.bfs_model.proofs.Public.{CanRename, IsDirectoryAt, IsOnto, fails, link_free, onto_entry, onto_none, planned_was, room_made}
 use Rattle.bfs_procs.specs.Renaming.{IsWithin, CanCarryOut}
 use Rattle.bfs_procs.proofs.Fresh.{both, led_to, unspent_is_new}
 use Rattle.bfs_tree.specs.Reach.{Reach, Knows}

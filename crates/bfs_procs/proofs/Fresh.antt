@@ -3,8 +3,8 @@ use Rattle.std.proofs.Common.{◌≡◌, ℕ, ◌<◌, ◌≤◌, List, [], ◌�
 use Rattle.std.specs.List.{AllByRecursion}
 use Rattle.std.specs.FinMap.{get}
 use Rattle.std.proofs.lemmas.Bool.{leb-true}
-use Rattle.bfs_model.specs.Tree.{Inodes, entries_at, spent_ordinal}
-use Rattle.bfs_model.specs.Footprints.{Footprint, known, ids_in, IsNewAt, IsNewIn, IsFreshFor}
+use Rattle.bfs_model.specs.Server.Tree.{Inodes, entries_at, spent_ordinal}
+use Rattle.bfs_model.specs.Server.Footprints.{Footprint, known, ids_in, IsNewAt, IsNewIn, IsFreshFor}
 
 pub unspent_is_new : (m : Inodes) (o : ℕ) (touched : Footprint) → IsFreshFor m o touched → o < spent_ordinal → IsNewIn m o touched
 unspent_is_new m o touched (inl spent) unspent = let most : spent_ordinal ≤ o = leb-true spent_ordinal o spent in absurd (omega arith)

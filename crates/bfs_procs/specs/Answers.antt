@@ -1,11 +1,11 @@
 -- What a procedure of the code answers, beside the model's.
 use Rattle.std.specs.Prelude.{◌≡◌, ℕ, List, [], ◌∷◌, Result, Ok, Err}
 use Rattle.std.specs.Option.{ok_or}
-use Rattle.bfs_model.specs.Items.{◌>>=◌}
-use Rattle.bfs_model.specs.Directories.{is_bad_name, entry_named}
-use Rattle.bfs_model.specs.Tree.{Listing, Inodes}
-use Rattle.bfs_model.specs.Replies.{Status, perm, noent}
-use Rattle.bfs_model.specs.Refusals.{Outcome, checked}
+use Rattle.bfs_model.specs.Bytes.Items.{◌>>=◌}
+use Rattle.bfs_model.specs.Server.Directories.{is_bad_name, entry_named}
+use Rattle.bfs_model.specs.Server.Tree.{Listing, Inodes}
+use Rattle.bfs_model.specs.Bytes.Replies.{Status, perm, noent}
+use Rattle.bfs_model.specs.Server.Refusals.{Outcome, checked}
 use Rattle.bfs_procs.specs.declared.not_done.NotDone.{NotDone}
 use Rattle.bfs_procs.specs.declared.not_done.NotDone.TheVariants.{Refused, Memory}
 use Rattle.bfs_wire.specs.declared.reply.NfsReply.{NfsReply}

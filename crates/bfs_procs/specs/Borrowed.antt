@@ -1,6 +1,6 @@
 -- What READ and READDIR give, before it is spelled, as replies of the model.
 use Rattle.std.specs.Prelude.{Result, Ok, Err}
-use Rattle.bfs_model.specs.Replies as model
+use Rattle.bfs_model.specs.Bytes.Replies as model
 use Rattle.bfs_inode.specs.Pages.{Page}
 use Rattle.bfs_procs.specs.declared.data.Contents.{Contents}
 use Rattle.bfs_wire.specs.declared.status.Status.{Status}

@@ -2,17 +2,17 @@
 use Rattle.std.specs.Prelude.{◌≡◌, ℕ, ◌<◌, ◌≤◌, IsTrue, List, length, Option, Some, None, Result, Ok}
 use Rattle.std.specs.FinMap.{get}
 use Rattle.std.specs.Option.{ForSome}
-use Rattle.bfs_model.specs.Items.{◌>>=◌}
-use Rattle.bfs_model.specs.Changes.{changed, with_parent, without_entry}
-use Rattle.bfs_model.specs.Context.{Context}
-use Rattle.bfs_model.specs.Limits.{most_entries, most_links}
-use Rattle.bfs_model.specs.Procedures.Removing.{has_entries}
-use Rattle.bfs_model.specs.Procedures.Renaming.{Renaming, Replaced, moves_directory, name_cleared, unnamed}
-use Rattle.bfs_model.specs.Refusals.{FoundDirectory, directory_found, inode_found}
-use Rattle.bfs_model.specs.Replies as replies
-use Rattle.bfs_model.specs.Tree.{Inodes, is_directory_body, spent_ordinal}
-use Rattle.bfs_model.specs.WellFormed.{NamesDiffer}
-use Rattle.bfs_model.proofs.WellFormed.RenamingRoom.{HasRoomFor}
+use Rattle.bfs_model.specs.Bytes.Items.{◌>>=◌}
+use Rattle.bfs_model.specs.Server.Changes.{changed, with_parent, without_entry}
+use Rattle.bfs_model.specs.Server.Context.{Context}
+use Rattle.bfs_model.specs.Server.Limits.{most_entries, most_links}
+use Rattle.bfs_model.specs.Server.Procedures.Removing.{has_entries}
+use Rattle.bfs_model.specs.Server.Procedures.Renaming.{Renaming, Replaced, moves_directory, name_cleared, unnamed}
+use Rattle.bfs_model.specs.Server.Refusals.{FoundDirectory, directory_found, inode_found}
+use Rattle.bfs_model.specs.Bytes.Replies as replies
+use Rattle.bfs_model.specs.Server.Tree.{Inodes, is_directory_body, spent_ordinal}
+use Rattle.bfs_model.specs.Server.WellFormed.{NamesDiffer}
+use Rattle.bfs_model.proofs.Public.{HasRoomFor}
 use Rattle.bfs_tree.specs.Reach.{Reach}
 
 -- what a fileid, if there is one, leads to as what is replaced

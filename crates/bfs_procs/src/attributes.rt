@@ -2,10 +2,10 @@
 ghost use Rattle.std.specs.Prelude.{◌≡◌};
 ghost use Rattle.std.specs.Option.{option_map};
 ghost use Rattle.std.specs.Result.{result_map_both};
-ghost use Rattle.bfs_model.specs.Arguments as call;
-ghost use Rattle.bfs_model.specs.Footprints.{footprint};
-ghost use Rattle.bfs_model.specs.Refusals.{checked};
-ghost use Rattle.bfs_model.specs.Procedures.Attributes.{attributes_got, attributes_set, size_refusals};
+ghost use Rattle.bfs_model.specs.Bytes.Arguments as call;
+ghost use Rattle.bfs_model.specs.Server.Footprints.{footprint};
+ghost use Rattle.bfs_model.specs.Server.Refusals.{checked};
+ghost use Rattle.bfs_model.specs.Server.Procedures.Attributes.{attributes_got, attributes_set, size_refusals};
 ghost use Rattle.bfs_procs.specs.Answers.{Answers};
 ghost use Rattle.bfs_tree.specs.Reach.{Knows};
 ghost use Rattle.bfs_wire.specs.Replies.{status_seen};
@@ -31,7 +31,7 @@ pub(crate) fn get_attributes<S: Store>(
 }
 
 /// SETATTR (RFC 1094 section 2.2.3).
-#[tactic(auto, using(bfs_tree::proofs::Laws::insert_same))]
+#[tactic(auto, using(bfs_tree::proofs::Public::insert_same))]
 pub(crate) fn set_attributes<S: Store>(
     store: &mut S,
     context: &Context,

@@ -1,7 +1,7 @@
 ghost use Rattle.std.specs.Prelude.{◌≡◌, IfOk};
-ghost use Rattle.bfs_model.specs.Footprints.{footprint, IsFresh};
-ghost use Rattle.bfs_model.specs.Procedures.{procedure, attempted};
-ghost use Rattle.bfs_model.specs.Short.{IsShort};
+ghost use Rattle.bfs_model.specs.Server.Footprints.{footprint, IsFresh};
+ghost use Rattle.bfs_model.specs.Server.Procedures.{procedure, attempted};
+ghost use Rattle.bfs_model.specs.Server.Short.{IsShort};
 ghost use Rattle.bfs_procs.specs.Answers.{Answers};
 ghost use Rattle.bfs_tree.specs.Reach.{Knows};
 ghost use Rattle.bfs_wire.specs.Calls.{call_seen};

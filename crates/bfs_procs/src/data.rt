@@ -1,12 +1,12 @@
 // READ, READLINK and WRITE.
 ghost use Rattle.std.specs.Prelude.{◌≡◌, ◌+◌, ◌≤◌, length, nat_lt, IfOk};
 ghost use Rattle.std.specs.Result.{result_map_both};
-ghost use Rattle.bfs_model.specs.Arguments as call;
-ghost use Rattle.bfs_model.specs.Bytes as model;
-ghost use Rattle.bfs_model.specs.Footprints.{footprint};
-ghost use Rattle.bfs_model.specs.Limits.{most_file_bytes, most_data_bytes};
-ghost use Rattle.bfs_model.specs.Refusals.{bytes_in};
-ghost use Rattle.bfs_model.specs.Procedures.Data.{file_read, file_written, link_read};
+ghost use Rattle.bfs_model.specs.Bytes.Arguments as call;
+ghost use Rattle.bfs_model.specs.Server.FileBytes as model;
+ghost use Rattle.bfs_model.specs.Server.Footprints.{footprint};
+ghost use Rattle.bfs_model.specs.Server.Limits.{most_file_bytes, most_data_bytes};
+ghost use Rattle.bfs_model.specs.Server.Refusals.{bytes_in};
+ghost use Rattle.bfs_model.specs.Server.Procedures.Data.{file_read, file_written, link_read};
 ghost use Rattle.bfs_procs.specs.Answers.{Answers};
 ghost use Rattle.bfs_procs.specs.Borrowed.{contents_seen};
 ghost use Rattle.bfs_tree.specs.Reach.{Knows};
@@ -85,7 +85,7 @@ pub(crate) fn read_link<S: Store>(
 }
 
 /// WRITE (RFC 1094 section 2.2.9).
-#[tactic(auto, using(bfs_tree::proofs::Laws::insert_same))]
+#[tactic(auto, using(bfs_tree::proofs::Public::insert_same))]
 pub(crate) fn write<S: Store>(
     store: &mut S,
     context: &Context,

@@ -1,16 +1,16 @@
 // CREATE, MKDIR, SYMLINK and LINK, and the new name that each makes.
 ghost use Rattle.std.specs.Prelude.{◌≡◌, ◌<◌, ◌≤◌, ◌∷◌, [], ◌++◌, None, length, nat_lt, unwrap_or, IfOk};
 ghost use Rattle.std.specs.Result.{result_map_both};
-ghost use Rattle.bfs_model.specs.Arguments as call;
-ghost use Rattle.bfs_model.specs.Attributes.{attributes_of};
-ghost use Rattle.bfs_model.specs.Directories.{entry_named};
-ghost use Rattle.bfs_model.specs.Footprints.{footprint, IsFresh};
-ghost use Rattle.bfs_model.specs.Limits.{most_name_bytes, most_path_bytes, most_file_bytes, most_entries, most_links};
-ghost use Rattle.bfs_model.specs.Refusals.{checked, has_most_links};
-ghost use Rattle.bfs_model.specs.Replies as replies;
-ghost use Rattle.bfs_model.specs.Replies.{fbig, nospc};
-ghost use Rattle.bfs_model.specs.Tree.{spent_ordinal};
-ghost use Rattle.bfs_model.specs.Procedures.Making.{new_name_refusals, file_created, directory_made, symbolic_link_made, link_made};
+ghost use Rattle.bfs_model.specs.Bytes.Arguments as call;
+ghost use Rattle.bfs_model.specs.Bytes.Attributes.{attributes_of};
+ghost use Rattle.bfs_model.specs.Server.Directories.{entry_named};
+ghost use Rattle.bfs_model.specs.Server.Footprints.{footprint, IsFresh};
+ghost use Rattle.bfs_model.specs.Server.Limits.{most_name_bytes, most_path_bytes, most_file_bytes, most_entries, most_links};
+ghost use Rattle.bfs_model.specs.Server.Refusals.{checked, has_most_links};
+ghost use Rattle.bfs_model.specs.Bytes.Replies as replies;
+ghost use Rattle.bfs_model.specs.Bytes.Replies.{fbig, nospc};
+ghost use Rattle.bfs_model.specs.Server.Tree.{spent_ordinal};
+ghost use Rattle.bfs_model.specs.Server.Procedures.Making.{new_name_refusals, file_created, directory_made, symbolic_link_made, link_made};
 ghost use Rattle.bfs_procs.specs.Answers.{Answers};
 ghost use Rattle.bfs_tree.specs.Reach.{Knows};
 ghost use Rattle.bfs_wire.specs.Replies.{reply_seen, status_seen};
@@ -24,7 +24,7 @@ use bfs_wire::{NfsReply, Status};
 use std::alloc::Global;
 
 /// CREATE (RFC 1094 section 2.2.10).
-#[tactic(auto, using(crate::proofs::Fresh::above_first), unfolding(bfs_model::specs::Changes::changed))]
+#[tactic(auto, using(crate::proofs::Fresh::above_first), unfolding(bfs_model::specs::Server::Changes::changed))]
 pub(crate) fn create<S: Store>(
     alloc: Global,
     store: &mut S,
@@ -51,7 +51,7 @@ pub(crate) fn create<S: Store>(
 }
 
 /// MKDIR (RFC 1094 section 2.2.15).
-#[tactic(auto, using(crate::proofs::Fresh::above_first, bfs_model::proofs::WellFormed::Steps::insert_again, bfs_model::proofs::Maps::got_put), unfolding(bfs_model::specs::Changes::changed))]
+#[tactic(auto, using(crate::proofs::Fresh::above_first, bfs_model::proofs::Public::insert_again, bfs_model::proofs::Public::got_put), unfolding(bfs_model::specs::Server::Changes::changed))]
 pub(crate) fn make_directory<S: Store>(
     alloc: Global,
     store: &mut S,
@@ -79,7 +79,7 @@ pub(crate) fn make_directory<S: Store>(
 }
 
 /// SYMLINK (RFC 1094 section 2.2.14).
-#[tactic(auto, using(crate::proofs::Fresh::above_first), unfolding(bfs_model::specs::Changes::changed))]
+#[tactic(auto, using(crate::proofs::Fresh::above_first), unfolding(bfs_model::specs::Server::Changes::changed))]
 pub(crate) fn make_symbolic_link<S: Store>(
     alloc: Global,
     store: &mut S,
@@ -107,7 +107,7 @@ pub(crate) fn make_symbolic_link<S: Store>(
 }
 
 /// LINK (RFC 1094 section 2.2.13).
-#[tactic(auto, using(crate::proofs::Fresh::above_second), unfolding(bfs_model::specs::Changes::changed))]
+#[tactic(auto, using(crate::proofs::Fresh::above_second), unfolding(bfs_model::specs::Server::Changes::changed))]
 pub(crate) fn link<S: Store>(
     store: &mut S,
     context: &Context,

@@ -1,11 +1,11 @@
 // LOOKUP and READDIR.
 ghost use Rattle.std.specs.Prelude.{◌≡◌, ◌≤◌, length, IfOk};
 ghost use Rattle.std.specs.Result.{result_map_both};
-ghost use Rattle.bfs_model.specs.Arguments as call;
-ghost use Rattle.bfs_model.specs.Footprints.{footprint};
-ghost use Rattle.bfs_model.specs.Limits.{most_name_bytes};
-ghost use Rattle.bfs_model.specs.Replies as replies;
-ghost use Rattle.bfs_model.specs.Procedures.Names.{looked_up, directory_read};
+ghost use Rattle.bfs_model.specs.Bytes.Arguments as call;
+ghost use Rattle.bfs_model.specs.Server.Footprints.{footprint};
+ghost use Rattle.bfs_model.specs.Server.Limits.{most_name_bytes};
+ghost use Rattle.bfs_model.specs.Bytes.Replies as replies;
+ghost use Rattle.bfs_model.specs.Server.Procedures.Names.{looked_up, directory_read};
 ghost use Rattle.bfs_inode.specs.Pages.{listed_seen};
 ghost use Rattle.bfs_procs.specs.Answers.{Answers};
 ghost use Rattle.bfs_procs.specs.Borrowed.{page_seen};

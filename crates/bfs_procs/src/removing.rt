@@ -2,12 +2,12 @@
 ghost use Rattle.std.specs.Prelude.{◌≡◌, ◌∷◌, [], not, Option, Ok};
 ghost use Rattle.std.specs.Option.{ok_or};
 ghost use Rattle.std.specs.Result.{result_map_both};
-ghost use Rattle.bfs_model.specs.Arguments as call;
-ghost use Rattle.bfs_model.specs.Footprints.{footprint};
-ghost use Rattle.bfs_model.specs.Refusals.{checked};
-ghost use Rattle.bfs_model.specs.Replies.{notdir, notempty};
-ghost use Rattle.bfs_model.specs.Tree.{is_directory_body};
-ghost use Rattle.bfs_model.specs.Procedures.Removing.{file_removed, directory_removed, has_entries};
+ghost use Rattle.bfs_model.specs.Bytes.Arguments as call;
+ghost use Rattle.bfs_model.specs.Server.Footprints.{footprint};
+ghost use Rattle.bfs_model.specs.Server.Refusals.{checked};
+ghost use Rattle.bfs_model.specs.Bytes.Replies.{notdir, notempty};
+ghost use Rattle.bfs_model.specs.Server.Tree.{is_directory_body};
+ghost use Rattle.bfs_model.specs.Server.Procedures.Removing.{file_removed, directory_removed, has_entries};
 ghost use Rattle.bfs_procs.specs.Answers.{Answers, name_leads};
 ghost use Rattle.bfs_tree.specs.Reach.{Knows};
 ghost use Rattle.bfs_wire.specs.Replies.{status_seen};
@@ -20,7 +20,7 @@ use bfs_types::Context;
 use bfs_wire::{NfsReply, Status};
 
 /// REMOVE (RFC 1094 section 2.2.11).
-#[tactic(auto, unfolding(bfs_model::specs::Changes::changed))]
+#[tactic(auto, unfolding(bfs_model::specs::Server::Changes::changed))]
 pub(crate) fn remove<S: Store>(
     store: &mut S,
     context: &Context,
@@ -45,7 +45,7 @@ pub(crate) fn remove<S: Store>(
 }
 
 /// RMDIR (RFC 1094 section 2.2.16).
-#[tactic(auto, unfolding(bfs_model::specs::Changes::changed))]
+#[tactic(auto, unfolding(bfs_model::specs::Server::Changes::changed))]
 pub(crate) fn remove_directory<S: Store>(
     store: &mut S,
     context: &Context,

@@ -1,9 +1,9 @@
 // RENAME: what is to be done is planned on the inodes as they are, and then carried out.
 ghost use Rattle.std.specs.Prelude.{◌≡◌, ◌≤◌, length};
-ghost use Rattle.bfs_model.specs.Arguments as call;
-ghost use Rattle.bfs_model.specs.Footprints.{footprint, IsFresh};
-ghost use Rattle.bfs_model.specs.Limits.{most_name_bytes};
-ghost use Rattle.bfs_model.specs.Procedures.Renaming.{entry_renamed};
+ghost use Rattle.bfs_model.specs.Bytes.Arguments as call;
+ghost use Rattle.bfs_model.specs.Server.Footprints.{footprint, IsFresh};
+ghost use Rattle.bfs_model.specs.Server.Limits.{most_name_bytes};
+ghost use Rattle.bfs_model.specs.Server.Procedures.Renaming.{entry_renamed};
 ghost use Rattle.bfs_procs.specs.Answers.{Answers};
 ghost use Rattle.bfs_tree.specs.Reach.{Knows};
 

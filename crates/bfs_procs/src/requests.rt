@@ -1,7 +1,7 @@
 ghost use Rattle.std.specs.Prelude.{◌≡◌, IfOk};
-ghost use Rattle.bfs_model.specs.Call as model;
-ghost use Rattle.bfs_model.specs.Serial.{answer, answer_call};
-ghost use Rattle.bfs_model.specs.Footprints.{footprint_of, footprint_of_call, IsFreshFor};
+ghost use Rattle.bfs_model.specs.Bytes.Call as model;
+ghost use Rattle.bfs_model.specs.Server.Serial.{answer, answer_call};
+ghost use Rattle.bfs_model.specs.Server.Footprints.{footprint_of, footprint_of_call, IsFreshFor};
 ghost use Rattle.bfs_tree.specs.Reach.{Knows};
 ghost use Rattle.bfs_rpc.specs.Calls.{request_seen};
 
@@ -19,7 +19,7 @@ use std::alloc::Global;
 /// Answers the request that the bytes spell, under its ordinal and at the time of its batch: gives the bytes of the reply,
 /// none if the request can't be answered (RFC 5531 section 9). The store knows what the request touches, and the ordinal is
 /// fresh for it. `Memory` if memory runs out: what the store holds then is unspecified, and which fileids it knows stays.
-#[tactic(auto, unfolding(bfs_model::specs::Serial::answer))]
+#[tactic(auto, unfolding(bfs_model::specs::Server::Serial::answer))]
 pub fn answer<S: Store>(
     alloc: Global,
     store: &mut S,

@@ -1,9 +1,9 @@
 // STATFS.
 ghost use Rattle.std.specs.Prelude.{◌≡◌, ◌-◌, IsTrue};
-ghost use Rattle.bfs_model.specs.Attributes.{total_blocks};
-ghost use Rattle.bfs_model.specs.Arguments as call;
-ghost use Rattle.bfs_model.specs.Footprints.{footprint};
-ghost use Rattle.bfs_model.specs.Procedures.Status.{status_got, used_blocks};
+ghost use Rattle.bfs_model.specs.Bytes.Attributes.{total_blocks};
+ghost use Rattle.bfs_model.specs.Bytes.Arguments as call;
+ghost use Rattle.bfs_model.specs.Server.Footprints.{footprint};
+ghost use Rattle.bfs_model.specs.Server.Procedures.Status.{status_got, used_blocks};
 ghost use Rattle.bfs_procs.specs.Answers.{Answers};
 ghost use Rattle.bfs_tree.specs.Reach.{Knows};
 

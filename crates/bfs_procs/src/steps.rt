@@ -3,18 +3,18 @@ ghost use Rattle.std.specs.Prelude.{◌≡◌, ◌<◌, ◌≤◌, None, length,
 ghost use Rattle.std.specs.List.{All};
 ghost use Rattle.std.specs.Option.{ForSome};
 ghost use Rattle.std.specs.FinMap.{get, insert};
-ghost use Rattle.bfs_model.specs.Limits.{most_name_bytes, most_entries, most_links};
-ghost use Rattle.bfs_model.specs.Changes.{changed, link_lost, with_ctime, with_link, with_link_less, with_parent, without_entry};
-ghost use Rattle.bfs_model.specs.Directories.{entry_named};
-ghost use Rattle.bfs_model.specs.Procedures.Making.{with_name};
-ghost use Rattle.bfs_model.specs.Tree.{entries_at, spent_ordinal};
+ghost use Rattle.bfs_model.specs.Server.Limits.{most_name_bytes, most_entries, most_links};
+ghost use Rattle.bfs_model.specs.Server.Changes.{changed, link_lost, with_ctime, with_link, with_link_less, with_parent, without_entry};
+ghost use Rattle.bfs_model.specs.Server.Directories.{entry_named};
+ghost use Rattle.bfs_model.specs.Server.Procedures.Making.{with_name};
+ghost use Rattle.bfs_model.specs.Server.Tree.{entries_at, spent_ordinal};
 
 use bfs_inode::{FileId, Inode, Time};
 use bfs_tree::Store;
 use bfs_types::{Context, Memory};
 
 /// Removes the entry of that name from a directory.
-#[tactic(auto, unfolding(bfs_model::specs::Changes::changed))]
+#[tactic(auto, unfolding(bfs_model::specs::Server::Changes::changed))]
 pub(crate) fn drop_entry<S: Store>(store: &mut S, now: Time, dir: FileId, name: &[u8])
     requires { IsTrue ((S.reach store.old).owned dir) }
     ensures done { S.inodes store.new ≡ changed (S.inodes store.old) dir (without_entry now name.now) }
@@ -26,7 +26,7 @@ pub(crate) fn drop_entry<S: Store>(store: &mut S, now: Time, dir: FileId, name: 
 }
 
 /// Adds an entry to a directory, whose cookie is the call's ordinal. `Memory` if memory runs out.
-#[tactic(auto, unfolding(bfs_model::specs::Changes::changed))]
+#[tactic(auto, unfolding(bfs_model::specs::Server::Changes::changed))]
 pub(crate) fn add_entry<S: Store>(
     store: &mut S,
     context: &Context,
@@ -63,7 +63,7 @@ pub(crate) fn put<S: Store>(store: &mut S, id: FileId, inode: Inode) -> Result<(
 }
 
 /// Puts a directory below another one.
-#[tactic(auto, unfolding(bfs_model::specs::Changes::changed))]
+#[tactic(auto, unfolding(bfs_model::specs::Server::Changes::changed))]
 pub(crate) fn set_parent<S: Store>(store: &mut S, parent: FileId, dir: FileId)
     requires { IsTrue ((S.reach store.old).owned dir) }
     ensures done { S.inodes store.new ≡ changed (S.inodes store.old) dir (with_parent parent) }
@@ -75,7 +75,7 @@ pub(crate) fn set_parent<S: Store>(store: &mut S, parent: FileId, dir: FileId)
 }
 
 /// Counts one more link of an inode.
-#[tactic(auto, unfolding(bfs_model::specs::Changes::changed))]
+#[tactic(auto, unfolding(bfs_model::specs::Server::Changes::changed))]
 pub(crate) fn add_link<S: Store>(store: &mut S, now: Time, id: FileId)
     requires owned { IsTrue ((S.reach store.old).owned id) }
     requires few { ForSome (get (S.inodes store.old) id) (λ inode. inode.links < most_links) }
@@ -88,7 +88,7 @@ pub(crate) fn add_link<S: Store>(store: &mut S, now: Time, id: FileId)
 }
 
 /// Counts one link less of an inode, which stays.
-#[tactic(auto, unfolding(bfs_model::specs::Changes::changed))]
+#[tactic(auto, unfolding(bfs_model::specs::Server::Changes::changed))]
 pub(crate) fn lose_link<S: Store>(store: &mut S, now: Time, id: FileId)
     requires { IsTrue ((S.reach store.old).owned id) }
     ensures done { S.inodes store.new ≡ changed (S.inodes store.old) id (with_link_less now) }
@@ -100,7 +100,7 @@ pub(crate) fn lose_link<S: Store>(store: &mut S, now: Time, id: FileId)
 }
 
 /// Sets the time at which an inode last changed.
-#[tactic(auto, unfolding(bfs_model::specs::Changes::changed))]
+#[tactic(auto, unfolding(bfs_model::specs::Server::Changes::changed))]
 pub(crate) fn set_ctime<S: Store>(store: &mut S, now: Time, id: FileId)
     requires { IsTrue ((S.reach store.old).owned id) }
     ensures done { S.inodes store.new ≡ changed (S.inodes store.old) id (with_ctime now) }
@@ -112,7 +112,7 @@ pub(crate) fn set_ctime<S: Store>(store: &mut S, now: Time, id: FileId)
 }
 
 /// Counts one link less of a file or a symbolic link, which goes with its last.
-#[tactic(auto, unfolding(bfs_model::specs::Changes::link_lost, bfs_model::specs::Changes::changed))]
+#[tactic(auto, unfolding(bfs_model::specs::Server::Changes::link_lost, bfs_model::specs::Server::Changes::changed))]
 pub(crate) fn lose_name<S: Store>(store: &mut S, now: Time, id: FileId)
     requires { IsTrue ((S.reach store.old).owned id) }
     ensures done { S.inodes store.new ≡ link_lost (S.inodes store.old) now id }

@@ -1,8 +1,8 @@
 // Results behind the header of a success, each reply in one vector. What READ and READDIR give is written straight from the inode.
 ghost use Rattle.std.specs.Prelude.{◌≡◌, ◌≤◌, ◌++◌, [], length, OnOk, IfOk};
 ghost use Rattle.std.specs.List.{flat_map};
-ghost use Rattle.bfs_model.specs.Limits.{most_data_bytes};
-ghost use Rattle.bfs_model.specs.Replies.{entry_item, results, success};
+ghost use Rattle.bfs_model.specs.Server.Limits.{most_data_bytes};
+ghost use Rattle.bfs_model.specs.Bytes.Replies.{entry_item, results, success};
 ghost use Rattle.bfs_procs.specs.Borrowed.{contents_seen, found_or_refused, page_seen};
 ghost use Rattle.bfs_wire.specs.Replies.{reply_seen};
 
@@ -25,7 +25,7 @@ fn begin(alloc: Global, xid: u32, room: usize) -> Result<Vec<u8>, Memory>
 }
 
 /// Of a reply value.
-#[tactic(auto, unfolding(bfs_model::specs::Replies::success))]
+#[tactic(auto, unfolding(bfs_model::specs::Bytes::Replies::success))]
 pub(crate) fn success_of(alloc: Global, xid: u32, reply: &NfsReply) -> Result<Vec<u8>, Memory>
     ensures { IfOk result (λ bytes. bytes.items ≡ success xid (results (reply_seen reply.now))) }
 {
@@ -49,7 +49,7 @@ fn room_for(reply: &NfsReply) -> usize {
 }
 
 /// Of READ.
-#[tactic(auto, unfolding(bfs_model::specs::Replies::success))]
+#[tactic(auto, unfolding(bfs_model::specs::Bytes::Replies::success))]
 pub(crate) fn success_of_contents(
     alloc: Global,
     xid: u32,
@@ -69,7 +69,7 @@ pub(crate) fn success_of_contents(
 }
 
 /// Of READDIR, of a page of at most that many bytes.
-#[tactic(auto, unfolding(bfs_model::specs::Replies::success))]
+#[tactic(auto, unfolding(bfs_model::specs::Bytes::Replies::success))]
 pub(crate) fn success_of_page(
     alloc: Global,
     xid: u32,
@@ -88,7 +88,7 @@ pub(crate) fn success_of_page(
     }
 }
 
-#[tactic(auto, using(std::proofs::lemmas::List::append_assoc), unfolding(bfs_model::specs::Replies::results))]
+#[tactic(auto, using(std::proofs::lemmas::List::append_assoc), unfolding(bfs_model::specs::Bytes::Replies::results))]
 fn put_page(out: &mut Vec<u8>, mut page: Page) -> Result<(), Memory>
     ensures { OnOk result (out.new.items ≡ out.old.items ++ results (page_seen page.entry)) }
 {

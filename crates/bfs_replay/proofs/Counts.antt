@@ -7,7 +7,7 @@ use Rattle.std.specs.Str.Parse.{AllDigits, IsNumeral, ParsesUnsigned, digits_val
 use Rattle.std.proofs.lemmas.Bool.{eqb-false, le-leb, leb-true, lt-ltb, ltb-true, ne_eqb}
 use Rattle.clap.specs.Words.{ReadsOne, one_text, rows_of}
 use Rattle.clap.specs.declared.parser.matches.Found.{Found}
-use Rattle.bfs_model.specs.Call.{◌>>=◌}
+use Rattle.bfs_model.specs.Bytes.Call.{◌>>=◌}
 use Rattle.bfs_trace.specs.Words.{are_digits, digits_spelled, is_digit, number_spelled}
 use Rattle.bfs_workers.specs.Workers.{most_workers}
 use Rattle.bfs_replay.specs.CommandLine.{workers_among, workers_spelled}

@@ -3,7 +3,7 @@ use Rattle.std.specs.Prelude.{◌≡◌, ◌==◌, ⊤, ℕ, List, [], ◌∷◌
 use Rattle.std.specs.Str.Parse.{without_leading_plus}
 use Rattle.clap.specs.Words.{App, Row, Rule, Text, Kinds, fault_of, first_of, matches_of, new_app, new_rule, one_of, with_rule}
 use Rattle.clap.specs.declared.builder.value_parser.ValueParser.TheVariants as parser
-use Rattle.bfs_model.specs.Call.{◌>>=◌}
+use Rattle.bfs_model.specs.Bytes.Call.{◌>>=◌}
 use Rattle.bfs_parallel.specs.declared.engine.Engine.{Engine}
 use Rattle.bfs_parallel.specs.declared.engine.Engine.TheVariants as engine
 use Rattle.bfs_trace.specs.Words.{number_spelled}

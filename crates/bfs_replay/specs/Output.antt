@@ -2,8 +2,8 @@
 use Rattle.std.specs.Prelude.{ℕ, ◌++◌, List, [], ◌∷◌, codes, decimal, map}
 use Rattle.std.specs.List.{flat_map, fold, zip}
 use Rattle.hex.specs.Hex.{encode_lower}
-use Rattle.bfs_model.specs.Serial.{Batch, execute}
-use Rattle.bfs_model.specs.Tree.{FileSystem, new_file_system}
+use Rattle.bfs_model.specs.Server.Serial.{Batch, execute}
+use Rattle.bfs_model.specs.Server.Tree.{FileSystem, new_file_system}
 use Rattle.bfs_digest.specs.Digests.{digest_of}
 use Rattle.bfs_trace.specs.Events.{Block, Request}
 use Rattle.bfs_trace.specs.declared.events.TraceEvent.{TraceEvent}

@@ -1,7 +1,7 @@
 ghost use Rattle.std.specs.Prelude.{◌≡◌, ◌≢◌, Some, IsSome, OnOk, IfOk, IfErr};
 ghost use Rattle.std.specs.Option.{ForSome};
 ghost use Rattle.std.specs.Io.KnownBytes.{Appends};
-ghost use Rattle.bfs_model.specs.Serial.{execute};
+ghost use Rattle.bfs_model.specs.Server.Serial.{execute};
 ghost use Rattle.bfs_digest.specs.Digests.{digest_of};
 ghost use Rattle.bfs_replay.specs.Errors.{replay_error_code};
 ghost use Rattle.bfs_replay.specs.Output.{as_batch, block_output, digest_line, files_after, event_output, output_of};

@@ -3,12 +3,11 @@ use Rattle.std.proofs.Common.{◌≡◌, ℕ, ◌<◌, ◌≤◌, Bool, true, fa
 use Rattle.std.specs.List.{flat_map, slice_index}
 use Rattle.std.proofs.lemmas.Bool.{ltb-false, le-ltb}
 use Rattle.std.proofs.lemmas.List.Elements.{All-from_recursion, recursion_from_All}
-use Rattle.bfs_model.specs.Items.{word, hyper, boolean, counted, word_at}
-use Rattle.bfs_model.specs.Limits.{most_clients, most_reply_bytes}
-use Rattle.bfs_model.specs.Stored.{AreBytes}
-use Rattle.bfs_model.proofs.Exact.{IsExact, some_is, bytes_are, behind, go_on, went_on, word_exact, hyper_exact, boolean_exact, AreFew, bytes_exact, items_again, items_written}
-use Rattle.bfs_model.proofs.Laws.{word_written}
-use Rattle.bfs_model.specs.Formats.{bytes_from, items_from}
+use Rattle.bfs_model.specs.Bytes.Items.{word, hyper, boolean, counted, word_at}
+use Rattle.bfs_model.specs.Server.Limits.{most_clients, most_reply_bytes}
+use Rattle.bfs_model.specs.Server.Stored.{AreBytes}
+use Rattle.bfs_model.proofs.Public.{AreFew, IsExact, behind, boolean_exact, bytes_are, bytes_exact, go_on, hyper_exact, items_again, items_written, some_is, went_on, word_exact, word_written}
+use Rattle.bfs_model.specs.Bytes.Formats.{bytes_from, items_from}
 use Rattle.bfs_replies.specs.Tables.{Last, Table, LastIsKept, IsKept}
 use Rattle.bfs_replies.specs.Texts.{last_text, table_text}
 use Rattle.bfs_replies.specs.TextReading.{TablesAreReadAgain, TablesWereWritten, reply_from, last_from, table_from}

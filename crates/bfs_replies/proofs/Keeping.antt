@@ -3,8 +3,8 @@ use Rattle.std.proofs.Common.{ℕ, ◌<◌, ◌≤◌, ◌^◌, List, All, lengt
 use Rattle.std.specs.List.{slice_set}
 use Rattle.std.proofs.lemmas.List.{length-replicate, length-set}
 use Rattle.std.proofs.lemmas.List.Elements.{All-replicate, All-set}
-use Rattle.bfs_model.specs.Limits.{most_clients, most_reply_bytes}
-use Rattle.bfs_model.specs.Stored.{AreBytes}
+use Rattle.bfs_model.specs.Server.Limits.{most_clients, most_reply_bytes}
+use Rattle.bfs_model.specs.Server.Stored.{AreBytes}
 use Rattle.bfs_replies.specs.Tables.{Last, Table, LastIsKept, IsKept, recorded}
 
 pub none_kept : (count : ℕ) → count ≤ most_clients → IsKept (replicate count None)

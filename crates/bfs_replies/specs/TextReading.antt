@@ -1,10 +1,10 @@
 -- How the text of a table is read, strictly. It is proved that this reads just the texts that are written, so nothing here has to be
 -- believed.
 use Rattle.std.specs.Prelude.{◌≡◌, ℕ, List, ◌++◌, Option, Some, None, nat_lt, if◌then◌else◌}
-use Rattle.bfs_model.specs.Call.{◌>>=◌}
-use Rattle.bfs_model.specs.Formats.{Reading, word_from, hyper_from, boolean_from, bytes_from, items_from}
-use Rattle.bfs_model.specs.Limits.{most_clients, most_reply_bytes}
-use Rattle.bfs_model.specs.Stored.{AreBytes}
+use Rattle.bfs_model.specs.Bytes.Call.{◌>>=◌}
+use Rattle.bfs_model.specs.Bytes.Formats.{Reading, word_from, hyper_from, boolean_from, bytes_from, items_from}
+use Rattle.bfs_model.specs.Server.Limits.{most_clients, most_reply_bytes}
+use Rattle.bfs_model.specs.Server.Stored.{AreBytes}
 use Rattle.bfs_replies.specs.Tables.{Last, Table, IsKept}
 use Rattle.bfs_replies.specs.Texts.{table_text}
 

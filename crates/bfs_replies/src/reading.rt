@@ -1,7 +1,7 @@
 // The text of a table, read strictly.
 ghost use Rattle.std.specs.Prelude.{◌≡◌, ◌≤◌, ◌↔◌, Some, None, true, length, is_some, IfOk, IfSome, IsErrOf, IsSome};
-ghost use Rattle.bfs_model.specs.Formats.{bytes_from, items_from};
-ghost use Rattle.bfs_model.specs.Limits.{most_reply_bytes};
+ghost use Rattle.bfs_model.specs.Bytes.Formats.{bytes_from, items_from};
+ghost use Rattle.bfs_model.specs.Server.Limits.{most_reply_bytes};
 ghost use Rattle.bfs_replies.specs.Errors.{read_code_of};
 ghost use Rattle.bfs_replies.specs.Parsing.{Reads, last_seen};
 ghost use Rattle.bfs_replies.specs.TextReading.{last_from, table_from};

@@ -1,6 +1,6 @@
 ghost use Rattle.std.specs.Prelude.{◌≡◌, ◌≤◌, ◌<◌, ◌++◌, ◌↔◌, ◌≢◌, length, replicate, None, IfOk, IfSome, OnOk, OnErr, IsErrOf};
 ghost use Rattle.std.specs.Option.{option_map};
-ghost use Rattle.bfs_model.specs.Limits.{most_clients, most_reply_bytes};
+ghost use Rattle.bfs_model.specs.Server.Limits.{most_clients, most_reply_bytes};
 ghost use Rattle.bfs_replies.specs.Classes.{class_of};
 ghost use Rattle.bfs_replies.specs.Errors.{record_code_of};
 ghost use Rattle.bfs_replies.specs.Tables.{IsKept, last_of, recorded};

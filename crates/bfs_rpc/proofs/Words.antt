@@ -1,8 +1,8 @@
 -- The bytes after so many words: one word at a time.
 use Rattle.std.proofs.Common.{◌≡◌, ℕ, zero, suc, ◌<◌, List, Some, None, Ok, refl, arith}
 use Rattle.std.specs.Result.{result_ok}
-use Rattle.bfs_model.specs.Items.{word_at}
-use Rattle.bfs_model.specs.Call.{after_words}
+use Rattle.bfs_model.specs.Bytes.Items.{word_at}
+use Rattle.bfs_model.specs.Bytes.Call.{after_words}
 
 pub after_words_end : (n : ℕ) (bytes : List ℕ) → n ≡ 0 → after_words n bytes ≡ Some bytes
 unfolding after_words

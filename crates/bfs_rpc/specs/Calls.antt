@@ -1,6 +1,6 @@
 -- Calls and refusals of the code as those of the model, and the numbers of refusals.
 use Rattle.std.specs.Prelude.{ℕ}
-use Rattle.bfs_model.specs.Call as model
+use Rattle.bfs_model.specs.Bytes.Call as model
 use Rattle.bfs_types.specs.Procedures.{number_of}
 use Rattle.bfs_rpc.specs.declared.call.Call.{Call}
 use Rattle.bfs_rpc.specs.declared.call.Header.{Header}

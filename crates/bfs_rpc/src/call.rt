@@ -1,6 +1,6 @@
 ghost use Rattle.std.specs.Prelude.{◌≡◌};
 ghost use Rattle.std.specs.Option.{option_map};
-ghost use Rattle.bfs_model.specs.Call as model;
+ghost use Rattle.bfs_model.specs.Bytes.Call as model;
 ghost use Rattle.bfs_xdr.specs.Reading.{Gives};
 ghost use Rattle.bfs_rpc.specs.Calls.{header_seen, request_seen, refusal_seen};
 
@@ -48,7 +48,7 @@ const MAX_AUTH_BYTES: u32 = 400;
 
 /// The call that a message spells (RFC 5531 section 9), or the reason for which it is refused. If there are several reasons,
 /// it is the first in the order of `Reject`. The bytes of the padding may have any value.
-#[tactic(auto, unfolding(bfs_model::specs::Call::call_of))]
+#[tactic(auto, unfolding(bfs_model::specs::Bytes::Call::call_of))]
 pub fn parse_call(bytes: &[u8]) -> Result<Call<'_>, Reject>
     ensures { Gives request_seen refusal_seen result (model.call_of bytes.now) }
 {
@@ -73,7 +73,7 @@ pub fn parse_call(bytes: &[u8]) -> Result<Call<'_>, Reject>
     })
 }
 
-#[tactic(auto, unfolding(bfs_model::specs::Call::header_of))]
+#[tactic(auto, unfolding(bfs_model::specs::Bytes::Call::header_of))]
 fn header_at(bytes: &[u8]) -> Option<Header<'_>>
     ensures { option_map header_seen result ≡ model.header_of bytes.now }
 {
@@ -102,7 +102,7 @@ fn header_at(bytes: &[u8]) -> Option<Header<'_>>
 }
 
 // a flavor, a body, and the bytes after them
-#[tactic(auto, unfolding(bfs_model::specs::Call::opaque_auth_at))]
+#[tactic(auto, unfolding(bfs_model::specs::Bytes::Call::opaque_auth_at))]
 fn opaque_auth_at(bytes: &[u8]) -> Option<(u32, &[u8], &[u8])>
     ensures { option_map (λ x. (x.0, (x.1.now, x.2.now))) result ≡ model.opaque_auth_at bytes.now }
 {

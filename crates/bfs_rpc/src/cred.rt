@@ -1,6 +1,6 @@
 ghost use Rattle.std.specs.Prelude.{◌≡◌};
 ghost use Rattle.std.specs.Option.{option_map};
-ghost use Rattle.bfs_model.specs.Call as model;
+ghost use Rattle.bfs_model.specs.Bytes.Call as model;
 
 use bfs_types::Cred;
 use bfs_xdr::Reader;
@@ -18,7 +18,7 @@ const MAX_GIDS: u32 = 16;
 
 /// The caller that a credential of that flavor and body names (RFC 5531 sections 8.2 and 10.1, appendix A), or `None` where
 /// it is neither AUTH_NONE nor a well-formed AUTH_SYS.
-#[tactic(auto, unfolding(bfs_model::specs::Call::credential_of))]
+#[tactic(auto, unfolding(bfs_model::specs::Bytes::Call::credential_of))]
 pub(crate) fn cred_of(flavor: u32, body: &[u8]) -> Option<Cred>
     ensures { result ≡ model.credential_of flavor body.now }
 {
@@ -32,7 +32,7 @@ pub(crate) fn cred_of(flavor: u32, body: &[u8]) -> Option<Cred>
     }
 }
 
-#[tactic(auto, unfolding(bfs_model::specs::Call::system_credential_of))]
+#[tactic(auto, unfolding(bfs_model::specs::Bytes::Call::system_credential_of))]
 fn system_cred_of(body: &[u8]) -> Option<Cred>
     ensures { result ≡ model.system_credential_of body.now }
 {

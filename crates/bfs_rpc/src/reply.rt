@@ -1,6 +1,6 @@
 ghost use Rattle.std.specs.Prelude.{◌≡◌, [], ◌∷◌, ◌++◌, OnOk, OnErr, IfOk};
-ghost use Rattle.bfs_model.specs.Items.{words};
-ghost use Rattle.bfs_model.specs.Replies.{success, garbage, refusal};
+ghost use Rattle.bfs_model.specs.Bytes.Items.{words};
+ghost use Rattle.bfs_model.specs.Bytes.Replies.{success, garbage, refusal};
 ghost use Rattle.bfs_rpc.specs.Calls.{refusal_seen};
 
 use crate::reject::Reject;
@@ -46,7 +46,7 @@ fn put_accepted(out: &mut Vec<u8>, xid: u32, status: u32) -> Result<(), Memory>
 
 /// Appends the header of the reply to a call that was carried out; the results of the procedure are to follow. `Memory` if
 /// memory runs out; then nothing is appended.
-#[tactic(auto, unfolding(bfs_model::specs::Replies::success))]
+#[tactic(auto, unfolding(bfs_model::specs::Bytes::Replies::success))]
 pub fn put_success(out: &mut Vec<u8>, xid: u32) -> Result<(), Memory>
     ensures ok { OnOk result (out.new.items ≡ out.old.items ++ success xid []) }
     ensures err { OnErr result (out.new.items ≡ out.old.items) }
@@ -55,7 +55,7 @@ pub fn put_success(out: &mut Vec<u8>, xid: u32) -> Result<(), Memory>
 }
 
 /// The reply to a call that was carried out, where `body` is the bytes of the procedure's results. `Memory` if memory runs out.
-#[tactic(auto, unfolding(bfs_model::specs::Replies::success))]
+#[tactic(auto, unfolding(bfs_model::specs::Bytes::Replies::success))]
 pub fn write_success(alloc: Global, xid: u32, body: &[u8]) -> Result<Vec<u8>, Memory>
     ensures { IfOk result (λ reply. reply.items ≡ success xid body.now) }
 {
@@ -66,7 +66,7 @@ pub fn write_success(alloc: Global, xid: u32, body: &[u8]) -> Result<Vec<u8>, Me
 }
 
 /// The reply to a call whose arguments can't be read (RFC 5531 section 9, GARBAGE_ARGS). `Memory` if memory runs out.
-#[tactic(auto, unfolding(bfs_model::specs::Replies::garbage))]
+#[tactic(auto, unfolding(bfs_model::specs::Bytes::Replies::garbage))]
 pub fn write_garbage(alloc: Global, xid: u32) -> Result<Vec<u8>, Memory>
     ensures { IfOk result (λ reply. reply.items ≡ garbage xid) }
 {
@@ -77,7 +77,7 @@ pub fn write_garbage(alloc: Global, xid: u32) -> Result<Vec<u8>, Memory>
 
 /// The reply to a message that is refused. It has no bytes for `Reject::Silent`, to which no reply is sent. `Memory` if memory
 /// runs out.
-#[tactic(auto, unfolding(bfs_model::specs::Replies::refusal))]
+#[tactic(auto, unfolding(bfs_model::specs::Bytes::Replies::refusal))]
 pub fn write_reject(alloc: Global, reject: &Reject) -> Result<Vec<u8>, Memory>
     ensures { IfOk result (λ reply. reply.items ≡ refusal (refusal_seen reject.now)) }
 {

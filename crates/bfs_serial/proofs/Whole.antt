@@ -1,7 +1,7 @@
 -- A store that is whole answers for all that any call reads, and may change all that it writes.
 use Rattle.std.proofs.Common.{◌≡◌, ℕ, Bool, true, IsTrue, List, [], ◌∷◌}
 use Rattle.std.specs.List.{AllByRecursion}
-use Rattle.bfs_model.specs.Footprints.{Footprint, known, whole}
+use Rattle.bfs_model.specs.Server.Footprints.{Footprint, known, whole}
 use Rattle.bfs_tree.specs.Reach.{Reach, Knows}
 
 all_of : (p : ℕ → Bool) (xs : List ℕ) → ((q : ℕ) → p q ≡ true) → AllByRecursion (λ q. IsTrue (p q)) xs

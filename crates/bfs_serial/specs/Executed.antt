@@ -1,7 +1,7 @@
 -- What an executor does to a file system that may have failed.
 use Rattle.std.specs.Prelude.{◌≡◌, ℕ, List, Option, Some, None}
-use Rattle.bfs_model.specs.Tree.{FileSystem}
-use Rattle.bfs_model.specs.Serial.{Batch, execute}
+use Rattle.bfs_model.specs.Server.Tree.{FileSystem}
+use Rattle.bfs_model.specs.Server.Serial.{Batch, execute}
 
 -- a live file system went over to the one after the batch, and these are the batch's replies
 abbrev pub Executed : Option FileSystem → Batch → Option FileSystem → List (List ℕ) → Type 0

@@ -1,6 +1,6 @@
 -- The parts of a file system.
 use Rattle.std.specs.Prelude.{ℕ}
-use Rattle.bfs_model.specs.Tree.{Time, FileSystem}
+use Rattle.bfs_model.specs.Server.Tree.{Time, FileSystem}
 use Rattle.bfs_tree.specs.Slots.{Slots}
 use Rattle.bfs_tree.specs.Tree.{at_home}
 

@@ -1,8 +1,8 @@
 ghost use Rattle.std.specs.List.{All};
 ghost use Rattle.std.specs.Prelude.{◌≡◌, ◌+◌, ◌<◌, ◌≤◌, ◌↔◌, [], ◌∷◌, ◌++◌, length, slice_get, Some, IsTrue, OnOk, OnErr, IsErrOf};
-ghost use Rattle.bfs_model.specs.Limits.{most_request_bytes, most_requests};
-ghost use Rattle.bfs_model.specs.Stored.{AreBytes};
-ghost use Rattle.bfs_model.specs.Tree.{epoch};
+ghost use Rattle.bfs_model.specs.Server.Limits.{most_request_bytes, most_requests};
+ghost use Rattle.bfs_model.specs.Server.Stored.{AreBytes};
+ghost use Rattle.bfs_model.specs.Server.Tree.{epoch};
 ghost use Rattle.bfs_serial.specs.Errors.{push_code_of};
 
 use bfs_types::{MOST_REQUEST_BYTES, MOST_REQUESTS, Time};
@@ -45,7 +45,7 @@ pub struct Request {
 
 impl Model for Request {
     ghost use Rattle.std.specs.Prelude.{ℕ, List, ◌≤◌, length};
-    ghost use Rattle.bfs_model.specs.Limits.{most_request_bytes};
+    ghost use Rattle.bfs_model.specs.Server.Limits.{most_request_bytes};
 
     ghost Value = { List ℕ };
 
@@ -75,9 +75,9 @@ pub struct Batch {
 impl Model for Batch {
     ghost use Rattle.std.specs.List.{All};
     ghost use Rattle.std.specs.Prelude.{◌≤◌, length};
-    ghost use Rattle.bfs_model.specs.Limits.{most_requests};
-    ghost use Rattle.bfs_model.specs.Serial as model;
-    ghost use Rattle.bfs_model.specs.Stored.{AreBytes};
+    ghost use Rattle.bfs_model.specs.Server.Limits.{most_requests};
+    ghost use Rattle.bfs_model.specs.Server.Serial as model;
+    ghost use Rattle.bfs_model.specs.Server.Stored.{AreBytes};
 
     ghost Value = { model.Batch };
 

@@ -1,8 +1,8 @@
 ghost use Rattle.std.specs.Prelude.{◌≡◌, ◌≤◌, ◌↔◌, length, IsTrue, IfOk, IsErrOf, Some, None};
-ghost use Rattle.bfs_model.specs.Serial as model;
-ghost use Rattle.bfs_model.specs.Limits.{most_reply_bytes};
-ghost use Rattle.bfs_model.specs.Serial.{execute, inodes_after, ordinal_after, replies_to};
-ghost use Rattle.bfs_model.specs.WellFormed.{IsWellFormed};
+ghost use Rattle.bfs_model.specs.Server.Serial as model;
+ghost use Rattle.bfs_model.specs.Server.Limits.{most_reply_bytes};
+ghost use Rattle.bfs_model.specs.Server.Serial.{execute, inodes_after, ordinal_after, replies_to};
+ghost use Rattle.bfs_model.specs.Server.WellFormed.{IsWellFormed};
 ghost use Rattle.bfs_serial.specs.Errors.{exec_code_of};
 ghost use Rattle.bfs_serial.specs.Executed.{Executed};
 
@@ -39,7 +39,7 @@ impl ExecError {
 }
 
 /// Executes the batch's requests one after another, at the batch's effective time, and gives their replies.
-#[tactic(auto, unfolding(bfs_model::specs::Serial::execute))]
+#[tactic(auto, unfolding(bfs_model::specs::Server::Serial::execute))]
 pub fn execute_serial(
     alloc: Global,
     files: &mut FileSystem,
@@ -95,7 +95,7 @@ fn answer_each<S: Store>(
 /// `MOST_REPLY_BYTES`, none if it can't be answered. It is for executors. `ordinal` is that of the request, and `time` the effective
 /// time of its batch; with these the inodes are well formed, and then with the next ordinal. `Memory` if memory runs out; what the
 /// inodes are then is unspecified.
-#[tactic(auto, using(crate::proofs::Whole::knows_all_touched, bfs_model::proofs::Kept::next_is_fresh))]
+#[tactic(auto, using(crate::proofs::Whole::knows_all_touched, bfs_model::proofs::Public::next_is_fresh))]
 pub fn answer_next<S: Store>(
     alloc: Global,
     store: &mut S,

@@ -1,7 +1,7 @@
 ghost use Rattle.std.specs.Prelude.{◌≡◌, ◌↔◌, IsTrue, IfOk, IfSome, Some, None, is_some};
 ghost use Rattle.std.specs.Option.{ForSome, option_map};
-ghost use Rattle.bfs_model.specs.Stored.{IsLive};
-ghost use Rattle.bfs_model.specs.Tree.{new_file_system};
+ghost use Rattle.bfs_model.specs.Server.Stored.{IsLive};
+ghost use Rattle.bfs_model.specs.Server.Tree.{new_file_system};
 ghost use Rattle.bfs_serial.specs.Held.{held};
 ghost use Rattle.bfs_tree.specs.Tree.{at_home, reach_of};
 
@@ -20,7 +20,7 @@ pub(crate) struct Live {
 }
 
 impl Model for Live {
-    ghost use Rattle.bfs_model.specs.Tree as model;
+    ghost use Rattle.bfs_model.specs.Server.Tree as model;
     ghost use Rattle.std.specs.Coded.{codes};
     ghost use Rattle.bfs_serial.specs.Codes.{inodes_code};
 
@@ -29,7 +29,7 @@ impl Model for Live {
     ghost coded = { Prim.hlevel (codes, inodes_code) };
 
     ghost use Rattle.std.specs.Prelude.{IsTrue};
-    ghost use Rattle.bfs_model.specs.Stored.{IsLive};
+    ghost use Rattle.bfs_model.specs.Server.Stored.{IsLive};
     ghost use Rattle.bfs_serial.specs.Held.{held};
     ghost use Rattle.bfs_tree.specs.Tree.{reach_of};
 
@@ -46,7 +46,7 @@ pub struct FileSystem {
 
 impl Model for FileSystem {
     ghost use Rattle.std.specs.Prelude.{Option};
-    ghost use Rattle.bfs_model.specs.Tree as model;
+    ghost use Rattle.bfs_model.specs.Server.Tree as model;
     ghost use Rattle.std.specs.Coded.{codes};
     ghost use Rattle.bfs_serial.specs.Codes.{inodes_code};
 

@@ -1,4 +1,4 @@
-ghost use Rattle.bfs_model.specs.Limits.{most_reply_bytes};
+ghost use Rattle.bfs_model.specs.Server.Limits.{most_reply_bytes};
 ghost use Rattle.std.specs.Prelude.{◌≡◌, ◌<◌, ◌≤◌, ◌↔◌, [], ◌∷◌, ◌++◌, length, replicate, slice_get, slice_set, Some, IsTrue, OnOk, OnErr};
 
 use bfs_types::Memory;
@@ -12,7 +12,7 @@ struct Reply {
 
 impl Model for Reply {
     ghost use Rattle.std.specs.Prelude.{ℕ, List, ◌≤◌, length};
-    ghost use Rattle.bfs_model.specs.Limits.{most_reply_bytes};
+    ghost use Rattle.bfs_model.specs.Server.Limits.{most_reply_bytes};
 
     ghost Value = { List ℕ };
 

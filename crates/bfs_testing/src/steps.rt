@@ -1,7 +1,7 @@
 //! Calls one behind another, each with the results that it is to get.
 ghost use Rattle.std.specs.Prelude.{◌∷◌, [], ◌++◌, ◌≡◌, IfOk};
 ghost use Rattle.std.specs.List.{flat_map};
-ghost use Rattle.bfs_model.specs.Items.{words};
+ghost use Rattle.bfs_model.specs.Bytes.Items.{words};
 
 use crate::words::{call, put_parts};
 use bfs_types::Memory;

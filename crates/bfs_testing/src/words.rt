@@ -1,7 +1,7 @@
 //! Requests and replies as the words that they are spelled in.
 ghost use Rattle.std.specs.Prelude.{◌≡◌, ◌+◌, ◌%◌, ◌∷◌, [], ◌++◌, IfOk, OnOk};
 ghost use Rattle.std.specs.List.{flat_map};
-ghost use Rattle.bfs_model.specs.Items.{words};
+ghost use Rattle.bfs_model.specs.Bytes.Items.{words};
 ghost use Rattle.hex.specs.Hex.{encode_lower};
 ghost use Rattle.bfs_testing.specs.Letters.{number_of};
 

@@ -4,7 +4,7 @@ use Rattle.std.specs.Option.{option_map}
 use Rattle.std.specs.Result.{result_ok}
 use Rattle.hex.specs.Hex.{decode_of}
 use Rattle.hex.specs.declared.error.FromHexError.{FromHexError}
-use Rattle.bfs_model.specs.Items.{counted, fixed, padding_of, word}
+use Rattle.bfs_model.specs.Bytes.Items.{counted, fixed, padding_of, word}
 use Rattle.bfs_trace.proofs.Digits.{half}
 
 -- behind a length, and in front of their padding

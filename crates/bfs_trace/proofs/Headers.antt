@@ -1,6 +1,6 @@
 -- How long a credential is.
 use Rattle.std.proofs.Common.{◌≡◌, ◌<◌, ◌^◌, ℕ, length, refl, arith}
-use Rattle.bfs_model.specs.Items.{counted, fixed, word}
+use Rattle.bfs_model.specs.Bytes.Items.{counted, fixed, word}
 use Rattle.bfs_trace.specs.Messages.{credential_body}
 
 pub credential_length : (client : ℕ) → length (credential_body client) ≡ 28

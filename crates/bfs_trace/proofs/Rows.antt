@@ -3,8 +3,8 @@ use Rattle.std.proofs.Common.{◌≡◌, ◌++◌, ℕ, List, [], ◌∷◌, Ok,
 use Rattle.std.specs.Prelude.{⊤, replicate, is_ok}
 use Rattle.std.specs.List.{flat_map}
 use Rattle.hex.proofs.OnLiterals.{hex_on_literals}
-use Rattle.bfs_model.specs.Arguments.{handle}
-use Rattle.bfs_model.specs.Items.{counted, fixed, word}
+use Rattle.bfs_model.specs.Bytes.Arguments.{handle}
+use Rattle.bfs_model.specs.Bytes.Items.{counted, fixed, word}
 use Rattle.bfs_trace.specs.Events.{Request}
 use Rattle.bfs_trace.specs.Lines.{call_spelled, line_spelled}
 use Rattle.bfs_trace.specs.Operands.{file_spelled, mode_in, number_setting_in, set_time_spelled, settings_in, time_setting_in, time_spelled}

@@ -1,10 +1,9 @@
 -- The arguments of a call are read by the server.
 use Rattle.std.proofs.Common.{◌≡◌, ℕ, ◌^◌, ◌<◌, ◌≤◌, false, List, [], ◌∷◌, ◌++◌, length, replicate, Option, Some, None, Ok, refl, sym, ap, subst, ◌∙◌, append_assoc, append-nil, arith}
-use Rattle.bfs_model.specs.Arguments.{Call, Settings, arguments_of, fields_at, file_at, handle, handle_at, handle_id, link_at, named_at, named_with_settings_at, read_at, read_directory_at, rename_at, set_attributes_at, settings_at, symbolic_link_at, write_at, null, get_attributes, set_attributes, root, look_up, read_link, read, write_cache, write, create, remove, rename, make_link, make_symbolic_link, make_directory, remove_directory, read_directory, file_system_status}
-use Rattle.bfs_model.specs.Items.{counted, fixed, fixed_at, padding_of, word, words}
-use Rattle.bfs_model.specs.Limits.{most_data_bytes, most_name_bytes, most_path_bytes}
-use Rattle.bfs_model.proofs.Handles.{handle_leads, length_of_handle}
-use Rattle.bfs_model.proofs.Laws.{fixed_again, opaque_again, word_again}
+use Rattle.bfs_model.specs.Bytes.Arguments.{Call, Settings, arguments_of, fields_at, file_at, handle, handle_at, handle_id, link_at, named_at, named_with_settings_at, read_at, read_directory_at, rename_at, set_attributes_at, settings_at, symbolic_link_at, write_at, null, get_attributes, set_attributes, root, look_up, read_link, read, write_cache, write, create, remove, rename, make_link, make_symbolic_link, make_directory, remove_directory, read_directory, file_system_status}
+use Rattle.bfs_model.specs.Bytes.Items.{counted, fixed, fixed_at, padding_of, word, words}
+use Rattle.bfs_model.specs.Server.Limits.{most_data_bytes, most_name_bytes, most_path_bytes}
+use Rattle.bfs_model.proofs.Public.{fixed_again, handle_leads, length_of_handle, opaque_again, word_again}
 use Rattle.bfs_trace.specs.Messages.{arguments, handle_item, seconds_word, setting_word, settings_item, useconds_word}
 use Rattle.bfs_trace.specs.SentCalls.{AreSettings, ArgumentsAreRead, IsFile, IsName, settings_read}
 

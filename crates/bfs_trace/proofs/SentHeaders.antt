@@ -1,10 +1,10 @@
 -- The header of a call is read by the server.
 use Rattle.std.proofs.Common.{◌≡◌, ℕ, ◌+◌, ◌%◌, ◌<◌, ◌≤◌, false, List, [], ◌++◌, Some, Ok, codes, refl, append_assoc, append-nil, arith}
 use Rattle.std.proofs.lemmas.Bool.{le-leb}
-use Rattle.bfs_model.specs.Call.{after_words, call_of, credential_of, header_of, opaque_auth_at, system_credential_of}
-use Rattle.bfs_model.specs.Limits.{most_clients}
-use Rattle.bfs_model.specs.Items.{counted, fixed, opaque_at, word}
-use Rattle.bfs_model.proofs.Laws.{opaque_again, word_again}
+use Rattle.bfs_model.specs.Bytes.Call.{after_words, call_of, credential_of, header_of, opaque_auth_at, system_credential_of}
+use Rattle.bfs_model.specs.Server.Limits.{most_clients}
+use Rattle.bfs_model.specs.Bytes.Items.{counted, fixed, opaque_at, word}
+use Rattle.bfs_model.proofs.Public.{opaque_again, word_again}
 use Rattle.bfs_trace.specs.Messages.{call_header, credential_body}
 use Rattle.bfs_trace.specs.SentCalls.{HeadersAreRead}
 use Rattle.bfs_trace.proofs.Headers.{credential_length}

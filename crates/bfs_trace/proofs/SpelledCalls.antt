@@ -4,10 +4,10 @@ use Rattle.std.specs.Prelude.{◌==◌, bytes_eq}
 use Rattle.std.specs.Option.{option_map}
 use Rattle.std.specs.Str.Parse.{digits_value}
 use Rattle.std.proofs.lemmas.Bool.{eqb-true, leb-true}
-use Rattle.bfs_model.specs.Arguments.{Call, Settings, arguments_of, null, get_attributes, set_attributes, root, look_up, read_link, read, write_cache, write, create, remove, rename, make_link, make_symbolic_link, make_directory, remove_directory, read_directory, file_system_status}
-use Rattle.bfs_model.specs.Call.{◌>>=◌}
-use Rattle.bfs_model.specs.Stored.{IsWord}
-use Rattle.bfs_model.specs.Tree.{Time}
+use Rattle.bfs_model.specs.Bytes.Arguments.{Call, Settings, arguments_of, null, get_attributes, set_attributes, root, look_up, read_link, read, write_cache, write, create, remove, rename, make_link, make_symbolic_link, make_directory, remove_directory, read_directory, file_system_status}
+use Rattle.bfs_model.specs.Bytes.Call.{◌>>=◌}
+use Rattle.bfs_model.specs.Server.Stored.{IsWord}
+use Rattle.bfs_model.specs.Server.Tree.{Time}
 use Rattle.bfs_trace.specs.Messages.{arguments, seconds_word, setting_word, useconds_word}
 use Rattle.bfs_trace.specs.Operands.{data_in, file_in, file_spelled, mode_in, most_number, number_in, number_setting_in, set_time_spelled, setting_spelled, settings_in, text_in, time_in_parts, time_of_call, time_setting_in, time_spelled}
 use Rattle.bfs_trace.specs.SentCalls.{AreSettings, FitsItems, KeepsLimits, SpelledCallsAreRead, call_read, procedure_of}

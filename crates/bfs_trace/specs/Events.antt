@@ -1,6 +1,6 @@
 -- What the events of a trace hold.
 use Rattle.std.specs.Prelude.{ℕ, List}
-use Rattle.bfs_model.specs.Tree.{Time}
+use Rattle.bfs_model.specs.Server.Tree.{Time}
 
 -- the client that sends a request, the client's timestamp, and the bytes of the call
 pub record Request : Type 0 where

@@ -2,8 +2,8 @@
 use Rattle.std.specs.Prelude.{ℕ, ◌-◌, ◌*◌, ◌==◌, ◌||◌, List, [], ◌∷◌, length, Option, Some, None, nat_lt, bytes_eq, codes, if◌then◌else◌}
 use Rattle.std.specs.Result.{result_ok}
 use Rattle.hex.specs.Hex.{decode_of}
-use Rattle.bfs_model.specs.Call.{◌>>=◌}
-use Rattle.bfs_model.specs.Limits.{most_request_bytes}
+use Rattle.bfs_model.specs.Bytes.Call.{◌>>=◌}
+use Rattle.bfs_model.specs.Server.Limits.{most_request_bytes}
 use Rattle.bfs_trace.specs.Messages.{message}
 use Rattle.bfs_trace.specs.Operands.{time_spelled}
 use Rattle.bfs_trace.specs.Population.{Population}

@@ -1,8 +1,8 @@
 -- The bytes of a call: the message of RFC 5531 section 9, and in it the arguments of RFC 1094 section 2.2.
 use Rattle.std.specs.Prelude.{ℕ, ◌+◌, ◌%◌, List, [], ◌∷◌, ◌++◌, Option, Some, None, codes, replicate}
-use Rattle.bfs_model.specs.Arguments.{Call, Settings, all_ones, handle, null, get_attributes, set_attributes, root, look_up, read_link, read, write_cache, write, create, remove, rename, make_link, make_symbolic_link, make_directory, remove_directory, read_directory, file_system_status}
-use Rattle.bfs_model.specs.Items.{counted, word, words}
-use Rattle.bfs_model.specs.Tree.{Time}
+use Rattle.bfs_model.specs.Bytes.Arguments.{Call, Settings, all_ones, handle, null, get_attributes, set_attributes, root, look_up, read_link, read, write_cache, write, create, remove, rename, make_link, make_symbolic_link, make_directory, remove_directory, read_directory, file_system_status}
+use Rattle.bfs_model.specs.Bytes.Items.{counted, word, words}
+use Rattle.bfs_model.specs.Server.Tree.{Time}
 
 -- Arguments ----------------------------------------------------------------------------------------------------------
 

@@ -1,8 +1,8 @@
 -- The words behind a verb: handles, numbers, texts and settings, each with the words behind it.
 use Rattle.std.specs.Prelude.{ℕ, ◌==◌, List, [], ◌∷◌, length, Option, Some, None, option_map, bytes_eq, codes, if◌then◌else◌}
-use Rattle.bfs_model.specs.Arguments.{Settings}
-use Rattle.bfs_model.specs.Call.{◌>>=◌}
-use Rattle.bfs_model.specs.Tree.{Time}
+use Rattle.bfs_model.specs.Bytes.Arguments.{Settings}
+use Rattle.bfs_model.specs.Bytes.Call.{◌>>=◌}
+use Rattle.bfs_model.specs.Server.Tree.{Time}
 use Rattle.bfs_trace.specs.Texts.{data_spelled, text_spelled}
 use Rattle.bfs_trace.specs.Words.{digits_spelled, number_spelled, only_word, parts, word_in}
 

@@ -1,6 +1,6 @@
 -- Whom the lines of a trace may name.
 use Rattle.std.specs.Prelude.{ℕ, ◌≤◌}
-use Rattle.bfs_model.specs.Limits.{most_clients, most_replicas}
+use Rattle.bfs_model.specs.Server.Limits.{most_clients, most_replicas}
 
 -- how many clients and replicas there are, which are numbered from 0
 pub record Population : Type 0 where

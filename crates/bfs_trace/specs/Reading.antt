@@ -1,6 +1,6 @@
 -- How the answer of a reader stands to what the grammar reads.
 use Rattle.std.specs.Prelude.{ℕ, ◌≡◌, ⊤, List, ◌++◌, Option, Some, None, Result, Ok, Err, option_map}
-use Rattle.bfs_model.specs.Arguments.{Call}
+use Rattle.bfs_model.specs.Bytes.Arguments.{Call}
 use Rattle.bfs_trace.specs.declared.events.TraceEvent.{TraceEvent}
 use Rattle.bfs_trace.specs.declared.fault.Fault.{Fault}
 use Rattle.bfs_trace.specs.declared.fault.Fault.TheVariants as fault

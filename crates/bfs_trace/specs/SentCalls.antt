@@ -1,10 +1,10 @@
 -- What the server reads of the calls that verbs spell.
 use Rattle.std.specs.Prelude.{◌≡◌, ℕ, ◌+◌, ◌%◌, ◌<◌, ◌≤◌, List, length, ◌++◌, Option, Some, Ok, IfSome}
-use Rattle.bfs_model.specs.Arguments.{Call, Settings, arguments_of, time_set, word_set, null, get_attributes, set_attributes, root, look_up, read_link, read, write_cache, write, create, remove, rename, make_link, make_symbolic_link, make_directory, remove_directory, read_directory, file_system_status}
-use Rattle.bfs_model.specs.Call.{call_of}
-use Rattle.bfs_model.specs.Limits.{most_clients, most_data_bytes, most_name_bytes, most_path_bytes}
-use Rattle.bfs_model.specs.Stored.{IsWord}
-use Rattle.bfs_model.specs.Tree.{Time}
+use Rattle.bfs_model.specs.Bytes.Arguments.{Call, Settings, arguments_of, time_set, word_set, null, get_attributes, set_attributes, root, look_up, read_link, read, write_cache, write, create, remove, rename, make_link, make_symbolic_link, make_directory, remove_directory, read_directory, file_system_status}
+use Rattle.bfs_model.specs.Bytes.Call.{call_of}
+use Rattle.bfs_model.specs.Server.Limits.{most_clients, most_data_bytes, most_name_bytes, most_path_bytes}
+use Rattle.bfs_model.specs.Server.Stored.{IsWord}
+use Rattle.bfs_model.specs.Server.Tree.{Time}
 use Rattle.bfs_trace.specs.Messages.{arguments, call_header, seconds_word, setting_word, useconds_word}
 use Rattle.bfs_trace.specs.Verbs.{call_in_words}
 

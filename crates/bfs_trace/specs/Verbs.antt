@@ -1,7 +1,7 @@
 -- The verbs of a request: the procedure that each names, and the call that the words behind it spell.
 use Rattle.std.specs.Prelude.{ℕ, ◌==◌, List, Option, Some, None, bytes_eq, codes, if◌then◌else◌}
-use Rattle.bfs_model.specs.Arguments.{Call, Settings, null, get_attributes, set_attributes, root, look_up, read_link, read, write_cache, write, create, remove, rename, make_link, make_symbolic_link, make_directory, remove_directory, read_directory, file_system_status}
-use Rattle.bfs_model.specs.Call.{◌>>=◌}
+use Rattle.bfs_model.specs.Bytes.Arguments.{Call, Settings, null, get_attributes, set_attributes, root, look_up, read_link, read, write_cache, write, create, remove, rename, make_link, make_symbolic_link, make_directory, remove_directory, read_directory, file_system_status}
+use Rattle.bfs_model.specs.Bytes.Call.{◌>>=◌}
 use Rattle.bfs_trace.specs.Operands.{data_in, file_in, number_in, settings_in, text_in}
 use Rattle.bfs_trace.specs.Words.{unless_more}
 

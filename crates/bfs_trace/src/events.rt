@@ -1,5 +1,5 @@
 ghost use Rattle.std.specs.Prelude.{◌≡◌, ◌≤◌, [], length};
-ghost use Rattle.bfs_model.specs.Limits.{most_request_bytes, most_requests};
+ghost use Rattle.bfs_model.specs.Server.Limits.{most_request_bytes, most_requests};
 ghost use Rattle.bfs_trace.specs.Reading.{Parses};
 ghost use Rattle.bfs_trace.specs.Trace.{block_with, event_with};
 
@@ -18,7 +18,7 @@ pub struct Request {
 
 impl Model for Request {
     ghost use Rattle.std.specs.Prelude.{◌≤◌, length};
-    ghost use Rattle.bfs_model.specs.Limits.{most_request_bytes};
+    ghost use Rattle.bfs_model.specs.Server.Limits.{most_request_bytes};
     ghost use Rattle.bfs_trace.specs.Events as model;
 
     ghost Value = { model.Request };
@@ -73,7 +73,7 @@ pub struct Block {
 
 impl Model for Block {
     ghost use Rattle.std.specs.Prelude.{◌≤◌, length};
-    ghost use Rattle.bfs_model.specs.Limits.{most_requests};
+    ghost use Rattle.bfs_model.specs.Server.Limits.{most_requests};
     ghost use Rattle.bfs_trace.specs.Events as model;
 
     ghost Value = { model.Block };

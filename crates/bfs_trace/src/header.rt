@@ -1,5 +1,5 @@
 ghost use Rattle.std.specs.Prelude.{◌≡◌, ◌<◌, ◌≤◌, ◌++◌, length, IfOk, OnOk};
-ghost use Rattle.bfs_model.specs.Limits.{most_clients};
+ghost use Rattle.bfs_model.specs.Server.Limits.{most_clients};
 ghost use Rattle.bfs_types.specs.Procedures.{number_of};
 ghost use Rattle.bfs_trace.specs.Messages.{call_header, credential_body};
 

@@ -1,7 +1,7 @@
 // The parts of a call's arguments, as they are written.
 ghost use Rattle.std.specs.Prelude.{◌≡◌, ◌<◌, ◌^◌, ◌++◌, length, OnOk};
-ghost use Rattle.bfs_model.specs.Arguments.{handle};
-ghost use Rattle.bfs_model.specs.Items.{counted};
+ghost use Rattle.bfs_model.specs.Bytes.Arguments.{handle};
+ghost use Rattle.bfs_model.specs.Bytes.Items.{counted};
 ghost use Rattle.bfs_trace.specs.Messages.{seconds_word, setting_word, settings_item, useconds_word};
 
 use bfs_types::{FileId, Memory, SetTime, Settings};

@@ -1,6 +1,6 @@
 ghost use Rattle.std.specs.Prelude.{◌≡◌, ◌≤◌};
 ghost use Rattle.std.specs.Option.{SomeIff};
-ghost use Rattle.bfs_model.specs.Limits.{most_clients, most_replicas};
+ghost use Rattle.bfs_model.specs.Server.Limits.{most_clients, most_replicas};
 ghost use Rattle.bfs_trace.specs.Population.{IsPopulation};
 
 use bfs_types::{MOST_CLIENTS, MOST_REPLICAS};

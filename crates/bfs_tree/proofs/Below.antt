@@ -1,8 +1,8 @@
 -- The ways that a step of the walk up the tree goes.
 use Rattle.std.proofs.Common.{◌≡◌, ℕ, zero, suc, ◌+◌, ◌==◌, true, false, Some, None, refl, ap, add-one}
 use Rattle.std.specs.Option.{option_map_or}
-use Rattle.bfs_model.specs.Tree.{Inodes, parent_of}
-use Rattle.bfs_model.specs.Procedures.Renaming.{is_within}
+use Rattle.bfs_model.specs.Server.Tree.{Inodes, parent_of}
+use Rattle.bfs_model.specs.Server.Procedures.Renaming.{is_within}
 
 pub met : (m : Inodes) (steps id other : ℕ) → (id == other) ≡ true → is_within m steps id other ≡ true
 unfolding is_within

@@ -7,8 +7,8 @@ use Rattle.std.specs.List.{AllByRecursion}
 use Rattle.std.specs.List.Sorted.{IsStrictlySortedBy}
 use Rattle.std.specs.Map.{keys_of}
 use Rattle.std.specs.Cmp.{ranked}
-use Rattle.bfs_model.specs.Tree.{Inode}
-use Rattle.bfs_model.specs.Attributes.{blocks_of, size_of}
+use Rattle.bfs_model.specs.Server.Tree.{Inode}
+use Rattle.bfs_model.specs.Bytes.Attributes.{blocks_of, size_of}
 
 -- each inode counts fewer blocks than a word can tell
 abbrev most : ℕ

@@ -8,8 +8,8 @@ use Rattle.std.specs.FinMap.{FinMap, contains_key, get, insert, remove, len, get
 use Rattle.std.proofs.lemmas.Cmp.{nat_cmp_total}
 use Rattle.std.proofs.lemmas.Option.{none-some}
 use Rattle.std.proofs.lemmas.Map.Views.{tells_apart}
-use Rattle.bfs_model.proofs.WellFormed.Sums.{itself}
-use Rattle.bfs_model.specs.Tree.{Inode}
+use Rattle.bfs_model.proofs.Public.{itself}
+use Rattle.bfs_model.specs.Server.Tree.{Inode}
 use Rattle.bfs_tree.specs.declared.slots.Slot.{Slot}
 use Rattle.bfs_tree.specs.declared.slots.Slot.TheVariants.{Home, Free, Lent}
 use Rattle.bfs_tree.specs.declared.counts.Counts.{Counts}

@@ -3,7 +3,7 @@ use Rattle.std.specs.Prelude.{◌≡◌, ℕ, Option}
 use Rattle.std.specs.Option.{ForSome, ForNone}
 use Rattle.std.specs.Borrow.{Fml, RattleType, MutBor, LendsSo}
 use Rattle.std.specs.FinMap.{insert}
-use Rattle.bfs_model.specs.Tree.{Inode, Inodes}
+use Rattle.bfs_model.specs.Server.Tree.{Inode, Inodes}
 use Rattle.bfs_tree.specs.Reach.{Reach}
 use Rattle.bfs_inode.specs.contracts.inodes.Inode.{the_row}
 

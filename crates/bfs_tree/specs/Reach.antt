@@ -1,8 +1,8 @@
 -- Which fileids a store knows, and which it may change.
 use Rattle.std.specs.Prelude.{ℕ, Bool, List, IsTrue}
 use Rattle.std.specs.List.{AllByRecursion}
-use Rattle.bfs_model.specs.Tree.{Inodes}
-use Rattle.bfs_model.specs.Footprints as model
+use Rattle.bfs_model.specs.Server.Tree.{Inodes}
+use Rattle.bfs_model.specs.Server.Footprints as model
 
 pub record Reach : Type 0 where
   -- those that it answers for

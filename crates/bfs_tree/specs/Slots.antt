@@ -2,7 +2,7 @@
 use Rattle.std.specs.Prelude.{⊤, Option, Some, None}
 use Rattle.std.specs.Ordering.{nat_cmp}
 use Rattle.std.specs.FinMap.{FinMap}
-use Rattle.bfs_model.specs.Tree.{Inode}
+use Rattle.bfs_model.specs.Server.Tree.{Inode}
 use Rattle.bfs_tree.specs.declared.slots.Slot.{Slot}
 use Rattle.bfs_tree.specs.declared.slots.Slot.TheVariants.{Home, Free, Lent}
 

@@ -2,7 +2,7 @@
 use Rattle.std.specs.Prelude.{ℕ, not, ◌==◌, ⊤, [], Option, Some, None, is_some}
 use Rattle.std.specs.Ordering.{nat_cmp}
 use Rattle.std.specs.FinMap.{FinMap, get, len, insert, remove, empty}
-use Rattle.bfs_model.specs.Tree.{Inode, Inodes}
+use Rattle.bfs_model.specs.Server.Tree.{Inode, Inodes}
 use Rattle.bfs_tree.specs.declared.slots.Slot.{Slot}
 use Rattle.bfs_tree.specs.declared.slots.Slot.TheVariants.{Home, Free}
 use Rattle.bfs_tree.specs.Maps.{picked}

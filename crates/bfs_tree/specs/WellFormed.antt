@@ -4,11 +4,11 @@ use Rattle.std.specs.Prelude.{ℕ, ◌+◌, ◌==◌, ◌&&◌, ◌||◌, Bool, 
 use Rattle.std.specs.List.{list_all}
 use Rattle.std.specs.Option.{option_map_or}
 use Rattle.std.specs.FinMap.{get}
-use Rattle.bfs_model.specs.Limits.{most_name_bytes}
-use Rattle.bfs_model.specs.Directories.{is_bad_name}
-use Rattle.bfs_model.specs.Tree.{Listing, Body, file, directory, link, Inode, Inodes, root_id, entries_at}
-use Rattle.bfs_model.specs.Procedures.Renaming.{is_below}
-use Rattle.bfs_model.specs.WellFormed.{times, named, directories_among, IsLimited}
+use Rattle.bfs_model.specs.Server.Limits.{most_name_bytes}
+use Rattle.bfs_model.specs.Server.Directories.{is_bad_name}
+use Rattle.bfs_model.specs.Server.Tree.{Listing, Body, file, directory, link, Inode, Inodes, root_id, entries_at}
+use Rattle.bfs_model.specs.Server.Procedures.Renaming.{is_below}
+use Rattle.bfs_model.specs.Server.WellFormed.{times, named, directories_among, IsLimited}
 
 -- a name that an entry may have
 abbrev pub is_good_name : List ℕ → Bool

@@ -1,7 +1,7 @@
 ghost use Rattle.std.specs.Prelude.{◌≡◌, IsTrue};
 ghost use Rattle.std.specs.FinMap.{get};
-ghost use Rattle.bfs_model.specs.Tree as tree;
-ghost use Rattle.bfs_model.specs.Procedures.Renaming as model;
+ghost use Rattle.bfs_model.specs.Server.Tree as tree;
+ghost use Rattle.bfs_model.specs.Server.Procedures.Renaming as model;
 
 use crate::store::Store;
 use bfs_types::FileId;

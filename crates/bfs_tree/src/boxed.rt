@@ -14,7 +14,7 @@ pub struct BoxedInode {
 }
 
 impl Model for BoxedInode {
-    ghost use Rattle.bfs_model.specs.Tree as model;
+    ghost use Rattle.bfs_model.specs.Server.Tree as model;
 
     ghost Value = { model.Inode };
 

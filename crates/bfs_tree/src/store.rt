@@ -2,8 +2,8 @@ ghost use Rattle.std.specs.Prelude.{◌≡◌, ℕ, Bool, true, IsTrue, OnOk, On
 ghost use Rattle.std.specs.Option.{option_copied, option_copied_mut};
 ghost use Rattle.std.specs.Borrow.{sem};
 ghost use Rattle.std.specs.FinMap.{get, insert, len, remove};
-ghost use Rattle.bfs_model.specs.Tree.{Inodes};
-ghost use Rattle.bfs_model.specs.Procedures.Status.{used_blocks};
+ghost use Rattle.bfs_model.specs.Server.Tree.{Inodes};
+ghost use Rattle.bfs_model.specs.Server.Procedures.Status.{used_blocks};
 ghost use Rattle.bfs_tree.specs.Reach.{Reach};
 ghost use Rattle.bfs_tree.specs.Lending.{LendsInode};
 

@@ -1,9 +1,9 @@
 ghost use Rattle.std.specs.Prelude.{◌≡◌, ◌==◌, ◌≤◌, ◌↔◌, IsTrue};
 ghost use Rattle.std.specs.List.{list_all, AllByRecursion};
 ghost use Rattle.std.specs.FinMap.{get, entries};
-ghost use Rattle.bfs_model.specs.Limits.{most_entries};
-ghost use Rattle.bfs_model.specs.Tree.{entries_at, entries_in, is_directory};
-ghost use Rattle.bfs_model.specs.WellFormed as model;
+ghost use Rattle.bfs_model.specs.Server.Limits.{most_entries};
+ghost use Rattle.bfs_model.specs.Server.Tree.{entries_at, entries_in, is_directory};
+ghost use Rattle.bfs_model.specs.Server.WellFormed as model;
 ghost use Rattle.bfs_tree.specs.Tree.{at_home, reach_of};
 ghost use Rattle.bfs_tree.specs.WellFormed as place;
 

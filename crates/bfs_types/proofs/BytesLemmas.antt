@@ -3,7 +3,7 @@ use Rattle.std.proofs.Common.{false, nat_eq, ◌≡◌, ℕ, ◌+◌, ◌-◌, �
 use Rattle.std.proofs.lemmas.Bool.{cases_lt}
 use Rattle.std.proofs.lemmas.List.{take_all, drop_all, take-append-le, length-append, length-replicate, append-nil, take-replicate}
 use Rattle.std.proofs.Math.Seq.{take-append-add}
-use Rattle.bfs_model.specs.Bytes.{filled_to, resized, overwritten}
+use Rattle.bfs_model.specs.Server.FileBytes.{filled_to, resized, overwritten}
 
 none_left : (n : ℕ) (bytes : List ℕ) → n ≤ length bytes → bytes ++ replicate (n - length bytes) 0 ≡ bytes
 none_left n bytes h = let e : n - length bytes ≡ 0 = omega arith in rw e (append-nil bytes)

@@ -1,7 +1,7 @@
 -- The attributes of the code as those of the model.
 use Rattle.std.specs.Prelude.{◌≡◌, refl}
 use Rattle.std.proofs.Common.{ap}
-use Rattle.bfs_model.specs.Attributes as model
+use Rattle.bfs_model.specs.Bytes.Attributes as model
 use Rattle.bfs_types.specs.declared.attributes.FileType.{FileType}
 use Rattle.bfs_types.specs.declared.attributes.FileType.TheVariants.{Regular, Directory, SymbolicLink}
 use Rattle.bfs_types.specs.declared.attributes.Attributes.TheInside.{Inside}

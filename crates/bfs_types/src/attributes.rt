@@ -42,7 +42,7 @@ pub struct Attributes {
 impl Model for Attributes {
     ghost use Rattle.std.specs.Prelude.{◌≤◌};
     ghost use Rattle.bfs_types.specs.declared.limits.TheConstants.{MOST_PERMISSIONS};
-    ghost use Rattle.bfs_model.specs.Attributes as model;
+    ghost use Rattle.bfs_model.specs.Bytes.Attributes as model;
 
     ghost Value = { model.Attributes };
 

@@ -1,5 +1,5 @@
 ghost use Rattle.std.specs.Prelude.{◌≡◌, ◌+◌, ◌<◌, ◌≤◌, ◌^◌, ◌++◌, length, take, drop, replicate, IfOk, OnOk, OnErr};
-ghost use Rattle.bfs_model.specs.Bytes.{filled_to, overwritten, resized};
+ghost use Rattle.bfs_model.specs.Server.FileBytes.{filled_to, overwritten, resized};
 
 use crate::limits::{MOST_NAME_BYTES, MOST_PATH_BYTES};
 use crate::memory::Memory;

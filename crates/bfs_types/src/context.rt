@@ -15,7 +15,7 @@ pub struct Context {
 }
 
 impl Model for Context {
-    ghost use Rattle.bfs_model.specs.Context as model;
+    ghost use Rattle.bfs_model.specs.Server.Context as model;
 
     ghost Value = { model.Context };
 

@@ -10,7 +10,7 @@ pub struct Cred {
 }
 
 impl Model for Cred {
-    ghost use Rattle.bfs_model.specs.Call.{Credential};
+    ghost use Rattle.bfs_model.specs.Bytes.Call.{Credential};
 
     ghost Value = { Credential };
 

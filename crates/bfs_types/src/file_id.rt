@@ -1,5 +1,5 @@
 ghost use Rattle.std.specs.Prelude.{◌≡◌};
-ghost use Rattle.bfs_model.specs.Tree.{root_id};
+ghost use Rattle.bfs_model.specs.Server.Tree.{root_id};
 
 use std::marker::Model;
 

@@ -1,8 +1,8 @@
 //! How large things may be, each limit once: code and contracts cite these constants by name, and each is tied to the model's here.
 ghost use Rattle.std.specs.Prelude.{◌≡◌, ℕ, ◌+◌, ◌%◌};
-ghost use Rattle.bfs_model.specs.Attributes.{block_size, total_blocks, transfer_size};
-ghost use Rattle.bfs_model.specs.Changes.{permission_bits};
-ghost use Rattle.bfs_model.specs.Limits.{most_file_bytes, most_data_bytes, most_name_bytes, most_path_bytes, most_entries, most_links, most_request_bytes, most_reply_bytes, most_requests, most_replicas, most_clients};
+ghost use Rattle.bfs_model.specs.Bytes.Attributes.{block_size, total_blocks, transfer_size};
+ghost use Rattle.bfs_model.specs.Server.Changes.{permission_bits};
+ghost use Rattle.bfs_model.specs.Server.Limits.{most_file_bytes, most_data_bytes, most_name_bytes, most_path_bytes, most_entries, most_links, most_request_bytes, most_reply_bytes, most_requests, most_replicas, most_clients};
 
 /// The bytes of a file.
 pub const MOST_FILE_BYTES: usize = 1_048_576;

@@ -1,7 +1,7 @@
 ghost use Rattle.std.specs.Prelude.{◌≡◌, ◌<◌, ◌≤◌, ◌↔◌, IsTrue};
 ghost use Rattle.std.specs.Option.{SomeIff};
-ghost use Rattle.bfs_model.specs.Tree.{first_ordinal, spent_ordinal};
-ghost use Rattle.bfs_model.specs.Serial.{ordinal_after};
+ghost use Rattle.bfs_model.specs.Server.Tree.{first_ordinal, spent_ordinal};
+ghost use Rattle.bfs_model.specs.Server.Serial.{ordinal_after};
 
 use crate::file_id::FileId;
 use std::marker::Model;
@@ -13,7 +13,7 @@ pub struct Ordinal(u64);
 
 impl Model for Ordinal {
     ghost use Rattle.std.specs.Prelude.{ℕ, ◌≤◌};
-    ghost use Rattle.bfs_model.specs.Tree.{spent_ordinal};
+    ghost use Rattle.bfs_model.specs.Server.Tree.{spent_ordinal};
 
     ghost Value = { ℕ };
 

@@ -1,6 +1,6 @@
 ghost use Rattle.std.specs.Prelude.{◌≡◌, Some, None, if◌then◌else◌};
 ghost use Rattle.std.specs.Option.{option_map};
-ghost use Rattle.bfs_model.specs.Call.{is_procedure};
+ghost use Rattle.bfs_model.specs.Bytes.Call.{is_procedure};
 ghost use Rattle.bfs_types.specs.Procedures.{number_of};
 
 /// The procedures of NFS version 2 (RFC 1094 section 2.2), in the order of their numbers.

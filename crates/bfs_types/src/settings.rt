@@ -1,5 +1,5 @@
 ghost use Rattle.std.specs.Prelude.{◌≡◌};
-ghost use Rattle.bfs_model.specs.Changes.{time_given};
+ghost use Rattle.bfs_model.specs.Server.Changes.{time_given};
 
 use crate::time::Time;
 use std::marker::Model;
@@ -14,7 +14,7 @@ pub struct SetTime {
 }
 
 impl Model for SetTime {
-    ghost use Rattle.bfs_model.specs.Tree as model;
+    ghost use Rattle.bfs_model.specs.Server.Tree as model;
 
     ghost Value = { model.Time };
 
@@ -50,7 +50,7 @@ pub struct Settings {
 }
 
 impl Model for Settings {
-    ghost use Rattle.bfs_model.specs.Arguments as model;
+    ghost use Rattle.bfs_model.specs.Bytes.Arguments as model;
 
     ghost Value = { model.Settings };
 

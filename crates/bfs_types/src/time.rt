@@ -1,8 +1,8 @@
 ghost use Rattle.std.specs.Prelude.{◌≡◌, ◌<◌};
 ghost use Rattle.std.specs.Option.{SomeIff};
-ghost use Rattle.bfs_model.specs.Stored.{IsTime};
-ghost use Rattle.bfs_model.specs.Tree as model;
-ghost use Rattle.bfs_model.specs.Serial.{is_after, next_microsecond, effective_time};
+ghost use Rattle.bfs_model.specs.Server.Stored.{IsTime};
+ghost use Rattle.bfs_model.specs.Server.Tree as model;
+ghost use Rattle.bfs_model.specs.Server.Serial.{is_after, next_microsecond, effective_time};
 
 use std::marker::Model;
 
@@ -16,7 +16,7 @@ pub struct Time {
 
 impl Model for Time {
     ghost use Rattle.std.specs.Prelude.{◌<◌};
-    ghost use Rattle.bfs_model.specs.Tree as model;
+    ghost use Rattle.bfs_model.specs.Server.Tree as model;
 
     ghost Value = { model.Time };
 

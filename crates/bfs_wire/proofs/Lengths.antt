@@ -2,8 +2,8 @@
 use Rattle.std.proofs.Common.{◌≡◌, ℕ, ◌≤◌, Bool, cond, not, ◌&&◌, ltb, List, length, take, drop, Result, Ok, Err, ap, arith}
 use Rattle.std.proofs.lemmas.Bool.{ltb-false}
 use Rattle.std.proofs.lemmas.List.{length-take}
-use Rattle.bfs_model.specs.Items.{Fault, short, too_long, bad_padding, ◌>>=◌, padding_of, are_zeros, word_at, bytes_at, fixed_at, opaque_at}
-use Rattle.bfs_model.proofs.Laws.{bind_ok, guard_then}
+use Rattle.bfs_model.specs.Bytes.Items.{Fault, short, too_long, bad_padding, ◌>>=◌, padding_of, are_zeros, word_at, bytes_at, fixed_at, opaque_at}
+use Rattle.bfs_model.proofs.Public.{bind_ok, guard_then}
 
 abbrev read_as : List ℕ × List ℕ → Result (List ℕ × List ℕ) Fault
 read_as x = Ok x

@@ -1,8 +1,8 @@
 -- The calls of the code as those of the model.
 use Rattle.std.specs.Prelude.{◌≡◌, ℕ, List, Option, IfSome}
 use Rattle.std.specs.Option.{option_map}
-use Rattle.bfs_model.specs.Arguments as model
-use Rattle.bfs_model.specs.Short.{IsShort}
+use Rattle.bfs_model.specs.Bytes.Arguments as model
+use Rattle.bfs_model.specs.Server.Short.{IsShort}
 use Rattle.bfs_wire.specs.declared.call.NfsCall.{NfsCall}
 use Rattle.bfs_wire.specs.declared.call.NfsCall.TheVariants.{Null, GetAttr, SetAttr, Root, LookUp, ReadLink, Read, WriteCache, Write, Create, Remove, Rename, Link, SymbolicLink, MakeDirectory, RemoveDirectory, ReadDirectory, FileSystemStatus}
 

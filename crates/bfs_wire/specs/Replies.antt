@@ -1,5 +1,5 @@
 -- The statuses and replies of the code as those of the model.
-use Rattle.bfs_model.specs.Replies as model
+use Rattle.bfs_model.specs.Bytes.Replies as model
 use Rattle.bfs_wire.specs.declared.status.Status.{Status}
 use Rattle.bfs_wire.specs.declared.status.Status.TheVariants.{Perm, NoEnt, Exist, NotDir, IsDir, FBig, NoSpc, NotEmpty, Stale}
 use Rattle.bfs_wire.specs.declared.reply.NfsReply.{NfsReply}

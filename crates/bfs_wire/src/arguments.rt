@@ -2,9 +2,9 @@
 ghost use Rattle.std.specs.Prelude.{◌≡◌, ◌≤◌, ℕ, List, false, length, IfSome};
 ghost use Rattle.std.specs.Option.{option_map};
 ghost use Rattle.std.specs.Result.{result_ok};
-ghost use Rattle.bfs_model.specs.Arguments as model;
-ghost use Rattle.bfs_model.specs.Items.{opaque_at, word_at};
-ghost use Rattle.bfs_model.specs.Limits.{most_name_bytes, most_path_bytes, most_data_bytes};
+ghost use Rattle.bfs_model.specs.Bytes.Arguments as model;
+ghost use Rattle.bfs_model.specs.Bytes.Items.{opaque_at, word_at};
+ghost use Rattle.bfs_model.specs.Server.Limits.{most_name_bytes, most_path_bytes, most_data_bytes};
 
 pub(crate) mod attributes;
 pub(crate) mod data;
@@ -56,7 +56,7 @@ impl<'a> Arguments<'a> {
     }
 
     // a file handle, as the file that it leads to
-    #[tactic(auto, unfolding(bfs_model::specs::Arguments::handle_at))]
+    #[tactic(auto, unfolding(bfs_model::specs::Bytes::Arguments::handle_at))]
     pub(crate) fn file(&mut self) -> Option<Option<FileId>>
         ensures { option_map (λ file. (file, self.new)) result ≡ model.handle_at self.old }
     {
@@ -105,7 +105,7 @@ impl<'a> Arguments<'a> {
     }
 
     // what a call sets (RFC 1094 section 2.3.6, sattr)
-    #[tactic(auto, unfolding(bfs_model::specs::Arguments::settings_at))]
+    #[tactic(auto, unfolding(bfs_model::specs::Bytes::Arguments::settings_at))]
     pub(crate) fn settings(&mut self) -> Option<Settings>
         ensures { option_map (λ settings. (settings, self.new)) result ≡ model.settings_at self.old }
     {

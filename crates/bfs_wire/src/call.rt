@@ -1,10 +1,10 @@
 ghost use Rattle.std.specs.Prelude.{◌≡◌, None, IfOk, IfSome, if◌then◌else◌};
 ghost use Rattle.std.specs.Option.{option_map};
 ghost use Rattle.std.specs.Result.{result_ok};
-ghost use Rattle.bfs_model.specs.Arguments as model;
+ghost use Rattle.bfs_model.specs.Bytes.Arguments as model;
 ghost use Rattle.bfs_types.specs.Procedures.{number_of};
 ghost use Rattle.bfs_wire.specs.Calls.{call_seen, IsReadAs};
-ghost use Rattle.bfs_model.specs.Short.{IsShort};
+ghost use Rattle.bfs_model.specs.Server.Short.{IsShort};
 
 use crate::arguments::Arguments;
 use crate::arguments::attributes::{get_attributes, set_attributes};
@@ -113,7 +113,7 @@ pub enum NfsCall<'a> {
 
 /// The call of a procedure (RFC 1094 section 2.2) with the arguments that the bytes spell. The bytes of the padding may have
 /// any value. `GarbageArgs` if the bytes don't spell its arguments, or if further bytes follow.
-#[tactic(auto, unfolding(bfs_model::specs::Arguments::arguments_of))]
+#[tactic(auto, unfolding(bfs_model::specs::Bytes::Arguments::arguments_of))]
 pub fn parse_args(procedure: Procedure, args: &[u8]) -> Result<NfsCall<'_>, GarbageArgs>
     ensures value { option_map call_seen (result_ok result) ≡ model.arguments_of (number_of procedure) args.now }
     ensures short { IfOk result (λ call. IsShort (call_seen call)) }
@@ -129,7 +129,7 @@ pub fn parse_args(procedure: Procedure, args: &[u8]) -> Result<NfsCall<'_>, Garb
 }
 
 // a procedure's arguments
-#[tactic(auto, unfolding(bfs_model::specs::Arguments::fields_at))]
+#[tactic(auto, unfolding(bfs_model::specs::Bytes::Arguments::fields_at))]
 fn fields<'a>(procedure: Procedure, arguments: &mut Arguments<'a>) -> Option<NfsCall<'a>>
     ensures { IsReadAs (model.fields_at (number_of procedure) arguments.old) result arguments.new }
 {

@@ -1,5 +1,5 @@
 ghost use Rattle.std.specs.Prelude.{◌≡◌, ◌≤◌};
-ghost use Rattle.bfs_model.specs.Replies as model;
+ghost use Rattle.bfs_model.specs.Bytes.Replies as model;
 ghost use Rattle.bfs_types.specs.Attributes.{file_type_seen};
 
 use bfs_types::FileType;

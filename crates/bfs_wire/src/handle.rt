@@ -1,11 +1,11 @@
 ghost use Rattle.std.specs.Prelude.{◌≡◌};
-ghost use Rattle.bfs_model.specs.Arguments as model;
+ghost use Rattle.bfs_model.specs.Bytes.Arguments as model;
 
 use bfs_types::FileId;
 
 /// The file handle of that file (RFC 1094 section 2.3.3): `BFS2`, the fsid 1, the fileid, and twenty
 /// zeros.
-#[tactic(auto, unfolding(bfs_model::specs::Arguments::handle, bfs_model::specs::Items::word))]
+#[tactic(auto, unfolding(bfs_model::specs::Bytes::Arguments::handle, bfs_model::specs::Bytes::Items::word))]
 pub fn handle_bytes(file: FileId) -> [u8; 32]
     ensures { result ≡ model.handle file }
 {
@@ -17,7 +17,7 @@ pub fn handle_bytes(file: FileId) -> [u8; 32]
 }
 
 /// The file whose handle the bytes are, or `None` if they are no handle of this file system.
-#[tactic(auto, using(bfs_model::proofs::Handles::other_lengths_lead_nowhere), unfolding(bfs_model::specs::Arguments::handle_id))]
+#[tactic(auto, using(bfs_model::proofs::Public::other_lengths_lead_nowhere), unfolding(bfs_model::specs::Bytes::Arguments::handle_id))]
 pub fn handle_id(bytes: &[u8]) -> Option<FileId>
     ensures { result ≡ model.handle_id bytes.now }
 {

@@ -1,9 +1,9 @@
 // What READDIR lists (RFC 1094 section 2.2.17).
 ghost use Rattle.std.specs.Prelude.{◌≡◌, ◌≤◌, [], ◌∷◌, ◌++◌, take, length, false, OnOk, OnErr};
 ghost use Rattle.std.specs.List.{flat_map};
-ghost use Rattle.bfs_model.specs.Items.{boolean};
-ghost use Rattle.bfs_model.specs.Limits.{most_name_bytes};
-ghost use Rattle.bfs_model.specs.Replies.{entry_item};
+ghost use Rattle.bfs_model.specs.Bytes.Items.{boolean};
+ghost use Rattle.bfs_model.specs.Server.Limits.{most_name_bytes};
+ghost use Rattle.bfs_model.specs.Bytes.Replies.{entry_item};
 
 use bfs_types::{FileId, Memory, Name};
 use bfs_xdr::{put_bool, put_opaque, put_u32};
@@ -22,7 +22,7 @@ pub struct ListedEntry {
 }
 
 impl Model for ListedEntry {
-    ghost use Rattle.bfs_model.specs.Tree as model;
+    ghost use Rattle.bfs_model.specs.Server.Tree as model;
 
     ghost Value = { model.Entry };
 
@@ -37,7 +37,7 @@ pub struct ListedEntries {
 
 impl Model for ListedEntries {
     ghost use Rattle.std.specs.Prelude.{List};
-    ghost use Rattle.bfs_model.specs.Tree as model;
+    ghost use Rattle.bfs_model.specs.Server.Tree as model;
 
     ghost Value = { List model.Entry };
 

@@ -1,8 +1,8 @@
 ghost use Rattle.std.specs.Prelude.{◌≡◌, ◌≤◌, [], ◌∷◌, ◌++◌, take, length, OnOk, OnErr, IfOk};
-ghost use Rattle.bfs_model.specs.Attributes.{blocks_of as model_blocks_of};
-ghost use Rattle.bfs_model.specs.Items.{words};
-ghost use Rattle.bfs_model.specs.Limits.{most_data_bytes};
-ghost use Rattle.bfs_model.specs.Replies as model;
+ghost use Rattle.bfs_model.specs.Bytes.Attributes.{blocks_of as model_blocks_of};
+ghost use Rattle.bfs_model.specs.Bytes.Items.{words};
+ghost use Rattle.bfs_model.specs.Server.Limits.{most_data_bytes};
+ghost use Rattle.bfs_model.specs.Bytes.Replies as model;
 ghost use Rattle.bfs_wire.specs.Replies.{reply_seen};
 
 use crate::file_type::{type_bits, type_number};
@@ -87,7 +87,7 @@ pub fn write_reply(alloc: Global, reply: &NfsReply) -> Result<Vec<u8>, Memory>
 }
 
 // the results, or some of them behind what was there
-#[tactic(auto, unfolding(bfs_model::specs::Replies::results))]
+#[tactic(auto, unfolding(bfs_model::specs::Bytes::Replies::results))]
 fn put_results(out: &mut Vec<u8>, reply: &NfsReply) -> Result<(), Memory>
     ensures ok { OnOk result (out.new.items ≡ out.old.items ++ model.results (reply_seen reply.now)) }
     ensures err { OnErr result (take (length out.old.items) out.new.items ≡ out.old.items) }
@@ -115,7 +115,7 @@ pub fn put_done(out: &mut Vec<u8>) -> Result<(), Memory>
 }
 
 // attrstat where the attributes were found (RFC 1094 section 2.3.6)
-#[tactic(auto, using(std::proofs::lemmas::List::append_assoc), unfolding(bfs_model::specs::Replies::results))]
+#[tactic(auto, using(std::proofs::lemmas::List::append_assoc), unfolding(bfs_model::specs::Bytes::Replies::results))]
 fn put_attributes(out: &mut Vec<u8>, attributes: &Attributes) -> Result<(), Memory>
     ensures ok { OnOk result (out.new.items ≡ out.old.items ++ model.results (model.attributes attributes.now)) }
     ensures err { OnErr result (take (length out.old.items) out.new.items ≡ out.old.items) }
@@ -125,7 +125,7 @@ fn put_attributes(out: &mut Vec<u8>, attributes: &Attributes) -> Result<(), Memo
 }
 
 // diropres where the file was found (RFC 1094 section 2.3.12)
-#[tactic(auto, using(std::proofs::lemmas::List::append_assoc), unfolding(bfs_model::specs::Replies::results))]
+#[tactic(auto, using(std::proofs::lemmas::List::append_assoc), unfolding(bfs_model::specs::Bytes::Replies::results))]
 fn put_found(out: &mut Vec<u8>, file: FileId, attributes: &Attributes) -> Result<(), Memory>
     ensures ok { OnOk result (out.new.items ≡ out.old.items ++ model.results (model.found file attributes.now)) }
     ensures err { OnErr result (take (length out.old.items) out.new.items ≡ out.old.items) }
@@ -137,7 +137,7 @@ fn put_found(out: &mut Vec<u8>, file: FileId, attributes: &Attributes) -> Result
 
 /// Appends the results of a READ that was done (RFC 1094 section 2.2.7): the file's attributes, and the bytes that were read of
 /// it. `Memory` if memory runs out; then some of them may stand behind what was there.
-#[tactic(auto, using(std::proofs::lemmas::List::append_assoc), unfolding(bfs_model::specs::Replies::results))]
+#[tactic(auto, using(std::proofs::lemmas::List::append_assoc), unfolding(bfs_model::specs::Bytes::Replies::results))]
 pub fn put_contents(out: &mut Vec<u8>, attributes: &Attributes, bytes: &[u8]) -> Result<(), Memory>
     requires { length bytes.now ≤ most_data_bytes }
     ensures ok { OnOk result (out.new.items ≡ out.old.items ++ model.results (model.contents attributes.now bytes.now)) }
@@ -149,7 +149,7 @@ pub fn put_contents(out: &mut Vec<u8>, attributes: &Attributes, bytes: &[u8]) ->
 }
 
 // readlinkres where the path was read (RFC 1094 section 2.2.6)
-#[tactic(auto, using(std::proofs::lemmas::List::append_assoc), unfolding(bfs_model::specs::Replies::results))]
+#[tactic(auto, using(std::proofs::lemmas::List::append_assoc), unfolding(bfs_model::specs::Bytes::Replies::results))]
 fn put_path(out: &mut Vec<u8>, path: &LinkPath) -> Result<(), Memory>
     ensures ok { OnOk result (out.new.items ≡ out.old.items ++ model.results (model.path path.now)) }
     ensures err { OnErr result (take (length out.old.items) out.new.items ≡ out.old.items) }
@@ -159,7 +159,7 @@ fn put_path(out: &mut Vec<u8>, path: &LinkPath) -> Result<(), Memory>
 }
 
 // readdirres where entries were listed (RFC 1094 section 2.2.17)
-#[tactic(auto, using(std::proofs::lemmas::List::append_assoc), unfolding(bfs_model::specs::Replies::results))]
+#[tactic(auto, using(std::proofs::lemmas::List::append_assoc), unfolding(bfs_model::specs::Bytes::Replies::results))]
 fn put_listed(out: &mut Vec<u8>, entries: &ListedEntries, all: bool) -> Result<(), Memory>
     ensures ok { OnOk result (out.new.items ≡ out.old.items ++ model.results (model.listed entries.now all)) }
     ensures err { OnErr result (take (length out.old.items) out.new.items ≡ out.old.items) }
@@ -170,7 +170,7 @@ fn put_listed(out: &mut Vec<u8>, entries: &ListedEntries, all: bool) -> Result<(
 }
 
 // statfsres where the room was told (RFC 1094 section 2.2.18)
-#[tactic(auto, unfolding(bfs_model::specs::Replies::results))]
+#[tactic(auto, unfolding(bfs_model::specs::Bytes::Replies::results))]
 fn put_free_blocks(out: &mut Vec<u8>, free: u32) -> Result<(), Memory>
     ensures ok { OnOk result (out.new.items ≡ out.old.items ++ model.results (model.free_blocks free)) }
     ensures err { OnErr result (out.new.items ≡ out.old.items) }

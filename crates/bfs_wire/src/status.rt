@@ -1,5 +1,5 @@
 ghost use Rattle.std.specs.Prelude.{◌≡◌};
-ghost use Rattle.bfs_model.specs.Replies.{status_number};
+ghost use Rattle.bfs_model.specs.Bytes.Replies.{status_number};
 ghost use Rattle.bfs_wire.specs.Replies.{status_seen};
 
 /// Why a procedure is not done (RFC 1094 section 2.3.1, stat).

@@ -1,11 +1,11 @@
 -- A request that may touch any inode spells RENAME or STATFS.
 use Rattle.std.proofs.Common.{◌≡◌, ℕ, true, true≢false, List, Option, Some, None, Result, Ok, Err, refl, sym}
-use Rattle.bfs_model.specs.Tree.{Time, Inodes}
-use Rattle.bfs_model.specs.Call.{Request, Refusal, call_of}
-use Rattle.bfs_model.specs.Context.{Context}
-use Rattle.bfs_model.specs.Arguments.{Call, null, get_attributes, set_attributes, root, look_up, read_link, read, write_cache, write, create, remove, rename, make_link, make_symbolic_link, make_directory, remove_directory, read_directory, file_system_status, arguments_of}
-use Rattle.bfs_model.specs.Footprints.{footprint, footprint_of, footprint_of_arguments, footprint_of_call}
-use Rattle.bfs_model.specs.Conflicts.{is_whole}
+use Rattle.bfs_model.specs.Server.Tree.{Time, Inodes}
+use Rattle.bfs_model.specs.Bytes.Call.{Request, Refusal, call_of}
+use Rattle.bfs_model.specs.Server.Context.{Context}
+use Rattle.bfs_model.specs.Bytes.Arguments.{Call, null, get_attributes, set_attributes, root, look_up, read_link, read, write_cache, write, create, remove, rename, make_link, make_symbolic_link, make_directory, remove_directory, read_directory, file_system_status, arguments_of}
+use Rattle.bfs_model.specs.Server.Footprints.{footprint, footprint_of, footprint_of_arguments, footprint_of_call}
+use Rattle.bfs_model.specs.Server.Conflicts.{is_whole}
 use Rattle.bfs_workers.specs.Alone.{are_of_all, is_alone, is_of_all, is_read_as_of_all}
 
 of_all : (m : Inodes) (c : Context) (call : Call) → is_whole (footprint m c call) ≡ true → is_of_all call ≡ true

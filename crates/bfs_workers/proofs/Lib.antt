@@ -7,3 +7,4 @@ pub mod Queued
 pub mod Working
 pub mod Alone
 pub mod Ones
+pub mod Public

@@ -3,14 +3,14 @@ use Rattle.std.proofs.Common.{◌≡◌, ℕ, zero, suc, ◌-◌, ◌<◌, ◌�
 use Rattle.std.specs.List.{All, slice_get}
 use Rattle.std.proofs.lemmas.List.Elements.{All-from_recursion, All-head}
 use Rattle.std.proofs.lemmas.List.Sorted.{All-permutation, IsPermutation-refl}
-use Rattle.bfs_model.specs.Tree.{Time, Inodes, spent_ordinal}
-use Rattle.bfs_model.specs.Serial.{answer, inodes_after, ordinal_after, replies_to}
-use Rattle.bfs_model.specs.Footprints.{footprint_of}
-use Rattle.bfs_model.specs.Conflicts.{is_whole}
-use Rattle.bfs_model.specs.Groups.{footprints_at}
-use Rattle.bfs_model.specs.OvertakingLaw.{footprint_at}
-use Rattle.bfs_model.specs.WellFormed.{IsWellFormed}
-use Rattle.bfs_model.proofs.WellFormed.Numbered.{fresh_where_numbered, numbered_older}
+use Rattle.bfs_model.specs.Server.Tree.{Time, Inodes, spent_ordinal}
+use Rattle.bfs_model.specs.Server.Serial.{answer, inodes_after, ordinal_after, replies_to}
+use Rattle.bfs_model.specs.Server.Footprints.{footprint_of}
+use Rattle.bfs_model.specs.Server.Conflicts.{is_whole}
+use Rattle.bfs_model.specs.Server.Groups.{footprints_at}
+use Rattle.bfs_model.specs.Laws.Overtaking.{footprint_at}
+use Rattle.bfs_model.specs.Server.WellFormed.{IsWellFormed}
+use Rattle.bfs_model.proofs.Public.{fresh_where_numbered, numbered_older}
 use Rattle.bfs_footprint.specs.Seen.{footprint_seen}
 use Rattle.bfs_footprint.specs.declared.footprints.Footprint as declared
 use Rattle.bfs_tree.specs.Slots.{Slots}
@@ -21,8 +21,7 @@ use Rattle.bfs_handover.specs.Merging.{AreOut, IsMerged, numbers_in, reply_in}
 use Rattle.bfs_handover.specs.declared.job.Job.{Job}
 use Rattle.bfs_handover.specs.declared.job.Done.{Done}
 use Rattle.bfs_handover.specs.declared.results.Reply.{Reply}
-use Rattle.bfs_handover.proofs.Homecoming.{results_are_out, results_come_home}
-use Rattle.bfs_handover.proofs.SplitLemmas.{found}
+use Rattle.bfs_handover.proofs.Public.{found, results_are_out, results_come_home}
 use Rattle.bfs_workers.specs.Alone.{is_alone}
 use Rattle.bfs_workers.specs.Answered.{IsAnswered}
 use Rattle.bfs_workers.specs.Results.{Gives}

@@ -1,7 +1,7 @@
 -- Which requests no gate runs.
 use Rattle.std.specs.Prelude.{ℕ, Bool, true, false, List, Option, Some, None, Result, Ok, Err}
-use Rattle.bfs_model.specs.Call.{Request, Refusal, call_of}
-use Rattle.bfs_model.specs.Arguments.{Call, rename, file_system_status, arguments_of}
+use Rattle.bfs_model.specs.Bytes.Call.{Request, Refusal, call_of}
+use Rattle.bfs_model.specs.Bytes.Arguments.{Call, rename, file_system_status, arguments_of}
 
 -- calls that may touch any inode: they are carried out on the whole tree, by no gate
 abbrev pub is_of_all : Call → Bool

@@ -1,7 +1,7 @@
 -- What comes of one request that a gate answers on the whole tree.
 use Rattle.std.specs.Prelude.{◌≡◌, ℕ, IsFalse, IsTrue, List}
-use Rattle.bfs_model.specs.Tree.{Time, Inodes}
-use Rattle.bfs_model.specs.Serial.{answer}
+use Rattle.bfs_model.specs.Server.Tree.{Time, Inodes}
+use Rattle.bfs_model.specs.Server.Serial.{answer}
 use Rattle.bfs_tree.specs.Slots.{Slots}
 use Rattle.bfs_tree.specs.Tree.{at_home, reach_of}
 use Rattle.bfs_workers.specs.Alone.{is_alone}

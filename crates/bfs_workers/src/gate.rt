@@ -1,5 +1,5 @@
 ghost use Rattle.std.specs.Prelude.{ℕ, ◌<◌, [], List, ⊤, IfOk, IsTrue, get_or, length};
-ghost use Rattle.bfs_model.specs.WellFormed.{IsWellFormed};
+ghost use Rattle.bfs_model.specs.Server.WellFormed.{IsWellFormed};
 ghost use Rattle.bfs_tree.specs.Tree.{at_home, reach_of};
 ghost use Rattle.bfs_handover.specs.Jobs.{CanRun};
 ghost use Rattle.bfs_workers.specs.Answered.{IsAnswered};

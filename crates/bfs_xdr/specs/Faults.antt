@@ -1,6 +1,6 @@
 -- The errors of reading: as the faults of the model, and by their numbers.
 use Rattle.std.specs.Prelude.{ℕ}
-use Rattle.bfs_model.specs.Items.{Fault, short, too_long, bad_boolean, bad_padding}
+use Rattle.bfs_model.specs.Bytes.Items.{Fault, short, too_long, bad_boolean, bad_padding}
 use Rattle.bfs_xdr.specs.declared.error.XdrError.{XdrError}
 use Rattle.bfs_xdr.specs.declared.error.XdrError.TheVariants.{Short, TooLong, BadBool, BadPadding}
 

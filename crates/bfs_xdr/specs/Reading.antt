@@ -1,6 +1,6 @@
 -- How a read of the code answers to a reading of the model.
 use Rattle.std.specs.Prelude.{◌≡◌, List, ℕ, Result, Ok, Err}
-use Rattle.bfs_model.specs.Items.{Fault, Input}
+use Rattle.bfs_model.specs.Bytes.Items.{Fault, Input}
 use Rattle.bfs_xdr.specs.declared.error.XdrError.{XdrError}
 use Rattle.bfs_xdr.specs.Faults.{fault_of}
 

@@ -1,6 +1,6 @@
 // Each function reads one item from the front of a slice, and gives it with the bytes after it.
 ghost use Rattle.std.specs.Prelude.{◌≡◌};
-ghost use Rattle.bfs_model.specs.Items.{padding_of, are_zeros, word_at, hyper_at, boolean_at, bytes_at, fixed_at, opaque_at};
+ghost use Rattle.bfs_model.specs.Bytes.Items.{padding_of, are_zeros, word_at, hyper_at, boolean_at, bytes_at, fixed_at, opaque_at};
 ghost use Rattle.bfs_xdr.specs.Faults.{fault_of};
 ghost use Rattle.bfs_xdr.specs.Reading.{Gives};
 
@@ -18,7 +18,7 @@ fn all_zero(bytes: &[u8]) -> bool
     bytes.iter().all(|byte| *byte == 0)
 }
 
-#[tactic(auto, unfolding(bfs_model::specs::Items::word_at))]
+#[tactic(auto, unfolding(bfs_model::specs::Bytes::Items::word_at))]
 pub(crate) fn word_of(bytes: &[u8]) -> Result<(u32, &[u8]), XdrError>
     ensures { Gives (λ x. (x.0, x.1.now)) fault_of result (word_at bytes.now) }
 {
@@ -32,7 +32,7 @@ pub(crate) fn word_of(bytes: &[u8]) -> Result<(u32, &[u8]), XdrError>
     ))
 }
 
-#[tactic(auto, unfolding(bfs_model::specs::Items::hyper_at))]
+#[tactic(auto, unfolding(bfs_model::specs::Bytes::Items::hyper_at))]
 pub(crate) fn hyper_of(bytes: &[u8]) -> Result<(u64, &[u8]), XdrError>
     ensures { Gives (λ x. (x.0, x.1.now)) fault_of result (hyper_at bytes.now) }
 {
@@ -46,7 +46,7 @@ pub(crate) fn hyper_of(bytes: &[u8]) -> Result<(u64, &[u8]), XdrError>
     Ok((value, rest))
 }
 
-#[tactic(auto, unfolding(bfs_model::specs::Items::boolean_at))]
+#[tactic(auto, unfolding(bfs_model::specs::Bytes::Items::boolean_at))]
 pub(crate) fn boolean_of(bytes: &[u8]) -> Result<(bool, &[u8]), XdrError>
     ensures { Gives (λ x. (x.0, x.1.now)) fault_of result (boolean_at bytes.now) }
 {
@@ -58,7 +58,7 @@ pub(crate) fn boolean_of(bytes: &[u8]) -> Result<(bool, &[u8]), XdrError>
     }
 }
 
-#[tactic(auto, unfolding(bfs_model::specs::Items::bytes_at))]
+#[tactic(auto, unfolding(bfs_model::specs::Bytes::Items::bytes_at))]
 fn bytes_of(count: usize, bytes: &[u8]) -> Result<(&[u8], &[u8]), XdrError>
     ensures { Gives (λ x. (x.0.now, x.1.now)) fault_of result (bytes_at count bytes.now) }
 {
@@ -68,7 +68,7 @@ fn bytes_of(count: usize, bytes: &[u8]) -> Result<(&[u8], &[u8]), XdrError>
     Ok(bytes.split_at(count))
 }
 
-#[tactic(auto, unfolding(bfs_model::specs::Items::fixed_at))]
+#[tactic(auto, unfolding(bfs_model::specs::Bytes::Items::fixed_at))]
 pub(crate) fn fixed_of(strict: bool, count: usize, bytes: &[u8]) -> Result<(&[u8], &[u8]), XdrError>
     ensures { Gives (λ x. (x.0.now, x.1.now)) fault_of result (fixed_at strict count bytes.now) }
 {
@@ -80,7 +80,7 @@ pub(crate) fn fixed_of(strict: bool, count: usize, bytes: &[u8]) -> Result<(&[u8
     Ok((item, rest))
 }
 
-#[tactic(auto, unfolding(bfs_model::specs::Items::opaque_at))]
+#[tactic(auto, unfolding(bfs_model::specs::Bytes::Items::opaque_at))]
 pub(crate) fn opaque_of(strict: bool, max: u32, bytes: &[u8]) -> Result<(&[u8], &[u8]), XdrError>
     ensures { Gives (λ x. (x.0.now, x.1.now)) fault_of result (opaque_at strict max bytes.now) }
 {

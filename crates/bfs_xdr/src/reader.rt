@@ -1,5 +1,5 @@
 ghost use Rattle.std.specs.Prelude.{◌≡◌, true, false};
-ghost use Rattle.bfs_model.specs.Items.{word_at, hyper_at, boolean_at, fixed_at, opaque_at};
+ghost use Rattle.bfs_model.specs.Bytes.Items.{word_at, hyper_at, boolean_at, fixed_at, opaque_at};
 ghost use Rattle.bfs_xdr.specs.Reading.{Reads};
 
 use crate::error::XdrError;
@@ -14,7 +14,7 @@ pub struct Reader<'a> {
 }
 
 impl<'a> Model for Reader<'a> {
-    ghost use Rattle.bfs_model.specs.Items.{Input};
+    ghost use Rattle.bfs_model.specs.Bytes.Items.{Input};
 
     ghost Value = { Input };
 

@@ -1,11 +1,11 @@
 ghost use Rattle.std.specs.Prelude.{◌≡◌, ◌<◌, ◌^◌, ◌++◌, length, OnOk, OnErr};
-ghost use Rattle.bfs_model.specs.Items.{word, hyper, boolean, fixed, counted, words};
+ghost use Rattle.bfs_model.specs.Bytes.Items.{word, hyper, boolean, fixed, counted, words};
 
 use crate::items::padding;
 use bfs_types::Memory;
 
 /// Appends an unsigned integer (RFC 4506 section 4.2).
-#[tactic(auto, unfolding(bfs_model::specs::Items::word))]
+#[tactic(auto, unfolding(bfs_model::specs::Bytes::Items::word))]
 pub fn put_u32(out: &mut Vec<u8>, number: u32) -> Result<(), Memory>
     ensures ok { OnOk result (out.new.items ≡ out.old.items ++ word number) }
     ensures err { OnErr result (out.new.items ≡ out.old.items) }
@@ -14,7 +14,7 @@ pub fn put_u32(out: &mut Vec<u8>, number: u32) -> Result<(), Memory>
 }
 
 /// Appends an unsigned hyper integer (RFC 4506 section 4.5).
-#[tactic(auto, unfolding(bfs_model::specs::Items::hyper))]
+#[tactic(auto, unfolding(bfs_model::specs::Bytes::Items::hyper))]
 pub fn put_u64(out: &mut Vec<u8>, value: u64) -> Result<(), Memory>
     ensures ok { OnOk result (out.new.items ≡ out.old.items ++ hyper value) }
     ensures err { OnErr result (out.new.items ≡ out.old.items) }
@@ -23,7 +23,7 @@ pub fn put_u64(out: &mut Vec<u8>, value: u64) -> Result<(), Memory>
 }
 
 /// Appends a boolean (RFC 4506 section 4.4).
-#[tactic(auto, unfolding(bfs_model::specs::Items::boolean))]
+#[tactic(auto, unfolding(bfs_model::specs::Bytes::Items::boolean))]
 pub fn put_bool(out: &mut Vec<u8>, value: bool) -> Result<(), Memory>
     ensures ok { OnOk result (out.new.items ≡ out.old.items ++ boolean value) }
     ensures err { OnErr result (out.new.items ≡ out.old.items) }
@@ -32,7 +32,7 @@ pub fn put_bool(out: &mut Vec<u8>, value: bool) -> Result<(), Memory>
 }
 
 /// Appends opaque data of a length that both sides know (RFC 4506 section 4.9).
-#[tactic(auto, unfolding(bfs_model::specs::Items::fixed))]
+#[tactic(auto, unfolding(bfs_model::specs::Bytes::Items::fixed))]
 pub fn put_fixed(out: &mut Vec<u8>, bytes: &[u8]) -> Result<(), Memory>
     ensures ok { OnOk result (out.new.items ≡ out.old.items ++ fixed bytes.now) }
     ensures err { OnErr result (out.new.items ≡ out.old.items) }
@@ -47,7 +47,7 @@ pub fn put_fixed(out: &mut Vec<u8>, bytes: &[u8]) -> Result<(), Memory>
 }
 
 /// Appends opaque data or a string behind its length (RFC 4506 sections 4.10 and 4.11).
-#[tactic(auto, using(std::proofs::lemmas::List::append_assoc), unfolding(bfs_model::specs::Items::counted))]
+#[tactic(auto, using(std::proofs::lemmas::List::append_assoc), unfolding(bfs_model::specs::Bytes::Items::counted))]
 pub fn put_opaque(out: &mut Vec<u8>, bytes: &[u8]) -> Result<(), Memory>
     requires { length bytes.now < 2 ^ 32 }
     ensures ok { OnOk result (out.new.items ≡ out.old.items ++ counted bytes.now) }

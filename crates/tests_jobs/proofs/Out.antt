@@ -5,8 +5,8 @@ use Rattle.std.specs.List.{AllByRecursion, AllZip}
 use Rattle.std.proofs.lemmas.List.Elements.{All-append, All-from_recursion, recursion_from_All}
 use Rattle.std.proofs.lemmas.List.Sorted.{All-permutation, IsPermutation-refl}
 use Rattle.std.specs.List.Sorted.{IsPermutation}
-use Rattle.bfs_model.specs.Tree.{Time}
-use Rattle.bfs_model.specs.Conflicts.{among}
+use Rattle.bfs_model.specs.Server.Tree.{Time}
+use Rattle.bfs_model.specs.Server.Conflicts.{among}
 use Rattle.bfs_tree.specs.Slots.{Slots}
 use Rattle.bfs_handover.specs.Jobs.{IsDone}
 use Rattle.bfs_handover.specs.Loans.{ids_of}
@@ -14,7 +14,7 @@ use Rattle.bfs_handover.specs.Moves.{AreDistinct}
 use Rattle.bfs_handover.specs.Merging.{AreOut, IsOut}
 use Rattle.bfs_handover.specs.declared.job.Job.{Job}
 use Rattle.bfs_handover.specs.declared.job.Done.{Done}
-use Rattle.bfs_handover.proofs.Homecoming.{results_are_out}
+use Rattle.bfs_handover.proofs.Public.{results_are_out}
 use Rattle.tests_jobs.specs.Both.{AreSplit, whole_batch}
 
 none_is_out : (tree : Slots) (number_of : ℕ → ℕ) (done : Done) → done.inodes ≡ [] → IsOut tree number_of done

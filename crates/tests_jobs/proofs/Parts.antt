@@ -2,19 +2,19 @@
 use Rattle.std.proofs.Common.{◌≡◌, ℕ, false, List, [], ◌∷◌, Some, length, take, refl, ap, sym, subst, ◌∙◌, arith, unwrap_or}
 use Rattle.std.specs.Prelude.{All, slice_get}
 use Rattle.std.proofs.lemmas.List.Elements.{All-from_recursion}
-use Rattle.bfs_model.specs.Tree.{Time}
-use Rattle.bfs_model.specs.Serial.{ordinal_after}
-use Rattle.bfs_model.specs.Footprints.{Footprint, footprint_of}
-use Rattle.bfs_model.specs.Conflicts.{is_whole, conflict}
-use Rattle.bfs_model.specs.Groups.{AreDisjoint, footprints_at}
-use Rattle.bfs_model.specs.WellFormed.{IsWellFormed}
-use Rattle.bfs_model.proofs.WellFormed.Numbered.{fresh_where_numbered, numbered_older}
+use Rattle.bfs_model.specs.Server.Tree.{Time}
+use Rattle.bfs_model.specs.Server.Serial.{ordinal_after}
+use Rattle.bfs_model.specs.Server.Footprints.{Footprint, footprint_of}
+use Rattle.bfs_model.specs.Server.Conflicts.{is_whole, conflict}
+use Rattle.bfs_model.specs.Server.Groups.{AreDisjoint, footprints_at}
+use Rattle.bfs_model.specs.Server.WellFormed.{IsWellFormed}
+use Rattle.bfs_model.proofs.Public.{fresh_where_numbered, numbered_older}
 use Rattle.bfs_serial.specs.Held.{held}
 use Rattle.bfs_tree.specs.Slots.{Slots}
 use Rattle.bfs_tree.specs.Tree.{at_home}
 use Rattle.bfs_handover.specs.Splitting.{CanBeSplit, IsFoundOn, IsSplit, footprints_for, part_of}
 use Rattle.bfs_handover.specs.declared.job.Job.{Job}
-use Rattle.bfs_handover.proofs.SplitLemmas.{found}
+use Rattle.bfs_handover.proofs.Public.{found}
 use Rattle.tests_jobs.specs.Both.{AreSplit}
 
 two_requests : (requests : List (List ℕ)) (one two : List ℕ) → length requests ≡ 2 → slice_get requests 0 ≡ Some one → slice_get requests 1 ≡ Some two → requests ≡ one ∷ two ∷ []

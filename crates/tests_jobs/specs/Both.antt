@@ -1,7 +1,7 @@
 -- Both requests of a batch, split off a tree.
 use Rattle.std.specs.Prelude.{ℕ, List, [], ◌∷◌}
-use Rattle.bfs_model.specs.Tree.{Time}
-use Rattle.bfs_model.specs.Groups.{AreDisjoint, footprints_at}
+use Rattle.bfs_model.specs.Server.Tree.{Time}
+use Rattle.bfs_model.specs.Server.Groups.{AreDisjoint, footprints_at}
 use Rattle.bfs_tree.specs.Slots.{Slots}
 use Rattle.bfs_tree.specs.Tree.{at_home}
 use Rattle.bfs_handover.specs.Splitting.{Part, part_of, footprints_for, IsSplit}

@@ -1,7 +1,7 @@
 //! Two WRITEs to two files of a tree, split off it and run on what stays.
 ghost use Rattle.std.specs.Prelude.{◌≡◌, [], ◌∷◌, All, IfOk, IsTrue};
 ghost use Rattle.std.specs.List.{AllZip};
-ghost use Rattle.bfs_model.specs.WellFormed.{IsWellFormed};
+ghost use Rattle.bfs_model.specs.Server.WellFormed.{IsWellFormed};
 ghost use Rattle.bfs_serial.specs.Held.{held};
 ghost use Rattle.bfs_tree.specs.Tree.{reach_of};
 ghost use Rattle.bfs_handover.specs.Jobs.{CanRun, IsDone};

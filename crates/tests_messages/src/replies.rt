@@ -1,6 +1,6 @@
 //! The last reply to each client.
 ghost use Rattle.std.specs.Prelude.{◌≤◌, length};
-ghost use Rattle.bfs_model.specs.Limits.{most_reply_bytes};
+ghost use Rattle.bfs_model.specs.Server.Limits.{most_reply_bytes};
 
 use bfs_replies::{Class, MOST_CLIENTS, ReadError, RecordError, ReplyTable};
 use bfs_testing::words::{same_bytes, spells};

@@ -1,7 +1,7 @@
 -- A job whose request touches no inode can be run on any tree.
 use Rattle.std.proofs.Common.{◌≡◌, ◌∙◌, ℕ, [], sym, ap, subst, inr}
-use Rattle.bfs_model.specs.Footprints.{Footprint, IsFreshFor, footprint_of, known}
-use Rattle.bfs_model.specs.Tree.{Inodes}
+use Rattle.bfs_model.specs.Server.Footprints.{Footprint, IsFreshFor, footprint_of, known}
+use Rattle.bfs_model.specs.Server.Tree.{Inodes}
 use Rattle.bfs_tree.specs.Reach.{Knows, Reach}
 use Rattle.bfs_tree.specs.Slots.{Slots}
 use Rattle.bfs_tree.specs.Tree.{at_home, lent}

@@ -1,6 +1,6 @@
 //! Jobs that touch no inode, so that they can be run on any tree.
 ghost use Rattle.std.specs.Prelude.{◌≡◌, [], All, IfOk, IsTrue};
-ghost use Rattle.bfs_model.specs.Footprints.{known};
+ghost use Rattle.bfs_model.specs.Server.Footprints.{known};
 ghost use Rattle.bfs_footprint.specs.Seen.{footprint_seen};
 ghost use Rattle.bfs_tree.specs.Tree.{reach_of};
 ghost use Rattle.bfs_handover.specs.Jobs.{CanRun};

@@ -1,6 +1,6 @@
 //! Generated groups under generated lists of events, with the outcome of the calls one after another.
 use crate::groups::{compare, core_of, count_of, played, with_files};
-use bfs_core::{Core, Event};
+use bfs_overtaking::{Core, Event};
 use bfs_serial::Batch;
 use bfs_testing::generated::Generator;
 use bfs_testing::numbers::{

@@ -1,6 +1,6 @@
 //! Groups of a batch on the machine, and what is compared.
-use bfs_core::{Core, CoreError, Event};
 use bfs_levels::plan_group;
+use bfs_overtaking::{Core, CoreError, Event};
 use bfs_serial::{Batch, FileSystem, execute_serial};
 use bfs_testing::asserts::compared;
 use bfs_testing::numbers::CREATE;

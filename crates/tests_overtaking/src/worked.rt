@@ -1,6 +1,6 @@
 //! Worked groups: each refusal, and calls that are finished after later ones.
 use crate::groups::{Asked, batch_of, compare, core_of, part_of, played, with_files};
-use bfs_core::{Core, CoreError, Event};
+use bfs_overtaking::{Core, CoreError, Event};
 use bfs_serial::execute_serial;
 use bfs_testing::numbers::{CREATE, LOOKUP, READ, REMOVE, RENAME, STATFS, WRITE};
 use bfs_testing::words::{A, B, D, FOURTH, ROOT, THIRD, UNSET};

@@ -6,9 +6,9 @@ use Rattle.std.specs.Ordering.{nat_cmp, eq_by_cmp}
 use Rattle.std.specs.FinMap.{get, keys, contains_key, contains_key-keys, nat_cmp-IsAntisymmetric}
 use Rattle.std.proofs.lemmas.List.Elements.{All-nil, recursion_from_All}
 use Rattle.std.proofs.lemmas.Map.Views.{tells_apart}
-use Rattle.bfs_model.specs.Tree.{Entry, Inode, Inodes, first_ordinal, new_tree, entries_at}
-use Rattle.bfs_model.proofs.WellFormed.Numbered.{fresh_where_numbered, new_is_numbered}
-use Rattle.bfs_model.specs.Footprints.{Footprint, known, whole, IsNewAt, IsNewIn, IsFreshFor}
+use Rattle.bfs_model.specs.Server.Tree.{Entry, Inode, Inodes, first_ordinal, new_tree, entries_at}
+use Rattle.bfs_model.proofs.Public.{fresh_where_numbered, new_is_numbered}
+use Rattle.bfs_model.specs.Server.Footprints.{Footprint, known, whole, IsNewAt, IsNewIn, IsFreshFor}
 
 -- where there is no inode
 new_at_none : (m : Inodes) (o id : ℕ) (found : Option Inode) → get m id ≡ found → is_some found ≡ false → IsNewAt m o id

@@ -5,10 +5,10 @@ use Rattle.std.specs.List.{AllByRecursion}
 use Rattle.std.proofs.lemmas.List.Elements.{All-weaker, All-from_recursion}
 use Rattle.std.proofs.lemmas.List.{length-append}
 use Rattle.std.proofs.lemmas.Slice.Eq.{bytes_eq-Decides}
-use Rattle.bfs_model.specs.Limits.{most_entries}
-use Rattle.bfs_model.specs.Tree.{Time, Entry, Body, file, directory, link, Inode, entries_in}
-use Rattle.bfs_model.specs.Changes.{with_entry}
-use Rattle.bfs_model.specs.Directories.{entry_named}
+use Rattle.bfs_model.specs.Server.Limits.{most_entries}
+use Rattle.bfs_model.specs.Server.Tree.{Time, Entry, Body, file, directory, link, Inode, entries_in}
+use Rattle.bfs_model.specs.Server.Changes.{with_entry}
+use Rattle.bfs_model.specs.Server.Directories.{entry_named}
 use Rattle.bfs_testing.specs.Letters.{number_of}
 use Rattle.tests_server.specs.Entries.{IsBelow, AreNumbered}
 

@@ -1,7 +1,7 @@
 -- Entries of a directory that is filled.
 use Rattle.std.specs.Prelude.{ℕ, ◌+◌, ◌<◌, ◌≤◌, List, length}
 use Rattle.std.specs.List.{AllByRecursion}
-use Rattle.bfs_model.specs.Tree.{Entry}
+use Rattle.bfs_model.specs.Server.Tree.{Entry}
 use Rattle.bfs_testing.specs.Letters.{number_of}
 
 -- an entry of a lower number: its name spells it, and the cookies begin at 4

@@ -1,8 +1,8 @@
 //! Answers to calls, one at a time (RFC 5531 section 9, RFC 1094 section 2.2).
 ghost use Rattle.std.specs.Prelude.{◌≡◌, IsTrue};
-ghost use Rattle.bfs_model.specs.Footprints.{Footprint, IsFreshFor};
-ghost use Rattle.bfs_model.specs.Tree.{first_ordinal};
-ghost use Rattle.bfs_model.specs.Short.{IsShort};
+ghost use Rattle.bfs_model.specs.Server.Footprints.{Footprint, IsFreshFor};
+ghost use Rattle.bfs_model.specs.Server.Tree.{first_ordinal};
+ghost use Rattle.bfs_model.specs.Server.Short.{IsShort};
 ghost use Rattle.bfs_wire.specs.Calls.{call_seen};
 
 use crate::fresh::new_tree;
@@ -61,7 +61,7 @@ static REFUSED: &[(&str, &str, &str)] = &[
 ];
 
 // a whole store knows what any request reads, and the first ordinal is fresh
-#[tactic(auto, using(bfs_serial::proofs::Whole::knows_all_touched))]
+#[tactic(auto, using(bfs_serial::proofs::Public::knows_all_touched))]
 fn answer_whole<S: Store>(alloc: Global, store: &mut S, request: &[u8]) -> Result<Vec<u8>, Memory>
     requires whole { IsTrue ((S.reach store.old).whole) }
     requires fresh { (footprint : Footprint) → IsFreshFor (S.inodes store.old) first_ordinal footprint }

@@ -2,8 +2,8 @@
 ghost use Rattle.std.specs.Prelude.{◌<◌, ℕ, ◌↔◌, IsTrue, IfOk};
 ghost use Rattle.std.specs.List.{All};
 ghost use Rattle.std.specs.FinMap.{keys};
-ghost use Rattle.bfs_model.specs.Footprints.{Footprint, IsFreshFor, IsNewAt};
-ghost use Rattle.bfs_model.specs.Tree.{entries_in, first_ordinal};
+ghost use Rattle.bfs_model.specs.Server.Footprints.{Footprint, IsFreshFor, IsNewAt};
+ghost use Rattle.bfs_model.specs.Server.Tree.{entries_in, first_ordinal};
 ghost use Rattle.bfs_tree.specs.Tree.{at_home, reach_of};
 
 use bfs_inode::{FileId, Inode};

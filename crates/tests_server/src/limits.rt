@@ -1,7 +1,7 @@
 //! What is refused where ordinals, links or entries are at their end.
 ghost use Rattle.std.specs.Prelude.{◌≡◌, ◌+◌, ◌<◌, [], IfOk, IsTrue, OnOk};
-ghost use Rattle.bfs_model.specs.Limits.{most_entries};
-ghost use Rattle.bfs_model.specs.Tree.{entries_in};
+ghost use Rattle.bfs_model.specs.Server.Limits.{most_entries};
+ghost use Rattle.bfs_model.specs.Server.Tree.{entries_in};
 ghost use Rattle.bfs_tree.specs.Tree.{reach_of};
 ghost use Rattle.tests_server.specs.Entries.{AreNumbered};
 

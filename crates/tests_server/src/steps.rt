@@ -1,7 +1,7 @@
 //! Calls one after another, each with the results that it is to get.
 ghost use Rattle.std.specs.Prelude.{◌≡◌, IsTrue};
-ghost use Rattle.bfs_model.specs.Footprints.{Footprint, IsFreshFor};
-ghost use Rattle.bfs_model.specs.Short.{IsShort};
+ghost use Rattle.bfs_model.specs.Server.Footprints.{Footprint, IsFreshFor};
+ghost use Rattle.bfs_model.specs.Server.Short.{IsShort};
 ghost use Rattle.bfs_tree.specs.Tree.{reach_of};
 ghost use Rattle.bfs_wire.specs.Calls.{call_seen};
 
@@ -124,7 +124,7 @@ fn run_words(alloc: Global, tree: &mut Tree, ordinal: Ordinal, step: &Step) -> R
 
 /// Carries out a call on a whole store, which knows what any call reads and owns what it writes, under an ordinal that is fresh
 /// whatever is touched.
-#[tactic(auto, using(bfs_serial::proofs::Whole::knows_all_touched))]
+#[tactic(auto, using(bfs_serial::proofs::Public::knows_all_touched))]
 pub(crate) fn run_whole<S: Store>(
     alloc: Global,
     store: &mut S,

@@ -1,8 +1,8 @@
 //! Inodes and trees that grow, and what is then in them.
 ghost use Rattle.std.specs.Prelude.{◌≡◌, ◌<◌, ◌≤◌, ◌↔◌, None, length, IsTrue};
 ghost use Rattle.std.specs.List.{All};
-ghost use Rattle.bfs_model.specs.Directories.{entry_named};
-ghost use Rattle.bfs_model.specs.Limits.{most_entries, most_name_bytes};
+ghost use Rattle.bfs_model.specs.Server.Directories.{entry_named};
+ghost use Rattle.bfs_model.specs.Server.Limits.{most_entries, most_name_bytes};
 
 use bfs_inode::{Directory, FileId, Inode};
 use bfs_testing::holds;

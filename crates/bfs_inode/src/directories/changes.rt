@@ -1,7 +1,7 @@
 ghost use Rattle.std.specs.Prelude.{◌≡◌, ◌<◌, ◌≤◌, None, [], ◌∷◌, ◌++◌, length, OnOk, OnErr};
 ghost use Rattle.std.specs.List.{All};
-ghost use Rattle.bfs_model.specs.Limits.{most_name_bytes, most_entries};
-ghost use Rattle.bfs_model.specs.Directories.{entry_named, without_name};
+ghost use Rattle.bfs_model.specs.Server.Limits.{most_name_bytes, most_entries};
+ghost use Rattle.bfs_model.specs.Server.Directories.{entry_named, without_name};
 
 use crate::directories::index::{put, take};
 use crate::directories::{Directory, Entry};

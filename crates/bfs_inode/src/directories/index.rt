@@ -2,7 +2,7 @@
 ghost use Rattle.std.specs.Prelude.{◌≡◌, ◌<◌, None, [], ◌∷◌, ◌++◌, OnOk, OnErr};
 ghost use Rattle.std.specs.BTreeMap.{values};
 ghost use Rattle.std.specs.List.{All};
-ghost use Rattle.bfs_model.specs.Directories.{entry_named, without_name};
+ghost use Rattle.bfs_model.specs.Server.Directories.{entry_named, without_name};
 ghost use Rattle.bfs_inode.specs.Directories.{AreEntries, AreIndexed};
 
 use crate::directories::Entry;

@@ -1,8 +1,8 @@
 // Entries that may be a directory's: they are few, their cookies rise, and their names differ.
 ghost use Rattle.std.specs.Prelude.{◌↔◌, IsTrue, IfOk};
 ghost use Rattle.std.specs.Option.{SomeIff};
-ghost use Rattle.bfs_model.specs.Tree.{spent_ordinal};
-ghost use Rattle.bfs_model.specs.WellFormed.{IsRising};
+ghost use Rattle.bfs_model.specs.Server.Tree.{spent_ordinal};
+ghost use Rattle.bfs_model.specs.Server.WellFormed.{IsRising};
 ghost use Rattle.bfs_inode.specs.Directories.{AreEntries};
 
 use crate::directories::{Directory, Entry};

@@ -1,6 +1,6 @@
 ghost use Rattle.std.specs.Prelude.{◌≡◌, ◌≤◌, ◌==◌, [], ◌∷◌, length, MatchOption, IfSome};
-ghost use Rattle.bfs_model.specs.Limits.{most_name_bytes};
-ghost use Rattle.bfs_model.specs.Directories.{all_listed, listed_behind, listed_size, page_of};
+ghost use Rattle.bfs_model.specs.Server.Limits.{most_name_bytes};
+ghost use Rattle.bfs_model.specs.Server.Directories.{all_listed, listed_behind, listed_size, page_of};
 ghost use Rattle.bfs_inode.specs.Pages.{listed_seen};
 
 use crate::directories::Directory;

@@ -1,8 +1,8 @@
 // What is left to list of a directory.
 ghost use Rattle.std.specs.Prelude.{◌≡◌, ℕ, ◌==◌, ◌≤◌, [], ◌∷◌, length, drop, MatchOption, IfSome};
 ghost use Rattle.std.specs.Map.{values_of};
-ghost use Rattle.bfs_model.specs.Limits.{most_name_bytes};
-ghost use Rattle.bfs_model.specs.Directories.{all_listed, listed_behind};
+ghost use Rattle.bfs_model.specs.Server.Limits.{most_name_bytes};
+ghost use Rattle.bfs_model.specs.Server.Directories.{all_listed, listed_behind};
 ghost use Rattle.bfs_inode.specs.Pages.{listed_seen};
 ghost use Rattle.bfs_inode.specs.Rest.{listed_from};
 
@@ -37,7 +37,7 @@ pub(super) struct Rest<'a> {
 impl<'a> Model for Rest<'a> {
     ghost use Rattle.std.specs.Prelude.{List};
     ghost use Rattle.std.specs.Map.{values_of};
-    ghost use Rattle.bfs_model.specs.Tree as model;
+    ghost use Rattle.bfs_model.specs.Server.Tree as model;
     ghost use Rattle.bfs_inode.specs.Rest.{listed_from};
 
     ghost Value = { List model.Entry };

@@ -1,10 +1,10 @@
 ghost use Rattle.std.specs.Prelude.{◌≡◌, ◌+◌, ◌<◌, ◌≤◌, None, length, OnOk, OnErr, IsSome};
 ghost use Rattle.std.specs.List.{All};
 ghost use Rattle.std.specs.Option.{ForSome};
-ghost use Rattle.bfs_model.specs.Tree.{entries_in};
-ghost use Rattle.bfs_model.specs.Directories.{entry_named};
-ghost use Rattle.bfs_model.specs.Limits.{most_name_bytes, most_file_bytes, most_entries, most_links};
-ghost use Rattle.bfs_model.specs.Changes.{touched, with_bytes, with_ctime, with_entry, with_link, with_link_less, with_parent, with_settings, without_entry};
+ghost use Rattle.bfs_model.specs.Server.Tree.{entries_in};
+ghost use Rattle.bfs_model.specs.Server.Directories.{entry_named};
+ghost use Rattle.bfs_model.specs.Server.Limits.{most_name_bytes, most_file_bytes, most_entries, most_links};
+ghost use Rattle.bfs_model.specs.Server.Changes.{touched, with_bytes, with_ctime, with_entry, with_link, with_link_less, with_parent, with_settings, without_entry};
 ghost use Rattle.bfs_inode.specs.Inodes.{file_in};
 
 use crate::inodes::{Inode, permissions_set, time_set};

@@ -4,11 +4,11 @@ use Rattle.std.specs.List.{AllByRecursion}
 use Rattle.std.specs.FinMap.{get, same_map, nat_cmp-IsAntisymmetric}
 use Rattle.std.specs.Cmp.{nat_cmp_total}
 use Rattle.std.proofs.lemmas.Bool.{cond-true, cond_both, or_left, or_right}
-use Rattle.bfs_model.specs.Tree.{Inode, Inodes}
-use Rattle.bfs_model.specs.Procedures.{procedure}
-use Rattle.bfs_model.specs.Footprints.{Footprint, known, whole, footprint}
-use Rattle.bfs_model.specs.Conflicts.{among, is_written, is_touched, AgreeOn, set_at, put_back, closed}
-use Rattle.bfs_model.specs.FootprintLaws.{CallsKeepToFootprints}
+use Rattle.bfs_model.specs.Server.Tree.{Inode, Inodes}
+use Rattle.bfs_model.specs.Server.Procedures.{procedure}
+use Rattle.bfs_model.specs.Server.Footprints.{Footprint, known, whole, footprint}
+use Rattle.bfs_model.specs.Server.Conflicts.{among, is_written, is_touched, AgreeOn, set_at, put_back, closed}
+use Rattle.bfs_model.specs.Laws.Footprints.{CallsKeepToFootprints}
 use Rattle.bfs_model.proofs.WellFormed.Sums.{get-set_at}
 use Rattle.bfs_model.proofs.Footprints.Frames.{IsOpen}
 use Rattle.bfs_model.proofs.Footprints.FramedCalls.{IsSeen, IsCovered, procedure_framed}

@@ -3,9 +3,9 @@ use Rattle.std.proofs.Common.{◌≡◌, ℕ, Bool, true, false, cond, List, [],
 use Rattle.std.specs.List.{list_any}
 use Rattle.std.specs.FinMap.{get}
 use Rattle.std.proofs.lemmas.Bool.{cond-true, cond-false, or_parts, or_cases}
-use Rattle.bfs_model.specs.Tree.{Inodes}
-use Rattle.bfs_model.specs.Footprints.{Footprint, known, whole}
-use Rattle.bfs_model.specs.Conflicts.{among, is_written, is_touched, conflict, AgreeOn, outcome_on}
+use Rattle.bfs_model.specs.Server.Tree.{Inodes}
+use Rattle.bfs_model.specs.Server.Footprints.{Footprint, known, whole}
+use Rattle.bfs_model.specs.Server.Conflicts.{among, is_written, is_touched, conflict, AgreeOn, outcome_on}
 use Rattle.bfs_model.proofs.Footprints.Agreement.{same_inodes, get-closed, written_is_touched}
 
 pub none_hit : (p : ℕ → Bool) (ids : List ℕ) → list_any p ids ≡ false → (id : ℕ) → among ids id ≡ true → p id ≡ false

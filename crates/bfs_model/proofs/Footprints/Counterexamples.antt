@@ -1,9 +1,9 @@
 -- Footprints do not stay on inodes that are no tree: an entry that names nothing comes to name a new directory.
 use Rattle.std.proofs.Common.{◌≡◌, [], ◌∷◌, Some, refl, codes}
-use Rattle.bfs_model.specs.Tree.{Inodes}
-use Rattle.bfs_model.specs.Arguments.{rename, make_directory}
-use Rattle.bfs_model.specs.Procedures.{procedure}
-use Rattle.bfs_model.specs.Footprints.{known, whole, footprint}
+use Rattle.bfs_model.specs.Server.Tree.{Inodes}
+use Rattle.bfs_model.specs.Bytes.Arguments.{rename, make_directory}
+use Rattle.bfs_model.specs.Server.Procedures.{procedure}
+use Rattle.bfs_model.specs.Server.Footprints.{known, whole, footprint}
 use Rattle.bfs_model.proofs.Maps.{inode_gets}
 use Rattle.bfs_model.proofs.Runs.{under, unset, at, a_file, a_directory, the_root, entry, holding}
 

@@ -4,19 +4,19 @@ use Rattle.std.proofs.lemmas.Bool.{both_ways}
 use Rattle.std.proofs.lemmas.Option.{same_Some}
 use Rattle.std.specs.List.{AllByRecursion}
 use Rattle.std.specs.FinMap.{get, insert, remove}
-use Rattle.bfs_model.specs.Limits.{most_file_bytes}
-use Rattle.bfs_model.specs.Tree.{Entry, Inode, Inodes, is_directory}
-use Rattle.bfs_model.specs.Context.{Context}
-use Rattle.bfs_model.specs.Directories.{entry_named}
-use Rattle.bfs_model.specs.Arguments.{Call, null, get_attributes, set_attributes, root, look_up, read_link, read, write_cache, write, create, remove as remove_file, rename, make_link, make_symbolic_link, make_directory, remove_directory, read_directory, file_system_status}
-use Rattle.bfs_model.specs.Changes.{with_settings, with_bytes, without_entry, with_link, with_link_less, changed, link_lost}
-use Rattle.bfs_model.specs.Replies.{Reply, fbig, nospc, done}
-use Rattle.bfs_model.specs.Refusals.{FoundInode, FoundDirectory, has_most_links, directory_found}
-use Rattle.bfs_model.specs.Procedures.{attempted, procedure}
-use Rattle.bfs_model.specs.Procedures.Names.{child_named}
-use Rattle.bfs_model.specs.Procedures.Making.{with_name, new_file, new_directory, new_symbolic_link}
-use Rattle.bfs_model.specs.Procedures.Renaming.{Renaming, Replaced, renaming_of, renaming_found, moves_directory, renamed}
-use Rattle.bfs_model.specs.Footprints.{Footprint, known, whole, ids_in, new_ids, child_at as child_in, id_found, moves_a_directory, footprint}
+use Rattle.bfs_model.specs.Server.Limits.{most_file_bytes}
+use Rattle.bfs_model.specs.Server.Tree.{Entry, Inode, Inodes, is_directory}
+use Rattle.bfs_model.specs.Server.Context.{Context}
+use Rattle.bfs_model.specs.Server.Directories.{entry_named}
+use Rattle.bfs_model.specs.Bytes.Arguments.{Call, null, get_attributes, set_attributes, root, look_up, read_link, read, write_cache, write, create, remove as remove_file, rename, make_link, make_symbolic_link, make_directory, remove_directory, read_directory, file_system_status}
+use Rattle.bfs_model.specs.Server.Changes.{with_settings, with_bytes, without_entry, with_link, with_link_less, changed, link_lost}
+use Rattle.bfs_model.specs.Bytes.Replies.{Reply, fbig, nospc, done}
+use Rattle.bfs_model.specs.Server.Refusals.{FoundInode, FoundDirectory, has_most_links, directory_found}
+use Rattle.bfs_model.specs.Server.Procedures.{attempted, procedure}
+use Rattle.bfs_model.specs.Server.Procedures.Names.{child_named}
+use Rattle.bfs_model.specs.Server.Procedures.Making.{with_name, new_file, new_directory, new_symbolic_link}
+use Rattle.bfs_model.specs.Server.Procedures.Renaming.{Renaming, Replaced, renaming_of, renaming_found, moves_directory, renamed}
+use Rattle.bfs_model.specs.Server.Footprints.{Footprint, known, whole, ids_in, new_ids, child_at as child_in, id_found, moves_a_directory, footprint}
 use Rattle.bfs_model.proofs.Found.{inode_at, directory_at, file_at, IsDirectoryAt, IsChildAt, IsRenamed, IsOnto, onto_none, onto_entry, found_was}
 use Rattle.bfs_model.proofs.Attempts.{LooksAlike, IfDone, attempts_alike}
 use Rattle.bfs_model.proofs.WellFormed.NewNames.{IsNewName, new_name, front_of, back_of, led_of}

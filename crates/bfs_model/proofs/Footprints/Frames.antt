@@ -3,15 +3,15 @@
 use Rattle.std.proofs.Common.{◌≡◌, ℕ, Bool, true, false, List, Option, Some, None, Result, Ok, Err, if◌then◌else◌, refl, ap, ◌∙◌}
 use Rattle.std.specs.Option.{option_map_or}
 use Rattle.std.specs.FinMap.{get, insert, remove}
-use Rattle.bfs_model.specs.Tree.{Inode, Inodes}
-use Rattle.bfs_model.specs.Context.{Context}
-use Rattle.bfs_model.specs.Replies.{Status, refused}
-use Rattle.bfs_model.specs.Changes.{without_entry, with_parent, with_link, with_link_less, with_ctime, changed, link_lost_of, link_lost}
-use Rattle.bfs_model.specs.Refusals.{Outcome}
-use Rattle.bfs_model.specs.Procedures.{or_refused}
-use Rattle.bfs_model.specs.Procedures.Making.{with_name}
-use Rattle.bfs_model.specs.Procedures.Renaming.{Renaming, Replaced, moves_directory, name_lost, name_cleared, moved_below, renamed}
-use Rattle.bfs_model.specs.Conflicts.{set_at}
+use Rattle.bfs_model.specs.Server.Tree.{Inode, Inodes}
+use Rattle.bfs_model.specs.Server.Context.{Context}
+use Rattle.bfs_model.specs.Bytes.Replies.{Status, refused}
+use Rattle.bfs_model.specs.Server.Changes.{without_entry, with_parent, with_link, with_link_less, with_ctime, changed, link_lost_of, link_lost}
+use Rattle.bfs_model.specs.Server.Refusals.{Outcome}
+use Rattle.bfs_model.specs.Server.Procedures.{or_refused}
+use Rattle.bfs_model.specs.Server.Procedures.Making.{with_name}
+use Rattle.bfs_model.specs.Server.Procedures.Renaming.{Renaming, Replaced, moves_directory, name_lost, name_cleared, moved_below, renamed}
+use Rattle.bfs_model.specs.Server.Conflicts.{set_at}
 use Rattle.bfs_model.proofs.Attempts.{Alike}
 
 -- a fileid at which a frame keeps what is there, and lets through what is set

@@ -3,12 +3,13 @@ use Rattle.std.proofs.Common.{◌≡◌, ℕ, List, [], ◌∷◌, IsFalse, refl
 use Rattle.std.specs.List.{AllByRecursion}
 use Rattle.std.specs.FinMap.{get}
 use Rattle.std.proofs.lemmas.Bool.{cond_both}
-use Rattle.bfs_model.specs.Tree.{Time, Inodes}
-use Rattle.bfs_model.specs.Serial.{ordinal_after, answer, inodes_after, replies_to}
-use Rattle.bfs_model.specs.Footprints.{footprint_of}
-use Rattle.bfs_model.specs.Conflicts.{is_written, conflict, AgreeOn, closed}
-use Rattle.bfs_model.specs.Groups.{footprints_at, footprints_in_order, AreDisjoint, IsCut, AreSeen, all_closed, all_replies, RunsKeepFootprints, RunsAreMerged, GroupsKeepFootprints}
-use Rattle.bfs_model.specs.OvertakingLaw.{Asked, answered}
+use Rattle.bfs_model.specs.Server.Tree.{Time, Inodes}
+use Rattle.bfs_model.specs.Server.Serial.{ordinal_after, answer, inodes_after, replies_to}
+use Rattle.bfs_model.specs.Server.Footprints.{footprint_of}
+use Rattle.bfs_model.specs.Server.Conflicts.{is_written, conflict, AgreeOn, closed}
+use Rattle.bfs_model.specs.Laws.Groups.{RunsKeepFootprints, RunsAreMerged, GroupsKeepFootprints}
+use Rattle.bfs_model.specs.Server.Groups.{footprints_at, footprints_in_order, AreDisjoint, IsCut, AreSeen, all_closed, all_replies}
+use Rattle.bfs_model.specs.Laws.Overtaking.{Asked, answered}
 use Rattle.bfs_model.proofs.Kept.{IsServable, servable, fresh_for_request, answer_keeps}
 use Rattle.bfs_model.proofs.Footprints.Agreement.{same_inodes, get-closed}
 use Rattle.bfs_model.proofs.Footprints.Apart as apart

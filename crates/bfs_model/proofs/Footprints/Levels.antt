@@ -2,10 +2,10 @@
 use Rattle.std.proofs.Common.{◌≡◌, ℕ, ◌<◌, true, false, List, [], ◌∷◌, map, refl, sym, ap, subst, ◌∙◌, eqb, eq-eqb, eqb-true, ne_eqb, ⊎_elim}
 use Rattle.std.specs.List.{AllByRecursion}
 use Rattle.std.proofs.lemmas.Bool.{cond-true, cond-false, cond_both, cases_Bool, both_ways, or_cases, or_parts}
-use Rattle.bfs_model.specs.Tree.{Inodes}
-use Rattle.bfs_model.specs.Footprints.{Footprint}
-use Rattle.bfs_model.specs.Conflicts.{among, AgreeOn, outcome_on}
-use Rattle.bfs_model.specs.Events.{Slot, taken, World, put_slot, MayBegin, took, ended, took_all, ended_all, AreDistinct, IsLevel, InLevels, state, start, IsComplete, IsInOrder}
+use Rattle.bfs_model.specs.Server.Tree.{Inodes}
+use Rattle.bfs_model.specs.Server.Footprints.{Footprint}
+use Rattle.bfs_model.specs.Server.Conflicts.{among, AgreeOn, outcome_on}
+use Rattle.bfs_model.specs.Server.Events.{Slot, taken, World, put_slot, MayBegin, took, ended, took_all, ended_all, AreDistinct, IsLevel, InLevels, state, start, IsComplete, IsInOrder}
 use Rattle.bfs_model.proofs.Footprints.Shared.{all_both}
 use Rattle.bfs_model.proofs.Footprints.Overtaking.{Kept, took_done, take_keeps, finish_keeps, ready, start_kept, complete}
 use Rattle.bfs_model.proofs.Footprints.Turns.{is_taken, AllHome, none_away}

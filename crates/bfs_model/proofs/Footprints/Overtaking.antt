@@ -2,11 +2,11 @@
 use Rattle.std.proofs.Common.{◌≡◌, ℕ, zero, suc, ◌<◌, ◌≤◌, inl, inr, Bool, true, false, cond, not, List, [], ◌∷◌, Option, None, refl, sym, ap, subst, ◌∙◌, eqb, eq-eqb, ne_eqb, ⊎_elim, arith}
 use Rattle.std.specs.FinMap.{get, empty, get-retain_keys, nat_cmp-IsAntisymmetric}
 use Rattle.std.proofs.lemmas.Bool.{cond-true, cond-false, cases_eq, cases_lt, cases_order, cases_Bool, both_ways, true_from_ne_false, false_from_ne_true}
-use Rattle.bfs_model.specs.Tree.{Inode, Inodes}
-use Rattle.bfs_model.specs.Footprints.{Footprint, known, whole}
-use Rattle.bfs_model.specs.Conflicts.{among, is_written, is_touched, AgreeOn, put_back, closed, outcome_on}
-use Rattle.bfs_model.specs.Shares.{moved_for, without}
-use Rattle.bfs_model.specs.Events.{Slot, waiting, taken, finished, is_done, is_begun, World, put_slot, Event, Take, Finish, moved, state, IsFree, took, ended, Step, Steps, start, IsComplete, IsInOrder}
+use Rattle.bfs_model.specs.Server.Tree.{Inode, Inodes}
+use Rattle.bfs_model.specs.Server.Footprints.{Footprint, known, whole}
+use Rattle.bfs_model.specs.Server.Conflicts.{among, is_written, is_touched, AgreeOn, put_back, closed, outcome_on}
+use Rattle.bfs_model.specs.Server.Shares.{moved_for, without}
+use Rattle.bfs_model.specs.Server.Events.{Slot, waiting, taken, finished, is_done, is_begun, World, put_slot, Event, Take, Finish, moved, state, IsFree, took, ended, Step, Steps, start, IsComplete, IsInOrder}
 use Rattle.bfs_model.proofs.Footprints.Agreement.{same_inodes, get-closed, get-put_back, written_is_touched}
 use Rattle.bfs_model.proofs.Footprints.Apart.{AreApart, apart, turned}
 use Rattle.bfs_model.proofs.Footprints.Shared.{get-without, moved_is_written}

@@ -2,15 +2,15 @@
 use Rattle.std.proofs.Common.{◌≡◌, ℕ, zero, suc, ◌<◌, inl, inr, true, false, List, [], ◌∷◌, length, map, refl, sym, ap, subst, ◌∙◌, ⊎_elim, arith}
 use Rattle.std.specs.List.{AllByRecursion}
 use Rattle.std.proofs.lemmas.Bool.{both_ways, cases_eq, cases_order}
-use Rattle.bfs_model.specs.Tree.{Time, Inodes}
-use Rattle.bfs_model.specs.Serial.{ordinal_after, answer, inodes_after, replies_to}
-use Rattle.bfs_model.specs.WellFormed.{IsTree}
-use Rattle.bfs_model.specs.Footprints.{Footprint, IsFreshFor, footprint_of}
-use Rattle.bfs_model.specs.Conflicts.{among, is_written, is_touched, resolved_of, AgreeOn, put_back, outcome_on}
-use Rattle.bfs_model.specs.Shares.{moved_for}
-use Rattle.bfs_model.specs.Groups.{footprints_at, footprints_in_order, IsCut}
-use Rattle.bfs_model.specs.Events.{Slot, waiting, taken, finished, is_done, World, Event, IsInOrder, state, carried_out, InTurn}
-use Rattle.bfs_model.specs.OvertakingLaw.{Asked, answered, asked_at, footprint_at, slots_of, plan, calls, at_first, EventsLead, TurnsLead, LevelsLead, AllAreDone, MayBeTaken, HasItsFootprint, IsAsInOrder, RequestsOvertake, DisjointRequestsOvertake, LegalOrdersAreAsTheBatch, LevelsAreAsTheBatch, FootprintsHold, WaitingFootprintsHold}
+use Rattle.bfs_model.specs.Server.Tree.{Time, Inodes}
+use Rattle.bfs_model.specs.Server.Serial.{ordinal_after, answer, inodes_after, replies_to}
+use Rattle.bfs_model.specs.Server.WellFormed.{IsTree}
+use Rattle.bfs_model.specs.Server.Footprints.{Footprint, IsFreshFor, footprint_of}
+use Rattle.bfs_model.specs.Server.Conflicts.{among, is_written, is_touched, resolved_of, AgreeOn, put_back, outcome_on}
+use Rattle.bfs_model.specs.Server.Shares.{moved_for}
+use Rattle.bfs_model.specs.Server.Groups.{footprints_at, footprints_in_order, IsCut}
+use Rattle.bfs_model.specs.Server.Events.{Slot, waiting, taken, finished, is_done, World, Event, IsInOrder, state, carried_out, InTurn}
+use Rattle.bfs_model.specs.Laws.Overtaking.{Asked, answered, asked_at, footprint_at, slots_of, plan, calls, at_first, EventsLead, TurnsLead, LevelsLead, AllAreDone, MayBeTaken, HasItsFootprint, IsAsInOrder, RequestsOvertake, DisjointRequestsOvertake, LegalOrdersAreAsTheBatch, LevelsAreAsTheBatch, FootprintsHold, WaitingFootprintsHold}
 use Rattle.bfs_model.proofs.Kept.{IsServable, servable, fresh_for_request, answer_keeps}
 use Rattle.bfs_model.proofs.Footprints.Apart.{apart, turned}
 use Rattle.bfs_model.proofs.Footprints.Stable.{new_in}

@@ -4,14 +4,14 @@ use Rattle.std.proofs.Common.{◌≡◌, ℕ, Bool, true, false, ◌&&◌, not, 
 use Rattle.std.specs.Option.{option_map_or}
 use Rattle.std.specs.FinMap.{get}
 use Rattle.std.proofs.lemmas.Bool.{or_left, or_right, or_cases}
-use Rattle.bfs_model.specs.Tree.{Inodes, is_directory, entries_at, listing_at}
-use Rattle.bfs_model.specs.Context.{Context}
-use Rattle.bfs_model.specs.Directories.{entry_named}
-use Rattle.bfs_model.specs.Arguments.{Call, look_up, remove as remove_file, rename, remove_directory}
-use Rattle.bfs_model.specs.Procedures.Names.{child_named}
-use Rattle.bfs_model.specs.Footprints.{known, whole, ids_in, child_at, id_found, moves_a_directory, footprint}
-use Rattle.bfs_model.specs.Conflicts.{moved_by, among, is_touched, resolved_in, AgreeOn}
-use Rattle.bfs_model.specs.FootprintLaws.{FootprintsFollow, FootprintsAgree, ResolvedIsTouched}
+use Rattle.bfs_model.specs.Server.Tree.{Inodes, is_directory, entries_at, listing_at}
+use Rattle.bfs_model.specs.Server.Context.{Context}
+use Rattle.bfs_model.specs.Server.Directories.{entry_named}
+use Rattle.bfs_model.specs.Bytes.Arguments.{Call, look_up, remove as remove_file, rename, remove_directory}
+use Rattle.bfs_model.specs.Server.Procedures.Names.{child_named}
+use Rattle.bfs_model.specs.Server.Footprints.{known, whole, ids_in, child_at, id_found, moves_a_directory, footprint}
+use Rattle.bfs_model.specs.Server.Conflicts.{moved_by, among, is_touched, resolved_in, AgreeOn}
+use Rattle.bfs_model.specs.Laws.Footprints.{FootprintsFollow, FootprintsAgree, ResolvedIsTouched}
 
 -- What is among ids --------------------------------------------------------------------------------------------------------
 

@@ -1,16 +1,16 @@
 -- What footprints tell of requests, which are bytes: a refused one touches nothing.
 use Rattle.std.proofs.Common.{◌≡◌, ℕ, true, Option, Some, None, Result, Ok, Err, refl, ap}
 use Rattle.std.specs.FinMap.{get}
-use Rattle.bfs_model.specs.Tree.{Time, Inodes}
-use Rattle.bfs_model.specs.Context.{Context}
-use Rattle.bfs_model.specs.Call.{Request, Refusal, call_of}
-use Rattle.bfs_model.specs.Arguments.{Call, arguments_of}
-use Rattle.bfs_model.specs.WellFormed.{IsTree}
-use Rattle.bfs_model.specs.Serial.{in_success, answer_arguments, answer_call, answer}
-use Rattle.bfs_model.specs.Footprints.{Footprint, IsFreshFor, footprint, footprint_of_arguments, footprint_of_call, footprint_of}
-use Rattle.bfs_model.specs.Conflicts.{among, is_touched, resolved_in, resolved_in_arguments, resolved_in_call, AgreeOn, outcome_on}
-use Rattle.bfs_model.specs.FootprintLaws.{RequestsKeepToFootprints, RequestFootprintsAgree, RequestFootprintsStay, RequestsKeepTrees, ResolvedIsTouchedByRequests, RequestsCommute}
-use Rattle.bfs_model.specs.OvertakingLaw.{Asked, answered}
+use Rattle.bfs_model.specs.Server.Tree.{Time, Inodes}
+use Rattle.bfs_model.specs.Server.Context.{Context}
+use Rattle.bfs_model.specs.Bytes.Call.{Request, Refusal, call_of}
+use Rattle.bfs_model.specs.Bytes.Arguments.{Call, arguments_of}
+use Rattle.bfs_model.specs.Server.WellFormed.{IsTree}
+use Rattle.bfs_model.specs.Server.Serial.{in_success, answer_arguments, answer_call, answer}
+use Rattle.bfs_model.specs.Server.Footprints.{Footprint, IsFreshFor, footprint, footprint_of_arguments, footprint_of_call, footprint_of}
+use Rattle.bfs_model.specs.Server.Conflicts.{among, is_touched, resolved_in, resolved_in_arguments, resolved_in_call, AgreeOn, outcome_on}
+use Rattle.bfs_model.specs.Laws.Footprints.{RequestsKeepToFootprints, RequestFootprintsAgree, RequestFootprintsStay, RequestsKeepTrees, ResolvedIsTouchedByRequests, RequestsCommute}
+use Rattle.bfs_model.specs.Laws.Overtaking.{Asked, answered}
 use Rattle.bfs_model.proofs.Footprints.Agreement.{calls_keep_to_footprints}
 use Rattle.bfs_model.proofs.Footprints.Apart as apart
 use Rattle.bfs_model.proofs.Footprints.Own.{footprint_same, footprints_agree, resolved_is_touched}

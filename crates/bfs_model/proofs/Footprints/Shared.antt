@@ -3,12 +3,13 @@ use Rattle.std.proofs.Common.{◌≡◌, ℕ, Bool, true, false, cond, ◌||◌,
 use Rattle.std.specs.List.{AllByRecursion}
 use Rattle.std.specs.FinMap.{get, get-retain_keys, nat_cmp-IsAntisymmetric}
 use Rattle.std.proofs.lemmas.Bool.{cond_both, or_parts, or_from}
-use Rattle.bfs_model.specs.Tree.{Time, Inodes}
-use Rattle.bfs_model.specs.Serial.{ordinal_after, answer}
-use Rattle.bfs_model.specs.Footprints.{Footprint, known, whole, footprint_of}
-use Rattle.bfs_model.specs.Conflicts.{among, is_written, is_touched, conflict, AgreeOn, closed}
-use Rattle.bfs_model.specs.Groups.{footprints_at, AreDisjoint, AreSeen, all_closed}
-use Rattle.bfs_model.specs.Shares.{moved_for, all_moved, without, share_of, is_there, footprints_on, RunsComeHome, SharesKnow, SharesHaveFootprints}
+use Rattle.bfs_model.specs.Server.Tree.{Time, Inodes}
+use Rattle.bfs_model.specs.Server.Serial.{ordinal_after, answer}
+use Rattle.bfs_model.specs.Server.Footprints.{Footprint, known, whole, footprint_of}
+use Rattle.bfs_model.specs.Server.Conflicts.{among, is_written, is_touched, conflict, AgreeOn, closed}
+use Rattle.bfs_model.specs.Server.Groups.{footprints_at, AreDisjoint, AreSeen, all_closed}
+use Rattle.bfs_model.specs.Laws.Shares.{RunsComeHome, SharesKnow, SharesHaveFootprints}
+use Rattle.bfs_model.specs.Server.Shares.{moved_for, all_moved, without, share_of, is_there, footprints_on}
 use Rattle.bfs_model.proofs.Footprints.Agreement.{same_inodes, get-closed}
 use Rattle.bfs_model.proofs.Footprints.Apart.{AreApart, apart, turned}
 use Rattle.bfs_model.proofs.Footprints.Grouped.{runs_are_merged}

@@ -3,17 +3,17 @@ use Rattle.std.proofs.Common.{◌≡◌, ℕ, ◌≤◌, ◌<◌, All, Bool, tru
 use Rattle.std.specs.List.{AllByRecursion}
 use Rattle.std.specs.FinMap.{get}
 use Rattle.std.proofs.lemmas.Bool.{cases_Bool, or_right}
-use Rattle.bfs_model.specs.Tree.{Entry, Body, file, directory, link, Inode, Inodes, is_directory, is_directory_body, entries_at}
-use Rattle.bfs_model.specs.Context.{Context}
-use Rattle.bfs_model.specs.Attributes.{FileType, regular, directory_type, symbolic_link, type_of}
-use Rattle.bfs_model.specs.Directories.{entry_named}
-use Rattle.bfs_model.specs.Arguments.{Call, rename}
-use Rattle.bfs_model.specs.WellFormed.{times, IsTree}
-use Rattle.bfs_model.specs.Refusals.{Outcome}
-use Rattle.bfs_model.specs.Procedures.{procedure}
-use Rattle.bfs_model.specs.Footprints.{Footprint, known, whole, ids_in, child_at, footprint, IsNewAt, IsNewIn}
-use Rattle.bfs_model.specs.Conflicts.{moved_by, is_written, among, resolved_in, AgreeOn, outcome_on}
-use Rattle.bfs_model.specs.FootprintLaws.{AddedIsWritten, CallsCommute, FootprintsStay, FreshOrdinalsAgree}
+use Rattle.bfs_model.specs.Server.Tree.{Entry, Body, file, directory, link, Inode, Inodes, is_directory, is_directory_body, entries_at}
+use Rattle.bfs_model.specs.Server.Context.{Context}
+use Rattle.bfs_model.specs.Bytes.Attributes.{FileType, regular, directory_type, symbolic_link, type_of}
+use Rattle.bfs_model.specs.Server.Directories.{entry_named}
+use Rattle.bfs_model.specs.Bytes.Arguments.{Call, rename}
+use Rattle.bfs_model.specs.Server.WellFormed.{times, IsTree}
+use Rattle.bfs_model.specs.Server.Refusals.{Outcome}
+use Rattle.bfs_model.specs.Server.Procedures.{procedure}
+use Rattle.bfs_model.specs.Server.Footprints.{Footprint, known, whole, ids_in, child_at, footprint, IsNewAt, IsNewIn}
+use Rattle.bfs_model.specs.Server.Conflicts.{moved_by, is_written, among, resolved_in, AgreeOn, outcome_on}
+use Rattle.bfs_model.specs.Laws.Footprints.{AddedIsWritten, CallsCommute, FootprintsStay, FreshOrdinalsAgree}
 use Rattle.bfs_model.proofs.Added.{types_kept}
 use Rattle.bfs_model.proofs.WellFormed.Trees.{tree_kept}
 use Rattle.bfs_model.proofs.WellFormed.Named.{found_named}

@@ -2,11 +2,11 @@
 use Rattle.std.proofs.Common.{◌≡◌, ℕ, ◌<◌, Bool, true, false, cond, not, List, [], ◌∷◌, None, refl, sym, ap, subst, ◌∙◌, eqb}
 use Rattle.std.specs.FinMap.{get}
 use Rattle.std.proofs.lemmas.Bool.{cond-false, cond_both, both_ways}
-use Rattle.bfs_model.specs.Tree.{Inodes}
-use Rattle.bfs_model.specs.Footprints.{Footprint}
-use Rattle.bfs_model.specs.Conflicts.{is_written, AgreeOn, closed, outcome_on}
-use Rattle.bfs_model.specs.Shares.{moved_for, without}
-use Rattle.bfs_model.specs.Events.{Slot, waiting, taken, finished, World, moved, state, took, ended, start, IsComplete, IsInOrder, MayBegin, carried_out, InTurn}
+use Rattle.bfs_model.specs.Server.Tree.{Inodes}
+use Rattle.bfs_model.specs.Server.Footprints.{Footprint}
+use Rattle.bfs_model.specs.Server.Conflicts.{is_written, AgreeOn, closed, outcome_on}
+use Rattle.bfs_model.specs.Server.Shares.{moved_for, without}
+use Rattle.bfs_model.specs.Server.Events.{Slot, waiting, taken, finished, World, moved, state, took, ended, start, IsComplete, IsInOrder, MayBegin, carried_out, InTurn}
 use Rattle.bfs_model.proofs.Footprints.Agreement.{same_inodes, get-closed}
 use Rattle.bfs_model.proofs.Footprints.Shared.{get-without, moved_is_written}
 use Rattle.bfs_model.proofs.Footprints.Overtaking.{Kept, slot_here, take_keeps, finish_keeps, ready, start_kept, complete}

@@ -2,9 +2,9 @@
 use Rattle.std.proofs.Common.{◌≡◌, ℕ, ◌+◌, ◌≤◌, Bool, true, false, cond, eqb, IsTrue, IsFalse, [], Option, Some, None, inl, inr, refl, sym, ap, subst, ◌∙◌, arith}
 use Rattle.std.specs.FinMap.{get, insert, remove}
 use Rattle.std.proofs.lemmas.Bool.{cases_eq, cases_Bool, eqb-true, ne_eqb, cond-false}
-use Rattle.bfs_model.specs.Tree.{Body, file, directory, link, Inode, Inodes, root_id, is_directory_body, is_directory, parent_in, entries_in, entries_at, parent_at, parent_of}
-use Rattle.bfs_model.specs.WellFormed.{times, named, ReachesRoot, step}
-use Rattle.bfs_model.specs.Conflicts.{set_at}
+use Rattle.bfs_model.specs.Server.Tree.{Body, file, directory, link, Inode, Inodes, root_id, is_directory_body, is_directory, parent_in, entries_in, entries_at, parent_at, parent_of}
+use Rattle.bfs_model.specs.Server.WellFormed.{times, named, ReachesRoot, step}
+use Rattle.bfs_model.specs.Server.Conflicts.{set_at}
 use Rattle.bfs_model.proofs.WellFormed.Sums.{only, above, hit, hit_none, under, due_in, due, links_at, own, Owing, get-set_at, get-set_here, get-set_other, named-set, under-set, at-set, reaches_along}
 
 -- The equations --------------------------------------------------------------------------------------------------------

@@ -9,8 +9,8 @@ use Rattle.std.proofs.lemmas.Cmp.{eq_by_cmp_equiv}
 use Rattle.std.specs.Cmp.{nat_cmp_total}
 use Rattle.std.proofs.lemmas.Map.Views.{tells_apart}
 use Rattle.std.proofs.lemmas.Option.{same_Some}
-use Rattle.bfs_model.specs.Tree.{Time, Inode, Inodes}
-use Rattle.bfs_model.specs.Changes.{with_link_less, changed, link_lost_of, link_lost}
+use Rattle.bfs_model.specs.Server.Tree.{Time, Inode, Inodes}
+use Rattle.bfs_model.specs.Server.Changes.{with_link_less, changed, link_lost_of, link_lost}
 use Rattle.bfs_model.proofs.Maps.{got, got_removed}
 
 abbrev pub Each : (P : ℕ → Inode → Type 0) → Inodes → Type 0

@@ -3,10 +3,10 @@ use Rattle.std.proofs.Common.{◌≡◌, ℕ, ◌+◌, ◌≤◌, Bool, true, fa
 use Rattle.std.specs.FinMap.{get, insert, remove}
 use Rattle.std.proofs.lemmas.Bool.{ne_eqb, cond-true, cond-false}
 use Rattle.std.proofs.lemmas.Option.{same_Some}
-use Rattle.bfs_model.specs.Tree.{Time, Entry, Inode, Inodes, root_id, is_directory_body, is_directory, entries_in, entries_at, parent_in, parent_at, parent_of}
-use Rattle.bfs_model.specs.Directories.{entry_named, without_name}
-use Rattle.bfs_model.specs.Changes.{with_entry, without_entry, with_link, with_link_less, changed, link_lost}
-use Rattle.bfs_model.specs.WellFormed.{times, named}
+use Rattle.bfs_model.specs.Server.Tree.{Time, Entry, Inode, Inodes, root_id, is_directory_body, is_directory, entries_in, entries_at, parent_in, parent_at, parent_of}
+use Rattle.bfs_model.specs.Server.Directories.{entry_named, without_name}
+use Rattle.bfs_model.specs.Server.Changes.{with_entry, without_entry, with_link, with_link_less, changed, link_lost}
+use Rattle.bfs_model.specs.Server.WellFormed.{times, named}
 use Rattle.bfs_model.proofs.WellFormed.Sums.{only, one, hit, under, due, links_at, own, Owing, WellFormed, nothing, none_loose, get-set_here, get-set_other}
 use Rattle.bfs_model.proofs.WellFormed.Changes.{parents_kept, due_of_directory, settle, appear, vanish}
 use Rattle.bfs_model.proofs.WellFormed.Steps.{one_here, times-push, kind_listed, parent_listed, entries_listed, no_entries, no_parent, file_due, changed_there, insert_again, entry_added, entry_taken, firm_file, link_gained, link_gone, folder_linked, folder_unlinked}

@@ -5,10 +5,10 @@ use Rattle.std.proofs.lemmas.Bool.{both_ways, false_from_ne_true}
 use Rattle.std.proofs.lemmas.List.Elements.{All-cons, All-head, All-tail}
 use Rattle.std.proofs.lemmas.List.Folds.{find-append}
 use Rattle.std.proofs.lemmas.Slice.Eq.{bytes_eq-Decides}
-use Rattle.bfs_model.specs.Tree.{Entry}
-use Rattle.bfs_model.specs.Limits.{most_name_bytes}
-use Rattle.bfs_model.specs.Directories.{is_bad_name, entry_named, without_name}
-use Rattle.bfs_model.specs.WellFormed.{IsRising, HasNames, NamesDiffer}
+use Rattle.bfs_model.specs.Server.Tree.{Entry}
+use Rattle.bfs_model.specs.Server.Limits.{most_name_bytes}
+use Rattle.bfs_model.specs.Server.Directories.{is_bad_name, entry_named, without_name}
+use Rattle.bfs_model.specs.Server.WellFormed.{IsRising, HasNames, NamesDiffer}
 
 -- Each of them ----------------------------------------------------------------------------------------------------------
 

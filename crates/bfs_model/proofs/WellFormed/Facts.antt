@@ -2,9 +2,9 @@
 use Rattle.std.proofs.Common.{◌≡◌, ℕ, ◌+◌, ◌≤◌, cond, eqb, IsTrue, [], Option, Some, None, inl, inr, refl, sym, ap, subst, ◌∙◌, arith}
 use Rattle.std.specs.FinMap.{get}
 use Rattle.std.proofs.lemmas.Bool.{cases_eq, ne_eqb, cond-false}
-use Rattle.bfs_model.specs.Tree.{Inode, Inodes, root_id, is_directory_body, is_directory, entries_at, parent_in, parent_of}
-use Rattle.bfs_model.specs.WellFormed.{times, named}
-use Rattle.bfs_model.specs.Conflicts.{set_at}
+use Rattle.bfs_model.specs.Server.Tree.{Inode, Inodes, root_id, is_directory_body, is_directory, entries_at, parent_in, parent_of}
+use Rattle.bfs_model.specs.Server.WellFormed.{times, named}
+use Rattle.bfs_model.specs.Server.Conflicts.{set_at}
 use Rattle.bfs_model.proofs.WellFormed.Sums.{above, hit, under, due, WellFormed, get-set_other, weigh_zero, named-set}
 use Rattle.bfs_model.proofs.WellFormed.Changes.{parent_is_there, due_of_directory}
 

@@ -6,20 +6,20 @@ use Rattle.std.specs.FinMap.{get, insert, remove as removed}
 use Rattle.std.proofs.lemmas.Bool.{both_ways, leb-false, ltb-false}
 use Rattle.std.proofs.lemmas.List.{length-replicate}
 use Rattle.std.proofs.lemmas.Option.{same_Some}
-use Rattle.bfs_model.specs.Limits.{most_file_bytes, most_name_bytes, most_links}
-use Rattle.bfs_model.specs.Tree.{Time, Entry, Body, file, directory, link, Inode, Inodes, root_id, is_directory_body, entries_in, parent_in}
-use Rattle.bfs_model.specs.Context.{Context}
-use Rattle.bfs_model.specs.Arguments.{Call, null, get_attributes, set_attributes, root, look_up, read_link, read, write_cache, write, create, remove, rename, make_link, make_symbolic_link, make_directory, remove_directory, read_directory, file_system_status}
-use Rattle.bfs_model.specs.Replies.{Status, fbig, nospc}
-use Rattle.bfs_model.specs.Directories.{is_bad_name, entry_named}
-use Rattle.bfs_model.specs.Changes.{with_settings, with_size, resized_body, with_bytes, overwritten_body, without_entry, with_parent, with_link, with_link_less, with_ctime, changed}
-use Rattle.bfs_model.specs.Refusals.{FoundInode, FoundDirectory, checked, is_spent, has_most_links}
-use Rattle.bfs_model.specs.Procedures.{procedure}
-use Rattle.bfs_model.specs.Procedures.Making.{new_name_refusals, with_name, new_file, new_directory, new_symbolic_link}
-use Rattle.bfs_model.specs.Procedures.Renaming.{Replaced, Renaming, moves_directory, renaming_refusals, name_lost, name_cleared, moved_below, unnamed, renamed, renaming_of}
-use Rattle.bfs_model.specs.Footprints.{known, whole, ids_in, new_ids, child_at, moves_a_directory, IsNewAt, IsNewIn, IsFreshFor, IsFresh, footprint}
-use Rattle.bfs_model.specs.Short.{IsShort}
-use Rattle.bfs_model.specs.WellFormed.{times, named, IsTree, BodyIsLimited, IsLimited}
+use Rattle.bfs_model.specs.Server.Limits.{most_file_bytes, most_name_bytes, most_links}
+use Rattle.bfs_model.specs.Server.Tree.{Time, Entry, Body, file, directory, link, Inode, Inodes, root_id, is_directory_body, entries_in, parent_in}
+use Rattle.bfs_model.specs.Server.Context.{Context}
+use Rattle.bfs_model.specs.Bytes.Arguments.{Call, null, get_attributes, set_attributes, root, look_up, read_link, read, write_cache, write, create, remove, rename, make_link, make_symbolic_link, make_directory, remove_directory, read_directory, file_system_status}
+use Rattle.bfs_model.specs.Bytes.Replies.{Status, fbig, nospc}
+use Rattle.bfs_model.specs.Server.Directories.{is_bad_name, entry_named}
+use Rattle.bfs_model.specs.Server.Changes.{with_settings, with_size, resized_body, with_bytes, overwritten_body, without_entry, with_parent, with_link, with_link_less, with_ctime, changed}
+use Rattle.bfs_model.specs.Server.Refusals.{FoundInode, FoundDirectory, checked, is_spent, has_most_links}
+use Rattle.bfs_model.specs.Server.Procedures.{procedure}
+use Rattle.bfs_model.specs.Server.Procedures.Making.{new_name_refusals, with_name, new_file, new_directory, new_symbolic_link}
+use Rattle.bfs_model.specs.Server.Procedures.Renaming.{Replaced, Renaming, moves_directory, renaming_refusals, name_lost, name_cleared, moved_below, unnamed, renamed, renaming_of}
+use Rattle.bfs_model.specs.Server.Footprints.{known, whole, ids_in, new_ids, child_at, moves_a_directory, IsNewAt, IsNewIn, IsFreshFor, IsFresh, footprint}
+use Rattle.bfs_model.specs.Server.Short.{IsShort}
+use Rattle.bfs_model.specs.Server.WellFormed.{times, named, IsTree, BodyIsLimited, IsLimited}
 use Rattle.bfs_model.proofs.Found.{fails, inode_at, directory_at, file_at, IsDirectoryAt, IsRenamed, IsOnto}
 use Rattle.bfs_model.proofs.Attempts.{IfChanged, kept}
 use Rattle.bfs_model.proofs.WellFormed.Entries.{names_differ}

@@ -5,18 +5,18 @@ use Rattle.std.specs.Prelude.{◌==◌, nat_lt}
 use Rattle.std.specs.FinMap.{get, empty}
 use Rattle.std.proofs.lemmas.Bool.{ltb-false, leb-false}
 use Rattle.std.proofs.lemmas.List.{length-append, length-take, length-drop}
-use Rattle.bfs_model.specs.Limits.{most_file_bytes, most_name_bytes, most_entries, most_links}
-use Rattle.bfs_model.specs.Tree.{Time, Body, file, directory, link, Inode, Inodes, root_id, spent_ordinal, new_root, new_tree, is_directory_body, entries_in}
-use Rattle.bfs_model.specs.Context.{Context}
-use Rattle.bfs_model.specs.Arguments.{Settings}
-use Rattle.bfs_model.specs.Replies.{fbig}
-use Rattle.bfs_model.specs.Bytes.{filled_to, resized, overwritten}
-use Rattle.bfs_model.specs.Directories.{is_bad_name, without_name}
-use Rattle.bfs_model.specs.Changes.{with_settings, with_bytes, with_size, resized_body, overwritten_body, with_listing, without_entry, with_parent, with_link, with_link_less, with_ctime}
-use Rattle.bfs_model.specs.Refusals.{checked, is_spent}
-use Rattle.bfs_model.specs.Procedures.Attributes.{size_refusals}
-use Rattle.bfs_model.specs.Procedures.Making.{entry_made, with_name}
-use Rattle.bfs_model.specs.WellFormed.{BodyIsLimited, IsLimited}
+use Rattle.bfs_model.specs.Server.Limits.{most_file_bytes, most_name_bytes, most_entries, most_links}
+use Rattle.bfs_model.specs.Server.Tree.{Time, Body, file, directory, link, Inode, Inodes, root_id, spent_ordinal, new_root, new_tree, is_directory_body, entries_in}
+use Rattle.bfs_model.specs.Server.Context.{Context}
+use Rattle.bfs_model.specs.Bytes.Arguments.{Settings}
+use Rattle.bfs_model.specs.Bytes.Replies.{fbig}
+use Rattle.bfs_model.specs.Server.FileBytes.{filled_to, resized, overwritten}
+use Rattle.bfs_model.specs.Server.Directories.{is_bad_name, without_name}
+use Rattle.bfs_model.specs.Server.Changes.{with_settings, with_bytes, with_size, resized_body, overwritten_body, with_listing, without_entry, with_parent, with_link, with_link_less, with_ctime}
+use Rattle.bfs_model.specs.Server.Refusals.{checked, is_spent}
+use Rattle.bfs_model.specs.Server.Procedures.Attributes.{size_refusals}
+use Rattle.bfs_model.specs.Server.Procedures.Making.{entry_made, with_name}
+use Rattle.bfs_model.specs.Server.WellFormed.{BodyIsLimited, IsLimited}
 use Rattle.bfs_model.proofs.Maps.{got_of_none}
 use Rattle.bfs_model.proofs.Found.{fails}
 use Rattle.bfs_model.proofs.WellFormed.Each.{each_inserted}

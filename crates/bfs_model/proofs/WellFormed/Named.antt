@@ -6,10 +6,10 @@ use Rattle.std.specs.FinMap.{find, get, entries, get-entries}
 use Rattle.std.proofs.lemmas.Bool.{eq-eqb, leb-false}
 use Rattle.std.proofs.lemmas.List.Sums.{sum_by-cons}
 use Rattle.std.proofs.lemmas.Option.{same_Some}
-use Rattle.bfs_model.specs.Tree.{Entry, Body, file, directory, link, Inode, Inodes, entries_in, entries_at}
-use Rattle.bfs_model.specs.Directories.{entry_named}
-use Rattle.bfs_model.specs.Procedures.Removing.{has_entries}
-use Rattle.bfs_model.specs.WellFormed.{times, named}
+use Rattle.bfs_model.specs.Server.Tree.{Entry, Body, file, directory, link, Inode, Inodes, entries_in, entries_at}
+use Rattle.bfs_model.specs.Server.Directories.{entry_named}
+use Rattle.bfs_model.specs.Server.Procedures.Removing.{has_entries}
+use Rattle.bfs_model.specs.Server.WellFormed.{times, named}
 
 -- what is found in a list counts in its sum
 found_by : (test : Bool) (weight : Inode → ℕ) (first x : Inode) (further : Option Inode) (rest : ℕ) → cond test (Some first) further ≡ Some x → (further ≡ Some x → weight x ≤ rest) → weight x ≤ weight first + rest

@@ -4,14 +4,14 @@ use Rattle.std.specs.Bool.{⊤}
 use Rattle.std.specs.Prelude.{All}
 use Rattle.std.specs.List.{AllByRecursion}
 use Rattle.std.proofs.lemmas.Bool.{both_ways, leb-false}
-use Rattle.bfs_model.specs.Limits.{most_entries}
-use Rattle.bfs_model.specs.Tree.{Listing, Body, Inode, Inodes, entries_in, entries_at}
-use Rattle.bfs_model.specs.Context.{Context}
-use Rattle.bfs_model.specs.Replies.{Status}
-use Rattle.bfs_model.specs.Directories.{is_bad_name, entry_named}
-use Rattle.bfs_model.specs.Refusals.{FoundDirectory, checked, is_spent, is_full}
-use Rattle.bfs_model.specs.Procedures.Making.{new_name_refusals}
-use Rattle.bfs_model.specs.Footprints.{Footprint, ids_in, IsNewAt, IsNewIn, IsFreshFor}
+use Rattle.bfs_model.specs.Server.Limits.{most_entries}
+use Rattle.bfs_model.specs.Server.Tree.{Listing, Body, Inode, Inodes, entries_in, entries_at}
+use Rattle.bfs_model.specs.Server.Context.{Context}
+use Rattle.bfs_model.specs.Bytes.Replies.{Status}
+use Rattle.bfs_model.specs.Server.Directories.{is_bad_name, entry_named}
+use Rattle.bfs_model.specs.Server.Refusals.{FoundDirectory, checked, is_spent, is_full}
+use Rattle.bfs_model.specs.Server.Procedures.Making.{new_name_refusals}
+use Rattle.bfs_model.specs.Server.Footprints.{Footprint, ids_in, IsNewAt, IsNewIn, IsFreshFor}
 use Rattle.bfs_model.proofs.Found.{fails, IsDirectoryAt}
 
 -- What the tests say -------------------------------------------------------------------------------------------------------

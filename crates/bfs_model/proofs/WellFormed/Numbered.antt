@@ -5,18 +5,18 @@ use Rattle.std.specs.List.{AllByRecursion}
 use Rattle.std.specs.FinMap.{get, empty}
 use Rattle.std.proofs.lemmas.Bool.{leb-false}
 use Rattle.std.proofs.lemmas.List.Elements.{All-nil, All-weaker, All-from_recursion}
-use Rattle.bfs_model.specs.Tree.{Entry, Listing, Body, file, directory, link, Inode, Inodes, root_id, first_ordinal, spent_ordinal, new_root, new_tree, entries_in, entries_at, parent_in}
-use Rattle.bfs_model.specs.Context.{Context}
-use Rattle.bfs_model.specs.Directories.{without_name}
-use Rattle.bfs_model.specs.Arguments.{Call}
-use Rattle.bfs_model.specs.Changes.{with_listing, without_entry, with_parent}
-use Rattle.bfs_model.specs.Refusals.{is_spent}
-use Rattle.bfs_model.specs.Procedures.{procedure}
-use Rattle.bfs_model.specs.Procedures.Making.{entry_made, with_name}
-use Rattle.bfs_model.specs.Footprints.{Footprint, footprint, known, whole, IsNewAt, IsNewIn, IsFreshFor}
-use Rattle.bfs_model.specs.Serial.{ordinal_after}
-use Rattle.bfs_model.specs.WellFormed.{IsWellFormedTree, IsNumbered}
-use Rattle.bfs_model.specs.Short.{IsShort}
+use Rattle.bfs_model.specs.Server.Tree.{Entry, Listing, Body, file, directory, link, Inode, Inodes, root_id, first_ordinal, spent_ordinal, new_root, new_tree, entries_in, entries_at, parent_in}
+use Rattle.bfs_model.specs.Server.Context.{Context}
+use Rattle.bfs_model.specs.Server.Directories.{without_name}
+use Rattle.bfs_model.specs.Bytes.Arguments.{Call}
+use Rattle.bfs_model.specs.Server.Changes.{with_listing, without_entry, with_parent}
+use Rattle.bfs_model.specs.Server.Refusals.{is_spent}
+use Rattle.bfs_model.specs.Server.Procedures.{procedure}
+use Rattle.bfs_model.specs.Server.Procedures.Making.{entry_made, with_name}
+use Rattle.bfs_model.specs.Server.Footprints.{Footprint, footprint, known, whole, IsNewAt, IsNewIn, IsFreshFor}
+use Rattle.bfs_model.specs.Server.Serial.{ordinal_after}
+use Rattle.bfs_model.specs.Server.WellFormed.{IsWellFormedTree, IsNumbered}
+use Rattle.bfs_model.specs.Server.Short.{IsShort}
 use Rattle.bfs_model.proofs.Maps.{got_of_none}
 use Rattle.bfs_model.proofs.WellFormed.Each.{each_inserted}
 use Rattle.bfs_model.proofs.WellFormed.Entries.{either_by}

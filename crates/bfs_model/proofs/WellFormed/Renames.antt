@@ -5,16 +5,16 @@ use Rattle.std.specs.Option.{option_map_or}
 use Rattle.std.specs.FinMap.{get, insert, remove}
 use Rattle.std.proofs.lemmas.Bool.{cases_eq, cases_Bool, ne_eqb, eq-eqb, eqb-true, eqb-false, cond-true, cond-false}
 use Rattle.std.proofs.lemmas.Option.{same_Some}
-use Rattle.bfs_model.specs.Tree.{Time, Entry, Listing, Body, file, directory, link, Inode, Inodes, root_id, is_directory_body, is_directory, entries_in, entries_at, parent_in, parent_at, parent_of}
-use Rattle.bfs_model.specs.Context.{Context}
-use Rattle.bfs_model.specs.Replies.{Status}
-use Rattle.bfs_model.specs.Directories.{entry_named, without_name}
-use Rattle.bfs_model.specs.Changes.{with_listing, with_entry, without_entry, with_parent, with_link, with_link_less, with_ctime, changed, link_lost, link_lost_of}
-use Rattle.bfs_model.specs.Refusals.{FoundInode, FoundDirectory, checked}
-use Rattle.bfs_model.specs.Procedures.Making.{entry_made, with_name}
-use Rattle.bfs_model.specs.Procedures.Removing.{has_entries}
-use Rattle.bfs_model.specs.Procedures.Renaming.{Renaming, Replaced, is_below, moves_directory, onto_entries, renaming_refusals, name_lost, name_cleared, moved_below, renamed, renaming_of}
-use Rattle.bfs_model.specs.WellFormed.{times, named, ReachesRoot}
+use Rattle.bfs_model.specs.Server.Tree.{Time, Entry, Listing, Body, file, directory, link, Inode, Inodes, root_id, is_directory_body, is_directory, entries_in, entries_at, parent_in, parent_at, parent_of}
+use Rattle.bfs_model.specs.Server.Context.{Context}
+use Rattle.bfs_model.specs.Bytes.Replies.{Status}
+use Rattle.bfs_model.specs.Server.Directories.{entry_named, without_name}
+use Rattle.bfs_model.specs.Server.Changes.{with_listing, with_entry, without_entry, with_parent, with_link, with_link_less, with_ctime, changed, link_lost, link_lost_of}
+use Rattle.bfs_model.specs.Server.Refusals.{FoundInode, FoundDirectory, checked}
+use Rattle.bfs_model.specs.Server.Procedures.Making.{entry_made, with_name}
+use Rattle.bfs_model.specs.Server.Procedures.Removing.{has_entries}
+use Rattle.bfs_model.specs.Server.Procedures.Renaming.{Renaming, Replaced, is_below, moves_directory, onto_entries, renaming_refusals, name_lost, name_cleared, moved_below, renamed, renaming_of}
+use Rattle.bfs_model.specs.Server.WellFormed.{times, named, ReachesRoot}
 use Rattle.bfs_model.proofs.Found.{fails, IsRenamed, IsOnto, onto_none, onto_entry}
 use Rattle.bfs_model.proofs.WellFormed.Sums.{one, above, hit, under, links_at, own, Owing, WellFormed, nothing, none_loose, cut, get-set_here, get-set_other, reaches_along}
 use Rattle.bfs_model.proofs.WellFormed.Changes.{read_kept, parent_other, settle, reparent}

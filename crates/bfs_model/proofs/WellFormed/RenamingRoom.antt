@@ -4,14 +4,14 @@ use Rattle.std.specs.Bool.{⊤}
 use Rattle.std.specs.Prelude.{◌==◌, All}
 use Rattle.std.specs.FinMap.{get, remove}
 use Rattle.std.proofs.lemmas.Bool.{leb-false, not-false, and_parts, eqb-true, eq-eqb}
-use Rattle.bfs_model.specs.Limits.{most_entries, most_links}
-use Rattle.bfs_model.specs.Tree.{Entry, Body, file, directory, link, Inode, Inodes, is_directory_body, entries_in}
-use Rattle.bfs_model.specs.Context.{Context}
-use Rattle.bfs_model.specs.Directories.{entry_named, without_name}
-use Rattle.bfs_model.specs.Changes.{with_listing, without_entry, with_parent, with_link, with_link_less, changed}
-use Rattle.bfs_model.specs.Refusals.{FoundInode, FoundDirectory, checked, is_full, has_most_links}
-use Rattle.bfs_model.specs.Procedures.Renaming.{Replaced, moves_directory, onto_directory, renaming_refusals, name_lost, name_cleared, moved_below, unnamed, renaming_of}
-use Rattle.bfs_model.specs.WellFormed.{NamesDiffer}
+use Rattle.bfs_model.specs.Server.Limits.{most_entries, most_links}
+use Rattle.bfs_model.specs.Server.Tree.{Entry, Body, file, directory, link, Inode, Inodes, is_directory_body, entries_in}
+use Rattle.bfs_model.specs.Server.Context.{Context}
+use Rattle.bfs_model.specs.Server.Directories.{entry_named, without_name}
+use Rattle.bfs_model.specs.Server.Changes.{with_listing, without_entry, with_parent, with_link, with_link_less, changed}
+use Rattle.bfs_model.specs.Server.Refusals.{FoundInode, FoundDirectory, checked, is_full, has_most_links}
+use Rattle.bfs_model.specs.Server.Procedures.Renaming.{Replaced, moves_directory, onto_directory, renaming_refusals, name_lost, name_cleared, moved_below, unnamed, renaming_of}
+use Rattle.bfs_model.specs.Server.WellFormed.{NamesDiffer}
 use Rattle.bfs_model.proofs.Found.{fails, IsRenamed, IsOnto, onto_none, onto_entry}
 use Rattle.bfs_model.proofs.WellFormed.Entries.{all_without, none_without, differ_without, gone_named, shorter, no_longer}
 use Rattle.bfs_model.proofs.WellFormed.Each.{At, at_found, at_changed, at_changed_here, at_changed_other, at_removed, at_link_lost}

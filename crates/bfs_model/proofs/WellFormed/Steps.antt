@@ -5,11 +5,11 @@ use Rattle.std.specs.Cmp.{nat_cmp_total}
 use Rattle.std.specs.FinMap.{get, insert, remove, same_map, nat_cmp-IsAntisymmetric}
 use Rattle.std.proofs.lemmas.Bool.{eqb-true, eq-eqb, leb-true, cond-true, cond-false, or_parts}
 use Rattle.std.proofs.lemmas.Option.{same_Some}
-use Rattle.bfs_model.specs.Tree.{Time, Entry, Listing, Body, file, directory, link, Inode, Inodes, root_id, is_directory_body, is_directory, entries_in, entries_at, parent_in, parent_at, parent_of}
-use Rattle.bfs_model.specs.Directories.{entry_named, without_name}
-use Rattle.bfs_model.specs.Changes.{with_listing, with_entry, without_entry, with_link, with_link_less, changed, link_lost, link_lost_of}
-use Rattle.bfs_model.specs.WellFormed.{times}
-use Rattle.bfs_model.specs.Conflicts.{set_at}
+use Rattle.bfs_model.specs.Server.Tree.{Time, Entry, Listing, Body, file, directory, link, Inode, Inodes, root_id, is_directory_body, is_directory, entries_in, entries_at, parent_in, parent_at, parent_of}
+use Rattle.bfs_model.specs.Server.Directories.{entry_named, without_name}
+use Rattle.bfs_model.specs.Server.Changes.{with_listing, with_entry, without_entry, with_link, with_link_less, changed, link_lost, link_lost_of}
+use Rattle.bfs_model.specs.Server.WellFormed.{times}
+use Rattle.bfs_model.specs.Server.Conflicts.{set_at}
 use Rattle.bfs_model.proofs.WellFormed.Sums.{only, one, above, hit, hit_none, under, due_in, due, links_at, own, Owing, get-set_at, under-set}
 use Rattle.bfs_model.proofs.WellFormed.Changes.{none_either, settle, alter, vanish}
 

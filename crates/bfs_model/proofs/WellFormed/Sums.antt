@@ -7,9 +7,9 @@ use Rattle.std.specs.FinMap.{FinMap, find, put, is_sorted, get, insert, remove, 
 use Rattle.std.proofs.lemmas.List.Sums.{sum_by-cons}
 use Rattle.std.proofs.lemmas.Bool.{eq-eqb, ne_eqb, eqb-true, cond-true, cond-false}
 use Rattle.std.proofs.lemmas.Map.Views.{tells_apart}
-use Rattle.bfs_model.specs.Tree.{Body, file, directory, link, Inode, Inodes, root_id, is_directory_body, is_directory, entries_in, entries_at, parent_at, parent_of}
-use Rattle.bfs_model.specs.Conflicts.{set_at}
-use Rattle.bfs_model.specs.WellFormed.{times, named, ReachesRoot, at_root, step}
+use Rattle.bfs_model.specs.Server.Tree.{Body, file, directory, link, Inode, Inodes, root_id, is_directory_body, is_directory, entries_in, entries_at, parent_at, parent_of}
+use Rattle.bfs_model.specs.Server.Conflicts.{set_at}
+use Rattle.bfs_model.specs.Server.WellFormed.{times, named, ReachesRoot, at_root, step}
 
 -- Sums over a map ------------------------------------------------------------------------------------------------------
 

@@ -2,19 +2,19 @@
 use Rattle.std.proofs.Common.{◌≡◌, ℕ, ◌≤◌, Bool, not, IsTrue, IsFalse, List, [], ◌∷◌, Option, Some, None, inl, inr, nat_lt, unwrap_or, refl, sym, ap, ◌∙◌, arith}
 use Rattle.std.specs.FinMap.{get, insert, remove as remove_at}
 use Rattle.std.proofs.lemmas.Bool.{not-false}
-use Rattle.bfs_model.specs.Tree.{Time, Entry, Body, file, directory, link, Inode, Inodes, is_directory_body, entries_in, entries_at, parent_in}
-use Rattle.bfs_model.specs.Context.{Context}
-use Rattle.bfs_model.specs.Limits.{most_file_bytes}
-use Rattle.bfs_model.specs.Arguments.{Settings, Call, set_attributes, write, create, remove, rename, make_link, make_symbolic_link, make_directory, remove_directory}
-use Rattle.bfs_model.specs.Replies.{Status, isdir, notdir, notempty, fbig, nospc}
-use Rattle.bfs_model.specs.Directories.{entry_named}
-use Rattle.bfs_model.specs.Changes.{with_size, with_settings, with_bytes, resized_body, overwritten_body, without_entry, with_link_less, changed, link_lost}
-use Rattle.bfs_model.specs.Refusals.{FoundInode, FoundDirectory, has_most_links}
-use Rattle.bfs_model.specs.Procedures.Making.{entry_made, new_file, new_directory, new_symbolic_link}
-use Rattle.bfs_model.specs.Procedures.Removing.{has_entries}
-use Rattle.bfs_model.specs.Footprints.{IsFresh}
-use Rattle.bfs_model.specs.WellFormed.{times, named}
-use Rattle.bfs_model.specs.ProcedureLaws.{TreesStay}
+use Rattle.bfs_model.specs.Server.Tree.{Time, Entry, Body, file, directory, link, Inode, Inodes, is_directory_body, entries_in, entries_at, parent_in}
+use Rattle.bfs_model.specs.Server.Context.{Context}
+use Rattle.bfs_model.specs.Server.Limits.{most_file_bytes}
+use Rattle.bfs_model.specs.Bytes.Arguments.{Settings, Call, set_attributes, write, create, remove, rename, make_link, make_symbolic_link, make_directory, remove_directory}
+use Rattle.bfs_model.specs.Bytes.Replies.{Status, isdir, notdir, notempty, fbig, nospc}
+use Rattle.bfs_model.specs.Server.Directories.{entry_named}
+use Rattle.bfs_model.specs.Server.Changes.{with_size, with_settings, with_bytes, resized_body, overwritten_body, without_entry, with_link_less, changed, link_lost}
+use Rattle.bfs_model.specs.Server.Refusals.{FoundInode, FoundDirectory, has_most_links}
+use Rattle.bfs_model.specs.Server.Procedures.Making.{entry_made, new_file, new_directory, new_symbolic_link}
+use Rattle.bfs_model.specs.Server.Procedures.Removing.{has_entries}
+use Rattle.bfs_model.specs.Server.Footprints.{IsFresh}
+use Rattle.bfs_model.specs.Server.WellFormed.{times, named}
+use Rattle.bfs_model.specs.Laws.Procedures.{TreesStay}
 use Rattle.bfs_model.proofs.Found.{fails, inode_at, directory_at, file_at, IsChildAt}
 use Rattle.bfs_model.proofs.Fresh.{made_is_none}
 use Rattle.bfs_model.proofs.Attempts.{IfChanged, kept}

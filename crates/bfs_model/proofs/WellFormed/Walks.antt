@@ -6,9 +6,9 @@ use Rattle.std.specs.Cmp.{nat_cmp_total}
 use Rattle.std.specs.FinMap.{get, remove, len, get-remove, get-empty, len-remove, empty_of_len, nat_cmp-IsAntisymmetric}
 use Rattle.std.proofs.lemmas.Map.Views.{tells_apart}
 use Rattle.std.proofs.lemmas.Bool.{or_parts, or_right}
-use Rattle.bfs_model.specs.Tree.{Inode, Inodes, root_id, is_directory, parent_at, parent_of}
-use Rattle.bfs_model.specs.Procedures.Renaming.{is_within}
-use Rattle.bfs_model.specs.WellFormed.{ReachesRoot, at_root, step}
+use Rattle.bfs_model.specs.Server.Tree.{Inode, Inodes, root_id, is_directory, parent_at, parent_of}
+use Rattle.bfs_model.specs.Server.Procedures.Renaming.{is_within}
+use Rattle.bfs_model.specs.Server.WellFormed.{ReachesRoot, at_root, step}
 use Rattle.bfs_model.proofs.WellFormed.Sums.{WellFormed, cut}
 
 -- How long a way is ---------------------------------------------------------------------------------------------------

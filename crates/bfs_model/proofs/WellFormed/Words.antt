@@ -5,8 +5,8 @@ use Rattle.std.specs.FinMap.{FinMap, empty, get, remove, entries, get-empty}
 use Rattle.std.proofs.lemmas.List.Sums.{sum_by-cons}
 use Rattle.std.proofs.lemmas.Bool.{cases_lt, cases_eq}
 use Rattle.std.proofs.lemmas.Option.{same_Some}
-use Rattle.bfs_model.specs.Tree.{Entry, Body, file, directory, link, Inode, Inodes, root_id, new_root, new_tree, is_directory_body, is_directory, entries_in, entries_at, parent_in, parent_at, parent_of}
-use Rattle.bfs_model.specs.WellFormed.{times, named, directories_among, at_root, IsTree}
+use Rattle.bfs_model.specs.Server.Tree.{Entry, Body, file, directory, link, Inode, Inodes, root_id, new_root, new_tree, is_directory_body, is_directory, entries_in, entries_at, parent_in, parent_at, parent_of}
+use Rattle.bfs_model.specs.Server.WellFormed.{times, named, directories_among, at_root, IsTree}
 use Rattle.bfs_model.proofs.WellFormed.Changes.{same_zero}
 use Rattle.bfs_model.proofs.WellFormed.Sums.{weigh, weight_at, get-set_at, get-set_here, get-set_other, weigh-set_at, weigh_zero, one, above, hit, under, due, links_at, own, WellFormed, named-set}
 

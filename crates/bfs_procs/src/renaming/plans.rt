@@ -2,12 +2,12 @@
 ghost use Rattle.std.specs.Prelude.{◌≡◌, ◌∷◌, [], IfOk, IsTrue};
 ghost use Rattle.std.specs.Option.{ForSome, option_map};
 ghost use Rattle.std.specs.Result.{result_map_both};
-ghost use Rattle.bfs_model.specs.Arguments as call;
-ghost use Rattle.bfs_model.specs.Directories.{is_bad_name};
-ghost use Rattle.bfs_model.specs.Footprints.{footprint};
-ghost use Rattle.bfs_model.specs.Refusals.{checked};
-ghost use Rattle.bfs_model.specs.Replies.{perm};
-ghost use Rattle.bfs_model.specs.Procedures.Renaming.{moves_directory, renaming_found, renaming_planned};
+ghost use Rattle.bfs_model.specs.Bytes.Arguments as call;
+ghost use Rattle.bfs_model.specs.Server.Directories.{is_bad_name};
+ghost use Rattle.bfs_model.specs.Server.Footprints.{footprint};
+ghost use Rattle.bfs_model.specs.Server.Refusals.{checked};
+ghost use Rattle.bfs_model.specs.Bytes.Replies.{perm};
+ghost use Rattle.bfs_model.specs.Server.Procedures.Renaming.{moves_directory, renaming_found, renaming_planned};
 ghost use Rattle.bfs_procs.specs.Renaming.{KeepsLimits, replaced_at};
 ghost use Rattle.bfs_tree.specs.Reach.{Knows};
 ghost use Rattle.bfs_wire.specs.Replies.{status_seen};

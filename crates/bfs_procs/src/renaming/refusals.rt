@@ -1,8 +1,8 @@
 // Why RENAME may not be done.
 ghost use Rattle.std.specs.Prelude.{◌≡◌, ◌==◌, ◌&&◌, not, is_some, IsTrue};
 ghost use Rattle.std.specs.Result.{result_map_both};
-ghost use Rattle.bfs_model.specs.Procedures.Renaming as model;
-ghost use Rattle.bfs_model.specs.Refusals.{checked, is_full, has_most_links};
+ghost use Rattle.bfs_model.specs.Server.Procedures.Renaming as model;
+ghost use Rattle.bfs_model.specs.Server.Refusals.{checked, is_full, has_most_links};
 ghost use Rattle.bfs_wire.specs.Replies.{status_seen};
 
 use bfs_inode::FileId;
@@ -20,7 +20,7 @@ pub(super) struct Replaced {
 }
 
 impl Model for Replaced {
-    ghost use Rattle.bfs_model.specs.Procedures.Renaming as model;
+    ghost use Rattle.bfs_model.specs.Server.Procedures.Renaming as model;
 
     ghost Value = { model.Replaced };
 
@@ -43,7 +43,7 @@ pub(super) struct Renaming {
 }
 
 impl Model for Renaming {
-    ghost use Rattle.bfs_model.specs.Procedures.Renaming as model;
+    ghost use Rattle.bfs_model.specs.Server.Procedures.Renaming as model;
 
     ghost Value = { model.Renaming };
 

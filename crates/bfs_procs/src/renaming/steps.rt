@@ -2,9 +2,9 @@
 ghost use Rattle.std.specs.Prelude.{◌≡◌, ◌<◌, ◌≤◌, true, length, IsTrue, IfOk};
 ghost use Rattle.std.specs.FinMap.{get};
 ghost use Rattle.std.specs.Option.{ForSome};
-ghost use Rattle.bfs_model.specs.Limits.{most_name_bytes, most_links};
-ghost use Rattle.bfs_model.specs.Changes.{changed, with_parent};
-ghost use Rattle.bfs_model.specs.Procedures.Renaming.{moved_below, name_cleared, renamed};
+ghost use Rattle.bfs_model.specs.Server.Limits.{most_name_bytes, most_links};
+ghost use Rattle.bfs_model.specs.Server.Changes.{changed, with_parent};
+ghost use Rattle.bfs_model.specs.Server.Procedures.Renaming.{moved_below, name_cleared, renamed};
 ghost use Rattle.bfs_procs.specs.Renaming.{CanCarryOut};
 
 use crate::renaming::refusals::{Renaming, Replaced};

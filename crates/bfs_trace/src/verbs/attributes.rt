@@ -1,5 +1,5 @@
 // GETATTR and SETATTR (RFC 1094 sections 2.2.2 and 2.2.3).
-ghost use Rattle.bfs_model.specs.Arguments as model;
+ghost use Rattle.bfs_model.specs.Bytes.Arguments as model;
 ghost use Rattle.bfs_trace.specs.Reading.{AppendsCall};
 ghost use Rattle.bfs_trace.specs.Verbs.{file_words, set_attributes_words};
 

@@ -5,13 +5,10 @@ use Rattle.std.specs.List.{AllByRecursion, list_all}
 use Rattle.std.specs.Option.{option_map_or}
 use Rattle.std.specs.FinMap.{get, entries, len, remove}
 use Rattle.std.proofs.lemmas.Bool.{cases_lt, and_parts, and_from}
-use Rattle.bfs_model.specs.Tree.{Entry, Listing, Body, file, directory, link, Inode, Inodes, root_id, is_directory_body, is_directory, entries_in, entries_at, parent_in, parent_at, parent_of}
-use Rattle.bfs_model.specs.Procedures.Renaming.{is_within}
-use Rattle.bfs_model.specs.WellFormed.{times, named, directories_among, IsTree, IsWellFormedTree}
-use Rattle.bfs_model.proofs.WellFormed.Sums.{get-set_at, named-set, weigh_zero}
-use Rattle.bfs_model.proofs.WellFormed.Words.{formed_from}
-use Rattle.bfs_model.proofs.WellFormed.Walks.{way_met, reaches_within}
-use Rattle.bfs_model.proofs.WellFormed.Facts.{named_at_least}
+use Rattle.bfs_model.specs.Server.Tree.{Entry, Listing, Body, file, directory, link, Inode, Inodes, root_id, is_directory_body, is_directory, entries_in, entries_at, parent_in, parent_at, parent_of}
+use Rattle.bfs_model.specs.Server.Procedures.Renaming.{is_within}
+use Rattle.bfs_model.specs.Server.WellFormed.{times, named, directories_among, IsTree, IsWellFormedTree}
+use Rattle.bfs_model.proofs.Public.{formed_from, get-set_at, named-set, named_at_least, reaches_within, way_met, weigh_zero}
 use Rattle.bfs_tree.specs.WellFormed.{may_name, is_child, is_directory_in_place, is_in_place, IsInOrder}
 use Rattle.bfs_tree.proofs.WellFormed.Lists.{each_of_all, all_of_each, named_of_all, all_of_named}
 

@@ -8,11 +8,11 @@ use Rattle.std.proofs.lemmas.Bool.{cond-true, cond-false, and_parts, and_from, n
 use Rattle.std.proofs.lemmas.List.Recursion.{is_count_by}
 use Rattle.std.proofs.lemmas.Map.Views.{tells_apart}
 use Rattle.std.proofs.lemmas.Option.{same_Some}
-use Rattle.bfs_model.specs.Tree.{Entry, Inode, Inodes, is_directory}
-use Rattle.bfs_model.specs.Directories.{is_bad_name}
-use Rattle.bfs_model.specs.Limits.{most_name_bytes}
-use Rattle.bfs_model.specs.WellFormed.{times, directories_among, NamesDiffer, HasNames}
-use Rattle.bfs_model.proofs.WellFormed.Sums.{split, itself, apart}
+use Rattle.bfs_model.specs.Server.Tree.{Entry, Inode, Inodes, is_directory}
+use Rattle.bfs_model.specs.Server.Directories.{is_bad_name}
+use Rattle.bfs_model.specs.Server.Limits.{most_name_bytes}
+use Rattle.bfs_model.specs.Server.WellFormed.{times, directories_among, NamesDiffer, HasNames}
+use Rattle.bfs_model.proofs.Public.{split, itself, sums_apart as apart}
 use Rattle.bfs_tree.specs.WellFormed.{is_good_name}
 
 -- Inodes -----------------------------------------------------------------------------------------------------------------

@@ -4,8 +4,8 @@ use Rattle.std.specs.Prelude.{◌==◌, ◌↔◌}
 use Rattle.std.specs.List.{AllByRecursion}
 use Rattle.std.proofs.lemmas.Bool.{cases_eq}
 use Rattle.std.proofs.lemmas.List.Sums.{sum_by-cons}
-use Rattle.bfs_model.specs.Tree.{Inode, entries_in}
-use Rattle.bfs_model.specs.WellFormed.{times}
+use Rattle.bfs_model.specs.Server.Tree.{Inode, entries_in}
+use Rattle.bfs_model.specs.Server.WellFormed.{times}
 
 -- What a loop answers ----------------------------------------------------------------------------------------------------
 

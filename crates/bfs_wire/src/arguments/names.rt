@@ -1,11 +1,11 @@
 // The arguments of LOOKUP and READDIR (RFC 1094 sections 2.2.5 and 2.2.17).
-ghost use Rattle.bfs_model.specs.Arguments as model;
+ghost use Rattle.bfs_model.specs.Bytes.Arguments as model;
 ghost use Rattle.bfs_wire.specs.Calls.{IsReadAs};
 
 use crate::arguments::Arguments;
 use crate::call::NfsCall;
 
-#[tactic(auto, unfolding(bfs_model::specs::Arguments::named_at))]
+#[tactic(auto, unfolding(bfs_model::specs::Bytes::Arguments::named_at))]
 pub(crate) fn look_up<'a>(arguments: &mut Arguments<'a>) -> Option<NfsCall<'a>>
     ensures { IsReadAs (model.named_at model.look_up arguments.old) result arguments.new }
 {
@@ -15,7 +15,7 @@ pub(crate) fn look_up<'a>(arguments: &mut Arguments<'a>) -> Option<NfsCall<'a>>
     })
 }
 
-#[tactic(auto, unfolding(bfs_model::specs::Arguments::read_directory_at))]
+#[tactic(auto, unfolding(bfs_model::specs::Bytes::Arguments::read_directory_at))]
 pub(crate) fn read_directory<'a>(arguments: &mut Arguments<'a>) -> Option<NfsCall<'a>>
     ensures { IsReadAs (model.read_directory_at arguments.old) result arguments.new }
 {

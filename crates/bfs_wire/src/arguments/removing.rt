@@ -1,11 +1,11 @@
 // The arguments of REMOVE and RMDIR (RFC 1094 sections 2.2.11 and 2.2.16).
-ghost use Rattle.bfs_model.specs.Arguments as model;
+ghost use Rattle.bfs_model.specs.Bytes.Arguments as model;
 ghost use Rattle.bfs_wire.specs.Calls.{IsReadAs};
 
 use crate::arguments::Arguments;
 use crate::call::NfsCall;
 
-#[tactic(auto, unfolding(bfs_model::specs::Arguments::named_at))]
+#[tactic(auto, unfolding(bfs_model::specs::Bytes::Arguments::named_at))]
 pub(crate) fn remove<'a>(arguments: &mut Arguments<'a>) -> Option<NfsCall<'a>>
     ensures { IsReadAs (model.named_at model.remove arguments.old) result arguments.new }
 {
@@ -15,7 +15,7 @@ pub(crate) fn remove<'a>(arguments: &mut Arguments<'a>) -> Option<NfsCall<'a>>
     })
 }
 
-#[tactic(auto, unfolding(bfs_model::specs::Arguments::named_at))]
+#[tactic(auto, unfolding(bfs_model::specs::Bytes::Arguments::named_at))]
 pub(crate) fn remove_directory<'a>(arguments: &mut Arguments<'a>) -> Option<NfsCall<'a>>
     ensures { IsReadAs (model.named_at model.remove_directory arguments.old) result arguments.new }
 {

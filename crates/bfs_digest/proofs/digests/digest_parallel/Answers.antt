@@ -3,7 +3,7 @@ use Rattle.std.proofs.Common.{◌++◌, flat_map, Some, sym, ap, ◌∙◌}
 use Rattle.sha2.specs.Sha256.{sha256}
 use Rattle.bfs_tree.specs.Tree.{at_home}
 use Rattle.bfs_digest.specs.Text.{header_text}
-use Rattle.bfs_digest.specs.Hashed.{hashed_text}
+use Rattle.bfs_digest.specs.Inside.Hashed.{hashed_text}
 use Rattle.bfs_digest.proofs.Parts.{digest_is}
 use Rattle.bfs_digest.proofs.digests.digest_parallel.Goals as goal
 

@@ -1,6 +1,6 @@
 use Rattle.std.proofs.Common.{◌++◌, take, flat_map}
 use Rattle.sha2.specs.Hashers.{Holds256}
-use Rattle.bfs_digest.specs.Hashed.{hashed_text}
+use Rattle.bfs_digest.specs.Inside.Hashed.{hashed_text}
 use Rattle.bfs_digest.specs.Text.{header_text}
 use Rattle.bfs_digest.proofs.digests.digest_with.Given as goal
 

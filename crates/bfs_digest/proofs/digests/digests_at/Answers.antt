@@ -2,7 +2,7 @@ use Rattle.std.proofs.Common.{ap, ◌∙◌}
 use Rattle.rayon.proofs.ListFacts.{IfOk-then}
 use Rattle.rayon.proofs.ToStd.{slice-map}
 use Rattle.bfs_tree.specs.Tree.{at_home}
-use Rattle.bfs_digest.specs.Hashed.{hashed_at}
+use Rattle.bfs_digest.specs.Inside.Hashed.{hashed_at}
 use Rattle.bfs_digest.proofs.digests.digests_at.Goals as goal
 
 pub returns : goal.returns

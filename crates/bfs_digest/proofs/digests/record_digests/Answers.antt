@@ -1,7 +1,7 @@
 -- The fileids are the keys of the tree.
 use Rattle.std.proofs.Common.{map, flat_map, ap, ◌∙◌}
 use Rattle.bfs_tree.specs.Tree.{at_home}
-use Rattle.bfs_digest.specs.Hashed.{hashed_at, hashed_text}
+use Rattle.bfs_digest.specs.Inside.Hashed.{hashed_at, hashed_text}
 use Rattle.bfs_digest.proofs.Hashed.{all_hashed}
 use Rattle.bfs_digest.proofs.digests.record_digests.Goals as goal
 

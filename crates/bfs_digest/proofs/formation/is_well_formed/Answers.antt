@@ -1,11 +1,11 @@
 -- What each part of the look tells.
 use Rattle.std.proofs.Common.{ℕ, sym, ap, subst, ◌∙◌}
 use Rattle.std.specs.FinMap.{get}
-use Rattle.bfs_model.specs.Tree.{root_id, is_directory}
-use Rattle.bfs_digest.specs.Formation.{AreMarks, TakesRecords}
-use Rattle.bfs_digest.specs.Outlines.{MarksRise, outline}
+use Rattle.bfs_model.specs.Server.Tree.{root_id, is_directory}
+use Rattle.bfs_digest.specs.Inside.Formation.{AreMarks, TakesRecords}
+use Rattle.bfs_digest.specs.Inside.Outlines.{MarksRise, outline}
 use Rattle.bfs_digest.specs.Text.{Header}
-use Rattle.bfs_digest.specs.TextReading.{records_from}
+use Rattle.bfs_digest.specs.Inside.TextReading.{records_from}
 use Rattle.bfs_digest.proofs.Formed.{marks_rise, rootless, misplaced, misnamed, told_by_ways, not_formed}
 use Rattle.bfs_digest.proofs.Placing.{follow}
 use Rattle.bfs_digest.proofs.formation.is_well_formed.Goals as goal

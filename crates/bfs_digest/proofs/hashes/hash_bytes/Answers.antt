@@ -1,6 +1,6 @@
 use Rattle.std.proofs.Common.{◌≡◌, ◌++◌, length, ap, subst, ◌∙◌, append_assoc}
 use Rattle.sha2.specs.Hashers.{Holds256}
-use Rattle.bfs_model.specs.Items.{counted, fixed, word}
+use Rattle.bfs_model.specs.Bytes.Items.{counted, fixed, word}
 use Rattle.bfs_digest.proofs.hashes.hash_bytes.Goals as goal
 
 pub returns : goal.returns

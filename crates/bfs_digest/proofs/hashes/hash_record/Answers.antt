@@ -1,8 +1,8 @@
 -- The words in front, and then what the inode holds.
 use Rattle.std.proofs.Common.{◌++◌, [], ap, ◌∙◌}
 use Rattle.sha2.specs.Sha256.{sha256}
-use Rattle.bfs_model.specs.Items.{words}
-use Rattle.bfs_model.specs.Tree.{Body}
+use Rattle.bfs_model.specs.Bytes.Items.{words}
+use Rattle.bfs_model.specs.Server.Tree.{Body}
 use Rattle.bfs_inode.specs.Inodes.{body_seen}
 use Rattle.bfs_inode.specs.Records.{body_text, head_words, record_text}
 use Rattle.bfs_digest.proofs.hashes.hash_record.Goals as goal

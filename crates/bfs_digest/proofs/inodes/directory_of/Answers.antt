@@ -1,6 +1,6 @@
 -- A directory is built of its parent and its entries.
 use Rattle.std.proofs.Common.{ℕ, ap, ◌∙◌}
-use Rattle.bfs_model.specs.Tree.{directory}
+use Rattle.bfs_model.specs.Server.Tree.{directory}
 use Rattle.bfs_digest.proofs.InodeParts.{directory_built, directory_refused, directory_unread}
 use Rattle.bfs_digest.proofs.inodes.directory_of.Goals as goal
 

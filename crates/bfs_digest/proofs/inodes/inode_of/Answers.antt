@@ -1,7 +1,7 @@
 -- An inode is built of its head and of what it holds.
 use Rattle.std.proofs.Common.{ap, ◌∙◌, arith}
 use Rattle.bfs_inode.specs.Inodes.{body_seen}
-use Rattle.bfs_digest.specs.Taking.{head_seen}
+use Rattle.bfs_digest.specs.Inside.Taking.{head_seen}
 use Rattle.bfs_digest.proofs.InodeParts.{inode_built, inode_refused, many_links}
 use Rattle.bfs_digest.proofs.inodes.inode_of.Goals as goal
 

@@ -2,7 +2,7 @@
 use Rattle.std.proofs.Common.{Some, rules, sym, ap, ◌∙◌}
 use Rattle.std.specs.FinMap.{get}
 use Rattle.std.proofs.lemmas.List.Sorted.{answers_always}
-use Rattle.bfs_digest.specs.Outlines.{bare, outline}
+use Rattle.bfs_digest.specs.Inside.Outlines.{bare, outline}
 use Rattle.bfs_digest.specs.declared.outlines.Mark.{Mark}
 use Rattle.bfs_digest.proofs.Outlining.{searched}
 use Rattle.bfs_digest.proofs.outlines.mark_at.Goals as goal

@@ -1,6 +1,6 @@
 -- At first the root alone is reached.
 use Rattle.std.proofs.Common.{◌∙◌, arith}
-use Rattle.bfs_digest.specs.Outlines.{outline}
+use Rattle.bfs_digest.specs.Inside.Outlines.{outline}
 use Rattle.bfs_digest.proofs.Reached.{first_reached}
 use Rattle.bfs_digest.proofs.reach.all_reach_root.Goals as goal
 

@@ -1,8 +1,8 @@
 use Rattle.std.specs.BTreeSet.{contains}
 use Rattle.std.specs.List.{AllWithin}
 use Rattle.std.specs.Ordering.{nat_cmp}
-use Rattle.bfs_digest.specs.Formation.{AreReached, LeadsToRoot}
-use Rattle.bfs_digest.specs.Outlines.{marked, outline}
+use Rattle.bfs_digest.specs.Inside.Formation.{AreReached, LeadsToRoot}
+use Rattle.bfs_digest.specs.Inside.Outlines.{marked, outline}
 use Rattle.bfs_digest.proofs.reach.all_reach_root.Given as goal
 
 abbrev pub invariant-loop-mark : goal.invariant-loop-mark

@@ -3,11 +3,11 @@ use Rattle.std.proofs.Common.{◌≡◌, ℕ, ◌-◌, length, true, false, sym,
 use Rattle.std.specs.BTreeSet.{contains}
 use Rattle.std.specs.FinMap.{len}
 use Rattle.std.specs.Ordering.{nat_cmp}
-use Rattle.bfs_model.specs.Tree.{root_id}
-use Rattle.bfs_model.specs.Procedures.Renaming.{is_within}
-use Rattle.bfs_digest.specs.Outlines.{outline}
+use Rattle.bfs_model.specs.Server.Tree.{root_id}
+use Rattle.bfs_model.specs.Server.Procedures.Renaming.{is_within}
+use Rattle.bfs_digest.specs.Inside.Outlines.{outline}
 use Rattle.bfs_digest.proofs.Outlining.{outline_len}
-use Rattle.bfs_tree.proofs.Below.{one_up}
+use Rattle.bfs_tree.proofs.Public.{one_up}
 use Rattle.bfs_digest.proofs.Reached.{found, ended, further, walked, apart_from_root}
 use Rattle.bfs_digest.proofs.reach.reaches_root.Goals as goal
 

@@ -1,10 +1,10 @@
 use Rattle.std.proofs.Common.{◌≡◌, ◌-◌}
 use Rattle.std.specs.Prelude.{◌↔◌}
 use Rattle.std.specs.FinMap.{len}
-use Rattle.bfs_model.specs.Tree.{parent_of, root_id}
-use Rattle.bfs_model.specs.Procedures.Renaming.{is_within}
-use Rattle.bfs_model.specs.WellFormed.{ReachesRoot}
-use Rattle.bfs_digest.specs.Outlines.{outline}
+use Rattle.bfs_model.specs.Server.Tree.{parent_of, root_id}
+use Rattle.bfs_model.specs.Server.Procedures.Renaming.{is_within}
+use Rattle.bfs_model.specs.Server.WellFormed.{ReachesRoot}
+use Rattle.bfs_digest.specs.Inside.Outlines.{outline}
 use Rattle.bfs_digest.proofs.reach.reaches_root.Given as goal
 
 abbrev pub invariant-loop-step : goal.invariant-loop-step

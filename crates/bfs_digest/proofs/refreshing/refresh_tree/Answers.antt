@@ -2,7 +2,7 @@
 use Rattle.std.proofs.Common.{sym, subst, ◌∙◌}
 use Rattle.std.specs.List.{All}
 use Rattle.bfs_tree.specs.Tree.{at_home}
-use Rattle.bfs_digest.specs.Hashed.{IsHashed}
+use Rattle.bfs_digest.specs.Inside.Hashed.{IsHashed}
 use Rattle.bfs_digest.proofs.Hashed.{are_hashed}
 use Rattle.bfs_digest.proofs.refreshing.refresh_tree.Goals as goal
 

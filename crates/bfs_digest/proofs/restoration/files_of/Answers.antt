@@ -1,11 +1,11 @@
 -- The file system of the records is live where it was found well formed.
 use Rattle.std.proofs.Common.{ℕ, [], Option, Some, sym, ap, subst, ◌∙◌}
-use Rattle.bfs_model.specs.Stored.{IsLive}
-use Rattle.bfs_model.specs.Tree.{FileSystem, root_id}
+use Rattle.bfs_model.specs.Server.Stored.{IsLive}
+use Rattle.bfs_model.specs.Server.Tree.{FileSystem, root_id}
 use Rattle.bfs_serial.specs.Held.{held}
 use Rattle.bfs_digest.specs.Text.{Header}
-use Rattle.bfs_digest.specs.TextReading.{records_from}
-use Rattle.bfs_digest.specs.Taking.{BuildsTree, BuildsFiles}
+use Rattle.bfs_digest.specs.Inside.TextReading.{records_from}
+use Rattle.bfs_digest.specs.Inside.Taking.{BuildsTree, BuildsFiles}
 use Rattle.bfs_digest.proofs.Restoring.{ill_limited, built_files, held_is_live}
 use Rattle.bfs_digest.proofs.restoration.files_of.Goals as goal
 

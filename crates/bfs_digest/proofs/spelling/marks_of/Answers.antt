@@ -1,9 +1,9 @@
 -- Turn by turn one record is read and its mark put behind the others.
 use Rattle.std.proofs.Common.{◌≡◌, ◌+◌, ◌-◌, ◌++◌, List, map, sym, ap, subst, arith}
-use Rattle.bfs_model.specs.Tree.{root_id}
+use Rattle.bfs_model.specs.Server.Tree.{root_id}
 use Rattle.bfs_inode.specs.Records.{record_from}
-use Rattle.bfs_digest.specs.Outlines.{mark_of}
-use Rattle.bfs_digest.specs.TextReading.{records_from}
+use Rattle.bfs_digest.specs.Inside.Outlines.{mark_of}
+use Rattle.bfs_digest.specs.Inside.TextReading.{records_from}
 use Rattle.bfs_digest.specs.declared.outlines.Mark.{Mark}
 use Rattle.bfs_digest.proofs.Rising.{records_rise}
 use Rattle.bfs_digest.proofs.Skipping.{unmapped}

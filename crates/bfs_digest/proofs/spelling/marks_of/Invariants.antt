@@ -1,6 +1,6 @@
 use Rattle.std.proofs.Common.{◌-◌}
-use Rattle.bfs_model.specs.Tree.{root_id}
-use Rattle.bfs_digest.specs.TextReading.{records_from}
+use Rattle.bfs_model.specs.Server.Tree.{root_id}
+use Rattle.bfs_digest.specs.Inside.TextReading.{records_from}
 use Rattle.bfs_digest.proofs.Taken.{MarksLeft}
 use Rattle.bfs_digest.proofs.Walking.{Walks}
 use Rattle.bfs_digest.proofs.spelling.marks_of.Given as goal

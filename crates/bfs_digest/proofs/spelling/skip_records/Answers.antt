@@ -1,7 +1,7 @@
 -- Turn by turn one is passed over, or ends it.
 use Rattle.std.proofs.Common.{ℕ, ◌+◌, ◌-◌, Some, sym, ap, ◌∙◌, arith}
 use Rattle.bfs_inode.specs.Records.{record_from}
-use Rattle.bfs_digest.specs.Outlines.{mark_of}
+use Rattle.bfs_digest.specs.Inside.Outlines.{mark_of}
 use Rattle.bfs_digest.specs.declared.outlines.Mark.{Mark}
 use Rattle.bfs_digest.proofs.Rising.{records_rise}
 use Rattle.bfs_digest.proofs.Skipping.{unmapped, seen_again, turn, turn_low, turn_none, turns_done}

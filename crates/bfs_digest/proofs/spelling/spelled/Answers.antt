@@ -1,8 +1,8 @@
 -- The records are read to the end.
 use Rattle.std.proofs.Common.{◌≡◌, Some, sym, ap, ◌∙◌}
-use Rattle.bfs_model.specs.Tree.{root_id}
+use Rattle.bfs_model.specs.Server.Tree.{root_id}
 use Rattle.bfs_digest.specs.Text.{Header}
-use Rattle.bfs_digest.specs.TextReading.{records_from}
+use Rattle.bfs_digest.specs.Inside.TextReading.{records_from}
 use Rattle.bfs_digest.proofs.Rising.{left}
 use Rattle.bfs_digest.proofs.Skipping.{reads_all}
 use Rattle.bfs_digest.proofs.spelling.spelled.Goals as goal

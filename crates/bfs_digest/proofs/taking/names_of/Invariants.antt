@@ -1,5 +1,5 @@
 use Rattle.std.proofs.Common.{◌-◌}
-use Rattle.bfs_model.specs.Tree.{first_ordinal}
+use Rattle.bfs_model.specs.Server.Tree.{first_ordinal}
 use Rattle.bfs_inode.specs.Records.{entries_from}
 use Rattle.bfs_digest.proofs.Taken.{NamesLeft}
 use Rattle.bfs_digest.proofs.Walking.{Walks}

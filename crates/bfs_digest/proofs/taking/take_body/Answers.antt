@@ -1,5 +1,5 @@
 -- A directory is taken by its listing, and any other inode by its links.
-use Rattle.bfs_digest.specs.Outlines.{outline}
+use Rattle.bfs_digest.specs.Inside.Outlines.{outline}
 use Rattle.bfs_digest.proofs.Placing.{follow, body_taken, plain_taken}
 use Rattle.bfs_digest.proofs.taking.take_body.Goals as goal
 

@@ -2,11 +2,11 @@
 use Rattle.std.proofs.Common.{◌≡◌, ℕ, ◌+◌, ◌-◌, ◌≤◌, Bool, true, false, cond, eqb, refl, sym, ap, ◌∙◌, arith}
 use mir.Val.{bool_byte}
 use Rattle.std.specs.List.{list_all}
-use Rattle.bfs_model.specs.Tree.{Entry, first_ordinal}
+use Rattle.bfs_model.specs.Server.Tree.{Entry, first_ordinal}
 use Rattle.bfs_inode.specs.Records.{entry_from, entries_from}
-use Rattle.bfs_digest.specs.Formation.{may_stand}
-use Rattle.bfs_digest.specs.Outlines.{outline}
-use Rattle.bfs_digest.specs.Taking.{entry_seen}
+use Rattle.bfs_digest.specs.Inside.Formation.{may_stand}
+use Rattle.bfs_digest.specs.Inside.Outlines.{outline}
+use Rattle.bfs_digest.specs.Inside.Taking.{entry_seen}
 use Rattle.bfs_digest.proofs.Building.{built_by}
 use Rattle.bfs_digest.proofs.Counting.{still_within}
 use Rattle.bfs_digest.proofs.Rising.{entries_rise}

@@ -1,8 +1,8 @@
 use Rattle.std.proofs.Common.{◌≤◌, ◌-◌}
-use Rattle.bfs_model.specs.Tree.{first_ordinal}
+use Rattle.bfs_model.specs.Server.Tree.{first_ordinal}
 use Rattle.bfs_inode.specs.Records.{entries_from}
-use Rattle.bfs_digest.specs.Names.{AreWithin}
-use Rattle.bfs_digest.specs.Outlines.{outline}
+use Rattle.bfs_digest.specs.Inside.Names.{AreWithin}
+use Rattle.bfs_digest.specs.Inside.Outlines.{outline}
 use Rattle.bfs_digest.proofs.Taken.{EntriesTaken}
 use Rattle.bfs_digest.proofs.Walking.{Walks}
 use Rattle.bfs_digest.proofs.taking.take_entries.Given as goal

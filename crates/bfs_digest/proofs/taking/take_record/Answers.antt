@@ -1,7 +1,7 @@
 -- A record is taken by its head and its body.
 use Rattle.std.proofs.Common.{arith}
-use Rattle.bfs_digest.specs.Outlines.{outline}
-use Rattle.bfs_digest.specs.Taking.{head_seen}
+use Rattle.bfs_digest.specs.Inside.Outlines.{outline}
+use Rattle.bfs_digest.specs.Inside.Taking.{head_seen}
 use Rattle.bfs_digest.proofs.Placing.{follow, record_taken}
 use Rattle.bfs_digest.proofs.taking.take_record.Goals as goal
 

@@ -1,10 +1,10 @@
 -- Turn by turn one record is taken, or ends it.
 use Rattle.std.proofs.Common.{◌+◌, ◌-◌, arith}
 use Rattle.std.specs.List.{AllByRecursion}
-use Rattle.bfs_model.specs.Tree.{root_id}
-use Rattle.bfs_digest.specs.Formation.{IsPlaced}
-use Rattle.bfs_digest.specs.Outlines.{outline}
-use Rattle.bfs_digest.specs.TextReading.{records_from}
+use Rattle.bfs_model.specs.Server.Tree.{root_id}
+use Rattle.bfs_digest.specs.Inside.Formation.{IsPlaced}
+use Rattle.bfs_digest.specs.Inside.Outlines.{outline}
+use Rattle.bfs_digest.specs.Inside.TextReading.{records_from}
 use Rattle.bfs_digest.proofs.Counting.{none_within}
 use Rattle.bfs_digest.proofs.Rising.{records_rise}
 use Rattle.bfs_digest.proofs.Taken.{RecordsTaken, TakenOne, records_taken_first, record_taken, record_refused, records_taken_last}

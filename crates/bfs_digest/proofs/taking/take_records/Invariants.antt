@@ -1,8 +1,8 @@
 use Rattle.std.proofs.Common.{◌-◌}
-use Rattle.bfs_model.specs.Tree.{root_id}
-use Rattle.bfs_digest.specs.Names.{AreWithin}
-use Rattle.bfs_digest.specs.Outlines.{outline}
-use Rattle.bfs_digest.specs.TextReading.{records_from}
+use Rattle.bfs_model.specs.Server.Tree.{root_id}
+use Rattle.bfs_digest.specs.Inside.Names.{AreWithin}
+use Rattle.bfs_digest.specs.Inside.Outlines.{outline}
+use Rattle.bfs_digest.specs.Inside.TextReading.{records_from}
 use Rattle.bfs_digest.proofs.Taken.{RecordsTaken}
 use Rattle.bfs_digest.proofs.Walking.{Walks}
 use Rattle.bfs_digest.proofs.taking.take_records.Given as goal

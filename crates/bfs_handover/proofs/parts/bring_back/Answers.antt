@@ -1,7 +1,7 @@
 -- The next job's comes home before the rest.
 use Rattle.std.proofs.Common.{ap, sym, subst, ◌∙◌, List}
 use Rattle.bfs_handover.specs.Moves.{AreLent, brought_home}
-use Rattle.bfs_handover.specs.Taking.{all_loans}
+use Rattle.bfs_handover.specs.Inside.Taking.{all_loans}
 use Rattle.bfs_handover.specs.declared.job.Job.{Job}
 use Rattle.bfs_handover.proofs.BackLemmas.{home_both, lent_both}
 use Rattle.bfs_handover.proofs.parts.bring_back.Goals as goal

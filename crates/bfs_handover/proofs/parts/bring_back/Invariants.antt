@@ -1,6 +1,6 @@
 use Rattle.std.proofs.Common.{◌≡◌}
 use Rattle.bfs_handover.specs.Moves.{AreLent, brought_home}
-use Rattle.bfs_handover.specs.Taking.{all_loans}
+use Rattle.bfs_handover.specs.Inside.Taking.{all_loans}
 use Rattle.bfs_handover.proofs.parts.bring_back.Given as goal
 
 -- what is left to bring makes of the tree what all of it makes of the tree before

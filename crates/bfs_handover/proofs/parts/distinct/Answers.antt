@@ -1,7 +1,7 @@
 -- A fileid is among them already, or is put last.
 use Rattle.std.proofs.Common.{◌≡◌, ◌≤◌, ◌+◌, ◌++◌, ◌∷◌, [], ℕ, arith, length, take, ap, sym, subst, ◌∙◌}
 use Rattle.std.proofs.lemmas.List.{length-append, take_more}
-use Rattle.bfs_handover.specs.Taking.{AreOnce}
+use Rattle.bfs_handover.specs.Inside.Taking.{AreOnce}
 use Rattle.bfs_handover.proofs.SplitLemmas.{once_kept, once_added}
 use Rattle.bfs_handover.proofs.parts.distinct.Goals.{then-not-has, else-not-has}
 use Rattle.bfs_handover.proofs.parts.distinct.Goals as goal

@@ -1,5 +1,5 @@
 use Rattle.std.proofs.Common.{◌≤◌, length, take}
-use Rattle.bfs_handover.specs.Taking.{AreOnce}
+use Rattle.bfs_handover.specs.Inside.Taking.{AreOnce}
 use Rattle.bfs_handover.proofs.parts.distinct.Given as goal
 
 abbrev pub invariant-loop-id : goal.invariant-loop-id

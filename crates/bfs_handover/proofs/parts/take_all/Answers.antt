@@ -3,7 +3,7 @@ use Rattle.std.proofs.Common.{◌+◌, ◌++◌, ◌∷◌, [], List, take, ap, 
 use Rattle.bfs_tree.specs.Tree.{at_home, lent}
 use Rattle.bfs_handover.specs.Moves.{AreLent, brought_home}
 use Rattle.bfs_handover.specs.Splitting.{part_with}
-use Rattle.bfs_handover.specs.Taking.{all_ids}
+use Rattle.bfs_handover.specs.Inside.Taking.{all_ids}
 use Rattle.bfs_handover.specs.declared.job.Job.{Job}
 use Rattle.bfs_handover.specs.declared.loans.Loan.{Loan}
 use Rattle.bfs_handover.proofs.BackLemmas.{comes_back, home_again, lent_again}

@@ -1,12 +1,12 @@
 -- The request and the footprint of a number stand at its place, and what it writes is at home.
 use Rattle.std.proofs.Common.{◌≡◌, ◌-◌, ◌<◌, ℕ, List, [], length, refl, ap, sym, subst, ◌∙◌, arith}
 use Rattle.std.proofs.lemmas.Option.{get_or_from_slice_get}
-use Rattle.bfs_model.specs.Shares.{moved_for}
+use Rattle.bfs_model.specs.Server.Shares.{moved_for}
 use Rattle.bfs_footprint.specs.Seen.{footprint_seen}
 use Rattle.bfs_handover.specs.Loans.{ids_of}
 use Rattle.bfs_handover.specs.Moves.{AreAtHome, lent_out, taken}
 use Rattle.bfs_handover.specs.Splitting.{footprint_for, part_with}
-use Rattle.bfs_handover.specs.Taking.{AreOnce}
+use Rattle.bfs_handover.specs.Inside.Taking.{AreOnce}
 use Rattle.bfs_handover.proofs.MoveLemmas.{are_at_home, ids_taken}
 use Rattle.bfs_handover.proofs.SplitLemmas.{footprint_is}
 use Rattle.bfs_handover.proofs.parts.take_one.Goals as goal

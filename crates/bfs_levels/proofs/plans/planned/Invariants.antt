@@ -1,6 +1,6 @@
 -- The calls of the plan and those that are left are all, and those that join it are so many as the plan lacks.
 use Rattle.std.proofs.Common.{◌≡◌, ◌+◌, [], ◌++◌, length, drop, take}
-use Rattle.bfs_model.specs.Groups.{footprints_at}
+use Rattle.bfs_model.specs.Server.Groups.{footprints_at}
 use Rattle.bfs_tree.specs.Tree.{at_home}
 use Rattle.bfs_levels.specs.Planning.{count_joined, parts, touches_at}
 use Rattle.bfs_levels.specs.Planned.{IsPlan, calls_in}

@@ -2,7 +2,7 @@
 use Rattle.std.proofs.Common.{map}
 use Rattle.bfs_footprint.specs.Seen.{footprint_seen}
 use Rattle.bfs_handover.specs.Splitting.{part_of}
-use Rattle.bfs_workers.proofs.Ones.{can_run_one}
+use Rattle.bfs_workers.proofs.Public.{can_run_one}
 use Rattle.bfs_parallel.proofs.Carried.{one_carried_out, one_out}
 use Rattle.bfs_parallel.proofs.carrying.carry_one.Goals as goal
 

@@ -7,13 +7,12 @@ use Rattle.std.specs.declared.vec.Vec.{Vec}
 use Rattle.std.proofs.lemmas.Result.{IfOk-weaker}
 use Rattle.bfs_footprint.specs.Seen.{footprint_seen}
 use Rattle.bfs_tree.specs.Tree.{at_home, reach_of}
-use Rattle.bfs_handover.specs.Carrying.{AreCarriedOut}
+use Rattle.bfs_handover.specs.Laws.Carrying.{AreCarriedOut}
 use Rattle.bfs_handover.specs.Merging.{numbers_in}
 use Rattle.bfs_handover.specs.Splitting.{part_of}
 use Rattle.bfs_handover.specs.declared.results.Reply.{Reply}
-use Rattle.bfs_handover.proofs.Carrying.{split_requests_are_carried_out}
-use Rattle.bfs_handover.proofs.Homecoming.{job_numbers, results_are_out}
-use Rattle.bfs_workers.proofs.Numbers.{each_number_once}
+use Rattle.bfs_handover.proofs.Public.{job_numbers, results_are_out, split_requests_are_carried_out}
+use Rattle.bfs_workers.proofs.Public.{each_number_once}
 use Rattle.bfs_parallel.proofs.Carried.{all_done, gated_replies}
 use Rattle.bfs_parallel.proofs.carrying.carry_out.Goals as goal
 

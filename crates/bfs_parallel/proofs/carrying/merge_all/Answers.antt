@@ -2,7 +2,7 @@
 use Rattle.std.proofs.Common.{◌≡◌, ◌⊎◌, Option, Some, None, is_some, inl, inr, ap, sym, ◌∙◌, true≢false}
 use Rattle.bfs_handover.specs.declared.results.MergeError.{MergeError}
 use Rattle.bfs_handover.specs.declared.results.MergeError.TheVariants.{Stranger, Double, Missing, Memory}
-use Rattle.bfs_handover.proofs.NumberLemmas.{complete_results_are_taken}
+use Rattle.bfs_handover.proofs.Public.{complete_results_are_taken}
 use Rattle.bfs_parallel.proofs.carrying.merge_all.Goals as goal
 
 only_memory : (refused : MergeError) (refusal : Option MergeError) → refusal ≡ None → (refusal ≡ Some refused) ⊎ ((refused ≡ Memory) × (refusal ≡ None)) → refused ≡ Memory

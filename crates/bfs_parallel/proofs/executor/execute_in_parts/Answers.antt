@@ -1,7 +1,7 @@
 -- A part has at least one request, and behind it less is left.
 use Rattle.std.proofs.Common.{◌+◌, take, drop, ◌++◌, ap, ◌∙◌, arith}
 use Rattle.std.proofs.lemmas.List.{append_assoc}
-use Rattle.bfs_model.specs.Serial.{ordinal_after, inodes_after, replies_to}
+use Rattle.bfs_model.specs.Server.Serial.{ordinal_after, inodes_after, replies_to}
 use Rattle.bfs_tree.specs.Tree.{at_home}
 use Rattle.bfs_parallel.proofs.Progress.{inodes_left, replies_left, formed_left, ran_further}
 use Rattle.bfs_parallel.proofs.executor.execute_in_parts.Goals as goal

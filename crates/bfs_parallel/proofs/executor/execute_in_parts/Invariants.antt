@@ -1,7 +1,7 @@
 -- What is left of the batch gives, behind the replies so far, what all of it gives.
 use Rattle.std.proofs.Common.{◌≡◌, ◌≤◌, ◌-◌, ◌++◌, ℕ, List, IsTrue, drop, length}
-use Rattle.bfs_model.specs.Serial.{inodes_after, replies_to}
-use Rattle.bfs_model.specs.WellFormed.{IsWellFormed}
+use Rattle.bfs_model.specs.Server.Serial.{inodes_after, replies_to}
+use Rattle.bfs_model.specs.Server.WellFormed.{IsWellFormed}
 use Rattle.bfs_tree.specs.Tree.{at_home, reach_of}
 use Rattle.bfs_parallel.specs.Ran.{AllRan}
 use Rattle.bfs_parallel.proofs.executor.execute_in_parts.Given as goal

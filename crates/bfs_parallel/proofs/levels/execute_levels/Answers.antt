@@ -6,9 +6,9 @@ use Rattle.std.proofs.lemmas.List.{length-map}
 use Rattle.bfs_footprint.specs.Seen.{footprint_seen}
 use Rattle.bfs_footprint.specs.declared.footprints.Footprint as declared
 use Rattle.bfs_levels.specs.Requests.{requests_from}
-use Rattle.bfs_model.specs.Serial.{inodes_after, replies_to}
+use Rattle.bfs_model.specs.Server.Serial.{inodes_after, replies_to}
 use Rattle.bfs_tree.specs.Tree.{at_home}
-use Rattle.bfs_handover.specs.Carrying.{AreCarriedOut}
+use Rattle.bfs_handover.specs.Laws.Carrying.{AreCarriedOut}
 use Rattle.bfs_handover.specs.Splitting.{part_of}
 use Rattle.bfs_parallel.specs.Levels.{texts_of}
 use Rattle.bfs_parallel.specs.Ran.{AllRan}

@@ -5,7 +5,7 @@ use Rattle.std.specs.List.{All}
 use Rattle.std.specs.declared.vec.Vec.{Vec}
 use Rattle.std.proofs.lemmas.List.{append_assoc}
 use Rattle.std.proofs.lemmas.List.Elements.{All-tail}
-use Rattle.bfs_model.specs.Limits.{most_reply_bytes}
+use Rattle.bfs_model.specs.Server.Limits.{most_reply_bytes}
 use Rattle.bfs_parallel.specs.Levels.{texts_of}
 use Rattle.bfs_parallel.proofs.parts.put_texts.Goals as goal
 

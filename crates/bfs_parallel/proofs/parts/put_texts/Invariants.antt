@@ -3,7 +3,7 @@ use Rattle.std.proofs.Common.{◌≡◌, ◌++◌, ◌≤◌, ℕ, length}
 use Rattle.std.specs.Global.{Global}
 use Rattle.std.specs.List.{All}
 use Rattle.std.specs.declared.vec.Vec.{Vec}
-use Rattle.bfs_model.specs.Limits.{most_reply_bytes}
+use Rattle.bfs_model.specs.Server.Limits.{most_reply_bytes}
 use Rattle.bfs_parallel.specs.Levels.{texts_of}
 use Rattle.bfs_parallel.proofs.parts.put_texts.Given as goal
 

@@ -2,7 +2,7 @@
 use Rattle.std.proofs.Common.{◌≡◌, ◌<◌, Some, arith}
 use Rattle.std.specs.FinMap.{get}
 use Rattle.std.proofs.lemmas.Grind.{common_steps}
-use Rattle.bfs_model.specs.Limits.{most_links}
+use Rattle.bfs_model.specs.Server.Limits.{most_links}
 use Rattle.bfs_procs.proofs.Links.{few_links}
 use Rattle.bfs_procs.proofs.making.link.Goals as goal
 

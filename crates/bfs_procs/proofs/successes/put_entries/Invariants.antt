@@ -1,7 +1,7 @@
 -- What is put and what is left of the page are all of it.
 use Rattle.std.proofs.Common.{◌≡◌, ◌++◌, length}
 use Rattle.std.specs.List.{flat_map}
-use Rattle.bfs_model.specs.Replies.{entry_item}
+use Rattle.bfs_model.specs.Bytes.Replies.{entry_item}
 use Rattle.bfs_procs.proofs.successes.put_entries.Given as goal
 
 abbrev pub invariant-loop-listed : goal.invariant-loop-listed

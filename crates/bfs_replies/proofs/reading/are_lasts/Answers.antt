@@ -1,5 +1,5 @@
 use Rattle.std.proofs.Common.{◌+◌, ◌-◌, sym, arith}
-use Rattle.bfs_model.proofs.Turns.{test_turn, test_fails, test_done}
+use Rattle.bfs_model.proofs.Public.{test_turn, test_fails, test_done}
 use Rattle.bfs_replies.specs.Parsing.{last_seen}
 use Rattle.bfs_replies.specs.TextReading.{last_from}
 use Rattle.bfs_replies.proofs.reading.are_lasts.Goals as goal

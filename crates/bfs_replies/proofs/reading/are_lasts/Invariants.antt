@@ -1,5 +1,5 @@
 use Rattle.std.proofs.Common.{◌≡◌, ◌-◌, true, is_some}
-use Rattle.bfs_model.specs.Formats.{items_from}
+use Rattle.bfs_model.specs.Bytes.Formats.{items_from}
 use Rattle.bfs_replies.specs.TextReading.{last_from}
 use Rattle.bfs_replies.proofs.reading.are_lasts.Given as goal
 

@@ -1,5 +1,5 @@
 use Rattle.std.proofs.Common.{◌+◌, ◌-◌, [], ◌∷◌, ◌++◌, ap, ◌∙◌, arith}
-use Rattle.bfs_model.proofs.Turns.{turn, turn_none, turns_done}
+use Rattle.bfs_model.proofs.Public.{turn, turn_none, turns_done}
 use Rattle.bfs_replies.specs.Parsing.{last_seen}
 use Rattle.bfs_replies.specs.TextReading.{last_from}
 use Rattle.bfs_replies.proofs.reading.read_lasts.Goals as goal

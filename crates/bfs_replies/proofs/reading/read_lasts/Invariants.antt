@@ -1,6 +1,6 @@
 use Rattle.std.proofs.Common.{◌≡◌, ◌-◌, true}
-use Rattle.bfs_model.specs.Formats.{items_from}
-use Rattle.bfs_model.proofs.Turns.{with_front}
+use Rattle.bfs_model.specs.Bytes.Formats.{items_from}
+use Rattle.bfs_model.proofs.Public.{with_front}
 use Rattle.bfs_replies.specs.TextReading.{last_from}
 use Rattle.bfs_replies.proofs.reading.read_lasts.Given as goal
 

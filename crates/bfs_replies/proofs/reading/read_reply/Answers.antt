@@ -1,8 +1,8 @@
 -- What is read is no longer than it may be.
 use Rattle.std.proofs.Common.{sym, ap, ◌∙◌}
-use Rattle.bfs_model.specs.Items.{opaque_at}
-use Rattle.bfs_model.specs.Limits.{most_reply_bytes}
-use Rattle.bfs_model.proofs.Exact.{short_bytes}
+use Rattle.bfs_model.specs.Bytes.Items.{opaque_at}
+use Rattle.bfs_model.specs.Server.Limits.{most_reply_bytes}
+use Rattle.bfs_model.proofs.Public.{short_bytes}
 use Rattle.bfs_replies.proofs.reading.read_reply.Goals as goal
 
 pub returns-clause-short : goal.returns-clause-short

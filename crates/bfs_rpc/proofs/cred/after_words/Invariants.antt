@@ -1,5 +1,5 @@
 use Rattle.std.proofs.Common.{◌≡◌, ◌-◌}
-use Rattle.bfs_model.specs.Call.{after_words}
+use Rattle.bfs_model.specs.Bytes.Call.{after_words}
 use Rattle.bfs_rpc.proofs.cred.after_words.Given as goal
 
 abbrev pub invariant-loop-counter : goal.invariant-loop-counter

@@ -1,7 +1,7 @@
 -- What the requests that are left give is what all of them give, after the replies so far.
 use Rattle.std.proofs.Common.{◌≡◌, ◌++◌, true, drop}
-use Rattle.bfs_model.specs.Serial.{inodes_after, replies_to}
-use Rattle.bfs_model.specs.WellFormed.{IsWellFormed}
+use Rattle.bfs_model.specs.Server.Serial.{inodes_after, replies_to}
+use Rattle.bfs_model.specs.Server.WellFormed.{IsWellFormed}
 use Rattle.bfs_serial.proofs.executor.answer_each.Given as goal
 
 abbrev pub invariant-loop-request : goal.invariant-loop-request

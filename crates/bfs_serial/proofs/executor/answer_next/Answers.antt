@@ -1,10 +1,10 @@
 -- A request keeps a file system well formed, and its reply is short.
 use Rattle.std.proofs.Common.{length, ◌≤◌}
 use Rattle.std.proofs.lemmas.Result.{IfOk-weaker}
-use Rattle.bfs_model.specs.Limits.{most_reply_bytes}
-use Rattle.bfs_model.specs.Serial.{ordinal_after}
-use Rattle.bfs_model.specs.WellFormed.{IsWellFormed}
-use Rattle.bfs_model.proofs.Kept.{request_keeps, reply_is_short}
+use Rattle.bfs_model.specs.Server.Limits.{most_reply_bytes}
+use Rattle.bfs_model.specs.Server.Serial.{ordinal_after}
+use Rattle.bfs_model.specs.Server.WellFormed.{IsWellFormed}
+use Rattle.bfs_model.proofs.Public.{request_keeps, reply_is_short}
 use Rattle.bfs_serial.proofs.executor.answer_next.Goals as goal
 
 pub returns-clause-formed : goal.returns-clause-formed

@@ -1,10 +1,8 @@
 -- What is put back after the batch is live still, and each request has its reply.
 use Rattle.std.proofs.Common.{subst}
-use Rattle.bfs_model.specs.Serial.{execute}
-use Rattle.bfs_model.specs.Stored.{IsTime}
-use Rattle.bfs_model.proofs.Counts.{replies_counted}
-use Rattle.bfs_model.proofs.Kept.{execute_keeps}
-use Rattle.bfs_model.proofs.Live.{batches_keep_live}
+use Rattle.bfs_model.specs.Server.Serial.{execute}
+use Rattle.bfs_model.specs.Server.Stored.{IsTime}
+use Rattle.bfs_model.proofs.Public.{batches_keep_live, execute_keeps, replies_counted}
 use Rattle.bfs_serial.specs.Held.{held}
 use Rattle.bfs_serial.proofs.executor.execute_serial.Goals as goal
 

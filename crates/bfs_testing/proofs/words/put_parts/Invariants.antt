@@ -1,6 +1,6 @@
 use Rattle.std.proofs.Common.{◌≡◌, ◌++◌, take}
 use Rattle.std.specs.List.{flat_map}
-use Rattle.bfs_model.specs.Items.{words}
+use Rattle.bfs_model.specs.Bytes.Items.{words}
 use Rattle.bfs_testing.proofs.words.put_parts.Given as goal
 
 abbrev pub invariant-loop-part : goal.invariant-loop-part

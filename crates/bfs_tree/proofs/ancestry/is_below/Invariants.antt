@@ -1,6 +1,6 @@
 use Rattle.std.proofs.Common.{◌≡◌, IsTrue, ◌-◌}
 use Rattle.std.specs.FinMap.{len}
-use Rattle.bfs_model.specs.Procedures.Renaming.{is_within}
+use Rattle.bfs_model.specs.Server.Procedures.Renaming.{is_within}
 use Rattle.bfs_tree.proofs.ancestry.is_below.Given as goal
 
 -- what is left of the walk meets the other one just if the whole walk does

@@ -4,8 +4,8 @@ use Rattle.std.specs.Prelude.{count_by}
 use Rattle.std.specs.FinMap.{get}
 use Rattle.std.proofs.lemmas.Iterator.Consumers.{YieldsList-at, YieldsList-from_first, YieldsList-from_filter, count_from_yields_List}
 use Rattle.std.proofs.lemmas.List.Sums.{length-filter, count_by-le-length}
-use Rattle.bfs_model.specs.Limits.{most_entries}
-use Rattle.bfs_model.specs.Tree.{Entry, is_directory}
+use Rattle.bfs_model.specs.Server.Limits.{most_entries}
+use Rattle.bfs_model.specs.Server.Tree.{Entry, is_directory}
 use Rattle.bfs_tree.specs.Tree.{at_home}
 use Rattle.bfs_tree.proofs.WellFormed.Lists.{directories_counted}
 use Rattle.bfs_tree.proofs.well_formed.directories_among.Goals as goal

@@ -1,6 +1,6 @@
 -- Names are taken off the links, inode by inode.
 use Rattle.std.proofs.Common.{◌+◌, sum_by, sym, ap, ◌∙◌}
-use Rattle.bfs_model.specs.WellFormed.{named}
+use Rattle.bfs_model.specs.Server.WellFormed.{named}
 use Rattle.bfs_tree.proofs.WellFormed.Loops.{names_at, names_counted, too_many_names, all_names_counted}
 use Rattle.bfs_tree.specs.Tree.{at_home}
 use Rattle.bfs_tree.proofs.well_formed.has_names.Goals as goal

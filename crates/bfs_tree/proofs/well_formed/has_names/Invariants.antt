@@ -1,5 +1,5 @@
 use Rattle.std.proofs.Common.{◌≡◌, ◌+◌, sum_by}
-use Rattle.bfs_model.specs.WellFormed.{named}
+use Rattle.bfs_model.specs.Server.WellFormed.{named}
 use Rattle.bfs_tree.proofs.WellFormed.Loops.{names_at}
 use Rattle.bfs_tree.specs.Tree.{at_home}
 use Rattle.bfs_tree.proofs.well_formed.has_names.Given as goal

@@ -3,7 +3,7 @@ use Rattle.std.proofs.Common.{rules, tests, ◌∙◌}
 use Rattle.std.specs.Prelude.{◌==◌}
 use Rattle.std.proofs.lemmas.Iterator.Consumers.{YieldsList-at, YieldsList-from_first, YieldsList-from_filter, count_from_yields_List}
 use Rattle.std.proofs.lemmas.List.Sums.{length-filter}
-use Rattle.bfs_model.specs.Tree.{Entry}
+use Rattle.bfs_model.specs.Server.Tree.{Entry}
 use Rattle.bfs_tree.proofs.WellFormed.Lists.{times_counted}
 use Rattle.bfs_tree.proofs.well_formed.times.Goals as goal
 

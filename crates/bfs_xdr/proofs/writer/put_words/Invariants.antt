@@ -1,5 +1,5 @@
 use Rattle.std.proofs.Common.{◌≡◌, ◌++◌, take}
-use Rattle.bfs_model.specs.Items.{words}
+use Rattle.bfs_model.specs.Bytes.Items.{words}
 use Rattle.bfs_xdr.proofs.writer.put_words.Given as goal
 
 abbrev pub invariant-loop-number : goal.invariant-loop-number

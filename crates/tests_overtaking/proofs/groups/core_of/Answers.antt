@@ -1,5 +1,5 @@
 -- What `plan_group` gives is a group of the file system.
-use Rattle.bfs_core.proofs.Beginning.{live_group, planned_footprints}
+use Rattle.bfs_overtaking.proofs.Public.{live_group, planned_footprints}
 use Rattle.tests_overtaking.proofs.groups.core_of.Goals as goal
 
 pub new-requires-clause-group : goal.new-requires-clause-group

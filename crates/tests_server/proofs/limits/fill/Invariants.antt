@@ -1,4 +1,4 @@
-use Rattle.bfs_model.specs.Tree.{entries_in}
+use Rattle.bfs_model.specs.Server.Tree.{entries_in}
 use Rattle.tests_server.specs.Entries.{AreNumbered}
 use Rattle.tests_server.proofs.limits.fill.Given as goal
 

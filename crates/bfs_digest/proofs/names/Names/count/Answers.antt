@@ -1,7 +1,7 @@
 -- A count in the `BTreeMap` is one in the finite map.
 use Rattle.std.proofs.Common.{sym, ap, ◌∙◌}
 use Rattle.std.specs.Option.{option_copied, unwrap_or}
-use Rattle.bfs_tree.proofs.MapLemmas.{get-map_of}
+use Rattle.bfs_tree.proofs.Public.{get-map_of}
 use Rattle.bfs_digest.proofs.names.Names.count.Goals as goal
 
 pub returns-in-Some : goal.returns-in-Some

@@ -2,7 +2,7 @@
 use Rattle.std.proofs.Common.{ap, ◌∙◌, arith}
 use Rattle.std.specs.FinMap.{insert}
 use Rattle.bfs_tree.specs.Maps.{map_of}
-use Rattle.bfs_tree.proofs.MapLemmas.{map_of-inserts}
+use Rattle.bfs_tree.proofs.Public.{map_of-inserts}
 use Rattle.bfs_digest.proofs.Counting.{counted_one}
 use Rattle.bfs_digest.proofs.names.Names.count_one.Goals as goal
 

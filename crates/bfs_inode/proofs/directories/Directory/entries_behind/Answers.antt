@@ -1,7 +1,7 @@
 use Rattle.std.proofs.Common.{ap, ◌∙◌}
 use Rattle.std.specs.Map.{values_of}
-use Rattle.bfs_model.specs.Directories.{listed_behind}
-use Rattle.bfs_model.specs.Tree.{Listing}
+use Rattle.bfs_model.specs.Server.Directories.{listed_behind}
+use Rattle.bfs_model.specs.Server.Tree.{Listing}
 use Rattle.bfs_inode.proofs.IndexLemmas.{all_behind}
 use Rattle.bfs_inode.proofs.directories.Directory.entries_behind.Goals as goal
 

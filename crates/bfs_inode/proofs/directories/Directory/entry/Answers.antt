@@ -1,7 +1,7 @@
 -- The cookie of the name leads to its entry.
 use Rattle.std.proofs.Common.{sym, ap, ◌∙◌}
-use Rattle.bfs_model.specs.Directories.{entry_named}
-use Rattle.bfs_model.specs.Tree.{Listing}
+use Rattle.bfs_model.specs.Server.Directories.{entry_named}
+use Rattle.bfs_model.specs.Server.Tree.{Listing}
 use Rattle.bfs_inode.proofs.IndexLemmas.{found}
 use Rattle.bfs_inode.proofs.directories.Directory.entry.Goals as goal
 

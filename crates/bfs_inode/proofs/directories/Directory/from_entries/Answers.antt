@@ -2,9 +2,9 @@
 use Rattle.std.proofs.Common.{◌≡◌, ◌<◌, ◌++◌, Option, None, Some, Bor, refl, sym, ap, subst, ◌∙◌}
 use Rattle.std.specs.List.{All}
 use Rattle.std.specs.Option.{is_some, option_copied}
-use Rattle.bfs_model.specs.Directories.{entry_named}
-use Rattle.bfs_model.specs.Tree.{Entry, spent_ordinal}
-use Rattle.bfs_model.specs.WellFormed.{IsRising, NamesDiffer}
+use Rattle.bfs_model.specs.Server.Directories.{entry_named}
+use Rattle.bfs_model.specs.Server.Tree.{Entry, spent_ordinal}
+use Rattle.bfs_model.specs.Server.WellFormed.{IsRising, NamesDiffer}
 use Rattle.bfs_inode.proofs.OrderLemmas.{below, repeated}
 use Rattle.bfs_inode.proofs.directories.Directory.from_entries.Goals as goal
 

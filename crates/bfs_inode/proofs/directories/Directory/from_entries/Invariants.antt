@@ -1,5 +1,5 @@
 use Rattle.std.proofs.Common.{◌≡◌, ◌++◌}
-use Rattle.bfs_model.specs.WellFormed.{NamesDiffer}
+use Rattle.bfs_model.specs.Server.WellFormed.{NamesDiffer}
 use Rattle.bfs_inode.proofs.directories.Directory.from_entries.Given as goal
 
 -- the directory has the entries before those that are left

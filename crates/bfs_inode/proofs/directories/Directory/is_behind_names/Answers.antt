@@ -1,7 +1,7 @@
 -- A name behind the last of the index is none of its names.
 use Rattle.std.proofs.Common.{rules, sym, ap, ◌∙◌}
-use Rattle.bfs_model.specs.Directories.{entry_named}
-use Rattle.bfs_model.specs.Tree.{Listing}
+use Rattle.bfs_model.specs.Server.Directories.{entry_named}
+use Rattle.bfs_model.specs.Server.Tree.{Listing}
 use Rattle.bfs_inode.proofs.IndexLemmas.{behind_last, none_found}
 use Rattle.bfs_inode.proofs.directories.Directory.is_behind_names.Goals as goal
 

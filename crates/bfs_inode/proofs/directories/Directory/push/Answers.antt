@@ -2,9 +2,9 @@
 use Rattle.std.proofs.Common.{◌≡◌, ◌<◌, ◌++◌, [], ◌∷◌, List, length, None, Result, Ok, Err, sym, subst, arith}
 use Rattle.std.specs.List.{All}
 use Rattle.std.specs.Result.{OnOk, OnErr}
-use Rattle.bfs_model.specs.Directories.{entry_named}
-use Rattle.bfs_model.specs.Limits.{most_entries}
-use Rattle.bfs_model.specs.Tree.{Entry, Listing}
+use Rattle.bfs_model.specs.Server.Directories.{entry_named}
+use Rattle.bfs_model.specs.Server.Limits.{most_entries}
+use Rattle.bfs_model.specs.Server.Tree.{Entry, Listing}
 use Rattle.bfs_inode.specs.Directories.{AreEntries}
 use Rattle.bfs_inode.proofs.DirectoryLemmas.{entry_added}
 use Rattle.bfs_inode.proofs.directories.Directory.push.Goals as goal

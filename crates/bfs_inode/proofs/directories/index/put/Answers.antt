@@ -4,7 +4,7 @@ use Rattle.std.specs.BTreeMap.{insert_entry, UpdatesBy, is_at}
 use Rattle.std.specs.Cmp.Lexicographic.{slice_cmp}
 use Rattle.std.specs.Map.{remove_entry}
 use Rattle.std.specs.Ordering.{nat_cmp}
-use Rattle.bfs_model.specs.Tree.{Entry}
+use Rattle.bfs_model.specs.Server.Tree.{Entry}
 use Rattle.bfs_inode.proofs.IndexLemmas.{back, pushed}
 use Rattle.bfs_inode.proofs.directories.index.put.Goals as goal
 

@@ -1,7 +1,7 @@
 use Rattle.std.proofs.Common.{drop}
 use Rattle.std.specs.Prelude.{◌↔◌}
-use Rattle.bfs_model.specs.Tree.{spent_ordinal}
-use Rattle.bfs_model.specs.WellFormed.{IsRising}
+use Rattle.bfs_model.specs.Server.Tree.{spent_ordinal}
+use Rattle.bfs_model.specs.Server.WellFormed.{IsRising}
 use Rattle.bfs_inode.proofs.directories.order.cookies_rise.Given as goal
 
 -- all rise just if those that are left rise from the least on

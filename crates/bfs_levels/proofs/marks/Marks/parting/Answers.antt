@@ -1,6 +1,6 @@
 -- The marks tell how high a call stands that parts this one from the group.
 use Rattle.std.proofs.Common.{ap, arith}
-use Rattle.bfs_model.specs.Footprints.{ids_in}
+use Rattle.bfs_model.specs.Server.Footprints.{ids_in}
 use Rattle.bfs_footprint.specs.Seen.{footprint_seen}
 use Rattle.bfs_levels.specs.Planning.{height, parts_groups}
 use Rattle.bfs_levels.specs.Touching.{touch_seen}

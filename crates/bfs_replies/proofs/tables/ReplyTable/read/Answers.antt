@@ -1,5 +1,5 @@
 use Rattle.std.proofs.Common.{sym, ap, ◌∙◌, arith}
-use Rattle.bfs_model.specs.Items.{Input, word_at}
+use Rattle.bfs_model.specs.Bytes.Items.{Input, word_at}
 use Rattle.bfs_replies.proofs.Exact.{read_kept}
 use Rattle.bfs_replies.proofs.tables.ReplyTable.read.Goals as goal
 

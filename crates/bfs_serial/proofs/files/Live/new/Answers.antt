@@ -1,6 +1,5 @@
 -- The new file system is whole and live.
-use Rattle.bfs_model.proofs.Kept.{new_is_well_formed}
-use Rattle.bfs_model.proofs.Live.{new_is_live}
+use Rattle.bfs_model.proofs.Public.{new_is_live, new_is_well_formed}
 use Rattle.bfs_serial.proofs.files.Live.new.Goals as goal
 
 pub invariant_of-result : goal.invariant_of-result

@@ -1,7 +1,7 @@
 -- A whole tree is well formed just if its root is a directory and each inode is in order.
 use Rattle.std.proofs.Common.{IsTrue, sym, subst, ◌∙◌}
 use Rattle.std.specs.FinMap.{get}
-use Rattle.bfs_model.specs.Tree.{is_directory, root_id}
+use Rattle.bfs_model.specs.Server.Tree.{is_directory, root_id}
 use Rattle.bfs_tree.specs.Tree.{at_home}
 use Rattle.bfs_tree.proofs.WellFormed.Deciding.{well_formed, in_order}
 use Rattle.bfs_tree.proofs.trees.Tree.well_formed.Goals as goal

@@ -1,5 +1,0 @@
-use Rattle.bfs_core.proofs.Stepping as lemmas
-use Rattle.bfs_core.proofs.laws.events_overtake.Goals as goal
-
-pub returns : goal.returns
-returns c = lemmas.events_overtake

@@ -1,6 +1,0 @@
-use Rattle.std.proofs.Common.{take}
-use Rattle.bfs_core.specs.Lent.{AreLentOut}
-use Rattle.bfs_core.proofs.loans.lend_each.Given as goal
-
-abbrev pub invariant-loop-id : goal.invariant-loop-id
-invariant-loop-id l = AreLentOut l.fn.tree l.tree (take l.id-index l.ids) l.loans

@@ -1,8 +1,0 @@
-use Rattle.std.proofs.Common.{ap, ◌∙◌}
-use Rattle.bfs_core.specs.Machine.{is_complete}
-use Rattle.bfs_core.proofs.Changing.{whole_when_done}
-use Rattle.bfs_core.proofs.running.Running.tree.Goals as goal
-
-pub returns-clause-whole : goal.returns-clause-whole
-returns-clause-whole c done =
-    whole_when_done c.self.inside c.self.invariant.running (ap is_complete c.self.view_is ∙ done)

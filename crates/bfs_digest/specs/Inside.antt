@@ -1,0 +1,7 @@
+-- What contracts of private functions cite.
+pub mod TextReading
+pub mod Taking
+pub mod Formation
+pub mod Outlines
+pub mod Names
+pub mod Hashed

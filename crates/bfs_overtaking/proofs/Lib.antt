@@ -1,0 +1,14 @@
+pub mod Standings
+pub mod Stepping
+pub mod Sharing
+pub mod Owning
+pub mod Changing
+pub mod Leaving
+pub mod Refusing
+pub mod Bringing
+pub mod Beginning
+pub mod Playing
+pub mod Accepting
+pub mod Claiming
+pub mod Holding
+pub mod Public

@@ -1,0 +1,5 @@
+use Rattle.bfs_overtaking.proofs.Stepping as lemmas
+use Rattle.bfs_overtaking.proofs.laws.events_overtake.Goals as goal
+
+pub returns : goal.returns
+returns c = lemmas.events_overtake
