@@ -18,7 +18,8 @@ use std::sync::Wait;
 use std::thread::Threads;
 
 /// Executes the first of the part's requests: as many as are planned together, or as are left unplanned. It puts their replies behind the
-/// others, of which there is one of each request before them, and tells how many they are. `Memory` if memory runs out; the tree may then not be whole.
+/// others, of which there is one of each request before them, and tells how many they are. `Memory` if memory runs out; the tree may then
+/// not be whole.
 pub(crate) fn execute_part<R: Threads + Wait + Sync, G: Gate + Sync>(
     means: &Means<'_, R, G>,
     tree: &mut Tree,
