@@ -10,7 +10,7 @@ use Rattle.bfs_model.specs.Server.WellFormed.{IsLimited}
 use Rattle.bfs_inode.specs.Records.{Reading, record_from}
 use Rattle.bfs_digest.specs.Inside.TextReading.{records_from}
 use Rattle.bfs_digest.proofs.Rising.{ReadsRising, First, first_of, records_rise}
-use Rattle.bfs_digest.proofs.Exact.{some_is}
+use Rattle.bfs_model.proofs.Public.{some_is}
 
 -- All that is read is what was built and what is left
 pub record IsLeft {A : Type 0} (list : (count least : ℕ) → List ℕ → Reading (List A)) (number : A → ℕ) (n : ℕ) (bytes : List ℕ) (done all : List A) (rest : List ℕ) : Type 0 where

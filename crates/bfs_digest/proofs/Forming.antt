@@ -13,7 +13,7 @@ use Rattle.bfs_tree.specs.WellFormed.{is_child}
 use Rattle.bfs_digest.specs.Inside.Formation.{is_counted, IsCounted, may_stand, BodyIsPlaced, IsPlaced}
 use Rattle.bfs_digest.specs.Inside.Names.{Counted, most_counted, counted_at}
 use Rattle.bfs_digest.specs.Inside.Outlines.{mark_of, is_named_so, is_named}
-use Rattle.bfs_digest.proofs.Exact.{some_is}
+use Rattle.bfs_model.proofs.Public.{some_is}
 use Rattle.bfs_digest.proofs.Indexed.{counts_from}
 use Rattle.bfs_digest.proofs.InodeParts.{differ_of}
 use Rattle.bfs_digest.proofs.Outlined.{outline_of, same_children, same_directories}

@@ -6,7 +6,8 @@ use Rattle.bfs_model.specs.Server.WellFormed.{BodyIsLimited, IsLimited, HasNames
 use Rattle.bfs_inode.specs.Directories.{AreEntries}
 use Rattle.bfs_inode.specs.Records.{Head, word_from, entries_from, listing_from, directory_from, body_from, head_from, with_body, record_from}
 use Rattle.bfs_digest.specs.Inside.Taking.{BodyMayBe}
-use Rattle.bfs_digest.proofs.Exact.{refused_not, some_is, chosen}
+use Rattle.bfs_model.proofs.Public.{some_is, chosen}
+use Rattle.bfs_digest.proofs.Tests.{refused_not}
 
 -- Records ---------------------------------------------------------------------------------------------------------------
 

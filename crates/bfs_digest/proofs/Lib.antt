@@ -1,5 +1,4 @@
-pub mod Exact
-pub mod Shortness
+pub mod Tests
 pub mod Records
 pub mod Texts
 pub mod Live

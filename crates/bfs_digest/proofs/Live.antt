@@ -13,7 +13,7 @@ use Rattle.bfs_inode.specs.Records.{EntryIsRecordable, BodyIsRecordable}
 use Rattle.bfs_digest.specs.Text.{magic, version, snapshot_text, IsSpellable, Spells}
 use Rattle.bfs_digest.proofs.Texts.{behind_version, few, tree_rises, files_again}
 use Rattle.bfs_digest.specs.Inside.TextReading.{files_from}
-use Rattle.bfs_digest.proofs.Exact.{some_is}
+use Rattle.bfs_model.proofs.Public.{some_is}
 
 -- From a live file system ------------------------------------------------------------------------------------------------
 

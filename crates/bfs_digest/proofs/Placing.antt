@@ -9,7 +9,7 @@ use Rattle.bfs_model.specs.Server.WellFormed.{directories_among, NamesDiffer}
 use Rattle.bfs_inode.specs.Records.{Head, most_recorded_bytes, bytes_from, word_from, entries_from, listing_from, directory_from, file_from, link_from, body_from, head_from, with_body, record_from}
 use Rattle.bfs_digest.specs.Inside.Formation.{may_stand, ListingIsPlaced, BodyIsPlaced, IsPlaced, Takes, TakesEntries, TellsNames, names_in, names_in_body, names_in_listing}
 use Rattle.bfs_digest.specs.Inside.Names.{Counted, most_counted, counted_at, AreWithin, Adds}
-use Rattle.bfs_digest.proofs.Exact.{some_is, chosen}
+use Rattle.bfs_model.proofs.Public.{some_is, chosen}
 use Rattle.bfs_digest.proofs.Taken.{seen_by}
 use Rattle.bfs_digest.proofs.InodeParts.{listed, listing_read, listing_in_directory, inode_read}
 

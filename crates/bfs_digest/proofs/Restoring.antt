@@ -13,7 +13,8 @@ use Rattle.bfs_digest.specs.Text.{Header, magic, version, IsSpellable, Spells}
 use Rattle.bfs_digest.specs.Inside.TextReading.{records_from, version_from, files_with, files_from}
 use Rattle.bfs_digest.specs.Outcomes.{HasOtherVersion, IsMalformed, SpellsIllFormed, IsRestored}
 use Rattle.bfs_digest.specs.Inside.Taking.{AreSpelled, AreRecords, IsText, BuildsTree, BuildsFiles}
-use Rattle.bfs_digest.proofs.Exact.{passed, some_is, word_exact, go_on, went_on}
+use Rattle.bfs_model.proofs.Public.{some_is, word_exact, go_on, went_on}
+use Rattle.bfs_digest.proofs.Tests.{passed}
 use Rattle.bfs_digest.proofs.Records.{Recordable}
 use Rattle.bfs_digest.proofs.Texts.{behind_version, numbers_exact, records_written, rising_sorted, entries_from, all_recordable, files_again, files_written}
 use Rattle.bfs_digest.proofs.Live.{beginning, text_split, spelled_is_live}

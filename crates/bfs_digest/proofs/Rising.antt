@@ -5,7 +5,8 @@ use Rattle.std.proofs.lemmas.Bool.{ltb-false, le-ltb, lt-ltb}
 use Rattle.bfs_model.specs.Bytes.Call.{◌>>=◌}
 use Rattle.bfs_inode.specs.Records.{Reading, entry_from, entries_from, record_from}
 use Rattle.bfs_digest.specs.Inside.TextReading.{records_from}
-use Rattle.bfs_digest.proofs.Exact.{refused_not, some_is, chosen}
+use Rattle.bfs_model.proofs.Public.{some_is, chosen}
+use Rattle.bfs_digest.proofs.Tests.{refused_not}
 
 -- how a list of items is read
 pub record ReadsRising {A : Type 0} (from : List ℕ → Reading A) (number : A → ℕ) (list : (count least : ℕ) → List ℕ → Reading (List A)) : Type 0 where

@@ -3,7 +3,7 @@ use Rattle.std.proofs.Common.{◌≡◌, ℕ, suc, ◌+◌, ◌<◌, ◌≤◌, 
 use Rattle.std.specs.Option.{option_map}
 use Rattle.bfs_inode.specs.Records.{Reading}
 use Rattle.bfs_digest.specs.Inside.TextReading.{is_nothing}
-use Rattle.bfs_digest.proofs.Exact.{some_is}
+use Rattle.bfs_model.proofs.Public.{some_is}
 use Rattle.bfs_digest.proofs.Texts.{nothing}
 use Rattle.bfs_digest.proofs.Rising.{ReadsRising, left, skip_more, skip_low, skip_none}
 

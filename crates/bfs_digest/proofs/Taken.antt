@@ -15,7 +15,7 @@ use Rattle.bfs_digest.specs.Inside.Names.{Counted, most_counted, counted_at, Are
 use Rattle.bfs_digest.specs.Inside.Outlines.{mark_of}
 use Rattle.bfs_digest.specs.declared.outlines.Mark.{Mark}
 use Rattle.bfs_digest.proofs.Counting.{EntriesCounted, entries_begin, entries_more, entries_end, InodesCounted, inodes_begin, inodes_more, inodes_end}
-use Rattle.bfs_digest.proofs.Exact.{some_is}
+use Rattle.bfs_model.proofs.Public.{some_is}
 
 -- What is seen of an item that is read -----------------------------------------------------------------------------------
 

@@ -5,20 +5,19 @@ use Rattle.std.specs.Ordering.{nat_cmp, is_lt}
 use Rattle.std.specs.declared.cmp.Ordering.{Ordering}
 use Rattle.std.specs.declared.cmp.Ordering.TheVariants.{Less, Equal, Greater}
 use Rattle.std.specs.Cmp.{ranked, nat_cmp_is}
-use Rattle.std.specs.Result.{result_ok}
 use Rattle.std.specs.FinMap.{get, entries, len, len-entries, entries_sorted, is_sorted, from_entries, from_sorted, entries-from_sorted, get-from_entries, get-from_sorted, same_map, same_entries_map, nat_cmp-IsAntisymmetric}
 use Rattle.std.specs.FinMap.Entries.{below_all}
 use Rattle.std.proofs.lemmas.Cmp.{nat_cmp_total}
 use Rattle.std.proofs.lemmas.Bool.{ltb-false, le-ltb, eqb-true}
-use Rattle.bfs_model.specs.Bytes.Items.{word, hyper, hyper_at}
+use Rattle.bfs_model.specs.Bytes.Items.{word, hyper}
 use Rattle.bfs_model.specs.Server.Stored.{IsWord, AreBytes, IsTime}
 use Rattle.bfs_model.specs.Server.Tree.{Inode, Inodes, FileSystem, root_id, first_ordinal, spent_ordinal}
-use Rattle.bfs_model.proofs.Public.{hyper_again, hyper_written}
 use Rattle.bfs_tree.proofs.Public.{each_of_all, all_of_each}
 use Rattle.bfs_inode.specs.Records.{IsRecordable}
 use Rattle.bfs_digest.specs.Text.{Header, header_of, numbers_text, records_text, IsSpellable}
 use Rattle.bfs_digest.specs.Inside.TextReading.{records_from, hyper_from, numbers_from, is_nothing, files_from}
-use Rattle.bfs_digest.proofs.Exact.{ok_some, passed, refused_not, unrefused, some_is, or_parts, behind, IsExact, word_exact, go_on, went_on, chosen}
+use Rattle.bfs_model.proofs.Public.{some_is, IsExact, hyper_exact, word_exact, go_on, went_on, chosen}
+use Rattle.bfs_digest.proofs.Tests.{passed, refused_not, unrefused, or_parts}
 use Rattle.bfs_digest.proofs.Records.{time_text, time_exact, record_of, Recordable, record_exact}
 
 -- Inodes by rising fileids -------------------------------------------------------------------------------------------
@@ -128,17 +127,6 @@ records_written (suc count) least bytes inodes rest fits e =
     (whole, ap suc h.1, (ltb-false inode.0 least g.0, f1, h.2), h.3)))
 
 -- Numbers ------------------------------------------------------------------------------------------------------------
-
-abbrev IsDouble : ℕ → Type 0
-IsDouble n = n < 2 ^ 64
-
-hyper_exact : IsExact hyper IsDouble hyper_from
-hyper_exact = record {
-  again = λ n rest lt. ap result_ok (hyper_again n rest lt);
-  written = λ bytes n rest fits e.
-      let h = hyper_written bytes n rest fits (ok_some (hyper_at bytes) (n, rest) e) in
-      (h.0, h.1, behind (hyper n) rest bytes fits h.0);
-}
 
 pub record AreNumbers (numbers : Header) : Type 0 where
   pub ordinal : (first_ordinal ≤ numbers.next_ordinal) × (numbers.next_ordinal ≤ spent_ordinal)

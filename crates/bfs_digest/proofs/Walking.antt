@@ -2,7 +2,7 @@
 use Rattle.std.proofs.Common.{◌≡◌, ℕ, suc, ◌+◌, List, [], ◌∷◌, Some, None, sym, ap, subst, ◌∙◌}
 use Rattle.bfs_inode.specs.Records.{Reading}
 use Rattle.bfs_digest.proofs.Rising.{ReadsRising, First, first_of}
-use Rattle.bfs_digest.proofs.Exact.{some_is}
+use Rattle.bfs_model.proofs.Public.{some_is}
 
 -- so many items are left to be read, of which this is known
 pub record IsBehind {A : Type 0} (list : (count least : ℕ) → List ℕ → Reading (List A)) (n : ℕ) (bytes : List ℕ) (Fact : List A → Type 0) (rest : List ℕ) : Type 0 where

@@ -2,11 +2,10 @@
 use Rattle.std.proofs.Common.{◌≡◌, ℕ, zero, suc, ◌+◌, ◌-◌, ◌<◌, ◌≤◌, Bool, true, false, ◌||◌, true≢false, List, [], ◌∷◌, ◌++◌, length, take, drop, map, refl, ap, sym, subst, ◌∙◌, arith}
 use Rattle.std.specs.Prelude.{IfOk, Result, Ok, Err, if◌then◌else◌, max, min, replicate}
 use Rattle.std.specs.Global.{Global}
-use Rattle.std.specs.List.{All, AllByRecursion, list_any}
+use Rattle.std.specs.List.{AllByRecursion, list_any}
 use Rattle.std.specs.declared.vec.Vec.{Vec}
 use Rattle.std.proofs.lemmas.Bool.{false_from_ne_true}
 use Rattle.std.proofs.lemmas.List.{length-drop, length-map, length-take, length-take-le}
-use Rattle.std.proofs.lemmas.List.Elements.{All-from_recursion}
 use Rattle.bfs_model.specs.Server.Tree.{Time, Inodes}
 use Rattle.bfs_model.specs.Server.Limits.{most_reply_bytes}
 use Rattle.bfs_model.specs.Server.Serial.{ordinal_after, answer, replies_to}
@@ -23,7 +22,7 @@ use Rattle.bfs_levels.specs.Requests.{requests_from}
 use Rattle.bfs_levels.proofs.Public.{joined_cut, joined_just_if, runs_are_longest}
 use Rattle.bfs_levels.specs.declared.group.Group.{Group}
 use Rattle.bfs_levels.specs.declared.run.Run.{Run}
-use Rattle.bfs_parallel.specs.Levels.{IsGroupOf, IsPlanned, texts_of}
+use Rattle.bfs_parallel.specs.Levels.{IsGroupOf, IsPlanned}
 
 -- The longest ones ----------------------------------------------------------------------------------------------------------
 
@@ -270,12 +269,3 @@ replies_are_short m o t (request ∷ requests) formed = (
   replies_are_short (answer m o t request).0 (ordinal_after o 1) t requests
       (formed_again (answer m o t request).0 (ordinal_after o 1) t (answer_keeps m o t request (servable (record { tree = m; next_ordinal = o; last_time = t }) formed))),
 )
-
-short_each : (texts : List (Vec ℕ Global)) → AllByRecursion (λ reply. length reply ≤ most_reply_bytes) (texts_of texts) → AllByRecursion (λ (text : Vec ℕ Global). length text.items ≤ most_reply_bytes) texts
-short_each [] all = tt
-short_each (text ∷ texts) all = (all.0, short_each texts all.1)
-
-pub texts_are_short : (m : Inodes) (o : ℕ) (t : Time) (requests : List (List ℕ)) (texts : List (Vec ℕ Global)) → IsWellFormed (record { tree = m; next_ordinal = o; last_time = t })
-    → texts_of texts ≡ replies_to m o t requests → All (λ (text : Vec ℕ Global). length text.items ≤ most_reply_bytes) texts
-texts_are_short m o t requests texts formed are = All-from_recursion (λ (text : Vec ℕ Global). length text.items ≤ most_reply_bytes) texts
-    (short_each texts (subst (AllByRecursion (λ reply. length reply ≤ most_reply_bytes)) (sym are) (replies_are_short m o t requests formed)))

@@ -1,5 +1,5 @@
 -- Requests that are executed one after another: what is left of them gives, behind the replies so far, what all of them give.
-use Rattle.std.proofs.Common.{◌≡◌, ℕ, zero, suc, ◌+◌, ◌-◌, ◌<◌, ◌≤◌, IsTrue, List, [], ◌∷◌, ◌++◌, length, map, take, drop, get_or, refl, ap, sym, subst, ◌∙◌, arith}
+use Rattle.std.proofs.Common.{◌≡◌, ℕ, zero, suc, ◌+◌, ◌-◌, ◌<◌, ◌≤◌, IsTrue, List, [], ◌∷◌, ◌++◌, length, drop, get_or, refl, ap, sym, subst, ◌∙◌, arith}
 use Rattle.std.proofs.lemmas.List.{append_assoc, append-nil, drop_all, length-take-le, length-drop}
 use Rattle.bfs_model.specs.Server.Tree.{Time, Inodes}
 use Rattle.bfs_model.specs.Server.Serial.{ordinal_after, answer, inodes_after, replies_to}
@@ -35,15 +35,18 @@ module _ (ran : ℕ → List ℕ → Type 0) (t : Time) (batch : List (List ℕ)
     pub texts : replies ++ replies_to m o t (drop k all) ≡ before ++ replies_to begun earliest t all
     pub gated : AllRan ran (first + k) (drop k all) (replies_to m o t (drop k all)) → AllRan ran first all (replies_to begun earliest t all)
 
-  pub begins : IsWellFormed (record { tree = begun; next_ordinal = earliest; last_time = t }) → IsGoingOn 0 begun earliest before
-  begins formed = record {
+  pub begins : IsWellFormed (record { tree = begun; next_ordinal = earliest; last_time = t }) → IsGoingOn 0 begun (ordinal_after earliest 0) before
+  begins formed = let in_range = formed.ordinal.1 in subst (λ o. IsGoingOn 0 begun o before) (let same : earliest ≡ ordinal_after earliest 0 = omega arith in same) (record {
     formed = formed;
     inodes = refl;
     texts = refl;
     gated = subst (λ number. AllRan ran number all (replies_to begun earliest t all)) (omega arith);
-  }
+  })
 
-  module _ (k : ℕ) (m : Inodes) (o : ℕ) (replies : List (List ℕ)) (more : k < n) (going : IsGoingOn k m o replies) where
+  module _ (k : ℕ) (m : Inodes) (replies : List (List ℕ)) (more : k < n) (going : IsGoingOn k m (ordinal_after earliest k) replies) where
+    abbrev o : ℕ
+    o = ordinal_after earliest k
+
     abbrev request : List ℕ
     request = get_or batch (first + k) []
 
@@ -56,12 +59,13 @@ module _ (ran : ℕ → List ℕ → Type 0) (t : Time) (batch : List (List ℕ)
     here : requests_from (first + k) 1 batch ≡ request ∷ []
     here = one_there batch (first + k) (omega arith)
 
-    pub goes_on : (old new : Slots) (after : List (List ℕ)) → at_home old ≡ m → IsPartExecuted ran old new o t batch (first + k) 1 replies after → IsGoingOn (k + 1) (at_home new) (ordinal_after o 1) after
+    pub goes_on : (old new : Slots) (after : List (List ℕ)) → at_home old ≡ m → IsPartExecuted ran old new o t batch (first + k) 1 replies after → IsGoingOn (k + 1) (at_home new) (ordinal_after earliest (k + 1)) after
     goes_on old new after same executed =
         let moved : at_home new ≡ (answer m o t request).0 = executed.inodes ∙ ap (λ m. inodes_after m o t (requests_from (first + k) 1 batch)) same ∙ ap (inodes_after m o t) here in
         let said : after ≡ replies ++ (answer m o t request).1 ∷ [] = executed.replies ∙ ap (λ m. replies ++ replies_to m o t (requests_from (first + k) 1 batch)) same ∙ ap (λ rs. replies ++ replies_to m o t rs) here in
         let has_run = subst (λ rs. AllRan ran (first + k) rs (replies_to m o t rs)) here (subst (λ m. AllRan ran (first + k) (requests_from (first + k) 1 batch) (replies_to m o t (requests_from (first + k) 1 batch))) same executed.gated) in
-        subst (λ j. IsGoingOn j (at_home new) (ordinal_after o 1) after) (let one_more : suc k ≡ k + 1 = omega arith in one_more) (record {
+        subst (λ p. IsGoingOn (k + 1) (at_home new) p after) (let next : ordinal_after o 1 ≡ ordinal_after earliest (k + 1) = omega arith in next)
+        (subst (λ j. IsGoingOn j (at_home new) (ordinal_after o 1) after) (let one_more : suc k ≡ k + 1 = omega arith in one_more) (record {
           formed = subst (λ m. IsWellFormed (record { tree = m; next_ordinal = ordinal_after o 1; last_time = t })) (sym moved)
               (formed_again (answer m o t request).0 (ordinal_after o 1) t (answer_keeps m o t request (servable (record { tree = m; next_ordinal = o; last_time = t }) going.formed)));
           inodes = ap (λ m. inodes_after m (ordinal_after o 1) t rest) moved ∙ sym (ap (inodes_after m o t) left) ∙ going.inodes;
@@ -69,7 +73,7 @@ module _ (ran : ℕ → List ℕ → Type 0) (t : Time) (batch : List (List ℕ)
               ∙ append_assoc replies ((answer m o t request).1 ∷ []) (replies_to (answer m o t request).0 (ordinal_after o 1) t rest) ∙ sym (ap (λ rs. replies ++ replies_to m o t rs) left) ∙ going.texts;
           gated = λ later. going.gated (subst (λ rs. AllRan ran (first + k) rs (replies_to m o t rs)) (sym left)
               (has_run.0, subst (λ m. AllRan ran (first + k + 1) rest (replies_to m (ordinal_after o 1) t rest)) moved (subst (λ number. AllRan ran number rest (replies_to (at_home new) (ordinal_after o 1) t rest)) (omega arith) later)));
-        })
+        }))
 
   few : length all ≤ n
   few = let left : length (drop first batch) ≡ length batch - first = length-drop first batch in let long : length all ≡ n = length-take-le n (drop first batch) (omega arith) in omega arith

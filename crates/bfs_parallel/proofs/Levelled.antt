@@ -9,6 +9,7 @@ use Rattle.std.proofs.lemmas.Bool.{false_from_ne_true, cases_lt}
 use Rattle.std.proofs.lemmas.List.{get_or-take, length-take}
 use Rattle.std.proofs.lemmas.List.Elements.{All-from_recursion, recursion_from_All}
 use Rattle.bfs_model.specs.Server.Tree.{Time, Inodes, spent_ordinal}
+use Rattle.bfs_model.specs.Server.Limits.{most_reply_bytes}
 use Rattle.bfs_model.specs.Server.Serial.{ordinal_after, answer, inodes_after, replies_to}
 use Rattle.bfs_model.specs.Server.Footprints.{Footprint, IsFreshFor, footprint_of}
 use Rattle.bfs_model.specs.Server.Conflicts.{among, is_whole, is_touched, conflict, AgreeOn, closed}
@@ -24,10 +25,10 @@ use Rattle.bfs_handover.specs.Laws.Carrying.{AreCarriedOut, all_back, outcome_fo
 use Rattle.bfs_handover.specs.Splitting.{CanBeSplit, IsFoundOn, Part, footprint_for, footprints_for, ordinal_of, part_of, request_of}
 use Rattle.bfs_handover.specs.declared.results.Reply.{Reply}
 use Rattle.bfs_handover.proofs.Public.{length-footprints_at, share_seen}
-use Rattle.bfs_parallel.specs.Levels.{AreInLevels, IsGroupOf, all_put, places_from}
+use Rattle.bfs_parallel.specs.Levels.{AreInLevels, IsGroupOf, places_from}
 use Rattle.bfs_parallel.specs.Ran.{AllRan}
-use Rattle.bfs_parallel.proofs.Places.{AreFor, all_told, are_places, is_there as is_among, length-all_put, numbers_rise, places_differ, Climb, climb, put_elsewhere, put_there}
-use Rattle.bfs_parallel.proofs.Standing.{Stand, Together, at_start, back, its_footprint, its_ordinal_is_fresh, same_back, together, told}
+use Rattle.bfs_parallel.proofs.Places.{AreFor, all_said, all_told, are_places, is_there as is_among, length-put_from, numbers_rise, places_differ, Climb, climb, put_elsewhere, put_from, put_there}
+use Rattle.bfs_parallel.proofs.Standing.{Stand, Together, at_start, back, its_footprint, its_ordinal_is_fresh, same_back, together, told, told_is_short}
 
 -- Requests by their places ----------------------------------------------------------------------------------------------------
 
@@ -94,6 +95,10 @@ each_ran ran number (request ∷ requests) (text ∷ texts) long each = (
   (λ _. subst (λ k. ran k text) (let same : number + 0 ≡ number = omega arith in same) (each 0 (omega arith))),
   each_ran ran (number + 1) requests texts (omega arith) (λ k less. subst (λ p. ran p (get_or texts k [])) (let same : number + suc k ≡ (number + 1) + k = omega arith in same) (each (suc k) (omega arith))),
 )
+
+-- a reply of a group of so many requests, of which the first has that number
+abbrev pub IsPlaced : (first n : ℕ) → Reply → Type 0
+IsPlaced first n reply = (first ≤ reply.number) × (reply.number < first + n) × (length reply.bytes.items ≤ most_reply_bytes)
 
 -- A group on a tree ----------------------------------------------------------------------------------------------------------
 
@@ -325,20 +330,20 @@ module _ (m : Inodes) (first o : ℕ) (t : Time) (batch : List (List ℕ)) (fs :
         gated_each : AllByRecursion (λ k. ran (first + k) (telling k)) ks
         gated_each = all_told first telling ran ks replies for_these (recursion_from_All (λ (reply : Reply). ran reply.number reply.bytes.items) replies gated)
 
-        put_here : (k : ℕ) → among ks k ≡ true → get_or (all_put first replies texts) k [] ≡ telling k
+        put_here : (k : ℕ) → among ks k ≡ true → get_or (put_from first replies texts) k [] ≡ telling k
         put_here = put_there first telling ks replies texts for_these (places_differ levels under.level) within_texts
 
-        put_other : (k : ℕ) → among ks k ≡ false → get_or (all_put first replies texts) k [] ≡ get_or texts k []
+        put_other : (k : ℕ) → among ks k ≡ false → get_or (put_from first replies texts) k [] ≡ get_or texts k []
         put_other = put_elsewhere first telling ks replies texts for_these (places_differ levels under.level) within_texts
 
         not_here : (k : ℕ) → (get_or levels k 0 ≡ under.level → ⊥) → among ks k ≡ false
         not_here k other = false_from_ne_true (among ks k) (λ is. other (at_place (λ j. (j < n) × (get_or levels j 0 ≡ under.level)) ks k here is).1)
 
         done_then : (k : ℕ) → k < n → get_or levels k 0 < under.level + 1
-            → (done_now.world.slots k ≡ finished (get_or (all_put first replies texts) k [])) × ran (first + k) (get_or (all_put first replies texts) k [])
+            → (done_now.world.slots k ≡ finished (get_or (put_from first replies texts) k [])) × ran (first + k) (get_or (put_from first replies texts) k [])
         done_then k less below = by_level (cases_lt (get_or levels k 0) under.level)
           where
-            by_level : (get_or levels k 0 < under.level) ⊎ (under.level ≤ get_or levels k 0) → (done_now.world.slots k ≡ finished (get_or (all_put first replies texts) k [])) × ran (first + k) (get_or (all_put first replies texts) k [])
+            by_level : (get_or levels k 0 < under.level) ⊎ (under.level ≤ get_or levels k 0) → (done_now.world.slots k ≡ finished (get_or (put_from first replies texts) k [])) × ran (first + k) (get_or (put_from first replies texts) k [])
             by_level (inl low) =
                 let none = not_here k (λ same. absurd (omega arith)) in (
                   done_now.others k none ∙ (under.done k less low).0 ∙ ap finished (sym (put_other k none)),
@@ -350,17 +355,26 @@ module _ (m : Inodes) (first o : ℕ) (t : Time) (batch : List (List ℕ)) (fs :
                   subst (ran (first + k)) (sym (put_here k is)) (at_place (λ j. ran (first + j) (telling j)) ks k gated_each is),
                 )
 
+        pub all_placed : All (IsPlaced first n) replies
+        all_placed = All-from_recursion (IsPlaced first n) replies (all_said first telling (λ number bytes. (first ≤ number) × (number < first + n) × (length bytes ≤ most_reply_bytes)) ks replies for_these
+            (each_of (λ k. (k < n) × (get_or levels k 0 ≡ under.level)) (λ k. (first ≤ first + k) × (first + k < first + n) × (length (telling k) ≤ most_reply_bytes)) (λ k is. (
+              omega arith,
+              (let less = is.0 in omega arith),
+              told_is_short m o t requests own done_now.world done_now.stand k (telling k) (servable (record { tree = m; next_ordinal = o; last_time = t }) group.formed) (subst (λ l. k < l) (sym many) is.0)
+                  (done_now.these k (is_among levels under.level k (subst (λ l. k < l) (sym long) is.0) is.1)),
+            )) ks here))
+
         home_is : done_now.world.home ≡ after
         home_is = done_now.at_home ∙ same_back m o t requests own owns ks w.home stay (λ id free. sym (get-without (all_moved (map feet ks)) w.home id ∙ ap (λ b. cond (not b) (get w.home id) None) free)) ∙ sym home_after
 
-        pub goes_on : IsUnder after (all_put first replies texts) left
+        pub goes_on : IsUnder after (put_from first replies texts) left
         goes_on = record {
           level = under.level + 1;
           leave = under.leave.1;
           world = done_now.world;
           stand = done_now.stand;
           at_home = home_is;
-          many_texts = length-all_put first replies texts ∙ under.many_texts;
+          many_texts = length-put_from first replies texts ∙ under.many_texts;
           done = done_then;
           waits = λ k less high. done_now.others k (not_here k (λ same. absurd (omega arith))) ∙ under.waits k less (omega arith);
         }
@@ -417,25 +431,15 @@ module _ (ran : ℕ → List ℕ → Type 0) (m : Inodes) (first o : ℕ) (t : T
 
   pub further : (home : Inodes) (texts : List (List ℕ)) (numbers : Vec ℕ Global) (left : List (Vec ℕ Global)) → IsOnItsWay home texts (numbers ∷ left)
       → (after : Inodes) (replies : List Reply) → AreCarriedOut home after (part_of first o t batch fs) numbers.items replies → All (λ (reply : Reply). ran reply.number reply.bytes.items) replies
-      → IsOnItsWay after (all_put first replies texts) left
+      → IsOnItsWay after (put_from first replies texts) left
   further home texts numbers left way after replies carried gated =
       record { group = way.group; under = goes_on m first o t batch fs levels way.group ran home texts numbers left way.under after replies carried gated }
 
+  -- each reply of the next level has its place
+  pub placed : (home : Inodes) (texts : List (List ℕ)) (numbers : Vec ℕ Global) (left : List (Vec ℕ Global)) → IsOnItsWay home texts (numbers ∷ left)
+      → (after : Inodes) (replies : List Reply) → AreCarriedOut home after (part_of first o t batch fs) numbers.items replies → All (λ (reply : Reply). ran reply.number reply.bytes.items) replies
+      → All (IsPlaced first (length fs)) replies
+  placed home texts numbers left way after replies carried gated = all_placed m first o t batch fs levels way.group ran home texts numbers left way.under after replies carried gated
+
   pub arrives : (home : Inodes) (texts : List (List ℕ)) → IsOnItsWay home texts [] → (home ≡ inodes_after m o t (requests_from first (length fs) batch)) × (texts ≡ replies_to m o t (requests_from first (length fs) batch)) × AllRan ran first (requests_from first (length fs) batch) texts
   arrives home texts way = let over = ends m first o t batch fs levels way.group ran home texts way.under in (over.inodes, over.replies, over.gated)
-
-  -- each reply has its place
-  pub places_there : (home : Inodes) (texts : List (List ℕ)) (numbers : List ℕ) (after : Inodes) (replies : List Reply) (n : ℕ) → IsReady home texts numbers → AreCarriedOut home after (part_of first o t batch fs) numbers replies
-      → n ≡ length fs → All (λ (reply : Reply). (first ≤ reply.number) × (reply.number - first < n)) replies
-  places_there home texts numbers after replies n is carried long = All-from_recursion (λ (reply : Reply). (first ≤ reply.number) × (reply.number - first < n)) replies
-      (each_there numbers replies carried.numbered (recursion_from_All (CanBeSplit home (part_of first o t batch fs)) numbers is.can))
-    where
-      each_there : (ns : List ℕ) (rs : List Reply) → map (λ (reply : Reply). reply.number) rs ≡ ns → AllByRecursion (CanBeSplit home (part_of first o t batch fs)) ns
-          → AllByRecursion (λ (reply : Reply). (first ≤ reply.number) × (reply.number - first < n)) rs
-      each_there ns [] are all = tt
-      each_there [] (reply ∷ rs) are all = absurd (let wrong : suc (length (map (λ (other : Reply). other.number) rs)) ≡ 0 = ap length are in omega arith)
-      each_there (number ∷ ns) (reply ∷ rs) are all =
-          let same : reply.number ≡ number = ap (λ ms. get_or ms 0 0) are in
-          let from = all.0.from in
-          let within = all.0.within in
-          ((omega arith, omega arith), each_there ns rs (ap (drop 1) are) all.1)

@@ -1,7 +1,7 @@
 -- A request that the gate has answered is a part of the batch.
 use Rattle.std.proofs.Common.{◌≡◌, ℕ, ◌<◌, ◌≤◌, List, [], ◌∷◌, ◌++◌, length, get_or, ap, sym, subst, ◌∙◌, arith}
 use Rattle.bfs_model.specs.Server.Tree.{Time, Inodes}
-use Rattle.bfs_model.specs.Server.Serial.{answer, inodes_after, replies_to}
+use Rattle.bfs_model.specs.Server.Serial.{inodes_after, replies_to}
 use Rattle.bfs_model.specs.Server.Limits.{most_reply_bytes}
 use Rattle.bfs_model.specs.Server.WellFormed.{IsWellFormed}
 use Rattle.bfs_levels.specs.Requests.{requests_from}

@@ -2,13 +2,14 @@
 use Rattle.std.proofs.Common.{◌≡◌, ℕ, zero, suc, ◌+◌, ◌-◌, ◌<◌, ◌≤◌, Bool, true, false, cond, ◌||◌, List, [], ◌∷◌, ◌++◌, length, map, take, get_or, slice_set, slice_index_or, refl, ap, sym, subst, ◌∙◌, arith, eqb, eq-eqb, eqb-true, ne_eqb, true≢false, inl, inr, ◌⊎◌}
 use Rattle.std.specs.Prelude.{◌==◌, if◌then◌else◌}
 use Rattle.std.specs.Global.{Global}
-use Rattle.std.specs.List.{AllByRecursion}
+use Rattle.std.specs.List.{All, AllByRecursion}
 use Rattle.std.specs.List.Sorted.{IsStrictlyIncreasing}
 use Rattle.std.specs.declared.vec.Vec.{Vec}
-use Rattle.std.proofs.lemmas.List.{append-nil, get_or-set_same, get_or-set_other, length-set, map-set}
+use Rattle.std.proofs.lemmas.List.{append-nil, get_or-set_same, get_or-set_other, length-set, set-append_right}
+use Rattle.std.proofs.lemmas.List.Elements.{All-head, All-tail}
 use Rattle.bfs_model.specs.Server.Conflicts.{among}
 use Rattle.bfs_handover.specs.declared.results.Reply.{Reply}
-use Rattle.bfs_parallel.specs.Levels.{AreInLevels, AreKept, all_put, numbers_at, numbers_in, places_from, texts_of}
+use Rattle.bfs_parallel.specs.Levels.{AreInLevels, AreKept, all_put, numbers_at, numbers_in, places_from}
 use Rattle.bfs_parallel.proofs.Standing.{Differ}
 
 -- Places ----------------------------------------------------------------------------------------------------------------------
@@ -241,13 +242,22 @@ in_levels first levels buckets kept =
 
 -- Replies ---------------------------------------------------------------------------------------------------------------------------
 
-pub length-all_put : (first : ℕ) (replies : List Reply) (texts : List (List ℕ)) → length (all_put first replies texts) ≡ length texts
-length-all_put first [] texts = refl
-length-all_put first (reply ∷ replies) texts = length-all_put first replies (slice_set texts (reply.number - first) reply.bytes.items) ∙ length-set texts (reply.number - first) reply.bytes.items
+-- each reply at the place of its number, where the first has that number
+abbrev pub put_from : (first : ℕ) → List Reply → List (List ℕ) → List (List ℕ)
+put_from first [] texts = texts
+put_from first (reply ∷ replies) texts = put_from first replies (slice_set texts (reply.number - first) reply.bytes.items)
 
--- one reply more is put
-pub put_one : (first : ℕ) (reply : Reply) (rest : List Reply) (texts : List (Vec ℕ Global)) → all_put first (reply ∷ rest) (texts_of texts) ≡ all_put first rest (texts_of (slice_set texts (reply.number - first) reply.bytes))
-put_one first reply rest texts = ap (all_put first rest) (sym (map-set (λ (text : Vec ℕ Global). text.items) texts (reply.number - first) reply.bytes))
+pub length-put_from : (first : ℕ) (replies : List Reply) (texts : List (List ℕ)) → length (put_from first replies texts) ≡ length texts
+length-put_from first [] texts = refl
+length-put_from first (reply ∷ replies) texts = length-put_from first replies (slice_set texts (reply.number - first) reply.bytes.items) ∙ length-set texts (reply.number - first) reply.bytes.items
+
+-- behind so many others, each is at the place of its number among all
+pub put_behind : (before : List (List ℕ)) (first : ℕ) (replies : List Reply) (texts : List (List ℕ)) → length before ≡ first → All (λ (reply : Reply). first ≤ reply.number) replies
+    → all_put replies (before ++ texts) ≡ before ++ put_from first replies texts
+put_behind before first [] texts long from = refl
+put_behind before first (reply ∷ replies) texts long from =
+    ap (all_put replies) (set-append_right before texts first reply.number reply.bytes.items long (All-head (λ (other : Reply). first ≤ other.number) reply replies from))
+    ∙ put_behind before first replies (slice_set texts (reply.number - first) reply.bytes.items) long (All-tail (λ (other : Reply). first ≤ other.number) reply replies from)
 
 module _ (first : ℕ) (told : ℕ → List ℕ) where
   -- the replies are those of these places
@@ -291,12 +301,12 @@ module _ (first : ℕ) (told : ℕ → List ℕ) where
     put_here : get_or now k [] ≡ told k
     put_here = ap (λ i. get_or (slice_set texts i reply.bytes.items) k []) at ∙ get_or-set_same texts k reply.bytes.items [] within ∙ ap text_of are.answers
 
-    module _ (here : among ks j ≡ true → get_or (all_put first replies now) j [] ≡ told j) (elsewhere : among ks j ≡ false → get_or (all_put first replies now) j [] ≡ get_or now j []) where
-      pub this_by : (b : Bool) → eqb k j ≡ b → (b || among ks j) ≡ true → get_or (all_put first replies now) j [] ≡ told j
+    module _ (here : among ks j ≡ true → get_or (put_from first replies now) j [] ≡ told j) (elsewhere : among ks j ≡ false → get_or (put_from first replies now) j [] ≡ get_or now j []) where
+      pub this_by : (b : Bool) → eqb k j ≡ b → (b || among ks j) ≡ true → get_or (put_from first replies now) j [] ≡ told j
       this_by true same is = elsewhere (absent ks others same) ∙ subst (λ i. get_or now i [] ≡ told i) (eqb-true k j same) put_here
       this_by false same is = here is
 
-      pub other_by : (b : Bool) → eqb k j ≡ b → (b || among ks j) ≡ false → get_or (all_put first replies now) j [] ≡ get_or texts j []
+      pub other_by : (b : Bool) → eqb k j ≡ b → (b || among ks j) ≡ false → get_or (put_from first replies now) j [] ≡ get_or texts j []
       other_by true same none = absurd (true≢false none)
       other_by false same none =
           elsewhere none ∙ ap (λ i. get_or (slice_set texts i reply.bytes.items) j []) at ∙ get_or-set_other texts k j reply.bytes.items [] (λ is. true≢false (sym (eq-eqb k j (sym is)) ∙ same))
@@ -306,7 +316,7 @@ module _ (first : ℕ) (told : ℕ → List ℕ) where
   rest_within texts others (i ∷ js) long all = (subst (λ n. i < n) (sym long) all.0, rest_within texts others js long all.1)
 
   put_at : (ks : List ℕ) (replies : List Reply) (texts : List (List ℕ)) → AreFor ks replies → Differ ks → AllByRecursion (λ k. k < length texts) ks → (j : ℕ)
-      → (among ks j ≡ true → get_or (all_put first replies texts) j [] ≡ told j) × (among ks j ≡ false → get_or (all_put first replies texts) j [] ≡ get_or texts j [])
+      → (among ks j ≡ true → get_or (put_from first replies texts) j [] ≡ told j) × (among ks j ≡ false → get_or (put_from first replies texts) j [] ≡ get_or texts j [])
   put_at [] [] texts are others within j = ((λ is. absurd (true≢false (sym is))), (λ none. refl))
   put_at [] (reply ∷ replies) texts are others within j = absurd (let wrong : suc (length (map (λ (other : Reply). other.number) replies)) ≡ 0 = ap length are.numbered in omega arith)
   put_at (k ∷ ks) [] texts are others within j = absurd (let wrong : 0 ≡ suc (length (map (λ i. first + i) ks)) = ap length are.numbered in omega arith)
@@ -318,10 +328,10 @@ module _ (first : ℕ) (told : ℕ → List ℕ) where
         (λ none. other_by k ks reply replies texts are others.0 within.0 j rest.0 rest.1 (eqb k j) refl none),
       )
 
-  pub put_there : (ks : List ℕ) (replies : List Reply) (texts : List (List ℕ)) → AreFor ks replies → Differ ks → AllByRecursion (λ k. k < length texts) ks → (j : ℕ) → among ks j ≡ true → get_or (all_put first replies texts) j [] ≡ told j
+  pub put_there : (ks : List ℕ) (replies : List Reply) (texts : List (List ℕ)) → AreFor ks replies → Differ ks → AllByRecursion (λ k. k < length texts) ks → (j : ℕ) → among ks j ≡ true → get_or (put_from first replies texts) j [] ≡ told j
   put_there ks replies texts are differ within j = (put_at ks replies texts are differ within j).0
 
-  pub put_elsewhere : (ks : List ℕ) (replies : List Reply) (texts : List (List ℕ)) → AreFor ks replies → Differ ks → AllByRecursion (λ k. k < length texts) ks → (j : ℕ) → among ks j ≡ false → get_or (all_put first replies texts) j [] ≡ get_or texts j []
+  pub put_elsewhere : (ks : List ℕ) (replies : List Reply) (texts : List (List ℕ)) → AreFor ks replies → Differ ks → AllByRecursion (λ k. k < length texts) ks → (j : ℕ) → among ks j ≡ false → get_or (put_from first replies texts) j [] ≡ get_or texts j []
   put_elsewhere ks replies texts are differ within j = (put_at ks replies texts are differ within j).1
 
   -- what holds of each reply's number and bytes
@@ -331,4 +341,12 @@ module _ (first : ℕ) (told : ℕ → List ℕ) where
   all_told P (k ∷ ks) (reply ∷ replies) are all = (
     subst (λ n. P n (told k)) (ap head_of are.numbered) (subst (P reply.number) (ap text_of are.answers) all.0),
     all_told P ks replies (record { numbered = ap tail_of are.numbered; answers = ap tail_of are.answers }) all.1,
+  )
+
+  pub all_said : (P : ℕ → List ℕ → Type 0) (ks : List ℕ) (replies : List Reply) → AreFor ks replies → AllByRecursion (λ k. P (first + k) (told k)) ks → AllByRecursion (λ (reply : Reply). P reply.number reply.bytes.items) replies
+  all_said P ks [] are all = tt
+  all_said P [] (reply ∷ replies) are all = absurd (let wrong : suc (length (map (λ (other : Reply). other.number) replies)) ≡ 0 = ap length are.numbered in omega arith)
+  all_said P (k ∷ ks) (reply ∷ replies) are all = (
+    subst (λ n. P n reply.bytes.items) (sym (ap head_of are.numbered)) (subst (P (first + k)) (sym (ap text_of are.answers)) all.0),
+    all_said P ks replies (record { numbered = ap tail_of are.numbered; answers = ap tail_of are.answers }) all.1,
   )

@@ -20,7 +20,7 @@ drop_more n (suc k) (x ∷ xs) = drop_more n k xs ∙ ap (λ i. drop i (x ∷ xs
 parted : {X : Type 0} (n k : ℕ) (xs : List X) → drop k xs ≡ take n (drop k xs) ++ drop (k + n) xs
 parted n k xs = sym (take-append-drop n (drop k xs)) ∙ ap (λ rest. take n (drop k xs) ++ rest) (drop_more n k xs)
 
-few_left : {X : Type 0} (n k : ℕ) (xs : List X) → k + n ≤ length xs → length (take n (drop k xs)) ≡ n
+pub few_left : {X : Type 0} (n k : ℕ) (xs : List X) → k + n ≤ length xs → length (take n (drop k xs)) ≡ n
 few_left n k xs within = length-take-le n (drop k xs) (let left : length (drop k xs) ≡ length xs - k = length-drop k xs in omega arith)
 
 module _ (m : Inodes) (o : ℕ) (t : Time) (requests : List (List ℕ)) (done n : ℕ) (formed : IsWellFormed (record { tree = m; next_ordinal = o; last_time = t })) (within : done + n ≤ length requests) where
@@ -59,13 +59,13 @@ length-replies_to m o t [] = refl
 length-replies_to m o t (request ∷ requests) = ap suc (length-replies_to (answer m o t request).0 (ordinal_after o 1) t requests)
 
 -- what holds of the replies so far, whatever comes of the rest
-pub ran_further : (ran : ℕ → List ℕ → Type 0) (m : Inodes) (o : ℕ) (t : Time) (requests : List (List ℕ)) (done n : ℕ) (replies : List (List ℕ)) → done + n ≤ length requests
+pub ran_further : (ran : ℕ → List ℕ → Type 0) (P : List (List ℕ) → Type 0) (m : Inodes) (o : ℕ) (t : Time) (requests : List (List ℕ)) (done n : ℕ) (replies : List (List ℕ)) → done + n ≤ length requests
     → AllRan ran done (take n (drop done requests)) (replies_to m o t (take n (drop done requests)))
-    → ((more : List (List ℕ)) → AllRan ran done (drop done requests) more → AllRan ran 0 requests (replies ++ more))
-    → (more : List (List ℕ)) → AllRan ran (done + n) (drop (done + n) requests) more → AllRan ran 0 requests ((replies ++ replies_to m o t (take n (drop done requests))) ++ more)
-ran_further ran m o t requests done n replies within here before more rest =
+    → ((more : List (List ℕ)) → AllRan ran done (drop done requests) more → P (replies ++ more))
+    → (more : List (List ℕ)) → AllRan ran (done + n) (drop (done + n) requests) more → P ((replies ++ replies_to m o t (take n (drop done requests))) ++ more)
+ran_further ran P m o t requests done n replies within here before more rest =
     let run = take n (drop done requests) in
     let now = replies_to m o t run in
-    subst (AllRan ran 0 requests) (sym (append_assoc replies now more))
+    subst P (sym (append_assoc replies now more))
     (before (now ++ more) (subst (λ xs. AllRan ran done xs (now ++ more)) (sym (parted n done requests))
     (all_ran_on ran done run (drop (done + n) requests) now more (length-replies_to m o t run) here (subst (λ k. AllRan ran (done + k) (drop (done + n) requests) more) (sym (few_left n done requests within)) rest))))

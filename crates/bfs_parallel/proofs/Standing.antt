@@ -1,9 +1,10 @@
 -- A group on its way: level after level its requests are carried out on inodes of their own, and stand as in the model's law on levels.
-use Rattle.std.proofs.Common.{◌≡◌, ℕ, zero, suc, ◌<◌, Bool, true, false, cond, not, ◌||◌, List, [], ◌∷◌, ◌++◌, length, map, None, refl, ap, sym, subst, ◌∙◌, arith, eqb, eq-eqb, eqb-true, ne_eqb, true≢false, inl, inr}
+use Rattle.std.proofs.Common.{◌≡◌, ℕ, zero, suc, ◌<◌, ◌≤◌, Bool, true, false, cond, not, ◌||◌, List, [], ◌∷◌, ◌++◌, length, map, None, refl, ap, sym, subst, ◌∙◌, arith, eqb, eq-eqb, eqb-true, ne_eqb, true≢false, inl, inr}
 use Rattle.std.specs.List.{AllByRecursion}
 use Rattle.std.specs.FinMap.{get}
 use Rattle.std.proofs.lemmas.Bool.{cond-true, cond-false}
 use Rattle.bfs_model.specs.Server.Tree.{Time, Inodes}
+use Rattle.bfs_model.specs.Server.Limits.{most_reply_bytes}
 use Rattle.bfs_model.specs.Server.Serial.{ordinal_after, answer}
 use Rattle.bfs_model.specs.Server.Footprints.{Footprint, IsFreshFor}
 use Rattle.bfs_model.specs.Server.Conflicts.{among, is_written, AgreeOn, closed, outcome_on}
@@ -11,7 +12,7 @@ use Rattle.bfs_model.specs.Server.Shares.{moved_for, all_moved}
 use Rattle.bfs_model.specs.Server.Groups.{footprints_at, footprints_in_order}
 use Rattle.bfs_model.specs.Server.Events.{Slot, taken, finished, is_done, World, moved, state, carried_out, took, ended, took_all, ended_all, AreDistinct, IsLevel, InLevels}
 use Rattle.bfs_model.specs.Laws.Overtaking.{Asked, answered, asked_at, plan, calls, at_first, MayBeTaken, HasItsFootprint, LevelsLead}
-use Rattle.bfs_model.proofs.Public.{AllHome, IsServable, Kept, agrees, answer_keeps, fresh_for_request, get-closed, get-without, holds_on, its_own, local, moved_is_written, new_in, same_inodes, shifted, start_kept, still_home, turn_keeps}
+use Rattle.bfs_model.proofs.Public.{AllHome, IsServable, Kept, agrees, answer_keeps, formed_again, fresh_for_request, get-closed, get-without, holds_on, its_own, local, moved_is_written, new_in, reply_is_short, same_inodes, shifted, start_kept, still_home, turn_keeps}
 use Rattle.bfs_handover.proofs.Public.{among_both, none_among}
 
 -- One put over another ------------------------------------------------------------------------------------------------------
@@ -122,6 +123,13 @@ module _ (m : Inodes) (o : ℕ) (t : Time) (requests : List (List ℕ)) (own : f
 
     pub seen_too : (others : Inodes) → AgreeOn (feet k) w.home others → AgreeOn (feet k) (there k) others
     seen_too others agree id touched = agree id touched ∙ seen id touched
+
+  -- what a finished request tells is what it tells in batch order
+  pub told_is_short : (w : World (List ℕ)) → Stand w → (k : ℕ) (reply : List ℕ) → IsServable m o → k < many → w.slots k ≡ finished reply → length reply ≤ most_reply_bytes
+  told_is_short w stand k reply good less is =
+      subst (λ text. length text ≤ most_reply_bytes) (sym (stand.kept.told k reply less is))
+      (reply_is_short (there k) (answered (asked k) (there k)).0 (asked k).ordinal (asked k).time (asked k).bytes (answered (asked k) (there k)).1
+      (formed_again (there k) (asked k).ordinal (asked k).time (servable_there many feet m o t requests k good less)) refl)
 
   -- Requests together ---------------------------------------------------------------------------------------------------------
 

@@ -1,5 +1,5 @@
 -- The numbers of a group's requests, level after level.
-use Rattle.std.specs.Prelude.{◌≡◌, ℕ, zero, suc, ◌+◌, ◌-◌, ◌<◌, ◌≤◌, ◌==◌, IsFalse, List, [], ◌∷◌, length, map, get_or, slice_set, if◌then◌else◌}
+use Rattle.std.specs.Prelude.{◌≡◌, ℕ, zero, suc, ◌+◌, ◌<◌, ◌≤◌, ◌==◌, IsFalse, List, [], ◌∷◌, length, map, get_or, slice_set, if◌then◌else◌}
 use Rattle.std.specs.Global.{Global}
 use Rattle.std.specs.List.{AllByRecursion}
 use Rattle.std.specs.declared.vec.Vec.{Vec}
@@ -62,10 +62,7 @@ pub record AreKept (first : ℕ) (levels : List ℕ) (buckets : List (Vec ℕ Gl
 
 -- Replies in their places ---------------------------------------------------------------------------------------------------
 
-abbrev pub texts_of : List (Vec ℕ Global) → List (List ℕ)
-texts_of replies = map (λ reply. reply.items) replies
-
--- each reply at the place of its number, where the first has that number
-abbrev pub all_put : (first : ℕ) → List Reply → List (List ℕ) → List (List ℕ)
-all_put first [] texts = texts
-all_put first (reply ∷ replies) texts = all_put first replies (slice_set texts (reply.number - first) reply.bytes.items)
+-- each reply at the place of its number
+abbrev pub all_put : List Reply → List (List ℕ) → List (List ℕ)
+all_put [] texts = texts
+all_put (reply ∷ replies) texts = all_put replies (slice_set texts reply.number reply.bytes.items)

@@ -1,77 +1,70 @@
-ghost use Rattle.std.specs.Prelude.{◌≡◌, ◌<◌, ◌≤◌, ◌+◌, ◌-◌, ◌++◌, ℕ, [], ◌∷◌, IfOk, IsTrue, List, OnOk, length, map};
+ghost use Rattle.std.specs.Prelude.{◌≡◌, ◌<◌, ◌≤◌, ◌+◌, ◌++◌, ℕ, [], ◌∷◌, IfOk, IsTrue, List, OnOk, length, map};
 ghost use Rattle.std.specs.List.{All};
-ghost use Rattle.bfs_model.specs.Server.Serial.{inodes_after, replies_to};
+ghost use Rattle.bfs_model.specs.Server.Limits.{most_reply_bytes};
 ghost use Rattle.bfs_footprint.specs.Seen.{footprint_seen};
-ghost use Rattle.bfs_levels.specs.Requests.{requests_from};
 ghost use Rattle.bfs_tree.specs.Tree.{at_home, reach_of};
-ghost use Rattle.bfs_parallel.specs.Ran.{AllRan};
-ghost use Rattle.bfs_parallel.specs.Levels.{AreInLevels, AreKept, IsGroupOf, all_put, numbers_in, texts_of};
+ghost use Rattle.bfs_parallel.specs.Levels.{AreInLevels, AreKept, IsGroupOf, all_put, numbers_in};
+ghost use Rattle.bfs_parallel.specs.Parts.{IsPartExecuted};
 
 use crate::carrying::carry_out;
+use crate::means::Means;
 use crate::rounds::Rounds;
 use bfs_handover::Reply;
-use bfs_levels::Group;
-use bfs_serial::Batch;
+use bfs_levels::{Group, Part};
+use bfs_serial::Replies;
 use bfs_tree::Tree;
-use bfs_types::{Memory, Ordinal, Time};
+use bfs_types::Memory;
 use bfs_workers::Gate;
 use std::alloc::Global;
 use std::sync::Wait;
 use std::thread::Threads;
 
-/// Executes a group of the batch's requests, of which the first has that ordinal, level after level, and gives their replies in the
-/// order of the batch. It is known of each what it touches. `Memory` if memory runs out; the tree may then not be whole.
+/// Executes a group of the part's first requests, level after level, and puts their replies behind the others, where there is one of each
+/// request before the part. It is known of each what it touches. `Memory` if memory runs out; the tree may then not be whole.
 pub(crate) fn execute_levels<R: Threads + Wait + Sync, G: Gate + Sync>(
-    rt: &R,
-    alloc: Global,
+    means: &Means<'_, R, G>,
     tree: &mut Tree,
-    batch: &Batch,
-    ordinal: Ordinal,
-    time: Time,
+    part: &Part<'_>,
     group: &Group,
     levels: Vec<Vec<u32>>,
     rounds: &Rounds,
-    gate: &G,
-) -> Result<Vec<Vec<u8>>, Memory>
+    replies: &mut Replies,
+) -> Result<(), Memory>
     requires whole { IsTrue ((reach_of tree.old).whole) }
-    requires group { IsGroupOf (at_home tree.old) group.now.first ordinal time batch.now.requests (map footprint_seen group.now.footprints.items) group.now.level_of.items }
-    requires levels { AreInLevels group.now.first group.now.level_of.items 0 levels.items }
-    ensures inodes { IfOk result (λ _. at_home tree.new ≡ inodes_after (at_home tree.old) ordinal time (requests_from group.now.first (length group.now.footprints.items) batch.now.requests)) }
-    ensures whole { IfOk result (λ _. IsTrue ((reach_of tree.new).whole)) }
-    ensures replies { IfOk result (λ texts. texts_of texts.items ≡ replies_to (at_home tree.old) ordinal time (requests_from group.now.first (length group.now.footprints.items) batch.now.requests)) }
-    ensures ran { IfOk result (λ texts. AllRan G.ran group.now.first (requests_from group.now.first (length group.now.footprints.items) batch.now.requests) (texts_of texts.items)) }
+    requires group { IsGroupOf (at_home tree.old) part.now.first part.now.ordinal part.now.time part.now.batch.now.requests (map footprint_seen group.now.footprints.items) group.now.level_of.items }
+    requires levels { AreInLevels part.now.first group.now.level_of.items 0 levels.items }
+    requires some { 0 < length group.now.footprints.items }
+    requires placed { length replies.old ≡ part.now.first }
+    ensures { IfOk result (λ _. IsPartExecuted G.ran tree.old tree.new part.now.ordinal part.now.time part.now.batch.now.requests part.now.first (length group.now.footprints.items) replies.old replies.new) }
 {
-    let count = batch.len();
-    prove!(group.first + group.len() <= count);
-    let mut texts = no_texts(alloc, group.len())?;
+    replies.add_places(means.alloc, group.len())?;
     for numbers in levels {
-        let workers = rounds.workers_for(batch, numbers.as_slice());
-        let replies = carry_out(
-            rt,
-            alloc,
+        let workers = rounds.workers_for(part.batch, numbers.as_slice());
+        let carried = carry_out(
+            means,
             tree,
-            batch,
-            ordinal,
-            time,
-            group.first,
+            part,
             group.footprints.as_slice(),
             numbers.as_slice(),
             workers,
-            gate,
         )?;
-        place(&mut texts, group.first, replies);
+        put_all(replies, carried);
     }
-    Ok(texts)
+    Ok(())
 }
 
-/// The numbers of a group's requests, level after level.
-pub(crate) fn levels_in(alloc: Global, group: &Group) -> Result<Vec<Vec<u32>>, Memory>
-    requires { group.now.first + length group.now.level_of.items ≤ 4294967295 }
-    ensures { IfOk result (λ levels. AreInLevels group.now.first group.now.level_of.items 0 levels.items) }
+/// The numbers of requests that stand at these levels, level after level: the first has that number.
+pub(crate) fn levels_in(
+    alloc: Global,
+    first: usize,
+    level_of: &[u32],
+) -> Result<Vec<Vec<u32>>, Memory>
+    requires { first + length level_of.now ≤ 4294967295 }
+    ensures { IfOk result (λ levels. AreInLevels first level_of.now 0 levels.items) }
 {
     let mut levels = Vec::new(alloc);
-    let mut number = group.first as u32;
-    for level in &group.level_of {
+    let mut number = first as u32;
+    for level in level_of {
         put_number(alloc, &mut levels, *level as usize, number)?;
         number += 1;
     }
@@ -104,22 +97,12 @@ fn grow(alloc: Global, levels: &mut Vec<Vec<u32>>, level: usize) -> Result<(), M
     Ok(())
 }
 
-fn no_texts(alloc: Global, count: usize) -> Result<Vec<Vec<u8>>, Memory>
-    ensures { IfOk result (λ texts. length texts.items ≡ count) }
-{
-    let mut texts = Vec::with_capacity(alloc, count)?;
-    for _ in 0..count {
-        texts.push_reserved(Vec::new(alloc));
-    }
-    Ok(texts)
-}
-
 // puts each reply at the place of its number
-fn place(texts: &mut Vec<Vec<u8>>, first: usize, replies: Vec<Reply>)
-    requires { All (λ reply. (first ≤ reply.number) × (reply.number - first < length texts.old.items)) replies.items }
-    ensures { texts_of texts.new.items ≡ all_put first replies.items (texts_of texts.old.items) }
+fn put_all(replies: &mut Replies, carried: Vec<Reply>)
+    requires { All (λ reply. (reply.number < length replies.old) × (length reply.bytes.items ≤ most_reply_bytes)) carried.items }
+    ensures { replies.new ≡ all_put carried.items replies.old }
 {
-    for reply in replies {
-        texts[reply.number as usize - first] = reply.bytes;
+    for reply in carried {
+        replies.put(reply.number as usize, reply.bytes);
     }
 }

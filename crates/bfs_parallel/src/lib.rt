@@ -5,6 +5,7 @@ mod carrying;
 mod engine;
 mod executor;
 mod levels;
+mod means;
 mod parts;
 mod planning;
 mod requests;

@@ -6,61 +6,53 @@ ghost use Rattle.bfs_parallel.specs.Levels.{IsPlanned};
 
 use crate::engine::Engine;
 use crate::rounds::Rounds;
-use bfs_levels::{Group, Run, plan_group_before, runs_before};
-use bfs_serial::Batch;
+use bfs_levels::{Group, Part, Run};
 use bfs_tree::Tree;
-use bfs_types::{Memory, Ordinal, Time};
+use bfs_types::Memory;
 use std::alloc::Global;
 
-/// What the engine executes together of the batch's requests, from that place on, the first of which has that ordinal: of the first few, or
-/// of all where these promise much for threads. A run is a group of which all requests stand at one level.
+/// What is executed together of the part's requests, from the first on: of a few, or of all where these promise much for threads. A run is a
+/// group of which all requests stand at one level.
 pub(crate) fn plan(
     alloc: Global,
     tree: &Tree,
-    ordinal: Ordinal,
-    time: Time,
-    batch: &Batch,
-    place: usize,
-    engine: Engine,
+    part: &Part<'_>,
     rounds: &Rounds,
 ) -> Result<Group, Memory>
     requires whole { IsTrue ((reach_of tree.now).whole) }
-    requires formed { IsWellFormed (record { tree = at_home tree.now; next_ordinal = ordinal; last_time = time }) }
-    requires more { place < length batch.now.requests }
-    ensures { IfOk result (λ group. IsPlanned (at_home tree.now) ordinal time batch.now.requests place group) }
+    requires formed { IsWellFormed (record { tree = at_home tree.now; next_ordinal = part.now.ordinal; last_time = part.now.time }) }
+    requires more { part.now.first < length part.now.batch.now.requests }
+    ensures { IfOk result (λ group. IsPlanned (at_home tree.now) part.now.ordinal part.now.time part.now.batch.now.requests part.now.first group) }
 {
-    let count = batch.len();
-    let end = rounds.end(place, count);
-    let few = plan_before(alloc, tree, ordinal, time, batch, place, end, engine)?;
+    let count = part.batch.len();
+    let end = rounds.end(part.first, count);
+    let few = plan_before(alloc, tree, part, end, rounds.engine)?;
     if !rounds.goes_on(&few.level_of) {
         return Ok(few);
     }
-    plan_before(alloc, tree, ordinal, time, batch, place, count, engine)
+    plan_before(alloc, tree, part, count, rounds.engine)
 }
 
 // of the requests before that end
 fn plan_before(
     alloc: Global,
     tree: &Tree,
-    ordinal: Ordinal,
-    time: Time,
-    batch: &Batch,
-    place: usize,
+    part: &Part<'_>,
     end: usize,
     engine: Engine,
 ) -> Result<Group, Memory>
     requires whole { IsTrue ((reach_of tree.now).whole) }
-    requires formed { IsWellFormed (record { tree = at_home tree.now; next_ordinal = ordinal; last_time = time }) }
-    requires more { place < length batch.now.requests }
-    requires before { place < end }
-    ensures { IfOk result (λ group. IsPlanned (at_home tree.now) ordinal time batch.now.requests place group) }
+    requires formed { IsWellFormed (record { tree = at_home tree.now; next_ordinal = part.now.ordinal; last_time = part.now.time }) }
+    requires more { part.now.first < length part.now.batch.now.requests }
+    requires before { part.now.first < end }
+    ensures { IfOk result (λ group. IsPlanned (at_home tree.now) part.now.ordinal part.now.time part.now.batch.now.requests part.now.first group) }
 {
     match engine {
         Engine::Runs => {
-            let run = runs_before(alloc, tree, ordinal, time, batch, place, end)?;
+            let run = part.run_before(alloc, tree, end)?;
             one_level(alloc, run)
         }
-        Engine::Levels => plan_group_before(alloc, tree, ordinal, time, batch, place, end),
+        Engine::Levels => part.group_before(alloc, tree, end),
     }
 }
 

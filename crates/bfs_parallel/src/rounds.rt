@@ -1,5 +1,6 @@
 ghost use Rattle.std.specs.Prelude.{◌<◌, ◌≤◌};
 
+use crate::engine::Engine;
 use bfs_serial::Batch;
 use bfs_workers::Workers;
 
@@ -20,6 +21,8 @@ const PAUSE: usize = 4;
 /// by another, which takes what the threads gain. Where no level can get threads, nothing is planned.
 #[derive(Clone, Copy, Debug)]
 pub(crate) struct Rounds {
+    /// Which requests are executed at one time.
+    pub(crate) engine: Engine,
     workers: Workers,
     // whether the gate asks for threads
     asked: bool,
@@ -32,9 +35,10 @@ pub(crate) struct Rounds {
 
 impl Rounds {
     /// Those of a batch.
-    pub(crate) fn new(workers: Workers, batch: &Batch, asked: bool) -> Rounds {
+    pub(crate) fn new(workers: Workers, engine: Engine, batch: &Batch, asked: bool) -> Rounds {
         let pays = workers.count() >= MANY_WORKERS && bytes_of(batch) >= LONG;
         Rounds {
+            engine,
             workers,
             asked,
             plans: batch.len() > 1 && workers.count() > 1 && (asked || pays),

@@ -34,7 +34,7 @@ pub(crate) fn success_of(alloc: Global, xid: u32, reply: &NfsReply) -> Result<Ve
     Ok(bytes)
 }
 
-// the bytes that a reply begins with room for: its header, its status and attributes, and what was read. Longer ones grow.
+// the bytes that a reply begins with room for: its header, its status and attributes, and a path. Longer ones grow.
 fn room_for(reply: &NfsReply) -> usize {
     match reply {
         NfsReply::Void => 24,
@@ -42,9 +42,8 @@ fn room_for(reply: &NfsReply) -> usize {
         NfsReply::FreeBlocks(_) => 48,
         NfsReply::Attributes(_) => 96,
         NfsReply::Found { .. } => 128,
-        NfsReply::Contents { bytes, .. } => bytes.len() + 103,
         NfsReply::Path(path) => path.len() + 35,
-        NfsReply::Listed { .. } => 512,
+        NfsReply::Contents { .. } | NfsReply::Listed { .. } => 512,
     }
 }
 

@@ -1,5 +1,5 @@
 -- What was built of the records is what the bytes spell.
-use Rattle.bfs_digest.proofs.Exact.{bytes_are}
+use Rattle.bfs_model.proofs.Public.{bytes_are}
 use Rattle.bfs_digest.proofs.Restoring.{restored, spells_ill_formed}
 use Rattle.bfs_digest.proofs.restoration.restore.Goals as goal
 

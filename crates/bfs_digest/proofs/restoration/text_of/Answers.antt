@@ -3,7 +3,7 @@ use Rattle.std.proofs.Common.{◌≡◌, ℕ, Some, refl, sym, ap, ◌∙◌}
 use Rattle.bfs_digest.specs.Text.{version}
 use Rattle.bfs_digest.specs.Inside.TextReading.{version_from}
 use Rattle.bfs_digest.specs.Inside.Taking.{IsText}
-use Rattle.bfs_digest.proofs.Exact.{bytes_are}
+use Rattle.bfs_model.proofs.Public.{bytes_are}
 use Rattle.bfs_digest.proofs.Restoring.{unread_is_malformed, no_other_version, unspelled_is_malformed, other_version, not_malformed, text_records}
 use Rattle.bfs_digest.proofs.restoration.text_of.Goals as goal
 

@@ -5,6 +5,6 @@ use Rattle.bfs_parallel.proofs.levels.levels_in.Given as goal
 
 abbrev pub invariant-loop-level : goal.invariant-loop-level
 invariant-loop-level l = record {
-  kept : AreKept l.group.first (take l.level-index l.group.level_of.items) l.levels.items;
-  number : l.number ≡ l.group.first + l.level-index;
+  kept : AreKept l.first (take l.level-index l.level_of) l.levels.items;
+  number : l.number ≡ l.first + l.level-index;
 }

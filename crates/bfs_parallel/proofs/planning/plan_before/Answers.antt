@@ -11,13 +11,13 @@ returns-in_ok-run-in-Runs c =
     let longest = c.in_ok-run-in-Runs.ensures in
     let same = c.one_level.ensures in
     three_ok c.one_level.result
-    (λ group first footprints level. run_is_planned (at_home a.tree.now) a.ordinal a.time a.batch.now.requests a.place a.end run group c.requires.formed (record { more = c.requires.more; before = c.requires.before; longest = longest.longest; count = longest.count }) (first ∙ longest.first) footprints level)
+    (λ group first footprints level. run_is_planned (at_home a.tree.now) a.part.now.ordinal a.part.now.time a.part.now.batch.now.requests a.part.now.first a.end run group c.requires.formed (record { more = c.requires.more; before = c.requires.before; longest = longest.longest; count = longest.count }) (first ∙ longest.first) footprints level)
     same.first same.footprints same.level
 
 pub returns-in-Levels : goal.returns-in-Levels
 returns-in-Levels c =
     let a = c.args in
-    let long = c.plan_group_before.ensures in
-    four_ok c.plan_group_before.result
-    (λ group first longest count levels. group_is_planned (at_home a.tree.now) a.ordinal a.time a.batch.now.requests a.place a.end group c.requires.formed (record { more = c.requires.more; before = c.requires.before; longest = longest; count = count }) first levels)
+    let long = c.group_before.ensures in
+    four_ok c.group_before.result
+    (λ group first longest count levels. group_is_planned (at_home a.tree.now) a.part.now.ordinal a.part.now.time a.part.now.batch.now.requests a.part.now.first a.end group c.requires.formed (record { more = c.requires.more; before = c.requires.before; longest = longest; count = count }) first levels)
     long.first long.longest long.count long.levels

@@ -1,7 +1,7 @@
 -- What is read is no longer than it may be.
 use Rattle.std.proofs.Common.{sym, ap, ◌∙◌}
 use Rattle.bfs_model.specs.Bytes.Items.{opaque_at}
-use Rattle.bfs_digest.proofs.Shortness.{short_bytes}
+use Rattle.bfs_model.proofs.Public.{short_bytes}
 use Rattle.bfs_digest.proofs.readers.TextReader.bytes.Goals as goal
 
 pub returns-clause-within : goal.returns-clause-within
