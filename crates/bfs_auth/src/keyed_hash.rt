@@ -1,18 +1,30 @@
 ghost use Rattle.std.specs.Prelude.{◌≡◌, ◌++◌, ◌-◌, ◌≤◌, drop, length, replicate};
-ghost use Rattle.sha2.specs.Sha256.{sha256};
 ghost use Rattle.bfs_auth.specs.Hmac.{filled, hmac_sha256, key_block, masked};
 
+use crate::texts::Text;
 use sha2::{Digest, Sha256};
 
 /// The keyed hash of a text: HMAC (RFC 2104 section 2) over SHA-256 (FIPS 180-4), of 32 bytes. Key and text may have any length;
 /// a key of more than 64 bytes is hashed first. It takes no memory.
-#[tactic(auto, unfolding(crate::specs::Hmac::hmac_sha256))]
 pub fn hmac(key: &[u8], text: &[u8]) -> [u8; 32]
     ensures { result ≡ hmac_sha256 key.now text.now }
 {
+    hmac_of(key, &text)
+}
+
+/// The keyed hash of a text that is fed to it in pieces.
+#[tactic(auto, unfolding(crate::specs::Hmac::hmac_sha256))]
+pub fn hmac_of<T: Text>(key: &[u8], text: &T) -> [u8; 32]
+    ensures { result ≡ hmac_sha256 key.now (T.text text.now) }
+{
     let block = block_of(key);
-    let inner = digest_of_both(&mask(&block, 0x36), text);
-    digest_of_both(&mask(&block, 0x5c), &inner)
+    let mut inner = Sha256::new();
+    inner.update(mask(&block, 0x36));
+    text.hash(&mut inner);
+    let mut outer = Sha256::new();
+    outer.update(mask(&block, 0x5c));
+    outer.update(inner.finalize());
+    outer.finalize()
 }
 
 fn block_of(key: &[u8]) -> [u8; 64]
@@ -52,13 +64,4 @@ fn mask(block: &[u8; 64], mask: u8) -> [u8; 64]
         out[i] = block[i] ^ mask;
     }
     out
-}
-
-fn digest_of_both(first: &[u8], second: &[u8]) -> [u8; 32]
-    ensures { result ≡ sha256 (first.now ++ second.now) }
-{
-    let mut hasher = Sha256::new();
-    hasher.update(first);
-    hasher.update(second);
-    hasher.finalize()
 }
