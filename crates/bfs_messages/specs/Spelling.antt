@@ -1,0 +1,47 @@
+-- The texts of messages.
+use Rattle.std.specs.Prelude.{ℕ, List, [], ◌++◌}
+use Rattle.bfs_model.specs.Bytes.Items.{word}
+use Rattle.bfs_messages.specs.Batches.{auth_text, request_text, vote_text, checkpoint_text, reply_text, batch_text}
+use Rattle.bfs_messages.specs.Changes.{view_change_text, new_view_text}
+use Rattle.bfs_messages.specs.declared.signed.Signed.{Signed}
+use Rattle.bfs_messages.specs.declared.message.Message.{Message}
+use Rattle.bfs_messages.specs.declared.message.Message.TheVariants.{Request, PrePrepare, Prepare, Commit, Checkpoint, ViewChange, NewView, Reply}
+
+abbrev pub tag_of : Message → ℕ
+tag_of (Request request) = 1
+tag_of (PrePrepare proposal) = 2
+tag_of (Prepare vote) = 3
+tag_of (Commit vote) = 4
+tag_of (Checkpoint checkpoint) = 5
+tag_of (ViewChange change) = 6
+tag_of (NewView new) = 7
+tag_of (Reply reply) = 8
+
+-- what stands behind the tag of a message's body
+abbrev pub fields_text : Message → List ℕ
+fields_text (Request request) = request_text request
+fields_text (PrePrepare proposal) = vote_text proposal.vote
+fields_text (Prepare vote) = vote_text vote
+fields_text (Commit vote) = vote_text vote
+fields_text (Checkpoint checkpoint) = checkpoint_text checkpoint
+fields_text (ViewChange change) = view_change_text change
+fields_text (NewView new) = new_view_text new
+fields_text (Reply reply) = reply_text reply
+
+-- what follows the keyed hashes
+abbrev pub attached_text : Message → List ℕ
+attached_text (PrePrepare proposal) = batch_text proposal.batch
+attached_text (Request request) = []
+attached_text (Prepare vote) = []
+attached_text (Commit vote) = []
+attached_text (Checkpoint checkpoint) = []
+attached_text (ViewChange change) = []
+attached_text (NewView new) = []
+attached_text (Reply reply) = []
+
+-- a message's body, of which the keyed hashes are made
+abbrev pub body_text : Message → List ℕ
+body_text message = word (tag_of message) ++ fields_text message
+
+unfoldable pub signed_text : Signed Message → List ℕ
+signed_text signed = body_text signed.message ++ auth_text signed.auth ++ attached_text signed.message

@@ -1,0 +1,90 @@
+// The texts of messages.
+ghost use Rattle.std.specs.Prelude.{◌≡◌, ◌++◌, IfOk, OnOk, Some};
+ghost use Rattle.bfs_model.specs.Bytes.Items.{word};
+ghost use Rattle.bfs_messages.specs.Batches.{batch_text};
+ghost use Rattle.bfs_messages.specs.Codes.{Takes};
+ghost use Rattle.bfs_messages.specs.Fits.{FieldsFit, FitsMessage};
+ghost use Rattle.bfs_messages.specs.Limits.{FitsSigned};
+ghost use Rattle.bfs_messages.specs.Reading.{message_of};
+ghost use Rattle.bfs_messages.specs.Spelling.{attached_text, body_text, signed_text};
+
+use crate::batches::{OrderedBatch, put_batch};
+use crate::message::Message;
+use crate::parts::Part;
+use crate::signed::Signed;
+use crate::sinks::Sink;
+use bfs_types::Memory;
+use std::alloc::Global;
+
+/// The bytes of a message and its keyed hashes. `Memory` if memory runs out.
+pub fn encode(alloc: Global, signed: &Signed<Message>) -> Result<Vec<u8>, Memory>
+    ensures text { IfOk result (λ bytes. bytes.items ≡ signed_text signed.now) }
+    ensures again { IfOk result (λ bytes. message_of bytes.items ≡ Some signed.now) }
+{
+    let mut bytes = Vec::new(alloc);
+    put_signed(signed, &mut bytes)?;
+    Ok(bytes)
+}
+
+/// The bytes of a batch. `Memory` if memory runs out.
+pub fn batch_bytes(alloc: Global, batch: &OrderedBatch) -> Result<Vec<u8>, Memory>
+    ensures { IfOk result (λ bytes. bytes.items ≡ batch_text batch.now) }
+{
+    let mut bytes = Vec::new(alloc);
+    put_batch(batch, &mut bytes)?;
+    Ok(bytes)
+}
+
+#[tactic(auto, using(std::proofs::lemmas::List::append_assoc), unfolding(crate::specs::Spelling::signed_text))]
+fn put_signed<S: Sink>(signed: &Signed<Message>, out: &mut S) -> Result<(), S::Error>
+    ensures text { OnOk result (Takes S.holds out.old out.new (signed_text signed.now)) }
+    ensures fits { OnOk result (FitsSigned FitsMessage signed.now) }
+{
+    put_body(&signed.message, out)?;
+    signed.auth.put(out)?;
+    put_attached(&signed.message, out)
+}
+
+/// What of a message is signed.
+pub(crate) fn put_body<S: Sink>(message: &Message, out: &mut S) -> Result<(), S::Error>
+    ensures text { OnOk result (Takes S.holds out.old out.new (body_text message.now)) }
+    ensures fits { OnOk result (FieldsFit message.now) }
+{
+    match message {
+        Message::Request(request) => put_tagged(1, request, out),
+        Message::PrePrepare(proposal) => put_tagged(2, proposal.vote(), out),
+        Message::Prepare(vote) => put_tagged(3, vote, out),
+        Message::Commit(vote) => put_tagged(4, vote, out),
+        Message::Checkpoint(checkpoint) => put_tagged(5, checkpoint, out),
+        Message::ViewChange(change) => put_tagged(6, change, out),
+        Message::NewView(new) => put_tagged(7, new, out),
+        Message::Reply(reply) => put_tagged(8, reply, out),
+    }
+}
+
+/// What stands behind a tag.
+pub(crate) fn put_tagged<T: Part, S: Sink>(
+    tag: u32,
+    fields: &T,
+    out: &mut S,
+) -> Result<(), S::Error>
+    ensures text { OnOk result (Takes S.holds out.old out.new (word tag ++ T.text fields.now)) }
+    ensures fits { OnOk result (T.fits fields.now) }
+{
+    out.u32(tag)?;
+    fields.put(out)
+}
+
+// what follows the keyed hashes
+fn put_attached<S: Sink>(message: &Message, out: &mut S) -> Result<(), S::Error>
+    ensures text { OnOk result (Takes S.holds out.old out.new (attached_text message.now)) }
+    ensures fits { OnOk result (FieldsFit message.now → FitsMessage message.now) }
+{
+    match message {
+        Message::PrePrepare(proposal) => {
+            let _vote = proposal.vote();
+            put_batch(proposal.batch(), out)
+        }
+        _ => Ok(()),
+    }
+}
