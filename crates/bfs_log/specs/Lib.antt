@@ -1,0 +1,4 @@
+-- What the contracts of bfs_log and of the crates above it cite.
+pub mod Batches
+pub mod Headers
+pub mod Logs
