@@ -2,3 +2,5 @@
 pub mod Batches
 pub mod Headers
 pub mod Logs
+pub mod Places
+pub mod Rows

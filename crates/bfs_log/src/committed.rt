@@ -1,9 +1,8 @@
-ghost use Rattle.std.specs.Prelude.{◌≡◌, ◌<◌, ◌^◌};
+ghost use Rattle.std.specs.Prelude.{◌≡◌, ◌<◌, ◌^◌, IfOk};
 ghost use Rattle.std.specs.Arc.{arc_value};
-ghost use Rattle.std.specs.Option.{option_map};
-ghost use Rattle.bfs_log.specs.Logs.{batch_in};
 
-use bfs_messages::{Message, OrderedBatch};
+use bfs_messages::{OrderedBatch, PrePrepare};
+use bfs_types::Memory;
 
 use std::marker::Model;
 use std::sync::Arc;
@@ -28,6 +27,16 @@ impl Model for Committed {
 }
 
 impl Committed {
+    /// What a PRE-PREPARE proposes, with the same batch. `Memory` if memory runs out.
+    pub(crate) fn of(proposal: &PrePrepare) -> Result<Committed, Memory>
+        ensures { IfOk result (λ committed. committed ≡ record { number = proposal.now.vote.number; batch = proposal.now.batch }) }
+    {
+        Ok(Committed {
+            number: proposal.vote().number(),
+            batch: Arc::try_clone(proposal.batch())?,
+        })
+    }
+
     /// The number.
     pub fn number(&self) -> u64
         ensures value { result ≡ self.now.number }

@@ -1,9 +1,10 @@
 // What is asked of a message: its kind, its sender, its place and its digest.
 ghost use Rattle.std.specs.Prelude.{◌≡◌, []};
-ghost use Rattle.bfs_agreement.specs.Votes.{is_slot, says};
-ghost use Rattle.bfs_log.specs.Headers.{header, message_header, vote_header};
+ghost use Rattle.bfs_log.specs.Headers.{message_header, vote_header};
 ghost use Rattle.bfs_log.specs.Logs.{stays};
+ghost use Rattle.bfs_log.specs.Places.{place_of};
 
+use crate::places::Place;
 use bfs_messages::{Message, Vote};
 use std::marker::Model;
 
@@ -33,6 +34,18 @@ pub struct Slot {
     pub sender: u32,
     pub view: u64,
     pub number: u64,
+}
+
+impl Slot {
+    pub(crate) fn place(self) -> Place
+        ensures { result ≡ record { number = self.number; view = self.view; tag = self.tag } }
+    {
+        Place {
+            number: self.number,
+            view: self.view,
+            tag: self.tag,
+        }
+    }
 }
 
 /// The header of a message.
@@ -84,16 +97,13 @@ impl<'a> Header<'a> {
             || (self.tag == 5 && (self.number == number && self.digest == digest))
     }
 
-    pub(crate) fn is_in(&self, slot: Slot) -> bool
-        ensures { result ≡ is_slot slot.tag slot.sender slot.view slot.number self.now }
+    pub(crate) fn place(&self) -> Place
+        ensures { result ≡ place_of self.now }
     {
-        self.tag == slot.tag
-            && (self.sender == slot.sender && (self.view == slot.view && self.number == slot.number))
-    }
-
-    pub(crate) fn does_say(&self, slot: Slot, digest: &[u8]) -> bool
-        ensures { result ≡ says slot.tag slot.sender slot.view slot.number digest.now self.now }
-    {
-        self.is_in(slot) && self.digest == digest
+        Place {
+            number: self.number,
+            view: self.view,
+            tag: self.tag,
+        }
     }
 }

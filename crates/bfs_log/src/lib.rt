@@ -4,6 +4,9 @@
 mod committed;
 mod headers;
 mod logs;
+mod places;
+mod rows;
+mod said;
 
 pub use committed::Committed;
 pub use headers::{Header, Slot, header_of};
