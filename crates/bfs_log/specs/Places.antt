@@ -32,7 +32,7 @@ abbrev pub place_of : Header → Place
 place_of h = record { number = h.number; view = h.view; tag = h.tag }
 
 abbrev pub is_at : Place → Header → Bool
-is_at place h = same_place place (place_of h)
+is_at place h = same_place (place_of h) place
 
 -- what the messages of a log say at a place
 abbrev pub said_at : Place → Log → List Said
@@ -47,13 +47,13 @@ checkpoint_place number = record { number = number; view = 0; tag = 5 }
 
 -- above a checkpoint, or where CHECKPOINTs tell it
 abbrev pub is_above : (number : ℕ) → Place → Bool
-is_above number p = nat_lt number p.number || same_place p (checkpoint_place number)
+is_above number p = same_place (checkpoint_place number) p || nat_lt number p.number
 
 -- what of a row stays once a checkpoint is stable
 abbrev pub row_kept : (number : ℕ) → List ℕ → Place → List Said → List Said
 row_kept number digest p row =
-    if nat_lt number p.number then row else
-    (if same_place p (checkpoint_place number) then filter (λ said. bytes_eq said.digest digest) row else [])
+    if same_place (checkpoint_place number) p then filter (λ said. bytes_eq said.digest digest) row else
+    (if nat_lt number p.number then row else [])
 
 -- each message is in a slot of its own, its sender can be a replica, and the index has what it says
 pub record IsIndexed (log : Log) (places : Index) : Type 0 where

@@ -1,7 +1,7 @@
 // What is asked of a message: its kind, its sender, its place and its digest.
 ghost use Rattle.std.specs.Prelude.{◌≡◌, []};
 ghost use Rattle.bfs_log.specs.Headers.{message_header, vote_header};
-ghost use Rattle.bfs_log.specs.Logs.{stays};
+ghost use Rattle.bfs_log.specs.Logs.{stays, with_proposed};
 ghost use Rattle.bfs_log.specs.Places.{place_of};
 
 use crate::places::Place;
@@ -73,7 +73,13 @@ pub fn header_of(message: &Message) -> Header<'_>
 fn vote_header_of(tag: u32, vote: &Vote) -> Header<'_>
     ensures { result ≡ vote_header tag vote.now }
 {
-    Header::new(tag, vote.sender(), vote.view(), vote.number(), vote.digest())
+    Header::new(
+        tag,
+        vote.sender(),
+        vote.view(),
+        vote.number(),
+        vote.digest(),
+    )
 }
 
 impl<'a> Header<'a> {
@@ -93,8 +99,18 @@ impl<'a> Header<'a> {
     pub(crate) fn does_stay(&self, number: u64, digest: &[u8]) -> bool
         ensures { result ≡ stays number digest.now self.now }
     {
-        number < self.number
-            || (self.tag == 5 && (self.number == number && self.digest == digest))
+        number < self.number || (self.tag == 5 && (self.number == number && self.digest == digest))
+    }
+
+    // The greater one of a number and that of a PRE-PREPARE of a view.
+    pub(crate) fn with_proposed(&self, view: u64, greatest: u64) -> u64
+        ensures { result ≡ with_proposed view self.now greatest }
+    {
+        if self.tag == 2 && self.view == view {
+            self.number.max(greatest)
+        } else {
+            greatest
+        }
     }
 
     pub(crate) fn place(&self) -> Place

@@ -33,7 +33,7 @@ pub(crate) fn put_at(
     place: Place,
     said: Said,
 ) -> Result<(), Memory>
-    ensures ok { OnOk result ((p : declared.Place) → row_at places.new p ≡ row_at places.old p ++ (if same_place p place then said ∷ [] else [])) }
+    ensures ok { OnOk result ((p : declared.Place) → row_at places.new p ≡ row_at places.old p ++ (if same_place place p then said ∷ [] else [])) }
     ensures err { OnErr result ((p : declared.Place) → row_at places.new p ≡ row_at places.old p) }
 {
     if let Some(row) = places.get_mut(&place) {
@@ -49,7 +49,7 @@ pub(crate) fn put_at(
 /// Takes the last one at a place out again. It takes no memory.
 pub(crate) fn pop_at(places: &mut BTreeMap<Place, Vec<Said>>, place: Place)
     ensures last { (row : List model.Said) (said : model.Said) → row_at places.old place ≡ row ++ said ∷ [] → row_at places.new place ≡ row }
-    ensures others { (p : declared.Place) → same_place p place ≡ false → row_at places.new p ≡ row_at places.old p }
+    ensures others { (p : declared.Place) → same_place place p ≡ false → row_at places.new p ≡ row_at places.old p }
 {
     if let Some(row) = places.get_mut(&place) {
         row.pop();
@@ -78,15 +78,20 @@ pub(crate) fn drop_up_to(places: &mut BTreeMap<Place, Vec<Said>>, number: u64, d
 fn drop_places(places: &mut BTreeMap<Place, Vec<Said>>, number: u64)
     ensures { (p : declared.Place) → row_at places.new p ≡ if is_above number p then row_at places.old p else [] }
 {
-    places.retain(|place, _| {
-        number < place.number || (place.number == number && (place.view == 0 && place.tag == 5))
-    });
+    let told = checkpoint_place(number);
+    places.retain(|place, _| *place == told || number < place.number);
 }
 
 fn drop_other_checkpoints(places: &mut BTreeMap<Place, Vec<Said>>, number: u64, digest: &[u8])
-    ensures { (p : declared.Place) → row_at places.new p ≡ if same_place p (checkpoint_place number) then filter (λ said. bytes_eq said.digest digest.now) (row_at places.old p) else row_at places.old p }
+    ensures { (p : declared.Place) → row_at places.new p ≡ if same_place (checkpoint_place number) p then filter (λ said. bytes_eq said.digest digest.now) (row_at places.old p) else row_at places.old p }
 {
     if let Some(row) = places.get_mut(&checkpoint_place(number)) {
-        row.retain(|said| said.digest() == digest);
+        keep_told(row, digest);
     }
+}
+
+fn keep_told(row: &mut Vec<Said>, digest: &[u8])
+    ensures { row.new.items ≡ filter (λ said. bytes_eq said.digest digest.now) row.old.items }
+{
+    row.retain(|said| said.digest() == digest);
 }
