@@ -3,3 +3,4 @@ mod Slots
 mod Indexes
 mod Maps
 mod Keeping
+mod Greatest
