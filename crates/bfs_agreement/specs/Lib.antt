@@ -1,0 +1,3 @@
+-- What the contracts of bfs_agreement and of the crates above it cite.
+pub mod Votes
+pub mod Laws

@@ -1,0 +1,6 @@
+mod Counts
+mod Slots
+mod Indexes
+mod Maps
+mod Keeping
+mod Greatest
