@@ -1,0 +1,3 @@
+-- What the contracts of bfs_order and of the crates above it cite.
+pub mod Replica
+pub mod Inside
