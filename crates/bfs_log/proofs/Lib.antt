@@ -1,0 +1,3 @@
+-- What proofs share.
+mod Slots
+pub mod Public
