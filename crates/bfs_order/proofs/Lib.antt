@@ -1,0 +1,5 @@
+-- What proofs share.
+mod Telling
+mod Moving
+mod Certifying
+mod KeptLogs
