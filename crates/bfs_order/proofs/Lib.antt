@@ -1,1 +1,2 @@
--- What proofs share.
+mod Fronts
+mod Taking
