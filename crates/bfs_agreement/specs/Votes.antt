@@ -1,5 +1,5 @@
 -- Messages by their headers, and what messages tell of a batch or a checkpoint (OSDI 1999 sections 4.2 and 4.3). Senders are counted, not messages.
-use Rattle.std.specs.Prelude.{◌≡◌, ℕ, zero, suc, ◌+◌, ◌*◌, ◌%◌, ◌==◌, Bool, true, ◌&&◌, ◌||◌, not, cond, List, bytes_eq, nat_le}
+use Rattle.std.specs.Prelude.{◌≡◌, ℕ, zero, suc, ◌+◌, ◌*◌, ◌%◌, ◌==◌, Bool, true, false, ◌&&◌, ◌||◌, not, cond, List, [], ◌∷◌, bytes_eq, nat_le}
 use Rattle.std.specs.List.{list_any}
 
 -- what a message says: the tag is that of its text (2 PRE-PREPARE, 3 PREPARE, 4 COMMIT, 5 CHECKPOINT). A CHECKPOINT has no view: its view is 0 here
@@ -17,6 +17,15 @@ is_slot tag sender view number h = (h.tag == tag) && ((h.sender == sender) && ((
 -- a message of that kind, sender, view and number is in the log (OSDI 1999 section 4.2)
 abbrev pub has_slot : List Header → (tag sender view number : ℕ) → Bool
 has_slot log tag sender view number = list_any (is_slot tag sender view number) log
+
+-- a message of a header's kind, sender, view and number is in the log (OSDI 1999 section 4.2)
+abbrev pub is_taken : List Header → Header → Bool
+is_taken log h = has_slot log h.tag h.sender h.view h.number
+
+-- no two messages have one kind, sender, view and number (OSDI 1999 section 4.2)
+abbrev pub SlotsDiffer : List Header → Type 0
+SlotsDiffer [] = Unit {0}
+SlotsDiffer (h ∷ hs) = (is_taken hs h ≡ false) × SlotsDiffer hs
 
 -- a message tells that digest there (OSDI 1999 section 4.2)
 abbrev pub says : (tag sender view number : ℕ) → List ℕ → Header → Bool

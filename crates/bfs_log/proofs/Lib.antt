@@ -1,0 +1,5 @@
+mod Counts
+mod Slots
+mod Indexes
+mod Maps
+mod Keeping

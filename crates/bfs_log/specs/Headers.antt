@@ -1,0 +1,28 @@
+-- The headers of messages.
+use Rattle.std.specs.Prelude.{ℕ, List, []}
+use Rattle.bfs_agreement.specs.Votes.{Header}
+use Rattle.bfs_messages.specs.Messages.{Vote}
+use Rattle.bfs_messages.specs.declared.signed.Signed.{Signed}
+use Rattle.bfs_messages.specs.declared.message.Message.{Message}
+use Rattle.bfs_messages.specs.declared.message.Message.TheVariants.{Request, PrePrepare, Prepare, Commit, Checkpoint, ViewChange, NewView, Reply}
+
+abbrev pub vote_header : (tag : ℕ) → Vote → Header
+vote_header tag vote = record { tag = tag; sender = vote.sender; view = vote.view; number = vote.number; digest = vote.digest }
+
+-- of a message that is not of one number
+abbrev pub other_header : (tag sender : ℕ) → Header
+other_header tag sender = record { tag = tag; sender = sender; view = 0; number = 0; digest = [] }
+
+-- kind, sender, place and digest of a message (OSDI 1999 sections 4.2 and 4.3)
+abbrev pub message_header : Message → Header
+message_header (Request request) = other_header 1 request.client
+message_header (PrePrepare proposal) = vote_header 2 proposal.vote
+message_header (Prepare vote) = vote_header 3 vote
+message_header (Commit vote) = vote_header 4 vote
+message_header (Checkpoint checkpoint) = record { tag = 5; sender = checkpoint.sender; view = 0; number = checkpoint.number; digest = checkpoint.digest }
+message_header (ViewChange change) = other_header 6 change.sender
+message_header (NewView new) = other_header 7 new.sender
+message_header (Reply reply) = other_header 8 reply.sender
+
+abbrev pub header : Signed Message → Header
+header signed = message_header signed.message

@@ -1,0 +1,51 @@
+-- Logs of messages: what is found in them, and what of them is dropped (OSDI 1999 sections 4.2 and 4.3).
+use Rattle.std.specs.Prelude.{ℕ, ◌==◌, Bool, ◌&&◌, ◌||◌, max, List, [], ◌∷◌, map, filter, find, Option, Some, None, option_and_then, nat_lt, bytes_eq, if◌then◌else◌}
+use Rattle.bfs_messages.specs.declared.signed.Signed.{Signed}
+use Rattle.bfs_messages.specs.declared.message.Message.{Message}
+use Rattle.bfs_messages.specs.declared.message.Message.TheVariants.{Request, PrePrepare, Prepare, Commit, Checkpoint, ViewChange, NewView, Reply}
+use Rattle.bfs_agreement.specs.Votes.{Header, is_slot}
+use Rattle.bfs_log.specs.Batches.{Committed, Said}
+use Rattle.bfs_log.specs.Headers.{header, message_header}
+
+-- the messages that a replica has accepted and not dropped, its own among them, in the order in which they came
+abbrev pub Log : Type 0
+Log = List (Signed Message)
+
+abbrev pub headers : Log → List Header
+headers log = map header log
+
+-- the number and the batch of a PRE-PREPARE
+abbrev pub batch_in : Message → Option Committed
+batch_in (Request request) = None
+batch_in (PrePrepare proposal) = Some (record { number = proposal.vote.number; batch = proposal.batch })
+batch_in (Prepare vote) = None
+batch_in (Commit vote) = None
+batch_in (Checkpoint checkpoint) = None
+batch_in (ViewChange change) = None
+batch_in (NewView new) = None
+batch_in (Reply reply) = None
+
+-- what a message says at its place: its sender, its digest, and the batch of a PRE-PREPARE
+abbrev pub said_in : Message → Said
+said_in m = record { sender = (message_header m).sender; digest = (message_header m).digest; batch = batch_in m }
+
+-- the batch of the first PRE-PREPARE of a sender for a number of a view
+abbrev pub proposal_in : Log → (sender view number : ℕ) → Option Committed
+proposal_in log sender view number = option_and_then (λ m. batch_in m.message) (find (λ m. is_slot 2 sender view number (header m)) log)
+
+-- the greater one of a number and that of a PRE-PREPARE of a view
+abbrev pub with_proposed : (view : ℕ) → Header → ℕ → ℕ
+with_proposed view h greatest = if (h.tag == 2) && (h.view == view) then max h.number greatest else greatest
+
+-- the greatest number of a PRE-PREPARE of a view, 0 where there is none
+abbrev pub greatest_proposed : (view : ℕ) → List Header → ℕ
+greatest_proposed view [] = 0
+greatest_proposed view (h ∷ hs) = with_proposed view h (greatest_proposed view hs)
+
+-- above a checkpoint, or a CHECKPOINT that tells it (OSDI 1999 section 4.3)
+abbrev pub stays : (number : ℕ) → List ℕ → Header → Bool
+stays number digest h = nat_lt number h.number || ((h.tag == 5) && ((h.number == number) && bytes_eq h.digest digest))
+
+-- what stays in the log once a checkpoint is stable (OSDI 1999 section 4.3)
+abbrev pub kept_after : (number : ℕ) → List ℕ → Log → Log
+kept_after number digest log = filter (λ m. stays number digest (header m)) log

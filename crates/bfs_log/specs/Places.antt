@@ -1,0 +1,62 @@
+-- What a log's index has: what was said at each place.
+use Rattle.std.specs.Prelude.{◌≡◌, ℕ, ◌<◌, ◌==◌, Bool, ◌&&◌, ◌||◌, List, [], map, filter, All, Option, Some, None, nat_lt, bytes_eq, if◌then◌else◌}
+use Rattle.std.specs.declared.cmp.Ordering.{Ordering}
+use Rattle.std.specs.Global.{Vec}
+use Rattle.std.specs.BTreeMap.{BTreeMap, get}
+use Rattle.bfs_model.specs.Server.Limits.{most_replicas}
+use Rattle.bfs_agreement.specs.Votes.{Header, SlotsDiffer}
+use Rattle.bfs_log.specs.Batches.{Said}
+use Rattle.bfs_log.specs.Headers.{header}
+use Rattle.bfs_log.specs.Logs.{Log, headers, said_in}
+use Rattle.bfs_log.specs.declared.places.Place.{Place}
+use Rattle.bfs_log.specs.contracts.places.PlaceOrd.TheImpl as place_ord
+
+abbrev pub place_cmp : Place → Place → Ordering
+place_cmp = (place_ord.ghosts).cmp
+
+abbrev pub Index : Type 0
+Index = BTreeMap Place (Vec Said)
+
+abbrev pub row_in : Option (Vec Said) → List Said
+row_in None = []
+row_in (Some row) = row.items
+
+-- what the index has at a place
+abbrev pub row_at : Index → Place → List Said
+row_at places place = row_in (get place_cmp places place)
+
+abbrev pub same_place : Place → Place → Bool
+same_place p q = (p.number == q.number) && ((p.view == q.view) && (p.tag == q.tag))
+
+abbrev pub place_of : Header → Place
+place_of h = record { number = h.number; view = h.view; tag = h.tag }
+
+abbrev pub is_at : Place → Header → Bool
+is_at place h = same_place (place_of h) place
+
+-- what the messages of a log say at a place
+abbrev pub said_at : Place → Log → List Said
+said_at place log = map (λ m. said_in m.message) (filter (λ m. is_at place (header m)) log)
+
+abbrev pub IsIndex : Index → Log → Type 0
+IsIndex places log = (place : Place) → row_at places place ≡ said_at place log
+
+-- the place of the CHECKPOINTs of a number
+abbrev pub checkpoint_place : (number : ℕ) → Place
+checkpoint_place number = record { number = number; view = 0; tag = 5 }
+
+-- above a checkpoint, or where CHECKPOINTs tell it
+abbrev pub is_above : (number : ℕ) → Place → Bool
+is_above number p = same_place (checkpoint_place number) p || nat_lt number p.number
+
+-- what of a row stays once a checkpoint is stable
+abbrev pub row_kept : (number : ℕ) → List ℕ → Place → List Said → List Said
+row_kept number digest p row =
+    if same_place (checkpoint_place number) p then filter (λ said. bytes_eq said.digest digest) row else
+    (if nat_lt number p.number then row else [])
+
+-- each message is in a slot of its own, its sender can be a replica, and the index has what it says
+pub record IsIndexed (log : Log) (places : Index) : Type 0 where
+  pub differ : SlotsDiffer (headers log)
+  pub senders : All (λ m. (header m).sender < most_replicas) log
+  pub index : IsIndex places log

@@ -1,0 +1,125 @@
+// What is asked of a message: its kind, its sender, its place and its digest.
+ghost use Rattle.std.specs.Prelude.{◌≡◌, []};
+ghost use Rattle.bfs_log.specs.Headers.{message_header, vote_header};
+ghost use Rattle.bfs_log.specs.Logs.{stays, with_proposed};
+ghost use Rattle.bfs_log.specs.Places.{place_of};
+
+use crate::places::Place;
+use bfs_messages::{Message, Vote};
+use std::marker::Model;
+
+/// A message's kind, by the tag of its text, its sender, its view and number, and its digest. What a kind has not is 0, or no
+/// bytes.
+#[derive(Drop)]
+pub struct Header<'a> {
+    pub tag: u32,
+    pub sender: u32,
+    pub view: u64,
+    pub number: u64,
+    pub digest: &'a [u8],
+}
+
+impl<'a> Model for Header<'a> {
+    ghost use Rattle.bfs_agreement.specs.Votes as model;
+
+    ghost Value = { model.Header };
+
+    ghost view = { λ h. record { tag = h.tag; sender = h.sender; view = h.view; number = h.number; digest = h.digest.now } };
+}
+
+/// A kind of message, by its tag, a sender, a view and a number.
+#[derive(Clone, Copy, Debug, PartialEq, Eq)]
+pub struct Slot {
+    pub tag: u32,
+    pub sender: u32,
+    pub view: u64,
+    pub number: u64,
+}
+
+impl Slot {
+    pub(crate) fn place(self) -> Place
+        ensures { result ≡ record { number = self.number; view = self.view; tag = self.tag } }
+    {
+        Place {
+            number: self.number,
+            view: self.view,
+            tag: self.tag,
+        }
+    }
+}
+
+/// The header of a message.
+pub fn header_of(message: &Message) -> Header<'_>
+    ensures { result ≡ message_header message.now }
+{
+    match message {
+        Message::Request(request) => Header::new(1, request.client(), 0, 0, &[]),
+        Message::PrePrepare(proposal) => vote_header_of(2, proposal.vote()),
+        Message::Prepare(vote) => vote_header_of(3, vote),
+        Message::Commit(vote) => vote_header_of(4, vote),
+        Message::Checkpoint(checkpoint) => Header::new(
+            5,
+            checkpoint.sender(),
+            0,
+            checkpoint.number(),
+            checkpoint.digest(),
+        ),
+        Message::ViewChange(change) => Header::new(6, change.sender(), 0, 0, &[]),
+        Message::NewView(new) => Header::new(7, new.sender(), 0, 0, &[]),
+        Message::Reply(reply) => Header::new(8, reply.sender(), 0, 0, &[]),
+    }
+}
+
+fn vote_header_of(tag: u32, vote: &Vote) -> Header<'_>
+    ensures { result ≡ vote_header tag vote.now }
+{
+    Header::new(
+        tag,
+        vote.sender(),
+        vote.view(),
+        vote.number(),
+        vote.digest(),
+    )
+}
+
+impl<'a> Header<'a> {
+    fn new(tag: u32, sender: u32, view: u64, number: u64, digest: &'a [u8]) -> Header<'a>
+        ensures { result ≡ record { tag = tag; sender = sender; view = view; number = number; digest = digest.now } }
+    {
+        Header {
+            tag,
+            sender,
+            view,
+            number,
+            digest,
+        }
+    }
+
+    /// Whether the message is above a checkpoint, or a CHECKPOINT that tells it.
+    pub(crate) fn does_stay(&self, number: u64, digest: &[u8]) -> bool
+        ensures { result ≡ stays number digest.now self.now }
+    {
+        number < self.number || (self.tag == 5 && (self.number == number && self.digest == digest))
+    }
+
+    // The greater one of a number and that of a PRE-PREPARE of a view.
+    pub(crate) fn with_proposed(&self, view: u64, greatest: u64) -> u64
+        ensures { result ≡ with_proposed view self.now greatest }
+    {
+        if self.tag == 2 && self.view == view {
+            self.number.max(greatest)
+        } else {
+            greatest
+        }
+    }
+
+    pub(crate) fn place(&self) -> Place
+        ensures { result ≡ place_of self.now }
+    {
+        Place {
+            number: self.number,
+            view: self.view,
+            tag: self.tag,
+        }
+    }
+}
