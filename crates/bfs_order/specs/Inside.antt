@@ -1,2 +1,4 @@
 -- What contracts of private functions cite.
 pub mod Bounds
+pub mod Asking
+pub mod Growing

@@ -40,9 +40,11 @@ abbrev pub proposal : Keys → State → Batch → Signed Message
 proposal keys s batch = signed_by keys (PrePrepare (record { vote = own_vote s s.view (next_number s) (batch_digest batch); batch = batch }))
 
 -- where there is no other replica, it is prepared at once
+abbrev pub lone_commits : Keys → State → (view number : ℕ) → List ℕ → Log
+lone_commits keys s view number digest = if s.f == 0 then commits_in keys s view number digest else []
+
 abbrev pub proposal_commits : Keys → State → Batch → Log
-proposal_commits keys s batch =
-    if s.f == 0 then commits_in keys (with_message s (proposal keys s batch)) s.view (next_number s) (batch_digest batch) else []
+proposal_commits keys s batch = lone_commits keys (with_message s (proposal keys s batch)) s.view (next_number s) (batch_digest batch)
 
 abbrev pub proposed : Keys → State → Batch → Outcome
 proposed keys s batch = record {

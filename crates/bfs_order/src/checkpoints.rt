@@ -1,0 +1,72 @@
+// When a checkpoint is stable, and its own checkpoints.
+ghost use Rattle.std.specs.Prelude.{◌≡◌, ◌≢◌, None, Some, IfOk, IfErr, OnOk, OnErr};
+ghost use Rattle.bfs_order.specs.Inside.Asking.{asked_settled};
+ghost use Rattle.bfs_order.specs.Replica.Checkpoints.{checkpoint, checkpoint_refusal, checkpointed};
+ghost use Rattle.bfs_order.specs.declared.error.OrderError.TheVariants as error;
+
+use crate::asking::Asked;
+use crate::error::OrderError;
+use crate::order::Order;
+use bfs_auth::Keys;
+use bfs_log::Slot;
+use bfs_messages::{Checkpoint, Message, Signed, sign};
+
+impl Order {
+    /// Raises the low mark, and drops what stands up to it, where enough replicas tell that a checkpoint is stable.
+    pub(crate) fn settle(&mut self, asked: &Asked)
+        ensures { self.new ≡ asked_settled self.old asked.now }
+    {
+        let Asked::Stable(checkpoint) = asked else {
+            return;
+        };
+        let number = checkpoint.number();
+        if self.log.is_checkpoint_stable(self.f, number, checkpoint.digest()) {
+            self.low = number;
+            self.log.drop_up_to(number, checkpoint.digest());
+        }
+    }
+
+    fn checkpoint_refusal(&self, number: u64) -> Option<OrderError>
+        ensures { result ≡ checkpoint_refusal self.now number }
+    {
+        if !(self.is_between(number) && number < 1 << 63) {
+            return Some(OrderError::OutsideMarks);
+        }
+        let slot = Slot {
+            tag: 5,
+            sender: self.me,
+            view: 0,
+            number,
+        };
+        if self.log.has(slot) {
+            return Some(OrderError::AlreadyHave);
+        }
+        None
+    }
+
+    /// Tells that it has executed what leads to a checkpoint with that digest, and gives the CHECKPOINT, which is to be sent to all
+    /// other replicas. It is refused, in this order: `OutsideMarks`; `AlreadyHave`, whatever digest it told; `Memory`. Nothing changes
+    /// then.
+    pub fn on_checkpoint(
+        &mut self,
+        keys: &Keys,
+        number: u64,
+        digest: [u8; 32],
+    ) -> Result<Signed<Message>, OrderError>
+        ensures taken { OnOk result (checkpoint_refusal self.old number ≡ None) }
+        ensures now { OnOk result (self.new ≡ (checkpointed keys.now self.old number digest).now) }
+        ensures sent { IfOk result (λ sent. sent ≡ checkpoint keys.now self.old number digest) }
+        ensures refused { IfErr result (λ e. e ≢ error.Memory → checkpoint_refusal self.old number ≡ Some e) }
+        ensures err { OnErr result (self.new ≡ self.old) }
+    {
+        if let Some(error) = self.checkpoint_refusal(number) {
+            return Err(error);
+        }
+        let own = Checkpoint::new(self.me, number, digest);
+        let asked = Asked::Stable(own.copied());
+        let sent = sign(self.alloc, keys, Message::Checkpoint(own))?;
+        self.log.push(sent.try_clone(self.alloc)?)?;
+        self.settle(&asked);
+        Ok(sent)
+    }
+}

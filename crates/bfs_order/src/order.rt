@@ -1,0 +1,119 @@
+ghost use Rattle.std.specs.Prelude.{◌≡◌, ◌≢◌, ◌<◌, ◌≤◌, ◌+◌, ◌*◌, None, Some, IfOk, IfErr, OnOk, OnErr};
+ghost use Rattle.bfs_order.specs.Replica.Accepting.{accepted};
+ghost use Rattle.bfs_order.specs.Replica.Refusals.{refusal};
+ghost use Rattle.bfs_order.specs.Replica.States.{fresh};
+ghost use Rattle.bfs_order.specs.declared.error.OrderError.TheVariants as error;
+
+use crate::error::OrderError;
+use crate::refusals::WINDOW;
+use bfs_auth::Keys;
+use bfs_log::Log;
+use bfs_messages::{Message, Signed};
+use std::alloc::Global;
+use std::marker::Model;
+use std::thread::Threads;
+
+/// What one replica knows of the order of batches: views, marks, and the messages that it has accepted and not dropped, its own among
+/// them (OSDI 1999 sections 4.2 to 4.4).
+#[derive(Drop)]
+pub struct Order {
+    pub(crate) alloc: Global,
+    pub(crate) f: u32,
+    pub(crate) me: u32,
+    pub(crate) view: u64,
+    pub(crate) asked: u64,
+    pub(crate) low: u64,
+    pub(crate) min_s: u64,
+    pub(crate) handed: u64,
+    pub(crate) last: u64,
+    pub(crate) log: Log,
+}
+
+impl Model for Order {
+    ghost use Rattle.bfs_order.specs.Inside.Bounds.{IsBounded};
+    ghost use Rattle.bfs_order.specs.Replica.States as model;
+
+    ghost Value = { model.State };
+
+    ghost view = { λ o. record { f = o.f; me = o.me; view = o.view; asked = o.asked; low = o.low; min_s = o.min_s; handed = o.handed; last = o.last; log = o.log } };
+
+    ghost invariant = { λ o. IsBounded (record { f = o.f; me = o.me; view = o.view; asked = o.asked; low = o.low; min_s = o.min_s; handed = o.handed; last = o.last; log = o.log }) };
+}
+
+impl Order {
+    /// A replica that has accepted nothing, in view 0. At most `f` of the `3f + 1` replicas are faulty, and f is at most 10; `me` is
+    /// its number among them.
+    pub fn new(alloc: Global, f: u32, me: u32) -> Order
+        requires faults { f ≤ 10 }
+        requires me { me < 3 * f + 1 }
+        ensures { result ≡ fresh f me }
+    {
+        Order {
+            alloc,
+            f,
+            me,
+            view: 0,
+            asked: 0,
+            low: 0,
+            min_s: 0,
+            handed: 0,
+            last: 0,
+            log: Log::new(alloc),
+        }
+    }
+
+    /// The view last entered.
+    pub fn view(&self) -> u64
+        ensures { result ≡ self.now.view }
+    {
+        self.view
+    }
+
+    /// The low mark: the number of the stable checkpoint.
+    pub fn low(&self) -> u64
+        ensures { result ≡ self.now.low }
+    {
+        self.low
+    }
+
+    /// The high mark: the greatest number that is taken.
+    pub fn high(&self) -> u64
+        ensures { result ≡ self.now.low + 32 }
+    {
+        self.low + WINDOW
+    }
+
+    /// The number last executed.
+    pub fn last_executed(&self) -> u64
+        ensures { result ≡ self.now.last }
+    {
+        self.last
+    }
+
+    /// The messages that were accepted and not dropped, its own among them, in the order in which they came.
+    pub fn log(&self) -> &[Signed<Message>]
+        ensures { result.now ≡ self.now.log }
+    {
+        self.log.messages()
+    }
+
+    /// Takes a message that came, and gives what is to be sent to all other replicas. It is refused, in this order: `WrongKind`,
+    /// `BadAuthenticator`, `WrongView`, `OutsideMarks`, `NotPrimary`, `Conflicting`, `AlreadyHave`, `Memory`. Nothing changes then.
+    pub fn on_message(
+        &mut self,
+        rt: &(impl Threads + Sync),
+        keys: &Keys,
+        signed: Signed<Message>,
+    ) -> Result<Vec<Signed<Message>>, OrderError>
+        ensures taken { OnOk result (refusal keys.now self.old signed ≡ None) }
+        ensures now { OnOk result (self.new ≡ (accepted keys.now self.old signed).now) }
+        ensures sent { IfOk result (λ sent. sent.items ≡ (accepted keys.now self.old signed).sent) }
+        ensures refused { IfErr result (λ e. e ≢ error.Memory → refusal keys.now self.old signed ≡ Some e) }
+        ensures err { OnErr result (self.new ≡ self.old) }
+    {
+        if let Some(error) = self.refusal(rt, keys, &signed) {
+            return Err(error);
+        }
+        Ok(self.accept(keys, signed)?)
+    }
+}

@@ -1,0 +1,99 @@
+// The primary proposes a batch.
+ghost use Rattle.std.specs.Prelude.{◌≡◌, ◌≢◌, ◌<◌, false, None, Some, IfOk, IfErr, OnOk, OnErr};
+ghost use Rattle.std.specs.Arc.{arc_value};
+ghost use Rattle.bfs_log.specs.Headers.{header};
+ghost use Rattle.bfs_order.specs.Replica.Proposing.{greatest_taken, leads, lone_commits, proposal, proposal_refusal, proposed};
+ghost use Rattle.bfs_order.specs.Replica.Refusals.{is_there};
+ghost use Rattle.bfs_order.specs.Replica.States.{with_message, with_more};
+ghost use Rattle.bfs_order.specs.declared.error.OrderError.TheVariants as error;
+
+use crate::error::OrderError;
+use crate::order::Order;
+use crate::refusals::WINDOW;
+use bfs_auth::Keys;
+use bfs_log::primary_of;
+use bfs_messages::{Message, OrderedBatch, PrePrepare, Signed, Vote, sign};
+use bfs_types::Memory;
+use std::sync::Arc;
+
+// The greatest number that a message can have.
+const LAST_NUMBER: u64 = 0x7fff_ffff_ffff_ffff;
+
+impl Order {
+    fn greatest_taken(&self) -> u64
+        ensures { result ≡ greatest_taken self.now }
+    {
+        let proposed = self.log.greatest_proposed(self.view);
+        proposed.max(self.handed.max(self.low.max(self.min_s)))
+    }
+
+    fn leads(&self) -> bool
+        ensures { result ≡ leads self.now }
+    {
+        self.me == primary_of(self.f, self.view) && self.asked <= self.view
+    }
+
+    fn proposal_refusal(&self) -> Option<OrderError>
+        ensures { result ≡ proposal_refusal self.now }
+    {
+        if !self.leads() {
+            return Some(OrderError::NotPrimary);
+        }
+        let greatest = self.greatest_taken();
+        if greatest < self.low + WINDOW && greatest < LAST_NUMBER {
+            None
+        } else {
+            Some(OrderError::OutsideMarks)
+        }
+    }
+
+    /// Proposes a batch for the next number of the view, as its primary, and gives the PRE-PREPARE, which is to be sent to all other
+    /// replicas. It is refused, in this order: `NotPrimary`, also while a view change is under way; `OutsideMarks`; `Memory`. Nothing
+    /// changes then.
+    pub fn propose(
+        &mut self,
+        keys: &Keys,
+        batch: Arc<OrderedBatch>,
+    ) -> Result<Signed<Message>, OrderError>
+        ensures taken { OnOk result (proposal_refusal self.old ≡ None) }
+        ensures now { OnOk result (self.new ≡ (proposed keys.now self.old (arc_value batch)).now) }
+        ensures sent { IfOk result (λ sent. sent ≡ proposal keys.now self.old (arc_value batch)) }
+        ensures refused { IfErr result (λ e. e ≢ error.Memory → proposal_refusal self.old ≡ Some e) }
+        ensures err { OnErr result (self.new ≡ self.old) }
+    {
+        if let Some(error) = self.proposal_refusal() {
+            return Err(error);
+        }
+        let number = self.greatest_taken() + 1;
+        let own = PrePrepare::new(self.me, self.view, number, batch);
+        let vote = own.vote().copied();
+        let sent = sign(self.alloc, keys, Message::PrePrepare(own))?;
+        self.add_proposal(keys, sent.try_clone(self.alloc)?, &vote)?;
+        Ok(sent)
+    }
+
+    // Puts its own PRE-PREPARE in the log, and a COMMIT behind it where there is no other replica.
+    fn add_proposal(
+        &mut self,
+        keys: &Keys,
+        signed: Signed<Message>,
+        vote: &Vote,
+    ) -> Result<(), Memory>
+        requires free { is_there self.old (header signed) ≡ false }
+        requires sender { (header signed).sender < 31 }
+        ensures now { OnOk result (self.new ≡ with_more (with_message self.old signed) (lone_commits keys.now (with_message self.old signed) vote.now.view vote.now.number vote.now.digest)) }
+        ensures err { OnErr result (self.new ≡ self.old) }
+    {
+        let before = self.log.messages().len();
+        self.log.push(signed)?;
+        if self.f != 0 {
+            return Ok(());
+        }
+        let mut sent = Vec::new(self.alloc);
+        if self.add_commit(keys, vote, &mut sent).is_err() {
+            self.log.truncate(before);
+            return Err(Memory);
+        }
+        Ok(())
+    }
+}

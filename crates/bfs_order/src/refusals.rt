@@ -1,0 +1,127 @@
+// Why a message is not taken.
+ghost use Rattle.std.specs.Prelude.{◌≡◌, ◌<◌, false, IfNone};
+ghost use Rattle.bfs_log.specs.Headers.{header};
+ghost use Rattle.bfs_agreement.specs.Votes.{primary};
+ghost use Rattle.bfs_order.specs.Replica.Refusals.{conflicts, is_authentic, is_between, is_inside, is_of_view, is_ordering, is_there, place_refusal, refusal};
+
+use crate::error::OrderError;
+use crate::order::Order;
+use bfs_auth::Keys;
+use bfs_log::{Header, Slot, header_of, primary_of};
+use bfs_messages::{Message, Signed, are_carried_signed, is_signed};
+use std::thread::Threads;
+
+// How far above the low mark numbers are taken.
+pub(crate) const WINDOW: u64 = 32;
+
+// How many numbers apart checkpoints are.
+const INTERVAL: u64 = 16;
+
+impl Order {
+    pub(crate) fn is_between(&self, number: u64) -> bool
+        ensures { result ≡ is_between self.now number }
+    {
+        self.low < number && number <= self.low + WINDOW
+    }
+
+    fn is_inside(&self, header: &Header<'_>) -> bool
+        ensures { result ≡ is_inside self.now header.now }
+    {
+        self.is_between(header.number)
+            && if header.tag == 5 {
+                header.number % INTERVAL == 0
+            } else {
+                self.min_s < header.number
+            }
+    }
+
+    fn is_of_view(&self, header: &Header<'_>) -> bool
+        ensures { result ≡ is_of_view self.now header.now }
+    {
+        header.tag == 5 || (header.view == self.view && self.asked <= self.view)
+    }
+
+    pub(crate) fn is_there(&self, header: &Header<'_>) -> bool
+        ensures { result ≡ is_there self.now header.now }
+    {
+        self.log.has(slot_of(header))
+    }
+
+    fn conflicts(&self, header: &Header<'_>) -> bool
+        ensures { result ≡ conflicts self.now header.now }
+    {
+        (header.tag == 3 && header.sender == primary_of(self.f, header.view))
+            || (self.is_there(header) && !self.log.is_told(slot_of(header), header.digest))
+    }
+
+    pub(crate) fn place_refusal(&self, header: &Header<'_>) -> Option<OrderError>
+        ensures value { result ≡ place_refusal self.now header.now }
+        ensures free { IfNone result (is_there self.now header.now ≡ false) }
+    {
+        if !self.is_of_view(header) {
+            return Some(OrderError::WrongView);
+        }
+        if !self.is_inside(header) {
+            return Some(OrderError::OutsideMarks);
+        }
+        if header.tag == 2 && header.sender != primary_of(self.f, header.view) {
+            return Some(OrderError::NotPrimary);
+        }
+        if self.conflicts(header) {
+            return Some(OrderError::Conflicting);
+        }
+        if self.is_there(header) {
+            return Some(OrderError::AlreadyHave);
+        }
+        None
+    }
+
+    fn is_authentic(
+        &self,
+        rt: &(impl Threads + Sync),
+        keys: &Keys,
+        signed: &Signed<Message>,
+    ) -> bool
+        ensures { result ≡ is_authentic keys.now self.now signed.now }
+    {
+        header_of(&signed.message).sender < 3 * self.f + 1
+            && (is_signed(keys, signed) && are_carried_signed(rt, keys, &signed.message))
+    }
+
+    pub(crate) fn refusal(
+        &self,
+        rt: &(impl Threads + Sync),
+        keys: &Keys,
+        signed: &Signed<Message>,
+    ) -> Option<OrderError>
+        ensures value { result ≡ refusal keys.now self.now signed.now }
+        ensures free { IfNone result (is_there self.now (header signed.now) ≡ false) }
+        ensures sender { IfNone result ((header signed.now).sender < 31) }
+    {
+        let header = header_of(&signed.message);
+        if !is_ordering(&header) {
+            return Some(OrderError::WrongKind);
+        }
+        if !self.is_authentic(rt, keys, signed) {
+            return Some(OrderError::BadAuthenticator);
+        }
+        self.place_refusal(&header)
+    }
+}
+
+pub(crate) fn slot_of(header: &Header<'_>) -> Slot
+    ensures { result ≡ record { tag = header.now.tag; sender = header.now.sender; view = header.now.view; number = header.now.number } }
+{
+    Slot {
+        tag: header.tag,
+        sender: header.sender,
+        view: header.view,
+        number: header.number,
+    }
+}
+
+fn is_ordering(header: &Header<'_>) -> bool
+    ensures { result ≡ is_ordering header.now }
+{
+    2 <= header.tag && header.tag <= 5
+}
