@@ -3,3 +3,5 @@ mod Telling
 mod Moving
 mod Certifying
 mod KeptLogs
+mod Cleaning
+mod Saying

@@ -53,7 +53,7 @@ is_ordering h = nat_le 2 h.tag && nat_le h.tag 5
 
 -- by a replica, and the requests in its batch by their clients
 abbrev pub is_authentic : Keys → State → Signed Message → Bool
-is_authentic keys s m = is_signed keys m && (nat_lt (header m).sender (replicas s.f) && carried_are_signed keys m.message)
+is_authentic keys s m = nat_lt (header m).sender (replicas s.f) && (is_signed keys m && carried_are_signed keys m.message)
 
 abbrev pub refusal : Keys → State → Signed Message → Option OrderError
 refusal keys s m =
