@@ -1,3 +1,7 @@
--- What proofs share.
+mod Counts
 mod Slots
+mod Indexes
+mod Maps
+mod Keeping
+mod Greatest
 pub mod Public

@@ -1,5 +1,5 @@
 -- What a log's index has: what was said at each place.
-use Rattle.std.specs.Prelude.{◌≡◌, ℕ, ◌<◌, ◌==◌, Bool, ◌&&◌, ◌||◌, List, [], map, filter, All, Option, Some, None, nat_lt, bytes_eq, if◌then◌else◌}
+use Rattle.std.specs.Prelude.{◌≡◌, ℕ, ◌<◌, ◌==◌, Bool, ◌&&◌, ◌||◌, not, max, length, List, [], ◌∷◌, map, filter, All, Option, Some, None, nat_lt, bytes_eq, if◌then◌else◌}
 use Rattle.std.specs.declared.cmp.Ordering.{Ordering}
 use Rattle.std.specs.Global.{Vec}
 use Rattle.std.specs.BTreeMap.{BTreeMap, get}
@@ -32,7 +32,7 @@ abbrev pub place_of : Header → Place
 place_of h = record { number = h.number; view = h.view; tag = h.tag }
 
 abbrev pub is_at : Place → Header → Bool
-is_at place h = same_place place (place_of h)
+is_at place h = same_place (place_of h) place
 
 -- what the messages of a log say at a place
 abbrev pub said_at : Place → Log → List Said
@@ -47,13 +47,22 @@ checkpoint_place number = record { number = number; view = 0; tag = 5 }
 
 -- above a checkpoint, or where CHECKPOINTs tell it
 abbrev pub is_above : (number : ℕ) → Place → Bool
-is_above number p = nat_lt number p.number || same_place p (checkpoint_place number)
+is_above number p = same_place (checkpoint_place number) p || nat_lt number p.number
 
 -- what of a row stays once a checkpoint is stable
 abbrev pub row_kept : (number : ℕ) → List ℕ → Place → List Said → List Said
 row_kept number digest p row =
-    if nat_lt number p.number then row else
-    (if same_place p (checkpoint_place number) then filter (λ said. bytes_eq said.digest digest) row else [])
+    if same_place (checkpoint_place number) p then filter (λ said. bytes_eq said.digest digest) row else
+    (if nat_lt number p.number then row else [])
+
+-- PRE-PREPAREs of a view stand at a place
+abbrev pub is_proposed : (view : ℕ) → Place × Vec Said → Bool
+is_proposed view entry = ((entry.0.tag == 2) && (entry.0.view == view)) && not (length entry.1.items == 0)
+
+-- the greatest number of such a place, 0 where there is none
+abbrev pub greatest_in : (view : ℕ) → List (Place × Vec Said) → ℕ
+greatest_in view [] = 0
+greatest_in view (entry ∷ entries) = if is_proposed view entry then max entry.0.number (greatest_in view entries) else greatest_in view entries
 
 -- each message is in a slot of its own, its sender can be a replica, and the index has what it says
 pub record IsIndexed (log : Log) (places : Index) : Type 0 where

@@ -3,7 +3,6 @@ ghost use Rattle.std.specs.Arc.{arc_value};
 
 use bfs_messages::{OrderedBatch, PrePrepare};
 use bfs_types::Memory;
-
 use std::marker::Model;
 use std::sync::Arc;
 

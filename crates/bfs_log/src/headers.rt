@@ -73,7 +73,13 @@ pub fn header_of(message: &Message) -> Header<'_>
 fn vote_header_of(tag: u32, vote: &Vote) -> Header<'_>
     ensures { result ≡ vote_header tag vote.now }
 {
-    Header::new(tag, vote.sender(), vote.view(), vote.number(), vote.digest())
+    Header::new(
+        tag,
+        vote.sender(),
+        vote.view(),
+        vote.number(),
+        vote.digest(),
+    )
 }
 
 impl<'a> Header<'a> {
@@ -93,8 +99,7 @@ impl<'a> Header<'a> {
     pub(crate) fn does_stay(&self, number: u64, digest: &[u8]) -> bool
         ensures { result ≡ stays number digest.now self.now }
     {
-        number < self.number
-            || (self.tag == 5 && (self.number == number && self.digest == digest))
+        number < self.number || (self.tag == 5 && (self.number == number && self.digest == digest))
     }
 
     pub(crate) fn place(&self) -> Place

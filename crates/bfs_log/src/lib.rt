@@ -1,7 +1,9 @@
 //! The messages that a replica has accepted: what they tell of a batch or a checkpoint, found without a walk through all of them.
 #![tactic(auto)]
 
+mod asking;
 mod committed;
+mod counting;
 mod headers;
 mod logs;
 mod places;
@@ -9,5 +11,6 @@ mod rows;
 mod said;
 
 pub use committed::Committed;
+pub use counting::primary_of;
 pub use headers::{Header, Slot, header_of};
 pub use logs::Log;

@@ -1,14 +1,12 @@
 ghost use Rattle.std.specs.Prelude.{◌≡◌, ◌<◌, [], ◌∷◌, ◌++◌, false, take, length, ◌-◌, OnOk, OnErr, All};
-ghost use Rattle.std.specs.Option.{option_map};
 ghost use Rattle.bfs_model.specs.Server.Limits.{most_replicas};
-ghost use Rattle.bfs_agreement.specs.Votes.{SlotsDiffer, has_slot, is_taken, told};
+ghost use Rattle.bfs_agreement.specs.Votes.{SlotsDiffer, is_taken};
 ghost use Rattle.bfs_log.specs.Headers.{header};
-ghost use Rattle.bfs_log.specs.Logs.{headers, kept_after, proposal_in};
+ghost use Rattle.bfs_log.specs.Logs.{greatest_proposed, headers, kept_after};
+ghost use Rattle.bfs_log.specs.Places.{said_at};
 
-use crate::committed::Committed;
-use crate::headers::{Slot, header_of};
-use crate::places::{Place, drop_up_to, pop_at, put_at, row_at};
-use crate::rows::{does_tell, find_from, has_from};
+use crate::headers::header_of;
+use crate::places::{Place, drop_up_to, greatest_in, pop_at, put_at, row_at};
 use crate::said::Said;
 use bfs_messages::{Message, Signed};
 use bfs_types::Memory;
@@ -66,30 +64,18 @@ impl Log {
         let _messages = &self.messages;
     }
 
-    /// Whether there is a message of that kind, sender, view and number.
-    pub fn has(&self, slot: Slot) -> bool
-        ensures { result ≡ has_slot (headers self.now) slot.tag slot.sender slot.view slot.number }
+    // What is said at a place.
+    pub(crate) fn row(&self, place: Place) -> &[Said]
+        ensures { result.now ≡ said_at place self.now }
     {
-        has_from(row_at(&self.places, slot.place()), slot.sender)
+        row_at(&self.places, place)
     }
 
-    /// Whether the sender has told that digest by a message of that kind, view and number.
-    pub fn is_told(&self, slot: Slot, digest: &[u8]) -> bool
-        ensures { result ≡ told (headers self.now) slot.tag slot.sender slot.view slot.number digest.now }
+    /// The greatest number of a PRE-PREPARE of a view, 0 where there is none.
+    pub fn greatest_proposed(&self, view: u64) -> u64
+        ensures { result ≡ greatest_proposed view (headers self.now) }
     {
-        does_tell(row_at(&self.places, slot.place()), digest, slot.sender)
-    }
-
-    /// The number and the batch of the sender's PRE-PREPARE for a number of a view.
-    pub fn proposal_in(&self, sender: u32, view: u64, number: u64) -> Option<&Committed>
-        ensures { option_map (λ committed. committed.now) result ≡ proposal_in self.now sender view number }
-    {
-        let place = Place {
-            number,
-            view,
-            tag: 2,
-        };
-        find_from(row_at(&self.places, place), sender)?.batch()
+        greatest_in(&self.places, view)
     }
 }
 
@@ -135,8 +121,7 @@ impl Log {
     pub fn drop_up_to(&mut self, number: u64, digest: &[u8])
         ensures { self.new ≡ kept_after number digest.now self.old }
     {
-        self.messages
-            .retain(|signed| header_of(&signed.message).does_stay(number, digest));
+        self.messages.retain(|signed| header_of(&signed.message).does_stay(number, digest));
         drop_up_to(&mut self.places, number, digest);
     }
 }

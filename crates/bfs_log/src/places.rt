@@ -1,7 +1,8 @@
 // What was said at each place: the index of a log.
 ghost use Rattle.std.specs.Prelude.{◌≡◌, ◌<◌, [], ◌∷◌, ◌++◌, false, ◌||◌, ◌&&◌, ◌==◌, OnOk, OnErr, List, filter, bytes_eq, nat_lt, if◌then◌else◌};
+ghost use Rattle.std.specs.BTreeMap.{IsOrdered};
 ghost use Rattle.bfs_log.specs.Batches as model;
-ghost use Rattle.bfs_log.specs.Places.{checkpoint_place, is_above, row_at, row_kept, same_place};
+ghost use Rattle.bfs_log.specs.Places.{checkpoint_place, greatest_in, is_above, place_cmp, row_at, row_kept, same_place};
 ghost use Rattle.bfs_log.specs.declared.places.Place as declared;
 
 use crate::said::Said;
@@ -26,6 +27,20 @@ pub(crate) fn row_at(places: &BTreeMap<Place, Vec<Said>>, place: Place) -> &[Sai
     }
 }
 
+/// The greatest number of a place at which a PRE-PREPARE of a view stands, 0 where there is none.
+pub(crate) fn greatest_in(places: &BTreeMap<Place, Vec<Said>>, view: u64) -> u64
+    ensures value { result ≡ greatest_in view places.now.entries }
+    ensures ordered { IsOrdered place_cmp places.now }
+{
+    let mut greatest = 0;
+    for (place, row) in places.iter() {
+        if (place.tag == 2 && place.view == view) && !row.as_slice().is_empty() {
+            greatest = place.number.max(greatest);
+        }
+    }
+    greatest
+}
+
 /// Puts one more at a place. `Memory` if memory runs out; then nothing is said anew.
 pub(crate) fn put_at(
     alloc: Global,
@@ -33,7 +48,7 @@ pub(crate) fn put_at(
     place: Place,
     said: Said,
 ) -> Result<(), Memory>
-    ensures ok { OnOk result ((p : declared.Place) → row_at places.new p ≡ row_at places.old p ++ (if same_place p place then said ∷ [] else [])) }
+    ensures ok { OnOk result ((p : declared.Place) → row_at places.new p ≡ row_at places.old p ++ (if same_place place p then said ∷ [] else [])) }
     ensures err { OnErr result ((p : declared.Place) → row_at places.new p ≡ row_at places.old p) }
 {
     if let Some(row) = places.get_mut(&place) {
@@ -49,7 +64,7 @@ pub(crate) fn put_at(
 /// Takes the last one at a place out again. It takes no memory.
 pub(crate) fn pop_at(places: &mut BTreeMap<Place, Vec<Said>>, place: Place)
     ensures last { (row : List model.Said) (said : model.Said) → row_at places.old place ≡ row ++ said ∷ [] → row_at places.new place ≡ row }
-    ensures others { (p : declared.Place) → same_place p place ≡ false → row_at places.new p ≡ row_at places.old p }
+    ensures others { (p : declared.Place) → same_place place p ≡ false → row_at places.new p ≡ row_at places.old p }
 {
     if let Some(row) = places.get_mut(&place) {
         row.pop();
@@ -78,15 +93,20 @@ pub(crate) fn drop_up_to(places: &mut BTreeMap<Place, Vec<Said>>, number: u64, d
 fn drop_places(places: &mut BTreeMap<Place, Vec<Said>>, number: u64)
     ensures { (p : declared.Place) → row_at places.new p ≡ if is_above number p then row_at places.old p else [] }
 {
-    places.retain(|place, _| {
-        number < place.number || (place.number == number && (place.view == 0 && place.tag == 5))
-    });
+    let told = checkpoint_place(number);
+    places.retain(|place, _| *place == told || number < place.number);
 }
 
 fn drop_other_checkpoints(places: &mut BTreeMap<Place, Vec<Said>>, number: u64, digest: &[u8])
-    ensures { (p : declared.Place) → row_at places.new p ≡ if same_place p (checkpoint_place number) then filter (λ said. bytes_eq said.digest digest.now) (row_at places.old p) else row_at places.old p }
+    ensures { (p : declared.Place) → row_at places.new p ≡ if same_place (checkpoint_place number) p then filter (λ said. bytes_eq said.digest digest.now) (row_at places.old p) else row_at places.old p }
 {
     if let Some(row) = places.get_mut(&checkpoint_place(number)) {
-        row.retain(|said| said.digest() == digest);
+        keep_told(row, digest);
     }
+}
+
+fn keep_told(row: &mut Vec<Said>, digest: &[u8])
+    ensures { row.new.items ≡ filter (λ said. bytes_eq said.digest digest.now) row.old.items }
+{
+    row.retain(|said| said.digest() == digest);
 }

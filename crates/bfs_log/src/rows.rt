@@ -1,9 +1,8 @@
 // Who says what at one place.
-ghost use Rattle.std.specs.Prelude.{◌≡◌, ◌==◌, ◌&&◌, not, bytes_eq, find};
+ghost use Rattle.std.specs.Prelude.{◌≡◌, ◌==◌, ◌&&◌, not, bytes_eq, count_by, find, nat_lt};
 ghost use Rattle.std.specs.Option.{option_map};
 ghost use Rattle.std.specs.List.{list_any};
-ghost use Rattle.bfs_agreement.specs.Votes.{count_below};
-ghost use Rattle.bfs_log.specs.Rows.{SendersDiffer, is_from, tells};
+ghost use Rattle.bfs_log.specs.Rows.{is_from, tells};
 
 use crate::said::Said;
 
@@ -26,20 +25,18 @@ pub(crate) fn does_tell(row: &[Said], digest: &[u8], sender: u32) -> bool
         .any(|said| said.sender() == sender && said.digest() == digest)
 }
 
-/// How many senders below a number tell a digest.
+/// How many of the senders below a number tell a digest.
 pub(crate) fn count_tellers(row: &[Said], digest: &[u8], senders: u32) -> usize
-    requires { SendersDiffer row.now }
-    ensures { result ≡ count_below (tells row.now digest.now) senders }
+    ensures { result ≡ count_by (λ said. nat_lt said.sender senders && bytes_eq said.digest digest.now) row.now }
 {
     row.iter()
         .filter(|said| said.sender() < senders && said.digest() == digest)
         .count()
 }
 
-/// How many senders below a number other than one tell a digest.
+/// How many of the senders below a number, but for one of them, tell a digest.
 pub(crate) fn count_others(row: &[Said], digest: &[u8], senders: u32, one: u32) -> usize
-    requires { SendersDiffer row.now }
-    ensures { result ≡ count_below (λ k. not (k == one) && tells row.now digest.now k) senders }
+    ensures { result ≡ count_by (λ said. nat_lt said.sender senders && (not (said.sender == one) && bytes_eq said.digest digest.now)) row.now }
 {
     row.iter()
         .filter(|said| {
