@@ -16,7 +16,7 @@ use Rattle.bfs_messages.specs.declared.message.Message.TheVariants.{Request, Pre
 use Rattle.bfs_order.specs.Replica.Installing.{number_of, digest_of, has_sender, with_new, with_each, certified}
 use Rattle.bfs_order.specs.Replica.Refusals.{is_ordering}
 use Rattle.bfs_order.specs.Replica.States.{State, fresh}
-use Rattle.bfs_order.specs.Laws.Calls.{Call, Takes, Proposes, Executes, Checkpoints, Installs, Leaves, Enters, outcome, after, IsKept, IsAlways}
+use Rattle.bfs_order.specs.Laws.Calls.{Call, Takes, Proposes, Executes, Checkpoints, Installs, Leaves, Enters, outcome, after, CallsKeepTheReplica, IsKept, IsAlways}
 use Rattle.bfs_order.specs.Laws.Logs.{HasSlots, IsInWindow, IsWindowed, IsCertified, HasCertificate}
 use Rattle.bfs_order.proofs.Telling.{says_is, is_said, slot_is, told_left, told_right, is_one, found_kept}
 use Rattle.bfs_order.proofs.Moving.{Fact, Moves, Speaks, Fits, CanTake, call_goes}
@@ -41,6 +41,16 @@ fits_anything s (Checkpoints keys n d) = speaks_anything keys s.f s.me
 fits_anything s (Installs keys ms) = λ is. anything ms
 fits_anything s (Leaves v) = tt
 fits_anything s (Enters keys v n ms) = (λ k d lt two led. tt, speaks_anything keys s.f s.me)
+
+pub same_replica : CallsKeepTheReplica
+same_replica s call =
+    let goes = call_goes Anything (λ f me low log sent. Unit {0}) (record {
+      take = λ f me low log sent m kept can good. tt;
+      say = λ f me low log sent m kept can own good. tt;
+      settle = λ f me low log sent n d kept above is. tt;
+      install = λ keys f me low log sent ms kept above is good. tt;
+    }) s [] call tt (fits_anything s call) in
+    (goes.same_f, goes.same_me)
 
 after_calls : (P : State → Type 0) → ((s : State) (call : Call) → P s → P (outcome s call).now) → (s : State) (calls : List Call) → P s → P (after s calls)
 after_calls P keeps s [] holds = holds

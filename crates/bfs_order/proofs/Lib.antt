@@ -5,3 +5,5 @@ mod Certifying
 mod KeptLogs
 mod Fronts
 mod Taking
+mod Cleaning
+mod Saying

@@ -1,7 +1,7 @@
 -- Each call on the order of a replica is made of four small changes of its log, so what these keep, calls keep.
 use Rattle.std.proofs.Common.{◌≡◌, ◌⊎◌, inl, inr, ℕ, ◌+◌, ◌<◌, ◌≤◌, max, Bool, true, false, cond, eqb, ltb, leb, ◌&&◌, not, List, [], ◌∷◌, ◌++◌, refl, sym, subst, ◌∙◌, append_assoc, arith}
 use Rattle.std.specs.Prelude.{Option, Some, None, All}
-use Rattle.std.proofs.lemmas.Bool.{and_parts, or_cases, eqb-true, eq-eqb, ltb-true, ltb-false, leb-true, not-false, false_from_ne_true}
+use Rattle.std.proofs.lemmas.Bool.{and_parts, and_from, or_parts, or_cases, eqb-true, eq-eqb, ltb-true, ltb-false, leb-true, not-false, false_from_ne_true}
 use Rattle.std.proofs.lemmas.List.{append-nil}
 use Rattle.std.proofs.lemmas.List.Elements.{All-head, All-tail}
 use Rattle.bfs_auth.specs.Keys.{Keys}
@@ -89,7 +89,7 @@ between s n e =
     let parts = and_parts (ltb s.low n) (leb n (s.low + window)) e in
     (ltb-true s.low n parts.0, leb-true n (s.low + window) parts.1)
 
-placed : (s : State) (m : Signed Message) → is_ordering (header m) ≡ true → place_refusal s (header m) ≡ None → CanTake s.f s.low s.log m
+pub placed : (s : State) (m : Signed Message) → is_ordering (header m) ≡ true → place_refusal s (header m) ≡ None → CanTake s.f s.low s.log m
 placed s m kind e =
     let h = header m in
     let p1 = passed (not (is_of_view s h)) _ _ e in
@@ -106,6 +106,20 @@ placed s m kind e =
       to = marks.1;
       led = λ two. eqb-true h.sender (primary s.f h.view) (led_by (eqb h.tag 2) (eqb h.sender (primary s.f h.view)) p3.0 (eq-eqb h.tag 2 two));
     }
+
+-- no PREPARE of the primary is let in
+pub only_backups : (s : State) (h : Header) → place_refusal s h ≡ None → h.tag ≡ 3 → h.sender ≡ primary s.f h.view → ⊥
+only_backups s h e three same =
+    let p1 = passed (not (is_of_view s h)) _ _ e in
+    let p2 = passed (not (is_inside s h)) _ _ p1.1 in
+    let p3 = passed (eqb h.tag 2 && not (eqb h.sender (primary s.f h.view))) _ _ p2.1 in
+    let p4 = passed (conflicts s h) _ _ p3.1 in
+    let parts = or_parts (eqb h.tag 3 && eqb h.sender (primary s.f h.view)) _ p4.0 in
+    let both = and_from (eqb h.tag 3) (eqb h.sender (primary s.f h.view)) (eq-eqb h.tag 3 three) (eq-eqb h.sender (primary s.f h.view) same) in
+    absurd (cc (parts.0, both))
+
+pub leading : (s : State) → proposal_refusal s ≡ None → s.me ≡ primary s.f s.view
+leading s none = eqb-true s.me (primary s.f s.view) (and_parts (eqb s.me (primary s.f s.view)) _ (not-false (leads s) (passed (not (leads s)) _ _ none).0)).0
 
 pub unrefused : (keys : Keys) (s : State) (m : Signed Message) → refusal keys s m ≡ None
     → (is_ordering (header m) ≡ true) × (is_authentic keys s m ≡ true) × (place_refusal s (header m) ≡ None)
@@ -248,7 +262,7 @@ module _ (Good : Signed Message → Type 0) (P : Fact) (moves : Moves Good P) wh
       d = batch_digest batch
 
       mine : s.me ≡ primary s.f s.view
-      mine = eqb-true s.me (primary s.f s.view) (and_parts (eqb s.me (primary s.f s.view)) _ (not-false (leads s) (passed (not (leads s)) _ _ none).0)).0
+      mine = leading s none
 
       above : s.low < next_number s
       above = omega arith

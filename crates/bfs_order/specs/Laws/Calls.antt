@@ -1,5 +1,5 @@
 -- Calls on the order of one replica, one after another.
-use Rattle.std.specs.Prelude.{ℕ, ◌+◌, List, [], ◌∷◌, ◌++◌, Option, Some, None}
+use Rattle.std.specs.Prelude.{◌≡◌, ℕ, ◌+◌, List, [], ◌∷◌, ◌++◌, Option, Some, None}
 use Rattle.bfs_auth.specs.Keys.{Keys}
 use Rattle.bfs_log.specs.Logs.{Log}
 use Rattle.bfs_messages.specs.Messages.{Batch}
@@ -48,6 +48,13 @@ after s (call ∷ calls) = after (outcome s call).now calls
 abbrev pub sent_by : State → List Call → Log
 sent_by s [] = []
 sent_by s (call ∷ calls) = (outcome s call).sent ++ sent_by (outcome s call).now calls
+
+-- a replica stays itself
+abbrev pub IsSameReplica : State → State → Type 0
+IsSameReplica now old = (now.f ≡ old.f) × (now.me ≡ old.me)
+
+abbrev pub CallsKeepTheReplica : Type 0
+CallsKeepTheReplica = (s : State) (call : Call) → IsSameReplica (outcome s call).now s
 
 -- it holds of a replica that has accepted nothing, and each call keeps it
 abbrev pub IsKept : (State → Type 0) → Type 0
