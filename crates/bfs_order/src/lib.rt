@@ -5,16 +5,14 @@ mod answers;
 mod asking;
 mod checkpoints;
 mod error;
-pub mod laws;
+mod laws;
 mod order;
 mod proposing;
 mod refusals;
 
 pub use error::OrderError;
-pub use order::Order;
-mod laws;
-
 pub use laws::{
     a_replica_stays_itself, logs_are_clean, numbers_lie_in_the_window, slots_differ,
     the_stable_checkpoint_has_its_certificate, what_is_sent_says_one_digest,
 };
+pub use order::Order;
