@@ -5,9 +5,12 @@ mod answers;
 mod asking;
 mod checkpoints;
 mod error;
+mod executing;
+mod installing;
 mod order;
 mod proposing;
 mod refusals;
+mod views;
 
 pub use error::OrderError;
 pub use order::Order;
