@@ -3,7 +3,13 @@ mod Telling
 mod Moving
 mod Certifying
 mod KeptLogs
+mod Certificates
+mod Copies
+mod Entering
 mod Fronts
+mod Next
+mod Proposals
+mod Senders
 mod Taking
 mod Cleaning
 mod Saying

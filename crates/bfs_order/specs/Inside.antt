@@ -2,3 +2,4 @@
 pub mod Bounds
 pub mod Asking
 pub mod Growing
+pub mod Senders

@@ -11,7 +11,7 @@ ghost use Rattle.bfs_order.specs.Replica.States.{known, with_message, with_more}
 use crate::asking::{Asked, asked_by};
 use crate::order::Order;
 use bfs_auth::Keys;
-use bfs_log::{header_of, primary_of};
+use bfs_log::header_of;
 use bfs_messages::{Message, Signed, Vote, sign};
 use bfs_types::Memory;
 
@@ -47,7 +47,7 @@ impl Order {
         ensures sent { OnOk result (sent.new.items ≡ sent.old.items ++ prepares_in keys.now self.old vote.now.view vote.now.number vote.now.digest) }
         ensures err { OnErr result (self.new ≡ self.old) }
     {
-        if self.me == primary_of(self.f, vote.view()) {
+        if self.me == self.leader(vote.view()) {
             return Ok(());
         }
         let own = vote.of(self.me);

@@ -5,10 +5,13 @@ mod answers;
 mod asking;
 mod checkpoints;
 mod error;
+mod executing;
+mod installing;
 mod laws;
 mod order;
 mod proposing;
 mod refusals;
+mod views;
 
 pub use error::OrderError;
 pub use laws::{

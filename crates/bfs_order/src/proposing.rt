@@ -2,7 +2,7 @@
 ghost use Rattle.std.specs.Prelude.{◌≡◌, ◌≢◌, ◌<◌, false, None, Some, IfOk, IfErr, OnOk, OnErr};
 ghost use Rattle.std.specs.Arc.{arc_value};
 ghost use Rattle.bfs_log.specs.Headers.{header};
-ghost use Rattle.bfs_order.specs.Replica.Proposing.{greatest_taken, leads, lone_commits, proposal, proposal_refusal, proposed};
+ghost use Rattle.bfs_order.specs.Replica.Proposing.{greatest_taken, leads, lone_commits, own_proposal, proposal, proposal_refusal, proposed};
 ghost use Rattle.bfs_order.specs.Replica.Refusals.{is_there};
 ghost use Rattle.bfs_order.specs.Replica.States.{with_message, with_more};
 ghost use Rattle.bfs_order.specs.declared.error.OrderError.TheVariants as error;
@@ -11,7 +11,6 @@ use crate::error::OrderError;
 use crate::order::Order;
 use crate::refusals::WINDOW;
 use bfs_auth::Keys;
-use bfs_log::primary_of;
 use bfs_messages::{Message, OrderedBatch, PrePrepare, Signed, Vote, sign};
 use bfs_types::Memory;
 use std::sync::Arc;
@@ -30,7 +29,7 @@ impl Order {
     fn leads(&self) -> bool
         ensures { result ≡ leads self.now }
     {
-        self.me == primary_of(self.f, self.view) && self.asked <= self.view
+        self.me == self.leader(self.view) && self.asked <= self.view
     }
 
     fn proposal_refusal(&self) -> Option<OrderError>
@@ -45,6 +44,13 @@ impl Order {
         } else {
             Some(OrderError::OutsideMarks)
         }
+    }
+
+    fn own_proposal(&self, batch: Arc<OrderedBatch>) -> PrePrepare
+        requires { proposal_refusal self.now ≡ None }
+        ensures { result ≡ own_proposal self.now (arc_value batch) }
+    {
+        PrePrepare::new(self.me, self.view, self.greatest_taken() + 1, batch)
     }
 
     /// Proposes a batch for the next number of the view, as its primary, and gives the PRE-PREPARE, which is to be sent to all other
@@ -64,8 +70,7 @@ impl Order {
         if let Some(error) = self.proposal_refusal() {
             return Err(error);
         }
-        let number = self.greatest_taken() + 1;
-        let own = PrePrepare::new(self.me, self.view, number, batch);
+        let own = self.own_proposal(batch);
         let vote = own.vote().copied();
         let sent = sign(self.alloc, keys, Message::PrePrepare(own))?;
         self.add_proposal(keys, sent.try_clone(self.alloc)?, &vote)?;

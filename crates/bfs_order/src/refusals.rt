@@ -1,5 +1,5 @@
 // Why a message is not taken.
-ghost use Rattle.std.specs.Prelude.{◌≡◌, ◌<◌, false, IfNone};
+ghost use Rattle.std.specs.Prelude.{◌≡◌, ◌<◌, ◌==◌, ◌&&◌, not, true, false, IfNone};
 ghost use Rattle.bfs_log.specs.Headers.{header};
 ghost use Rattle.bfs_agreement.specs.Votes.{primary};
 ghost use Rattle.bfs_order.specs.Replica.Refusals.{conflicts, is_authentic, is_between, is_inside, is_of_view, is_ordering, is_there, place_refusal, refusal};
@@ -47,16 +47,37 @@ impl Order {
         self.log.has(slot_of(header))
     }
 
+    // The primary of a view.
+    #[tactic(auto, using(crate::proofs::Senders::primary_is_few))]
+    pub(crate) fn leader(&self, view: u64) -> u32
+        ensures value { result ≡ primary self.now.f view }
+        ensures within { result < 31 }
+    {
+        primary_of(self.f, view)
+    }
+
+    // A PRE-PREPARE is the primary's.
+    fn is_led(&self, header: &Header<'_>) -> bool
+        ensures value { result ≡ not ((header.now.tag == 2) && not (header.now.sender == primary self.now.f header.now.view)) }
+        ensures few { result ≡ true → header.now.tag ≡ 2 → header.now.sender < 31 }
+    {
+        if header.tag != 2 {
+            return true;
+        }
+        header.sender == self.leader(header.view)
+    }
+
     fn conflicts(&self, header: &Header<'_>) -> bool
         ensures { result ≡ conflicts self.now header.now }
     {
-        (header.tag == 3 && header.sender == primary_of(self.f, header.view))
+        (header.tag == 3 && header.sender == self.leader(header.view))
             || (self.is_there(header) && !self.log.is_told(slot_of(header), header.digest))
     }
 
     pub(crate) fn place_refusal(&self, header: &Header<'_>) -> Option<OrderError>
         ensures value { result ≡ place_refusal self.now header.now }
         ensures free { IfNone result (is_there self.now header.now ≡ false) }
+        ensures leader { IfNone result (header.now.tag ≡ 2 → header.now.sender < 31) }
     {
         if !self.is_of_view(header) {
             return Some(OrderError::WrongView);
@@ -64,7 +85,7 @@ impl Order {
         if !self.is_inside(header) {
             return Some(OrderError::OutsideMarks);
         }
-        if header.tag == 2 && header.sender != primary_of(self.f, header.view) {
+        if !self.is_led(header) {
             return Some(OrderError::NotPrimary);
         }
         if self.conflicts(header) {
@@ -82,10 +103,13 @@ impl Order {
         keys: &Keys,
         signed: &Signed<Message>,
     ) -> bool
-        ensures { result ≡ is_authentic keys.now self.now signed.now }
+        ensures value { result ≡ is_authentic keys.now self.now signed.now }
+        ensures sender { result ≡ true → (header signed.now).sender < 31 }
     {
-        header_of(&signed.message).sender < 3 * self.f + 1
-            && (is_signed(keys, signed) && are_carried_signed(rt, keys, &signed.message))
+        if 3 * self.f + 1 <= header_of(&signed.message).sender {
+            return false;
+        }
+        is_signed(keys, signed) && are_carried_signed(rt, keys, &signed.message)
     }
 
     pub(crate) fn refusal(

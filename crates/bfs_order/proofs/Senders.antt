@@ -1,0 +1,7 @@
+-- The primary of a view is one of few.
+use Rattle.std.proofs.Common.{ℕ, ◌+◌, ◌*◌, ◌<◌, ◌≤◌, arith}
+use Rattle.std.proofs.Math.Nat.{mod-lt}
+use Rattle.bfs_agreement.specs.Votes.{primary}
+
+pub primary_is_few : (f view : ℕ) → f ≤ 10 → primary f view < 31
+primary_is_few f view few = omega (arith, few, mod-lt view {m = 3 * f + 1} (omega arith))

@@ -1,0 +1,203 @@
+// The certificate of a checkpoint is installed.
+ghost use Rattle.std.specs.Prelude.{◌≡◌, ◌≢◌, ◌<◌, ◌≤◌, ◌==◌, ◌^◌, true, All, None, Some, IfOk, IfErr, IfNone, OnOk, OnErr};
+ghost use Rattle.std.specs.List.{list_all};
+ghost use Rattle.bfs_model.specs.Server.Limits.{most_replicas};
+ghost use Rattle.bfs_agreement.specs.Votes.{SlotsDiffer};
+ghost use Rattle.bfs_log.specs.Headers.{header, message_header};
+ghost use Rattle.bfs_log.specs.Logs.{headers};
+ghost use Rattle.bfs_order.specs.Inside.Senders.{are_from_few, is_from_few};
+ghost use Rattle.bfs_order.specs.Replica.Installing.{certified, digest_of, has_sender, install_refusal, installed, is_certificate, number_of, senders_differ, vouches, with_each, with_new};
+ghost use Rattle.bfs_order.specs.declared.error.OrderError.TheVariants as error;
+
+use crate::error::OrderError;
+use crate::order::Order;
+use crate::refusals::slot_of;
+use bfs_auth::Keys;
+use bfs_log::{Log, header_of};
+use bfs_messages::{Message, Signed, is_signed};
+use bfs_types::Memory;
+use std::alloc::Global;
+
+fn does_vouch(keys: &Keys, f: u32, number: u64, digest: &[u8], signed: &Signed<Message>) -> bool
+    requires { f ≤ 10 }
+    ensures value { result ≡ vouches keys.now f number digest.now signed.now }
+    ensures sender { result ≡ true → is_from_few signed.now ≡ true }
+{
+    let header = header_of(&signed.message);
+    header.tag == 5
+        && (header.number == number
+            && (header.digest == digest
+                && (header.sender < 3 * f + 1 && is_signed(keys, signed))))
+}
+
+fn all_vouch(
+    keys: &Keys,
+    f: u32,
+    number: u64,
+    digest: &[u8],
+    certificate: &[Signed<Message>],
+) -> bool
+    requires { f ≤ 10 }
+    ensures value { result ≡ list_all (vouches keys.now f number digest.now) certificate.now }
+    ensures senders { result ≡ true → are_from_few certificate.now ≡ true }
+{
+    for signed in certificate {
+        if !does_vouch(keys, f, number, digest, signed) {
+            return false;
+        }
+    }
+    true
+}
+
+fn is_sender(messages: &[Signed<Message>], sender: u32) -> bool
+    ensures { result ≡ has_sender messages.now sender }
+{
+    messages.iter().any(
+        |signed: &Signed<Message>| -> bool
+            ensures { result ≡ ((header signed.now).sender == sender) }
+        { header_of(&signed.message).sender == sender },
+    )
+}
+
+// From the back, where a sender that comes again is found among the last few, however many there are.
+#[tactic(auto, using(crate::proofs::Certificates::differ_behind))]
+fn do_senders_differ(messages: &[Signed<Message>]) -> bool
+    ensures { result ≡ senders_differ messages.now }
+{
+    let mut first = messages.len();
+    while 0 < first {
+        first -= 1;
+        let sender = header_of(&messages[first].message).sender;
+        if is_sender(&messages[first + 1..], sender) {
+            return false;
+        }
+    }
+    true
+}
+
+fn is_certificate_of(keys: &Keys, f: u32, certificate: &[Signed<Message>]) -> bool
+    requires { f ≤ 10 }
+    ensures value { result ≡ is_certificate keys.now f certificate.now }
+    ensures senders { result ≡ true → are_from_few certificate.now ≡ true }
+{
+    let Some(first) = certificate.first() else {
+        return false;
+    };
+    let header = header_of(&first.message);
+    all_vouch(keys, f, header.number, header.digest, certificate)
+        && (do_senders_differ(certificate) && 2 * f as usize + 1 <= certificate.len())
+}
+
+fn number_in(certificate: &[Signed<Message>]) -> u64
+    ensures value { result ≡ number_of certificate.now }
+    ensures within { result < 2 ^ 63 }
+{
+    match certificate.first() {
+        None => 0,
+        Some(signed) => number_in_message(&signed.message),
+    }
+}
+
+fn number_in_message(message: &Message) -> u64
+    ensures value { result ≡ (message_header message.now).number }
+    ensures within { result < 2 ^ 63 }
+{
+    match message {
+        Message::PrePrepare(proposal) => proposal.vote().number(),
+        Message::Prepare(vote) => vote.number(),
+        Message::Commit(vote) => vote.number(),
+        Message::Checkpoint(checkpoint) => checkpoint.number(),
+        _ => 0,
+    }
+}
+
+fn digest_in(certificate: &[Signed<Message>]) -> &[u8]
+    ensures { result.now ≡ digest_of certificate.now }
+{
+    match certificate.first() {
+        None => &[],
+        Some(signed) => header_of(&signed.message).digest,
+    }
+}
+
+// A log of copies of messages, whose senders and slots are those of a log.
+fn copy_of(alloc: Global, messages: &[Signed<Message>]) -> Result<Log, Memory>
+    requires differ { SlotsDiffer (headers messages.now) }
+    requires senders { All (λ m. (header m).sender < most_replicas) messages.now }
+    ensures { IfOk result (λ copy. copy ≡ messages.now) }
+{
+    let mut copy = Log::new(alloc);
+    for signed in messages {
+        copy.push(signed.try_clone(alloc)?)?;
+    }
+    Ok(copy)
+}
+
+fn add_new(alloc: Global, log: &mut Log, signed: &Signed<Message>) -> Result<(), Memory>
+    requires { is_from_few signed.now ≡ true }
+    ensures { OnOk result (log.new ≡ with_new log.old signed.now) }
+{
+    if !log.has(slot_of(&header_of(&signed.message))) {
+        log.push(signed.try_clone(alloc)?)?;
+    }
+    Ok(())
+}
+
+// What the log is once a certificate is in it: what stands up to the checkpoint is dropped.
+fn certified(
+    alloc: Global,
+    log: &Log,
+    certificate: &[Signed<Message>],
+) -> Result<Log, Memory>
+    requires { are_from_few certificate.now ≡ true }
+    ensures { IfOk result (λ made. made ≡ certified log.now certificate.now) }
+{
+    log.messages_differ();
+    let mut copy = copy_of(alloc, log.messages())?;
+    copy.drop_up_to(number_in(certificate), digest_in(certificate));
+    for signed in certificate {
+        add_new(alloc, &mut copy, signed)?;
+    }
+    Ok(copy)
+}
+
+impl Order {
+    fn install_refusal(&self, keys: &Keys, certificate: &[Signed<Message>]) -> Option<OrderError>
+        ensures value { result ≡ install_refusal keys.now self.now certificate.now }
+        ensures senders { IfNone result (are_from_few certificate.now ≡ true) }
+    {
+        if !is_certificate_of(keys, self.f, certificate) {
+            return Some(OrderError::NoCertificate);
+        }
+        let number = number_in(certificate);
+        if !(self.low < number || self.last < number) {
+            return Some(OrderError::OutsideMarks);
+        }
+        None
+    }
+
+    /// Raises the low mark and the number last executed to those of a certificate, which is CHECKPOINTs of 2f + 1 different replicas with
+    /// one number and digest, each where it is below. The certificate stands in the log then, where the low mark was below. It is
+    /// refused, in this order: `NoCertificate`; `OutsideMarks` where neither is below; `Memory`. Nothing changes then.
+    pub fn install(
+        &mut self,
+        keys: &Keys,
+        certificate: &[Signed<Message>],
+    ) -> Result<(), OrderError>
+        ensures taken { OnOk result (install_refusal keys.now self.old certificate.now ≡ None) }
+        ensures now { OnOk result (self.new ≡ (installed self.old certificate.now).now) }
+        ensures refused { IfErr result (λ e. e ≢ error.Memory → install_refusal keys.now self.old certificate.now ≡ Some e) }
+        ensures err { OnErr result (self.new ≡ self.old) }
+    {
+        if let Some(error) = self.install_refusal(keys, certificate) {
+            return Err(error);
+        }
+        let number = number_in(certificate);
+        if self.low < number {
+            self.log = certified(self.alloc, &self.log, certificate)?;
+        }
+        self.low = self.low.max(number);
+        self.last = self.last.max(number);
+        Ok(())
+    }
+}

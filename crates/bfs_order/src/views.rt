@@ -1,0 +1,170 @@
+// A view is left for a later one, and entered.
+ghost use Rattle.std.specs.Prelude.{◌≡◌, ◌≢◌, ◌<◌, ◌^◌, false, length, take, reverse, None, Some, IfNone, IfOk, IfErr, OnOk, OnErr};
+ghost use Rattle.bfs_order.specs.Inside.Growing.{Grown};
+ghost use Rattle.bfs_order.specs.Replica.Refusals.{is_there};
+ghost use Rattle.bfs_order.specs.Replica.Views.{all_taken_over, entered, entering_refusal, greatest_number, handed_refusal, left, leaving_refusal, taken_over};
+ghost use Rattle.bfs_order.specs.declared.error.OrderError.TheVariants as error;
+
+use crate::error::OrderError;
+use crate::order::Order;
+use bfs_auth::Keys;
+use bfs_log::{Header, header_of};
+use bfs_messages::{Message, Signed};
+use bfs_types::Memory;
+
+fn greatest_of(handed: &[Signed<Message>]) -> u64
+    ensures value { result ≡ greatest_number handed.now }
+{
+    let mut greatest = 0;
+    for signed in handed {
+        greatest = header_of(&signed.message).number.max(greatest);
+    }
+    greatest
+}
+
+// What entering a view changes, but for the log, and how long that was.
+#[derive(Drop)]
+struct Saved {
+    view: u64,
+    asked: u64,
+    min_s: u64,
+    handed: u64,
+    messages: usize,
+}
+
+impl Order {
+    /// Leaves the view for a later one, which is asked for. `WrongView` unless it is above the view entered and the one asked for, and
+    /// below 2^63; nothing changes then.
+    pub fn leave_view(&mut self, view: u64) -> Result<(), OrderError>
+        ensures taken { OnOk result (leaving_refusal self.old view ≡ None) }
+        ensures now { OnOk result (self.new ≡ (left self.old view).now) }
+        ensures refused { IfErr result (λ e. leaving_refusal self.old view ≡ Some e) }
+        ensures err { OnErr result (self.new ≡ self.old) }
+    {
+        if !(self.view.max(self.asked) < view && view < 1 << 63) {
+            return Err(OrderError::WrongView);
+        }
+        self.asked = view;
+        Ok(())
+    }
+
+    /// Enters a view, in which no number up to `min_s` is given, with the PRE-PREPAREs that the new primary chose, and gives what is to
+    /// be sent to all other replicas. Those whose place is not free in the view are passed over, and so is every other kind of message;
+    /// authenticators are not looked at again. `WrongView` unless the view is above the one entered, not below the one asked for, and
+    /// below 2^63; then `Memory`. Nothing changes then.
+    pub fn enter_view(
+        &mut self,
+        keys: &Keys,
+        view: u64,
+        min_s: u64,
+        handed: Vec<Signed<Message>>,
+    ) -> Result<Vec<Signed<Message>>, OrderError>
+        ensures taken { OnOk result (entering_refusal self.old view ≡ None) }
+        ensures now { OnOk result (self.new ≡ (entered keys.now self.old view min_s handed.items).now) }
+        ensures sent { IfOk result (λ sent. sent.items ≡ (entered keys.now self.old view min_s handed.items).sent) }
+        ensures refused { IfErr result (λ e. e ≢ error.Memory → entering_refusal self.old view ≡ Some e) }
+        ensures err { OnErr result (self.new ≡ self.old) }
+    {
+        if let Some(error) = self.entering_refusal(view) {
+            return Err(error);
+        }
+        let saved = self.saved();
+        self.open(view, min_s, greatest_of(&handed));
+        match self.take_over_all(keys, handed) {
+            Ok(sent) => Ok(sent),
+            Err(_) => {
+                self.put_back(&saved);
+                Err(OrderError::Memory)
+            }
+        }
+    }
+
+    fn entering_refusal(&self, view: u64) -> Option<OrderError>
+        ensures { result ≡ entering_refusal self.now view }
+    {
+        if self.view < view && (self.asked <= view && view < 1 << 63) {
+            None
+        } else {
+            Some(OrderError::WrongView)
+        }
+    }
+
+    fn saved(&self) -> Saved
+        ensures { result ≡ record { view = self.now.view; asked = self.now.asked; min_s = self.now.min_s; handed = self.now.handed; messages = length self.now.log } }
+    {
+        Saved {
+            view: self.view,
+            asked: self.asked,
+            min_s: self.min_s,
+            handed: self.handed,
+            messages: self.log.messages().len(),
+        }
+    }
+
+    fn put_back(&mut self, saved: &Saved)
+        requires { saved.now.view < 2 ^ 63 }
+        ensures { self.new ≡ record self.old { view = saved.now.view; asked = saved.now.asked; min_s = saved.now.min_s; handed = saved.now.handed; log = take saved.now.messages self.old.log } }
+    {
+        self.view = saved.view;
+        self.asked = saved.asked;
+        self.min_s = saved.min_s;
+        self.handed = saved.handed;
+        self.log.truncate(saved.messages);
+    }
+
+    fn open(&mut self, view: u64, min_s: u64, handed: u64)
+        requires { view < 2 ^ 63 }
+        ensures { self.new ≡ record self.old { view = view; asked = view; min_s = min_s; handed = handed } }
+    {
+        self.view = view;
+        self.asked = view;
+        self.min_s = min_s;
+        self.handed = handed;
+    }
+
+    fn handed_refusal(&self, header: &Header<'_>) -> Option<OrderError>
+        ensures value { result ≡ handed_refusal self.now header.now }
+        ensures free { IfNone result (is_there self.now header.now ≡ false) }
+        ensures sender { IfNone result (header.now.sender < 31) }
+    {
+        if header.tag != 2 {
+            return Some(OrderError::WrongKind);
+        }
+        self.place_refusal(header)
+    }
+
+    fn take_over(
+        &mut self,
+        keys: &Keys,
+        signed: Signed<Message>,
+    ) -> Result<Vec<Signed<Message>>, Memory>
+        ensures now { OnOk result (self.new ≡ (taken_over keys.now self.old signed).now) }
+        ensures sent { IfOk result (λ sent. sent.items ≡ (taken_over keys.now self.old signed).sent) }
+        ensures err { OnErr result (self.new ≡ self.old) }
+    {
+        let refused = self.handed_refusal(&header_of(&signed.message));
+        match refused {
+            Some(_) => Ok(Vec::new(self.alloc)),
+            None => self.accept(keys, signed),
+        }
+    }
+
+    #[tactic(auto, using(crate::proofs::Entering::turned_back))]
+    fn take_over_all(
+        &mut self,
+        keys: &Keys,
+        mut handed: Vec<Signed<Message>>,
+    ) -> Result<Vec<Signed<Message>>, Memory>
+        ensures now { OnOk result (self.new ≡ (all_taken_over keys.now self.old handed.items).now) }
+        ensures sent { IfOk result (λ sent. sent.items ≡ (all_taken_over keys.now self.old handed.items).sent) }
+        ensures err { OnErr result (Grown self.old self.new) }
+    {
+        let mut sent = Vec::new(self.alloc);
+        handed.reverse();
+        while let Some(signed) = handed.pop() {
+            let mut more = self.take_over(keys, signed)?;
+            sent.append(&mut more)?;
+        }
+        Ok(sent)
+    }
+}
