@@ -2,6 +2,7 @@
 mod Counts
 mod Slots
 mod Indexes
+mod Found
 mod Maps
 mod Keeping
 mod Greatest
