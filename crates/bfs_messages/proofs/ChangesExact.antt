@@ -1,5 +1,5 @@
 -- VIEW-CHANGEs and NEW-VIEWs are read just where they were written.
-use Rattle.std.proofs.Common.{◌≡◌, ℕ, ◌^◌, ◌<◌, ◌≤◌, List, ◌++◌, refl, arith}
+use Rattle.std.proofs.Common.{refl, arith}
 use Rattle.bfs_model.specs.Server.Limits.{log_size, most_replicas}
 use Rattle.bfs_model.proofs.Public.{IsExact, as_exact, list_exact, then_exact, with_exact, word_exact}
 use Rattle.bfs_messages.specs.Changes.{behind_proposal_text, certificate_text, new_view_text, proposal_text, view_change_text}

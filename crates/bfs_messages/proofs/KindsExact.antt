@@ -1,17 +1,16 @@
 -- Messages of each kind are read just where they were written.
-use Rattle.std.proofs.Common.{◌≡◌, ℕ, ◌^◌, ◌<◌, true, false, cond, eqb, List, [], ◌++◌, refl, sym, ap, subst, ◌∙◌, append-nil, append_assoc, arith}
+use Rattle.std.proofs.Common.{◌≡◌, ℕ, ◌^◌, ◌<◌, true, false, eqb, List, [], ◌++◌, refl, sym, ap, subst, ◌∙◌, append-nil, append_assoc, arith}
 use Rattle.std.proofs.lemmas.Bool.{eqb-true}
 use Rattle.bfs_model.specs.Bytes.Formats.{Reading}
 use Rattle.bfs_model.specs.Bytes.Items.{word}
 use Rattle.bfs_model.proofs.Public.{IsExact, as_exact, if_exact, none_exact, spelled_exact, tagged_exact}
-use Rattle.bfs_auth.specs.Authenticators.{IsAuthenticator}
 use Rattle.bfs_messages.specs.Messages as model
 use Rattle.bfs_messages.specs.Messages.{Vote}
 use Rattle.bfs_messages.specs.declared.signed.Signed.{Signed}
 use Rattle.bfs_messages.specs.declared.message.Message.{Message}
 use Rattle.bfs_messages.specs.declared.message.Message.TheVariants.{Request, PrePrepare, Prepare, Commit, Checkpoint, ViewChange, NewView, Reply}
 use Rattle.bfs_messages.specs.Batches.{auth_text, behind_text}
-use Rattle.bfs_messages.specs.Spelling.{tag_of, fields_text, attached_text, body_text, signed_text}
+use Rattle.bfs_messages.specs.Spelling.{tag_of, fields_text, attached_text, signed_text}
 use Rattle.bfs_messages.specs.Limits.{FitsSigned, FitsRequest, FitsPrePrepare, FitsVote, FitsCheckpoint, FitsViewChange, FitsNewView, FitsReply}
 use Rattle.bfs_messages.specs.Fits.{FitsMessage}
 use Rattle.bfs_messages.specs.Parts.{behind_from}

@@ -1,16 +1,16 @@
 -- Each part of a message is read just where it was written.
-use Rattle.std.proofs.Common.{◌≡◌, ℕ, ◌^◌, ◌<◌, ◌≤◌, true, eqb, leb, ltb, List, ◌++◌, refl, sym, ap, arith}
+use Rattle.std.proofs.Common.{◌≡◌, ℕ, ◌^◌, ◌<◌, true, eqb, leb, ltb, List, ◌++◌, refl, sym, ap, arith}
 use Rattle.std.proofs.lemmas.Bool.{ltb-true, lt-ltb, leb-true, le-leb, eqb-true}
 use Rattle.std.proofs.lemmas.List.Elements.{All-from_recursion, recursion_from_All}
-use Rattle.bfs_model.specs.Bytes.Formats.{Reading, word_from}
+use Rattle.bfs_model.specs.Bytes.Formats.{Reading}
 use Rattle.bfs_model.specs.Bytes.Items.{word, hyper, fixed}
 use Rattle.bfs_model.specs.Server.Limits.{most_number, most_replicas, most_reply_bytes, most_request_bytes}
-use Rattle.bfs_model.specs.Server.Stored.{IsDouble, IsTime}
+use Rattle.bfs_model.specs.Server.Stored.{IsTime}
 use Rattle.bfs_model.proofs.Public.{IsExact, as_exact, fits_exact, fixed_exact, hyper_exact, list_exact, short_exact, then_exact, where_exact, word_exact}
 use Rattle.bfs_auth.specs.Authenticators.{IsAuthenticator}
 use Rattle.bfs_messages.specs.Batches.{auth_text, behind_text, checkpoint_text, reply_text, request_text, signed_as, time_text, vote_text}
 use Rattle.bfs_messages.specs.Limits.{IsDigest, IsNumber, FitsCheckpoint, FitsReply, FitsRequest, FitsSigned, FitsVote}
-use Rattle.bfs_messages.specs.Parts.{auth_from, behind_from, checkpoint_from, digest_from, number_from, reply_from, request_from, signed_as_from, tag_from, tagged_from, time_from, vote_from}
+use Rattle.bfs_messages.specs.Parts.{auth_from, behind_from, checkpoint_from, digest_from, number_from, reply_from, request_from, signed_as_from, tagged_from, time_from, vote_from}
 
 pub digest_exact : IsExact fixed IsDigest digest_from
 digest_exact = fixed_exact 32

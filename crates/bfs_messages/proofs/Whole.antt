@@ -6,9 +6,8 @@ use Rattle.bfs_model.specs.Server.Stored.{AreBytes}
 use Rattle.bfs_model.proofs.Public.{some_is, whole_again, whole_written}
 use Rattle.bfs_messages.specs.Codes.{Gives}
 use Rattle.bfs_messages.specs.Spelling.{signed_text}
-use Rattle.bfs_messages.specs.Limits.{FitsSigned, FitsBatch}
-use Rattle.bfs_messages.specs.Fits.{FitsMessage, FieldsFit}
-use Rattle.bfs_messages.specs.Messages.{Batch}
+use Rattle.bfs_messages.specs.Limits.{FitsSigned}
+use Rattle.bfs_messages.specs.Fits.{FitsMessage}
 use Rattle.bfs_messages.specs.Batches.{batch_text}
 use Rattle.bfs_messages.specs.Parts.{batch_from}
 use Rattle.bfs_messages.specs.Reading.{message_of}

@@ -1,8 +1,8 @@
 -- How the parts of messages are read, strictly. It is proved that this reads just what is written, so nothing here has to be believed.
-use Rattle.std.specs.Prelude.{ℕ, ◌==◌, Bool, List, Option, Some, None, bytes_eq, nat_lt, nat_le, if◌then◌else◌}
+use Rattle.std.specs.Prelude.{ℕ, ◌==◌, List, Some, None, bytes_eq, nat_lt, nat_le, if◌then◌else◌}
 use Rattle.sha2.specs.Sha256.{sha256}
 use Rattle.bfs_model.specs.Bytes.Call.{◌>>=◌}
-use Rattle.bfs_model.specs.Bytes.Formats.{Reading, word_from, hyper_from, fixed_from, bytes_from, as_from, where_from, with_from, then_from, list_from}
+use Rattle.bfs_model.specs.Bytes.Formats.{Reading, word_from, hyper_from, fixed_from, bytes_from, as_from, where_from, then_from, list_from}
 use Rattle.bfs_model.specs.Server.Limits.{most_number, most_replicas, most_reply_bytes, most_request_bytes, most_requests}
 use Rattle.bfs_model.specs.Server.Tree.{Time}
 use Rattle.bfs_messages.specs.Messages as model

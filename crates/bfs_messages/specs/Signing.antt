@@ -1,5 +1,5 @@
 -- Who signs messages, and which are signed as the receiver sees it, who holds the keys.
-use Rattle.std.specs.Prelude.{ℕ, Bool, true, List, ◌++◌}
+use Rattle.std.specs.Prelude.{Bool, true, ◌++◌}
 use Rattle.std.specs.List.{list_all}
 use Rattle.bfs_model.specs.Bytes.Items.{word}
 use Rattle.bfs_auth.specs.Keys.{Keys}

@@ -37,22 +37,14 @@ pub fn are_carried_signed(rt: &(impl Threads + Sync), keys: &Keys, message: &Mes
 }
 
 /// The same of the REQUESTs of a batch.
-pub fn are_requests_signed(
-    rt: &(impl Threads + Sync),
-    keys: &Keys,
-    batch: &OrderedBatch,
-) -> bool
+pub fn are_requests_signed(rt: &(impl Threads + Sync), keys: &Keys, batch: &OrderedBatch) -> bool
     ensures { result ≡ requests_are_signed keys.now batch.now }
 {
     let requests = batch.requests();
     are_all_signed(rt, keys, requests)
 }
 
-fn are_all_signed(
-    rt: &(impl Threads + Sync),
-    keys: &Keys,
-    requests: &[Signed<Request>],
-) -> bool
+fn are_all_signed(rt: &(impl Threads + Sync), keys: &Keys, requests: &[Signed<Request>]) -> bool
     ensures { result ≡ list_all (request_is_signed keys.now) requests.now }
 {
     requests
@@ -99,7 +91,13 @@ pub fn is_proposal_signed(keys: &Keys, signed: &Signed<PrePrepare>) -> bool
     ensures { result ≡ is_signed keys.now (record { message = Message.PrePrepare signed.now.message; auth = signed.now.auth }) }
 {
     let vote = signed.message.vote();
-    check_fields(keys, Principal::Replica(vote.sender()), 2, vote, &signed.auth)
+    check_fields(
+        keys,
+        Principal::Replica(vote.sender()),
+        2,
+        vote,
+        &signed.auth,
+    )
 }
 
 /// Whether a CHECKPOINT is its sender's.

@@ -1,8 +1,5 @@
-use Rattle.std.proofs.Common.{sym, ap, subst, ◌∙◌, arith}
-use Rattle.std.specs.Arc.{arc_value}
+use Rattle.std.proofs.Common.{arith}
 use Rattle.bfs_model.proofs.Public.{bytes_are}
-use Rattle.bfs_messages.specs.Batches.{batch_text}
-use Rattle.bfs_messages.specs.Limits.{FitsBatch}
 use Rattle.bfs_messages.proofs.Known.{front_is_text, read_fits, rest_is_shorter}
 use Rattle.bfs_messages.proofs.reader.KnownBatch.new.Goals as goal
 

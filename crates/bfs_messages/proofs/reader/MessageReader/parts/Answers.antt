@@ -1,4 +1,4 @@
-use Rattle.std.proofs.Common.{◌+◌, ◌-◌, [], ◌∷◌, ◌++◌, ap, length, length-append, arith}
+use Rattle.std.proofs.Common.{◌+◌, ◌-◌, [], ◌∷◌, ap, length, length-append, arith}
 use Rattle.std.proofs.lemmas.Result.{err_from_is_err_and}
 use Rattle.bfs_model.proofs.Public.{turn, turns_done}
 use Rattle.bfs_messages.proofs.Loops.{fails}
