@@ -12,9 +12,9 @@ use Rattle.bfs_model.specs.Server.Events as model
 use Rattle.bfs_model.specs.Laws.Overtaking.{Asked, answered, asked_at, plan, calls}
 use Rattle.bfs_model.proofs.Public.{get-closed, requests_keep_to_footprints, same_inodes}
 use Rattle.bfs_overtaking.specs.declared.errors.CoreError.TheVariants as error
-use Rattle.bfs_overtaking.specs.Laws.{StepsAreAccepted}
+use Rattle.bfs_overtaking.specs.Laws.Overtaking.{StepsAreAccepted}
 use Rattle.bfs_overtaking.specs.Machine.{Standing, Machine, at_start, standing_at, standing_of, has_call, is_waiting, is_taken, away_in, is_held, take_refusal, finish_refusal, after_take, after_finish, unless, on_ok, played}
-use Rattle.bfs_overtaking.specs.Reached.{world_of, event_from, IsReached}
+use Rattle.bfs_overtaking.specs.Laws.Reached.{world_of, event_from, IsReached}
 use Rattle.bfs_overtaking.proofs.Standings.{world_with, CanFinish}
 use Rattle.bfs_overtaking.proofs.Stepping.{own_plan, planned, as_many, reached_by_take, reached_by_finish, start_reached, start_world}
 use Rattle.bfs_overtaking.proofs.Sharing.{touches}

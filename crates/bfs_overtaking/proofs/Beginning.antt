@@ -12,24 +12,24 @@ use Rattle.bfs_model.specs.Laws.Overtaking.{IsGroup}
 use Rattle.bfs_model.specs.Server.Stored.{IsLive}
 use Rattle.bfs_levels.specs.Planning.{group_length}
 use Rattle.bfs_levels.proofs.Public.{groups_are_cut}
-use Rattle.bfs_serial.specs.Held.{held}
+use Rattle.bfs_serial.specs.Parts.{file_system_of}
 use Rattle.bfs_footprint.specs.Seen.{footprint_seen}
 use Rattle.bfs_footprint.specs.declared.footprints.Footprint as declared
-use Rattle.bfs_tree.specs.Knowing.{knows_all}
+use Rattle.bfs_tree.specs.Laws.Knowing.{knows_all}
 use Rattle.bfs_tree.specs.Slots.{Slots}
 use Rattle.bfs_tree.specs.Tree.{at_home, lent, reach_of}
 use Rattle.bfs_overtaking.specs.declared.calls.Call.{Call}
 use Rattle.bfs_overtaking.specs.declared.calls.State.TheVariants.{Waiting}
 use Rattle.bfs_overtaking.specs.declared.claims.Claims.{Claims}
-use Rattle.bfs_overtaking.specs.Claims.{AreClaimed, all_wait}
-use Rattle.bfs_overtaking.specs.Laws.{PlansAreGroups}
+use Rattle.bfs_overtaking.specs.Inside.Claims.{AreClaimed, all_wait}
+use Rattle.bfs_overtaking.specs.Laws.Overtaking.{PlansAreGroups}
 use Rattle.bfs_overtaking.specs.Machine.{Standing}
-use Rattle.bfs_overtaking.specs.Reached.{IsReached}
+use Rattle.bfs_overtaking.specs.Laws.Reached.{IsReached}
 use Rattle.bfs_levels.specs.Parts.{first_requests}
 use Rattle.bfs_levels.specs.Requests.{requests_from}
 use Rattle.bfs_levels.specs.declared.part.Part.{Part}
 use Rattle.bfs_overtaking.specs.Seen.{standing_seen, machine_seen, start_of}
-use Rattle.bfs_overtaking.specs.Running.{OwnsWritten, IsRunning}
+use Rattle.bfs_overtaking.specs.Inside.Running.{OwnsWritten, IsRunning}
 use Rattle.bfs_overtaking.proofs.Stepping.{start_reached}
 use Rattle.bfs_overtaking.proofs.Owning.{has}
 
@@ -66,7 +66,7 @@ module _ (part : Part) (tree : Slots) (fs : List declared.Footprint) (calls : Li
   pub new_claimed : (claims : Claims) → AreClaimed claims (all_wait (map footprint_seen fs)) → AreClaimed claims (map standing_seen calls)
   new_claimed claims claimed = subst (AreClaimed claims) (sym (ap (map standing_seen) are ∙ standings_seen fs)) claimed
 
-  pub new_running : (reach_of tree).whole ≡ true → IsGroup (held tree part.ordinal part.time) part.time (first_requests part (length fs)) → IsRunning tree calls (machine_seen part tree calls)
+  pub new_running : (reach_of tree).whole ≡ true → IsGroup (file_system_of tree part.ordinal part.time) part.time (first_requests part (length fs)) → IsRunning tree calls (machine_seen part tree calls)
   new_running whole group = record {
     reached = subst IsReached (sym new_seen) (start_reached part.first part.ordinal part.time (first_requests part (length fs)) (at_home tree) group);
     out = λ q. not_true (is_some (get (lent tree) q)) (knows_all (lent tree) whole q) ∙ sym (ap (list_any (has q)) are ∙ none_has fs q);
@@ -84,10 +84,10 @@ plans_are_groups files t batch first count formed is =
 -- For callers: a group that was planned on the tree of a live file system ------------------------------------------------------
 
 module _ (tree : Slots) (o : ℕ) (last t : Time) (batch : List (List ℕ)) (first at : ℕ) (at_is : at ≡ first) (fs : List declared.Footprint) (count : length fs ≡ group_length (at_home tree) o t (drop first batch)) where
-  pub live_group : IsLive (held tree o last) → IsGroup (held tree o t) t (requests_from at (length fs) batch)
+  pub live_group : IsLive (file_system_of tree o last) → IsGroup (file_system_of tree o t) t (requests_from at (length fs) batch)
   live_group live =
-      subst (λ k. IsGroup (held tree o t) t (requests_from k (length fs) batch)) (sym at_is)
-      (plans_are_groups (held tree o t) t batch first (length fs) (record { tree = live.formed.tree; numbered = live.formed.numbered; ordinal = live.formed.ordinal }) count)
+      subst (λ k. IsGroup (file_system_of tree o t) t (requests_from k (length fs) batch)) (sym at_is)
+      (plans_are_groups (file_system_of tree o t) t batch first (length fs) (record { tree = live.formed.tree; numbered = live.formed.numbered; ordinal = live.formed.ordinal }) count)
 
   pub planned_footprints : map footprint_seen fs ≡ footprints_at (at_home tree) o t (take (group_length (at_home tree) o t (drop first batch)) (drop first batch)) → map footprint_seen fs ≡ footprints_at (at_home tree) o t (requests_from at (length fs) batch)
   planned_footprints are =

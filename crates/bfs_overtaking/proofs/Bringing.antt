@@ -13,8 +13,8 @@ use Rattle.bfs_handover.specs.Merging.{AreOut, IsOut, IsMerged, all_in, reply_in
 use Rattle.bfs_handover.specs.Moves.{AreDistinct}
 use Rattle.bfs_handover.specs.declared.job.Job.{Job}
 use Rattle.bfs_handover.specs.declared.job.Done.{Done}
-use Rattle.bfs_handover.specs.declared.results.Reply.{Reply}
-use Rattle.bfs_overtaking.specs.Lent.{IsOutFor, IsCarriedOut}
+use Rattle.bfs_handover.specs.declared.results.NumberedReply.{NumberedReply}
+use Rattle.bfs_overtaking.specs.Inside.Lent.{IsOutFor, IsCarriedOut}
 
 single : {X : Type 0} (xs : List X) (x : X) → length xs ≡ 1 → Contains xs x → xs ≡ x ∷ []
 single [] x one found = absurd (omega arith)
@@ -38,7 +38,7 @@ module _ (tree : Slots) (job : Job) (done : Done) (run : IsDone tree job done) w
         (All-nil (IsOut tree (λ id. job.number))),
   )
 
-  pub one_home : (new : Slots) (numbers : List ℕ) (reply : Reply) → IsMerged tree new numbers (done ∷ []) (reply ∷ []) → IsCarriedOut tree new job reply.bytes.items
+  pub one_home : (new : Slots) (numbers : List ℕ) (reply : NumberedReply) → IsMerged tree new numbers (done ∷ []) (reply ∷ []) → IsCarriedOut tree new job reply.bytes.items
   one_home new numbers reply merged =
       let found : Contains merged.order done = Contains-permutation (done ∷ []) merged.order done merged.each (0, omega arith, refl) in
       let order : merged.order ≡ done ∷ [] = single merged.order done (length_permutation (done ∷ []) merged.order merged.each) found in

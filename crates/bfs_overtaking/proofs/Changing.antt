@@ -31,12 +31,12 @@ use Rattle.bfs_overtaking.specs.declared.calls.Call.{Call}
 use Rattle.bfs_overtaking.specs.declared.running.Running.TheInside.{Inside}
 use Rattle.bfs_overtaking.specs.declared.calls.State.{State}
 use Rattle.bfs_overtaking.specs.declared.calls.State.TheVariants.{Waiting, Taken, Finished}
-use Rattle.bfs_overtaking.specs.Lent.{AreLentOut, IsCarriedOut}
+use Rattle.bfs_overtaking.specs.Inside.Lent.{AreLentOut, IsCarriedOut}
 use Rattle.bfs_overtaking.specs.Machine.{Standing, Machine, standing_of, away_in, is_complete, take_refusal, finish_refusal, after_take, outcome_of, after_finish}
 use Rattle.bfs_levels.specs.Parts.{first_requests, requests_in}
 use Rattle.bfs_overtaking.specs.Seen.{slot_seen, standing_seen, machine_seen}
-use Rattle.bfs_overtaking.specs.Running.{lent_for, HasItsOwn, OwnsWritten, IsRunning}
-use Rattle.bfs_overtaking.specs.Reached.{IsReached}
+use Rattle.bfs_overtaking.specs.Inside.Running.{lent_for, HasItsOwn, OwnsWritten, IsRunning}
+use Rattle.bfs_overtaking.specs.Laws.Reached.{IsReached}
 use Rattle.bfs_overtaking.proofs.Standings.{CanFinish, can_take, can_finish, both}
 use Rattle.bfs_overtaking.proofs.Stepping.{reached_by_take, reached_by_finish}
 use Rattle.bfs_overtaking.proofs.Sharing.{many, touches, fresh, most}

@@ -11,7 +11,7 @@ use Rattle.std.specs.declared.cmp.Ordering.TheVariants.{Less, Equal, Greater}
 use Rattle.std.specs.declared.ops.Bound.TheVariants.{Included, Excluded}
 use Rattle.std.proofs.lemmas.Bool.{or_left, or_right}
 use Rattle.std.proofs.lemmas.Cmp.{nat_cmp_total, ranked, tied_itself}
-use Rattle.bfs_overtaking.specs.Claims.{Sets, any_below, claim_cmp, is_before, is_claim}
+use Rattle.bfs_overtaking.specs.Inside.Claims.{Sets, any_below, claim_cmp, is_before, is_claim}
 
 is_eq_then : (o p : Ordering) → is_eq (ordering_then o p) ≡ (is_eq o && is_eq p)
 is_eq_then Less p = refl

@@ -13,7 +13,7 @@ use Rattle.bfs_levels.specs.Marking.{names_touched, names_written}
 use Rattle.bfs_levels.proofs.Public.{any_none, any_or, conflict_by_ids, or_middle}
 use Rattle.bfs_overtaking.specs.Machine.{Standing, Machine, standing_at, standing_of, is_held, take_refusal, after_take, after_finish}
 use Rattle.bfs_overtaking.proofs.Standings.{can_take}
-use Rattle.bfs_overtaking.specs.Claims.{AreClaimed, AreSet, Sets, all_wait, any_before, any_below, claim_cmp, is_claim, is_among_claims, is_before, is_open, is_written_before, touches_claim, writes_claim}
+use Rattle.bfs_overtaking.specs.Inside.Claims.{AreClaimed, AreSet, Sets, all_wait, any_before, any_below, claim_cmp, is_claim, is_among_claims, is_before, is_open, is_written_before, touches_claim, writes_claim}
 use Rattle.bfs_overtaking.specs.declared.claims.Claims.{Claims}
 
 -- Claims of one call -----------------------------------------------------------------------------------------------------------

@@ -15,7 +15,7 @@ use Rattle.bfs_handover.specs.Loans.{ids_of, loaned}
 use Rattle.bfs_handover.specs.Moves.{AreDistinct, AreOwned}
 use Rattle.bfs_handover.specs.declared.loans.Loan.{Loan}
 use Rattle.bfs_handover.proofs.Public.{home_out, is_out, among_both, distinct_both}
-use Rattle.bfs_overtaking.specs.Lent.{AreLentOut}
+use Rattle.bfs_overtaking.specs.Inside.Lent.{AreLentOut}
 
 has_reserved_in : (s : Slots) (id : ℕ) (o : Option Slot) → get s id ≡ o → contains_key (reserved_in s id o) id ≡ true
 has_reserved_in s id (Some slot) is = ap is_some is

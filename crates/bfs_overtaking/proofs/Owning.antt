@@ -19,7 +19,7 @@ use Rattle.bfs_overtaking.specs.declared.calls.State.{State}
 use Rattle.bfs_overtaking.specs.declared.calls.State.TheVariants.{Waiting, Taken, Finished}
 use Rattle.bfs_overtaking.specs.Machine.{Standing, Machine, standing_at, standing_of, take_refusal, finish_refusal}
 use Rattle.bfs_overtaking.specs.Seen.{slot_seen, standing_seen}
-use Rattle.bfs_overtaking.specs.Running.{lent_for, HasItsOwn, OwnsWritten, IsRunning}
+use Rattle.bfs_overtaking.specs.Inside.Running.{lent_for, HasItsOwn, OwnsWritten, IsRunning}
 use Rattle.bfs_overtaking.proofs.Standings.{CanTake, CanFinish, can_take, can_finish}
 use Rattle.bfs_overtaking.proofs.Sharing.{others_leave, free_apart, begun_apart, many}
 

@@ -1,32 +1,19 @@
 -- What the calls under way have is out, and what another call touches is at home.
-use Rattle.std.proofs.Common.{◌≡◌, ℕ, zero, suc, ◌-◌, ◌<◌, ◌≤◌, true, false, List, [], ◌∷◌, length, ap, sym, subst, ◌∙◌, arith, inl, inr}
+use Rattle.std.proofs.Common.{◌≡◌, ℕ, ◌-◌, ◌<◌, ◌≤◌, true, false, List, length, ap, subst, ◌∙◌, arith, inl, inr}
 use Rattle.std.proofs.lemmas.Bool.{cases_order}
 use Rattle.bfs_model.specs.Server.Tree.{Time, Inodes, spent_ordinal}
-use Rattle.bfs_model.specs.Server.Serial.{ordinal_after, answer}
 use Rattle.bfs_model.specs.Server.Footprints.{Footprint, IsFreshFor, footprint_of}
 use Rattle.bfs_model.specs.Server.Conflicts.{is_written, is_touched, AgreeOn, put_back}
 use Rattle.bfs_model.specs.Server.Shares.{moved_for}
 use Rattle.bfs_model.specs.Server.Groups.{footprints_at, footprints_in_order}
 use Rattle.bfs_model.specs.Server.Events.{is_done, is_begun, World, state}
-use Rattle.bfs_model.specs.Laws.Overtaking.{Asked, answered, asked_at, plan, calls, at_first}
-use Rattle.bfs_model.proofs.Public.{AreApart, IsServable, Kept, answer_keeps, apart, fresh_for_request, groups_keep_footprints, handed, holds_on, its_own, local, new_in, servable, shifted, start_kept, steps_keep, turned}
+use Rattle.bfs_model.specs.Laws.Overtaking.{Asked, answered, plan, calls, at_first}
+use Rattle.bfs_model.proofs.Public.{AreApart, Kept, apart, fresh_for_request, groups_keep_footprints, handed, holds_on, its_own, local, servable, start_kept, steps_keep, turned}
+use Rattle.bfs_levels.proofs.Public.{fresh_seen, servable_there}
 use Rattle.bfs_overtaking.specs.Machine.{Machine, standing_at, standing_of, away_in}
-use Rattle.bfs_overtaking.specs.Reached.{world_of, IsReached}
+use Rattle.bfs_overtaking.specs.Laws.Reached.{world_of, IsReached}
 use Rattle.bfs_overtaking.proofs.Standings.{CanTake, CanFinish, not_held}
 use Rattle.bfs_overtaking.proofs.Stepping.{own_plan, planned, as_many}
-
--- the inodes at a place of the batch serve its request
-servable_there : (n : ℕ) (feet : ℕ → Footprint) (m : Inodes) (o : ℕ) (t : Time) (requests : List (List ℕ)) (k : ℕ) → IsServable m o → k < length requests
-    → IsServable (state answered n (asked_at o t requests) feet m k) (asked_at o t requests k).ordinal
-servable_there n feet m o t [] k good less = absurd (omega arith)
-servable_there n feet m o t (request ∷ requests) zero good less = good
-servable_there n feet m o t (request ∷ requests) (suc k) good less =
-    subst (λ after. IsServable after (asked_at (ordinal_after o 1) t requests k).ordinal) (sym (shifted n feet (asked_at o t (request ∷ requests)) m k))
-    (servable_there n feet (answer m o t request).0 (ordinal_after o 1) t requests k (answer_keeps m o t request good) (omega arith))
-
-fresh_seen : (m others : Inodes) (o : ℕ) (f : Footprint) → AgreeOn f m others → IsFreshFor m o f → IsFreshFor others o f
-fresh_seen m others o f agree (inl spent) = inl spent
-fresh_seen m others o f agree (inr new) = inr (new_in o m others f agree new)
 
 -- A machine that events of a group have led to
 module _ (m : Machine) (r : IsReached m) where

@@ -10,7 +10,7 @@ use Rattle.bfs_model.specs.Server.Events.{Slot, waiting, taken, finished, is_don
 use Rattle.bfs_model.specs.Laws.Overtaking.{footprint_at}
 use Rattle.bfs_overtaking.specs.declared.errors.CoreError.{CoreError}
 use Rattle.bfs_overtaking.specs.Machine.{Standing, Machine, standing_at, standing_of, has_call, is_waiting, is_taken, away_in, holds_back, is_held, take_refusal, finish_refusal, with_slot}
-use Rattle.bfs_overtaking.specs.Reached.{world_of}
+use Rattle.bfs_overtaking.specs.Laws.Reached.{world_of}
 
 get_set : {X : Type 0} (xs : List X) (i j : ℕ) (x d : X) → i < length xs → get_or (set xs i x) j d ≡ cond (eqb i j) x (get_or xs j d)
 get_set xs i j x d less = elim (cases_eq i j) [

@@ -16,8 +16,8 @@ use Rattle.bfs_overtaking.specs.declared.errors.CoreError.{CoreError}
 use Rattle.bfs_overtaking.specs.declared.events.Event.{Event}
 use Rattle.bfs_overtaking.specs.declared.events.Event.TheVariants.{Take, Finish}
 use Rattle.bfs_overtaking.specs.Machine.{Standing, Machine, at_start, standing_at, standing_of, away_in, take_refusal, finish_refusal, after_take, after_finish, unless, on_ok, played}
-use Rattle.bfs_overtaking.specs.Reached.{world_of, event_at, IsReached}
-use Rattle.bfs_overtaking.specs.Laws.{EventsAreSteps, EventsOvertake}
+use Rattle.bfs_overtaking.specs.Laws.Reached.{world_of, event_at, IsReached}
+use Rattle.bfs_overtaking.specs.Laws.Overtaking.{EventsAreSteps, EventsOvertake}
 use Rattle.bfs_overtaking.proofs.Standings.{world_with, footprints_with, footprint_there, CanTake, can_take, CanFinish, can_finish, not_held, both}
 
 abbrev pub feet_of : Machine → List Footprint

@@ -2,7 +2,7 @@
 ghost use Rattle.std.specs.Prelude.{◌≡◌, true, false, [], List, map, take, IfOk, OnOk};
 ghost use Rattle.bfs_footprint.specs.Seen.{footprint_seen};
 ghost use Rattle.bfs_overtaking.specs.Machine.{Standing, is_held};
-ghost use Rattle.bfs_overtaking.specs.Claims.{AreClaimed, AreSet, Sets, all_wait, any_before, is_among_claims, is_before, is_claim, is_written_before};
+ghost use Rattle.bfs_overtaking.specs.Inside.Claims.{AreClaimed, AreSet, Sets, all_wait, any_before, is_among_claims, is_before, is_claim, is_written_before};
 
 use bfs_footprint::Footprint;
 use bfs_types::{FileId, Memory};

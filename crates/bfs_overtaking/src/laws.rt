@@ -1,4 +1,4 @@
-ghost use Rattle.bfs_overtaking.specs.Laws.{EventsAreSteps, EventsOvertake, PlansAreGroups, StepsAreAccepted};
+ghost use Rattle.bfs_overtaking.specs.Laws.Overtaking.{EventsAreSteps, EventsOvertake, PlansAreGroups, StepsAreAccepted};
 
 /// Requests that were planned together are a group, of which a core can be made.
 pub fn plans_are_groups()

@@ -7,7 +7,7 @@ ghost use Rattle.bfs_tree.specs.Reach.{Knows};
 ghost use Rattle.bfs_tree.specs.Tree.{at_home, reach_of};
 ghost use Rattle.bfs_handover.specs.Jobs.{CanRun};
 ghost use Rattle.bfs_handover.specs.Moves.{AreOwned};
-ghost use Rattle.bfs_overtaking.specs.Lent.{AreLentOut, IsCarriedOut, IsOutFor};
+ghost use Rattle.bfs_overtaking.specs.Inside.Lent.{AreLentOut, IsCarriedOut, IsOutFor};
 
 use bfs_footprint::Footprint;
 use bfs_handover::{Job, Loan, Loans, merge_one, run_job};

@@ -3,7 +3,7 @@ ghost use Rattle.std.specs.Option.{ForSome, option_and_then, option_map, option_
 ghost use Rattle.bfs_model.specs.Server.Groups.{footprints_at};
 ghost use Rattle.bfs_model.specs.Laws.Overtaking.{IsGroup};
 ghost use Rattle.bfs_footprint.specs.Seen.{footprint_seen};
-ghost use Rattle.bfs_serial.specs.Held.{held};
+ghost use Rattle.bfs_serial.specs.Parts.{file_system_of};
 ghost use Rattle.bfs_tree.specs.Tree.{at_home, reach_of};
 ghost use Rattle.bfs_overtaking.specs.Machine.{Happens, Plays, at_start, is_complete, played, reply_to};
 ghost use Rattle.bfs_overtaking.specs.Seen.{start_of};
@@ -58,7 +58,7 @@ impl<'a> Core<'a> {
         time: Time,
     ) -> Result<Core<'a>, Memory>
         requires whole { IsTrue ((reach_of tree).whole) }
-        requires group { IsGroup (held tree ordinal time) time (requests_from group.first (length group.footprints.items) batch.now.requests) }
+        requires group { IsGroup (file_system_of tree ordinal time) time (requests_from group.first (length group.footprints.items) batch.now.requests) }
         requires planned { map footprint_seen group.footprints.items ≡ footprints_at (at_home tree) ordinal time (requests_from group.first (length group.footprints.items) batch.now.requests) }
         ensures { IfOk result (λ core. core ≡ Some (at_start group.first ordinal time (requests_from group.first (length group.footprints.items) batch.now.requests) (at_home tree))) }
     {
@@ -81,7 +81,7 @@ impl<'a> Core<'a> {
         footprints: Vec<Footprint>,
     ) -> Result<Core<'a>, Memory>
         requires whole { IsTrue ((reach_of tree).whole) }
-        requires group { IsGroup (held tree part.now.ordinal part.now.time) part.now.time (first_requests part.now (length footprints.items)) }
+        requires group { IsGroup (file_system_of tree part.now.ordinal part.now.time) part.now.time (first_requests part.now (length footprints.items)) }
         requires planned { map footprint_seen footprints.items ≡ footprints_at (at_home tree) part.now.ordinal part.now.time (first_requests part.now (length footprints.items)) }
         ensures { IfOk result (λ core. core ≡ Some (start_of part.now (length footprints.items) (at_home tree))) }
     {
@@ -178,7 +178,7 @@ impl<'a> Core<'a> {
         events: &[Event],
     ) -> Result<Core<'a>, CoreError>
         requires whole { IsTrue ((reach_of tree).whole) }
-        requires group { IsGroup (held tree ordinal time) time (requests_from group.first (length group.footprints.items) batch.now.requests) }
+        requires group { IsGroup (file_system_of tree ordinal time) time (requests_from group.first (length group.footprints.items) batch.now.requests) }
         requires planned { map footprint_seen group.footprints.items ≡ footprints_at (at_home tree) ordinal time (requests_from group.first (length group.footprints.items) batch.now.requests) }
         ensures { Plays (played events.now (at_start group.first ordinal time (requests_from group.first (length group.footprints.items) batch.now.requests) (at_home tree))) result }
     {
@@ -200,7 +200,7 @@ impl<'a> Core<'a> {
         events: &[Event],
     ) -> Result<Core<'a>, CoreError>
         requires whole { IsTrue ((reach_of tree).whole) }
-        requires group { IsGroup (held tree part.now.ordinal part.now.time) part.now.time (first_requests part.now (length footprints.items)) }
+        requires group { IsGroup (file_system_of tree part.now.ordinal part.now.time) part.now.time (first_requests part.now (length footprints.items)) }
         requires planned { map footprint_seen footprints.items ≡ footprints_at (at_home tree) part.now.ordinal part.now.time (first_requests part.now (length footprints.items)) }
         ensures { Plays (played events.now (start_of part.now (length footprints.items) (at_home tree))) result }
     {

@@ -34,7 +34,7 @@ impl<'a> Model for Running<'a> {
     ghost coded = { Prim.hlevel (codes, inodes_code) };
 
     ghost use Rattle.bfs_overtaking.specs.Seen.{machine_seen};
-    ghost use Rattle.bfs_overtaking.specs.Running.{IsKept};
+    ghost use Rattle.bfs_overtaking.specs.Inside.Running.{IsKept};
 
     ghost view = { λ running. machine_seen running.part running.tree running.calls.items };
 

@@ -5,7 +5,7 @@ use Rattle.bfs_model.specs.Bytes.Items.{counted, fixed, fixed_at, padding_of, wo
 use Rattle.bfs_model.specs.Server.Limits.{most_data_bytes, most_name_bytes, most_path_bytes}
 use Rattle.bfs_model.proofs.Public.{fixed_again, handle_leads, length_of_handle, opaque_again, word_again}
 use Rattle.bfs_trace.specs.Messages.{arguments, handle_item, seconds_word, setting_word, settings_item, useconds_word}
-use Rattle.bfs_trace.specs.SentCalls.{AreSettings, ArgumentsAreRead, IsFile, IsName, settings_read}
+use Rattle.bfs_trace.specs.Laws.SentCalls.{AreSettings, ArgumentsAreRead, IsFile, IsName, settings_read}
 
 -- Items --------------------------------------------------------------------------------------------------------------
 

@@ -6,7 +6,7 @@ use Rattle.bfs_model.specs.Server.Limits.{most_clients}
 use Rattle.bfs_model.specs.Bytes.Items.{counted, fixed, opaque_at, word}
 use Rattle.bfs_model.proofs.Public.{opaque_again, word_again}
 use Rattle.bfs_trace.specs.Messages.{call_header, credential_body}
-use Rattle.bfs_trace.specs.SentCalls.{HeadersAreRead}
+use Rattle.bfs_trace.specs.Laws.SentCalls.{HeadersAreRead}
 use Rattle.bfs_trace.proofs.Headers.{credential_length}
 
 -- a credential's words, one after another

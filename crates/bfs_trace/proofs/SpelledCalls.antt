@@ -10,7 +10,7 @@ use Rattle.bfs_model.specs.Server.Stored.{IsWord}
 use Rattle.bfs_model.specs.Server.Tree.{Time}
 use Rattle.bfs_trace.specs.Messages.{arguments, seconds_word, setting_word, useconds_word}
 use Rattle.bfs_trace.specs.Operands.{data_in, file_in, file_spelled, mode_in, most_number, number_in, number_setting_in, set_time_spelled, setting_spelled, settings_in, text_in, time_in_parts, time_of_call, time_setting_in, time_spelled}
-use Rattle.bfs_trace.specs.SentCalls.{AreSettings, FitsItems, KeepsLimits, SpelledCallsAreRead, call_read, procedure_of}
+use Rattle.bfs_trace.specs.Laws.SentCalls.{AreSettings, FitsItems, KeepsLimits, SpelledCallsAreRead, call_read, procedure_of}
 use Rattle.bfs_trace.specs.Verbs.{call_in_words, file_words, link_words, named_with_settings_words, named_words, read_directory_words, read_words, rename_words, set_attributes_words, symbolic_link_words, write_words}
 use Rattle.bfs_trace.specs.Words.{are_digits, digits_spelled, number_spelled, only_word, parts, unless_more, word_in}
 use Rattle.bfs_trace.proofs.SentArguments.{arguments_are_read}

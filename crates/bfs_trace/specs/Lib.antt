@@ -4,10 +4,11 @@ pub mod Texts
 pub mod Operands
 pub mod Verbs
 pub mod Messages
-pub mod SentCalls
 pub mod Population
 pub mod Events
 pub mod Lines
 pub mod Trace
-pub mod Reading
+pub mod Outcomes
 pub mod Errors
+pub mod Laws
+pub mod Inside

@@ -1,7 +1,7 @@
 ghost use Rattle.std.specs.Prelude.{◌≡◌, ◌<◌, ◌≤◌, length, IfOk};
 ghost use Rattle.bfs_model.specs.Server.Limits.{most_clients, most_request_bytes};
 ghost use Rattle.bfs_trace.specs.Lines.{batch_line, call_by_verb, call_spelled, heard_line, line_spelled, replica_named, raw_call, request_line, silent_line, verb_call};
-ghost use Rattle.bfs_trace.specs.Reading.{Parses};
+ghost use Rattle.bfs_trace.specs.Inside.Reading.{Parses};
 
 use crate::events::{Block, Request, TraceEvent};
 use crate::fault::Fault;

@@ -2,7 +2,7 @@
 ghost use Rattle.std.specs.Prelude.{◌≤◌, length, IfOk};
 ghost use Rattle.bfs_model.specs.Server.Limits.{most_request_bytes};
 ghost use Rattle.bfs_trace.specs.Operands.{file_in, file_spelled, most_number, mode_in, number_in, number_setting_in, settings_in, text_in, time_setting_in};
-ghost use Rattle.bfs_trace.specs.Reading.{Parses};
+ghost use Rattle.bfs_trace.specs.Inside.Reading.{Parses};
 ghost use Rattle.bfs_trace.specs.Words.{number_spelled};
 
 use crate::fault::Fault;

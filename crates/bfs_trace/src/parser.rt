@@ -1,5 +1,6 @@
 ghost use Rattle.std.specs.Prelude.{◌≡◌};
-ghost use Rattle.bfs_trace.specs.Reading.{Parses, ParsesTrace};
+ghost use Rattle.bfs_trace.specs.Inside.Reading.{Parses};
+ghost use Rattle.bfs_trace.specs.Outcomes.{ParsesTrace};
 ghost use Rattle.bfs_trace.specs.Trace.{is_passed_over, trace_spelled, with_text};
 
 use crate::fault::Fault;

@@ -1,5 +1,5 @@
 //! What the server reads of the calls that verbs spell.
-ghost use Rattle.bfs_trace.specs.SentCalls.{ArgumentsAreRead, HeadersAreRead, SpelledCallsAreRead};
+ghost use Rattle.bfs_trace.specs.Laws.SentCalls.{ArgumentsAreRead, HeadersAreRead, SpelledCallsAreRead};
 
 /// The header of a call is read as that of a call of its procedure, by the user of its client, whichever client there may be and whatever
 /// arguments follow.

@@ -3,7 +3,7 @@ ghost use Rattle.std.specs.Result.{result_ok};
 ghost use Rattle.hex.specs.Hex.{decode_of};
 ghost use Rattle.bfs_model.specs.Bytes.Items.{counted, padding_of};
 ghost use Rattle.bfs_model.specs.Server.Limits.{most_request_bytes};
-ghost use Rattle.bfs_trace.specs.Reading.{Parses};
+ghost use Rattle.bfs_trace.specs.Inside.Reading.{Parses};
 ghost use Rattle.bfs_trace.specs.Texts.{are_printable, data_spelled, escape_spelled, text_in_parts, text_spelled};
 ghost use Rattle.bfs_trace.specs.Words.{parts};
 

@@ -2,7 +2,7 @@
 ghost use Rattle.std.specs.Prelude.{◌≡◌};
 ghost use Rattle.std.specs.Option.{option_map};
 ghost use Rattle.bfs_types.specs.Procedures.{number_of};
-ghost use Rattle.bfs_trace.specs.Reading.{AppendsCall};
+ghost use Rattle.bfs_trace.specs.Inside.Reading.{AppendsCall};
 ghost use Rattle.bfs_trace.specs.Verbs.{call_in_words, procedure_named};
 
 mod attributes;

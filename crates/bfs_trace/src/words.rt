@@ -1,5 +1,5 @@
 ghost use Rattle.std.specs.Prelude.{◌≡◌, ◌∷◌, ◌<◌, ◌↔◌, [], length, IsTrue, IfSome, IfNone, option_map};
-ghost use Rattle.bfs_trace.specs.Reading.{Parses};
+ghost use Rattle.bfs_trace.specs.Inside.Reading.{Parses};
 ghost use Rattle.bfs_trace.specs.Words.{only_word, parts, parts_left, unless_more, word_in};
 
 use crate::fault::Fault;

@@ -1,6 +1,6 @@
 // GETATTR and SETATTR (RFC 1094 sections 2.2.2 and 2.2.3).
 ghost use Rattle.bfs_model.specs.Bytes.Arguments as model;
-ghost use Rattle.bfs_trace.specs.Reading.{AppendsCall};
+ghost use Rattle.bfs_trace.specs.Inside.Reading.{AppendsCall};
 ghost use Rattle.bfs_trace.specs.Verbs.{file_words, set_attributes_words};
 
 use crate::fault::Fault;

@@ -1,6 +1,6 @@
 // READLINK, READ and WRITE (RFC 1094 sections 2.2.6, 2.2.7 and 2.2.9).
 ghost use Rattle.bfs_model.specs.Bytes.Arguments as model;
-ghost use Rattle.bfs_trace.specs.Reading.{AppendsCall};
+ghost use Rattle.bfs_trace.specs.Inside.Reading.{AppendsCall};
 ghost use Rattle.bfs_trace.specs.Verbs.{file_words, read_words, write_words};
 
 use crate::fault::Fault;

@@ -1,6 +1,6 @@
 // CREATE, LINK, SYMLINK and MKDIR (RFC 1094 sections 2.2.10 and 2.2.13 to 2.2.15).
 ghost use Rattle.bfs_model.specs.Bytes.Arguments as model;
-ghost use Rattle.bfs_trace.specs.Reading.{AppendsCall};
+ghost use Rattle.bfs_trace.specs.Inside.Reading.{AppendsCall};
 ghost use Rattle.bfs_trace.specs.Verbs.{link_words, named_with_settings_words, symbolic_link_words};
 
 use crate::fault::Fault;

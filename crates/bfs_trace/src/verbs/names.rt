@@ -1,6 +1,6 @@
 // LOOKUP and READDIR (RFC 1094 sections 2.2.5 and 2.2.17).
 ghost use Rattle.bfs_model.specs.Bytes.Arguments as model;
-ghost use Rattle.bfs_trace.specs.Reading.{AppendsCall};
+ghost use Rattle.bfs_trace.specs.Inside.Reading.{AppendsCall};
 ghost use Rattle.bfs_trace.specs.Verbs.{named_words, read_directory_words};
 
 use crate::fault::Fault;

@@ -1,6 +1,6 @@
 // REMOVE and RMDIR (RFC 1094 sections 2.2.11 and 2.2.16).
 ghost use Rattle.bfs_model.specs.Bytes.Arguments as model;
-ghost use Rattle.bfs_trace.specs.Reading.{AppendsCall};
+ghost use Rattle.bfs_trace.specs.Inside.Reading.{AppendsCall};
 ghost use Rattle.bfs_trace.specs.Verbs.{named_words};
 
 use crate::fault::Fault;

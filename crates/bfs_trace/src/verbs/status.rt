@@ -1,6 +1,6 @@
 // STATFS (RFC 1094 section 2.2.18).
 ghost use Rattle.bfs_model.specs.Bytes.Arguments as model;
-ghost use Rattle.bfs_trace.specs.Reading.{AppendsCall};
+ghost use Rattle.bfs_trace.specs.Inside.Reading.{AppendsCall};
 ghost use Rattle.bfs_trace.specs.Verbs.{file_words};
 
 use crate::fault::Fault;

@@ -1,6 +1,6 @@
 use Rattle.std.proofs.Common.{map, take}
 use Rattle.bfs_footprint.specs.Seen.{footprint_seen}
-use Rattle.bfs_overtaking.specs.Claims.{AreClaimed, all_wait}
+use Rattle.bfs_overtaking.specs.Inside.Claims.{AreClaimed, all_wait}
 use Rattle.bfs_overtaking.proofs.claims.claims_of.Given as goal
 
 -- the claims so far are those of the first calls

@@ -1,6 +1,6 @@
 use Rattle.std.proofs.Common.{◌≡◌, ℕ, false, if◌then◌else◌, drop, Option}
 use Rattle.std.specs.BTreeSet.{contains}
-use Rattle.bfs_overtaking.specs.Claims.{claim_cmp, is_among_claims}
+use Rattle.bfs_overtaking.specs.Inside.Claims.{claim_cmp, is_among_claims}
 use Rattle.bfs_overtaking.proofs.claims.remove_each.Given as goal
 
 -- with the claims that are left, those of all fileids are gone

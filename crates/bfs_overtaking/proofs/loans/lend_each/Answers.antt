@@ -4,7 +4,7 @@ use Rattle.std.specs.FinMap.{get, contains_key}
 use Rattle.std.proofs.lemmas.List.{take_more}
 use Rattle.bfs_tree.specs.Slots.{Slots}
 use Rattle.bfs_tree.specs.Tree.{lent}
-use Rattle.bfs_overtaking.specs.Lent.{AreLentOut}
+use Rattle.bfs_overtaking.specs.Inside.Lent.{AreLentOut}
 use Rattle.bfs_overtaking.proofs.Leaving.{at_home_before, has_reserved, none_yet, passed_over, still_there, left_tree}
 use Rattle.bfs_overtaking.proofs.loans.lend_each.Goals.{then-not-owns+in_ok-reserve+in_ok-push, else-not-owns}
 use Rattle.bfs_overtaking.proofs.loans.lend_each.Goals as goal

@@ -1,5 +1,5 @@
 use Rattle.std.proofs.Common.{take}
-use Rattle.bfs_overtaking.specs.Lent.{AreLentOut}
+use Rattle.bfs_overtaking.specs.Inside.Lent.{AreLentOut}
 use Rattle.bfs_overtaking.proofs.loans.lend_each.Given as goal
 
 abbrev pub invariant-loop-id : goal.invariant-loop-id

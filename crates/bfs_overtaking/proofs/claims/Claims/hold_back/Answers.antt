@@ -1,6 +1,6 @@
 -- The claims tell which of the earlier calls conflict with this one.
 use Rattle.std.proofs.Common.{take, ap, sym, ◌∙◌}
-use Rattle.bfs_overtaking.specs.Claims.{any_before, is_written_before}
+use Rattle.bfs_overtaking.specs.Inside.Claims.{any_before, is_written_before}
 use Rattle.bfs_footprint.specs.Seen.{footprint_seen}
 use Rattle.bfs_overtaking.specs.Machine.{is_held}
 use Rattle.bfs_overtaking.proofs.Holding.{first_holds, second_holds, held_known, held_whole}

@@ -2,7 +2,7 @@
 use Rattle.std.proofs.Common.{Some, List, map, ap, subst}
 use Rattle.bfs_footprint.specs.Seen.{footprint_seen}
 use Rattle.bfs_footprint.specs.declared.footprints.Footprint.{Footprint}
-use Rattle.bfs_overtaking.specs.Claims.{AreClaimed, all_wait}
+use Rattle.bfs_overtaking.specs.Inside.Claims.{AreClaimed, all_wait}
 use Rattle.bfs_overtaking.proofs.Beginning.{new_claimed, new_seen, new_running}
 use Rattle.bfs_overtaking.proofs.machine.Core.of.Goals as goal
 

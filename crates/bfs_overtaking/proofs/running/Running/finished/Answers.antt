@@ -8,8 +8,8 @@ use Rattle.bfs_tree.specs.Reach.{Knows}
 use Rattle.bfs_tree.specs.Slots.{Slots}
 use Rattle.bfs_tree.specs.Tree.{reach_of}
 use Rattle.bfs_handover.specs.declared.job.Job.{Job}
-use Rattle.bfs_overtaking.specs.Claims.{AreClaimed, AreSet}
-use Rattle.bfs_overtaking.specs.Lent.{IsCarriedOut}
+use Rattle.bfs_overtaking.specs.Inside.Claims.{AreClaimed, AreSet}
+use Rattle.bfs_overtaking.specs.Inside.Lent.{IsCarriedOut}
 use Rattle.bfs_overtaking.specs.Machine.{Machine, after_finish, finish_refusal}
 use Rattle.bfs_overtaking.proofs.Holding.{finished_claimed}
 use Rattle.bfs_overtaking.proofs.Changing.{AtCall, UnderWay, CarriesOutAlone, seen_of, foot, there_to_finish, in_batch, its_request, finished_seen, finished_running, alone_is, knows_all, its_fresh, can_run_known, is_out, distinct, own_is_home}

@@ -1,6 +1,6 @@
 -- What the call writes is at home, and when it has left, the core is one whose call is taken.
 use Rattle.std.proofs.Common.{◌≡◌, None, ap, sym, subst, ◌∙◌}
-use Rattle.bfs_overtaking.specs.Claims.{AreClaimed}
+use Rattle.bfs_overtaking.specs.Inside.Claims.{AreClaimed}
 use Rattle.bfs_overtaking.specs.Machine.{Machine, after_take, take_refusal}
 use Rattle.bfs_overtaking.proofs.Changing.{AtCall, seen_of, there_to_take, owned_to_take, taken_seen, taken_running}
 use Rattle.bfs_overtaking.proofs.Holding.{taken_claimed}

@@ -1,13 +1,9 @@
 -- How the answer of a reader stands to what the grammar reads.
 use Rattle.std.specs.Prelude.{ℕ, ◌≡◌, ⊤, List, ◌++◌, Option, Some, None, Result, Ok, Err, option_map}
 use Rattle.bfs_model.specs.Bytes.Arguments.{Call}
-use Rattle.bfs_trace.specs.declared.events.TraceEvent.{TraceEvent}
 use Rattle.bfs_trace.specs.declared.fault.Fault.{Fault}
 use Rattle.bfs_trace.specs.declared.fault.Fault.TheVariants as fault
 use Rattle.bfs_trace.specs.Messages.{arguments}
-use Rattle.bfs_trace.specs.declared.trace.Trace.{Trace}
-use Rattle.bfs_trace.specs.declared.trace.TraceError.{TraceError}
-use Rattle.bfs_trace.specs.declared.trace.TraceError.TheVariants as error
 
 -- a value is what the grammar reads, and a fault comes where it reads none; unspecified where memory ran out
 abbrev pub Parses : {X Y : Type 0} → (X → Y) → Result X Fault → Option Y → Type 0
@@ -19,9 +15,3 @@ Parses view (Err fault.Memory) read = ⊤
 -- unspecified where memory ran out
 abbrev pub AppendsCall : Result ⊤ Fault → (old new : List ℕ) → Option Call → Type 0
 AppendsCall result old new call = Parses (λ done. new) result (option_map (λ spelled. old ++ arguments spelled) call)
-
--- a trace has the events that the grammar reads, and a bad line is the one that breaks it; unspecified where memory ran out
-abbrev pub ParsesTrace : Result Trace TraceError → Result (List TraceEvent) ℕ → Type 0
-ParsesTrace (Ok trace) read = read ≡ Ok trace
-ParsesTrace (Err (error.BadLine number)) read = read ≡ Err number
-ParsesTrace (Err error.Memory) read = ⊤

@@ -14,9 +14,9 @@ use Rattle.bfs_overtaking.specs.declared.calls.Call.{Call}
 use Rattle.bfs_overtaking.specs.declared.calls.State.{State}
 use Rattle.bfs_overtaking.specs.declared.calls.State.TheVariants.{Waiting, Taken, Finished}
 use Rattle.bfs_overtaking.specs.declared.claims.Claims.{Claims}
-use Rattle.bfs_overtaking.specs.Claims.{AreClaimed}
+use Rattle.bfs_overtaking.specs.Inside.Claims.{AreClaimed}
 use Rattle.bfs_overtaking.specs.Machine.{Machine}
-use Rattle.bfs_overtaking.specs.Reached.{IsReached}
+use Rattle.bfs_overtaking.specs.Laws.Reached.{IsReached}
 
 -- the fileids that are lent out for a call
 abbrev pub lent_for : State → List ℕ
