@@ -17,7 +17,7 @@ use Rattle.bfs_order.specs.Replica.Installing.{number_of, digest_of, has_sender,
 use Rattle.bfs_order.specs.Replica.Refusals.{is_ordering}
 use Rattle.bfs_order.specs.Replica.States.{State, fresh}
 use Rattle.bfs_order.specs.Laws.Calls.{Call, Takes, Proposes, Executes, Checkpoints, Installs, Leaves, Enters, outcome, after, CallsKeepTheReplica, IsKept, IsAlways}
-use Rattle.bfs_order.specs.Laws.Logs.{HasSlots, IsInWindow, IsWindowed, IsCertified, HasCertificate}
+use Rattle.bfs_order.specs.Laws.Logs.{HasDistinctSlots, IsInWindow, IsWindowed, IsCertified, HasCertificate}
 use Rattle.bfs_order.proofs.Telling.{says_is, is_said, slot_is, told_left, told_right, is_one, found_kept}
 use Rattle.bfs_order.proofs.Moving.{Fact, Moves, Speaks, Fits, CanTake, call_goes}
 use Rattle.bfs_order.proofs.Certifying.{IsVoucher, Vouched, vouched, each_keeps, more, senders_counted}
@@ -101,11 +101,11 @@ slots_move = record {
       (differ_kept (stays (number_of ms) (digest_of ms)) log kept);
 }
 
-pub slots_kept : IsKept HasSlots
+pub slots_kept : IsKept HasDistinctSlots
 slots_kept = (λ f me. tt, λ s call kept. (call_goes Anything Slots slots_move s [] call kept (fits_anything s call)).kept)
 
-pub slots_always : IsAlways HasSlots
-slots_always = always HasSlots slots_kept
+pub slots_always : IsAlways HasDistinctSlots
+slots_always = always HasDistinctSlots slots_kept
 
 -- The window --------------------------------------------------------------------------------------------------------------
 

@@ -5,8 +5,8 @@ use Rattle.bfs_order.specs.Replica.Refusals.{window, is_ordering}
 use Rattle.bfs_order.specs.Replica.States.{State, known}
 
 -- no two messages of the log have one kind, sender, view and number
-abbrev pub HasSlots : State → Type 0
-HasSlots s = SlotsDiffer (known s)
+abbrev pub HasDistinctSlots : State → Type 0
+HasDistinctSlots s = SlotsDiffer (known s)
 
 -- a PRE-PREPARE, PREPARE or COMMIT above the low mark or a CHECKPOINT not below it, and not above the high mark
 pub record IsInWindow (low : ℕ) (h : Header) : Type 0 where

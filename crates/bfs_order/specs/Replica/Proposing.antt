@@ -4,6 +4,7 @@ use Rattle.sha2.specs.Sha256.{sha256}
 use Rattle.bfs_auth.specs.Keys.{Keys}
 use Rattle.bfs_agreement.specs.Votes.{primary}
 use Rattle.bfs_log.specs.Logs.{Log, greatest_proposed}
+use Rattle.bfs_messages.specs.Messages as model
 use Rattle.bfs_messages.specs.Messages.{Batch}
 use Rattle.bfs_messages.specs.Batches.{batch_text}
 use Rattle.bfs_messages.specs.declared.signed.Signed.{Signed}
@@ -36,13 +37,18 @@ proposal_refusal s =
 abbrev pub batch_digest : Batch → List ℕ
 batch_digest batch = sha256 (batch_text batch)
 
+abbrev pub own_proposal : State → Batch → model.PrePrepare
+own_proposal s batch = record { vote = own_vote s s.view (next_number s) (batch_digest batch); batch = batch }
+
 abbrev pub proposal : Keys → State → Batch → Signed Message
-proposal keys s batch = signed_by keys (PrePrepare (record { vote = own_vote s s.view (next_number s) (batch_digest batch); batch = batch }))
+proposal keys s batch = signed_by keys (PrePrepare (own_proposal s batch))
 
 -- where there is no other replica, it is prepared at once
+abbrev pub lone_commits : Keys → State → (view number : ℕ) → List ℕ → Log
+lone_commits keys s view number digest = if s.f == 0 then commits_in keys s view number digest else []
+
 abbrev pub proposal_commits : Keys → State → Batch → Log
-proposal_commits keys s batch =
-    if s.f == 0 then commits_in keys (with_message s (proposal keys s batch)) s.view (next_number s) (batch_digest batch) else []
+proposal_commits keys s batch = lone_commits keys (with_message s (proposal keys s batch)) s.view (next_number s) (batch_digest batch)
 
 abbrev pub proposed : Keys → State → Batch → Outcome
 proposed keys s batch = record {
