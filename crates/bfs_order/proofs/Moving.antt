@@ -59,6 +59,10 @@ pub record Speaks (Good : Signed Message → Type 0) (keys : Keys) (f me : ℕ) 
   pub commit : (v n : ℕ) (d : List ℕ) → Good (signed_by keys (Commit (record { sender = me; view = v; number = n; digest = d })))
   pub checkpoint : (n : ℕ) (d : List ℕ) → Good (signed_by keys (Checkpoint (record { sender = me; number = n; digest = d })))
 
+-- a PRE-PREPARE that is handed over, of its view's primary, is good
+abbrev pub Handed : (Good : Signed Message → Type 0) → (f : ℕ) → Signed Message → Type 0
+Handed Good f m = (header m).tag ≡ 2 → (header m).sender ≡ primary f (header m).view → Good m
+
 -- what a call lets in is good
 abbrev pub Fits : (Good : Signed Message → Type 0) → State → Call → Type 0
 Fits Good s (Takes keys m) = (refusal keys s m ≡ None → Good m) × Speaks Good keys s.f s.me
@@ -67,7 +71,7 @@ Fits Good s Executes = Unit {0}
 Fits Good s (Checkpoints keys n d) = Speaks Good keys s.f s.me
 Fits Good s (Installs keys ms) = is_certificate keys s.f ms ≡ true → All Good ms
 Fits Good s (Leaves v) = Unit {0}
-Fits Good s (Enters keys v n ms) = All (λ m. (header m).tag ≡ 2 → (header m).sender ≡ primary s.f (header m).view → Good m) ms × Speaks Good keys s.f s.me
+Fits Good s (Enters keys v n ms) = All (Handed Good s.f) ms × Speaks Good keys s.f s.me
 
 -- Tests passed ------------------------------------------------------------------------------------------------------------
 
@@ -184,26 +188,20 @@ module _ (Good : Signed Message → Type 0) (P : Fact) (moves : Moves Good P) wh
           (record { free = is; kind = kind; above = above; to = to; led = λ two. absurd (other two) })
           (record { mine = mine; backed = λ _. told_left s.log (signed_by keys m ∷ []) _ _ _ _ _ backed }) good
 
-  three : ◌≡◌ {A = ℕ} 3 2 → ⊥
-  three e = absurd (omega (arith, e))
-
-  four : ◌≡◌ {A = ℕ} 4 2 → ⊥
-  four e = absurd (omega (arith, e))
-
   prepares_more : (keys : Keys) (s : State) (sent : Log) (v n : ℕ) (d : List ℕ) → Speaks Good keys s.f s.me → Keeps s sent → s.low < n → n ≤ s.low + window
       → Told (known s) 2 (primary s.f v) v n d → More s sent (prepares_in keys s v n d)
   prepares_more keys s sent v n d speaks kept above to backed = go (eqb s.me (primary s.f v)) refl
     where
       go : (b : Bool) → eqb s.me (primary s.f v) ≡ b → More s sent (cond b [] (said_once keys s (Prepare (own_vote s v n d))))
       go true is = none_more s sent kept
-      go false is = said_more keys s sent (Prepare (own_vote s v n d)) kept refl three above to refl backed (speaks.prepare v n d is)
+      go false is = said_more keys s sent (Prepare (own_vote s v n d)) kept refl (λ two. absurd (omega (arith, two))) above to refl backed (speaks.prepare v n d is)
 
   commits_more : (keys : Keys) (s : State) (sent : Log) (v n : ℕ) (d : List ℕ) → Speaks Good keys s.f s.me → Keeps s sent → s.low < n → n ≤ s.low + window
       → More s sent (commits_in keys s v n d)
   commits_more keys s sent v n d speaks kept above to = go (prepared s.f s.me (known s) v n d) refl
     where
       go : (b : Bool) → prepared s.f s.me (known s) v n d ≡ b → More s sent (cond b (said_once keys s (Commit (own_vote s v n d))) [])
-      go true is = said_more keys s sent (Commit (own_vote s v n d)) kept refl four above to refl (and_parts (told (known s) 2 (primary s.f v) v n d) _ (and_parts _ _ is).0).0 (speaks.commit v n d)
+      go true is = said_more keys s sent (Commit (own_vote s v n d)) kept refl (λ two. absurd (omega (arith, two))) above to refl (and_parts (told (known s) 2 (primary s.f v) v n d) _ (and_parts _ _ is).0).0 (speaks.commit v n d)
       go false is = none_more s sent kept
 
   regrouped : (s : State) (sent p c : Log) → P s.f s.me s.low ((s.log ++ p) ++ c) ((sent ++ p) ++ c) → More s sent (p ++ c)
@@ -290,20 +288,14 @@ module _ (Good : Signed Message → Type 0) (P : Fact) (moves : Moves Good P) wh
       both = subst (λ (l : Log). P s.f s.me s.low ((s.log ++ proposal keys s batch ∷ []) ++ proposal_commits keys s batch) l)
           (append_assoc sent (proposal keys s batch ∷ []) (proposal_commits keys s batch)) (commits (eqb s.f 0))
 
-  not_two : ◌≡◌ {A = ℕ} 5 2 → ⊥
-  not_two e = absurd (omega (arith, e))
-
-  not_small : 5 < 5 → ⊥
-  not_small lt = absurd (omega (arith, lt))
-
   checkpoint_goes : (keys : Keys) (s : State) (sent : Log) (n : ℕ) (d : List ℕ) → Speaks Good keys s.f s.me → Keeps s sent → checkpoint_refusal s n ≡ None → Goes s sent (checkpointed keys s n d)
   checkpoint_goes keys s sent n d speaks kept none =
       let p1 = passed (not (is_between s n && _)) _ _ none in
       let p2 = passed (has_slot (known s) 5 s.me 0 n) _ _ p1.1 in
       let marks = between s n (and_parts (is_between s n) _ (not-false _ p1.0)).0 in
       let m = checkpoint keys s n d in
-      let said = moves.say s.f s.me s.low s.log sent m kept (record { free = p2.0; kind = refl; above = marks.0; to = marks.1; led = λ two. absurd (not_two two) })
-      (record { mine = refl; backed = λ lt. absurd (not_small lt) }) (speaks.checkpoint n d) in
+      let said = moves.say s.f s.me s.low s.log sent m kept (record { free = p2.0; kind = refl; above = marks.0; to = marks.1; led = λ two. absurd (omega (arith, two)) })
+      (record { mine = refl; backed = λ lt. absurd (omega (arith, lt)) }) (speaks.checkpoint n d) in
       record { same_f = refl; same_me = refl; kept = settled_more (with_message s m) (sent ++ m ∷ []) (header m) said marks.0 }
 
   install_goes : (keys : Keys) (s : State) (sent ms : Log) → Keeps s sent → (is_certificate keys s.f ms ≡ true → All Good ms) → install_refusal keys s ms ≡ None → Goes s sent (installed s ms)
@@ -322,27 +314,24 @@ module _ (Good : Signed Message → Type 0) (P : Fact) (moves : Moves Good P) wh
           let same : s.low ≡ max s.low (number_of ms) = omega (arith, le) in
           subst (λ (low : ℕ). P s.f s.me low s.log sent) same kept
 
-  abbrev Handed : (f : ℕ) → Signed Message → Type 0
-  Handed f m = (header m).tag ≡ 2 → (header m).sender ≡ primary f (header m).view → Good m
-
   ordering_two : (h : Header) → h.tag ≡ 2 → is_ordering h ≡ true
   ordering_two h two = rw two refl
 
-  taken_over_goes : (keys : Keys) (s : State) (sent : Log) (m : Signed Message) → Speaks Good keys s.f s.me → Keeps s sent → Handed s.f m → Goes s sent (taken_over keys s m)
+  taken_over_goes : (keys : Keys) (s : State) (sent : Log) (m : Signed Message) → Speaks Good keys s.f s.me → Keeps s sent → Handed Good s.f m → Goes s sent (taken_over keys s m)
   taken_over_goes keys s sent m speaks kept good = unless_goes s sent (handed_refusal s (header m)) (accepted keys s m) kept (λ none.
       let t = turned (eqb (header m).tag 2) WrongKind (place_refusal s (header m)) none in
       let two = eqb-true (header m).tag 2 t.0 in
       let can = placed s m (ordering_two (header m) two) t.1 in
       accepted_goes keys s sent m speaks kept can (good two (can.led two)))
 
-  all_taken_goes : (keys : Keys) (s : State) (sent ms : Log) → Speaks Good keys s.f s.me → Keeps s sent → All (Handed s.f) ms → Goes s sent (all_taken_over keys s ms)
+  all_taken_goes : (keys : Keys) (s : State) (sent ms : Log) → Speaks Good keys s.f s.me → Keeps s sent → All (Handed Good s.f) ms → Goes s sent (all_taken_over keys s ms)
   all_taken_goes keys s sent [] speaks kept good = quiet_goes s s sent refl refl kept
   all_taken_goes keys s sent (m ∷ ms) speaks kept good =
       let first = taken_over keys s m in
       let rest = all_taken_over keys first.now ms in
-      let a = taken_over_goes keys s sent m speaks kept (All-head (Handed s.f) m ms good) in
+      let a = taken_over_goes keys s sent m speaks kept (All-head (Handed Good s.f) m ms good) in
       let speaks_on = subst (λ (f : ℕ). Speaks Good keys f first.now.me) (sym a.same_f) (subst (λ (me : ℕ). Speaks Good keys s.f me) (sym a.same_me) speaks) in
-      let good_on = subst (λ (f : ℕ). All (Handed f) ms) (sym a.same_f) (All-tail (Handed s.f) m ms good) in
+      let good_on = subst (λ (f : ℕ). All (Handed Good f) ms) (sym a.same_f) (All-tail (Handed Good s.f) m ms good) in
       let b = all_taken_goes keys first.now (sent ++ first.sent) ms speaks_on a.kept good_on in
       record {
         same_f = b.same_f ∙ a.same_f;
