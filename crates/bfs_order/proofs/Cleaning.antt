@@ -28,14 +28,15 @@ use Rattle.bfs_order.proofs.KeptLogs.{same_replica}
 
 module _ (keys : Keys) (f : ℕ) where
   abbrev CleanLog : Fact
-  CleanLog g me low log sent = All (IsClean keys f) log
+  CleanLog g me view low log sent = All (IsClean keys f) log
 
   clean_move : Moves (IsClean keys f) CleanLog
   clean_move = record {
-    take = λ g me low log sent m kept can good. All-push (IsClean keys f) log m kept good;
-    say = λ g me low log sent m kept can own good. All-push (IsClean keys f) log m kept good;
-    settle = λ g me low log sent n d kept above is. All-filter (λ m. stays n d (header m)) (IsClean keys f) log kept;
-    install = λ by g me low log sent ms kept above is good.
+    take = λ g me view low log sent m kept can good. All-push (IsClean keys f) log m kept good;
+    say = λ g me view low log sent m kept can own good. All-push (IsClean keys f) log m kept good;
+    settle = λ g me view low log sent n d kept above is. All-filter (λ m. stays n d (header m)) (IsClean keys f) log kept;
+    enter = λ g me view later low log sent kept above. kept;
+    install = λ by g me view low log sent ms kept above is good.
         each_keeps (All (IsClean keys f)) (IsClean keys f) (λ l m all clean free. All-push (IsClean keys f) l m all clean) (kept_after (number_of ms) (digest_of ms) log) ms good
         (All-filter (λ m. stays (number_of ms) (digest_of ms) (header m)) (IsClean keys f) log kept);
   }

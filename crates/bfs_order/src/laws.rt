@@ -1,7 +1,7 @@
 // What holds of a replica after any calls. The bodies do nothing: what is said is the contracts.
 ghost use Rattle.bfs_order.specs.Laws.Calls.{CallsKeepTheReplica, IsAlways, IsKept};
 ghost use Rattle.bfs_order.specs.Laws.Clean.{LogsAreClean, ProperCallsKeepLogsClean};
-ghost use Rattle.bfs_order.specs.Laws.Logs.{HasCertificate, HasDistinctSlots, IsWindowed};
+ghost use Rattle.bfs_order.specs.Laws.Logs.{HasCertificate, HasDistinctSlots, HasNoLaterView, IsWindowed};
 ghost use Rattle.bfs_order.specs.Laws.Sent.{KeepsWhatItSaid, SaysOneDigest, SpeaksForItself};
 
 use bfs_auth::what_is_signed_passes;
@@ -22,6 +22,12 @@ pub fn numbers_lie_in_the_window()
 pub fn the_stable_checkpoint_has_its_certificate()
     ensures kept { IsKept HasCertificate }
     ensures always { IsAlways HasCertificate }
+{}
+
+/// No message of a log is of a later view than the one entered.
+pub fn views_are_entered()
+    ensures kept { IsKept HasNoLaterView }
+    ensures always { IsAlways HasNoLaterView }
 {}
 
 /// No call changes how many replicas there are, nor which one it is.

@@ -26,3 +26,7 @@ pub record IsCertified (f : ℕ) (log : List Header) (number : ℕ) (digest : Li
 -- the certificate of the stable checkpoint is in the log, but for number 0, which has none
 abbrev pub HasCertificate : State → Type 0
 HasCertificate s = (s.low ≡ 0) ⊎ ((digest : List ℕ) × IsCertified s.f (known s) s.low digest)
+
+-- no message of the log is of a later view than the one entered
+abbrev pub HasNoLaterView : State → Type 0
+HasNoLaterView s = All (λ h. h.view ≤ s.view) (known s)
