@@ -5,4 +5,4 @@ mod Certifying
 mod KeptLogs
 mod Cleaning
 mod Saying
-mod Views
+mod Viewing
