@@ -1,8 +1,9 @@
 -- Logs stay clean.
-use Rattle.std.proofs.Common.{◌≡◌, ℕ, ◌<◌, true, false, eqb, ltb, ◌&&◌, List, [], ◌∷◌, refl, sym, subst, arith}
+use Rattle.std.proofs.Common.{◌≡◌, ℕ, ◌<◌, true, ltb, ◌&&◌, List, [], ◌∷◌, refl, sym, subst, arith}
 use Rattle.std.specs.Prelude.{None, All}
 use Rattle.std.proofs.lemmas.Bool.{and_parts, eqb-false, ltb-true}
 use Rattle.std.proofs.lemmas.List.Elements.{All-nil, All-head, All-tail, All-push, All-filter, All-weaker}
+use Rattle.bfs_auth.specs.Authenticators.{passes, signature}
 use Rattle.bfs_auth.specs.Keys.{Keys}
 use Rattle.bfs_auth.specs.Laws.{PassesAtReplicas}
 use Rattle.bfs_auth.specs.declared.principals.Principal.TheVariants.{Replica}
@@ -14,30 +15,28 @@ use Rattle.bfs_messages.specs.Passing.{batch_passes}
 use Rattle.bfs_messages.specs.declared.signed.Signed.{Signed}
 use Rattle.bfs_messages.specs.declared.message.Message.{Message}
 use Rattle.bfs_messages.specs.declared.message.Message.TheVariants.{Request, PrePrepare, Prepare, Commit, Checkpoint, ViewChange, NewView, Reply}
-use Rattle.bfs_order.specs.Replica.Authentic.{is_signed, carried_are_signed, signed_by}
+use Rattle.bfs_order.specs.Replica.Authentic.{is_signed, carried_are_signed}
 use Rattle.bfs_order.specs.Replica.Installing.{number_of, digest_of, is_certificate}
-use Rattle.bfs_order.specs.Replica.Proposing.{proposal_refusal, proposal, next_number, batch_digest}
+use Rattle.bfs_order.specs.Replica.Proposing.{proposal_refusal, proposal}
 use Rattle.bfs_order.specs.Replica.Refusals.{refusal}
 use Rattle.bfs_order.specs.Replica.States.{State, fresh}
 use Rattle.bfs_order.specs.Laws.Calls.{Call, Takes, Proposes, Executes, Checkpoints, Installs, Leaves, Enters, outcome, after}
 use Rattle.bfs_order.specs.Laws.Clean.{IsClean, IsAllSigned, IsProper, own_keys, HasCleanLog, ProperCallsKeepLogsClean, LogsAreClean}
-use Rattle.bfs_order.proofs.Moving.{Fact, Moves, Speaks, Fits, call_goes, placed, unrefused, only_backups, leading}
+use Rattle.bfs_order.proofs.Moving.{Fact, Moves, Speaks, Handed, Fits, call_goes, placed, unrefused, only_backups, leading}
 use Rattle.bfs_order.proofs.Certifying.{IsVoucher, vouched, each_keeps}
 use Rattle.bfs_order.proofs.KeptLogs.{same_replica}
 
-differ : (a b : ℕ) (A : Type 0) → eqb a b ≡ false → a ≡ b → A
-differ a b A e same = absurd (eqb-false a b e same)
-
 module _ (keys : Keys) (f : ℕ) where
   abbrev CleanLog : Fact
-  CleanLog g me low log sent = All (IsClean keys f) log
+  CleanLog g me view low log sent = All (IsClean keys f) log
 
   clean_move : Moves (IsClean keys f) CleanLog
   clean_move = record {
-    take = λ g me low log sent m kept can good. All-push (IsClean keys f) log m kept good;
-    say = λ g me low log sent m kept can own good. All-push (IsClean keys f) log m kept good;
-    settle = λ g me low log sent n d kept above is. All-filter (λ m. stays n d (header m)) (IsClean keys f) log kept;
-    install = λ by g me low log sent ms kept above is good.
+    take = λ g me view low log sent m kept can good. All-push (IsClean keys f) log m kept good;
+    say = λ g me view low log sent m kept can own good. All-push (IsClean keys f) log m kept good;
+    settle = λ g me view low log sent n d kept above is. All-filter (λ m. stays n d (header m)) (IsClean keys f) log kept;
+    enter = λ g me view later low log sent kept above. kept;
+    install = λ by g me view low log sent ms kept above is good.
         each_keeps (All (IsClean keys f)) (IsClean keys f) (λ l m all clean free. All-push (IsClean keys f) l m all clean) (kept_after (number_of ms) (digest_of ms) log) ms good
         (All-filter (λ m. stays (number_of ms) (digest_of ms) (header m)) (IsClean keys f) log kept);
   }
@@ -88,28 +87,35 @@ clean_taken keys s m none =
       backup = only_backups s (header m) free.2;
     }
 
-module _ (passes_at : PassesAtReplicas) (secret : List ℕ) (clients f me : ℕ) (there : me < replicas f) where
+module _ (passes_at : PassesAtReplicas) (secret : List ℕ) (clients : ℕ) (s : State) (there : s.me < replicas s.f) where
   abbrev mine : Keys
-  mine = own_keys secret clients f me
+  mine = own_keys secret clients s.f s.me
 
-  speaks_clean : Speaks (IsClean mine f) mine f me
+  abbrev Clean : Signed Message → Type 0
+  Clean = IsClean mine s.f
+
+  -- what it signs passes at itself
+  own_passes : (text : List ℕ) → passes mine (Replica s.me) text (signature mine text) ≡ true
+  own_passes text = passes_at secret (Replica s.me) s.me (replicas s.f) clients text there there
+
+  speaks_clean : Speaks Clean mine s.f s.me
   speaks_clean = record {
     prepare = λ v n d other. record {
-      signed = passes_at secret (Replica me) me (replicas f) clients _ there there;
+      signed = own_passes _;
       sender = there;
       carried = refl;
       led = λ two. absurd (omega (arith, two));
-      backup = λ three same. absurd (eqb-false me (primary f v) other same);
+      backup = λ three same. absurd (eqb-false s.me (primary s.f v) other same);
     };
     commit = λ v n d. record {
-      signed = passes_at secret (Replica me) me (replicas f) clients _ there there;
+      signed = own_passes _;
       sender = there;
       carried = refl;
       led = λ two. absurd (omega (arith, two));
       backup = λ three same. absurd (omega (arith, three));
     };
     checkpoint = λ n d. record {
-      signed = passes_at secret (Replica me) me (replicas f) clients _ there there;
+      signed = own_passes _;
       sender = there;
       carried = refl;
       led = λ two. absurd (omega (arith, two));
@@ -117,47 +123,32 @@ module _ (passes_at : PassesAtReplicas) (secret : List ℕ) (clients f me : ℕ)
     };
   }
 
-  clean_proposal : (s : State) (batch : Batch) → s.f ≡ f → s.me ≡ me → batch_passes mine batch ≡ true → proposal_refusal s ≡ None → IsClean mine f (proposal mine s batch)
-  clean_proposal s batch same_f same_me pass none = record {
-    signed = subst (λ (k : ℕ). is_signed mine (by k) ≡ true) (sym same_me) (passes_at secret (Replica me) me (replicas f) clients _ there there);
-    sender = omega (arith, there, same_me);
+  clean_proposal : (batch : Batch) → batch_passes mine batch ≡ true → proposal_refusal s ≡ None → Clean (proposal mine s batch)
+  clean_proposal batch pass none = record {
+    signed = own_passes _;
+    sender = there;
     carried = pass;
-    led = λ _. subst (λ (g : ℕ). s.me ≡ primary g s.view) same_f (leading s none);
+    led = λ two. leading s none;
     backup = λ three same. absurd (omega (arith, three));
   }
-    where
-      by : ℕ → Signed Message
-      by k = signed_by mine (PrePrepare (record { vote = record { sender = k; view = s.view; number = next_number s; digest = batch_digest batch }; batch = batch }))
 
--- in a state of that replica
-fits : (passes_at : PassesAtReplicas) (secret : List ℕ) (clients : ℕ) (s : State) (call : Call) → s.me < replicas s.f → IsProper (own_keys secret clients s.f s.me) call
-    → Fits (IsClean (own_keys secret clients s.f s.me) s.f) s call
-fits passes_at secret clients s call there proper = go call proper
-  where
-    speaks : Speaks (IsClean (own_keys secret clients s.f s.me) s.f) (own_keys secret clients s.f s.me) s.f s.me
-    speaks = speaks_clean passes_at secret clients s.f s.me there
+  with_keys : (call : Keys → Call) (by : Keys) → by ≡ mine → Fits Clean s (call mine) → Fits Clean s (call by)
+  with_keys call by same fits = subst (λ (k : Keys). Fits Clean s (call k)) (sym same) fits
 
-    with_keys : (call : Keys → Call) (by : Keys) → by ≡ own_keys secret clients s.f s.me → Fits (IsClean (own_keys secret clients s.f s.me) s.f) s (call (own_keys secret clients s.f s.me))
-        → Fits (IsClean (own_keys secret clients s.f s.me) s.f) s (call by)
-    with_keys call by same holds = subst (λ (k : Keys). Fits (IsClean (own_keys secret clients s.f s.me) s.f) s (call k)) (sym same) holds
-
-    go : (call : Call) → IsProper (own_keys secret clients s.f s.me) call → Fits (IsClean (own_keys secret clients s.f s.me) s.f) s call
-    go (Takes by m) same = with_keys (λ k. Takes k m) by same (clean_taken (own_keys secret clients s.f s.me) s m, speaks)
-    go (Proposes by batch) same = with_keys (λ k. Proposes k batch) by same.0 (clean_proposal passes_at secret clients s.f s.me there s batch refl refl same.1, speaks)
-    go Executes same = tt
-    go (Checkpoints by n d) same = with_keys (λ k. Checkpoints k n d) by same speaks
-    go (Installs by ms) same = with_keys (λ k. Installs k ms) by same (clean_certificate (own_keys secret clients s.f s.me) s.f ms)
-    go (Leaves v) same = tt
-    go (Enters by v n ms) same = with_keys (λ k. Enters k v n ms) by same.0 (
-      All-weaker (IsAllSigned (own_keys secret clients s.f s.me)) (λ m. (header m).tag ≡ 2 → (header m).sender ≡ primary s.f (header m).view → IsClean (own_keys secret clients s.f s.me) s.f m)
-          (λ m is. clean_handed (own_keys secret clients s.f s.me) s.f m is) ms same.1,
-      speaks,
-    )
+  proper_fits : (call : Call) → IsProper mine call → Fits Clean s call
+  proper_fits (Takes by m) proper = with_keys (λ k. Takes k m) by proper (clean_taken mine s m, speaks_clean)
+  proper_fits (Proposes by batch) proper = with_keys (λ k. Proposes k batch) by proper.0 (clean_proposal batch proper.1, speaks_clean)
+  proper_fits Executes proper = tt
+  proper_fits (Checkpoints by n d) proper = with_keys (λ k. Checkpoints k n d) by proper speaks_clean
+  proper_fits (Installs by ms) proper = with_keys (λ k. Installs k ms) by proper (clean_certificate mine s.f ms)
+  proper_fits (Leaves v) proper = tt
+  proper_fits (Enters by v n ms) proper = with_keys (λ k. Enters k v n ms) by proper.0
+      (All-weaker (IsAllSigned mine) (Handed Clean s.f) (λ m is. clean_handed mine s.f m is) ms proper.1, speaks_clean)
 
 pub clean_kept : PassesAtReplicas → ProperCallsKeepLogsClean
 clean_kept passes_at secret clients s call there proper clean =
     let keys = own_keys secret clients s.f s.me in
-    let goes = call_goes (IsClean keys s.f) (CleanLog keys s.f) (clean_move keys s.f) s [] call clean (fits passes_at secret clients s call there proper) in
+    let goes = call_goes (IsClean keys s.f) (CleanLog keys s.f) (clean_move keys s.f) s [] call clean (proper_fits passes_at secret clients s there call proper) in
     subst (λ (f : ℕ). All (IsClean (own_keys secret clients f (outcome s call).now.me) f) (outcome s call).now.log) (sym goes.same_f)
     (subst (λ (me : ℕ). All (IsClean (own_keys secret clients s.f me) s.f) (outcome s call).now.log) (sym goes.same_me) goes.kept)
 

@@ -17,7 +17,7 @@ use Rattle.bfs_order.specs.Replica.Installing.{number_of, digest_of, has_sender,
 use Rattle.bfs_order.specs.Replica.Refusals.{is_ordering}
 use Rattle.bfs_order.specs.Replica.States.{State, fresh}
 use Rattle.bfs_order.specs.Laws.Calls.{Call, Takes, Proposes, Executes, Checkpoints, Installs, Leaves, Enters, outcome, after, CallsKeepTheReplica, IsKept, IsAlways}
-use Rattle.bfs_order.specs.Laws.Logs.{HasSlots, IsInWindow, IsWindowed, IsCertified, HasCertificate}
+use Rattle.bfs_order.specs.Laws.Logs.{HasDistinctSlots, IsInWindow, IsWindowed, IsCertified, HasCertificate}
 use Rattle.bfs_order.proofs.Telling.{says_is, is_said, slot_is, told_left, told_right, is_one, found_kept}
 use Rattle.bfs_order.proofs.Moving.{Fact, Moves, Speaks, Fits, CanTake, call_goes}
 use Rattle.bfs_order.proofs.Certifying.{IsVoucher, Vouched, vouched, each_keeps, more, senders_counted}
@@ -44,11 +44,12 @@ fits_anything s (Enters keys v n ms) = (λ k d lt two led. tt, speaks_anything k
 
 pub same_replica : CallsKeepTheReplica
 same_replica s call =
-    let goes = call_goes Anything (λ f me low log sent. Unit {0}) (record {
-      take = λ f me low log sent m kept can good. tt;
-      say = λ f me low log sent m kept can own good. tt;
-      settle = λ f me low log sent n d kept above is. tt;
-      install = λ keys f me low log sent ms kept above is good. tt;
+    let goes = call_goes Anything (λ f me view low log sent. Unit {0}) (record {
+      take = λ f me view low log sent m kept can good. tt;
+      say = λ f me view low log sent m kept can own good. tt;
+      settle = λ f me view low log sent n d kept above is. tt;
+      enter = λ f me view later low log sent kept above. tt;
+      install = λ keys f me view low log sent ms kept above is good. tt;
     }) s [] call tt (fits_anything s call) in
     (goes.same_f, goes.same_me)
 
@@ -61,10 +62,10 @@ always P kept f me calls = after_calls P kept.1 (fresh f me) calls (kept.0 f me)
 
 -- Headers of a log --------------------------------------------------------------------------------------------------------
 
-all_more : (P : Header → Type 0) (log : Log) (m : Signed Message) → All P (headers log) → P (header m) → All P (headers (log ++ m ∷ []))
+pub all_more : (P : Header → Type 0) (log : Log) (m : Signed Message) → All P (headers log) → P (header m) → All P (headers (log ++ m ∷ []))
 all_more P log m all one = All-same P (headers (log ++ m ∷ [])) (headers log ++ header m ∷ []) (map-append header log (m ∷ [])) (All-push P (headers log) (header m) all one)
 
-all_kept : (P Q : Header → Type 0) (keep : Header → Bool) → ((h : Header) → keep h ≡ true → P h → Q h) → (log : Log) → All P (headers log) → All Q (headers (filter (λ m. keep (header m)) log))
+pub all_kept : (P Q : Header → Type 0) (keep : Header → Bool) → ((h : Header) → keep h ≡ true → P h → Q h) → (log : Log) → All P (headers log) → All Q (headers (filter (λ m. keep (header m)) log))
 all_kept P Q keep fits [] all = All-nil Q
 all_kept P Q keep fits (m ∷ ms) all = go (keep (header m)) refl (all_kept P Q keep fits ms (All-tail P (header m) (headers ms) all))
   where
@@ -89,31 +90,32 @@ stays_cases n d h e = go (or_cases (ltb n h.number) ((eqb h.tag 5) && ((eqb h.nu
 -- One message a slot ------------------------------------------------------------------------------------------------------
 
 abbrev Slots : Fact
-Slots f me low log sent = SlotsDiffer (headers log)
+Slots f me view low log sent = SlotsDiffer (headers log)
 
 slots_move : Moves Anything Slots
 slots_move = record {
-  take = λ f me low log sent m kept can good. differ_pushed log m kept can.free;
-  say = λ f me low log sent m kept can own good. differ_pushed log m kept can.free;
-  settle = λ f me low log sent n d kept above is. differ_kept (stays n d) log kept;
-  install = λ keys f me low log sent ms kept above is good.
+  take = λ f me view low log sent m kept can good. differ_pushed log m kept can.free;
+  say = λ f me view low log sent m kept can own good. differ_pushed log m kept can.free;
+  settle = λ f me view low log sent n d kept above is. differ_kept (stays n d) log kept;
+  enter = λ f me view later low log sent kept above. kept;
+  install = λ keys f me view low log sent ms kept above is good.
       each_keeps (λ l. SlotsDiffer (headers l)) Anything (λ l m differ good free. differ_pushed l m differ free) (kept_after (number_of ms) (digest_of ms) log) ms good
       (differ_kept (stays (number_of ms) (digest_of ms)) log kept);
 }
 
-pub slots_kept : IsKept HasSlots
+pub slots_kept : IsKept HasDistinctSlots
 slots_kept = (λ f me. tt, λ s call kept. (call_goes Anything Slots slots_move s [] call kept (fits_anything s call)).kept)
 
-pub slots_always : IsAlways HasSlots
-slots_always = always HasSlots slots_kept
+pub slots_always : IsAlways HasDistinctSlots
+slots_always = always HasDistinctSlots slots_kept
 
 -- The window --------------------------------------------------------------------------------------------------------------
 
 abbrev Window : Fact
-Window f me low log sent = All (IsInWindow low) (headers log)
+Window f me view low log sent = All (IsInWindow low) (headers log)
 
-in_window : (f low : ℕ) (log : Log) (m : Signed Message) → CanTake f low log m → IsInWindow low (header m)
-in_window f low log m can = record { kind = can.kind; from = omega (arith, can.above); above = λ small. can.above; to = can.to }
+in_window : (f view low : ℕ) (log : Log) (m : Signed Message) → CanTake f view low log m → IsInWindow low (header m)
+in_window f view low log m can = record { kind = can.kind; from = omega (arith, can.above); above = λ small. can.above; to = can.to }
 
 risen : (low n : ℕ) (d : List ℕ) (h : Header) → low < n → stays n d h ≡ true → IsInWindow low h → IsInWindow n h
 risen low n d h above e is = go (stays_cases n d h e)
@@ -138,10 +140,11 @@ voucher_in keys f n d m is = record {
 
 window_move : Moves Anything Window
 window_move = record {
-  take = λ f me low log sent m kept can good. all_more (IsInWindow low) log m kept (in_window f low log m can);
-  say = λ f me low log sent m kept can own good. all_more (IsInWindow low) log m kept (in_window f low log m can);
-  settle = λ f me low log sent n d kept above is. raised low log n d above kept;
-  install = λ keys f me low log sent ms kept above is good.
+  take = λ f me view low log sent m kept can good. all_more (IsInWindow low) log m kept (in_window f view low log m can);
+  say = λ f me view low log sent m kept can own good. all_more (IsInWindow low) log m kept (in_window f view low log m can);
+  settle = λ f me view low log sent n d kept above is. raised low log n d above kept;
+  enter = λ f me view later low log sent kept above. kept;
+  install = λ keys f me view low log sent ms kept above is good.
       each_keeps (λ l. All (IsInWindow (number_of ms)) (headers l)) (IsVoucher keys f (number_of ms) (digest_of ms))
       (λ l m all is free. all_more (IsInWindow (number_of ms)) l m all (voucher_in keys f (number_of ms) (digest_of ms) m is))
       (kept_after (number_of ms) (digest_of ms) log) ms (vouched keys f ms is).each (raised low log (number_of ms) (digest_of ms) above kept);
@@ -156,7 +159,7 @@ window_always = always IsWindowed window_kept
 -- The certificate ---------------------------------------------------------------------------------------------------------
 
 abbrev Certificate : Fact
-Certificate f me low log sent = (low ≡ 0) ⊎ ((digest : List ℕ) × IsCertified f (headers log) low digest)
+Certificate f me view low log sent = (low ≡ 0) ⊎ ((digest : List ℕ) × IsCertified f (headers log) low digest)
 
 abbrev TellsOne : (n : ℕ) (d : List ℕ) → Header → Type 0
 TellsOne n d h = h.tag ≡ 5 → h.number ≡ n → h.digest ≡ d
@@ -167,9 +170,9 @@ stable_more f hs later n d tells is =
     let most = more (λ k. told hs 5 k 0 n d) (λ k. told later 5 k 0 n d) (replicas f) tells in
     le-leb (2 * f + 1) (tellers f later 5 0 n d) (omega (arith, enough, most))
 
-certificate_more : (f me low : ℕ) (log sent : Log) (m : Signed Message) → Certificate f me low log sent → low < (header m).number → Certificate f me low (log ++ m ∷ []) sent
-certificate_more f me low log sent m (inl none) above = inl none
-certificate_more f me low log sent m (inr (d, is)) above = inr (
+certificate_more : (f me view low : ℕ) (log sent : Log) (m : Signed Message) → Certificate f me view low log sent → low < (header m).number → Certificate f me view low (log ++ m ∷ []) sent
+certificate_more f me view low log sent m (inl none) above = inl none
+certificate_more f me view low log sent m (inr (d, is)) above = inr (
   d,
   record {
     stable = stable_more f (headers log) (headers (log ++ m ∷ [])) low d (λ k told_so. told_left log (m ∷ []) 5 k 0 low d told_so) is.stable;
@@ -199,7 +202,7 @@ settled_certificate f log n d is = record {
 }
 
 -- a CHECKPOINT has no view
-no_view : (m : Message) → (message_header m).tag ≡ 5 → (message_header m).view ≡ 0
+pub no_view : (m : Message) → (message_header m).tag ≡ 5 → (message_header m).view ≡ 0
 no_view (Request request) five = refl
 no_view (PrePrepare proposal) five = absurd (omega (arith, five))
 no_view (Prepare vote) five = absurd (omega (arith, five))
@@ -275,10 +278,11 @@ installed_certificate keys f log ms is =
 
 certificate_move : Moves Anything Certificate
 certificate_move = record {
-  take = λ f me low log sent m kept can good. certificate_more f me low log sent m kept can.above;
-  say = λ f me low log sent m kept can own good. certificate_more f me low log sent m kept can.above;
-  settle = λ f me low log sent n d kept above is. inr (d, settled_certificate f log n d is);
-  install = λ keys f me low log sent ms kept above is good. inr (digest_of ms, installed_certificate keys f log ms (vouched keys f ms is));
+  take = λ f me view low log sent m kept can good. certificate_more f me view low log sent m kept can.above;
+  say = λ f me view low log sent m kept can own good. certificate_more f me view low log sent m kept can.above;
+  settle = λ f me view low log sent n d kept above is. inr (d, settled_certificate f log n d is);
+  enter = λ f me view later low log sent kept above. kept;
+  install = λ keys f me view low log sent ms kept above is good. inr (digest_of ms, installed_certificate keys f log ms (vouched keys f ms is));
 }
 
 pub certificate_kept : IsKept HasCertificate

@@ -13,3 +13,4 @@ mod Senders
 mod Taking
 mod Cleaning
 mod Saying
+mod Viewing

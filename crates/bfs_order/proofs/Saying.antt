@@ -13,7 +13,7 @@ use Rattle.bfs_order.specs.Replica.States.{State, fresh}
 use Rattle.bfs_order.specs.Laws.Calls.{Call, outcome, after, sent_by, IsSameReplica}
 use Rattle.bfs_order.specs.Laws.Sent.{SpeaksForItself, SaysOneDigest, KeepsWhatItSaid}
 use Rattle.bfs_order.proofs.Telling.{says_is, told_cases, told_left, told_right, one_is, slot_not_told, found_kept}
-use Rattle.bfs_order.proofs.Moving.{Moves, CanTake, IsOwn, call_goes}
+use Rattle.bfs_order.proofs.Moving.{Fact, Moves, CanTake, IsOwn, call_goes}
 use Rattle.bfs_order.proofs.Certifying.{each_keeps}
 use Rattle.bfs_order.proofs.KeptLogs.{Anything, fits_anything, same_replica}
 
@@ -85,8 +85,8 @@ free_said f me low sent log m said free = record {
 }
 
 -- one of its own
-say_said : (f me low : ℕ) (log sent : Log) (m : Signed Message) → Said f me low log sent → CanTake f low log m → IsOwn f me log m → Said f me low (log ++ m ∷ []) (sent ++ m ∷ [])
-say_said f me low log sent m said can own = record {
+say_said : (f me view low : ℕ) (log sent : Log) (m : Signed Message) → Said f me low log sent → CanTake f view low log m → IsOwn f me log m → Said f me low (log ++ m ∷ []) (sent ++ m ∷ [])
+say_said f me view low log sent m said can own = record {
   slots = slots;
   names = λ t k v n d x. name t k v n d (told_cases sent (m ∷ []) t k v n d x);
   present = λ t k v n d lt x. here t k v n d lt (told_cases sent (m ∷ []) t k v n d x);
@@ -139,12 +139,16 @@ raise_said f me low log sent number digest said rises = record {
   one = said.one;
 }
 
-said_move : Moves Anything Said
+abbrev SaidSo : Fact
+SaidSo f me view low log sent = Said f me low log sent
+
+said_move : Moves Anything SaidSo
 said_move = record {
-  take = λ f me low log sent m said can good. free_said f me low sent log m said can.free;
-  say = λ f me low log sent m said can own good. say_said f me low log sent m said can own;
-  settle = λ f me low log sent n d said above is. raise_said f me low log sent n d said above;
-  install = λ keys f me low log sent ms said above is good.
+  take = λ f me view low log sent m said can good. free_said f me low sent log m said can.free;
+  say = λ f me view low log sent m said can own good. say_said f me view low log sent m said can own;
+  settle = λ f me view low log sent n d said above is. raise_said f me low log sent n d said above;
+  enter = λ f me view later low log sent kept above. kept;
+  install = λ keys f me view low log sent ms said above is good.
       each_keeps (λ l. Said f me (number_of ms) l sent) Anything (λ l m kept any free. free_said f me (number_of ms) sent l m kept free) (kept_after (number_of ms) (digest_of ms) log) ms good
       (raise_said f me low log sent (number_of ms) (digest_of ms) said above);
 }
@@ -156,7 +160,7 @@ said_after : (s : State) (sent : Log) (calls : List Call) → SaidIn s sent → 
 said_after s sent [] said = subst (λ (l : Log). SaidIn s l) (sym (append-nil sent)) said
 said_after s sent (call ∷ calls) said =
     let o = outcome s call in
-    let goes = call_goes Anything Said said_move s sent call said (fits_anything s call) in
+    let goes = call_goes Anything SaidSo said_move s sent call said (fits_anything s call) in
     subst (λ (l : Log). SaidIn (after o.now calls) l) (append_assoc sent o.sent (sent_by o.now calls)) (said_after o.now (sent ++ o.sent) calls goes.kept)
 
 begins : (f me : ℕ) (calls : List Call) → SaidIn (after (fresh f me) calls) (sent_by (fresh f me) calls)

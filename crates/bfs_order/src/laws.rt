@@ -1,15 +1,15 @@
 // What holds of a replica after any calls. The bodies do nothing: what is said is the contracts.
 ghost use Rattle.bfs_order.specs.Laws.Calls.{CallsKeepTheReplica, IsAlways, IsKept};
 ghost use Rattle.bfs_order.specs.Laws.Clean.{LogsAreClean, ProperCallsKeepLogsClean};
-ghost use Rattle.bfs_order.specs.Laws.Logs.{HasCertificate, HasSlots, IsWindowed};
+ghost use Rattle.bfs_order.specs.Laws.Logs.{HasCertificate, HasDistinctSlots, HasNoLaterView, IsWindowed};
 ghost use Rattle.bfs_order.specs.Laws.Sent.{KeepsWhatItSaid, SaysOneDigest, SpeaksForItself};
 
 use bfs_auth::what_is_signed_passes;
 
 /// No two messages of a log have one kind, sender, view and number.
 pub fn slots_differ()
-    ensures kept { IsKept HasSlots }
-    ensures always { IsAlways HasSlots }
+    ensures kept { IsKept HasDistinctSlots }
+    ensures always { IsAlways HasDistinctSlots }
 {}
 
 /// The messages of a log are PRE-PREPAREs, PREPAREs and COMMITs above the low mark, and CHECKPOINTs not below it, of numbers up to the high mark.
@@ -22,6 +22,12 @@ pub fn numbers_lie_in_the_window()
 pub fn the_stable_checkpoint_has_its_certificate()
     ensures kept { IsKept HasCertificate }
     ensures always { IsAlways HasCertificate }
+{}
+
+/// No message of a log is of a later view than the one entered.
+pub fn views_are_entered()
+    ensures kept { IsKept HasNoLaterView }
+    ensures always { IsAlways HasNoLaterView }
 {}
 
 /// No call changes how many replicas there are, nor which one it is.

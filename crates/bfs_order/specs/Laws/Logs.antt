@@ -5,8 +5,8 @@ use Rattle.bfs_order.specs.Replica.Refusals.{window, is_ordering}
 use Rattle.bfs_order.specs.Replica.States.{State, known}
 
 -- no two messages of the log have one kind, sender, view and number
-abbrev pub HasSlots : State → Type 0
-HasSlots s = SlotsDiffer (known s)
+abbrev pub HasDistinctSlots : State → Type 0
+HasDistinctSlots s = SlotsDiffer (known s)
 
 -- a PRE-PREPARE, PREPARE or COMMIT above the low mark or a CHECKPOINT not below it, and not above the high mark
 pub record IsInWindow (low : ℕ) (h : Header) : Type 0 where
@@ -26,3 +26,7 @@ pub record IsCertified (f : ℕ) (log : List Header) (number : ℕ) (digest : Li
 -- the certificate of the stable checkpoint is in the log, but for number 0, which has none
 abbrev pub HasCertificate : State → Type 0
 HasCertificate s = (s.low ≡ 0) ⊎ ((digest : List ℕ) × IsCertified s.f (known s) s.low digest)
+
+-- no message of the log is of a later view than the one entered
+abbrev pub HasNoLaterView : State → Type 0
+HasNoLaterView s = All (λ h. h.view ≤ s.view) (known s)
