@@ -26,8 +26,7 @@ fn does_vouch(keys: &Keys, f: u32, number: u64, digest: &[u8], signed: &Signed<M
     let header = header_of(&signed.message);
     header.tag == 5
         && (header.number == number
-            && (header.digest == digest
-                && (header.sender < 3 * f + 1 && is_signed(keys, signed))))
+            && (header.digest == digest && (header.sender < 3 * f + 1 && is_signed(keys, signed))))
 }
 
 fn all_vouch(
@@ -60,7 +59,6 @@ fn is_sender(messages: &[Signed<Message>], sender: u32) -> bool
 }
 
 // From the back, where a sender that comes again is found among the last few, however many there are.
-#[tactic(auto, using(crate::proofs::Certificates::differ_behind))]
 fn do_senders_differ(messages: &[Signed<Message>]) -> bool
     ensures { result ≡ senders_differ messages.now }
 {
@@ -144,11 +142,7 @@ fn add_new(alloc: Global, log: &mut Log, signed: &Signed<Message>) -> Result<(),
 }
 
 // What the log is once a certificate is in it: what stands up to the checkpoint is dropped.
-fn certified(
-    alloc: Global,
-    log: &Log,
-    certificate: &[Signed<Message>],
-) -> Result<Log, Memory>
+fn certified(alloc: Global, log: &Log, certificate: &[Signed<Message>]) -> Result<Log, Memory>
     requires { are_from_few certificate.now ≡ true }
     ensures { IfOk result (λ made. made ≡ certified log.now certificate.now) }
 {
