@@ -18,7 +18,7 @@ use Rattle.bfs_log.proofs.Counts.{tellers_counted, same_count}
 abbrev pub slot_place : (tag view number : ℕ) → Place
 slot_place tag view number = record { number = number; view = view; tag = tag }
 
-abbrev rows_of : Log → List Said
+abbrev pub rows_of : Log → List Said
 rows_of log = map (λ m. said_in m.message) log
 
 same_parts : (a b c x y z : ℕ) → a ≡ x → b ≡ y → c ≡ z → slot_place a b c ≡ slot_place x y z
@@ -31,7 +31,7 @@ one_place p q same =
     same_parts p.tag p.view p.number q.tag q.view q.number (eqb-true p.tag q.tag rest.1) (eqb-true p.view q.view rest.0) (eqb-true p.number q.number parts.0)
 
 -- the slot of a message is its place and its sender
-in_slot : (tag sender view number : ℕ) (h : Header) → is_slot tag sender view number h ≡ (is_at (slot_place tag view number) h && (h.sender == sender))
+pub in_slot : (tag sender view number : ℕ) (h : Header) → is_slot tag sender view number h ≡ (is_at (slot_place tag view number) h && (h.sender == sender))
 in_slot tag sender view number h = reorder (h.tag == tag) (h.sender == sender) (h.view == view) (h.number == number)
   where
     reorder : (t s v n : Bool) → (t && (s && (v && n))) ≡ ((n && (v && t)) && s)

@@ -1,5 +1,6 @@
 mod Counts
 mod Slots
 mod Indexes
+mod Found
 mod Maps
 mod Keeping

@@ -2,5 +2,6 @@
 pub mod Batches
 pub mod Headers
 pub mod Logs
+pub mod Digests
 pub mod Places
 pub mod Rows

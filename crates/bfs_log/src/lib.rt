@@ -4,6 +4,7 @@
 mod asking;
 mod committed;
 mod counting;
+mod digests;
 mod headers;
 mod logs;
 mod places;
