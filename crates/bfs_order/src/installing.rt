@@ -1,5 +1,5 @@
 // The certificate of a checkpoint is installed.
-ghost use Rattle.std.specs.Prelude.{◌≡◌, ◌≢◌, ◌<◌, ◌≤◌, ◌==◌, ◌^◌, true, All, None, Some, IfOk, IfErr, IfNone, OnOk, OnErr};
+ghost use Rattle.std.specs.Prelude.{◌≡◌, ◌≢◌, ◌<◌, ◌≤◌, ◌+◌, ◌==◌, ◌^◌, ◌&&◌, not, true, length, drop, All, None, Some, IfOk, IfErr, IfNone, OnOk, OnErr};
 ghost use Rattle.std.specs.List.{list_all};
 ghost use Rattle.bfs_model.specs.Server.Limits.{most_replicas};
 ghost use Rattle.bfs_agreement.specs.Votes.{SlotsDiffer};
@@ -58,6 +58,15 @@ fn is_sender(messages: &[Signed<Message>], sender: u32) -> bool
     )
 }
 
+// Whether the sender of a message sends a later one too.
+fn comes_again(messages: &[Signed<Message>], at: usize) -> bool
+    requires { at < length messages.now }
+    ensures { senders_differ (drop at messages.now) ≡ (not result && senders_differ (drop (at + 1) messages.now)) }
+{
+    let sender = header_of(&messages[at].message).sender;
+    is_sender(&messages[at + 1..], sender)
+}
+
 // From the back, where a sender that comes again is found among the last few, however many there are.
 fn do_senders_differ(messages: &[Signed<Message>]) -> bool
     ensures { result ≡ senders_differ messages.now }
@@ -65,8 +74,7 @@ fn do_senders_differ(messages: &[Signed<Message>]) -> bool
     let mut first = messages.len();
     while 0 < first {
         first -= 1;
-        let sender = header_of(&messages[first].message).sender;
-        if is_sender(&messages[first + 1..], sender) {
+        if comes_again(messages, first) {
             return false;
         }
     }
