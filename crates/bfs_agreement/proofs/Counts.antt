@@ -1,5 +1,5 @@
 -- Counting numbers below a bound: two sets of 2f + 1 below 3f + 1 share one that is not among f.
-use Rattle.std.proofs.Common.{◌≡◌, ℕ, zero, suc, ◌+◌, ◌*◌, ◌<◌, ◌≤◌, Bool, true, false, ◌&&◌, not, cond, refl, arith}
+use Rattle.std.proofs.Common.{◌≡◌, ℕ, zero, suc, ◌+◌, ◌<◌, ◌≤◌, Bool, true, false, ◌&&◌, not, cond, refl, arith}
 use Rattle.std.proofs.lemmas.Bool.{and_parts, not-true}
 use Rattle.bfs_agreement.specs.Votes.{count_below, replicas}
 use Rattle.bfs_agreement.specs.Laws.{QuorumsMeet}

@@ -2,9 +2,10 @@ ghost use Rattle.std.specs.Prelude.{◌≡◌, IfOk, map};
 ghost use Rattle.bfs_auth.specs.Authenticators.{passes};
 
 use crate::authenticators::Authenticator;
-use crate::keyed_hash::hmac;
+use crate::keyed_hash::hmac_of;
 use crate::pairwise::Keys;
 use crate::principals::Principal;
+use crate::texts::Text;
 use bfs_types::Memory;
 use rayon::prelude::*;
 use std::alloc::{AllocError, Global};
@@ -24,13 +25,20 @@ pub struct Claimed {
 pub fn check(keys: &Keys, sender: Principal, text: &[u8], auth: &Authenticator) -> bool
     ensures { result ≡ passes keys.now sender text.now auth.now }
 {
+    check_text(keys, sender, &text, auth)
+}
+
+/// What `check` answers of a text that is fed to it in pieces.
+pub fn check_text<T: Text>(keys: &Keys, sender: Principal, text: &T, auth: &Authenticator) -> bool
+    ensures { result ≡ passes keys.now sender (T.text text.now) auth.now }
+{
     let Some(shared) = keys.shared_with(sender) else {
         return false;
     };
     let Some(entry) = auth.entry_for(keys.me()) else {
         return false;
     };
-    hmac(&shared.receiving, text).as_slice() == entry.as_slice()
+    hmac_of(&shared.receiving, text).as_slice() == entry.as_slice()
 }
 
 /// What `check` answers of each, in their order, from as many threads as there are processors, unless there is too little to hash for them.
@@ -56,7 +64,7 @@ fn checked(
 {
     items
         .par_iter()
-        .with_min_len(least_items(items))
+        .with_min_len(least_texts(mean_length(items)))
         .map(
             |item: &Claimed| -> bool
                 ensures { result ≡ passes keys.entry.now item.now.sender item.now.text.items item.now.auth }
@@ -71,14 +79,18 @@ const LEAST_BYTES: usize = 8_192;
 // What is hashed of an item beside its text: keys, the inner hash, and padding.
 const BYTES_BESIDE: usize = 256;
 
-// how many items a thread has at least, by the mean length of their texts
-fn least_items(items: &[Claimed]) -> usize {
+/// How many texts of that mean length a thread is to hash at least, so that they pay for its start.
+pub fn least_texts(mean_length: usize) -> usize {
+    LEAST_BYTES / mean_length.saturating_add(BYTES_BESIDE) + 1
+}
+
+fn mean_length(items: &[Claimed]) -> usize {
     let mut bytes = 0usize;
     for item in items {
         bytes = bytes.saturating_add(item.text.len());
     }
     match items.len() {
-        0 => 1,
-        count => LEAST_BYTES / (bytes / count).saturating_add(BYTES_BESIDE) + 1,
+        0 => 0,
+        count => bytes / count,
     }
 }

@@ -2,8 +2,9 @@ ghost use Rattle.std.specs.Prelude.{◌≡◌, ◌<◌, [], ◌∷◌, length, S
 ghost use Rattle.bfs_auth.specs.Authenticators.{signature, signature_for_client};
 
 use crate::authenticators::Authenticator;
-use crate::keyed_hash::hmac;
+use crate::keyed_hash::hmac_of;
 use crate::pairwise::Keys;
+use crate::texts::Text;
 use bfs_types::Memory;
 use std::alloc::Global;
 
@@ -11,9 +12,16 @@ use std::alloc::Global;
 pub fn sign(alloc: Global, keys: &Keys, text: &[u8]) -> Result<Authenticator, Memory>
     ensures { IfOk result (λ auth. auth ≡ signature keys.now text.now) }
 {
+    sign_text(alloc, keys, &text)
+}
+
+/// The authenticator that `sign` gives of a text that is fed to it in pieces.
+pub fn sign_text<T: Text>(alloc: Global, keys: &Keys, text: &T) -> Result<Authenticator, Memory>
+    ensures { IfOk result (λ auth. auth ≡ signature keys.now (T.text text.now)) }
+{
     let mut auth = Authenticator::new(alloc);
     for shared in keys.shared_with_each_replica() {
-        auth.push(hmac(&shared.sending, text))?;
+        auth.push(hmac_of(&shared.sending, text))?;
     }
     Ok(auth)
 }
@@ -28,7 +36,20 @@ pub fn sign_for_client(
     requires { client < length keys.now.clients }
     ensures { IfOk result (λ auth. signature_for_client keys.now client text.now ≡ Some auth) }
 {
+    sign_text_for_client(alloc, keys, client, &text)
+}
+
+/// The authenticator that `sign_for_client` gives of a text that is fed to it in pieces.
+pub fn sign_text_for_client<T: Text>(
+    alloc: Global,
+    keys: &Keys,
+    client: u32,
+    text: &T,
+) -> Result<Authenticator, Memory>
+    requires { client < length keys.now.clients }
+    ensures { IfOk result (λ auth. signature_for_client keys.now client (T.text text.now) ≡ Some auth) }
+{
     let mut auth = Authenticator::new(alloc);
-    auth.push(hmac(&keys.shared_with_client(client).sending, text))?;
+    auth.push(hmac_of(&keys.shared_with_client(client).sending, text))?;
     Ok(auth)
 }

@@ -7,7 +7,8 @@ use Rattle.std.proofs.lemmas.Cmp.{nat_cmp_total}
 use Rattle.std.proofs.lemmas.Map.Views.{tells_apart}
 use Rattle.bfs_model.specs.Server.Tree.{Inode, Inodes, root_id}
 use Rattle.bfs_model.specs.Server.WellFormed.{IsLimited}
-use Rattle.bfs_inode.specs.Records.{Reading, record_from}
+use Rattle.bfs_model.specs.Bytes.Formats.{Reading}
+use Rattle.bfs_inode.specs.Records.{record_from}
 use Rattle.bfs_digest.specs.Inside.TextReading.{records_from}
 use Rattle.bfs_digest.proofs.Rising.{ReadsRising, First, first_of, records_rise}
 use Rattle.bfs_model.proofs.Public.{some_is}

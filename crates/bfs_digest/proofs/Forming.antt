@@ -9,7 +9,7 @@ use Rattle.bfs_model.specs.Server.Limits.{most_links}
 use Rattle.bfs_model.specs.Server.Tree.{Entry, Body, file, directory, link, Inode, Inodes, root_id, first_ordinal, spent_ordinal, entries_in, parent_in}
 use Rattle.bfs_model.specs.Server.WellFormed.{named, directories_among, IsRising, HasNames, NamesDiffer, BodyIsLimited, IsLimited, IsNumbered}
 use Rattle.bfs_inode.specs.Records.{EntryIsRecordable, BodyIsRecordable}
-use Rattle.bfs_tree.specs.WellFormed.{is_child}
+use Rattle.bfs_tree.specs.Inside.WellFormed.{is_child}
 use Rattle.bfs_digest.specs.Inside.Formation.{is_counted, IsCounted, may_stand, BodyIsPlaced, IsPlaced}
 use Rattle.bfs_digest.specs.Inside.Names.{Counted, most_counted, counted_at}
 use Rattle.bfs_digest.specs.Inside.Outlines.{mark_of, is_named_so, is_named}

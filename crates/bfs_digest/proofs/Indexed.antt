@@ -7,7 +7,7 @@ use Rattle.std.specs.FinMap.{get, entries}
 use Rattle.std.proofs.lemmas.Bool.{and_parts, and_from}
 use Rattle.bfs_model.specs.Server.Tree.{Listing, Body, file, directory, link, Inode, Inodes, root_id, is_directory_body, is_directory, entries_in, entries_at, parent_of}
 use Rattle.bfs_model.specs.Server.WellFormed.{times, named, directories_among, IsTree, IsWellFormedTree, ReachesRoot}
-use Rattle.bfs_tree.specs.WellFormed.{is_child}
+use Rattle.bfs_tree.specs.Inside.WellFormed.{is_child}
 use Rattle.bfs_digest.specs.Inside.Formation.{is_directory_counted, is_counted, IsCounted, LeadsToRoot}
 use Rattle.bfs_tree.proofs.Public.{all_of_each, children_of, each_of_all, in_parent, named_of_all, root_unnamed, there_at}
 

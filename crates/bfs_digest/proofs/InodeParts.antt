@@ -4,7 +4,8 @@ use Rattle.bfs_model.specs.Server.Limits.{most_entries, most_links}
 use Rattle.bfs_model.specs.Server.Tree.{Entry, Listing, Body, directory, Inode, first_ordinal}
 use Rattle.bfs_model.specs.Server.WellFormed.{BodyIsLimited, IsLimited, HasNames, NamesDiffer}
 use Rattle.bfs_inode.specs.Directories.{AreEntries}
-use Rattle.bfs_inode.specs.Records.{Head, word_from, entries_from, listing_from, directory_from, body_from, head_from, with_body, record_from}
+use Rattle.bfs_model.specs.Bytes.Formats.{word_from}
+use Rattle.bfs_inode.specs.Records.{Head, entries_from, listing_from, directory_from, body_from, head_from, with_body, record_from}
 use Rattle.bfs_digest.specs.Inside.Taking.{BodyMayBe}
 use Rattle.bfs_model.proofs.Public.{some_is, chosen}
 use Rattle.bfs_digest.proofs.Tests.{refused_not}

@@ -8,7 +8,7 @@ use Rattle.std.specs.List.{list_all}
 use Rattle.std.proofs.lemmas.Cmp.{nat_cmp_total}
 use Rattle.bfs_model.specs.Server.Tree.{Entry, Body, file, directory, link, Inode, Inodes, root_id, is_directory_body, is_directory, parent_in, parent_at, parent_of}
 use Rattle.bfs_model.specs.Server.WellFormed.{directories_among, ReachesRoot, at_root, step}
-use Rattle.bfs_tree.specs.WellFormed.{may_name, is_child}
+use Rattle.bfs_tree.specs.Inside.WellFormed.{may_name, is_child}
 use Rattle.bfs_digest.specs.Inside.Outlines.{bare, bare_body, mark_of, marked, outline}
 
 -- what is left of an inode

@@ -6,7 +6,8 @@ use Rattle.std.specs.Option.{option_map}
 use Rattle.bfs_model.specs.Server.Limits.{most_links, most_path_bytes}
 use Rattle.bfs_model.specs.Server.Tree.{Entry, Listing, Body, file, directory, link, Inode, Inodes, root_id, first_ordinal, parent_in}
 use Rattle.bfs_model.specs.Server.WellFormed.{directories_among, NamesDiffer}
-use Rattle.bfs_inode.specs.Records.{Head, most_recorded_bytes, bytes_from, word_from, entries_from, listing_from, directory_from, file_from, link_from, body_from, head_from, with_body, record_from}
+use Rattle.bfs_model.specs.Bytes.Formats.{bytes_from, word_from}
+use Rattle.bfs_inode.specs.Records.{Head, most_recorded_bytes, entries_from, listing_from, directory_from, file_from, link_from, body_from, head_from, with_body, record_from}
 use Rattle.bfs_digest.specs.Inside.Formation.{may_stand, ListingIsPlaced, BodyIsPlaced, IsPlaced, Takes, TakesEntries, TellsNames, names_in, names_in_body, names_in_listing}
 use Rattle.bfs_digest.specs.Inside.Names.{Counted, most_counted, counted_at, AreWithin, Adds}
 use Rattle.bfs_model.proofs.Public.{some_is, chosen}

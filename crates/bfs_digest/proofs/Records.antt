@@ -10,7 +10,8 @@ use Rattle.bfs_model.specs.Server.Tree.{Time, Entry, Listing, Body, file, direct
 use Rattle.bfs_model.specs.Bytes.Attributes.{type_of}
 use Rattle.bfs_model.specs.Bytes.Replies.{type_number}
 use Rattle.bfs_model.specs.Server.WellFormed.{IsRising}
-use Rattle.bfs_inode.specs.Records.{Reading, Head, most_recorded_bytes, entry_text, entries_text, body_text, record_text, EntryIsRecordable, BodyIsRecordable, IsRecordable, bytes_from, time_from, entry_from, entries_from, listing_from, file_from, directory_from, link_from, body_from, head_from, with_body, record_from}
+use Rattle.bfs_model.specs.Bytes.Formats.{Reading, bytes_from}
+use Rattle.bfs_inode.specs.Records.{Head, most_recorded_bytes, entry_text, entries_text, body_text, record_text, EntryIsRecordable, BodyIsRecordable, IsRecordable, time_from, entry_from, entries_from, listing_from, file_from, directory_from, link_from, body_from, head_from, with_body, record_from}
 use Rattle.bfs_model.proofs.Public.{some_is, IsExact, word_exact, AreFew, bytes_exact, go_on, went_on, chosen}
 use Rattle.bfs_digest.proofs.Tests.{passed, refused_not, unrefused, or_parts}
 

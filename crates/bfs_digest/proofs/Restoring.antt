@@ -7,7 +7,7 @@ use Rattle.bfs_model.specs.Server.Stored.{IsWord, AreBytes, IsLive}
 use Rattle.bfs_model.specs.Server.Tree.{Inode, FileSystem, root_id}
 use Rattle.bfs_model.specs.Server.WellFormed.{IsLimited, IsWellFormed}
 use Rattle.bfs_tree.specs.Slots.{Slots}
-use Rattle.bfs_serial.specs.Held.{held}
+use Rattle.bfs_serial.specs.Parts.{file_system_of}
 use Rattle.bfs_tree.proofs.Public.{each_of_all, all_of_each}
 use Rattle.bfs_digest.specs.Text.{Header, magic, version, IsSpellable, Spells}
 use Rattle.bfs_digest.specs.Inside.TextReading.{records_from, version_from, files_with, files_from}
@@ -130,11 +130,11 @@ ill_limited header records are refused inodes rest read formed =
 
 -- the file system of the tree, the ordinal and the time
 pub built_files : (header : Header) (records : List ℕ) (tree : Slots) (inodes : List (ℕ × Inode)) (rest : List ℕ) → BuildsTree (Some tree) (records_from header.count root_id records) → records_from header.count root_id records ≡ Some (inodes, rest)
-    → held tree header.next_ordinal header.last_time ≡ files_with header inodes
+    → file_system_of tree header.next_ordinal header.last_time ≡ files_with header inodes
 built_files header records tree inodes rest built read = ap (λ m. record { tree = m; next_ordinal = header.next_ordinal; last_time = header.last_time }) (built inodes rest read).0
 
 pub held_is_live : (header : Header) (records : List ℕ) (are : AreRecords header records) (tree : Slots) → BuildsTree (Some tree) (records_from header.count root_id records) → IsWellFormed (files_with header are.inodes)
-    → IsLive (held tree header.next_ordinal header.last_time)
+    → IsLive (file_system_of tree header.next_ordinal header.last_time)
 held_is_live header records are tree built formed = subst IsLive (sym (built_files header records tree are.inodes [] built are.read)) (formed_is_live header records are formed)
 
 -- What is told of the bytes ---------------------------------------------------------------------------------------------

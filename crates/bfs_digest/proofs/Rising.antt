@@ -3,7 +3,8 @@ use Rattle.std.proofs.Common.{◌≡◌, ℕ, suc, ◌+◌, ◌<◌, ◌≤◌, 
 use Rattle.std.specs.Option.{option_map}
 use Rattle.std.proofs.lemmas.Bool.{ltb-false, le-ltb, lt-ltb}
 use Rattle.bfs_model.specs.Bytes.Call.{◌>>=◌}
-use Rattle.bfs_inode.specs.Records.{Reading, entry_from, entries_from, record_from}
+use Rattle.bfs_model.specs.Bytes.Formats.{Reading}
+use Rattle.bfs_inode.specs.Records.{entry_from, entries_from, record_from}
 use Rattle.bfs_digest.specs.Inside.TextReading.{records_from}
 use Rattle.bfs_model.proofs.Public.{some_is, chosen}
 use Rattle.bfs_digest.proofs.Tests.{refused_not}

@@ -1,7 +1,7 @@
 -- The loops that pass over items: so many are left.
 use Rattle.std.proofs.Common.{◌≡◌, ℕ, suc, ◌+◌, ◌<◌, ◌≤◌, true, List, [], Option, Some, None, refl, ap, ◌∙◌}
 use Rattle.std.specs.Option.{option_map}
-use Rattle.bfs_inode.specs.Records.{Reading}
+use Rattle.bfs_model.specs.Bytes.Formats.{Reading}
 use Rattle.bfs_digest.specs.Inside.TextReading.{is_nothing}
 use Rattle.bfs_model.proofs.Public.{some_is}
 use Rattle.bfs_digest.proofs.Texts.{nothing}

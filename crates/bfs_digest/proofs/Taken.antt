@@ -8,7 +8,7 @@ use Rattle.std.specs.FinMap.{get, empty}
 use Rattle.std.proofs.lemmas.List.{map-append}
 use Rattle.bfs_model.specs.Server.Tree.{Entry, Inode, Inodes, is_directory}
 use Rattle.bfs_model.specs.Server.WellFormed.{directories_among}
-use Rattle.bfs_inode.specs.Records.{Reading}
+use Rattle.bfs_model.specs.Bytes.Formats.{Reading}
 use Rattle.bfs_tree.proofs.Public.{all_further}
 use Rattle.bfs_digest.specs.Inside.Formation.{may_stand, IsPlaced, names_in, names_in_entries}
 use Rattle.bfs_digest.specs.Inside.Names.{Counted, most_counted, counted_at, AreWithin, Adds}

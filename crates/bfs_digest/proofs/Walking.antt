@@ -1,6 +1,6 @@
 -- The loops over what is read: what is known of the items that are left.
 use Rattle.std.proofs.Common.{◌≡◌, ℕ, suc, ◌+◌, List, [], ◌∷◌, Some, None, sym, ap, subst, ◌∙◌}
-use Rattle.bfs_inode.specs.Records.{Reading}
+use Rattle.bfs_model.specs.Bytes.Formats.{Reading}
 use Rattle.bfs_digest.proofs.Rising.{ReadsRising, First, first_of}
 use Rattle.bfs_model.proofs.Public.{some_is}
 

@@ -10,12 +10,13 @@ ghost use Rattle.bfs_digest.specs.Text.{header_text};
 ghost use Rattle.bfs_digest.specs.Digests as model;
 ghost use Rattle.bfs_digest.specs.Inside.Hashed.{hashed_at, hashed_text};
 
-use crate::hashes::{hash_word, record_digest};
+use crate::hashes::record_digest;
 use crate::headers::{Header, MAGIC, VERSION, parts_of};
 use bfs_inode::{FileId, Inode, RecordDigest};
 use bfs_serial::{ExecError, FileSystem};
 use bfs_tree::Tree;
 use bfs_types::Memory;
+use bfs_xdr::hash_u32;
 use rayon::prelude::*;
 use sha2::{Digest, Sha256};
 use std::alloc::{AllocError, Global};
@@ -102,7 +103,7 @@ fn digest_with(header: &Header, digests: &[RecordDigest]) -> [u8; 32]
     let mut hasher = Sha256::new();
     hash_header(&mut hasher, header);
     for hashed in digests {
-        hash_word(&mut hasher, hashed.id.number());
+        hash_u32(&mut hasher, hashed.id.number());
         hasher.update(&hashed.digest);
     }
     hasher.finalize()
@@ -119,19 +120,19 @@ fn hash_digests(hasher: &mut Sha256, tree: &Tree)
 fn hash_digest(hasher: &mut Sha256, id: FileId, inode: &Inode)
     ensures { (m : List ℕ) → Holds256 hasher.old m → Holds256 hasher.new (m ++ (word id ++ record_digest id inode.now)) }
 {
-    hash_word(hasher, id.number());
+    hash_u32(hasher, id.number());
     hasher.update(record_digest(id, inode));
 }
 
 fn hash_header(hasher: &mut Sha256, header: &Header)
     ensures { (m : List ℕ) → Holds256 hasher.old m → Holds256 hasher.new (m ++ header_text header.now) }
 {
-    hash_word(hasher, MAGIC);
-    hash_word(hasher, VERSION);
+    hash_u32(hasher, MAGIC);
+    hash_u32(hasher, VERSION);
     hash_double(hasher, header.next_ordinal);
-    hash_word(hasher, header.last_time.seconds());
-    hash_word(hasher, header.last_time.useconds());
-    hash_word(hasher, header.count);
+    hash_u32(hasher, header.last_time.seconds());
+    hash_u32(hasher, header.last_time.useconds());
+    hash_u32(hasher, header.count);
 }
 
 #[tactic(auto, unfolding(bfs_model::specs::Bytes::Items::hyper))]

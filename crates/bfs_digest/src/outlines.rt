@@ -3,7 +3,7 @@ ghost use Rattle.std.specs.Prelude.{◌≡◌};
 ghost use Rattle.std.specs.Option.{option_map};
 ghost use Rattle.std.specs.FinMap.{get};
 ghost use Rattle.bfs_model.specs.Server.Tree as tree;
-ghost use Rattle.bfs_tree.specs.WellFormed as place;
+ghost use Rattle.bfs_tree.specs.Inside.WellFormed as place;
 ghost use Rattle.bfs_digest.specs.Inside.Outlines.{bare, outline, MarksRise};
 
 use bfs_types::FileId;

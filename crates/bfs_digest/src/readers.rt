@@ -1,7 +1,8 @@
 // A strict reader of a text, and what is read of it without memory.
 ghost use Rattle.std.specs.Prelude.{◌≡◌, ◌≤◌, length, IfOk};
-ghost use Rattle.bfs_inode.specs.Records.{bytes_from, entry_from, head_from, time_from, word_from};
-ghost use Rattle.bfs_digest.specs.Inside.TextReading.{hyper_from, is_nothing, numbers_from, version_from};
+ghost use Rattle.bfs_model.specs.Bytes.Formats.{bytes_from, word_from, hyper_from};
+ghost use Rattle.bfs_inode.specs.Records.{entry_from, head_from, time_from};
+ghost use Rattle.bfs_digest.specs.Inside.TextReading.{is_nothing, numbers_from, version_from};
 ghost use Rattle.bfs_digest.specs.Inside.Taking.{Reads, entry_seen, head_seen};
 ghost use Rattle.bfs_types.specs.declared.limits.TheConstants.{MOST_PERMISSIONS};
 ghost use Rattle.bfs_model.specs.Server.Limits.{most_name_bytes};

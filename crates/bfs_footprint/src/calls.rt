@@ -89,7 +89,7 @@ fn ids_renamed(
     FileIds::of(from, to).with(moved).with(replaced)
 }
 
-#[tactic(auto, using(bfs_tree::specs::Knowing::knows_all))]
+#[tactic(auto, using(bfs_tree::specs::Laws::Knowing::knows_all))]
 fn directory_at(tree: &Tree, id: FileId) -> Option<&Directory>
     requires whole { IsTrue ((reach_of tree.now).whole) }
     ensures { option_copied result ≡ listing_at (get (at_home tree.now) id) }
@@ -116,7 +116,7 @@ fn id_found(tree: &Tree, dir: Option<FileId>, name: &[u8]) -> Option<FileId>
 }
 
 // whether a directory is renamed out of the directory that holds it
-#[tactic(auto, using(bfs_tree::specs::Knowing::knows_all))]
+#[tactic(auto, using(bfs_tree::specs::Laws::Knowing::knows_all))]
 fn moves_a_directory(
     tree: &Tree,
     from: Option<FileId>,

@@ -12,17 +12,17 @@ use Rattle.bfs_tree.specs.Slots.{Slots}
 use Rattle.bfs_tree.specs.Tree.{at_home, lent}
 use Rattle.bfs_handover.specs.Loans.{ids_of, loaned, put_in}
 use Rattle.bfs_handover.specs.Jobs.{IsDone}
-use Rattle.bfs_handover.specs.Splitting.{CanBeSplit, IsJobOf, Part, footprint_for}
+use Rattle.bfs_handover.specs.Splitting.{CanBeSplit, IsJobOf, PlannedPart, footprint_for}
 use Rattle.bfs_handover.specs.Merging.{all_in, reply_in}
 use Rattle.bfs_handover.specs.Laws.Carrying.{SplitRequestsAreCarriedOut, all_back, outcome_for}
 use Rattle.bfs_handover.specs.declared.job.Job.{Job}
 use Rattle.bfs_handover.specs.declared.job.Done.{Done}
-use Rattle.bfs_handover.specs.declared.results.Reply.{Reply}
+use Rattle.bfs_handover.specs.declared.results.NumberedReply.{NumberedReply}
 use Rattle.bfs_handover.proofs.LoanLemmas.{get-put_in, get_owned}
 use Rattle.bfs_handover.proofs.Homecoming.{all_brought, gone_by, job_numbers, matched, none_lent}
 use Rattle.bfs_handover.proofs.SplitLemmas.{written_is_moved}
 
-module _ (old new : Slots) (part : Part) where
+module _ (old new : Slots) (part : PlannedPart) where
   abbrev outcome : ℕ → Inodes × List ℕ
   outcome number = outcome_for (at_home old) (at_home new) part number
 
@@ -43,8 +43,8 @@ module _ (old new : Slots) (part : Part) where
 
   pub record AreBack (numbers : List ℕ) (dones : List Done) (left : Inodes) : Type 0 where
     pub home : all_in dones left ≡ all_back (at_home old) (at_home new) part numbers left
-    pub numbered : map (λ (reply : Reply). reply.number) (map reply_in dones) ≡ numbers
-    pub answers : map (λ (reply : Reply). reply.bytes.items) (map reply_in dones) ≡ map (λ number. (outcome number).1) numbers
+    pub numbered : map (λ (reply : NumberedReply). reply.number) (map reply_in dones) ≡ numbers
+    pub answers : map (λ (reply : NumberedReply). reply.bytes.items) (map reply_in dones) ≡ map (λ number. (outcome number).1) numbers
 
   pub are_back : (numbers : List ℕ) (jobs : List Job) (dones : List Done) (left : Inodes) → AllZip (IsJobOf old new part) numbers jobs → AllZip (IsDone new) jobs dones
       → AllByRecursion (CanBeSplit (at_home old) part) numbers → AreBack numbers dones left
@@ -70,8 +70,8 @@ split_requests_are_carried_out old new after part numbers jobs run dones replies
     let back = are_back old new part numbers jobs merged.order (at_home new) split.each tied (recursion_from_All (CanBeSplit m part) numbers can) in (
       record {
         home = merged.home ∙ back.home ∙ ap (λ home. all_back m home part numbers home) split.home;
-        numbered = ap (map (λ (reply : Reply). reply.number)) merged.replies_are ∙ back.numbered;
-        answers = ap (map (λ (reply : Reply). reply.bytes.items)) merged.replies_are ∙ back.answers ∙ ap (λ home. map (λ number. (outcome_for m home part number).1) numbers) split.home;
+        numbered = ap (map (λ (reply : NumberedReply). reply.number)) merged.replies_are ∙ back.numbered;
+        answers = ap (map (λ (reply : NumberedReply). reply.bytes.items)) merged.replies_are ∙ back.answers ∙ ap (λ home. map (λ number. (outcome_for m home part number).1) numbers) split.home;
       },
       none_lent after (λ q. merged.still_out q ∙ gone_by (list_any (λ (done : Done). among (ids_of done.inodes) q) merged.order) (get (lent new) q) (split.out q ∙ sym (all_brought old new part numbers jobs merged.order q split.each tied))),
     )

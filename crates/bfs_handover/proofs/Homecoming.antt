@@ -27,12 +27,12 @@ use Rattle.bfs_tree.specs.Tree.{at_home, lent, reach_of}
 use Rattle.bfs_handover.specs.Loans.{ids_of, loaned, put_in, reach_with}
 use Rattle.bfs_handover.specs.Moves.{AreDistinct}
 use Rattle.bfs_handover.specs.Jobs.{CanRun, IsDone}
-use Rattle.bfs_handover.specs.Splitting.{Part, IsJobOf, footprint_for, footprints_for}
+use Rattle.bfs_handover.specs.Splitting.{PlannedPart, IsJobOf, footprint_for, footprints_for}
 use Rattle.bfs_handover.specs.Merging.{IsOut, all_in, reply_in}
 use Rattle.bfs_handover.specs.Laws.Homecoming.{numbers_from, numbers_of, requests_of, ResultsAreOut, ResultsComeHome}
 use Rattle.bfs_handover.specs.declared.job.Job.{Job}
 use Rattle.bfs_handover.specs.declared.job.Done.{Done}
-use Rattle.bfs_handover.specs.declared.results.Reply.{Reply}
+use Rattle.bfs_handover.specs.declared.results.NumberedReply.{NumberedReply}
 use Rattle.bfs_handover.proofs.LoanLemmas.{get-put_in, get_owned}
 use Rattle.bfs_handover.proofs.MoveLemmas.{among_both}
 use Rattle.bfs_handover.proofs.SplitLemmas.{moved_written, step_after, written_is_moved}
@@ -100,7 +100,7 @@ footprint_is [] k d lt = absurd (omega arith)
 footprint_is (f ∷ fs) zero d lt = refl
 footprint_is (f ∷ fs) (suc k) d lt = footprint_is fs k d (omega arith)
 
-pub all_footprints : (part : Part) → footprints_for part (numbers_of part) ≡ part.footprints
+pub all_footprints : (part : PlannedPart) → footprints_for part (numbers_of part) ≡ part.footprints
 all_footprints part =
     let n = length part.footprints in
     let long : length (map (footprint_for part) (range_with_len part.first n)) ≡ n = length-map-range_with_len (footprint_for part) part.first n in
@@ -113,7 +113,7 @@ all_footprints part =
 
 -- Of split jobs ------------------------------------------------------------------------------------------------------------
 
-module _ (old new : Slots) (part : Part) where
+module _ (old new : Slots) (part : PlannedPart) where
   pub job_numbers : (numbers : List ℕ) (jobs : List Job) → AllZip (IsJobOf old new part) numbers jobs → map (λ (job : Job). job.number) jobs ≡ numbers
   job_numbers [] [] all = refl
   job_numbers [] (job ∷ jobs) all = absurd all
@@ -139,7 +139,7 @@ abbrev number_in : List Job → ℕ → ℕ
 number_in [] id = 0
 number_in (job ∷ jobs) id = cond (among (ids_of job.inodes) id) job.number (number_in jobs id)
 
-module _ (old new : Slots) (part : Part) where
+module _ (old new : Slots) (part : PlannedPart) where
   abbrev Lacks : Footprint → Job → Type 0
   Lacks f job = (id : ℕ) → among (moved_for f) id ≡ true → among (ids_of job.inodes) id ≡ false
 
@@ -227,7 +227,7 @@ known_there reach (known reads writes) part knows = refl
 known_there reach whole part knows = absurd (true≢false (sym knows ∙ part))
 
 module _ (old new : Slots) (time : Time) where
-  abbrev rest_of : (first ordinal : ℕ) → List (List ℕ) → List Footprint → Part
+  abbrev rest_of : (first ordinal : ℕ) → List (List ℕ) → List Footprint → PlannedPart
   rest_of first ordinal requests footprints = record { first = first; ordinal = ordinal; time = time; requests = requests; footprints = footprints }
 
   -- a job of a later number is one of the rest
@@ -289,7 +289,7 @@ module _ (old new : Slots) (time : Time) where
       by_test left ends q false has = refl
 
   abbrev bytes_in : List Done → List (List ℕ)
-  bytes_in dones = map (λ (reply : Reply). reply.bytes.items) (map reply_in dones)
+  bytes_in dones = map (λ (reply : NumberedReply). reply.bytes.items) (map reply_in dones)
 
   -- what all results bring home is what all calls leave where they write
   all_come : (first o : ℕ) (requests : List (List ℕ)) (fs : List Footprint) (jobs : List Job) (dones : List Done) (home : Inodes) → o ≤ spent_ordinal
@@ -363,6 +363,6 @@ results_come_home old new after part jobs run dones replies most found disjoint 
     all_come old new part.time part.first part.ordinal part.requests part.footprints jobs merged.order (at_home new) most found
     (on_shares m part.ordinal part.time requests part.footprints (at_home new) found stays disjoint) split.each split.can_run tied in (
       merged.home ∙ come.0 ∙ law.0,
-      ap (map (λ (reply : Reply). reply.bytes.items)) merged.replies_are ∙ come.1 ∙ law.1,
+      ap (map (λ (reply : NumberedReply). reply.bytes.items)) merged.replies_are ∙ come.1 ∙ law.1,
       none_lent after (λ q. merged.still_out q ∙ gone_by (list_any (λ (done : Done). among (ids_of done.inodes) q) merged.order) (get (lent new) q) (split.out q ∙ sym (all_brought old new part numbers jobs merged.order q split.each tied))),
     )

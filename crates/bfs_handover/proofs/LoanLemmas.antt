@@ -17,10 +17,6 @@ pub among_ids : (loans : List Loan) (id : ℕ) → list_any (λ loan. loan.id ==
 among_ids [] id = refl
 among_ids (loan ∷ loans) id = ap (λ b. (loan.id == id) || b) (among_ids loans id)
 
-pub any_among : (ids : List ℕ) (id : ℕ) → list_any (λ other. other == id) ids ≡ among ids id
-any_among [] id = refl
-any_among (other ∷ ids) id = ap (λ b. (other == id) || b) (any_among ids id)
-
 pub ids_with : (loans : List Loan) (id : ℕ) (o : Option Inode) → ids_of (with_loan loans id o) ≡ ids_of loans
 ids_with [] id o = refl
 ids_with (loan ∷ loans) id o = elim (loan.id == id) as (λ b. ids_of (cond b (record loan { inode = o } ∷ loans) (loan ∷ with_loan loans id o)) ≡ loan.id ∷ ids_of loans) [ true ↦ refl | false ↦ ap (λ ids. loan.id ∷ ids) (ids_with loans id o) ]

@@ -21,7 +21,7 @@ use Rattle.bfs_handover.specs.declared.job.Done.{Done}
 use Rattle.bfs_handover.specs.declared.loans.Loan.{Loan}
 use Rattle.bfs_handover.specs.declared.results.MergeError.{MergeError}
 use Rattle.bfs_handover.specs.declared.results.MergeError.TheVariants.{Memory}
-use Rattle.bfs_handover.specs.declared.results.Reply.{Reply}
+use Rattle.bfs_handover.specs.declared.results.NumberedReply.{NumberedReply}
 use Rattle.bfs_handover.proofs.LoanLemmas.{get-put_in}
 use Rattle.bfs_handover.proofs.NumberLemmas.{among_map, differ, numbers_are, refusal_moved, rises}
 
@@ -137,7 +137,7 @@ module _ (ks : List ℕ) (dones order : List Done) (up : IsStrictlyIncreasing ks
       let given = all_out s out in
       are_all_lent order s given.0 (subst AreDistinct (sym (numbers_are ks order up sorted fine)) (differ ks (rises ks up))) given.1
 
-  pub are_merged : (s t : Slots) (replies : List Reply) → (refusal ks dones ≡ None → AreOut s dones) → t ≡ all_home order s → replies ≡ map reply_in order → IsMerged s t ks dones replies
+  pub are_merged : (s t : Slots) (replies : List NumberedReply) → (refusal ks dones ≡ None → AreOut s dones) → t ≡ all_home order s → replies ≡ map reply_in order → IsMerged s t ks dones replies
   are_merged s t replies out moved given = record {
     order = order;
     each = each;

@@ -18,13 +18,13 @@ use Rattle.bfs_model.proofs.Public.{all_among, apart, get-closed, get-without, m
 use Rattle.bfs_tree.specs.Reach.{Knows}
 use Rattle.bfs_tree.specs.Slots.{Slots}
 use Rattle.bfs_tree.specs.Tree.{at_home, lent, reach_of}
-use Rattle.bfs_tree.specs.Knowing.{knows_all}
+use Rattle.bfs_tree.specs.Laws.Knowing.{knows_all}
 use Rattle.bfs_footprint.specs.Seen.{footprint_seen}
 use Rattle.bfs_footprint.specs.declared.footprints.Footprint as declared
 use Rattle.bfs_handover.specs.Loans.{ids_of, loaned, put_in, reach_with}
 use Rattle.bfs_handover.specs.Jobs.{CanRun}
 use Rattle.bfs_handover.specs.Moves.{AreAtHome, AreOwned, lent_out, taken}
-use Rattle.bfs_handover.specs.Splitting.{CanBeSplit, IsFoundOn, IsJobOf, IsSplit, Part, footprint_for, footprints_for, ordinal_of, request_of}
+use Rattle.bfs_handover.specs.Splitting.{CanBeSplit, IsFoundOn, IsJobOf, IsSplit, PlannedPart, footprint_for, footprints_for, ordinal_of, request_of}
 use Rattle.bfs_handover.specs.Inside.Taking.{AreJobs, AreOnce, IsTaken, all_ids, all_loans}
 use Rattle.bfs_handover.specs.declared.job.Job.{Job}
 use Rattle.bfs_handover.specs.declared.loans.Loan.{Loan}
@@ -110,7 +110,7 @@ apart_from_all f (g ∷ gs) q all is =
     (moved_is_written g q (false_from_ne_true (is_written g q) (λ both. true≢false (sym (written_is_touched g q both) ∙ (apart f g all.0).first q (moved_written f q is)))))
     (apart_from_all f gs q all.1 is)
 
-module _ (part : Part) where
+module _ (part : PlannedPart) where
   moved_are : (numbers : List ℕ) (jobs : List Job) (s : Slots) (q : ℕ) → AreJobs part numbers jobs s → among (all_ids jobs) q ≡ among (all_moved (footprints_for part numbers)) q
   moved_are [] [] s q are = refl
   moved_are [] (job ∷ jobs) s q are = absurd are
@@ -155,7 +155,7 @@ or_none false b none = none
 -- Number after number --------------------------------------------------------------------------------------------------------
 
 -- the jobs of the first of these numbers are taken, and what the others write is not lent out
-pub record AreBegun (old : Slots) (part : Part) (numbers : List ℕ) (at : ℕ) (jobs : List Job) (t : Slots) : Type 0 where
+pub record AreBegun (old : Slots) (part : PlannedPart) (numbers : List ℕ) (at : ℕ) (jobs : List Job) (t : Slots) : Type 0 where
   pub begun : AreJobs part (take at numbers) jobs old
   pub out : t ≡ lent_out (all_ids jobs) old
   pub home : AreAtHome old (all_ids jobs)
@@ -163,7 +163,7 @@ pub record AreBegun (old : Slots) (part : Part) (numbers : List ℕ) (at : ℕ) 
   pub disjoint : AreDisjoint (footprints_for part (drop at numbers))
   pub apart : (q : ℕ) → among (all_ids jobs) q ≡ true → among (all_moved (footprints_for part (drop at numbers))) q ≡ false
 
-pub begin : (old : Slots) (part : Part) (numbers : List ℕ) → (reach_of old).whole ≡ true → AreDisjoint (footprints_for part numbers) → AreBegun old part numbers 0 [] old
+pub begin : (old : Slots) (part : PlannedPart) (numbers : List ℕ) → (reach_of old).whole ≡ true → AreDisjoint (footprints_for part numbers) → AreBegun old part numbers 0 [] old
 begin old part numbers all_home disjoint = record { begun = tt; out = refl; home = tt; whole = all_home; disjoint = disjoint; apart = λ q is. absurd (true≢false (sym is)) }
 
 any_default : (xs : List ℕ) (k d e : ℕ) → k < length xs → get_or xs k d ≡ get_or xs k e
@@ -171,7 +171,7 @@ any_default [] k d e less = absurd (omega arith)
 any_default (x ∷ xs) zero d e less = refl
 any_default (x ∷ xs) (suc k) d e less = any_default xs k d e (omega arith)
 
-module _ (old : Slots) (part : Part) (numbers : List ℕ) (at : ℕ) (jobs : List Job) (t : Slots) (are : AreBegun old part numbers at jobs t) (less : at < length numbers) where
+module _ (old : Slots) (part : PlannedPart) (numbers : List ℕ) (at : ℕ) (jobs : List Job) (t : Slots) (are : AreBegun old part numbers at jobs t) (less : at < length numbers) where
   abbrev pub number : ℕ
   number = get_or numbers at 0
 
@@ -224,7 +224,7 @@ share_seen m f fs there q touched = get-closed f m (without (all_moved fs) m) q 
 
 -- What comes of it -----------------------------------------------------------------------------------------------------------
 
-module _ (old new : Slots) (part : Part) where
+module _ (old new : Slots) (part : PlannedPart) where
   job_is : (number : ℕ) (job : Job) (s : Slots) → IsTaken part number s job → is_whole (footprint_for part number) ≡ false → ((q : ℕ) → among (ids_of job.inodes) q ≡ true → get (at_home s) q ≡ get (at_home old) q) → IsJobOf old new part number job
   job_is number job s is not_whole same = record {
     number_is = is.number_is;
@@ -313,7 +313,7 @@ pub from_both : {A E : Type 0} {P Q R : A → Type 0} (r : Result A E) → ((x :
 from_both (Ok x) both p q = both x p q
 from_both (Err e) both p q = tt
 
-pub is_split : (old new : Slots) (part : Part) (numbers : List ℕ) (jobs : List Job) → (reach_of old).whole ≡ true → AreDisjoint (footprints_for part numbers) → All (CanBeSplit (at_home old) part) numbers
+pub is_split : (old new : Slots) (part : PlannedPart) (numbers : List ℕ) (jobs : List Job) → (reach_of old).whole ≡ true → AreDisjoint (footprints_for part numbers) → All (CanBeSplit (at_home old) part) numbers
     → All (IsFoundOn (at_home old) part) numbers → AreJobs part numbers jobs old → new ≡ lent_out (all_ids jobs) old → IsSplit old new part numbers jobs
 is_split old new part numbers jobs all_home disjoint can located are out_is =
     let fs = footprints_for part numbers in

@@ -10,7 +10,7 @@ use Rattle.bfs_tree.specs.Tree.{at_home, lent}
 use Rattle.bfs_handover.specs.Loans.{ids_of, put_in}
 use Rattle.bfs_handover.specs.Moves.{AreDistinct, AreLent, brought_home}
 use Rattle.bfs_handover.specs.declared.job.Done.{Done}
-use Rattle.bfs_handover.specs.declared.results.Reply.{Reply}
+use Rattle.bfs_handover.specs.declared.results.NumberedReply.{NumberedReply}
 use Rattle.bfs_handover.specs.declared.results.MergeError.{MergeError}
 use Rattle.bfs_handover.specs.declared.results.MergeError.TheVariants.{Stranger, Double, Missing}
 
@@ -57,11 +57,11 @@ abbrev pub all_in : List Done → Inodes → Inodes
 all_in [] inodes = inodes
 all_in (done ∷ dones) inodes = all_in dones (put_in done.inodes inodes)
 
-abbrev pub reply_in : Done → Reply
+abbrev pub reply_in : Done → NumberedReply
 reply_in done = record { number = done.number; bytes = done.reply }
 
 -- the results come home in the order of the numbers, and their replies are given in it
-pub record IsMerged (old new : Slots) (numbers : List ℕ) (dones : List Done) (replies : List Reply) : Type 0 where
+pub record IsMerged (old new : Slots) (numbers : List ℕ) (dones : List Done) (replies : List NumberedReply) : Type 0 where
   pub order : List Done
   pub each : IsPermutation dones order
   pub numbers_are : numbers_in order ≡ numbers

@@ -16,5 +16,5 @@ pub use laws::{
 };
 pub use loans::{Loan, Loans};
 pub use parts::{split, split_one, split_part, split_request};
-pub use results::{MergeError, Reply, merge, merge_one};
+pub use results::{MergeError, NumberedReply, merge, merge_one};
 pub use share::Share;

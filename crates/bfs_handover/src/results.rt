@@ -56,7 +56,7 @@ impl From<AllocError> for MergeError {
 
 /// The reply to a request of a batch.
 #[derive(Debug, Drop)]
-pub struct Reply {
+pub struct NumberedReply {
     /// The number of the request in its batch.
     pub number: u32,
     /// The bytes of the reply, none if the request can't be answered.
@@ -70,7 +70,7 @@ pub fn merge(
     tree: &mut Tree,
     numbers: &[u32],
     dones: Vec<Done>,
-) -> Result<Vec<Reply>, MergeError>
+) -> Result<Vec<NumberedReply>, MergeError>
     requires rising { IsStrictlyIncreasing numbers.now }
     requires out { refusal numbers.now dones.items ≡ None → AreOut tree.old dones.items }
     ensures merged { IfOk result (λ replies. IsMerged tree.old tree.new numbers.now dones.items replies.items) }
@@ -87,7 +87,7 @@ pub fn merge(
 }
 
 /// Brings the inodes of one result home, and gives its reply: what `merge` does where one number was split, without memory.
-pub fn merge_one(tree: &mut Tree, done: Done) -> Reply
+pub fn merge_one(tree: &mut Tree, done: Done) -> NumberedReply
     requires { AreOut tree.old (done ∷ []) }
     ensures { IsMerged tree.old tree.new (done.number ∷ []) (done ∷ []) (result ∷ []) }
 {
@@ -97,7 +97,7 @@ pub fn merge_one(tree: &mut Tree, done: Done) -> Reply
         inodes,
     } = done;
     bring(tree, inodes);
-    Reply {
+    NumberedReply {
         number,
         bytes: reply,
     }
@@ -167,7 +167,7 @@ fn are_rising(dones: &[Done]) -> bool
 }
 
 // Brings what the results hold home, one after another, and gives their replies.
-fn bring_all(tree: &mut Tree, dones: Vec<Done>, room: Vec<Reply>) -> Vec<Reply>
+fn bring_all(tree: &mut Tree, dones: Vec<Done>, room: Vec<NumberedReply>) -> Vec<NumberedReply>
     requires out { AreAllLent tree.old dones.items }
     requires empty { room.items ≡ [] }
     requires room { length dones.items ≤ vec_capacity room }
@@ -177,7 +177,7 @@ fn bring_all(tree: &mut Tree, dones: Vec<Done>, room: Vec<Reply>) -> Vec<Reply>
     let mut replies = room;
     for done in dones {
         bring(tree, done.inodes);
-        replies.push_reserved(Reply {
+        replies.push_reserved(NumberedReply {
             number: done.number,
             bytes: done.reply,
         });

@@ -1,12 +1,12 @@
 -- The record of an inode in version 1 of a snapshot (this file system's profile), in the items of XDR (RFC 4506 section 4): how it is
 -- spelled, and how it is read, strictly.
-use Rattle.std.specs.Prelude.{ℕ, zero, suc, ◌+◌, ◌==◌, ◌≤◌, true, ◌||◌, List, [], ◌∷◌, ◌++◌, length, Option, Some, None, nat_lt, if◌then◌else◌}
+use Rattle.std.specs.Prelude.{ℕ, zero, suc, ◌+◌, ◌==◌, ◌≤◌, ◌||◌, List, [], ◌∷◌, ◌++◌, length, Option, Some, None, nat_lt, if◌then◌else◌}
 use Rattle.std.specs.List.{flat_map, AllByRecursion}
-use Rattle.std.specs.Result.{result_ok}
 use Rattle.sha2.specs.Sha256.{sha256}
 use Rattle.bfs_model.specs.Bytes.Attributes.{type_of}
 use Rattle.bfs_model.specs.Bytes.Call.{◌>>=◌}
-use Rattle.bfs_model.specs.Bytes.Items.{word, words, counted, word_at, opaque_at}
+use Rattle.bfs_model.specs.Bytes.Formats.{Reading, word_from, bytes_from}
+use Rattle.bfs_model.specs.Bytes.Items.{word, words, counted}
 use Rattle.bfs_model.specs.Server.Limits.{most_name_bytes, most_path_bytes, most_entries}
 use Rattle.bfs_model.specs.Bytes.Replies.{type_number}
 use Rattle.bfs_model.specs.Server.Stored.{IsWord, AreBytes, IsTime, EntryIsStorable}
@@ -70,16 +70,6 @@ pub record IsRecordable (id : ℕ) (inode : Inode) : Type 0 where
 
 -- Reading ------------------------------------------------------------------------------------------------------------
 -- It is proved that this reads just what is spelled above, so nothing below has to be believed.
-
--- what was read, and the bytes behind it, where the bytes begin with such an item
-abbrev pub Reading : Type 0 → Type 0
-Reading A = Option (A × List ℕ)
-
-abbrev pub word_from : List ℕ → Reading ℕ
-word_from bytes = result_ok (word_at bytes)
-
-abbrev pub bytes_from : (most : ℕ) → List ℕ → Reading (List ℕ)
-bytes_from most bytes = result_ok (opaque_at true most bytes)
 
 unfoldable pub time_from : List ℕ → Reading Time
 time_from bytes = do

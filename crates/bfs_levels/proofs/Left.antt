@@ -1,15 +1,13 @@
 -- The requests that are left, one fewer.
-use Rattle.std.proofs.Common.{◌≡◌, ℕ, ◌+◌, ◌<◌, ◌≤◌, Bool, if◌then◌else◌, List, [], ◌∷◌, ◌++◌, Some, slice_get, length, take, drop, append_assoc, ap, sym, ◌∙◌, arith, zero, suc, map, refl}
+use Rattle.std.proofs.Common.{◌≡◌, ℕ, ◌+◌, ◌<◌, ◌≤◌, Bool, if◌then◌else◌, List, [], ◌∷◌, ◌++◌, Some, slice_get, length, take, drop, append_assoc, ap, sym, ◌∙◌, arith, zero, suc, refl}
 use Rattle.std.specs.List.{list_any}
 use Rattle.std.proofs.Math.Seq.{take-append_seam}
-use Rattle.std.proofs.lemmas.List.{length-map, drop_more, at_drop_all}
+use Rattle.std.proofs.lemmas.List.{drop_more, at_drop_all}
 use Rattle.std.proofs.lemmas.Option.{slice_get_within, get_or_from_slice_get}
 use Rattle.bfs_model.specs.Server.Groups.{footprints_at}
 use Rattle.bfs_model.specs.Server.Serial.{ordinal_after}
 use Rattle.bfs_model.specs.Server.Footprints.{Footprint, footprint_of}
 use Rattle.bfs_model.specs.Server.Tree.{Time, Inodes}
-use Rattle.bfs_footprint.specs.Seen.{footprint_seen}
-use Rattle.bfs_footprint.specs.declared.footprints.Footprint.{Footprint as Code}
 use Rattle.bfs_levels.specs.Planning.{Touch, count_joined, touch_by, touches_at}
 
 one_left : {X : Type 0} (xs : List X) (index : ℕ) (x : X) → slice_get xs index ≡ Some x → drop index xs ≡ x ∷ drop (index + 1) xs
@@ -57,6 +55,3 @@ pub take-footprints : (inodes : Inodes) (ordinal : ℕ) (time : Time) (requests 
 take-footprints inodes ordinal time requests zero = refl
 take-footprints inodes ordinal time [] (suc n) = refl
 take-footprints inodes ordinal time (request ∷ requests) (suc n) = ap (λ rest. footprint_of inodes ordinal time request ∷ rest) (take-footprints inodes (ordinal_after ordinal 1) time requests n)
-
-pub length_seen : (footprints : List Code) (plan : List Footprint) → map footprint_seen footprints ≡ plan → length footprints ≡ length plan
-length_seen footprints plan same = sym (length-map footprints footprint_seen) ∙ ap length same

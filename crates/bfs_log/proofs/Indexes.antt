@@ -1,6 +1,6 @@
 -- What is asked of a log is asked of what is said at one place.
-use Rattle.std.proofs.Common.{◌≡◌, ℕ, Bool, true, false, ◌&&◌, ◌||◌, not, cond, List, [], ◌∷◌, ◌++◌, refl, ap, sym, subst, ◌∙◌, nat_lt}
-use Rattle.std.specs.Prelude.{◌==◌, bytes_eq, map, filter, find, count_by, Option, Some, None, option_and_then}
+use Rattle.std.proofs.Common.{◌≡◌, ℕ, Bool, true, false, ◌&&◌, ◌||◌, not, cond, List, [], ◌∷◌, refl, ap, sym, subst, ◌∙◌, nat_lt}
+use Rattle.std.specs.Prelude.{◌==◌, bytes_eq, map, filter, find, count_by, Option, Some, option_and_then}
 use Rattle.std.specs.List.{list_any}
 use Rattle.std.proofs.Math.Bool.{and_comm, and_assoc}
 use Rattle.std.proofs.lemmas.Bool.{and_parts, eqb-true}

@@ -1,7 +1,7 @@
 -- The index follows the log: with one message more, with the last one gone, and after a checkpoint.
-use Rattle.std.proofs.Common.{◌≡◌, ℕ, ◌<◌, ◌≤◌, Bool, true, false, ◌&&◌, ◌||◌, cond, List, [], ◌∷◌, ◌++◌, refl, ap, sym, subst, ◌∙◌, nat_lt, length, arith}
+use Rattle.std.proofs.Common.{◌≡◌, ℕ, ◌<◌, Bool, true, false, ◌&&◌, ◌||◌, cond, List, [], ◌∷◌, ◌++◌, refl, ap, sym, subst, ◌∙◌, nat_lt, length, arith}
 use Rattle.std.specs.Prelude.{◌==◌, bytes_eq, map, filter, All, if◌then◌else◌}
-use Rattle.std.proofs.lemmas.Bool.{and_parts, eqb-true, eq-eqb, le-ltb, false_from_ne_true}
+use Rattle.std.proofs.lemmas.Bool.{eq-eqb, le-ltb}
 use Rattle.std.proofs.Math.Seq.{take-append_seam}
 use Rattle.std.specs.Cmp.{nat_eq_equiv}
 use Rattle.std.proofs.lemmas.List.{map-append}
@@ -10,11 +10,11 @@ use Rattle.bfs_model.specs.Server.Limits.{most_replicas}
 use Rattle.bfs_messages.specs.declared.signed.Signed.{Signed}
 use Rattle.bfs_messages.specs.declared.message.Message.{Message}
 use Rattle.bfs_messages.specs.declared.message.Message.TheVariants.{Request, PrePrepare, Prepare, Commit, Checkpoint, ViewChange, NewView, Reply}
-use Rattle.bfs_agreement.specs.Votes.{Header, SlotsDiffer, is_taken}
+use Rattle.bfs_agreement.specs.Votes.{Header, is_taken}
 use Rattle.bfs_log.specs.Batches.{Said}
 use Rattle.bfs_log.specs.Headers.{header, message_header}
 use Rattle.bfs_log.specs.Logs.{Log, headers, kept_after, said_in, stays}
-use Rattle.bfs_log.specs.Places.{Index, IsIndex, IsIndexed, checkpoint_place, is_at, place_of, row_at, row_kept, said_at, same_place}
+use Rattle.bfs_log.specs.Places.{Index, IsIndexed, checkpoint_place, is_at, place_of, row_at, row_kept, said_at, same_place}
 use Rattle.bfs_log.specs.declared.places.Place.{Place}
 use Rattle.bfs_log.proofs.Indexes.{one_place}
 use Rattle.bfs_log.proofs.Slots.{differ_pushed, differ_before, differ_kept}

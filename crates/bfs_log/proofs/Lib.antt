@@ -1,6 +1,9 @@
+-- What proofs share.
 mod Counts
 mod Slots
 mod Indexes
 mod Found
 mod Maps
 mod Keeping
+mod Greatest
+pub mod Public

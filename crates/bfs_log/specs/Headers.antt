@@ -1,5 +1,5 @@
 -- The headers of messages.
-use Rattle.std.specs.Prelude.{ℕ, List, []}
+use Rattle.std.specs.Prelude.{ℕ, []}
 use Rattle.bfs_agreement.specs.Votes.{Header}
 use Rattle.bfs_messages.specs.Messages.{Vote}
 use Rattle.bfs_messages.specs.declared.signed.Signed.{Signed}

@@ -1,5 +1,6 @@
 -- What the contracts of bfs_log and of the crates above it cite.
 pub mod Batches
+pub mod Digests
 pub mod Headers
 pub mod Logs
 pub mod Digests

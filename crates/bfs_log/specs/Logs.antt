@@ -33,14 +33,10 @@ said_in m = record { sender = (message_header m).sender; digest = (message_heade
 abbrev pub proposal_in : Log → (sender view number : ℕ) → Option Committed
 proposal_in log sender view number = option_and_then (λ m. batch_in m.message) (find (λ m. is_slot 2 sender view number (header m)) log)
 
--- the greater one of a number and that of a PRE-PREPARE of a view
-abbrev pub with_proposed : (view : ℕ) → Header → ℕ → ℕ
-with_proposed view h greatest = if (h.tag == 2) && (h.view == view) then max h.number greatest else greatest
-
 -- the greatest number of a PRE-PREPARE of a view, 0 where there is none
 abbrev pub greatest_proposed : (view : ℕ) → List Header → ℕ
 greatest_proposed view [] = 0
-greatest_proposed view (h ∷ hs) = with_proposed view h (greatest_proposed view hs)
+greatest_proposed view (h ∷ hs) = if (h.tag == 2) && (h.view == view) then max h.number (greatest_proposed view hs) else greatest_proposed view hs
 
 -- above a checkpoint, or a CHECKPOINT that tells it (OSDI 1999 section 4.3)
 abbrev pub stays : (number : ℕ) → List ℕ → Header → Bool

@@ -1,5 +1,5 @@
 -- What a log's index has: what was said at each place.
-use Rattle.std.specs.Prelude.{◌≡◌, ℕ, ◌<◌, ◌==◌, Bool, ◌&&◌, ◌||◌, List, [], map, filter, All, Option, Some, None, nat_lt, bytes_eq, if◌then◌else◌}
+use Rattle.std.specs.Prelude.{◌≡◌, ℕ, ◌<◌, ◌==◌, Bool, ◌&&◌, ◌||◌, not, max, length, List, [], ◌∷◌, map, filter, All, Option, Some, None, nat_lt, bytes_eq, if◌then◌else◌}
 use Rattle.std.specs.declared.cmp.Ordering.{Ordering}
 use Rattle.std.specs.Global.{Vec}
 use Rattle.std.specs.BTreeMap.{BTreeMap, get}
@@ -54,6 +54,15 @@ abbrev pub row_kept : (number : ℕ) → List ℕ → Place → List Said → Li
 row_kept number digest p row =
     if same_place (checkpoint_place number) p then filter (λ said. bytes_eq said.digest digest) row else
     (if nat_lt number p.number then row else [])
+
+-- PRE-PREPAREs of a view stand at a place
+abbrev pub is_proposed : (view : ℕ) → Place × Vec Said → Bool
+is_proposed view entry = ((entry.0.tag == 2) && (entry.0.view == view)) && not (length entry.1.items == 0)
+
+-- the greatest number of such a place, 0 where there is none
+abbrev pub greatest_in : (view : ℕ) → List (Place × Vec Said) → ℕ
+greatest_in view [] = 0
+greatest_in view (entry ∷ entries) = if is_proposed view entry then max entry.0.number (greatest_in view entries) else greatest_in view entries
 
 -- each message is in a slot of its own, its sender can be a replica, and the index has what it says
 pub record IsIndexed (log : Log) (places : Index) : Type 0 where

@@ -2,10 +2,10 @@
 ghost use Rattle.std.specs.Prelude.{◌≡◌};
 ghost use Rattle.std.specs.Option.{option_map};
 ghost use Rattle.bfs_agreement.specs.Votes.{has_slot, told};
-ghost use Rattle.bfs_log.specs.Logs.{greatest_proposed, headers, proposal_in};
+ghost use Rattle.bfs_log.specs.Logs.{headers, proposal_in};
 
 use crate::committed::Committed;
-use crate::headers::{Slot, header_of};
+use crate::headers::Slot;
 use crate::logs::Log;
 use crate::places::Place;
 use crate::rows::{does_tell, find_from, has_from};
@@ -38,17 +38,5 @@ impl Log {
             Some(said) => said.batch(),
             None => None,
         }
-    }
-
-    /// The greatest number of a PRE-PREPARE of a view, 0 where there is none.
-    pub fn greatest_proposed(&self, view: u64) -> u64
-        ensures { result ≡ greatest_proposed view (headers self.now) }
-    {
-        let messages = self.messages();
-        let mut greatest = 0;
-        for signed in messages {
-            greatest = header_of(&signed.message).with_proposed(view, greatest);
-        }
-        greatest
     }
 }

@@ -1,7 +1,7 @@
 // What is asked of a message: its kind, its sender, its place and its digest.
 ghost use Rattle.std.specs.Prelude.{◌≡◌, []};
 ghost use Rattle.bfs_log.specs.Headers.{message_header, vote_header};
-ghost use Rattle.bfs_log.specs.Logs.{stays, with_proposed};
+ghost use Rattle.bfs_log.specs.Logs.{stays};
 ghost use Rattle.bfs_log.specs.Places.{place_of};
 
 use crate::places::Place;
@@ -100,17 +100,6 @@ impl<'a> Header<'a> {
         ensures { result ≡ stays number digest.now self.now }
     {
         number < self.number || (self.tag == 5 && (self.number == number && self.digest == digest))
-    }
-
-    // The greater one of a number and that of a PRE-PREPARE of a view.
-    pub(crate) fn with_proposed(&self, view: u64, greatest: u64) -> u64
-        ensures { result ≡ with_proposed view self.now greatest }
-    {
-        if self.tag == 2 && self.view == view {
-            self.number.max(greatest)
-        } else {
-            greatest
-        }
     }
 
     pub(crate) fn place(&self) -> Place

@@ -2,11 +2,11 @@ ghost use Rattle.std.specs.Prelude.{◌≡◌, ◌<◌, [], ◌∷◌, ◌++◌,
 ghost use Rattle.bfs_model.specs.Server.Limits.{most_replicas};
 ghost use Rattle.bfs_agreement.specs.Votes.{SlotsDiffer, is_taken};
 ghost use Rattle.bfs_log.specs.Headers.{header};
-ghost use Rattle.bfs_log.specs.Logs.{headers, kept_after};
+ghost use Rattle.bfs_log.specs.Logs.{greatest_proposed, headers, kept_after};
 ghost use Rattle.bfs_log.specs.Places.{said_at};
 
 use crate::headers::header_of;
-use crate::places::{Place, drop_up_to, pop_at, put_at, row_at};
+use crate::places::{Place, drop_up_to, greatest_in, pop_at, put_at, row_at};
 use crate::said::Said;
 use bfs_messages::{Message, Signed};
 use bfs_types::Memory;
@@ -69,6 +69,13 @@ impl Log {
         ensures { result.now ≡ said_at place self.now }
     {
         row_at(&self.places, place)
+    }
+
+    /// The greatest number of a PRE-PREPARE of a view, 0 where there is none.
+    pub fn greatest_proposed(&self, view: u64) -> u64
+        ensures { result ≡ greatest_proposed view (headers self.now) }
+    {
+        greatest_in(&self.places, view)
     }
 }
 

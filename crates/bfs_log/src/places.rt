@@ -1,7 +1,8 @@
 // What was said at each place: the index of a log.
 ghost use Rattle.std.specs.Prelude.{◌≡◌, ◌<◌, [], ◌∷◌, ◌++◌, false, ◌||◌, ◌&&◌, ◌==◌, OnOk, OnErr, List, filter, bytes_eq, nat_lt, if◌then◌else◌};
+ghost use Rattle.std.specs.BTreeMap.{IsOrdered};
 ghost use Rattle.bfs_log.specs.Batches as model;
-ghost use Rattle.bfs_log.specs.Places.{checkpoint_place, is_above, row_at, row_kept, same_place};
+ghost use Rattle.bfs_log.specs.Places.{checkpoint_place, greatest_in, is_above, place_cmp, row_at, row_kept, same_place};
 ghost use Rattle.bfs_log.specs.declared.places.Place as declared;
 
 use crate::said::Said;
@@ -24,6 +25,20 @@ pub(crate) fn row_at(places: &BTreeMap<Place, Vec<Said>>, place: Place) -> &[Sai
         Some(row) => row.as_slice(),
         None => &[],
     }
+}
+
+/// The greatest number of a place at which a PRE-PREPARE of a view stands, 0 where there is none.
+pub(crate) fn greatest_in(places: &BTreeMap<Place, Vec<Said>>, view: u64) -> u64
+    ensures value { result ≡ greatest_in view places.now.entries }
+    ensures ordered { IsOrdered place_cmp places.now }
+{
+    let mut greatest = 0;
+    for (place, row) in places.iter() {
+        if (place.tag == 2 && place.view == view) && !row.as_slice().is_empty() {
+            greatest = place.number.max(greatest);
+        }
+    }
+    greatest
 }
 
 /// Puts one more at a place. `Memory` if memory runs out; then nothing is said anew.

@@ -1,6 +1,6 @@
--- How what the code reads answers to a reading of the model.
-use Rattle.std.specs.Prelude.{◌≡◌, List, ℕ, true, Result, Ok, Err, Option, Some, None}
-use Rattle.bfs_model.specs.Bytes.Items.{Input}
+-- How what the code reads and writes answers to the definitions, and the numbers of its refusals.
+use Rattle.std.specs.Prelude.{◌≡◌, ℕ, List, ◌++◌, Result, Ok, Err, Option, Some, None}
+use Rattle.bfs_model.specs.Bytes.Formats.{Reading}
 use Rattle.bfs_messages.specs.declared.error.DecodeError.{DecodeError}
 use Rattle.bfs_messages.specs.declared.error.DecodeError.TheVariants.{Malformed, Memory}
 
@@ -10,16 +10,19 @@ code_of Memory = 40
 
 -- nothing is read there, or memory ran out
 abbrev pub Fails : {Y : Type 0} → DecodeError → Option Y → Type 0
-Fails Malformed read = read ≡ None
-Fails Memory read = Unit {0}
+Fails Malformed reading = reading ≡ None
+Fails Memory reading = Unit {0}
 
--- a strict reader gave what the model reads from its place and stands behind it, or the model reads nothing there, or memory
--- ran out
-abbrev pub Parses : {X Y : Type 0} → (X → Y) → (old new : Input) → Result X DecodeError → Option (Y × List ℕ) → Type 0
-Parses view old new (Ok x) read = (read ≡ Some (view x, new.left)) × (new.strict ≡ true)
-Parses view old new (Err e) read = Fails e read
+-- the code gave what is read, and stands behind it; or nothing is read, or memory ran out
+abbrev pub Reads : {X Y : Type 0} → (X → Y) → Result X DecodeError → Reading Y → (rest : List ℕ) → Type 0
+Reads view (Ok x) reading rest = reading ≡ Some (view x, rest)
+Reads view (Err e) reading rest = Fails e reading
 
 -- the same of a whole text
 abbrev pub Gives : {X : Type 0} → Result X DecodeError → Option X → Type 0
-Gives (Ok x) read = read ≡ Some x
-Gives (Err e) read = Fails e read
+Gives (Ok x) reading = reading ≡ Some x
+Gives (Err e) reading = Fails e reading
+
+-- that text was taken behind what had been taken before
+abbrev pub Takes : {S : Type 0} → (S → List ℕ → Type 0) → (old new : S) → (text : List ℕ) → Type 0
+Takes Holds old new text = (before : List ℕ) → Holds old before → Holds new (before ++ text)

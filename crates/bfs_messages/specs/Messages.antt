@@ -1,8 +1,9 @@
--- The messages between replicas and clients.
-use Rattle.std.specs.Prelude.{ℕ, List, Option}
+-- The messages between replicas and clients (OSDI 1999 sections 4.1 to 4.4).
+use Rattle.std.specs.Prelude.{ℕ, List, [], Option, Some, None}
 use Rattle.bfs_model.specs.Server.Tree.{Time}
 use Rattle.bfs_messages.specs.declared.signed.Signed.{Signed}
 
+-- a client's number, its timestamp, and the bytes of a call
 pub record Request : Type 0 where
   pub client : ℕ
   pub timestamp : ℕ
@@ -17,7 +18,11 @@ pub record Requests : Type 0 where
 abbrev pub Batch : Type 0
 Batch = Option Requests
 
--- what a PREPARE and a COMMIT say
+abbrev pub requests_of : Batch → List (Signed Request)
+requests_of None = []
+requests_of (Some batch) = batch.requests
+
+-- what a PREPARE and a COMMIT say: the digest of the batch of a number in a view
 pub record Vote : Type 0 where
   pub sender : ℕ
   pub view : ℕ
@@ -28,6 +33,7 @@ pub record PrePrepare : Type 0 where
   pub vote : Vote
   pub batch : Batch
 
+-- the digest of the node after a number
 pub record Checkpoint : Type 0 where
   pub sender : ℕ
   pub number : ℕ
@@ -45,6 +51,7 @@ pub record Certificate : Type 0 where
   pub proposal : Signed PrePrepare
   pub prepares : List (Signed Vote)
 
+-- the view asked for, the stable number and what made it stable, and what was prepared above it
 pub record ViewChange : Type 0 where
   pub sender : ℕ
   pub view : ℕ

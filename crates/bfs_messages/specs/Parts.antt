@@ -1,52 +1,76 @@
 -- How the parts of messages are read, strictly. It is proved that this reads just what is written, so nothing here has to be believed.
-use Rattle.std.specs.Prelude.{ℕ, ◌==◌, ◌^◌, Bool, List, Option, Some, None, nat_lt, if◌then◌else◌}
+use Rattle.std.specs.Prelude.{ℕ, ◌==◌, List, Some, None, bytes_eq, nat_lt, nat_le, if◌then◌else◌}
+use Rattle.sha2.specs.Sha256.{sha256}
 use Rattle.bfs_model.specs.Bytes.Call.{◌>>=◌}
+use Rattle.bfs_model.specs.Bytes.Formats.{Reading, word_from, hyper_from, fixed_from, bytes_from, as_from, where_from, then_from, list_from}
+use Rattle.bfs_model.specs.Server.Limits.{most_number, most_replicas, most_reply_bytes, most_request_bytes, most_requests}
 use Rattle.bfs_model.specs.Server.Tree.{Time}
 use Rattle.bfs_messages.specs.Messages as model
 use Rattle.bfs_messages.specs.Messages.{Requests, Batch, Vote}
-use Rattle.bfs_messages.specs.Formats.{Reading, number_at, long_at, digest_at, bytes_at, as_at, where_at, then_at, list_at}
+use Rattle.bfs_messages.specs.Batches.{batch_text}
 use Rattle.bfs_messages.specs.declared.signed.Signed.{Signed}
 
--- a view, or a place in the order
-abbrev pub place_at : List ℕ → Reading ℕ
-place_at bytes = where_at (λ n. nat_lt n (2 ^ 63)) long_at bytes
+-- of a view, or of a batch in the order
+abbrev pub number_from : List ℕ → Reading ℕ
+number_from bytes = where_from (λ number. nat_le number most_number) hyper_from bytes
 
-unfoldable pub time_at : List ℕ → Reading Time
-time_at bytes =
-    as_at (λ p. record { seconds = p.0; useconds = p.1 }) (then_at number_at (where_at (λ useconds. nat_lt useconds 1000000) number_at)) bytes
+abbrev pub digest_from : List ℕ → Reading (List ℕ)
+digest_from bytes = fixed_from 32 bytes
 
-unfoldable pub auth_at : List ℕ → Reading (List (List ℕ))
-auth_at bytes = list_at 31 digest_at bytes
+unfoldable pub time_from : List ℕ → Reading Time
+time_from bytes =
+    as_from (λ p. record { seconds = p.0; useconds = p.1 }) (then_from word_from (where_from (λ useconds. nat_lt useconds 1000000) word_from)) bytes
 
-unfoldable pub request_at : List ℕ → Reading model.Request
-request_at bytes =
-    as_at (λ p. record { client = p.0.0; timestamp = p.0.1; call = p.1 }) (then_at (then_at number_at long_at) (bytes_at 16384)) bytes
+abbrev pub auth_from : List ℕ → Reading (List (List ℕ))
+auth_from bytes = list_from most_replicas digest_from bytes
 
-unfoldable pub vote_at : List ℕ → Reading Vote
-vote_at bytes =
-    as_at (λ p. record { sender = p.0.0.0; view = p.0.0.1; number = p.0.1; digest = p.1 })
-    (then_at (then_at (then_at number_at place_at) place_at) digest_at) bytes
+-- What stands behind the tags ----------------------------------------------------------------------------------------
 
-unfoldable pub checkpoint_at : List ℕ → Reading model.Checkpoint
-checkpoint_at bytes =
-    as_at (λ p. record { sender = p.0.0; number = p.0.1; digest = p.1 }) (then_at (then_at number_at place_at) digest_at) bytes
+unfoldable pub request_from : List ℕ → Reading model.Request
+request_from bytes =
+    as_from (λ p. record { client = p.0.0; timestamp = p.0.1; call = p.1 }) (then_from (then_from word_from hyper_from) (bytes_from most_request_bytes)) bytes
 
-unfoldable pub reply_at : List ℕ → Reading model.Reply
-reply_at bytes =
-    as_at (λ p. record { sender = p.0.0.0.0; view = p.0.0.0.1; client = p.0.0.1; timestamp = p.0.1; result = p.1 })
-    (then_at (then_at (then_at (then_at number_at place_at) number_at) long_at) (bytes_at 16384)) bytes
+unfoldable pub vote_from : List ℕ → Reading Vote
+vote_from bytes =
+    as_from (λ p. record { sender = p.0.0.0; view = p.0.0.1; number = p.0.1; digest = p.1 })
+    (then_from (then_from (then_from word_from number_from) number_from) digest_from) bytes
 
-unfoldable pub signed_request_at : List ℕ → Reading (Signed model.Request)
-signed_request_at bytes =
-    as_at (λ p. record { message = p.0.1; auth = p.1 }) (then_at (then_at (where_at (λ tag. tag == 1) number_at) request_at) auth_at) bytes
+unfoldable pub checkpoint_from : List ℕ → Reading model.Checkpoint
+checkpoint_from bytes =
+    as_from (λ p. record { sender = p.0.0; number = p.0.1; digest = p.1 }) (then_from (then_from word_from number_from) digest_from) bytes
 
-unfoldable pub requests_at : List ℕ → Reading Requests
-requests_at bytes = as_at (λ p. record { time = p.0; requests = p.1 }) (then_at time_at (list_at 1024 signed_request_at)) bytes
+unfoldable pub reply_from : List ℕ → Reading model.Reply
+reply_from bytes =
+    as_from (λ p. record { sender = p.0.0.0.0; view = p.0.0.0.1; client = p.0.0.1; timestamp = p.0.1; result = p.1 })
+    (then_from (then_from (then_from (then_from word_from number_from) word_from) hyper_from) (bytes_from most_reply_bytes)) bytes
 
-unfoldable pub some_requests_at : List ℕ → Reading Batch
-some_requests_at bytes = as_at (λ requests. Some requests) requests_at bytes
+-- with its keyed hashes
+abbrev pub behind_from : {A : Type 0} → (List ℕ → Reading A) → List ℕ → Reading (Signed A)
+behind_from from bytes = as_from (λ p. record { message = p.0; auth = p.1 }) (then_from from auth_from) bytes
 
-unfoldable pub batch_at : List ℕ → Reading Batch
-batch_at bytes = do
-  kind ← number_at bytes
-  if kind.0 == 0 then Some (None, kind.1) else (if kind.0 == 1 then some_requests_at kind.1 else None)
+abbrev pub tag_from : (tag : ℕ) → List ℕ → Reading ℕ
+tag_from tag bytes = where_from (λ read. read == tag) word_from bytes
+
+-- a message within another
+abbrev pub tagged_from : {A : Type 0} → (tag : ℕ) → (List ℕ → Reading A) → List ℕ → Reading A
+tagged_from tag from bytes = as_from (λ p. p.1) (then_from (tag_from tag) from) bytes
+
+abbrev pub signed_as_from : {A : Type 0} → (tag : ℕ) → (List ℕ → Reading A) → List ℕ → Reading (Signed A)
+signed_as_from tag from bytes = tagged_from tag (behind_from from) bytes
+
+-- Batches ------------------------------------------------------------------------------------------------------------
+
+unfoldable pub requests_from : List ℕ → Reading Requests
+requests_from bytes = as_from (λ p. record { time = p.0; requests = p.1 }) (then_from time_from (list_from most_requests (signed_as_from 1 request_from))) bytes
+
+unfoldable pub some_requests_from : List ℕ → Reading Batch
+some_requests_from bytes = as_from (λ requests. Some requests) requests_from bytes
+
+unfoldable pub batch_from : List ℕ → Reading Batch
+batch_from bytes = do
+  kind ← word_from bytes
+  if kind.0 == 0 then Some (None, kind.1) else (if kind.0 == 1 then some_requests_from kind.1 else None)
+
+-- only one with that digest
+abbrev pub batch_of_from : (digest : List ℕ) → List ℕ → Reading Batch
+batch_of_from digest bytes = where_from (λ batch. bytes_eq digest (sha256 (batch_text batch))) batch_from bytes

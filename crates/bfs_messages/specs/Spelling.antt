@@ -1,4 +1,4 @@
--- The text of messages.
+-- The texts of messages.
 use Rattle.std.specs.Prelude.{ℕ, List, [], ◌++◌}
 use Rattle.bfs_model.specs.Bytes.Items.{word}
 use Rattle.bfs_messages.specs.Batches.{auth_text, request_text, vote_text, checkpoint_text, reply_text, batch_text}
@@ -42,9 +42,6 @@ attached_text (Reply reply) = []
 -- a message's body, of which the keyed hashes are made
 abbrev pub body_text : Message → List ℕ
 body_text message = word (tag_of message) ++ fields_text message
-
-abbrev pub after_tag : Signed Message → List ℕ
-after_tag signed = fields_text signed.message ++ auth_text signed.auth ++ attached_text signed.message
 
 unfoldable pub signed_text : Signed Message → List ℕ
 signed_text signed = body_text signed.message ++ auth_text signed.auth ++ attached_text signed.message

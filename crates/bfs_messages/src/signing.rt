@@ -1,27 +1,66 @@
-// Messages signed for all replicas.
+// Messages, signed for all replicas. What is signed is hashed piece by piece, and lies nowhere as a whole.
 ghost use Rattle.std.specs.Prelude.{◌≡◌, ◌++◌, IfOk};
 ghost use Rattle.bfs_auth.specs.Authenticators.{signature};
 ghost use Rattle.bfs_model.specs.Bytes.Items.{word};
 ghost use Rattle.bfs_messages.specs.Batches.{checkpoint_text, vote_text};
-ghost use Rattle.bfs_messages.specs.Changes.{new_view_text, view_change_text};
+ghost use Rattle.bfs_messages.specs.Changes.{view_change_text};
+ghost use Rattle.bfs_messages.specs.Signing.{signed_by};
+ghost use Rattle.bfs_messages.specs.Spelling.{body_text};
 
-use crate::changes::{NewView, ViewChange};
-use crate::messages::{Checkpoint, PrePrepare, Vote};
+use crate::changes::ViewChange;
+use crate::message::Message;
+use crate::parts::Part;
+use crate::proposals::PrePrepare;
 use crate::signed::Signed;
-use crate::writing::{put_checkpoint, put_new_view, put_view_change, put_vote};
-use bfs_auth::{Keys, sign};
+use crate::votes::{Checkpoint, Vote};
+use crate::writing::{put_body, put_tagged};
+use bfs_auth::{Authenticator, Keys, Text, sign_text};
 use bfs_types::Memory;
-use bfs_xdr::put_u32;
+use sha2::Sha256;
 use std::alloc::Global;
 
-/// Signs a PREPARE or a COMMIT, by its tag. `Memory` if memory runs out.
-pub fn sign_vote(alloc: Global, keys: &Keys, tag: u32, vote: Vote) -> Result<Signed<Vote>, Memory>
-    ensures { IfOk result (λ s. s ≡ record { message = vote; auth = signature keys.now (word tag ++ vote_text vote) }) }
+impl Text for Message {
+    ghost text = { body_text };
+
+    fn hash(&self, hasher: &mut Sha256) {
+        match put_body(self, hasher) {
+            Ok(()) => (),
+            Err(never) => match never {},
+        }
+    }
+}
+
+/// What is signed of a message: its tag, and what stands behind it.
+#[derive(Drop)]
+pub(crate) struct Body<'a, T> {
+    pub(crate) tag: u32,
+    pub(crate) fields: &'a T,
+}
+
+impl<'a, T: Part> Text for Body<'a, T> {
+    ghost text = { λ body. word body.tag ++ T.text body.fields.now };
+
+    fn hash(&self, hasher: &mut Sha256) {
+        match put_tagged(self.tag, self.fields, hasher) {
+            Ok(()) => (),
+            Err(never) => match never {},
+        }
+    }
+}
+
+/// Signs a message. `Memory` if memory runs out.
+pub fn sign(alloc: Global, keys: &Keys, message: Message) -> Result<Signed<Message>, Memory>
+    ensures { IfOk result (λ signed. signed ≡ signed_by keys.now message) }
 {
-    let mut text = Vec::new(alloc);
-    put_u32(&mut text, tag)?;
-    put_vote(&mut text, &vote)?;
-    let auth = sign(alloc, keys, &text)?;
+    let auth = sign_text(alloc, keys, &message)?;
+    Ok(Signed { message, auth })
+}
+
+/// Signs a PREPARE. `Memory` if memory runs out.
+pub fn sign_prepare(alloc: Global, keys: &Keys, vote: Vote) -> Result<Signed<Vote>, Memory>
+    ensures { IfOk result (λ signed. signed ≡ record { message = vote; auth = signature keys.now (word 3 ++ vote_text vote) }) }
+{
+    let auth = sign_fields(alloc, keys, 3, &vote)?;
     Ok(Signed {
         message: vote,
         auth,
@@ -34,12 +73,9 @@ pub fn sign_proposal(
     keys: &Keys,
     proposal: PrePrepare,
 ) -> Result<Signed<PrePrepare>, Memory>
-    ensures { IfOk result (λ s. s ≡ record { message = proposal; auth = signature keys.now (word 2 ++ vote_text proposal.vote) }) }
+    ensures { IfOk result (λ signed. signed ≡ record { message = proposal; auth = signature keys.now (word 2 ++ vote_text proposal.vote) }) }
 {
-    let mut text = Vec::new(alloc);
-    put_u32(&mut text, 2)?;
-    put_vote(&mut text, proposal.vote())?;
-    let auth = sign(alloc, keys, &text)?;
+    let auth = sign_fields(alloc, keys, 2, proposal.vote())?;
     Ok(Signed {
         message: proposal,
         auth,
@@ -52,12 +88,9 @@ pub fn sign_checkpoint(
     keys: &Keys,
     checkpoint: Checkpoint,
 ) -> Result<Signed<Checkpoint>, Memory>
-    ensures { IfOk result (λ s. s ≡ record { message = checkpoint; auth = signature keys.now (word 5 ++ checkpoint_text checkpoint) }) }
+    ensures { IfOk result (λ signed. signed ≡ record { message = checkpoint; auth = signature keys.now (word 5 ++ checkpoint_text checkpoint) }) }
 {
-    let mut text = Vec::new(alloc);
-    put_u32(&mut text, 5)?;
-    put_checkpoint(&mut text, &checkpoint)?;
-    let auth = sign(alloc, keys, &text)?;
+    let auth = sign_fields(alloc, keys, 5, &checkpoint)?;
     Ok(Signed {
         message: checkpoint,
         auth,
@@ -65,30 +98,27 @@ pub fn sign_checkpoint(
 }
 
 /// Signs a VIEW-CHANGE. `Memory` if memory runs out.
-pub fn sign_change(
+pub fn sign_view_change(
     alloc: Global,
     keys: &Keys,
     change: ViewChange,
 ) -> Result<Signed<ViewChange>, Memory>
-    ensures { IfOk result (λ s. s ≡ record { message = change; auth = signature keys.now (word 6 ++ view_change_text change) }) }
+    ensures { IfOk result (λ signed. signed ≡ record { message = change; auth = signature keys.now (word 6 ++ view_change_text change) }) }
 {
-    let mut text = Vec::new(alloc);
-    put_u32(&mut text, 6)?;
-    put_view_change(&mut text, &change)?;
-    let auth = sign(alloc, keys, &text)?;
+    let auth = sign_fields(alloc, keys, 6, &change)?;
     Ok(Signed {
         message: change,
         auth,
     })
 }
 
-/// Signs a NEW-VIEW. `Memory` if memory runs out.
-pub fn sign_new_view(alloc: Global, keys: &Keys, new: NewView) -> Result<Signed<NewView>, Memory>
-    ensures { IfOk result (λ s. s ≡ record { message = new; auth = signature keys.now (word 7 ++ new_view_text new) }) }
+fn sign_fields<T: Part>(
+    alloc: Global,
+    keys: &Keys,
+    tag: u32,
+    fields: &T,
+) -> Result<Authenticator, Memory>
+    ensures { IfOk result (λ auth. auth ≡ signature keys.now (word tag ++ T.text fields.now)) }
 {
-    let mut text = Vec::new(alloc);
-    put_u32(&mut text, 7)?;
-    put_new_view(&mut text, &new)?;
-    let auth = sign(alloc, keys, &text)?;
-    Ok(Signed { message: new, auth })
+    sign_text(alloc, keys, &Body { tag, fields })
 }

@@ -9,7 +9,7 @@ use Rattle.std.proofs.lemmas.List.Elements.{All-drop, All-take}
 use Rattle.bfs_model.specs.Bytes.Call.{◌>>=◌}
 use Rattle.bfs_model.specs.Bytes.Formats.{Reading, word_from, hyper_from, boolean_from, bytes_from, items_from}
 use Rattle.bfs_model.specs.Bytes.Items.{too_long, fixed_at, word, hyper, boolean, counted, fixed, padding_of, word_at, hyper_at, boolean_at, opaque_at}
-use Rattle.bfs_model.specs.Server.Stored.{IsWord, IsByte, AreBytes}
+use Rattle.bfs_model.specs.Server.Stored.{IsWord, IsDouble, IsByte, AreBytes}
 use Rattle.bfs_model.proofs.Laws.{word_again, word_written, hyper_again, hyper_written, boolean_again, boolean_written, opaque_again, opaque_written, fixed_written, bind_ok, guard_then}
 
 -- Tools --------------------------------------------------------------------------------------------------------------
@@ -63,9 +63,6 @@ word_exact = record {
       (h.0, h.1, behind (word n) rest bytes fits h.0);
 }
 
-abbrev pub IsDouble : ℕ → Type 0
-IsDouble n = n < 2 ^ 64
-
 pub hyper_exact : IsExact hyper IsDouble hyper_from
 hyper_exact = record {
   again = λ n rest lt. ap result_ok (hyper_again n rest lt);
@@ -82,8 +79,19 @@ boolean_exact = record {
       (h, tt, behind (boolean b) rest bytes fits h);
 }
 
+abbrev pub IsShort : ℕ → List ℕ → Type 0
+IsShort most bytes = length bytes ≤ most
+
+pub short_exact : (most : ℕ) → most < 2 ^ 32 → IsExact counted (IsShort most) (bytes_from most)
+short_exact most small = record {
+  again = λ item rest short. ap result_ok (opaque_again true most item rest short (omega arith));
+  written = λ bytes item rest fits e.
+      let h = opaque_written most bytes item rest fits (ok_some (opaque_at true most bytes) (item, rest) e) in
+      (h.0, h.1, behind (counted item) rest bytes fits h.0);
+}
+
 abbrev pub AreFew : ℕ → List ℕ → Type 0
-AreFew most bytes = AreBytes bytes × (length bytes ≤ most)
+AreFew most bytes = AreBytes bytes × IsShort most bytes
 
 front : (item rest : List ℕ) → AreBytes (item ++ rest) → AreBytes item
 front item rest fits = subst AreBytes (take_at item rest (length item) refl) (All-take IsByte (length item) (item ++ rest) fits)
@@ -98,10 +106,10 @@ bytes_in item rest bytes fits e =
 
 pub bytes_exact : (most : ℕ) → most < 2 ^ 32 → IsExact counted (AreFew most) (bytes_from most)
 bytes_exact most small = record {
-  again = λ item rest fits. let le : length item ≤ most = fits.1 in ap result_ok (opaque_again true most item rest le (omega arith));
+  again = λ item rest few. (short_exact most small).again item rest few.1;
   written = λ bytes item rest fits e.
-      let h = opaque_written most bytes item rest fits (ok_some (opaque_at true most bytes) (item, rest) e) in
-      (h.0, (bytes_in item rest bytes fits h.0, h.1), behind (counted item) rest bytes fits h.0);
+      let h = (short_exact most small).written bytes item rest fits e in
+      (h.0, (bytes_in item rest bytes fits h.0, h.1), h.2);
 }
 
 -- what is read is no longer than it may be

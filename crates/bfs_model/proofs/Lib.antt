@@ -32,6 +32,7 @@ pub mod RepliesAgain
 pub mod ReplyFits
 pub mod ReplyBytes
 pub mod Exact
+pub mod Combined
 pub mod Turns
 pub mod Live
 pub mod ReadingRows

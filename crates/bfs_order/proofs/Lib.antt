@@ -1,3 +1,8 @@
+-- What proofs share.
+mod Telling
+mod Moving
+mod Certifying
+mod KeptLogs
 mod Certificates
 mod Copies
 mod Entering
@@ -6,3 +11,5 @@ mod Next
 mod Proposals
 mod Senders
 mod Taking
+mod Cleaning
+mod Saying

@@ -50,7 +50,7 @@ impl Order {
         if self.me == self.leader(vote.view()) {
             return Ok(());
         }
-        let own = vote.of(self.me);
+        let own = self.own_vote(vote);
         self.say_once(keys, Message::Prepare(own), sent)
     }
 
@@ -67,8 +67,15 @@ impl Order {
         if !self.is_prepared(vote) {
             return Ok(());
         }
-        let own = vote.of(self.me);
+        let own = self.own_vote(vote);
         self.say_once(keys, Message::Commit(own), sent)
+    }
+
+    // The same from this replica.
+    fn own_vote(&self, vote: &Vote) -> Vote
+        ensures { result ≡ own_vote self.now vote.now.view vote.now.number vote.now.digest }
+    {
+        Vote::new(self.me, vote.view(), vote.number(), *vote.digest())
     }
 
     fn is_prepared(&self, vote: &Vote) -> bool

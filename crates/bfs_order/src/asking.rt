@@ -19,9 +19,9 @@ pub(crate) fn asked_by(message: &Message) -> Asked
     ensures { Asks result (message_header message.now) }
 {
     match message {
-        Message::PrePrepare(proposal) => Asked::Proposal(proposal.vote().copied()),
-        Message::Prepare(vote) => Asked::Prepared(vote.copied()),
-        Message::Checkpoint(checkpoint) => Asked::Stable(checkpoint.copied()),
+        Message::PrePrepare(proposal) => Asked::Proposal(*proposal.vote()),
+        Message::Prepare(vote) => Asked::Prepared(*vote),
+        Message::Checkpoint(checkpoint) => Asked::Stable(*checkpoint),
         _ => Asked::Nothing,
     }
 }

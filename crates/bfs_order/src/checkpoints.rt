@@ -66,7 +66,7 @@ impl Order {
             return Err(error);
         }
         let own = Checkpoint::new(self.me, number, digest);
-        let asked = Asked::Stable(own.copied());
+        let asked = Asked::Stable(own);
         let sent = sign(self.alloc, keys, Message::Checkpoint(own))?;
         self.log.push(sent.try_clone(self.alloc)?)?;
         self.settle(&asked);

@@ -7,10 +7,15 @@ mod checkpoints;
 mod error;
 mod executing;
 mod installing;
+mod laws;
 mod order;
 mod proposing;
 mod refusals;
 mod views;
 
 pub use error::OrderError;
+pub use laws::{
+    a_replica_stays_itself, logs_are_clean, numbers_lie_in_the_window, slots_differ,
+    the_stable_checkpoint_has_its_certificate, what_is_sent_says_one_digest,
+};
 pub use order::Order;

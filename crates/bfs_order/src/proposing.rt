@@ -71,7 +71,7 @@ impl Order {
             return Err(error);
         }
         let own = self.own_proposal(batch);
-        let vote = own.vote().copied();
+        let vote = *own.vote();
         let sent = sign(self.alloc, keys, Message::PrePrepare(own))?;
         self.add_proposal(keys, sent.try_clone(self.alloc)?, &vote)?;
         Ok(sent)

@@ -11,9 +11,9 @@ use Rattle.bfs_model.specs.Server.Limits.{most_reply_bytes}
 use Rattle.bfs_model.specs.Server.Serial.{ordinal_after, answer, replies_to}
 use Rattle.bfs_model.specs.Server.Footprints.{Footprint, known, whole, footprint_of}
 use Rattle.bfs_model.specs.Server.Conflicts.{conflict, is_whole, is_written}
-use Rattle.bfs_model.specs.Server.Groups.{AreDisjoint, IsCut, IsCutBefore, footprints_at, footprints_in_order}
+use Rattle.bfs_model.specs.Server.Groups.{AreDisjoint, IsCut, IsCutBefore, footprints_at}
 use Rattle.bfs_model.specs.Server.WellFormed.{IsWellFormed}
-use Rattle.bfs_model.proofs.Public.{answer_keeps, apart, formed_again, groups_keep_footprints, reply_is_short, resolved_is_touched_by_requests, servable}
+use Rattle.bfs_model.proofs.Public.{answer_keeps, apart, formed_again, reply_is_short, resolved_is_touched_by_requests, servable}
 use Rattle.bfs_footprint.specs.Seen.{footprint_seen}
 use Rattle.bfs_footprint.specs.declared.footprints.Footprint as declared
 use Rattle.bfs_levels.specs.Laws.{AreJoined}
@@ -158,11 +158,6 @@ is_group m o t batch first end items levels formed are two levelled =
     more (suc zero) some two within = absurd (two refl)
     more (suc (suc n)) some two within = omega arith
 
--- each has its footprint, too, where those before it are executed
-in_order : (m : Inodes) (o : ℕ) (t : Time) (requests : List (List ℕ)) → IsWellFormed (record { tree = m; next_ordinal = o; last_time = t }) → IsCut (footprints_at m o t requests) requests
-    → footprints_at m o t requests ≡ footprints_in_order m o t requests
-in_order m o t requests formed cut = sym (groups_keep_footprints (record { tree = m; next_ordinal = o; last_time = t }) t requests formed cut)
-
 pub group_is_planned : (m : Inodes) (o : ℕ) (t : Time) (batch : List (List ℕ)) (first end : ℕ) (group : Group) → IsWellFormed (record { tree = m; next_ordinal = o; last_time = t })
     → AreLongest parts_groups m o t batch first end group.footprints.items → group.first ≡ first → group.level_of.items ≡ levels_of (map footprint_seen group.footprints.items) → IsPlanned m o t batch first group
 group_is_planned m o t batch first end group formed are there levelled =
@@ -172,7 +167,6 @@ group_is_planned m o t batch first end group formed are there levelled =
       first = there;
       some = some parts_groups m o t batch first end items are;
       within = fits parts_groups m o t batch first end items are;
-      in_order = found parts_groups m o t batch first end items are ∙ in_order m o t (requests_from first (length items) batch) formed (joined_cut m o t (requests_from first (length items) batch) joined);
       together = λ two. is_group m o t batch first end items group.level_of.items formed are two levelled;
     }
 
@@ -250,7 +244,6 @@ run_is_planned m o t batch first end run group formed of_run there same level_of
       first = there;
       some = one;
       within = fits parts_runs m o t batch first end items are;
-      in_order = found parts_runs m o t batch first end items are ∙ in_order m o t (requests_from first (length items) batch) formed (disjoint_cut m o t (requests_from first (length items) batch) (are_disjoint m o t batch first end items are));
       together = λ two. run_is_group m o t batch first end items group.level_of.items formed are (more (length items) one two) level;
     }
   where

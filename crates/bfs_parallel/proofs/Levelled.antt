@@ -22,8 +22,8 @@ use Rattle.bfs_levels.specs.Planning.{level_behind, levels_behind}
 use Rattle.bfs_levels.specs.Requests.{requests_from}
 use Rattle.bfs_levels.proofs.Public.{levels_rise}
 use Rattle.bfs_handover.specs.Laws.Carrying.{AreCarriedOut, all_back, outcome_for, stays}
-use Rattle.bfs_handover.specs.Splitting.{CanBeSplit, IsFoundOn, Part, footprint_for, footprints_for, ordinal_of, part_of, request_of}
-use Rattle.bfs_handover.specs.declared.results.Reply.{Reply}
+use Rattle.bfs_handover.specs.Splitting.{CanBeSplit, IsFoundOn, PlannedPart, footprint_for, footprints_for, ordinal_of, part_of, request_of}
+use Rattle.bfs_handover.specs.declared.results.NumberedReply.{NumberedReply}
 use Rattle.bfs_handover.proofs.Public.{length-footprints_at, share_seen}
 use Rattle.bfs_parallel.specs.Levels.{AreInLevels, IsGroupOf, places_from}
 use Rattle.bfs_parallel.specs.Ran.{AllRan}
@@ -97,7 +97,7 @@ each_ran ran number (request ∷ requests) (text ∷ texts) long each = (
 )
 
 -- a reply of a group of so many requests, of which the first has that number
-abbrev pub IsPlaced : (first n : ℕ) → Reply → Type 0
+abbrev pub IsPlaced : (first n : ℕ) → NumberedReply → Type 0
 IsPlaced first n reply = (first ≤ reply.number) × (reply.number < first + n) × (length reply.bytes.items ≤ most_reply_bytes)
 
 -- A group on a tree ----------------------------------------------------------------------------------------------------------
@@ -112,7 +112,7 @@ module _ (m : Inodes) (first o : ℕ) (t : Time) (batch : List (List ℕ)) (fs :
   abbrev requests : List (List ℕ)
   requests = requests_from first (length fs) batch
 
-  abbrev part : Part
+  abbrev part : PlannedPart
   part = part_of first o t batch fs
 
   abbrev own : footprints_in_order m o t requests ≡ footprints_at m o t requests
@@ -291,7 +291,7 @@ module _ (m : Inodes) (first o : ℕ) (t : Time) (batch : List (List ℕ)) (fs :
 
       -- What comes of it -----------------------------------------------------------------------------------------------------
 
-      module _ (after : Inodes) (replies : List Reply) (carried : AreCarriedOut home after part numbers.items replies) (gated : All (λ (reply : Reply). ran reply.number reply.bytes.items) replies) where
+      module _ (after : Inodes) (replies : List NumberedReply) (carried : AreCarriedOut home after part numbers.items replies) (gated : All (λ (reply : NumberedReply). ran reply.number reply.bytes.items) replies) where
         abbrev stay : Inodes
         stay = without (all_moved (map feet ks)) w.home
 
@@ -328,7 +328,7 @@ module _ (m : Inodes) (first o : ℕ) (t : Time) (batch : List (List ℕ)) (fs :
         within_texts = each_of (λ k. k < n) (λ k. k < length texts) (λ k less. subst (λ l. k < l) (sym under.many_texts) less) ks within_group
 
         gated_each : AllByRecursion (λ k. ran (first + k) (telling k)) ks
-        gated_each = all_told first telling ran ks replies for_these (recursion_from_All (λ (reply : Reply). ran reply.number reply.bytes.items) replies gated)
+        gated_each = all_told first telling ran ks replies for_these (recursion_from_All (λ (reply : NumberedReply). ran reply.number reply.bytes.items) replies gated)
 
         put_here : (k : ℕ) → among ks k ≡ true → get_or (put_from first replies texts) k [] ≡ telling k
         put_here = put_there first telling ks replies texts for_these (places_differ levels under.level) within_texts
@@ -430,14 +430,14 @@ module _ (ran : ℕ → List ℕ → Type 0) (m : Inodes) (first o : ℕ) (t : T
   }
 
   pub further : (home : Inodes) (texts : List (List ℕ)) (numbers : Vec ℕ Global) (left : List (Vec ℕ Global)) → IsOnItsWay home texts (numbers ∷ left)
-      → (after : Inodes) (replies : List Reply) → AreCarriedOut home after (part_of first o t batch fs) numbers.items replies → All (λ (reply : Reply). ran reply.number reply.bytes.items) replies
+      → (after : Inodes) (replies : List NumberedReply) → AreCarriedOut home after (part_of first o t batch fs) numbers.items replies → All (λ (reply : NumberedReply). ran reply.number reply.bytes.items) replies
       → IsOnItsWay after (put_from first replies texts) left
   further home texts numbers left way after replies carried gated =
       record { group = way.group; under = goes_on m first o t batch fs levels way.group ran home texts numbers left way.under after replies carried gated }
 
   -- each reply of the next level has its place
   pub placed : (home : Inodes) (texts : List (List ℕ)) (numbers : Vec ℕ Global) (left : List (Vec ℕ Global)) → IsOnItsWay home texts (numbers ∷ left)
-      → (after : Inodes) (replies : List Reply) → AreCarriedOut home after (part_of first o t batch fs) numbers.items replies → All (λ (reply : Reply). ran reply.number reply.bytes.items) replies
+      → (after : Inodes) (replies : List NumberedReply) → AreCarriedOut home after (part_of first o t batch fs) numbers.items replies → All (λ (reply : NumberedReply). ran reply.number reply.bytes.items) replies
       → All (IsPlaced first (length fs)) replies
   placed home texts numbers left way after replies carried gated = all_placed m first o t batch fs levels way.group ran home texts numbers left way.under after replies carried gated
 

@@ -8,8 +8,8 @@ use Rattle.std.specs.declared.vec.Vec.{Vec}
 use Rattle.std.proofs.lemmas.List.{append-nil, get_or-set_same, get_or-set_other, length-set, set-append_right}
 use Rattle.std.proofs.lemmas.List.Elements.{All-head, All-tail}
 use Rattle.bfs_model.specs.Server.Conflicts.{among}
-use Rattle.bfs_handover.specs.declared.results.Reply.{Reply}
-use Rattle.bfs_parallel.specs.Levels.{AreInLevels, AreKept, all_put, numbers_at, numbers_in, places_from}
+use Rattle.bfs_handover.specs.declared.results.NumberedReply.{NumberedReply}
+use Rattle.bfs_parallel.specs.Levels.{AreInLevels, AreKept, all_put, numbers_at, bucket_at, places_from}
 use Rattle.bfs_parallel.proofs.Standing.{Differ}
 
 -- Places ----------------------------------------------------------------------------------------------------------------------
@@ -158,12 +158,12 @@ numbers_more first levels last level number is =
     spread (place ∷ places) b = ap (λ ns. (first + place) ∷ ns) (spread places b)
 
 bucket_here : (buckets : List (Vec ℕ Global)) (at : ℕ) (old new : Vec ℕ Global) (number : ℕ) → at < length buckets → old ≡ slice_index_or buckets at old → new.items ≡ old.items ++ number ∷ []
-    → numbers_in (slice_set buckets at new) at ≡ numbers_in buckets at ++ number ∷ []
+    → bucket_at (slice_set buckets at new) at ≡ bucket_at buckets at ++ number ∷ []
 bucket_here [] at old new number within here is = absurd (omega arith)
 bucket_here (v ∷ vs) zero old new number within here is = is ∙ ap (λ (u : Vec ℕ Global). u.items ++ number ∷ []) here
 bucket_here (v ∷ vs) (suc at) old new number within here is = bucket_here vs at old new number (omega arith) here is
 
-bucket_other : (buckets : List (Vec ℕ Global)) (at level : ℕ) (new : Vec ℕ Global) → (at ≡ level → ⊥) → numbers_in (slice_set buckets at new) level ≡ numbers_in buckets level
+bucket_other : (buckets : List (Vec ℕ Global)) (at level : ℕ) (new : Vec ℕ Global) → (at ≡ level → ⊥) → bucket_at (slice_set buckets at new) level ≡ bucket_at buckets level
 bucket_other [] zero level new other = refl
 bucket_other [] (suc at) level new other = refl
 bucket_other (v ∷ vs) zero zero new other = absurd (other refl)
@@ -172,13 +172,13 @@ bucket_other (v ∷ vs) (suc at) zero new other = refl
 bucket_other (v ∷ vs) (suc at) (suc level) new other = bucket_other vs at level new (λ same. other (ap suc same))
 
 -- the number stands behind the others of its level, and the other levels are as they were
-number_put : (first : ℕ) (levels : List ℕ) (buckets : List (Vec ℕ Global)) (last number level : ℕ) (old new : Vec ℕ Global) → numbers_in buckets level ≡ numbers_at first levels level → last < length buckets
-    → old ≡ slice_index_or buckets last old → new.items ≡ old.items ++ number ∷ [] → numbers_in (slice_set buckets last new) level ≡ numbers_at first levels level ++ if_same last level number
+number_put : (first : ℕ) (levels : List ℕ) (buckets : List (Vec ℕ Global)) (last number level : ℕ) (old new : Vec ℕ Global) → bucket_at buckets level ≡ numbers_at first levels level → last < length buckets
+    → old ≡ slice_index_or buckets last old → new.items ≡ old.items ++ number ∷ [] → bucket_at (slice_set buckets last new) level ≡ numbers_at first levels level ++ if_same last level number
 number_put first levels buckets last number level old new kept within here pushed = by_test (eqb last level) refl
   where
-    by_test : (b : Bool) → eqb last level ≡ b → numbers_in (slice_set buckets last new) level ≡ numbers_at first levels level ++ if_same last level number
+    by_test : (b : Bool) → eqb last level ≡ b → bucket_at (slice_set buckets last new) level ≡ numbers_at first levels level ++ if_same last level number
     by_test true same =
-        subst (λ l. numbers_in (slice_set buckets last new) l ≡ numbers_in buckets l ++ number ∷ []) (eqb-true last level same) (bucket_here buckets last old new number within here pushed)
+        subst (λ l. bucket_at (slice_set buckets last new) l ≡ bucket_at buckets l ++ number ∷ []) (eqb-true last level same) (bucket_here buckets last old new number within here pushed)
         ∙ ap (λ ns. ns ++ number ∷ []) kept ∙ sym (ap (λ b. numbers_at first levels level ++ cond b (number ∷ []) []) same)
     by_test false other =
         bucket_other buckets last level new (λ is. true≢false (sym (eq-eqb last level is) ∙ other))
@@ -205,14 +205,14 @@ kept_more first levels buckets last number old new kept is within here pushed = 
 }
 
 -- where there are more levels, and nothing stands at the new ones
-pub kept_grown : (first : ℕ) (levels : List ℕ) (buckets others : List (Vec ℕ Global)) → AreKept first levels buckets → length buckets ≤ length others → ((level : ℕ) → numbers_in others level ≡ numbers_in buckets level) → AreKept first levels others
+pub kept_grown : (first : ℕ) (levels : List ℕ) (buckets others : List (Vec ℕ Global)) → AreKept first levels buckets → length buckets ≤ length others → ((level : ℕ) → bucket_at others level ≡ bucket_at buckets level) → AreKept first levels others
 kept_grown first levels buckets others kept longer same = record {
   each = λ level. same level ∙ kept.each level;
   below = λ place less. let low = kept.below place less in omega arith;
 }
 
 -- nothing stands at a level that is put behind
-pub nothing_behind : (buckets : List (Vec ℕ Global)) (none : Vec ℕ Global) → none.items ≡ [] → (level : ℕ) → numbers_in (buckets ++ none ∷ []) level ≡ numbers_in buckets level
+pub nothing_behind : (buckets : List (Vec ℕ Global)) (none : Vec ℕ Global) → none.items ≡ [] → (level : ℕ) → bucket_at (buckets ++ none ∷ []) level ≡ bucket_at buckets level
 nothing_behind [] none is zero = is
 nothing_behind [] none is (suc level) = refl
 nothing_behind (bucket ∷ buckets) none is zero = refl
@@ -228,7 +228,7 @@ all_taken zero (level ∷ levels) long = absurd (omega arith)
 all_taken (suc n) (level ∷ levels) long = ap (λ rest. level ∷ rest) (all_taken n levels (omega arith))
 
 -- level after level
-in_levels_from : (first : ℕ) (levels : List ℕ) (level : ℕ) (buckets : List (Vec ℕ Global)) → ((k : ℕ) → numbers_in buckets k ≡ numbers_at first levels (level + k)) → ((place : ℕ) → place < length levels → get_or levels place 0 < level + length buckets)
+in_levels_from : (first : ℕ) (levels : List ℕ) (level : ℕ) (buckets : List (Vec ℕ Global)) → ((k : ℕ) → bucket_at buckets k ≡ numbers_at first levels (level + k)) → ((place : ℕ) → place < length levels → get_or levels place 0 < level + length buckets)
     → AreInLevels first levels level buckets
 in_levels_from first levels level [] each below = λ place less. let low = below place less in omega arith
 in_levels_from first levels level (bucket ∷ buckets) each below = (
@@ -243,27 +243,27 @@ in_levels first levels buckets kept =
 -- Replies ---------------------------------------------------------------------------------------------------------------------------
 
 -- each reply at the place of its number, where the first has that number
-abbrev pub put_from : (first : ℕ) → List Reply → List (List ℕ) → List (List ℕ)
+abbrev pub put_from : (first : ℕ) → List NumberedReply → List (List ℕ) → List (List ℕ)
 put_from first [] texts = texts
 put_from first (reply ∷ replies) texts = put_from first replies (slice_set texts (reply.number - first) reply.bytes.items)
 
-pub length-put_from : (first : ℕ) (replies : List Reply) (texts : List (List ℕ)) → length (put_from first replies texts) ≡ length texts
+pub length-put_from : (first : ℕ) (replies : List NumberedReply) (texts : List (List ℕ)) → length (put_from first replies texts) ≡ length texts
 length-put_from first [] texts = refl
 length-put_from first (reply ∷ replies) texts = length-put_from first replies (slice_set texts (reply.number - first) reply.bytes.items) ∙ length-set texts (reply.number - first) reply.bytes.items
 
 -- behind so many others, each is at the place of its number among all
-pub put_behind : (before : List (List ℕ)) (first : ℕ) (replies : List Reply) (texts : List (List ℕ)) → length before ≡ first → All (λ (reply : Reply). first ≤ reply.number) replies
+pub put_behind : (before : List (List ℕ)) (first : ℕ) (replies : List NumberedReply) (texts : List (List ℕ)) → length before ≡ first → All (λ (reply : NumberedReply). first ≤ reply.number) replies
     → all_put replies (before ++ texts) ≡ before ++ put_from first replies texts
 put_behind before first [] texts long from = refl
 put_behind before first (reply ∷ replies) texts long from =
-    ap (all_put replies) (set-append_right before texts first reply.number reply.bytes.items long (All-head (λ (other : Reply). first ≤ other.number) reply replies from))
-    ∙ put_behind before first replies (slice_set texts (reply.number - first) reply.bytes.items) long (All-tail (λ (other : Reply). first ≤ other.number) reply replies from)
+    ap (all_put replies) (set-append_right before texts first reply.number reply.bytes.items long (All-head (λ (other : NumberedReply). first ≤ other.number) reply replies from))
+    ∙ put_behind before first replies (slice_set texts (reply.number - first) reply.bytes.items) long (All-tail (λ (other : NumberedReply). first ≤ other.number) reply replies from)
 
 module _ (first : ℕ) (told : ℕ → List ℕ) where
   -- the replies are those of these places
-  pub record AreFor (ks : List ℕ) (replies : List Reply) : Type 0 where
-    pub numbered : map (λ (reply : Reply). reply.number) replies ≡ map (λ k. first + k) ks
-    pub answers : map (λ (reply : Reply). reply.bytes.items) replies ≡ map told ks
+  pub record AreFor (ks : List ℕ) (replies : List NumberedReply) : Type 0 where
+    pub numbered : map (λ (reply : NumberedReply). reply.number) replies ≡ map (λ k. first + k) ks
+    pub answers : map (λ (reply : NumberedReply). reply.bytes.items) replies ≡ map told ks
 
   abbrev head_of : List ℕ → ℕ
   head_of [] = 0
@@ -277,7 +277,7 @@ module _ (first : ℕ) (told : ℕ → List ℕ) where
   text_of [] = []
   text_of (x ∷ xs) = x
 
-  module _ (k : ℕ) (ks : List ℕ) (reply : Reply) (replies : List Reply) (texts : List (List ℕ)) (are : AreFor (k ∷ ks) (reply ∷ replies)) (others : AllByRecursion (λ i. eqb k i ≡ false) ks) (within : k < length texts) (j : ℕ) where
+  module _ (k : ℕ) (ks : List ℕ) (reply : NumberedReply) (replies : List NumberedReply) (texts : List (List ℕ)) (are : AreFor (k ∷ ks) (reply ∷ replies)) (others : AllByRecursion (λ i. eqb k i ≡ false) ks) (within : k < length texts) (j : ℕ) where
     abbrev now : List (List ℕ)
     now = slice_set texts (reply.number - first) reply.bytes.items
 
@@ -315,10 +315,10 @@ module _ (first : ℕ) (told : ℕ → List ℕ) where
   rest_within texts others [] long all = tt
   rest_within texts others (i ∷ js) long all = (subst (λ n. i < n) (sym long) all.0, rest_within texts others js long all.1)
 
-  put_at : (ks : List ℕ) (replies : List Reply) (texts : List (List ℕ)) → AreFor ks replies → Differ ks → AllByRecursion (λ k. k < length texts) ks → (j : ℕ)
+  put_at : (ks : List ℕ) (replies : List NumberedReply) (texts : List (List ℕ)) → AreFor ks replies → Differ ks → AllByRecursion (λ k. k < length texts) ks → (j : ℕ)
       → (among ks j ≡ true → get_or (put_from first replies texts) j [] ≡ told j) × (among ks j ≡ false → get_or (put_from first replies texts) j [] ≡ get_or texts j [])
   put_at [] [] texts are others within j = ((λ is. absurd (true≢false (sym is))), (λ none. refl))
-  put_at [] (reply ∷ replies) texts are others within j = absurd (let wrong : suc (length (map (λ (other : Reply). other.number) replies)) ≡ 0 = ap length are.numbered in omega arith)
+  put_at [] (reply ∷ replies) texts are others within j = absurd (let wrong : suc (length (map (λ (other : NumberedReply). other.number) replies)) ≡ 0 = ap length are.numbered in omega arith)
   put_at (k ∷ ks) [] texts are others within j = absurd (let wrong : 0 ≡ suc (length (map (λ i. first + i) ks)) = ap length are.numbered in omega arith)
   put_at (k ∷ ks) (reply ∷ replies) texts are others within j =
       let now = slice_set texts (reply.number - first) reply.bytes.items in
@@ -328,14 +328,14 @@ module _ (first : ℕ) (told : ℕ → List ℕ) where
         (λ none. other_by k ks reply replies texts are others.0 within.0 j rest.0 rest.1 (eqb k j) refl none),
       )
 
-  pub put_there : (ks : List ℕ) (replies : List Reply) (texts : List (List ℕ)) → AreFor ks replies → Differ ks → AllByRecursion (λ k. k < length texts) ks → (j : ℕ) → among ks j ≡ true → get_or (put_from first replies texts) j [] ≡ told j
+  pub put_there : (ks : List ℕ) (replies : List NumberedReply) (texts : List (List ℕ)) → AreFor ks replies → Differ ks → AllByRecursion (λ k. k < length texts) ks → (j : ℕ) → among ks j ≡ true → get_or (put_from first replies texts) j [] ≡ told j
   put_there ks replies texts are differ within j = (put_at ks replies texts are differ within j).0
 
-  pub put_elsewhere : (ks : List ℕ) (replies : List Reply) (texts : List (List ℕ)) → AreFor ks replies → Differ ks → AllByRecursion (λ k. k < length texts) ks → (j : ℕ) → among ks j ≡ false → get_or (put_from first replies texts) j [] ≡ get_or texts j []
+  pub put_elsewhere : (ks : List ℕ) (replies : List NumberedReply) (texts : List (List ℕ)) → AreFor ks replies → Differ ks → AllByRecursion (λ k. k < length texts) ks → (j : ℕ) → among ks j ≡ false → get_or (put_from first replies texts) j [] ≡ get_or texts j []
   put_elsewhere ks replies texts are differ within j = (put_at ks replies texts are differ within j).1
 
   -- what holds of each reply's number and bytes
-  pub all_told : (P : ℕ → List ℕ → Type 0) (ks : List ℕ) (replies : List Reply) → AreFor ks replies → AllByRecursion (λ (reply : Reply). P reply.number reply.bytes.items) replies → AllByRecursion (λ k. P (first + k) (told k)) ks
+  pub all_told : (P : ℕ → List ℕ → Type 0) (ks : List ℕ) (replies : List NumberedReply) → AreFor ks replies → AllByRecursion (λ (reply : NumberedReply). P reply.number reply.bytes.items) replies → AllByRecursion (λ k. P (first + k) (told k)) ks
   all_told P [] replies are all = tt
   all_told P (k ∷ ks) [] are all = absurd (let wrong : 0 ≡ suc (length (map (λ i. first + i) ks)) = ap length are.numbered in omega arith)
   all_told P (k ∷ ks) (reply ∷ replies) are all = (
@@ -343,9 +343,9 @@ module _ (first : ℕ) (told : ℕ → List ℕ) where
     all_told P ks replies (record { numbered = ap tail_of are.numbered; answers = ap tail_of are.answers }) all.1,
   )
 
-  pub all_said : (P : ℕ → List ℕ → Type 0) (ks : List ℕ) (replies : List Reply) → AreFor ks replies → AllByRecursion (λ k. P (first + k) (told k)) ks → AllByRecursion (λ (reply : Reply). P reply.number reply.bytes.items) replies
+  pub all_said : (P : ℕ → List ℕ → Type 0) (ks : List ℕ) (replies : List NumberedReply) → AreFor ks replies → AllByRecursion (λ k. P (first + k) (told k)) ks → AllByRecursion (λ (reply : NumberedReply). P reply.number reply.bytes.items) replies
   all_said P ks [] are all = tt
-  all_said P [] (reply ∷ replies) are all = absurd (let wrong : suc (length (map (λ (other : Reply). other.number) replies)) ≡ 0 = ap length are.numbered in omega arith)
+  all_said P [] (reply ∷ replies) are all = absurd (let wrong : suc (length (map (λ (other : NumberedReply). other.number) replies)) ≡ 0 = ap length are.numbered in omega arith)
   all_said P (k ∷ ks) (reply ∷ replies) are all = (
     subst (λ n. P n reply.bytes.items) (sym (ap head_of are.numbered)) (subst (P (first + k)) (sym (ap text_of are.answers)) all.0),
     all_said P ks replies (record { numbered = ap tail_of are.numbered; answers = ap tail_of are.answers }) all.1,

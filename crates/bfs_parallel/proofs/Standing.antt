@@ -1,18 +1,18 @@
 -- A group on its way: level after level its requests are carried out on inodes of their own, and stand as in the model's law on levels.
-use Rattle.std.proofs.Common.{◌≡◌, ℕ, zero, suc, ◌<◌, ◌≤◌, Bool, true, false, cond, not, ◌||◌, List, [], ◌∷◌, ◌++◌, length, map, None, refl, ap, sym, subst, ◌∙◌, arith, eqb, eq-eqb, eqb-true, ne_eqb, true≢false, inl, inr}
+use Rattle.std.proofs.Common.{◌≡◌, ℕ, ◌<◌, ◌≤◌, Bool, true, false, cond, not, ◌||◌, List, [], ◌∷◌, ◌++◌, length, map, None, refl, ap, sym, subst, ◌∙◌, eqb, eq-eqb, eqb-true, ne_eqb, true≢false}
 use Rattle.std.specs.List.{AllByRecursion}
 use Rattle.std.specs.FinMap.{get}
 use Rattle.std.proofs.lemmas.Bool.{cond-true, cond-false}
 use Rattle.bfs_model.specs.Server.Tree.{Time, Inodes}
 use Rattle.bfs_model.specs.Server.Limits.{most_reply_bytes}
-use Rattle.bfs_model.specs.Server.Serial.{ordinal_after, answer}
 use Rattle.bfs_model.specs.Server.Footprints.{Footprint, IsFreshFor}
 use Rattle.bfs_model.specs.Server.Conflicts.{among, is_written, AgreeOn, closed, outcome_on}
 use Rattle.bfs_model.specs.Server.Shares.{moved_for, all_moved}
 use Rattle.bfs_model.specs.Server.Groups.{footprints_at, footprints_in_order}
 use Rattle.bfs_model.specs.Server.Events.{Slot, taken, finished, is_done, World, moved, state, carried_out, took, ended, took_all, ended_all, AreDistinct, IsLevel, InLevels}
-use Rattle.bfs_model.specs.Laws.Overtaking.{Asked, answered, asked_at, plan, calls, at_first, MayBeTaken, HasItsFootprint, LevelsLead}
-use Rattle.bfs_model.proofs.Public.{AllHome, IsServable, Kept, agrees, answer_keeps, formed_again, fresh_for_request, get-closed, get-without, holds_on, its_own, local, moved_is_written, new_in, reply_is_short, same_inodes, shifted, start_kept, still_home, turn_keeps}
+use Rattle.bfs_model.specs.Laws.Overtaking.{Asked, answered, plan, calls, at_first, MayBeTaken, HasItsFootprint, LevelsLead}
+use Rattle.bfs_model.proofs.Public.{AllHome, IsServable, Kept, agrees, formed_again, fresh_for_request, get-closed, get-without, holds_on, its_own, local, moved_is_written, reply_is_short, same_inodes, start_kept, still_home, turn_keeps}
+use Rattle.bfs_levels.proofs.Public.{fresh_seen, servable_there}
 use Rattle.bfs_handover.proofs.Public.{among_both, none_among}
 
 -- One put over another ------------------------------------------------------------------------------------------------------
@@ -27,19 +27,6 @@ closed_twice f left own home = same_inodes _ _ (λ x.
     ∙ ap (λ v. cond (is_written f x) v (get home x)) (get-closed f left own x)
     ∙ cond_twice (is_written f x) (get left x) (get own x) (get home x)
     ∙ sym (get-closed f left home x))
-
--- the inodes serve each request at its place in the batch
-servable_there : (n : ℕ) (feet : ℕ → Footprint) (m : Inodes) (o : ℕ) (t : Time) (requests : List (List ℕ)) (k : ℕ) → IsServable m o → k < length requests
-    → IsServable (state answered n (asked_at o t requests) feet m k) (asked_at o t requests k).ordinal
-servable_there n feet m o t [] k good less = absurd (omega arith)
-servable_there n feet m o t (request ∷ requests) zero good less = good
-servable_there n feet m o t (request ∷ requests) (suc k) good less =
-    subst (λ after. IsServable after (asked_at (ordinal_after o 1) t requests k).ordinal) (sym (shifted n feet (asked_at o t (request ∷ requests)) m k))
-    (servable_there n feet (answer m o t request).0 (ordinal_after o 1) t requests k (answer_keeps m o t request good) (omega arith))
-
-fresh_seen : (m others : Inodes) (o : ℕ) (f : Footprint) → AgreeOn f m others → IsFreshFor m o f → IsFreshFor others o f
-fresh_seen m others o f agree (inl spent) = inl spent
-fresh_seen m others o f agree (inr new) = inr (new_in o m others f agree new)
 
 undone_before : {R : Type 0} (b : Bool) (reply : R) (slot : Slot R) → is_done (cond b (finished reply) slot) ≡ false → is_done slot ≡ false
 undone_before true reply slot is = absurd (true≢false is)

@@ -6,13 +6,13 @@ use Rattle.std.specs.declared.vec.Vec.{Vec}
 use Rattle.bfs_model.specs.Server.Tree.{Time, Inodes}
 use Rattle.bfs_model.specs.Server.Footprints.{Footprint}
 use Rattle.bfs_model.specs.Server.Conflicts.{is_whole}
-use Rattle.bfs_model.specs.Server.Groups.{IsCut, footprints_at, footprints_in_order}
+use Rattle.bfs_model.specs.Server.Groups.{IsCut, footprints_at}
 use Rattle.bfs_model.specs.Server.WellFormed.{IsWellFormed}
 use Rattle.bfs_levels.specs.Planning.{levels_of}
 use Rattle.bfs_levels.specs.Requests.{requests_from}
 use Rattle.bfs_levels.specs.declared.group.Group.{Group}
 use Rattle.bfs_footprint.specs.Seen.{footprint_seen}
-use Rattle.bfs_handover.specs.declared.results.Reply.{Reply}
+use Rattle.bfs_handover.specs.declared.results.NumberedReply.{NumberedReply}
 
 -- Groups --------------------------------------------------------------------------------------------------------------------
 
@@ -25,12 +25,11 @@ pub record IsGroupOf (inodes : Inodes) (first ordinal : ℕ) (time : Time) (batc
   pub cut : IsCut (footprints_at inodes ordinal time (requests_from first (length footprints) batch)) (requests_from first (length footprints) batch)
   pub levelled : levels ≡ levels_of footprints
 
--- what was planned together from a place on: each request has its footprint when its turn comes, and two and more are a group
+-- what was planned together from a place on: two requests and more are a group
 pub record IsPlanned (inodes : Inodes) (ordinal : ℕ) (time : Time) (batch : List (List ℕ)) (place : ℕ) (group : Group) : Type 0 where
   pub first : group.first ≡ place
   pub some : 0 < length group.footprints.items
   pub within : place + length group.footprints.items ≤ length batch
-  pub in_order : map footprint_seen group.footprints.items ≡ footprints_in_order inodes ordinal time (requests_from place (length group.footprints.items) batch)
   pub together : (length group.footprints.items ≡ 1 → ⊥) → IsGroupOf inodes place ordinal time batch (map footprint_seen group.footprints.items) group.level_of.items
 
 -- Numbers -------------------------------------------------------------------------------------------------------------------
@@ -50,19 +49,19 @@ AreInLevels first levels level [] = (place : ℕ) → place < length levels → 
 AreInLevels first levels level (numbers ∷ others) = (numbers.items ≡ numbers_at first levels level) × AreInLevels first levels (level + 1) others
 
 -- the numbers that stand at a level
-abbrev pub numbers_in : List (Vec ℕ Global) → (level : ℕ) → List ℕ
-numbers_in [] level = []
-numbers_in (numbers ∷ others) zero = numbers.items
-numbers_in (numbers ∷ others) (suc level) = numbers_in others level
+abbrev pub bucket_at : List (Vec ℕ Global) → (level : ℕ) → List ℕ
+bucket_at [] level = []
+bucket_at (numbers ∷ others) zero = numbers.items
+bucket_at (numbers ∷ others) (suc level) = bucket_at others level
 
 -- the numbers so far stand at their levels
 pub record AreKept (first : ℕ) (levels : List ℕ) (buckets : List (Vec ℕ Global)) : Type 0 where
-  pub each : (level : ℕ) → numbers_in buckets level ≡ numbers_at first levels level
+  pub each : (level : ℕ) → bucket_at buckets level ≡ numbers_at first levels level
   pub below : (place : ℕ) → place < length levels → get_or levels place 0 < length buckets
 
 -- Replies in their places ---------------------------------------------------------------------------------------------------
 
 -- each reply at the place of its number
-abbrev pub all_put : List Reply → List (List ℕ) → List (List ℕ)
+abbrev pub all_put : List NumberedReply → List (List ℕ) → List (List ℕ)
 all_put [] texts = texts
 all_put (reply ∷ replies) texts = all_put replies (slice_set texts reply.number reply.bytes.items)

@@ -10,7 +10,7 @@ ghost use Rattle.bfs_parallel.specs.Parts.{IsCarriedOut};
 
 use crate::means::Means;
 use bfs_footprint::Footprint;
-use bfs_handover::{Done, MergeError, Reply, merge, merge_one, split_part, split_request};
+use bfs_handover::{Done, MergeError, NumberedReply, merge, merge_one, split_part, split_request};
 use bfs_levels::Part;
 use bfs_tree::Tree;
 use bfs_types::Memory;
@@ -28,7 +28,7 @@ pub(crate) fn carry_out<R: Threads + Wait + Sync, G: Gate + Sync>(
     footprints: &[Footprint],
     numbers: &[u32],
     workers: Workers,
-) -> Result<Vec<Reply>, Memory>
+) -> Result<Vec<NumberedReply>, Memory>
     requires whole { IsTrue ((reach_of tree.old).whole) }
     requires footprints { All (IsFoundOn (at_home tree.old) (part_with part.now footprints.now)) numbers.now }
     requires numbers { All (CanBeSplit (at_home tree.old) (part_with part.now footprints.now)) numbers.now }
@@ -58,7 +58,7 @@ fn carry_one<G: Gate>(
     footprints: &[Footprint],
     number: u32,
     gate: &G,
-) -> Result<Reply, Memory>
+) -> Result<NumberedReply, Memory>
     requires whole { IsTrue ((reach_of tree.old).whole) }
     requires footprint { IsFoundOn (at_home tree.old) (part_with part.now footprints.now) number }
     requires number { CanBeSplit (at_home tree.old) (part_with part.now footprints.now) number }
@@ -75,7 +75,7 @@ fn merge_all(
     tree: &mut Tree,
     numbers: &[u32],
     dones: Vec<Done>,
-) -> Result<Vec<Reply>, Memory>
+) -> Result<Vec<NumberedReply>, Memory>
     requires rising { IsStrictlyIncreasing numbers.now }
     requires each { IsPermutation numbers.now (numbers_in dones.items) }
     requires out { AreOut tree.old dones.items }

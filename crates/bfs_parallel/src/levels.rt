@@ -3,13 +3,13 @@ ghost use Rattle.std.specs.List.{All};
 ghost use Rattle.bfs_model.specs.Server.Limits.{most_reply_bytes};
 ghost use Rattle.bfs_footprint.specs.Seen.{footprint_seen};
 ghost use Rattle.bfs_tree.specs.Tree.{at_home, reach_of};
-ghost use Rattle.bfs_parallel.specs.Levels.{AreInLevels, AreKept, IsGroupOf, all_put, numbers_in};
+ghost use Rattle.bfs_parallel.specs.Levels.{AreInLevels, AreKept, IsGroupOf, all_put, bucket_at};
 ghost use Rattle.bfs_parallel.specs.Parts.{IsPartExecuted};
 
 use crate::carrying::carry_out;
 use crate::means::Means;
 use crate::rounds::Rounds;
-use bfs_handover::Reply;
+use bfs_handover::NumberedReply;
 use bfs_levels::{Group, Part};
 use bfs_serial::Replies;
 use bfs_tree::Tree;
@@ -89,7 +89,7 @@ fn put_number(
 fn grow(alloc: Global, levels: &mut Vec<Vec<u32>>, level: usize) -> Result<(), Memory>
     ensures long { OnOk result (level < length levels.new.items) }
     ensures no_shorter { OnOk result (length levels.old.items ≤ length levels.new.items) }
-    ensures same { OnOk result ((other : ℕ) → numbers_in levels.new.items other ≡ numbers_in levels.old.items other) }
+    ensures same { OnOk result ((other : ℕ) → bucket_at levels.new.items other ≡ bucket_at levels.old.items other) }
 {
     while levels.len() <= level {
         levels.push(Vec::new(alloc))?;
@@ -98,7 +98,7 @@ fn grow(alloc: Global, levels: &mut Vec<Vec<u32>>, level: usize) -> Result<(), M
 }
 
 // puts each reply at the place of its number
-fn put_all(replies: &mut Replies, carried: Vec<Reply>)
+fn put_all(replies: &mut Replies, carried: Vec<NumberedReply>)
     requires { All (λ reply. (reply.number < length replies.old) × (length reply.bytes.items ≤ most_reply_bytes)) carried.items }
     ensures { replies.new ≡ all_put carried.items replies.old }
 {

@@ -1,4 +1,4 @@
 pub mod Codes
 pub mod Errors
 pub mod Executed
-pub mod Held
+pub mod Parts

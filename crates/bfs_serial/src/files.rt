@@ -2,7 +2,7 @@ ghost use Rattle.std.specs.Prelude.{◌≡◌, ◌↔◌, IsTrue, IfOk, IfSome, 
 ghost use Rattle.std.specs.Option.{ForSome, option_map};
 ghost use Rattle.bfs_model.specs.Server.Stored.{IsLive};
 ghost use Rattle.bfs_model.specs.Server.Tree.{new_file_system};
-ghost use Rattle.bfs_serial.specs.Held.{held};
+ghost use Rattle.bfs_serial.specs.Parts.{file_system_of};
 ghost use Rattle.bfs_tree.specs.Tree.{at_home, reach_of};
 
 use bfs_tree::Tree;
@@ -30,12 +30,12 @@ impl Model for Live {
 
     ghost use Rattle.std.specs.Prelude.{IsTrue};
     ghost use Rattle.bfs_model.specs.Server.Stored.{IsLive};
-    ghost use Rattle.bfs_serial.specs.Held.{held};
+    ghost use Rattle.bfs_serial.specs.Parts.{file_system_of};
     ghost use Rattle.bfs_tree.specs.Tree.{reach_of};
 
-    ghost view = { λ live. held live.tree live.next_ordinal live.last_time };
+    ghost view = { λ live. file_system_of live.tree live.next_ordinal live.last_time };
 
-    ghost invariant = { λ live. IsTrue ((reach_of live.tree).whole) × IsLive (held live.tree live.next_ordinal live.last_time) };
+    ghost invariant = { λ live. IsTrue ((reach_of live.tree).whole) × IsLive (file_system_of live.tree live.next_ordinal live.last_time) };
 }
 
 /// A file system, which is live until it fails because memory ran out. A live one is well formed, and can be stored.
@@ -118,9 +118,9 @@ impl FileSystem {
     /// Takes out what it holds, to be carried on elsewhere and put back by `put_parts`: its tree, the ordinal of the next request, and
     /// the time of the last batch. It has failed from then on. `None` if it has failed before. It takes no memory.
     pub fn take_parts(&mut self) -> Option<(Tree, Ordinal, Time)>
-        ensures value { option_map (λ parts. held parts.0 parts.1 parts.2) result ≡ self.old }
+        ensures value { option_map (λ parts. file_system_of parts.0 parts.1 parts.2) result ≡ self.old }
         ensures whole { IfSome result (λ parts. IsTrue ((reach_of parts.0).whole)) }
-        ensures live { IfSome result (λ parts. IsLive (held parts.0 parts.1 parts.2)) }
+        ensures live { IfSome result (λ parts. IsLive (file_system_of parts.0 parts.1 parts.2)) }
         ensures failed { self.new ≡ None }
     {
         let Live {
@@ -135,8 +135,8 @@ impl FileSystem {
     /// file system. It takes no memory.
     pub fn put_parts(&mut self, tree: Tree, next_ordinal: Ordinal, last_time: Time)
         requires whole { IsTrue ((reach_of tree).whole) }
-        requires live { IsLive (held tree next_ordinal last_time) }
-        ensures { self.new ≡ Some (held tree next_ordinal last_time) }
+        requires live { IsLive (file_system_of tree next_ordinal last_time) }
+        ensures { self.new ≡ Some (file_system_of tree next_ordinal last_time) }
     {
         *self = FileSystem::from_parts(tree, next_ordinal, last_time);
     }
@@ -144,8 +144,8 @@ impl FileSystem {
     /// A live file system that holds these. The tree is whole, and the three are those of a live file system. It takes no memory.
     pub fn from_parts(tree: Tree, next_ordinal: Ordinal, last_time: Time) -> FileSystem
         requires whole { IsTrue ((reach_of tree).whole) }
-        requires live { IsLive (held tree next_ordinal last_time) }
-        ensures { result ≡ Some (held tree next_ordinal last_time) }
+        requires live { IsLive (file_system_of tree next_ordinal last_time) }
+        ensures { result ≡ Some (file_system_of tree next_ordinal last_time) }
     {
         FileSystem {
             live: Some(Live {

@@ -10,7 +10,7 @@ use Rattle.std.proofs.lemmas.Cmp.{nat_cmp_total}
 use Rattle.std.proofs.lemmas.Option.{none-some}
 use Rattle.bfs_tree.proofs.MapLemmas.{first, second, both}
 use Rattle.bfs_tree.specs.Maps.{with_picked, picked_entries, picked}
-use Rattle.bfs_tree.specs.Counting.{one_if_some}
+use Rattle.bfs_tree.specs.Inside.Counting.{one_if_some}
 
 not_less : (o : Ordering) → T (is_lt o) → is_eq o ≡ false
 not_less Less h = refl

@@ -16,7 +16,7 @@ use Rattle.bfs_tree.specs.declared.counts.Counts.{Counts}
 use Rattle.bfs_tree.specs.Maps.{map_of, picked}
 use Rattle.bfs_tree.specs.Slots.{Slots, inode_in, loan_in, with_inode}
 use Rattle.bfs_tree.specs.Tree.{at_home, lent, reach_of, reach_without, with_inode_at, with_inode_in}
-use Rattle.bfs_tree.specs.Counting.{Adds, AreCounted, Includes, inodes_in, loans_in}
+use Rattle.bfs_tree.specs.Inside.Counting.{Adds, AreCounted, Includes, inodes_in, loans_in}
 use Rattle.bfs_tree.proofs.Laws.{insert_same}
 use Rattle.bfs_tree.proofs.MapLemmas.{len-map_of}
 use Rattle.bfs_tree.proofs.Picking.{few_picked, get-picked, picked-insert, picked-none, picked-remove, len-picked-insert, len-picked-remove}

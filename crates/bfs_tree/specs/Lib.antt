@@ -3,6 +3,5 @@ pub mod Lending
 pub mod Maps
 pub mod Slots
 pub mod Tree
-pub mod Counting
-pub mod Knowing
-pub mod WellFormed
+pub mod Laws
+pub mod Inside

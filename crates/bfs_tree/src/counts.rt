@@ -1,6 +1,6 @@
 ghost use Rattle.std.specs.Prelude.{◌^◌, ◌<◌, Some};
 ghost use Rattle.std.specs.Option.{option_copied};
-ghost use Rattle.bfs_tree.specs.Counting.{Adds, Includes};
+ghost use Rattle.bfs_tree.specs.Inside.Counting.{Adds, Includes};
 
 use crate::slots::Slot;
 

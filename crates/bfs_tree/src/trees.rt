@@ -8,7 +8,7 @@ ghost use Rattle.bfs_model.specs.Server.Procedures.Status.{used_blocks};
 ghost use Rattle.bfs_tree.specs.Reach.{Reach};
 ghost use Rattle.bfs_tree.specs.Tree.{at_home, brought, lent, reach_of, reserved};
 ghost use Rattle.bfs_tree.specs.declared.slots.Slot.TheVariants as slot;
-ghost use Rattle.bfs_tree.specs.Knowing.{knows_all};
+ghost use Rattle.bfs_tree.specs.Laws.Knowing.{knows_all};
 
 use crate::boxed::BoxedInode;
 use crate::inodes::Inodes;

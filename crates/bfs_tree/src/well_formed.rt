@@ -5,7 +5,7 @@ ghost use Rattle.bfs_model.specs.Server.Limits.{most_entries};
 ghost use Rattle.bfs_model.specs.Server.Tree.{entries_at, entries_in, is_directory};
 ghost use Rattle.bfs_model.specs.Server.WellFormed as model;
 ghost use Rattle.bfs_tree.specs.Tree.{at_home, reach_of};
-ghost use Rattle.bfs_tree.specs.WellFormed as place;
+ghost use Rattle.bfs_tree.specs.Inside.WellFormed as place;
 
 mod limits;
 

@@ -2,7 +2,7 @@
 ghost use Rattle.std.specs.Prelude.{◌≡◌, ℕ, ◌+◌, ◌%◌};
 ghost use Rattle.bfs_model.specs.Bytes.Attributes.{block_size, total_blocks, transfer_size};
 ghost use Rattle.bfs_model.specs.Server.Changes.{permission_bits};
-ghost use Rattle.bfs_model.specs.Server.Limits.{most_file_bytes, most_data_bytes, most_name_bytes, most_path_bytes, most_entries, most_links, most_request_bytes, most_reply_bytes, most_requests, most_replicas, most_clients};
+ghost use Rattle.bfs_model.specs.Server.Limits.{most_file_bytes, most_data_bytes, most_name_bytes, most_path_bytes, most_entries, most_links, most_request_bytes, most_reply_bytes, most_requests, most_replicas, most_clients, most_number, log_size};
 
 /// The bytes of a file.
 pub const MOST_FILE_BYTES: usize = 1_048_576;
@@ -40,6 +40,12 @@ pub const MOST_REPLICAS: usize = 31;
 /// The clients.
 pub const MOST_CLIENTS: u32 = 1_024;
 
+/// The number of a view, and of a batch in the order: below 2^63.
+pub const MOST_NUMBER: u64 = (1 << 63) - 1;
+
+/// The numbers between the low and the high mark (OSDI 1999 section 4.3), and so the batches that are ordered at once.
+pub const LOG_SIZE: usize = 32;
+
 /// The bytes of a block (RFC 1094 section 2.2.18, bsize).
 pub const BLOCK_SIZE: u32 = 4_096;
 
@@ -63,6 +69,8 @@ pub fn limits_are_those_of_the_model()
     ensures requests { MOST_REQUESTS ≡ most_requests }
     ensures replicas { MOST_REPLICAS ≡ most_replicas }
     ensures clients { MOST_CLIENTS ≡ most_clients }
+    ensures number { MOST_NUMBER ≡ most_number }
+    ensures log_size { LOG_SIZE ≡ log_size }
     ensures block_size { BLOCK_SIZE ≡ block_size }
     ensures total_blocks { TOTAL_BLOCKS ≡ total_blocks }
     ensures transfer_size { TRANSFER_SIZE ≡ transfer_size }

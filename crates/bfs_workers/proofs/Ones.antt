@@ -1,5 +1,5 @@
 -- A request that is answered alone, on the whole tree or on its share.
-use Rattle.std.proofs.Common.{◌≡◌, ℕ, zero, suc, ◌-◌, ◌<◌, ◌≤◌, false, true, true≢false, IsTrue, List, [], ◌∷◌, Some, is_some, length, map, take, drop, get_or, refl, ap, sym, subst, ◌∙◌, arith, unwrap_or}
+use Rattle.std.proofs.Common.{◌≡◌, ℕ, zero, suc, ◌-◌, ◌<◌, ◌≤◌, false, true, true≢false, List, [], ◌∷◌, Some, is_some, length, map, take, drop, get_or, refl, ap, sym, subst, ◌∙◌, arith, unwrap_or}
 use Rattle.std.specs.List.{All, slice_get}
 use Rattle.std.proofs.lemmas.List.Elements.{All-from_recursion, All-head}
 use Rattle.std.proofs.lemmas.List.Sorted.{All-permutation, IsPermutation-refl}
@@ -14,18 +14,16 @@ use Rattle.bfs_model.proofs.Public.{fresh_where_numbered, numbered_older}
 use Rattle.bfs_footprint.specs.Seen.{footprint_seen}
 use Rattle.bfs_footprint.specs.declared.footprints.Footprint as declared
 use Rattle.bfs_tree.specs.Slots.{Slots}
-use Rattle.bfs_tree.specs.Tree.{at_home, reach_of}
+use Rattle.bfs_tree.specs.Tree.{at_home}
 use Rattle.bfs_handover.specs.Jobs.{CanRun}
-use Rattle.bfs_handover.specs.Splitting.{CanBeSplit, IsFoundOn, IsSplit, Part, part_of}
+use Rattle.bfs_handover.specs.Splitting.{CanBeSplit, IsFoundOn, IsSplit, PlannedPart, part_of}
 use Rattle.bfs_handover.specs.Merging.{AreOut, IsMerged, numbers_in, reply_in}
 use Rattle.bfs_handover.specs.declared.job.Job.{Job}
 use Rattle.bfs_handover.specs.declared.job.Done.{Done}
-use Rattle.bfs_handover.specs.declared.results.Reply.{Reply}
+use Rattle.bfs_handover.specs.declared.results.NumberedReply.{NumberedReply}
 use Rattle.bfs_handover.proofs.Public.{found, results_are_out, results_come_home}
-use Rattle.bfs_workers.specs.Alone.{is_alone}
 use Rattle.bfs_workers.specs.Answered.{IsAnswered}
 use Rattle.bfs_workers.specs.Results.{Gives}
-use Rattle.bfs_workers.proofs.Alone.{alone}
 
 pub one_there : (xs : List (List ℕ)) (k : ℕ) → k < length xs → take 1 (drop k xs) ≡ get_or xs k [] ∷ []
 one_there [] k within = absurd (omega arith)
@@ -41,18 +39,12 @@ get_or_there (y ∷ ys) (suc k) x is = get_or_there ys k x is
 pub can_run_one : (tree : Slots) (job : Job) → All (CanRun tree) (job ∷ []) → CanRun tree job
 can_run_one tree job all = All-head (CanRun tree) job [] all
 
--- On the whole tree, whatever the gate promises ------------------------------------------------------------------------------
-
-pub answered_on_all : (ran : ℕ → List ℕ → Type 0) (old new : Slots) (number o : ℕ) (t : Time) (asked request reply : List ℕ) → asked ≡ request → (is_alone request ≡ false → ran number reply)
-    → ◌≡◌ {A = Inodes × List ℕ} (at_home new, reply) (answer (at_home old) o t asked) → IsTrue ((reach_of new).whole) → IsAnswered ran old new number o t request reply
-answered_on_all ran old new number o t asked request reply same gated done whole = record { done = done ∙ ap (answer (at_home old) o t) same; whole = whole; gated = gated }
-
 module _ (ran : ℕ → List ℕ → Type 0) (old : Slots) (o : ℕ) (t : Time) (batch : List (List ℕ)) (place : ℕ) (formed : IsWellFormed (record { tree = at_home old; next_ordinal = o; last_time = t })) (within : place < length batch)
     (asked : List ℕ) (f : declared.Footprint) (there : slice_get batch place ≡ Some asked) (touched : footprint_seen f ≡ footprint_of (at_home old) o t asked) where
   abbrev m : Inodes
   m = at_home old
 
-  abbrev part : Part
+  abbrev part : PlannedPart
   part = part_of place o t batch (footprint_seen f ∷ [])
 
   abbrev request : List ℕ
@@ -69,10 +61,6 @@ module _ (ran : ℕ → List ℕ → Type 0) (old : Slots) (o : ℕ) (t : Time) 
 
   only : footprint_seen f ∷ [] ≡ footprints_at m o t (take 1 (drop place batch))
   only = ap (λ g. g ∷ []) own ∙ ap (footprints_at m o t) (sym here)
-
-  -- a request that may touch any inode is one that no gate runs
-  pub on_all : (new : Slots) (reply : List ℕ) → is_whole (footprint_seen f) ≡ true → ◌≡◌ {A = Inodes × List ℕ} (at_home new, reply) (answer m o t asked) → IsTrue ((reach_of new).whole) → IsAnswered ran old new place o t request reply
-  on_all new reply all = answered_on_all ran old new place o t asked request reply same (λ not_alone. absurd (true≢false (sym (alone m o t request (ap is_whole (sym own) ∙ all)) ∙ not_alone)))
 
   -- On its share -------------------------------------------------------------------------------------------------------------
 
@@ -93,13 +81,13 @@ module _ (ran : ℕ → List ℕ → Type 0) (old : Slots) (o : ℕ) (t : Time) 
     pub out_one : AreOut new (done ∷ [])
     out_one = results_are_out old new part (place ∷ []) (job ∷ []) (job ∷ []) (done ∷ []) (tt, tt) split (IsPermutation-refl (job ∷ [])) (gives.result, tt)
 
-    has_run : (dones : List Done) (reply : Reply) → reply ∷ [] ≡ map reply_in dones → numbers_in dones ≡ place ∷ [] → All (λ (done : Done). ran done.number done.reply.items) dones → ran place reply.bytes.items
+    has_run : (dones : List Done) (reply : NumberedReply) → reply ∷ [] ≡ map reply_in dones → numbers_in dones ≡ place ∷ [] → All (λ (done : Done). ran done.number done.reply.items) dones → ran place reply.bytes.items
     has_run [] reply are numbers all = absurd (let wrong : 1 ≡ 0 = ap length are in omega arith)
     has_run (done ∷ dones) reply are numbers all =
         subst (λ n. ran n reply.bytes.items) (ap (λ ns. get_or ns 0 0) numbers)
-        (subst (λ (r : Reply). ran done.number r.bytes.items) (sym (ap (λ rs. get_or rs 0 reply) are)) (All-head (λ (done : Done). ran done.number done.reply.items) done dones all))
+        (subst (λ (r : NumberedReply). ran done.number r.bytes.items) (sym (ap (λ rs. get_or rs 0 reply) are)) (All-head (λ (done : Done). ran done.number done.reply.items) done dones all))
 
-    pub answered_one : (after : Slots) (reply : Reply) → IsMerged new after (done.number ∷ []) (done ∷ []) (reply ∷ []) → IsAnswered ran old after place o t request reply.bytes.items
+    pub answered_one : (after : Slots) (reply : NumberedReply) → IsMerged new after (done.number ∷ []) (done ∷ []) (reply ∷ []) → IsAnswered ran old after place o t request reply.bytes.items
     answered_one after reply merged =
         let merged_there = subst (λ n. IsMerged new after (n ∷ []) (done ∷ []) (reply ∷ [])) (gives.result.number ∙ split.each.0.number_is) merged in
         let come = results_come_home old new after part (job ∷ []) (job ∷ []) (done ∷ []) (reply ∷ []) formed.ordinal.1 only (tt, tt) split (IsPermutation-refl (job ∷ [])) (gives.result, tt) merged_there in

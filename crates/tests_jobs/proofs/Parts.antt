@@ -9,7 +9,7 @@ use Rattle.bfs_model.specs.Server.Conflicts.{is_whole, conflict}
 use Rattle.bfs_model.specs.Server.Groups.{AreDisjoint, footprints_at}
 use Rattle.bfs_model.specs.Server.WellFormed.{IsWellFormed}
 use Rattle.bfs_model.proofs.Public.{fresh_where_numbered, numbered_older}
-use Rattle.bfs_serial.specs.Held.{held}
+use Rattle.bfs_serial.specs.Parts.{file_system_of}
 use Rattle.bfs_tree.specs.Slots.{Slots}
 use Rattle.bfs_tree.specs.Tree.{at_home}
 use Rattle.bfs_handover.specs.Splitting.{CanBeSplit, IsFoundOn, IsSplit, footprints_for, part_of}
@@ -36,7 +36,7 @@ pub footprints_found : (tree : Slots) (ordinal next : ℕ) (time : Time) (reques
 footprints_found tree ordinal next time requests one two first second count at_0 at_1 next_is first_is second_is =
     rw (two_requests requests one two count at_0 at_1, first_is, second_is, next_is) refl
 
-module _ (tree : Slots) (ordinal : ℕ) (time : Time) (requests : List (List ℕ)) (first second : Footprint) (formed : IsWellFormed (held tree ordinal time)) (first_known : is_whole first ≡ false) (second_known : is_whole second ≡ false)
+module _ (tree : Slots) (ordinal : ℕ) (time : Time) (requests : List (List ℕ)) (first second : Footprint) (formed : IsWellFormed (file_system_of tree ordinal time)) (first_known : is_whole first ≡ false) (second_known : is_whole second ≡ false)
     (none : conflict first second ≡ false) where
   abbrev both : List Footprint
   both = first ∷ second ∷ []

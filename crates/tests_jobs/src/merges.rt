@@ -4,7 +4,7 @@ ghost use Rattle.bfs_tree.specs.Slots.{Slots};
 ghost use Rattle.bfs_handover.specs.Merging.{AreOut};
 
 use crate::splits::{WRITTEN, at_home, batch_of, both_run, made};
-use bfs_handover::{Done, Loans, MergeError, Reply, merge};
+use bfs_handover::{Done, Loans, MergeError, NumberedReply, merge};
 use bfs_testing::words::same_bytes;
 use bfs_testing::{holds, same};
 use bfs_tree::{Store, Tree};
@@ -59,7 +59,11 @@ fn drop_last(dones: &mut Vec<Done>)
     dones.pop();
 }
 
-fn both_merged(alloc: Global, tree: &mut Tree, dones: Vec<Done>) -> Result<Vec<Reply>, MergeError>
+fn both_merged(
+    alloc: Global,
+    tree: &mut Tree,
+    dones: Vec<Done>,
+) -> Result<Vec<NumberedReply>, MergeError>
     requires { AreOut tree.old dones.items }
     ensures { OnErr result (tree.new ≡ tree.old) }
 {
@@ -88,7 +92,7 @@ fn splits_and_merges_or_stays(rt: HostRuntime) -> Result<(), Fail> {
 }
 
 // the replies stand in the order of the numbers
-fn compare(rt: &impl Abort, alloc: Global, replies: Vec<Reply>) -> Result<(), Fail> {
+fn compare(rt: &impl Abort, alloc: Global, replies: Vec<NumberedReply>) -> Result<(), Fail> {
     same!(rt; replies.len(), 2);
     let mut number = 0;
     for reply in replies {

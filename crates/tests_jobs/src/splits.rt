@@ -2,7 +2,7 @@
 ghost use Rattle.std.specs.Prelude.{◌≡◌, [], ◌∷◌, All, IfOk, IsTrue};
 ghost use Rattle.std.specs.List.{AllZip};
 ghost use Rattle.bfs_model.specs.Server.WellFormed.{IsWellFormed};
-ghost use Rattle.bfs_serial.specs.Held.{held};
+ghost use Rattle.bfs_serial.specs.Parts.{file_system_of};
 ghost use Rattle.bfs_tree.specs.Tree.{reach_of};
 ghost use Rattle.bfs_handover.specs.Jobs.{CanRun, IsDone};
 ghost use Rattle.bfs_handover.specs.Merging.{AreOut};
@@ -54,7 +54,7 @@ pub(crate) fn batch_of(alloc: Global, steps: &[Step]) -> Result<Batch, Fail> {
 /// The parts of a file system with the files `a`, of fileid 3, and `b`, of fileid 4.
 pub(crate) fn made(alloc: Global) -> Result<(Tree, Ordinal, Time), Fail>
     ensures whole { IfOk result (λ parts. IsTrue ((reach_of parts.0).whole)) }
-    ensures formed { IfOk result (λ parts. IsWellFormed (held parts.0 parts.1 parts.2)) }
+    ensures formed { IfOk result (λ parts. IsWellFormed (file_system_of parts.0 parts.1 parts.2)) }
 {
     let mut files = FileSystem::new(alloc)?;
     execute_serial(alloc, &mut files, &batch_of(alloc, MADE)?)?;
@@ -71,7 +71,7 @@ pub(crate) fn both_split<'a>(
     time: Time,
 ) -> Result<Vec<Job<'a>>, Fail>
     requires whole { IsTrue ((reach_of tree.old).whole) }
-    requires formed { IsWellFormed (held tree.old ordinal time) }
+    requires formed { IsWellFormed (file_system_of tree.old ordinal time) }
     ensures { IfOk result (λ jobs. AreSplit tree.old tree.new ordinal time batch.now.requests jobs.items) }
 {
     if batch.len() != 2 {
@@ -121,7 +121,7 @@ pub(crate) fn both_run(
     time: Time,
 ) -> Result<Vec<Done>, Fail>
     requires whole { IsTrue ((reach_of tree.old).whole) }
-    requires formed { IsWellFormed (held tree.old ordinal time) }
+    requires formed { IsWellFormed (file_system_of tree.old ordinal time) }
     ensures { IfOk result (λ dones. AreOut tree.new dones.items) }
 {
     let jobs = both_split(rt, alloc, tree, batch, ordinal, time)?;

@@ -39,7 +39,7 @@ fn is_new(alloc: Global, tree: &Tree, ordinal: Ordinal) -> Result<bool, Memory>
     Ok(ids.iter().all(|id| is_new_at(tree, ordinal, *id)))
 }
 
-#[tactic(auto, using(bfs_tree::specs::Knowing::knows_all))]
+#[tactic(auto, using(bfs_tree::specs::Laws::Knowing::knows_all))]
 fn is_new_at(tree: &Tree, ordinal: Ordinal, id: FileId) -> bool
     requires whole { IsTrue ((reach_of tree.now).whole) }
     ensures { IsTrue result ↔ IsNewAt (at_home tree.now) ordinal id }

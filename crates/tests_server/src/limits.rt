@@ -85,7 +85,7 @@ fn makes_no_file_above_the_limit(rt: HostRuntime) -> Result<(), Fail> {
 }
 
 // gives an inode as many links as it may have, and counts them
-#[tactic(auto, using(bfs_tree::specs::Knowing::knows_all))]
+#[tactic(auto, using(bfs_tree::specs::Laws::Knowing::knows_all))]
 fn add_all_links(tree: &mut Tree, id: FileId) -> Result<u32, Fail>
     requires whole { IsTrue ((reach_of tree.old).whole) }
     ensures reach { reach_of tree.new ≡ reach_of tree.old }
@@ -119,7 +119,7 @@ fn makes_no_link_beyond_the_last(rt: HostRuntime) -> Result<(), Fail> {
 }
 
 // gives a directory without entries as many as it may have, all of them names of a file
-#[tactic(auto, using(bfs_tree::specs::Knowing::knows_all))]
+#[tactic(auto, using(bfs_tree::specs::Laws::Knowing::knows_all))]
 fn add_all_entries(tree: &mut Tree, directory: FileId, file: FileId) -> Result<(), Fail>
     requires whole { IsTrue ((reach_of tree.old).whole) }
     ensures reach { reach_of tree.new ≡ reach_of tree.old }

@@ -37,7 +37,7 @@ fn tells_what_lies_below(rt: HostRuntime) -> Result<(), Fail> {
 }
 
 #[test]
-#[tactic(auto, using(bfs_tree::specs::Knowing::knows_all))]
+#[tactic(auto, using(bfs_tree::specs::Laws::Knowing::knows_all))]
 fn tells_directories(rt: HostRuntime) -> Result<(), Fail> {
     let tree = grown(rt.alloc(), ONE_IN_ANOTHER)?;
     holds!(rt; is_directory(&tree, FileId::new(FOURTH)));

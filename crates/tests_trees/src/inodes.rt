@@ -215,7 +215,7 @@ fn makes_symbolic_links(rt: HostRuntime) -> Result<(), Fail> {
     Ok(())
 }
 
-#[tactic(auto, using(bfs_tree::specs::Knowing::knows_all))]
+#[tactic(auto, using(bfs_tree::specs::Laws::Knowing::knows_all))]
 fn add_second_link(tree: &mut Tree, id: FileId) -> bool
     requires whole { IsTrue ((reach_of tree.old).whole) }
     ensures reach { reach_of tree.new ≡ reach_of tree.old }
@@ -229,7 +229,7 @@ fn add_second_link(tree: &mut Tree, id: FileId) -> bool
     }
 }
 
-#[tactic(auto, using(bfs_tree::specs::Knowing::knows_all))]
+#[tactic(auto, using(bfs_tree::specs::Laws::Knowing::knows_all))]
 fn put_file(alloc: Global, tree: &mut Tree, id: FileId) -> Result<bool, Memory>
     requires whole { IsTrue ((reach_of tree.old).whole) }
     ensures reach { reach_of tree.new ≡ reach_of tree.old }
@@ -239,7 +239,7 @@ fn put_file(alloc: Global, tree: &mut Tree, id: FileId) -> Result<bool, Memory>
 }
 
 #[test]
-#[tactic(auto, using(bfs_tree::specs::Knowing::knows_all))]
+#[tactic(auto, using(bfs_tree::specs::Laws::Knowing::knows_all))]
 fn keeps_inodes_by_their_fileids(rt: HostRuntime) -> Result<(), Fail> {
     let id = FileId::new(3);
     let mut tree = Tree::new(rt.alloc())?;
@@ -262,7 +262,7 @@ fn count_and_used_blocks<S: Store>(store: &S) -> Option<(usize, u64)> {
     }
 }
 
-#[tactic(auto, using(bfs_tree::specs::Knowing::knows_all))]
+#[tactic(auto, using(bfs_tree::specs::Laws::Knowing::knows_all))]
 fn links_at(tree: &Tree, id: FileId) -> Option<u32>
     requires whole { IsTrue ((reach_of tree.now).whole) }
 {
@@ -275,7 +275,7 @@ const TWO_BLOCKS: Settings = Settings {
 };
 
 #[test]
-#[tactic(auto, using(bfs_tree::specs::Knowing::knows_all))]
+#[tactic(auto, using(bfs_tree::specs::Laws::Knowing::knows_all))]
 fn counts_inodes_and_blocks(rt: HostRuntime) -> Result<(), Fail> {
     let alloc = rt.alloc();
     let mut tree = Tree::new(alloc)?;

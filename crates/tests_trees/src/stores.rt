@@ -26,7 +26,7 @@ fn an_inode_stays_in_its_box(rt: HostRuntime) -> Result<(), Fail> {
 }
 
 #[test]
-#[tactic(auto, using(bfs_tree::specs::Knowing::knows_all))]
+#[tactic(auto, using(bfs_tree::specs::Laws::Knowing::knows_all))]
 fn a_reserved_place_is_lent_out(rt: HostRuntime) -> Result<(), Fail> {
     let alloc = rt.alloc();
     let mut tree = Tree::new(alloc)?;

@@ -90,7 +90,7 @@ fn file(alloc: Global) -> Result<Inode, Memory> {
 }
 
 // with that many links more, and those entries
-#[tactic(auto, using(bfs_tree::specs::Knowing::knows_all))]
+#[tactic(auto, using(bfs_tree::specs::Laws::Knowing::knows_all))]
 fn put(tree: &mut Tree, id: u32, inode: Inode, links: u32, entries: &[Entry]) -> Result<(), Fail>
     requires whole { IsTrue ((reach_of tree.old).whole) }
     ensures reach { reach_of tree.new ≡ reach_of tree.old }

@@ -3,12 +3,12 @@
 use Rattle.std.specs.Prelude.{◌≡◌, ℕ, ◌+◌, ◌==◌, ◌≤◌, ◌<◌, ◌&&◌, ◌||◌, ◌↔◌, Bool, true, false, IsTrue, List, map, min, Option, Some, None, nat_le, nat_lt, not, sum_by}
 use Rattle.std.specs.Global.{Vec}
 use Rattle.std.specs.List.{list_all, AllByRecursion}
-use Rattle.bfs_inode.specs.Records.{Reading}
+use Rattle.bfs_model.specs.Bytes.Formats.{Reading}
 use Rattle.bfs_model.specs.Server.Directories.{is_bad_name}
 use Rattle.bfs_model.specs.Server.Limits.{most_links}
 use Rattle.bfs_model.specs.Server.Tree.{Entry, Listing, Body, file, directory, link, Inode, Inodes, root_id, first_ordinal, is_directory_body, entries_in, parent_of}
 use Rattle.bfs_model.specs.Server.WellFormed.{times, named, directories_among, NamesDiffer, IsLimited, IsWellFormed, ReachesRoot}
-use Rattle.bfs_tree.specs.WellFormed.{is_child}
+use Rattle.bfs_tree.specs.Inside.WellFormed.{is_child}
 use Rattle.bfs_digest.specs.Inside.Names.{Counted, Adds, counted_at, most_counted}
 use Rattle.bfs_digest.specs.Inside.Outlines.{mark_of}
 use Rattle.bfs_digest.specs.Text.{Header}

@@ -9,7 +9,8 @@ use Rattle.bfs_model.specs.Server.Tree.{FileSystem, Inode, root_id, first_ordina
 use Rattle.bfs_model.specs.Server.WellFormed.{BodyIsLimited, IsLimited, IsWellFormed}
 use Rattle.bfs_tree.specs.Slots.{Slots}
 use Rattle.bfs_tree.specs.Tree.{at_home, reach_of}
-use Rattle.bfs_inode.specs.Records.{Reading, Head}
+use Rattle.bfs_model.specs.Bytes.Formats.{Reading}
+use Rattle.bfs_inode.specs.Records.{Head}
 use Rattle.bfs_digest.specs.Text.{Header, version}
 use Rattle.bfs_digest.specs.Inside.TextReading.{files_with, numbers_from, records_from, version_from}
 use Rattle.bfs_digest.specs.declared.readers.EntryText.{EntryText}

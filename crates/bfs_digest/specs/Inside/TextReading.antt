@@ -1,12 +1,11 @@
 -- How a text is read, strictly. It is proved that this reads just the texts that are written, so nothing here has to be believed.
 use Rattle.std.specs.Prelude.{ℕ, zero, suc, ◌+◌, ◌==◌, Bool, ◌||◌, List, [], ◌∷◌, length, Option, Some, None, nat_lt, if◌then◌else◌}
-use Rattle.std.specs.Result.{result_ok}
 use Rattle.std.specs.FinMap.{from_entries}
 use Rattle.bfs_model.specs.Bytes.Call.{◌>>=◌}
-use Rattle.bfs_model.specs.Bytes.Items.{hyper_at}
 use Rattle.bfs_model.specs.Server.Tree.{Inode, FileSystem, root_id, first_ordinal, spent_ordinal}
 use Rattle.bfs_digest.specs.Text.{Header, magic}
-use Rattle.bfs_inode.specs.Records.{Reading, word_from, time_from, record_from}
+use Rattle.bfs_model.specs.Bytes.Formats.{Reading, word_from, hyper_from}
+use Rattle.bfs_inode.specs.Records.{time_from, record_from}
 
 -- so many records, whose fileids rise from the least on
 unfoldable pub records_from : (count least : ℕ) → List ℕ → Reading (List (ℕ × Inode))
@@ -15,9 +14,6 @@ records_from (suc count) least bytes = do
   inode ← record_from bytes
   inodes ← if nat_lt inode.0.0 least then None else records_from count (inode.0.0 + 1) inode.1
   Some (inode.0 ∷ inodes.0, inodes.1)
-
-abbrev pub hyper_from : List ℕ → Reading ℕ
-hyper_from bytes = result_ok (hyper_at bytes)
 
 -- what stands between the version and the records
 unfoldable pub numbers_from : List ℕ → Reading Header

@@ -45,3 +45,11 @@ most_replicas = 31
 -- the clients
 abbrev pub most_clients : ℕ
 most_clients = 1024
+
+-- the number of a view, and of a batch in the order: below 2 ^ 63
+abbrev pub most_number : ℕ
+most_number = 9223372036854775807
+
+-- the numbers between the low and the high mark (OSDI 1999 section 4.3), and so the batches that are ordered at once
+abbrev pub log_size : ℕ
+log_size = 32

@@ -12,6 +12,10 @@ use Rattle.bfs_model.specs.Server.WellFormed.{IsWellFormed}
 abbrev pub IsWord : ℕ → Type 0
 IsWord n = n < 2 ^ 32
 
+-- an unsigned hyper integer (RFC 4506 section 4.5)
+abbrev pub IsDouble : ℕ → Type 0
+IsDouble n = n < 2 ^ 64
+
 abbrev pub IsByte : ℕ → Type 0
 IsByte byte = byte < 256
 

@@ -9,7 +9,7 @@ use Rattle.bfs_model.specs.Server.Tree.{Entry, Listing, Body, file, directory, l
 use Rattle.bfs_model.specs.Server.Procedures.Renaming.{is_within}
 use Rattle.bfs_model.specs.Server.WellFormed.{times, named, directories_among, IsTree, IsWellFormedTree}
 use Rattle.bfs_model.proofs.Public.{formed_from, get-set_at, named-set, named_at_least, reaches_within, way_met, weigh_zero}
-use Rattle.bfs_tree.specs.WellFormed.{may_name, is_child, is_directory_in_place, is_in_place, IsInOrder}
+use Rattle.bfs_tree.specs.Inside.WellFormed.{may_name, is_child, is_directory_in_place, is_in_place, IsInOrder}
 use Rattle.bfs_tree.proofs.WellFormed.Lists.{each_of_all, all_of_each, named_of_all, all_of_named}
 
 -- From the tests ---------------------------------------------------------------------------------------------------------

@@ -13,7 +13,7 @@ use Rattle.bfs_model.specs.Server.Directories.{is_bad_name}
 use Rattle.bfs_model.specs.Server.Limits.{most_name_bytes}
 use Rattle.bfs_model.specs.Server.WellFormed.{times, directories_among, NamesDiffer, HasNames}
 use Rattle.bfs_model.proofs.Public.{split, itself, sums_apart as apart}
-use Rattle.bfs_tree.specs.WellFormed.{is_good_name}
+use Rattle.bfs_tree.specs.Inside.WellFormed.{is_good_name}
 
 -- Inodes -----------------------------------------------------------------------------------------------------------------
 

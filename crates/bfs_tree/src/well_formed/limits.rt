@@ -1,7 +1,7 @@
 ghost use Rattle.std.specs.Prelude.{◌≡◌, ◌↔◌, IsTrue};
 ghost use Rattle.std.specs.List.{list_all};
 ghost use Rattle.bfs_model.specs.Server.WellFormed.{IsLimited};
-ghost use Rattle.bfs_tree.specs.WellFormed.{is_good_name};
+ghost use Rattle.bfs_tree.specs.Inside.WellFormed.{is_good_name};
 
 use bfs_inode::{Body, Directory, Entry, Inode, is_bad_name};
 use bfs_types::{MOST_FILE_BYTES, MOST_PATH_BYTES};

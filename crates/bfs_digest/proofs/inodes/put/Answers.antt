@@ -1,5 +1,5 @@
 -- A whole tree owns every fileid.
-use Rattle.bfs_tree.specs.Knowing.{knows_all}
+use Rattle.bfs_tree.specs.Laws.Knowing.{knows_all}
 use Rattle.bfs_tree.specs.Tree.{lent}
 use Rattle.bfs_digest.proofs.inodes.put.Goals as goal
 

@@ -2,7 +2,7 @@
 use Rattle.std.proofs.Common.{ℕ, [], Option, Some, sym, ap, subst, ◌∙◌}
 use Rattle.bfs_model.specs.Server.Stored.{IsLive}
 use Rattle.bfs_model.specs.Server.Tree.{FileSystem, root_id}
-use Rattle.bfs_serial.specs.Held.{held}
+use Rattle.bfs_serial.specs.Parts.{file_system_of}
 use Rattle.bfs_digest.specs.Text.{Header}
 use Rattle.bfs_digest.specs.Inside.TextReading.{records_from}
 use Rattle.bfs_digest.specs.Inside.Taking.{BuildsTree, BuildsFiles}
@@ -26,7 +26,7 @@ from_parts-requires-clause-live c =
     let tree = rw c.in-Some.is at built in
     let formed = (c.in_ok-is_well_formed.ensures c.requires.inodes [] c.requires.read).0 c.if-not-branch.false in
     let live = held_is_live c.args.header.now c.args.records.now c.requires c.in-Some.tree tree formed in
-    subst (λ (n : ℕ). IsLive (held c.in-Some.tree n c.header.inside.last_time)) (sym c.ordinal_of-ordinal.ensures) (subst (λ (h : Header). IsLive (held c.in-Some.tree h.next_ordinal h.last_time)) (sym c.header.view_is) live)
+    subst (λ (n : ℕ). IsLive (file_system_of c.in-Some.tree n c.header.inside.last_time)) (sym c.ordinal_of-ordinal.ensures) (subst (λ (h : Header). IsLive (file_system_of c.in-Some.tree h.next_ordinal h.last_time)) (sym c.header.view_is) live)
 
 pub returns-in-Some : goal.returns-in-Some
 returns-in-Some c =
@@ -34,6 +34,6 @@ returns-in-Some c =
     let tree = rw c.in-Some.is at built in
     let formed = (c.in_ok-is_well_formed.ensures c.requires.inodes [] c.requires.read).0 c.if-not-branch.false in
     let live = held_is_live c.args.header.now c.args.records.now c.requires c.in-Some.tree tree formed in
-    let same = c.from_parts.ensures ∙ ap (λ (n : ℕ). Some (held c.in-Some.tree n c.header.inside.last_time)) c.ordinal_of-ordinal.ensures ∙ ap (λ (h : Header). Some (held c.in-Some.tree h.next_ordinal h.last_time)) c.header.view_is in
+    let same = c.from_parts.ensures ∙ ap (λ (n : ℕ). Some (file_system_of c.in-Some.tree n c.header.inside.last_time)) c.ordinal_of-ordinal.ensures ∙ ap (λ (h : Header). Some (file_system_of c.in-Some.tree h.next_ordinal h.last_time)) c.header.view_is in
     subst (λ (files : Option FileSystem). BuildsFiles (Some files) c.args.header.now c.args.records.now) (sym same)
     ((λ inodes rest read. built_files c.args.header.now c.args.records.now c.in-Some.tree inodes rest tree read), live)

@@ -3,7 +3,7 @@ use Rattle.std.proofs.Common.{[], ◌∷◌, ap, sym, ◌∙◌}
 use Rattle.std.proofs.lemmas.List.{append-nil}
 use Rattle.std.proofs.lemmas.List.Elements.{All-from_recursion}
 use Rattle.bfs_tree.specs.Tree.{at_home, lent}
-use Rattle.bfs_tree.specs.Knowing.{knows_all}
+use Rattle.bfs_tree.specs.Laws.Knowing.{knows_all}
 use Rattle.bfs_handover.specs.Loans.{ids_of}
 use Rattle.bfs_handover.specs.Moves.{lent_out}
 use Rattle.bfs_handover.specs.Splitting.{CanBeSplit, IsFoundOn, part_with}

@@ -4,7 +4,7 @@ use Rattle.std.specs.Prelude.{replicate}
 use Rattle.std.proofs.lemmas.List.{length-append, length-map, length-replicate}
 use Rattle.std.proofs.lemmas.List.Elements.{All-weaker}
 use Rattle.bfs_model.specs.Server.Limits.{most_reply_bytes}
-use Rattle.bfs_handover.specs.declared.results.Reply.{Reply}
+use Rattle.bfs_handover.specs.declared.results.NumberedReply.{NumberedReply}
 use Rattle.bfs_footprint.specs.Seen.{footprint_seen}
 use Rattle.bfs_footprint.specs.declared.footprints.Footprint as declared
 use Rattle.bfs_levels.specs.Requests.{requests_from}
@@ -80,7 +80,7 @@ put_all-requires g c =
     let all = c.loop-numbers.replies in
     let long : length all ≡ a.part.now.first + length fs =
     ap length c.loop-numbers.invariant.behind ∙ length-append a.replies.now c.loop-numbers.invariant.texts ∙ (let before = c.requires.placed in let behind = c.loop-numbers.invariant.way.under.many_texts in omega arith) in
-    All-weaker (IsPlaced a.part.now.first (length fs)) (λ (reply : Reply). (reply.number < length all) × (length reply.bytes.items ≤ most_reply_bytes)) (λ reply is. (let less = is.1 in omega arith, is.2)) c.in_ok-carried.carried.items
+    All-weaker (IsPlaced a.part.now.first (length fs)) (λ (reply : NumberedReply). (reply.number < length all) × (length reply.bytes.items ≤ most_reply_bytes)) (λ reply is. (let less = is.1 in omega arith, is.2)) c.in_ok-carried.carried.items
     (placed g.G.Gate.ran (at_home a.tree.now) a.part.now.first a.part.now.ordinal a.part.now.time a.part.now.batch.now.requests fs a.group.now.level_of.items (at_home c.loop-numbers.tree) c.loop-numbers.invariant.texts c.in-Some.numbers c.next.new.self.rest.items
     (way g (goal.at.put_all-requires g c).After-as_slice-in-loop-numbers-2) (at_home c.carry_out.new.tree) c.in_ok-carried.carried.items (carried g (goal.at.put_all-requires g c).In_ok-carried) c.in_ok-carried.ensures.ran)
 
@@ -105,7 +105,7 @@ loop-numbers-preserved g c =
       whole = c.in_ok-carried.ensures.whole;
       texts = put_from part.first replies texts;
       behind = c.put_all.ensures ∙ ap (all_put replies) c.loop-numbers.invariant.behind
-          ∙ put_behind a.replies.now part.first replies texts c.requires.placed (All-weaker (IsPlaced part.first (length fs)) (λ (reply : Reply). part.first ≤ reply.number) (λ reply is. is.0) replies there);
+          ∙ put_behind a.replies.now part.first replies texts c.requires.placed (All-weaker (IsPlaced part.first (length fs)) (λ (reply : NumberedReply). part.first ≤ reply.number) (λ reply is. is.0) replies there);
       way = further g.G.Gate.ran m part.first part.ordinal part.time batch fs levels home texts c.in-Some.numbers rest on after replies done ran;
     }
 

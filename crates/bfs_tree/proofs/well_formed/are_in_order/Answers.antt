@@ -2,7 +2,7 @@
 use Rattle.std.proofs.Common.{true≢false, IsTrue, sym, subst, ◌∙◌}
 use Rattle.std.specs.List.{AllByRecursion}
 use Rattle.std.specs.FinMap.{entries}
-use Rattle.bfs_tree.specs.WellFormed.{is_in_place, IsInOrder}
+use Rattle.bfs_tree.specs.Inside.WellFormed.{is_in_place, IsInOrder}
 use Rattle.bfs_tree.proofs.WellFormed.Loops.{all_further, not_all, all_at_end}
 use Rattle.bfs_tree.specs.Tree.{at_home}
 use Rattle.bfs_tree.proofs.well_formed.are_in_order.Goals as goal

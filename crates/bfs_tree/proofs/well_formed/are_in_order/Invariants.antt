@@ -1,7 +1,7 @@
 use Rattle.std.specs.Prelude.{◌↔◌}
 use Rattle.std.specs.List.{AllByRecursion}
 use Rattle.std.specs.FinMap.{entries}
-use Rattle.bfs_tree.specs.WellFormed.{IsInOrder}
+use Rattle.bfs_tree.specs.Inside.WellFormed.{IsInOrder}
 use Rattle.bfs_tree.specs.Tree.{at_home}
 use Rattle.bfs_tree.proofs.well_formed.are_in_order.Given as goal
 

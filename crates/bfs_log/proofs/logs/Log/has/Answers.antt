@@ -1,4 +1,3 @@
-use Rattle.std.proofs.Common.{sym, ◌∙◌}
 use Rattle.bfs_log.proofs.Indexes.{has_at}
 use Rattle.bfs_log.proofs.logs.Log.has.Goals as goal
 

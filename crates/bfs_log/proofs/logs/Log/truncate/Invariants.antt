@@ -1,4 +1,4 @@
-use Rattle.std.proofs.Common.{◌≡◌, take, length, ◌-◌}
+use Rattle.std.proofs.Common.{◌≡◌, take, length}
 use Rattle.bfs_log.proofs.logs.Log.truncate.Given as goal
 
 abbrev pub invariant-loop-self : goal.invariant-loop-self

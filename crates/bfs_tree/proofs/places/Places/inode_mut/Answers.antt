@@ -2,7 +2,7 @@
 use Rattle.std.proofs.Common.{is_some, refl, ap, sym, subst, ◌∙◌}
 use Rattle.std.specs.Option.{option_copied_mut}
 use Rattle.bfs_tree.specs.Maps.{map_of}
-use Rattle.bfs_tree.specs.Counting.{AreCounted}
+use Rattle.bfs_tree.specs.Inside.Counting.{AreCounted}
 use Rattle.bfs_tree.specs.Tree.{with_inode_in}
 use Rattle.bfs_tree.specs.declared.slots.Slot.{Slot}
 use Rattle.bfs_tree.proofs.Laws.{insert_same}

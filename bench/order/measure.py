@@ -1,0 +1,53 @@
+#!/usr/bin/env python3
+"""`measure.py PROGRAM decode|check|hold|vote ..` prints, by the program of main.txt: what decoding a PRE-PREPARE of 1,024 requests of 8,192 bytes takes
+beside the SHA-256 of its bytes; what checking its requests takes on one processor and on all; how many bytes of memory each byte of it takes once it is
+decoded; and what a vote takes beside its own keyed hashes, among 4 and 31 replicas, in a log of one number and of 32. Medians of ROUNDS runs.
+"""
+import os
+import statistics
+import subprocess
+import sys
+
+ROUNDS = 5
+
+
+def run(*command):
+    process = subprocess.Popen(command, stdout=subprocess.PIPE, text=True)
+    said = process.stdout.read()
+    _, status, usage = os.wait4(process.pid, 0)
+    if status != 0:
+        sys.exit(f"{' '.join(command)}: ended with status {status}")
+    return [int(word) for word in said.split()], usage.ru_maxrss * 1024
+
+
+def medians(*command):
+    return [statistics.median(column) for column in zip(*(run(*command)[0] for _ in range(ROUNDS)))]
+
+
+def decode(program):
+    read, hashed = medians(program, "decode", "5")
+    print(f"decode: {read / 1000:.1f} ms, SHA-256 of its bytes {hashed / 1000:.1f} ms: {read / hashed:.2f}")
+
+
+def check(program):
+    one, = medians("taskset", "-c", "0", program, "check", "5")
+    every, = medians(program, "check", "5")
+    print(f"check: one processor {one / 1000:.1f} ms, {len(os.sched_getaffinity(0))} processors {every / 1000:.1f} ms: {one / every:.2f} times")
+
+
+def hold(program):
+    (length,), few = run(program, "hold", "1")
+    _, many = run(program, "hold", "9")
+    print(f"hold: {(many - few) / 8 / length:.2f} bytes of memory for each of {length} bytes")
+
+
+def vote(program):
+    for faults in (1, 10):
+        for numbers in (1, 32):
+            took, hashes = medians(program, "vote", str(faults), str(numbers))
+            print(f"vote, {3 * faults + 1} replicas, {numbers} numbers: {took} ns, its hashes {hashes} ns: {took / hashes:.2f}")
+
+
+if __name__ == "__main__":
+    for subject in sys.argv[2:]:
+        {"decode": decode, "check": check, "hold": hold, "vote": vote}[subject](sys.argv[1])

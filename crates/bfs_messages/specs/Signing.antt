@@ -1,0 +1,51 @@
+-- Who signs messages, and which are signed as the receiver sees it, who holds the keys.
+use Rattle.std.specs.Prelude.{Bool, true, ◌++◌}
+use Rattle.std.specs.List.{list_all}
+use Rattle.bfs_model.specs.Bytes.Items.{word}
+use Rattle.bfs_auth.specs.Keys.{Keys}
+use Rattle.bfs_auth.specs.Authenticators.{passes, signature}
+use Rattle.bfs_auth.specs.declared.principals.Principal.{Principal}
+use Rattle.bfs_auth.specs.declared.principals.Principal.TheVariants.{Replica, Client}
+use Rattle.bfs_messages.specs.Messages as model
+use Rattle.bfs_messages.specs.Messages.{Batch, requests_of}
+use Rattle.bfs_messages.specs.Batches.{request_text}
+use Rattle.bfs_messages.specs.Spelling.{body_text}
+use Rattle.bfs_messages.specs.declared.signed.Signed.{Signed}
+use Rattle.bfs_messages.specs.declared.message.Message.{Message}
+use Rattle.bfs_messages.specs.declared.message.Message.TheVariants.{Request, PrePrepare, Prepare, Commit, Checkpoint, ViewChange, NewView, Reply}
+
+abbrev pub sender_of : Message → Principal
+sender_of (Request request) = Client request.client
+sender_of (PrePrepare proposal) = Replica proposal.vote.sender
+sender_of (Prepare vote) = Replica vote.sender
+sender_of (Commit vote) = Replica vote.sender
+sender_of (Checkpoint checkpoint) = Replica checkpoint.sender
+sender_of (ViewChange change) = Replica change.sender
+sender_of (NewView new) = Replica new.sender
+sender_of (Reply reply) = Replica reply.sender
+
+-- the receiver's own keyed hash is the sender's, of the message's body
+abbrev pub is_signed : Keys → Signed Message → Bool
+is_signed keys signed = passes keys (sender_of signed.message) (body_text signed.message) signed.auth
+
+-- a REQUEST in a batch
+abbrev pub request_is_signed : Keys → Signed model.Request → Bool
+request_is_signed keys signed = passes keys (Client signed.message.client) (word 1 ++ request_text signed.message) signed.auth
+
+abbrev pub requests_are_signed : Keys → Batch → Bool
+requests_are_signed keys batch = list_all (request_is_signed keys) (requests_of batch)
+
+-- the REQUESTs that a message carries
+abbrev pub carried_are_signed : Keys → Message → Bool
+carried_are_signed keys (PrePrepare proposal) = requests_are_signed keys proposal.batch
+carried_are_signed keys (Request request) = true
+carried_are_signed keys (Prepare vote) = true
+carried_are_signed keys (Commit vote) = true
+carried_are_signed keys (Checkpoint checkpoint) = true
+carried_are_signed keys (ViewChange change) = true
+carried_are_signed keys (NewView new) = true
+carried_are_signed keys (Reply reply) = true
+
+-- signed for all replicas
+abbrev pub signed_by : Keys → Message → Signed Message
+signed_by keys message = record { message = message; auth = signature keys (body_text message) }

@@ -1,0 +1,150 @@
+ghost use Rattle.std.specs.Prelude.{◌≡◌, ◌≤◌, [], None, Some, vec_len, length, OnOk};
+ghost use Rattle.std.specs.Option.{option_map};
+ghost use Rattle.sha2.specs.Sha256.{sha256};
+ghost use Rattle.bfs_model.specs.Server.Limits.{most_requests};
+ghost use Rattle.bfs_messages.specs.Batches.{batch_text, requests_text};
+ghost use Rattle.bfs_messages.specs.Codes.{Reads, Takes};
+ghost use Rattle.bfs_messages.specs.Limits.{FitsBatch, FitsRequests};
+ghost use Rattle.bfs_messages.specs.Parts.{batch_from, requests_from};
+ghost use Rattle.bfs_messages.specs.Messages.{requests_of};
+
+use crate::error::DecodeError;
+use crate::parts::put_list;
+use crate::reader::MessageReader;
+use crate::requests::Request;
+use crate::signed::Signed;
+use crate::sinks::Sink;
+use bfs_types::{MOST_REQUESTS, Time};
+use sha2::{Digest, Sha256};
+use std::marker::Model;
+
+#[derive(Drop)]
+struct Requests {
+    time: Time,
+    requests: Vec<Signed<Request>>,
+}
+
+impl Model for Requests {
+    ghost use Rattle.std.specs.Prelude.{◌≤◌, length};
+    ghost use Rattle.bfs_model.specs.Server.Limits.{most_requests};
+    ghost use Rattle.bfs_messages.specs.Messages as model;
+
+    ghost Value = { model.Requests };
+
+    ghost view = { λ batch. record { time = batch.time; requests = batch.requests.items } };
+
+    ghost invariant = { λ batch. length batch.requests.items ≤ most_requests };
+}
+
+/// What gets one number in the order: requests that are executed one after another at a time, or nothing, the null request (OSDI 1999
+/// section 4.4).
+#[derive(Drop)]
+pub struct OrderedBatch {
+    requests: Option<Requests>,
+}
+
+impl Model for OrderedBatch {
+    ghost use Rattle.bfs_messages.specs.Messages as model;
+
+    ghost Value = { model.Batch };
+
+    ghost view = { λ batch. batch.requests };
+}
+
+impl OrderedBatch {
+    /// The null request.
+    pub fn null() -> OrderedBatch
+        ensures { result ≡ None }
+    {
+        OrderedBatch { requests: None }
+    }
+
+    /// Requests, at most `MOST_REQUESTS`, at a time that was proposed for them.
+    pub fn new(time: Time, requests: Vec<Signed<Request>>) -> OrderedBatch
+        requires { vec_len requests ≤ most_requests }
+        ensures { result ≡ Some (record { time = time; requests = requests.items }) }
+    {
+        OrderedBatch {
+            requests: Some(Requests { time, requests }),
+        }
+    }
+
+    /// The time that was proposed; none for the null request.
+    pub fn time(&self) -> Option<Time>
+        ensures { result ≡ option_map (λ batch. batch.time) self.now }
+    {
+        match &self.requests {
+            None => None,
+            Some(batch) => Some(batch.time),
+        }
+    }
+
+    /// The requests, in order; none for the null request.
+    pub fn requests(&self) -> &[Signed<Request>]
+        ensures value { result.now ≡ requests_of self.now }
+        ensures within { length result.now ≤ most_requests }
+    {
+        match &self.requests {
+            None => &[],
+            Some(batch) => batch.requests.as_slice(),
+        }
+    }
+
+    /// The digest of its text.
+    pub fn digest(&self) -> [u8; 32]
+        ensures { result ≡ sha256 (batch_text self.now) }
+    {
+        let mut hasher = Sha256::new();
+        match put_batch(self, &mut hasher) {
+            Ok(()) => hasher.finalize(),
+            Err(never) => match never {},
+        }
+    }
+}
+
+#[tactic(auto, unfolding(crate::specs::Parts::batch_from, crate::specs::Parts::some_requests_from))]
+pub(crate) fn read_batch(reader: &mut MessageReader<'_>) -> Result<OrderedBatch, DecodeError>
+    ensures { Reads (λ batch. batch) result (batch_from reader.old) reader.new }
+{
+    match reader.u32()? {
+        0 => Ok(OrderedBatch::null()),
+        1 => Ok(OrderedBatch {
+            requests: Some(read_requests(reader)?),
+        }),
+        _ => Err(DecodeError::Malformed),
+    }
+}
+
+#[tactic(auto, unfolding(crate::specs::Parts::requests_from))]
+fn read_requests(reader: &mut MessageReader<'_>) -> Result<Requests, DecodeError>
+    ensures { Reads (λ batch. batch) result (requests_from reader.old) reader.new }
+{
+    let time = reader.time()?;
+    let requests = reader.list(MOST_REQUESTS as u32)?;
+    Ok(Requests { time, requests })
+}
+
+#[tactic(auto, unfolding(crate::specs::Batches::batch_text))]
+pub(crate) fn put_batch<S: Sink>(batch: &OrderedBatch, out: &mut S) -> Result<(), S::Error>
+    ensures text { OnOk result (Takes S.holds out.old out.new (batch_text batch.now)) }
+    ensures fits { OnOk result (FitsBatch batch.now) }
+{
+    match &batch.requests {
+        None => out.u32(0),
+        Some(requests) => {
+            out.u32(1)?;
+            put_requests(requests, out)
+        }
+    }
+}
+
+fn put_requests<S: Sink>(batch: &Requests, out: &mut S) -> Result<(), S::Error>
+    ensures text { OnOk result (Takes S.holds out.old out.new (requests_text batch.now)) }
+    ensures fits { OnOk result (FitsRequests batch.now) }
+{
+    let time = batch.time;
+    time.is_in_range();
+    out.u32(time.seconds())?;
+    out.u32(time.useconds())?;
+    put_list(&batch.requests, out)
+}

@@ -1,0 +1,127 @@
+ghost use Rattle.std.specs.Prelude.{◌≡◌, ◌≤◌, IfOk};
+ghost use Rattle.std.specs.Arc.{arc_value};
+ghost use Rattle.sha2.specs.Sha256.{sha256};
+ghost use Rattle.bfs_model.specs.Server.Limits.{most_number};
+ghost use Rattle.bfs_messages.specs.Batches.{batch_text};
+ghost use Rattle.bfs_messages.specs.Changes.{proposal_text};
+ghost use Rattle.bfs_messages.specs.ChangeReading.{behind_proposal_from, proposal_from};
+ghost use Rattle.bfs_messages.specs.Codes.{Reads};
+ghost use Rattle.bfs_messages.specs.Limits.{FitsPrePrepare, FitsSigned};
+
+use crate::batches::{OrderedBatch, put_batch};
+use crate::error::DecodeError;
+use crate::parts::Part;
+use crate::reader::MessageReader;
+use crate::signed::Signed;
+use crate::sinks::Sink;
+use crate::votes::Vote;
+use bfs_auth::Authenticator;
+use bfs_types::Memory;
+use std::alloc::Global;
+use std::marker::Model;
+use std::sync::Arc;
+
+/// A primary's proposal of a batch for a number in a view (OSDI 1999 section 4.2). Its digest is the batch's. It may share the batch with
+/// others.
+#[derive(Drop)]
+pub struct PrePrepare {
+    vote: Vote,
+    batch: Arc<OrderedBatch>,
+}
+
+impl Model for PrePrepare {
+    ghost use Rattle.std.specs.Prelude.{◌≡◌};
+    ghost use Rattle.std.specs.Arc.{arc_value};
+    ghost use Rattle.sha2.specs.Sha256.{sha256};
+    ghost use Rattle.bfs_messages.specs.Batches.{batch_text};
+    ghost use Rattle.bfs_messages.specs.Messages as model;
+
+    ghost Value = { model.PrePrepare };
+
+    ghost view = { λ proposal. record { vote = proposal.vote; batch = arc_value proposal.batch } };
+
+    ghost invariant = { λ proposal. proposal.vote.digest ≡ sha256 (batch_text (arc_value proposal.batch)) };
+}
+
+impl PrePrepare {
+    /// Of a primary, by its number. View and number are at most `MOST_NUMBER`.
+    pub fn new(sender: u32, view: u64, number: u64, batch: Arc<OrderedBatch>) -> PrePrepare
+        requires view { view ≤ most_number }
+        requires number { number ≤ most_number }
+        ensures { result ≡ record { vote = record { sender = sender; view = view; number = number; digest = sha256 (batch_text (arc_value batch)) }; batch = arc_value batch } }
+    {
+        let digest = batch.digest();
+        PrePrepare {
+            vote: Vote::new(sender, view, number, digest),
+            batch,
+        }
+    }
+
+    /// What it says of the number.
+    pub fn vote(&self) -> &Vote
+        ensures value { result.now ≡ self.now.vote }
+        ensures digest { self.now.vote.digest ≡ sha256 (batch_text self.now.batch) }
+    {
+        &self.vote
+    }
+
+    /// The batch.
+    pub fn batch(&self) -> &Arc<OrderedBatch>
+        ensures { arc_value result.now ≡ self.now.batch }
+    {
+        &self.batch
+    }
+
+    /// An equal one, which shares the batch. `Memory` if memory runs out.
+    pub fn try_clone(&self) -> Result<PrePrepare, Memory>
+        ensures { IfOk result (λ copy. copy ≡ self.now) }
+    {
+        Ok(PrePrepare {
+            vote: self.vote,
+            batch: Arc::try_clone(&self.batch)?,
+        })
+    }
+}
+
+impl Part for Signed<PrePrepare> {
+    ghost from = { proposal_from };
+
+    ghost text = { proposal_text };
+
+    ghost fits = { FitsSigned FitsPrePrepare };
+
+    fn read(reader: &mut MessageReader<'_>) -> Result<Signed<PrePrepare>, DecodeError> {
+        reader.tag(2)?;
+        read_behind_proposal(reader)
+    }
+
+    fn put<S: Sink>(&self, out: &mut S) -> Result<(), S::Error> {
+        out.u32(2)?;
+        self.message.vote.put(out)?;
+        self.auth.put(out)?;
+        put_batch(&self.message.batch, out)
+    }
+
+    fn try_clone(&self, alloc: Global) -> Result<Signed<PrePrepare>, Memory> {
+        Ok(Signed {
+            message: self.message.try_clone()?,
+            auth: self.auth.copy(alloc)?,
+        })
+    }
+}
+
+/// Reads what stands behind the tag of a PRE-PREPARE, with its keyed hashes and its batch.
+#[tactic(auto, unfolding(crate::specs::ChangeReading::behind_proposal_from))]
+pub(crate) fn read_behind_proposal(
+    reader: &mut MessageReader<'_>,
+) -> Result<Signed<PrePrepare>, DecodeError>
+    ensures { Reads (λ signed. signed) result (behind_proposal_from reader.old) reader.new }
+{
+    let vote = Vote::read(reader)?;
+    let auth = Authenticator::read(reader)?;
+    let batch = reader.batch_of(vote.digest())?;
+    Ok(Signed {
+        message: PrePrepare { vote, batch },
+        auth,
+    })
+}

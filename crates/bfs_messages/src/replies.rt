@@ -1,0 +1,134 @@
+ghost use Rattle.std.specs.Prelude.{◌≡◌, ◌≤◌, length, IfOk};
+ghost use Rattle.bfs_model.specs.Server.Limits.{most_number, most_reply_bytes};
+ghost use Rattle.bfs_messages.specs.Batches.{reply_text};
+ghost use Rattle.bfs_messages.specs.Limits.{FitsReply};
+ghost use Rattle.bfs_messages.specs.Parts.{reply_from};
+
+use crate::error::DecodeError;
+use crate::parts::Part;
+use crate::reader::MessageReader;
+use crate::sinks::Sink;
+use bfs_types::{Bytes, MOST_REPLY_BYTES, Memory};
+use std::alloc::Global;
+use std::marker::Model;
+
+/// A replica's answer to a client's request: its timestamp, and the bytes of what came of the call (OSDI 1999 section 4.1). The view is at
+/// most `MOST_NUMBER`.
+#[derive(Drop)]
+pub struct Reply {
+    sender: u32,
+    view: u64,
+    client: u32,
+    timestamp: u64,
+    result: Bytes<MOST_REPLY_BYTES>,
+}
+
+impl Model for Reply {
+    ghost use Rattle.std.specs.Prelude.{◌≤◌};
+    ghost use Rattle.bfs_model.specs.Server.Limits.{most_number};
+    ghost use Rattle.bfs_messages.specs.Messages as model;
+
+    ghost Value = { model.Reply };
+
+    ghost view = { λ reply. record { sender = reply.sender; view = reply.view; client = reply.client; timestamp = reply.timestamp; result = reply.result } };
+
+    ghost invariant = { λ reply. reply.view ≤ most_number };
+}
+
+impl Reply {
+    /// Of a replica to a client, by their numbers, with a copy of the result, of at most `MOST_REPLY_BYTES` bytes. `Memory` if memory runs out.
+    pub fn new(
+        alloc: Global,
+        sender: u32,
+        view: u64,
+        client: u32,
+        timestamp: u64,
+        bytes: &[u8],
+    ) -> Result<Reply, Memory>
+        requires view { view ≤ most_number }
+        requires bytes { length bytes.now ≤ most_reply_bytes }
+        ensures { IfOk result (λ reply. reply ≡ record { sender = sender; view = view; client = client; timestamp = timestamp; result = bytes.now }) }
+    {
+        Ok(Reply {
+            sender,
+            view,
+            client,
+            timestamp,
+            result: Bytes::new(alloc, bytes)?,
+        })
+    }
+
+    /// The replica that sends it.
+    pub fn sender(&self) -> u32
+        ensures { result ≡ self.now.sender }
+    {
+        self.sender
+    }
+
+    /// The view that the replica is in.
+    pub fn view(&self) -> u64
+        ensures value { result ≡ self.now.view }
+        ensures within { result ≤ most_number }
+    {
+        self.view
+    }
+
+    /// The client to which it goes.
+    pub fn client(&self) -> u32
+        ensures { result ≡ self.now.client }
+    {
+        self.client
+    }
+
+    /// The timestamp of the request.
+    pub fn timestamp(&self) -> u64
+        ensures { result ≡ self.now.timestamp }
+    {
+        self.timestamp
+    }
+
+    /// What came of the call.
+    pub fn result(&self) -> &[u8]
+        ensures value { result.now ≡ self.now.result }
+        ensures within { length result.now ≤ most_reply_bytes }
+    {
+        self.result.as_slice()
+    }
+}
+
+impl Part for Reply {
+    ghost from = { reply_from };
+
+    ghost text = { reply_text };
+
+    ghost fits = { FitsReply };
+
+    #[tactic(auto, unfolding(crate::specs::Parts::reply_from))]
+    fn read(reader: &mut MessageReader<'_>) -> Result<Reply, DecodeError> {
+        let sender = reader.u32()?;
+        let view = reader.number()?;
+        let client = reader.u32()?;
+        let timestamp = reader.u64()?;
+        let bytes = reader.bytes(MOST_REPLY_BYTES as u32)?;
+        Ok(Reply::new(reader.alloc(), sender, view, client, timestamp, bytes)?)
+    }
+
+    fn put<S: Sink>(&self, out: &mut S) -> Result<(), S::Error> {
+        out.u32(self.sender)?;
+        out.u64(self.view)?;
+        out.u32(self.client)?;
+        out.u64(self.timestamp)?;
+        out.opaque(self.result.as_slice())
+    }
+
+    fn try_clone(&self, alloc: Global) -> Result<Reply, Memory> {
+        Reply::new(
+            alloc,
+            self.sender,
+            self.view,
+            self.client,
+            self.timestamp,
+            self.result.as_slice(),
+        )
+    }
+}

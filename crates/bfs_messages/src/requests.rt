@@ -1,0 +1,97 @@
+ghost use Rattle.std.specs.Prelude.{◌≡◌, ◌≤◌, length, IfOk};
+ghost use Rattle.bfs_model.specs.Server.Limits.{most_request_bytes};
+ghost use Rattle.bfs_messages.specs.Batches.{request_text};
+ghost use Rattle.bfs_messages.specs.Limits.{FitsRequest};
+ghost use Rattle.bfs_messages.specs.Parts.{request_from};
+
+use crate::error::DecodeError;
+use crate::parts::{Kind, Part};
+use crate::reader::MessageReader;
+use crate::sinks::Sink;
+use bfs_types::{Bytes, MOST_REQUEST_BYTES, Memory};
+use std::alloc::Global;
+use std::marker::Model;
+
+/// What a client asks for: the bytes of a call, with a timestamp above those of its requests before (OSDI 1999 section 4.1).
+#[derive(Drop)]
+pub struct Request {
+    client: u32,
+    timestamp: u64,
+    call: Bytes<MOST_REQUEST_BYTES>,
+}
+
+impl Model for Request {
+    ghost use Rattle.bfs_messages.specs.Messages as model;
+
+    ghost Value = { model.Request };
+
+    ghost view = { λ request. record { client = request.client; timestamp = request.timestamp; call = request.call } };
+}
+
+impl Request {
+    /// With a copy of the call, of at most `MOST_REQUEST_BYTES` bytes. `Memory` if memory runs out.
+    pub fn new(alloc: Global, client: u32, timestamp: u64, call: &[u8]) -> Result<Request, Memory>
+        requires { length call.now ≤ most_request_bytes }
+        ensures { IfOk result (λ request. request ≡ record { client = client; timestamp = timestamp; call = call.now }) }
+    {
+        Ok(Request {
+            client,
+            timestamp,
+            call: Bytes::new(alloc, call)?,
+        })
+    }
+
+    /// The number of the client, who sends it.
+    pub fn client(&self) -> u32
+        ensures { result ≡ self.now.client }
+    {
+        self.client
+    }
+
+    /// The client's timestamp.
+    pub fn timestamp(&self) -> u64
+        ensures { result ≡ self.now.timestamp }
+    {
+        self.timestamp
+    }
+
+    /// The bytes of the call.
+    pub fn call(&self) -> &[u8]
+        ensures value { result.now ≡ self.now.call }
+        ensures within { length result.now ≤ most_request_bytes }
+    {
+        self.call.as_slice()
+    }
+}
+
+impl Part for Request {
+    ghost from = { request_from };
+
+    ghost text = { request_text };
+
+    ghost fits = { FitsRequest };
+
+    #[tactic(auto, unfolding(crate::specs::Parts::request_from))]
+    fn read(reader: &mut MessageReader<'_>) -> Result<Request, DecodeError> {
+        let client = reader.u32()?;
+        let timestamp = reader.u64()?;
+        let call = reader.bytes(MOST_REQUEST_BYTES as u32)?;
+        Ok(Request::new(reader.alloc(), client, timestamp, call)?)
+    }
+
+    fn put<S: Sink>(&self, out: &mut S) -> Result<(), S::Error> {
+        out.u32(self.client)?;
+        out.u64(self.timestamp)?;
+        out.opaque(self.call.as_slice())
+    }
+
+    fn try_clone(&self, alloc: Global) -> Result<Request, Memory> {
+        Request::new(alloc, self.client, self.timestamp, self.call.as_slice())
+    }
+}
+
+impl Kind for Request {
+    ghost TAG = { 1 };
+
+    const TAG: u32 = 1;
+}

@@ -1,0 +1,105 @@
+-- Certificates: 2f + 1 senders that differ are counted, and each is told by the log that has their messages.
+use Rattle.std.proofs.Common.{◌≡◌, ℕ, zero, suc, ◌+◌, ◌*◌, ◌<◌, ◌≤◌, Bool, true, false, cond, eqb, ltb, leb, ◌||◌, not, List, [], ◌∷◌, ◌++◌, length, refl, ap, arith}
+use Rattle.std.specs.Prelude.{All, bytes_eq}
+use Rattle.std.specs.List.{list_all}
+use Rattle.std.proofs.lemmas.Bool.{and_parts, eqb-true, eqb-false, ltb-true, leb-true, not-true}
+use Rattle.std.proofs.lemmas.List.Elements.{All-nil, All-cons, All-head, All-tail}
+use Rattle.std.proofs.lemmas.Slice.Eq.{bytes_eq-Decides}
+use Rattle.bfs_auth.specs.Keys.{Keys}
+use Rattle.bfs_agreement.specs.Votes.{is_taken, count_below, replicas}
+use Rattle.bfs_log.specs.Headers.{header}
+use Rattle.bfs_log.specs.Logs.{Log, headers}
+use Rattle.bfs_messages.specs.declared.signed.Signed.{Signed}
+use Rattle.bfs_messages.specs.declared.message.Message.{Message}
+use Rattle.bfs_order.specs.Replica.Authentic.{is_signed}
+use Rattle.bfs_order.specs.Replica.Installing.{vouches, has_sender, senders_differ, is_certificate, number_of, digest_of, with_new, with_each}
+
+-- a replica's signed CHECKPOINT of that number and digest
+pub record IsVoucher (keys : Keys) (f n : ℕ) (d : List ℕ) (m : Signed Message) : Type 0 where
+  pub tag : (header m).tag ≡ 5
+  pub number : (header m).number ≡ n
+  pub digest : (header m).digest ≡ d
+  pub sender : (header m).sender < replicas f
+  pub signed : is_signed keys m ≡ true
+
+is_voucher : (keys : Keys) (f n : ℕ) (d : List ℕ) (m : Signed Message) → vouches keys f n d m ≡ true → IsVoucher keys f n d m
+is_voucher keys f n d m e =
+    let h = header m in
+    let a = and_parts (eqb h.tag 5) _ e in
+    let b = and_parts (eqb h.number n) _ a.1 in
+    let c = and_parts (bytes_eq h.digest d) _ b.1 in
+    let s = and_parts (ltb h.sender (replicas f)) _ c.1 in
+    record { tag = eqb-true h.tag 5 a.0; number = eqb-true h.number n b.0; digest = (bytes_eq-Decides h.digest d).0 c.0; sender = ltb-true h.sender (replicas f) s.0; signed = s.1 }
+
+each_voucher : (keys : Keys) (f n : ℕ) (d : List ℕ) (ms : Log) → list_all (vouches keys f n d) ms ≡ true → All (IsVoucher keys f n d) ms
+each_voucher keys f n d [] e = All-nil (IsVoucher keys f n d)
+each_voucher keys f n d (m ∷ ms) e =
+    let parts = and_parts (vouches keys f n d m) (list_all (vouches keys f n d) ms) e in
+    All-cons (IsVoucher keys f n d) m ms (is_voucher keys f n d m parts.0) (each_voucher keys f n d ms parts.1)
+
+-- what a certificate has
+pub record Vouched (keys : Keys) (f : ℕ) (ms : Log) : Type 0 where
+  pub each : All (IsVoucher keys f (number_of ms) (digest_of ms)) ms
+  pub differ : senders_differ ms ≡ true
+  pub enough : 2 * f + 1 ≤ length ms
+
+pub vouched : (keys : Keys) (f : ℕ) (ms : Log) → is_certificate keys f ms ≡ true → Vouched keys f ms
+vouched keys f [] e = absurd cc
+vouched keys f (m ∷ ms) e =
+    let a = and_parts (list_all (vouches keys f (header m).number (header m).digest) (m ∷ ms)) _ e in
+    let b = and_parts (senders_differ (m ∷ ms)) (leb (2 * f + 1) (length (m ∷ ms))) a.1 in
+    record { each = each_voucher keys f (header m).number (header m).digest (m ∷ ms) a.0; differ = b.0; enough = leb-true (2 * f + 1) (length (m ∷ ms)) b.1 }
+
+-- Put into a log, each where its place is free -------------------------------------------------------------------------
+
+pub each_keeps : (Q : Log → Type 0) (R : Signed Message → Type 0) → ((log : Log) (m : Signed Message) → Q log → R m → is_taken (headers log) (header m) ≡ false → Q (log ++ m ∷ []))
+    → (log ms : Log) → All R ms → Q log → Q (with_each log ms)
+each_keeps Q R step log [] all kept = kept
+each_keeps Q R step log (m ∷ ms) all kept = each_keeps Q R step (with_new log m) ms (All-tail R m ms all) (go (is_taken (headers log) (header m)) refl)
+  where
+    go : (b : Bool) → is_taken (headers log) (header m) ≡ b → Q (cond b log (log ++ m ∷ []))
+    go true is = kept
+    go false is = step log m kept (All-head R m ms all) is
+
+-- Counting -------------------------------------------------------------------------------------------------------------
+
+more_step : (a b : Bool) (x y : ℕ) → (a ≡ true → b ≡ true) → x ≤ y → cond a (1 + x) x ≤ cond b (1 + y) y
+more_step true true x y h le = omega (arith, le)
+more_step true false x y h le = let no : false ≡ true = h refl in absurd cc
+more_step false true x y h le = omega (arith, le)
+more_step false false x y h le = le
+
+pub more : (p q : ℕ → Bool) (n : ℕ) → ((k : ℕ) → p k ≡ true → q k ≡ true) → count_below p n ≤ count_below q n
+more p q zero h = omega arith
+more p q (suc n) h = more_step (p n) (q n) (count_below p n) (count_below q n) (h n) (more p q n h)
+
+or_right_true : (a b : Bool) → b ≡ true → (a || b) ≡ true
+or_right_true true b e = refl
+or_right_true false b e = e
+
+-- a number more that passes
+one_more : (a : ℕ) (p : ℕ → Bool) (n : ℕ) → a < n → p a ≡ false → 1 + count_below p n ≤ count_below (λ k. eqb a k || p k) n
+one_more a p zero lt none = absurd (omega (arith, lt))
+one_more a p (suc n) lt none = go (eqb a n) (p n) refl refl (one_more a p n)
+  where
+    wider : count_below p n ≤ count_below (λ k. eqb a k || p k) n
+    wider = more p (λ k. eqb a k || p k) n (λ k is. or_right_true (eqb a k) (p k) is)
+
+    go : (e b : Bool) → eqb a n ≡ e → p n ≡ b → (a < n → p a ≡ false → 1 + count_below p n ≤ count_below (λ k. eqb a k || p k) n)
+        → 1 + cond b (1 + count_below p n) (count_below p n) ≤ cond (e || b) (1 + count_below (λ k. eqb a k || p k) n) (count_below (λ k. eqb a k || p k) n)
+    go true true is passes below = let same = ap p (eqb-true a n is) in absurd (cc (same, none, passes))
+    go true false is passes below = omega (arith, wider)
+    go false b is passes below = other b (below (omega (arith, lt, eqb-false a n is)) none)
+      where
+        other : (b : Bool) → 1 + count_below p n ≤ count_below (λ k. eqb a k || p k) n
+            → 1 + cond b (1 + count_below p n) (count_below p n) ≤ cond b (1 + count_below (λ k. eqb a k || p k) n) (count_below (λ k. eqb a k || p k) n)
+        other true le = omega (arith, le)
+        other false le = le
+
+pub senders_counted : (n : ℕ) (ms : Log) → All (λ m. (header m).sender < n) ms → senders_differ ms ≡ true → length ms ≤ count_below (has_sender ms) n
+senders_counted n [] all differ = omega arith
+senders_counted n (m ∷ ms) all differ =
+    let parts = and_parts (not (has_sender ms (header m).sender)) (senders_differ ms) differ in
+    let rest = senders_counted n ms (All-tail (λ m. (header m).sender < n) m ms all) parts.1 in
+    let one = one_more (header m).sender (has_sender ms) n (All-head (λ m. (header m).sender < n) m ms all) (not-true (has_sender ms (header m).sender) parts.0) in
+    omega (arith, rest, one)

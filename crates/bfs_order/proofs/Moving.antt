@@ -1,0 +1,366 @@
+-- Each call on the order of a replica is made of four small changes of its log, so what these keep, calls keep.
+use Rattle.std.proofs.Common.{◌≡◌, ◌⊎◌, inl, inr, ℕ, ◌+◌, ◌<◌, ◌≤◌, max, Bool, true, false, cond, eqb, ltb, leb, ◌&&◌, not, List, [], ◌∷◌, ◌++◌, refl, sym, subst, ◌∙◌, append_assoc, arith}
+use Rattle.std.specs.Prelude.{Option, Some, None, All}
+use Rattle.std.proofs.lemmas.Bool.{and_parts, and_from, or_parts, or_cases, eqb-true, eq-eqb, ltb-true, ltb-false, leb-true, not-false, false_from_ne_true}
+use Rattle.std.proofs.lemmas.List.{append-nil}
+use Rattle.std.proofs.lemmas.List.Elements.{All-head, All-tail}
+use Rattle.bfs_auth.specs.Keys.{Keys}
+use Rattle.bfs_agreement.specs.Votes.{Header, is_slot, has_slot, is_taken, told, Told, primary, prepared, is_stable}
+use Rattle.bfs_log.specs.Headers.{header, message_header}
+use Rattle.bfs_log.specs.Logs.{Log, headers, kept_after, greatest_proposed}
+use Rattle.bfs_messages.specs.Messages.{Batch}
+use Rattle.bfs_messages.specs.declared.signed.Signed.{Signed}
+use Rattle.bfs_messages.specs.declared.message.Message.{Message}
+use Rattle.bfs_messages.specs.declared.message.Message.TheVariants.{Prepare, Commit, Checkpoint}
+use Rattle.bfs_order.specs.Replica.Accepting.{makes_stable, settled, answers, accepted, on_message}
+use Rattle.bfs_order.specs.Replica.Answers.{said_once, own_vote, prepares_in, commits_in, votes_in, answers_in}
+use Rattle.bfs_order.specs.Replica.Authentic.{signed_by}
+use Rattle.bfs_order.specs.Replica.Checkpoints.{checkpoint_refusal, checkpoint, checkpointed}
+use Rattle.bfs_order.specs.Replica.Executing.{next_order}
+use Rattle.bfs_order.specs.Replica.Installing.{number_of, is_certificate, certified, install_refusal, installed}
+use Rattle.bfs_order.specs.Replica.Outcomes.{Outcome, quiet, unless}
+use Rattle.bfs_order.specs.Replica.Proposing.{next_number, leads, proposal_refusal, proposal, proposal_commits, proposed, batch_digest}
+use Rattle.bfs_order.specs.Replica.Refusals.{window, is_between, is_inside, is_of_view, is_there, conflicts, is_ordering, is_authentic, place_refusal, refusal}
+use Rattle.bfs_order.specs.Replica.States.{State, known, with_more, with_message}
+use Rattle.bfs_order.specs.Replica.Views.{leaving_refusal, left, entering_refusal, opened, handed_refusal, taken_over, all_taken_over, entered}
+use Rattle.bfs_order.specs.Laws.Calls.{Call, Takes, Proposes, Executes, Checkpoints, Installs, Leaves, Enters, execution, outcome}
+use Rattle.bfs_order.specs.declared.error.OrderError.{OrderError}
+use Rattle.bfs_order.specs.declared.error.OrderError.TheVariants.{WrongKind}
+use Rattle.bfs_order.proofs.Telling.{slot_is, told_left, told_right, is_one}
+
+-- a message may go into a log
+pub record CanTake (f low : ℕ) (log : Log) (m : Signed Message) : Type 0 where
+  pub free : is_taken (headers log) (header m) ≡ false
+  pub kind : is_ordering (header m) ≡ true
+  pub above : low < (header m).number
+  pub to : (header m).number ≤ low + window
+  pub led : (header m).tag ≡ 2 → (header m).sender ≡ primary f (header m).view
+
+-- a message of its own, of a PRE-PREPARE unless it is a CHECKPOINT
+pub record IsOwn (f me : ℕ) (log : Log) (m : Signed Message) : Type 0 where
+  pub mine : (header m).sender ≡ me
+  pub backed : (header m).tag < 5 → Told (headers (log ++ m ∷ [])) 2 (primary f (header m).view) (header m).view (header m).number (header m).digest
+
+abbrev pub Fact : Type 1
+Fact = (f me low : ℕ) → (log sent : Log) → Type 0
+
+-- the small changes: a message is taken, one is sent, a checkpoint becomes stable, one is installed
+pub record Moves (Good : Signed Message → Type 0) (P : Fact) : Type 0 where
+  pub take : (f me low : ℕ) (log sent : Log) (m : Signed Message) → P f me low log sent → CanTake f low log m → Good m → P f me low (log ++ m ∷ []) sent
+  pub say : (f me low : ℕ) (log sent : Log) (m : Signed Message) → P f me low log sent → CanTake f low log m → IsOwn f me log m → Good m → P f me low (log ++ m ∷ []) (sent ++ m ∷ [])
+  pub settle : (f me low : ℕ) (log sent : Log) (number : ℕ) (digest : List ℕ) → P f me low log sent → low < number → is_stable f (headers log) number digest ≡ true
+      → P f me number (kept_after number digest log) sent
+  pub install : (keys : Keys) (f me low : ℕ) (log sent ms : Log) → P f me low log sent → low < number_of ms → is_certificate keys f ms ≡ true → All Good ms
+      → P f me (number_of ms) (certified log ms) sent
+
+-- what a replica says by its keys is good
+pub record Speaks (Good : Signed Message → Type 0) (keys : Keys) (f me : ℕ) : Type 0 where
+  pub prepare : (v n : ℕ) (d : List ℕ) → eqb me (primary f v) ≡ false → Good (signed_by keys (Prepare (record { sender = me; view = v; number = n; digest = d })))
+  pub commit : (v n : ℕ) (d : List ℕ) → Good (signed_by keys (Commit (record { sender = me; view = v; number = n; digest = d })))
+  pub checkpoint : (n : ℕ) (d : List ℕ) → Good (signed_by keys (Checkpoint (record { sender = me; number = n; digest = d })))
+
+-- what a call lets in is good
+abbrev pub Fits : (Good : Signed Message → Type 0) → State → Call → Type 0
+Fits Good s (Takes keys m) = (refusal keys s m ≡ None → Good m) × Speaks Good keys s.f s.me
+Fits Good s (Proposes keys batch) = (proposal_refusal s ≡ None → Good (proposal keys s batch)) × Speaks Good keys s.f s.me
+Fits Good s Executes = Unit {0}
+Fits Good s (Checkpoints keys n d) = Speaks Good keys s.f s.me
+Fits Good s (Installs keys ms) = is_certificate keys s.f ms ≡ true → All Good ms
+Fits Good s (Leaves v) = Unit {0}
+Fits Good s (Enters keys v n ms) = All (λ m. (header m).tag ≡ 2 → (header m).sender ≡ primary s.f (header m).view → Good m) ms × Speaks Good keys s.f s.me
+
+-- Tests passed ------------------------------------------------------------------------------------------------------------
+
+pub passed : {A : Type 0} (b : Bool) (x : A) (r : Option A) → cond b (Some x) r ≡ None → (b ≡ false) × (r ≡ None)
+passed true x r e = absurd cc
+passed false x r e = (refl, e)
+
+turned : {A : Type 0} (b : Bool) (x : A) (r : Option A) → cond b r (Some x) ≡ None → (b ≡ true) × (r ≡ None)
+turned true x r e = (refl, e)
+turned false x r e = absurd cc
+
+led_by : (a b : Bool) → (a && not b) ≡ false → a ≡ true → b ≡ true
+led_by true true e is = refl
+led_by true false e is = absurd cc
+led_by false b e is = absurd cc
+
+pub between : (s : State) (n : ℕ) → is_between s n ≡ true → (s.low < n) × (n ≤ s.low + window)
+between s n e =
+    let parts = and_parts (ltb s.low n) (leb n (s.low + window)) e in
+    (ltb-true s.low n parts.0, leb-true n (s.low + window) parts.1)
+
+pub placed : (s : State) (m : Signed Message) → is_ordering (header m) ≡ true → place_refusal s (header m) ≡ None → CanTake s.f s.low s.log m
+placed s m kind e =
+    let h = header m in
+    let p1 = passed (not (is_of_view s h)) _ _ e in
+    let p2 = passed (not (is_inside s h)) _ _ p1.1 in
+    let p3 = passed (eqb h.tag 2 && not (eqb h.sender (primary s.f h.view))) _ _ p2.1 in
+    let p4 = passed (conflicts s h) _ _ p3.1 in
+    let p5 = passed (is_there s h) _ _ p4.1 in
+    let inside = and_parts (is_between s h.number) _ (not-false (is_inside s h) p2.0) in
+    let marks = between s h.number inside.0 in
+    record {
+      free = p5.0;
+      kind = kind;
+      above = marks.0;
+      to = marks.1;
+      led = λ two. eqb-true h.sender (primary s.f h.view) (led_by (eqb h.tag 2) (eqb h.sender (primary s.f h.view)) p3.0 (eq-eqb h.tag 2 two));
+    }
+
+-- no PREPARE of the primary is let in
+pub only_backups : (s : State) (h : Header) → place_refusal s h ≡ None → h.tag ≡ 3 → h.sender ≡ primary s.f h.view → ⊥
+only_backups s h e three same =
+    let p1 = passed (not (is_of_view s h)) _ _ e in
+    let p2 = passed (not (is_inside s h)) _ _ p1.1 in
+    let p3 = passed (eqb h.tag 2 && not (eqb h.sender (primary s.f h.view))) _ _ p2.1 in
+    let p4 = passed (conflicts s h) _ _ p3.1 in
+    let parts = or_parts (eqb h.tag 3 && eqb h.sender (primary s.f h.view)) _ p4.0 in
+    let both = and_from (eqb h.tag 3) (eqb h.sender (primary s.f h.view)) (eq-eqb h.tag 3 three) (eq-eqb h.sender (primary s.f h.view) same) in
+    absurd (cc (parts.0, both))
+
+pub leading : (s : State) → proposal_refusal s ≡ None → s.me ≡ primary s.f s.view
+leading s none = eqb-true s.me (primary s.f s.view) (and_parts (eqb s.me (primary s.f s.view)) _ (not-false (leads s) (passed (not (leads s)) _ _ none).0)).0
+
+pub unrefused : (keys : Keys) (s : State) (m : Signed Message) → refusal keys s m ≡ None
+    → (is_ordering (header m) ≡ true) × (is_authentic keys s m ≡ true) × (place_refusal s (header m) ≡ None)
+unrefused keys s m none =
+    let p1 = passed (not (is_ordering (header m))) _ _ none in
+    let p2 = passed (not (is_authentic keys s m)) _ _ p1.1 in
+    (not-false (is_ordering (header m)) p1.0, not-false (is_authentic keys s m) p2.0, p2.1)
+
+below_greatest : (hs : List Header) (k v n : ℕ) → has_slot hs 2 k v n ≡ true → n ≤ greatest_proposed v hs
+below_greatest [] k v n e = absurd cc
+below_greatest (h ∷ hs) k v n e = go (below_greatest hs k v n) (or_cases (is_slot 2 k v n h) (has_slot hs 2 k v n) e)
+  where
+    rest : (b : Bool) → n ≤ greatest_proposed v hs → n ≤ cond b (max h.number (greatest_proposed v hs)) (greatest_proposed v hs)
+    rest true le = omega (arith, le)
+    rest false le = le
+
+    here : (t w : Bool) → t ≡ true → w ≡ true → h.number ≡ n → n ≤ cond (t && w) (max h.number (greatest_proposed v hs)) (greatest_proposed v hs)
+    here true true a b same = omega (arith, same)
+    here true false a b same = absurd cc
+    here false w a b same = absurd cc
+
+    go : (has_slot hs 2 k v n ≡ true → n ≤ greatest_proposed v hs) → (is_slot 2 k v n h ≡ true) ⊎ (has_slot hs 2 k v n ≡ true) → n ≤ greatest_proposed v (h ∷ hs)
+    go later (inl is) = let i = slot_is h 2 k v n is in here (eqb h.tag 2) (eqb h.view v) (eq-eqb h.tag 2 i.tag) (eq-eqb h.view v i.view) i.number
+    go later (inr there) = rest (eqb h.tag 2 && eqb h.view v) (later there)
+
+-- Calls -------------------------------------------------------------------------------------------------------------------
+
+module _ (Good : Signed Message → Type 0) (P : Fact) (moves : Moves Good P) where
+  abbrev pub Keeps : State → Log → Type 0
+  Keeps s sent = P s.f s.me s.low s.log sent
+
+  -- with some messages more in the log, which are sent
+  abbrev More : State → (sent more : Log) → Type 0
+  More s sent more = P s.f s.me s.low (s.log ++ more) (sent ++ more)
+
+  pub record Goes (s : State) (sent : Log) (o : Outcome) : Type 0 where
+    pub same_f : o.now.f ≡ s.f
+    pub same_me : o.now.me ≡ s.me
+    pub kept : Keeps o.now (sent ++ o.sent)
+
+  none_more : (s : State) (sent : Log) → Keeps s sent → More s sent []
+  none_more s sent kept =
+      subst (λ (l : Log). P s.f s.me s.low l (sent ++ [])) (sym (append-nil s.log)) (subst (λ (l : Log). P s.f s.me s.low s.log l) (sym (append-nil sent)) kept)
+
+  quiet_goes : (s now : State) (sent : Log) → now.f ≡ s.f → now.me ≡ s.me → Keeps now sent → Goes s sent (quiet now)
+  quiet_goes s now sent same_f same_me kept = record { same_f = same_f; same_me = same_me; kept = subst (λ (l : Log). P now.f now.me now.low now.log l) (sym (append-nil sent)) kept }
+
+  unless_goes : (s : State) (sent : Log) (r : Option OrderError) (o : Outcome) → Keeps s sent → (r ≡ None → Goes s sent o) → Goes s sent (unless r s o)
+  unless_goes s sent None o kept goes = goes refl
+  unless_goes s sent (Some e) o kept goes = quiet_goes s s sent refl refl kept
+
+  said_more : (keys : Keys) (s : State) (sent : Log) (m : Message) → Keeps s sent → is_ordering (message_header m) ≡ true → ((message_header m).tag ≡ 2 → ⊥)
+      → s.low < (message_header m).number → (message_header m).number ≤ s.low + window → (message_header m).sender ≡ s.me
+      → Told (known s) 2 (primary s.f (message_header m).view) (message_header m).view (message_header m).number (message_header m).digest
+      → Good (signed_by keys m) → More s sent (said_once keys s m)
+  said_more keys s sent m kept kind other above to mine backed good = go (is_there s (message_header m)) refl
+    where
+      go : (b : Bool) → is_there s (message_header m) ≡ b → More s sent (cond b [] (signed_by keys m ∷ []))
+      go true is = none_more s sent kept
+      go false is =
+          moves.say s.f s.me s.low s.log sent (signed_by keys m) kept
+          (record { free = is; kind = kind; above = above; to = to; led = λ two. absurd (other two) })
+          (record { mine = mine; backed = λ _. told_left s.log (signed_by keys m ∷ []) _ _ _ _ _ backed }) good
+
+  three : ◌≡◌ {A = ℕ} 3 2 → ⊥
+  three e = absurd (omega (arith, e))
+
+  four : ◌≡◌ {A = ℕ} 4 2 → ⊥
+  four e = absurd (omega (arith, e))
+
+  prepares_more : (keys : Keys) (s : State) (sent : Log) (v n : ℕ) (d : List ℕ) → Speaks Good keys s.f s.me → Keeps s sent → s.low < n → n ≤ s.low + window
+      → Told (known s) 2 (primary s.f v) v n d → More s sent (prepares_in keys s v n d)
+  prepares_more keys s sent v n d speaks kept above to backed = go (eqb s.me (primary s.f v)) refl
+    where
+      go : (b : Bool) → eqb s.me (primary s.f v) ≡ b → More s sent (cond b [] (said_once keys s (Prepare (own_vote s v n d))))
+      go true is = none_more s sent kept
+      go false is = said_more keys s sent (Prepare (own_vote s v n d)) kept refl three above to refl backed (speaks.prepare v n d is)
+
+  commits_more : (keys : Keys) (s : State) (sent : Log) (v n : ℕ) (d : List ℕ) → Speaks Good keys s.f s.me → Keeps s sent → s.low < n → n ≤ s.low + window
+      → More s sent (commits_in keys s v n d)
+  commits_more keys s sent v n d speaks kept above to = go (prepared s.f s.me (known s) v n d) refl
+    where
+      go : (b : Bool) → prepared s.f s.me (known s) v n d ≡ b → More s sent (cond b (said_once keys s (Commit (own_vote s v n d))) [])
+      go true is = said_more keys s sent (Commit (own_vote s v n d)) kept refl four above to refl (and_parts (told (known s) 2 (primary s.f v) v n d) _ (and_parts _ _ is).0).0 (speaks.commit v n d)
+      go false is = none_more s sent kept
+
+  regrouped : (s : State) (sent p c : Log) → P s.f s.me s.low ((s.log ++ p) ++ c) ((sent ++ p) ++ c) → More s sent (p ++ c)
+  regrouped s sent p c kept =
+      subst (λ (l : Log). P s.f s.me s.low l (sent ++ (p ++ c))) (append_assoc s.log p c) (subst (λ (l : Log). P s.f s.me s.low ((s.log ++ p) ++ c) l) (append_assoc sent p c) kept)
+
+  votes_more : (keys : Keys) (s : State) (sent : Log) (v n : ℕ) (d : List ℕ) → Speaks Good keys s.f s.me → Keeps s sent → s.low < n → n ≤ s.low + window
+      → Told (known s) 2 (primary s.f v) v n d → More s sent (votes_in keys s v n d)
+  votes_more keys s sent v n d speaks kept above to backed =
+      let p = prepares_in keys s v n d in
+      regrouped s sent p (commits_in keys (with_more s p) v n d)
+      (commits_more keys (with_more s p) (sent ++ p) v n d speaks (prepares_more keys s sent v n d speaks kept above to backed) above to)
+
+  answers_more : (keys : Keys) (s : State) (sent : Log) (h : Header) → Speaks Good keys s.f s.me → Keeps s sent → s.low < h.number → h.number ≤ s.low + window
+      → (h.tag ≡ 2 → Told (known s) 2 (primary s.f h.view) h.view h.number h.digest) → More s sent (answers_in keys s h)
+  answers_more keys s sent h speaks kept above to backed = go (eqb h.tag 2) (eqb h.tag 3) (λ is. backed (eqb-true h.tag 2 is))
+    where
+      go : (b c : Bool) → (b ≡ true → Told (known s) 2 (primary s.f h.view) h.view h.number h.digest)
+          → More s sent (cond b (votes_in keys s h.view h.number h.digest) (cond c (commits_in keys s h.view h.number h.digest) []))
+      go true c told_so = votes_more keys s sent h.view h.number h.digest speaks kept above to (told_so refl)
+      go false true told_so = commits_more keys s sent h.view h.number h.digest speaks kept above to
+      go false false told_so = none_more s sent kept
+
+  settled_more : (s : State) (sent : Log) (h : Header) → Keeps s sent → s.low < h.number → Keeps (settled s h) sent
+  settled_more s sent h kept above = go (makes_stable s h) refl
+    where
+      go : (b : Bool) → makes_stable s h ≡ b → P s.f s.me (cond b h.number s.low) (cond b (kept_after h.number h.digest s.log) s.log) sent
+      go true is = moves.settle s.f s.me s.low s.log sent h.number h.digest kept above (and_parts (eqb h.tag 5) _ is).1
+      go false is = kept
+
+  accepted_goes : (keys : Keys) (s : State) (sent : Log) (m : Signed Message) → Speaks Good keys s.f s.me → Keeps s sent → CanTake s.f s.low s.log m → Good m → Goes s sent (accepted keys s m)
+  accepted_goes keys s sent m speaks kept can good =
+      let h = header m in
+      let backed : h.tag ≡ 2 → Told (headers (s.log ++ m ∷ [])) 2 (primary s.f h.view) h.view h.number h.digest =
+      λ (two : h.tag ≡ 2). told_right s.log (m ∷ []) _ _ _ _ _ (is_one m 2 (primary s.f h.view) h.view h.number h.digest
+      (record { tag = two; sender = can.led two; view = refl; number = refl; digest = refl })) in
+      let taken = moves.take s.f s.me s.low s.log sent m kept can good in
+      let said = answers_more keys (with_message s m) sent h speaks taken can.above can.to backed in
+      record { same_f = refl; same_me = refl; kept = settled_more (with_more (with_message s m) (answers keys s m)) (sent ++ answers keys s m) h said can.above }
+
+  message_goes : (keys : Keys) (s : State) (sent : Log) (m : Signed Message) → Speaks Good keys s.f s.me → Keeps s sent → (refusal keys s m ≡ None → Good m) → Goes s sent (on_message keys s m)
+  message_goes keys s sent m speaks kept good = unless_goes s sent (refusal keys s m) (accepted keys s m) kept (λ none.
+      let free = unrefused keys s m none in
+      accepted_goes keys s sent m speaks kept (placed s m free.0 free.2) (good none))
+
+  proposal_goes : (keys : Keys) (s : State) (sent : Log) (batch : Batch) → Speaks Good keys s.f s.me → Keeps s sent → Good (proposal keys s batch) → proposal_refusal s ≡ None → Goes s sent (proposed keys s batch)
+  proposal_goes keys s sent batch speaks kept good none = record { same_f = refl; same_me = refl; kept = both }
+    where
+      m : Signed Message
+      m = proposal keys s batch
+
+      n : ℕ
+      n = next_number s
+
+      d : List ℕ
+      d = batch_digest batch
+
+      mine : s.me ≡ primary s.f s.view
+      mine = leading s none
+
+      above : s.low < next_number s
+      above = omega arith
+
+      to : next_number s ≤ s.low + window
+      to = leb-true (next_number s) (s.low + window) (and_parts (leb (next_number s) (s.low + window)) _ (not-false _ (passed _ _ _ (passed (not (leads s)) _ _ none).1).0)).0
+
+      free : is_taken (known s) (header (proposal keys s batch)) ≡ false
+      free = false_from_ne_true (has_slot (known s) 2 s.me s.view (next_number s)) (λ taken. absurd (omega (arith, below_greatest (known s) s.me s.view (next_number s) taken)))
+
+      said : P s.f s.me s.low (s.log ++ proposal keys s batch ∷ []) (sent ++ proposal keys s batch ∷ [])
+      said = moves.say s.f s.me s.low s.log sent (proposal keys s batch) kept (record { free = free; kind = refl; above = above; to = to; led = λ _. mine })
+          (record {
+            mine = refl;
+            backed = λ _. told_right s.log (proposal keys s batch ∷ []) _ _ _ _ _ (is_one (proposal keys s batch) 2 (primary s.f s.view) s.view (next_number s) (batch_digest batch)
+                (record { tag = refl; sender = mine; view = refl; number = refl; digest = refl }));
+          }) good
+
+      commits : (b : Bool) → More (with_message s (proposal keys s batch)) (sent ++ proposal keys s batch ∷ [])
+          (cond b (commits_in keys (with_message s (proposal keys s batch)) s.view (next_number s) (batch_digest batch)) [])
+      commits true = commits_more keys (with_message s (proposal keys s batch)) (sent ++ proposal keys s batch ∷ []) s.view (next_number s) (batch_digest batch) speaks said above to
+      commits false = none_more (with_message s (proposal keys s batch)) (sent ++ proposal keys s batch ∷ []) said
+
+      both : P s.f s.me s.low ((s.log ++ proposal keys s batch ∷ []) ++ proposal_commits keys s batch) (sent ++ (proposal keys s batch ∷ proposal_commits keys s batch))
+      both = subst (λ (l : Log). P s.f s.me s.low ((s.log ++ proposal keys s batch ∷ []) ++ proposal_commits keys s batch) l)
+          (append_assoc sent (proposal keys s batch ∷ []) (proposal_commits keys s batch)) (commits (eqb s.f 0))
+
+  not_two : ◌≡◌ {A = ℕ} 5 2 → ⊥
+  not_two e = absurd (omega (arith, e))
+
+  not_small : 5 < 5 → ⊥
+  not_small lt = absurd (omega (arith, lt))
+
+  checkpoint_goes : (keys : Keys) (s : State) (sent : Log) (n : ℕ) (d : List ℕ) → Speaks Good keys s.f s.me → Keeps s sent → checkpoint_refusal s n ≡ None → Goes s sent (checkpointed keys s n d)
+  checkpoint_goes keys s sent n d speaks kept none =
+      let p1 = passed (not (is_between s n && _)) _ _ none in
+      let p2 = passed (has_slot (known s) 5 s.me 0 n) _ _ p1.1 in
+      let marks = between s n (and_parts (is_between s n) _ (not-false _ p1.0)).0 in
+      let m = checkpoint keys s n d in
+      let said = moves.say s.f s.me s.low s.log sent m kept (record { free = p2.0; kind = refl; above = marks.0; to = marks.1; led = λ two. absurd (not_two two) })
+      (record { mine = refl; backed = λ lt. absurd (not_small lt) }) (speaks.checkpoint n d) in
+      record { same_f = refl; same_me = refl; kept = settled_more (with_message s m) (sent ++ m ∷ []) (header m) said marks.0 }
+
+  install_goes : (keys : Keys) (s : State) (sent ms : Log) → Keeps s sent → (is_certificate keys s.f ms ≡ true → All Good ms) → install_refusal keys s ms ≡ None → Goes s sent (installed s ms)
+  install_goes keys s sent ms kept good none = quiet_goes s (installed s ms).now sent refl refl (go (ltb s.low (number_of ms)) refl)
+    where
+      is : is_certificate keys s.f ms ≡ true
+      is = not-false (is_certificate keys s.f ms) (passed (not (is_certificate keys s.f ms)) _ _ none).0
+
+      go : (b : Bool) → ltb s.low (number_of ms) ≡ b → P s.f s.me (max s.low (number_of ms)) (cond b (certified s.log ms) s.log) sent
+      go true e =
+          let lt : s.low < number_of ms = ltb-true s.low (number_of ms) e in
+          let high : number_of ms ≡ max s.low (number_of ms) = omega (arith, lt) in
+          subst (λ (low : ℕ). P s.f s.me low (certified s.log ms) sent) high (moves.install keys s.f s.me s.low s.log sent ms kept lt is (good is))
+      go false e =
+          let le : number_of ms ≤ s.low = ltb-false s.low (number_of ms) e in
+          let same : s.low ≡ max s.low (number_of ms) = omega (arith, le) in
+          subst (λ (low : ℕ). P s.f s.me low s.log sent) same kept
+
+  abbrev Handed : (f : ℕ) → Signed Message → Type 0
+  Handed f m = (header m).tag ≡ 2 → (header m).sender ≡ primary f (header m).view → Good m
+
+  ordering_two : (h : Header) → h.tag ≡ 2 → is_ordering h ≡ true
+  ordering_two h two = rw two refl
+
+  taken_over_goes : (keys : Keys) (s : State) (sent : Log) (m : Signed Message) → Speaks Good keys s.f s.me → Keeps s sent → Handed s.f m → Goes s sent (taken_over keys s m)
+  taken_over_goes keys s sent m speaks kept good = unless_goes s sent (handed_refusal s (header m)) (accepted keys s m) kept (λ none.
+      let t = turned (eqb (header m).tag 2) WrongKind (place_refusal s (header m)) none in
+      let two = eqb-true (header m).tag 2 t.0 in
+      let can = placed s m (ordering_two (header m) two) t.1 in
+      accepted_goes keys s sent m speaks kept can (good two (can.led two)))
+
+  all_taken_goes : (keys : Keys) (s : State) (sent ms : Log) → Speaks Good keys s.f s.me → Keeps s sent → All (Handed s.f) ms → Goes s sent (all_taken_over keys s ms)
+  all_taken_goes keys s sent [] speaks kept good = quiet_goes s s sent refl refl kept
+  all_taken_goes keys s sent (m ∷ ms) speaks kept good =
+      let first = taken_over keys s m in
+      let rest = all_taken_over keys first.now ms in
+      let a = taken_over_goes keys s sent m speaks kept (All-head (Handed s.f) m ms good) in
+      let speaks_on = subst (λ (f : ℕ). Speaks Good keys f first.now.me) (sym a.same_f) (subst (λ (me : ℕ). Speaks Good keys s.f me) (sym a.same_me) speaks) in
+      let good_on = subst (λ (f : ℕ). All (Handed f) ms) (sym a.same_f) (All-tail (Handed s.f) m ms good) in
+      let b = all_taken_goes keys first.now (sent ++ first.sent) ms speaks_on a.kept good_on in
+      record {
+        same_f = b.same_f ∙ a.same_f;
+        same_me = b.same_me ∙ a.same_me;
+        kept = subst (λ (l : Log). Keeps rest.now l) (append_assoc sent first.sent rest.sent) b.kept;
+      }
+
+  execution_goes : (s : State) (sent : Log) (o : Option (Signed Message)) → Keeps s sent → Goes s sent (execution s o)
+  execution_goes s sent None kept = quiet_goes s s sent refl refl kept
+  execution_goes s sent (Some m) kept = quiet_goes s (record s { last = s.last + 1 }) sent refl refl kept
+
+  pub call_goes : (s : State) (sent : Log) (call : Call) → Keeps s sent → Fits Good s call → Goes s sent (outcome s call)
+  call_goes s sent (Takes keys m) kept fits = message_goes keys s sent m fits.1 kept fits.0
+  call_goes s sent (Proposes keys batch) kept fits = unless_goes s sent (proposal_refusal s) (proposed keys s batch) kept (λ none. proposal_goes keys s sent batch fits.1 kept (fits.0 none) none)
+  call_goes s sent Executes kept fits = execution_goes s sent (next_order s) kept
+  call_goes s sent (Checkpoints keys n d) kept fits = unless_goes s sent (checkpoint_refusal s n) (checkpointed keys s n d) kept (checkpoint_goes keys s sent n d fits kept)
+  call_goes s sent (Installs keys ms) kept fits = unless_goes s sent (install_refusal keys s ms) (installed s ms) kept (install_goes keys s sent ms kept fits)
+  call_goes s sent (Leaves v) kept fits = unless_goes s sent (leaving_refusal s v) (left s v) kept (λ none. quiet_goes s (left s v).now sent refl refl kept)
+  call_goes s sent (Enters keys v n ms) kept fits = unless_goes s sent (entering_refusal s v) (entered keys s v n ms) kept (λ none.
+      let goes = all_taken_goes keys (opened s v n ms) sent ms fits.1 kept fits.0 in
+      record { same_f = goes.same_f; same_me = goes.same_me; kept = goes.kept })

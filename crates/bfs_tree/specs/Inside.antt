@@ -1,0 +1,3 @@
+-- What contracts of private functions cite.
+pub mod Counting
+pub mod WellFormed

@@ -1,0 +1,14 @@
+//! One replica's order, as tests: a worked run, each refusal with those before and behind it, certificates, checkpoints and views, among 1, 4 and 31
+//! replicas.
+#![tactic(auto)]
+
+#[cfg(test)]
+mod checkpoints;
+#[cfg(test)]
+mod normal;
+#[cfg(test)]
+mod refusals;
+#[cfg(test)]
+mod replica;
+#[cfg(test)]
+mod views;
