@@ -14,7 +14,7 @@ use Rattle.bfs_messages.specs.Passing.{batch_passes}
 use Rattle.bfs_messages.specs.declared.signed.Signed.{Signed}
 use Rattle.bfs_messages.specs.declared.message.Message.{Message}
 use Rattle.bfs_messages.specs.declared.message.Message.TheVariants.{Request, PrePrepare, Prepare, Commit, Checkpoint, ViewChange, NewView, Reply}
-use Rattle.bfs_order.specs.Replica.Authentic.{is_signed, carried_are_signed, signed_by}
+use Rattle.bfs_messages.specs.Signing.{is_signed, carried_are_signed, signed_by}
 use Rattle.bfs_order.specs.Replica.Installing.{number_of, digest_of, is_certificate}
 use Rattle.bfs_order.specs.Replica.Proposing.{proposal_refusal, proposal, next_number, batch_digest}
 use Rattle.bfs_order.specs.Replica.Refusals.{refusal}

@@ -8,7 +8,7 @@ use Rattle.bfs_messages.specs.Passing.{batch_passes}
 use Rattle.bfs_messages.specs.declared.signed.Signed.{Signed}
 use Rattle.bfs_messages.specs.declared.message.Message.{Message}
 use Rattle.bfs_order.specs.Laws.Calls.{Call, Takes, Proposes, Executes, Checkpoints, Installs, Leaves, Enters, outcome, after}
-use Rattle.bfs_order.specs.Replica.Authentic.{is_signed, carried_are_signed}
+use Rattle.bfs_messages.specs.Signing.{is_signed, carried_are_signed}
 use Rattle.bfs_order.specs.Replica.States.{State, fresh}
 
 -- it and what it carries are signed, its sender is a replica, and the primary of its view where it is a PRE-PREPARE, but not where it is a PREPARE
