@@ -3,5 +3,6 @@ pub mod Batches
 pub mod Digests
 pub mod Headers
 pub mod Logs
+pub mod Digests
 pub mod Places
 pub mod Rows

@@ -11,7 +11,7 @@ use Rattle.bfs_log.specs.Headers.{header}
 use Rattle.bfs_log.specs.Logs.{Log, headers}
 use Rattle.bfs_messages.specs.declared.signed.Signed.{Signed}
 use Rattle.bfs_messages.specs.declared.message.Message.{Message}
-use Rattle.bfs_order.specs.Replica.Authentic.{is_signed}
+use Rattle.bfs_messages.specs.Signing.{is_signed}
 use Rattle.bfs_order.specs.Replica.Installing.{vouches, has_sender, senders_differ, is_certificate, number_of, digest_of, with_new, with_each}
 
 -- a replica's signed CHECKPOINT of that number and digest

@@ -11,11 +11,11 @@ use Rattle.bfs_agreement.specs.Votes.{replicas, primary}
 use Rattle.bfs_log.specs.Headers.{header, message_header}
 use Rattle.bfs_log.specs.Logs.{Log, stays, kept_after}
 use Rattle.bfs_messages.specs.Messages.{Batch}
-use Rattle.bfs_messages.specs.Passing.{batch_passes}
+use Rattle.bfs_messages.specs.Signing.{requests_are_signed}
 use Rattle.bfs_messages.specs.declared.signed.Signed.{Signed}
 use Rattle.bfs_messages.specs.declared.message.Message.{Message}
 use Rattle.bfs_messages.specs.declared.message.Message.TheVariants.{Request, PrePrepare, Prepare, Commit, Checkpoint, ViewChange, NewView, Reply}
-use Rattle.bfs_order.specs.Replica.Authentic.{is_signed, carried_are_signed}
+use Rattle.bfs_messages.specs.Signing.{is_signed, carried_are_signed}
 use Rattle.bfs_order.specs.Replica.Installing.{number_of, digest_of, is_certificate}
 use Rattle.bfs_order.specs.Replica.Proposing.{proposal_refusal, proposal}
 use Rattle.bfs_order.specs.Replica.Refusals.{refusal}
@@ -123,7 +123,7 @@ module _ (passes_at : PassesAtReplicas) (secret : List ℕ) (clients : ℕ) (s :
     };
   }
 
-  clean_proposal : (batch : Batch) → batch_passes mine batch ≡ true → proposal_refusal s ≡ None → Clean (proposal mine s batch)
+  clean_proposal : (batch : Batch) → requests_are_signed mine batch ≡ true → proposal_refusal s ≡ None → Clean (proposal mine s batch)
   clean_proposal batch pass none = record {
     signed = own_passes _;
     sender = there;

@@ -1,5 +1,5 @@
 -- A slot of a log is free in what stands before it.
-use Rattle.std.proofs.Common.{◌≡◌, ℕ, zero, suc, ◌<◌, Bool, true, false, ◌&&◌, ◌||◌, [], ◌∷◌, length, take, get_or, refl, sym, ap, ◌∙◌, arith}
+use Rattle.std.proofs.Common.{◌≡◌, ℕ, zero, suc, ◌<◌, Bool, true, false, ◌&&◌, ◌||◌, [], ◌∷◌, length, take, get_or, refl, sym, ap, subst, ◌∙◌, arith}
 use Rattle.std.specs.Prelude.{◌==◌}
 use Rattle.std.specs.List.{list_any}
 use Rattle.std.proofs.lemmas.Bool.{and_parts, eqb-true}
@@ -47,3 +47,8 @@ free_before (m ∷ ms) (suc i) d differ lt =
     neither (same_slot (header m) (header (get_or ms i d))) (is_taken (headers (take i ms)) (header (get_or ms i d)))
     (same_again (header m) (header (get_or ms i d)) ∙ none_at (header m) ms i d differ.0 (omega (arith, lt)))
     (free_before ms i d differ.1 (omega (arith, lt)))
+
+pub free_in_copy : (messages copy : Log) (i : ℕ) (m d : Signed Message) → copy ≡ take i messages → m ≡ get_or messages i d → SlotsDiffer (headers messages) → i < length messages → is_taken (headers copy) (header m) ≡ false
+free_in_copy messages copy i m d so_far is differ lt =
+    subst (λ (l : Log). is_taken (headers l) (header m) ≡ false) (sym so_far)
+    (subst (λ (n : Signed Message). is_taken (headers (take i messages)) (header n) ≡ false) (sym is) (free_before messages i d differ lt))

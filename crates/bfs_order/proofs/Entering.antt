@@ -21,12 +21,13 @@ pub over_step : (keys : Keys) (s : State) (handed rest : Log) (m : Signed Messag
     → (all_taken_over keys s (reverse handed)).now ≡ total.now → sent ++ (all_taken_over keys s (reverse handed)).sent ≡ total.sent
     → ((all_taken_over keys t (reverse rest)).now ≡ total.now) × ((sent ++ more) ++ (all_taken_over keys t (reverse rest)).sent ≡ total.sent)
 over_step keys s handed rest m split t is more are total sent now said =
-    let first : reverse handed ≡ m ∷ reverse rest = ap (λ (l : Log). reverse l) split ∙ reverse-append rest (m ∷ []) in
-    (ap (λ (u : State). (all_taken_over keys u (reverse rest)).now) is ∙ ap (λ (l : Log). (all_taken_over keys s l).now) (sym first) ∙ now,
-    append_assoc sent more (all_taken_over keys t (reverse rest)).sent
-    ∙ ap (λ (l : Log). sent ++ (l ++ (all_taken_over keys t (reverse rest)).sent)) are
-    ∙ ap (λ (u : State). sent ++ ((taken_over keys s m).sent ++ (all_taken_over keys u (reverse rest)).sent)) is
-    ∙ ap (λ (l : Log). sent ++ (all_taken_over keys s l).sent) (sym first) ∙ said)
+    let first : reverse handed ≡ m ∷ reverse rest = ap (λ (l : Log). reverse l) split ∙ reverse-append rest (m ∷ []) in (
+      ap (λ (u : State). (all_taken_over keys u (reverse rest)).now) is ∙ ap (λ (l : Log). (all_taken_over keys s l).now) (sym first) ∙ now,
+      append_assoc sent more (all_taken_over keys t (reverse rest)).sent
+          ∙ ap (λ (l : Log). sent ++ (l ++ (all_taken_over keys t (reverse rest)).sent)) are
+          ∙ ap (λ (u : State). sent ++ ((taken_over keys s m).sent ++ (all_taken_over keys u (reverse rest)).sent)) is
+          ∙ ap (λ (l : Log). sent ++ (all_taken_over keys s l).sent) (sym first) ∙ said,
+    )
 
 pub turned_back : (handed back : Log) → back ≡ reverse handed → reverse back ≡ handed
 turned_back handed back e = ap (λ (l : Log). reverse l) e ∙ reverse-reverse handed
@@ -40,10 +41,11 @@ two_is_not_five t e = ap (λ (k : ℕ). eqb k 5) e
 accepted_grows : (keys : Keys) (s : State) (m : Signed Message) → (header m).tag ≡ 2 → Grown s (accepted keys s m).now
 accepted_grows keys s m two =
     let all = with_more (with_message s m) (answers keys s m) in
-    let none : makes_stable all (header m) ≡ false = and_left (eqb (header m).tag 5) _ (two_is_not_five (header m).tag two) in
-    (m ∷ answers keys s m,
-    ap (λ (b : Bool). record all { low = cond b (header m).number all.low; log = cond b (kept_after (header m).number (header m).digest all.log) all.log }) none
-    ∙ ap (λ (l : Log). record s { log = l }) (append_assoc s.log (m ∷ []) (answers keys s m)))
+    let none : makes_stable all (header m) ≡ false = and_left (eqb (header m).tag 5) _ (two_is_not_five (header m).tag two) in (
+      m ∷ answers keys s m,
+      ap (λ (b : Bool). record all { low = cond b (header m).number all.low; log = cond b (kept_after (header m).number (header m).digest all.log) all.log }) none
+          ∙ ap (λ (l : Log). record s { log = l }) (append_assoc s.log (m ∷ []) (answers keys s m)),
+    )
 
 turned : {A : Type 0} (b : Bool) (x : A) (r : Option A) → cond b r (Some x) ≡ None → b ≡ true
 turned true x r e = refl

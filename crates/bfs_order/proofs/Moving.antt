@@ -14,7 +14,7 @@ use Rattle.bfs_messages.specs.declared.message.Message.{Message}
 use Rattle.bfs_messages.specs.declared.message.Message.TheVariants.{Prepare, Commit, Checkpoint}
 use Rattle.bfs_order.specs.Replica.Accepting.{makes_stable, settled, answers, accepted, on_message}
 use Rattle.bfs_order.specs.Replica.Answers.{said_once, own_vote, prepares_in, commits_in, votes_in, answers_in}
-use Rattle.bfs_order.specs.Replica.Authentic.{signed_by}
+use Rattle.bfs_messages.specs.Signing.{signed_by}
 use Rattle.bfs_order.specs.Replica.Checkpoints.{checkpoint_refusal, checkpoint, checkpointed}
 use Rattle.bfs_order.specs.Replica.Executing.{next_order}
 use Rattle.bfs_order.specs.Replica.Installing.{number_of, is_certificate, certified, install_refusal, installed}

@@ -1,5 +1,4 @@
 -- One replica's order of batches: what it knows, what it refuses, and what each call makes of that (OSDI 1999 sections 4.2 to 4.4).
-pub mod Authentic
 pub mod States
 pub mod Refusals
 pub mod Outcomes

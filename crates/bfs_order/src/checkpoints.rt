@@ -20,7 +20,10 @@ impl Order {
             return;
         };
         let number = checkpoint.number();
-        if self.log.is_checkpoint_stable(self.f, number, checkpoint.digest()) {
+        if self
+            .log
+            .is_checkpoint_stable(self.f, number, checkpoint.digest())
+        {
             self.low = number;
             self.log.drop_up_to(number, checkpoint.digest());
         }

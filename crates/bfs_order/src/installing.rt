@@ -1,5 +1,5 @@
 // The certificate of a checkpoint is installed.
-ghost use Rattle.std.specs.Prelude.{◌≡◌, ◌≢◌, ◌<◌, ◌≤◌, ◌==◌, ◌^◌, true, All, None, Some, IfOk, IfErr, IfNone, OnOk, OnErr};
+ghost use Rattle.std.specs.Prelude.{◌≡◌, ◌≢◌, ◌<◌, ◌≤◌, ◌+◌, ◌==◌, ◌^◌, ◌&&◌, not, true, length, drop, All, None, Some, IfOk, IfErr, IfNone, OnOk, OnErr};
 ghost use Rattle.std.specs.List.{list_all};
 ghost use Rattle.bfs_model.specs.Server.Limits.{most_replicas};
 ghost use Rattle.bfs_agreement.specs.Votes.{SlotsDiffer};
@@ -26,8 +26,7 @@ fn does_vouch(keys: &Keys, f: u32, number: u64, digest: &[u8], signed: &Signed<M
     let header = header_of(&signed.message);
     header.tag == 5
         && (header.number == number
-            && (header.digest == digest
-                && (header.sender < 3 * f + 1 && is_signed(keys, signed))))
+            && (header.digest == digest && (header.sender < 3 * f + 1 && is_signed(keys, signed))))
 }
 
 fn all_vouch(
@@ -59,16 +58,23 @@ fn is_sender(messages: &[Signed<Message>], sender: u32) -> bool
     )
 }
 
+// Whether the sender of a message sends a later one too.
+fn comes_again(messages: &[Signed<Message>], at: usize) -> bool
+    requires { at < length messages.now }
+    ensures { senders_differ (drop at messages.now) ≡ (not result && senders_differ (drop (at + 1) messages.now)) }
+{
+    let sender = header_of(&messages[at].message).sender;
+    is_sender(&messages[at + 1..], sender)
+}
+
 // From the back, where a sender that comes again is found among the last few, however many there are.
-#[tactic(auto, using(crate::proofs::Certificates::differ_behind))]
 fn do_senders_differ(messages: &[Signed<Message>]) -> bool
     ensures { result ≡ senders_differ messages.now }
 {
     let mut first = messages.len();
     while 0 < first {
         first -= 1;
-        let sender = header_of(&messages[first].message).sender;
-        if is_sender(&messages[first + 1..], sender) {
+        if comes_again(messages, first) {
             return false;
         }
     }
@@ -144,11 +150,7 @@ fn add_new(alloc: Global, log: &mut Log, signed: &Signed<Message>) -> Result<(),
 }
 
 // What the log is once a certificate is in it: what stands up to the checkpoint is dropped.
-fn certified(
-    alloc: Global,
-    log: &Log,
-    certificate: &[Signed<Message>],
-) -> Result<Log, Memory>
+fn certified(alloc: Global, log: &Log, certificate: &[Signed<Message>]) -> Result<Log, Memory>
     requires { are_from_few certificate.now ≡ true }
     ensures { IfOk result (λ made. made ≡ certified log.now certificate.now) }
 {

@@ -4,11 +4,11 @@ use Rattle.bfs_auth.specs.Keys.{Keys, keys_of}
 use Rattle.bfs_auth.specs.declared.principals.Principal.TheVariants.{Replica}
 use Rattle.bfs_agreement.specs.Votes.{replicas, primary}
 use Rattle.bfs_log.specs.Headers.{header}
-use Rattle.bfs_messages.specs.Passing.{batch_passes}
+use Rattle.bfs_messages.specs.Signing.{requests_are_signed}
 use Rattle.bfs_messages.specs.declared.signed.Signed.{Signed}
 use Rattle.bfs_messages.specs.declared.message.Message.{Message}
 use Rattle.bfs_order.specs.Laws.Calls.{Call, Takes, Proposes, Executes, Checkpoints, Installs, Leaves, Enters, outcome, after}
-use Rattle.bfs_order.specs.Replica.Authentic.{is_signed, carried_are_signed}
+use Rattle.bfs_messages.specs.Signing.{is_signed, carried_are_signed}
 use Rattle.bfs_order.specs.Replica.States.{State, fresh}
 
 -- it and what it carries are signed, its sender is a replica, and the primary of its view where it is a PRE-PREPARE, but not where it is a PREPARE
@@ -27,7 +27,7 @@ pub record IsAllSigned (keys : Keys) (m : Signed Message) : Type 0 where
 -- a call with these keys, handed what they show to be signed where it does not look itself
 abbrev pub IsProper : Keys → Call → Type 0
 IsProper keys (Takes by m) = by ≡ keys
-IsProper keys (Proposes by batch) = (by ≡ keys) × (batch_passes keys batch ≡ true)
+IsProper keys (Proposes by batch) = (by ≡ keys) × (requests_are_signed keys batch ≡ true)
 IsProper keys Executes = Unit {0}
 IsProper keys (Checkpoints by number digest) = by ≡ keys
 IsProper keys (Installs by certificate) = by ≡ keys

@@ -7,7 +7,7 @@ use Rattle.bfs_log.specs.Logs.{Log}
 use Rattle.bfs_messages.specs.Messages.{Vote}
 use Rattle.bfs_messages.specs.declared.message.Message.{Message}
 use Rattle.bfs_messages.specs.declared.message.Message.TheVariants.{Prepare, Commit}
-use Rattle.bfs_order.specs.Replica.Authentic.{signed_by}
+use Rattle.bfs_messages.specs.Signing.{signed_by}
 use Rattle.bfs_order.specs.Replica.Refusals.{is_there}
 use Rattle.bfs_order.specs.Replica.States.{State, known, with_more}
 

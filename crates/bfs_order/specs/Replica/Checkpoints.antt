@@ -7,7 +7,7 @@ use Rattle.bfs_messages.specs.declared.signed.Signed.{Signed}
 use Rattle.bfs_messages.specs.declared.message.Message.{Message}
 use Rattle.bfs_messages.specs.declared.message.Message.TheVariants.{Checkpoint}
 use Rattle.bfs_order.specs.Replica.Accepting.{settled}
-use Rattle.bfs_order.specs.Replica.Authentic.{signed_by}
+use Rattle.bfs_messages.specs.Signing.{signed_by}
 use Rattle.bfs_order.specs.Replica.Outcomes.{Outcome}
 use Rattle.bfs_order.specs.Replica.Refusals.{is_between}
 use Rattle.bfs_order.specs.Replica.States.{State, known, with_message}

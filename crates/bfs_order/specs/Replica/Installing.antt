@@ -7,7 +7,7 @@ use Rattle.bfs_log.specs.Headers.{header}
 use Rattle.bfs_log.specs.Logs.{Log, headers, kept_after}
 use Rattle.bfs_messages.specs.declared.signed.Signed.{Signed}
 use Rattle.bfs_messages.specs.declared.message.Message.{Message}
-use Rattle.bfs_order.specs.Replica.Authentic.{is_signed}
+use Rattle.bfs_messages.specs.Signing.{is_signed}
 use Rattle.bfs_order.specs.Replica.Outcomes.{Outcome, quiet}
 use Rattle.bfs_order.specs.Replica.States.{State}
 use Rattle.bfs_order.specs.declared.error.OrderError.{OrderError}

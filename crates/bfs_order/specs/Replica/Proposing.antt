@@ -11,7 +11,7 @@ use Rattle.bfs_messages.specs.declared.signed.Signed.{Signed}
 use Rattle.bfs_messages.specs.declared.message.Message.{Message}
 use Rattle.bfs_messages.specs.declared.message.Message.TheVariants.{PrePrepare}
 use Rattle.bfs_order.specs.Replica.Answers.{own_vote, commits_in}
-use Rattle.bfs_order.specs.Replica.Authentic.{signed_by}
+use Rattle.bfs_messages.specs.Signing.{signed_by}
 use Rattle.bfs_order.specs.Replica.Outcomes.{Outcome}
 use Rattle.bfs_order.specs.Replica.Refusals.{window}
 use Rattle.bfs_order.specs.Replica.States.{State, known, with_more, with_message}

@@ -5,7 +5,7 @@ use Rattle.bfs_agreement.specs.Votes.{Header, is_taken, told, primary, replicas}
 use Rattle.bfs_log.specs.Headers.{header}
 use Rattle.bfs_messages.specs.declared.signed.Signed.{Signed}
 use Rattle.bfs_messages.specs.declared.message.Message.{Message}
-use Rattle.bfs_order.specs.Replica.Authentic.{is_signed, carried_are_signed}
+use Rattle.bfs_messages.specs.Signing.{is_signed, carried_are_signed}
 use Rattle.bfs_order.specs.Replica.States.{State, known}
 use Rattle.bfs_order.specs.declared.error.OrderError.{OrderError}
 use Rattle.bfs_order.specs.declared.error.OrderError.TheVariants.{WrongKind, BadAuthenticator, WrongView, OutsideMarks, NotPrimary, Conflicting, AlreadyHave}

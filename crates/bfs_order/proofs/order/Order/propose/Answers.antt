@@ -2,7 +2,7 @@ use Rattle.std.proofs.Common.{◌≡◌, ap, ◌∙◌}
 use Rattle.std.specs.Arc.{arc_value}
 use Rattle.bfs_messages.specs.Messages as model
 use Rattle.bfs_messages.specs.declared.message.Message.TheVariants.{PrePrepare}
-use Rattle.bfs_order.specs.Replica.Authentic.{signed_by}
+use Rattle.bfs_messages.specs.Signing.{signed_by}
 use Rattle.bfs_order.proofs.Proposals.{next_is_free}
 use Rattle.bfs_order.proofs.order.Order.propose.Goals as goal
 
