@@ -3,6 +3,5 @@ pub mod Batches
 pub mod Digests
 pub mod Headers
 pub mod Logs
-pub mod Digests
 pub mod Places
 pub mod Rows

@@ -16,6 +16,6 @@ mod views;
 pub use error::OrderError;
 pub use laws::{
     a_replica_stays_itself, logs_are_clean, numbers_lie_in_the_window, slots_differ,
-    the_stable_checkpoint_has_its_certificate, what_is_sent_says_one_digest,
+    the_stable_checkpoint_has_its_certificate, views_are_entered, what_is_sent_says_one_digest,
 };
 pub use order::Order;
