@@ -2,11 +2,12 @@
 ghost use Rattle.std.specs.Prelude.{◌<◌};
 
 use crate::spelled::{
-    CHECKPOINT, COMMIT, EACH, NULL_PRE_PREPARE, PREPARE, PRE_PREPARE, REPLY, REQUEST,
+    CHECKPOINT, COMMIT, EACH, NULL_PRE_PREPARE, PRE_PREPARE, PREPARE, REPLY, REQUEST,
 };
 use bfs_auth::{Authenticator, Keys, Principal};
 use bfs_messages::{
-    Checkpoint, Message, OrderedBatch, PrePrepare, Reply, Request, Signed, Vote, decode, encode, sign,
+    Checkpoint, Message, OrderedBatch, PrePrepare, Reply, Request, Signed, Vote, decode, encode,
+    sign,
 };
 use bfs_testing::words::spells;
 use bfs_testing::{holds, same};

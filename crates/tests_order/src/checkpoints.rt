@@ -1,9 +1,7 @@
 //! Checkpoints become stable, the log up to them is dropped, and certificates are installed.
 ghost use Rattle.std.specs.Prelude.{◌<◌, ◌≤◌, ◌+◌, ◌*◌};
 
-use crate::replica::{
-    Replica, Said, checkpoint, null_proposal, refusal_of, signed_by, vote,
-};
+use crate::replica::{Replica, Said, checkpoint, null_proposal, refusal_of, signed_by, vote};
 use bfs_messages::{Message, Signed};
 use bfs_testing::{holds, same};
 use bfs_types::Memory;

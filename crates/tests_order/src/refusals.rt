@@ -1,9 +1,7 @@
 //! Each refusal of a message, with the ones before and behind it: a message with two faults gets the first.
 ghost use Rattle.std.specs.Prelude.{◌<◌, ◌≤◌, ◌+◌, ◌*◌};
 
-use crate::replica::{
-    Replica, Said, batch_signed_by, checkpoint, null_proposal, other_vote, vote,
-};
+use crate::replica::{Replica, Said, batch_signed_by, checkpoint, null_proposal, other_vote, vote};
 use bfs_messages::{Message, PrePrepare, Request};
 use bfs_testing::{holds, same};
 use bfs_types::Memory;

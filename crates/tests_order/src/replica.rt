@@ -10,6 +10,7 @@ use std::sync::Arc;
 use std::thread::Threads;
 
 const SECRET: &[u8] = &[0; 32];
+
 const CLIENTS: u32 = 16;
 
 /// What a call came to: how many messages are sent, or the number of the refusal.
@@ -50,7 +51,11 @@ pub fn signed_by(
     sender: u32,
     message: Message,
 ) -> Result<Signed<Message>, Memory> {
-    sign(alloc, &keys_of(alloc, faults, Principal::Replica(sender))?, message)
+    sign(
+        alloc,
+        &keys_of(alloc, faults, Principal::Replica(sender))?,
+        message,
+    )
 }
 
 /// A batch of one request of client 3 at 1.000000, signed by a client among those of 3f + 1 replicas.
@@ -75,12 +80,7 @@ pub fn batch_signed_by(
 }
 
 /// A PRE-PREPARE of the null request.
-pub fn null_proposal(
-    alloc: Global,
-    sender: u32,
-    view: u64,
-    number: u64,
-) -> Result<Message, Memory>
+pub fn null_proposal(alloc: Global, sender: u32, view: u64, number: u64) -> Result<Message, Memory>
     requires view { view < 2 ^ 63 }
     requires number { number < 2 ^ 63 }
 {
@@ -151,7 +151,10 @@ impl Replica {
         message: Message,
     ) -> Said {
         let auth = Authenticator::new(alloc);
-        said(self.order.on_message(rt, &self.keys, Signed { message, auth }))
+        said(
+            self.order
+                .on_message(rt, &self.keys, Signed { message, auth }),
+        )
     }
 
     /// The number that it may execute next, 0 where there is none.
