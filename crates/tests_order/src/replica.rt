@@ -20,7 +20,7 @@ pub enum Said {
     Refused(u32),
 }
 
-pub fn said(given: Result<Vec<Signed<Message>>, OrderError>) -> Said {
+pub fn what_came_of(given: Result<Vec<Signed<Message>>, OrderError>) -> Said {
     match given {
         Ok(sent) => Said::Sent(sent.len()),
         Err(error) => Said::Refused(error.code()),
@@ -58,6 +58,15 @@ pub fn signed_by(
     )
 }
 
+// the REQUEST that a message is
+fn request_in(signed: Signed<Message>) -> Result<Signed<Request>, Memory> {
+    let Signed { message, auth } = signed;
+    match message {
+        Message::Request(message) => Ok(Signed { message, auth }),
+        _ => Err(Memory),
+    }
+}
+
 /// A batch of one request of client 3 at 1.000000, signed by a client among those of 3f + 1 replicas.
 pub fn batch_signed_by(
     alloc: Global,
@@ -66,15 +75,8 @@ pub fn batch_signed_by(
 ) -> Result<Arc<OrderedBatch>, Memory> {
     let keys = keys_of(alloc, faults, Principal::Client(client))?;
     let request = Message::Request(Request::new(alloc, 3, 5, b"a call")?);
-    let Signed {
-        message: Message::Request(message),
-        auth,
-    } = sign(alloc, &keys, request)?
-    else {
-        return Err(Memory);
-    };
     let mut requests = Vec::new(alloc);
-    requests.push(Signed { message, auth })?;
+    requests.push(request_in(sign(alloc, &keys, request)?)?)?;
     let time = Time::new(1, 0).ok_or(Memory)?;
     Ok(Arc::new(alloc, OrderedBatch::new(time, requests))?)
 }
@@ -140,7 +142,7 @@ impl Replica {
         message: Message,
     ) -> Result<Said, Memory> {
         let signed = signed_by(alloc, self.faults, signer, message)?;
-        Ok(said(self.order.on_message(rt, &self.keys, signed)))
+        Ok(what_came_of(self.order.on_message(rt, &self.keys, signed)))
     }
 
     /// It takes a message without entries.
@@ -151,7 +153,7 @@ impl Replica {
         message: Message,
     ) -> Said {
         let auth = Authenticator::new(alloc);
-        said(
+        what_came_of(
             self.order
                 .on_message(rt, &self.keys, Signed { message, auth }),
         )
