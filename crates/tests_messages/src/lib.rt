@@ -1,4 +1,4 @@
-//! Keyed hashes, authenticators and the last replies, as tests whose expected values come from outside: the standards' own
+//! Settings, keyed hashes, authenticators and the last replies, as tests whose expected values come from outside: the standards' own
 //! vectors, and hashes that Python's hmac made.
 #![tactic(auto)]
 
@@ -8,3 +8,5 @@ mod authenticators;
 mod hashes;
 #[cfg(test)]
 mod replies;
+#[cfg(test)]
+mod settings;

@@ -1,0 +1,3 @@
+-- Lemmas of bfs_settings.
+pub mod Documents
+pub mod Rows
