@@ -1,4 +1,5 @@
 ghost use Rattle.std.specs.Prelude.{◌≡◌, ◌≤◌, length, IfOk};
+ghost use Rattle.std.specs.Arc.{arc_value};
 ghost use Rattle.bfs_model.specs.Server.Limits.{most_request_bytes};
 ghost use Rattle.bfs_messages.specs.Batches.{request_text};
 ghost use Rattle.bfs_messages.specs.Limits.{FitsRequest};
@@ -7,25 +8,29 @@ ghost use Rattle.bfs_messages.specs.Parts.{request_from};
 use crate::error::DecodeError;
 use crate::parts::{Kind, Part};
 use crate::reader::MessageReader;
+use crate::signed::Signed;
 use crate::sinks::Sink;
 use bfs_types::{Bytes, MOST_REQUEST_BYTES, Memory};
 use std::alloc::Global;
 use std::marker::Model;
+use std::sync::Arc;
 
-/// What a client asks for: the bytes of a call, with a timestamp above those of its requests before (OSDI 1999 section 4.1).
+/// What a client asks for: the bytes of a call, with a timestamp above those of its requests before (OSDI 1999 section 4.1). It may share
+/// the call with others.
 #[derive(Drop)]
 pub struct Request {
     client: u32,
     timestamp: u64,
-    call: Bytes<MOST_REQUEST_BYTES>,
+    call: Arc<Bytes<MOST_REQUEST_BYTES>>,
 }
 
 impl Model for Request {
+    ghost use Rattle.std.specs.Arc.{arc_value};
     ghost use Rattle.bfs_messages.specs.Messages as model;
 
     ghost Value = { model.Request };
 
-    ghost view = { λ request. record { client = request.client; timestamp = request.timestamp; call = request.call } };
+    ghost view = { λ request. record { client = request.client; timestamp = request.timestamp; call = arc_value request.call } };
 }
 
 impl Request {
@@ -37,7 +42,7 @@ impl Request {
         Ok(Request {
             client,
             timestamp,
-            call: Bytes::new(alloc, call)?,
+            call: Arc::new(alloc, Bytes::new(alloc, call)?)?,
         })
     }
 
@@ -85,8 +90,12 @@ impl Part for Request {
         out.opaque(self.call.as_slice())
     }
 
-    fn try_clone(&self, alloc: Global) -> Result<Request, Memory> {
-        Request::new(alloc, self.client, self.timestamp, self.call.as_slice())
+    fn try_clone(&self, _alloc: Global) -> Result<Request, Memory> {
+        Ok(Request {
+            client: self.client,
+            timestamp: self.timestamp,
+            call: Arc::try_clone(&self.call)?,
+        })
     }
 }
 
@@ -94,4 +103,16 @@ impl Kind for Request {
     ghost TAG = { 1 };
 
     const TAG: u32 = 1;
+}
+
+impl Signed<Request> {
+    /// An equal one, which shares the call. `Memory` if memory runs out.
+    pub fn try_clone(&self, alloc: Global) -> Result<Signed<Request>, Memory>
+        ensures { IfOk result (λ copy. copy ≡ self.now) }
+    {
+        Ok(Signed {
+            message: self.message.try_clone(alloc)?,
+            auth: self.auth.copy(alloc)?,
+        })
+    }
 }
