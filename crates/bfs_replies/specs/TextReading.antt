@@ -1,6 +1,7 @@
 -- How the text of a table is read, strictly. It is proved that this reads just the texts that are written, so nothing here has to be
 -- believed.
-use Rattle.std.specs.Prelude.{◌≡◌, ℕ, List, ◌++◌, Option, Some, None, nat_lt, if◌then◌else◌}
+use Rattle.std.specs.Prelude.{◌≡◌, ℕ, List, ◌++◌, length, Option, Some, None, nat_lt, if◌then◌else◌}
+use Rattle.std.specs.Option.{option_map}
 use Rattle.bfs_model.specs.Bytes.Call.{◌>>=◌}
 use Rattle.bfs_model.specs.Bytes.Formats.{Reading, word_from, hyper_from, boolean_from, bytes_from, items_from}
 use Rattle.bfs_model.specs.Server.Limits.{most_clients, most_reply_bytes}
@@ -24,6 +25,10 @@ unfoldable pub table_from : List ℕ → Reading Table
 table_from bytes = do
   count ← word_from bytes
   if nat_lt most_clients count.0 then None else items_from last_from count.0 count.1
+
+-- how many things were read, and the bytes behind them
+abbrev pub passed : {A : Type 0} → Reading (List A) → Option (ℕ × List ℕ)
+passed reading = option_map {U = ℕ × List ℕ} (λ read. (length read.0, read.1)) reading
 
 -- a table's text is read again, whatever follows it
 abbrev pub TablesAreReadAgain : Type 0

@@ -1,8 +1,10 @@
 //! The last reply to each client, by which a request that comes again gets its reply and is not executed again.
 #![tactic(auto)]
 
+mod hashing;
 mod laws;
 mod reading;
+mod skipping;
 mod tables;
 mod texts;
 

@@ -6,6 +6,7 @@ ghost use Rattle.bfs_replies.specs.Errors.{read_code_of};
 ghost use Rattle.bfs_replies.specs.Parsing.{Reads, last_seen};
 ghost use Rattle.bfs_replies.specs.TextReading.{last_from, table_from};
 
+use crate::skipping::skip_lasts;
 use crate::tables::{Last, ReplyTable};
 use bfs_types::{MOST_CLIENTS, MOST_REPLY_BYTES, Memory};
 use bfs_xdr::{Reader, XdrError};
@@ -54,7 +55,7 @@ impl ReplyTable {
         let Ok(count) = reader.u32() else {
             return Err(ReadError::Malformed);
         };
-        if count > MOST_CLIENTS || !are_lasts(count, reader.rest()) {
+        if count > MOST_CLIENTS || skip_lasts(count, reader.rest()).is_none() {
             return Err(ReadError::Malformed);
         }
         match read_lasts(alloc, count, &mut reader) {
@@ -62,19 +63,6 @@ impl ReplyTable {
             Err(Memory) => Err(ReadError::Memory),
         }
     }
-}
-
-// whether the bytes begin with so many
-fn are_lasts(count: u32, bytes: &[u8]) -> bool
-    ensures { result ≡ is_some (items_from last_from count bytes.now) }
-{
-    let mut left = Reader::strict(bytes);
-    for _last in 0..count {
-        let Ok(_) = read_last(&mut left) else {
-            return false;
-        };
-    }
-    true
 }
 
 // so many, which the bytes are known to begin with
@@ -98,7 +86,7 @@ fn read_lasts(
 }
 
 #[tactic(auto, unfolding(crate::specs::TextReading::last_from, crate::specs::TextReading::reply_from))]
-fn read_last<'a>(reader: &mut Reader<'a>) -> Result<Option<LastText<'a>>, XdrError>
+pub(crate) fn read_last<'a>(reader: &mut Reader<'a>) -> Result<Option<LastText<'a>>, XdrError>
     requires { reader.old.strict ≡ true }
     ensures read { Reads last_seen reader.new result (last_from reader.old.left) }
     ensures short { IfOk result (λ last. IfSome last (λ text. length text.reply.now ≤ most_reply_bytes)) }
