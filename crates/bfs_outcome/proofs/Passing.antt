@@ -1,11 +1,11 @@
 -- Two passes over a batch come to what one request after another comes to.
-use Rattle.std.proofs.Common.{◌≡◌, ◌∙◌, ℕ, ◌+◌, ◌≤◌, min, Bool, IsTrue, is_some, List, [], ◌∷◌, ◌++◌, length, Option, Some, None, refl, sym, ap, ap₂, subst, arith}
+use Rattle.std.proofs.Common.{◌≡◌, ◌∙◌, ℕ, ◌≤◌, Bool, IsTrue, is_some, List, [], ◌∷◌, ◌++◌, length, Option, Some, None, refl, sym, ap, ap₂, subst, arith}
 use Rattle.std.specs.Option.{ForSome, option_map}
 use Rattle.bfs_model.specs.Server.Serial.{effective_time, execute, inodes_after, ordinal_after, replies_to}
 use Rattle.bfs_model.specs.Server.Stored.{IsLive}
 use Rattle.bfs_model.specs.Server.Tree.{Time, FileSystem, spent_ordinal}
 use Rattle.bfs_serial.specs.Executed.{Executed}
-use Rattle.bfs_messages.specs.Messages.{Request, Requests, Batch, requests_of}
+use Rattle.bfs_messages.specs.Messages.{Request, Batch, requests_of}
 use Rattle.bfs_messages.specs.declared.signed.Signed.{Signed}
 use Rattle.bfs_replies.specs.Answers.{Answer, recorded_all}
 use Rattle.bfs_replies.specs.Classes.{Timestamps, taken_as, timestamps_of}

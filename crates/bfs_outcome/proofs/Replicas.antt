@@ -6,7 +6,7 @@ use Rattle.bfs_replies.specs.Answers.{Answer}
 use Rattle.bfs_replies.specs.Tables.{Table}
 use Rattle.bfs_outcome.specs.Executed.{ComesTo}
 use Rattle.bfs_outcome.specs.Outcome.{outcome}
-use Rattle.bfs_outcome.specs.Laws.Replicas.{Executes, ExecutesAll, EqualReplicasStayEqual, Replica, ReplicasComeToTheOutcomes, answers_after, live, replica_after}
+use Rattle.bfs_outcome.specs.Laws.Replicas.{Executes, ExecutesAll, EqualReplicasStayEqual, Replica, ReplicasComeToTheOutcomes, live}
 
 one_batch : (files : FileSystem) (table : Table) (batch : Batch) (new : Replica) (answers : List Answer) → Executes (live files table) batch new answers
     → (new ≡ live (outcome files table batch).files (outcome files table batch).table) × (answers ≡ (outcome files table batch).answers)

@@ -4,7 +4,7 @@ use Rattle.std.specs.Prelude.{ℕ, List, [], ◌∷◌, ◌++◌, Option, Some, 
 use Rattle.bfs_model.specs.Server.Tree.{Time, Inodes, FileSystem}
 use Rattle.bfs_model.specs.Server.Serial as serial
 use Rattle.bfs_model.specs.Server.Serial.{effective_time, ordinal_after}
-use Rattle.bfs_messages.specs.Messages.{Request, Requests, Batch}
+use Rattle.bfs_messages.specs.Messages.{Request, Batch}
 use Rattle.bfs_messages.specs.declared.signed.Signed.{Signed}
 use Rattle.bfs_replies.specs.Answers.{Answer}
 use Rattle.bfs_replies.specs.Classes.{class_of}

@@ -7,6 +7,4 @@ mod laws;
 mod news;
 
 pub use execution::{Executed, execute_ordered};
-pub use laws::{
-    answers_go_to_clients, equal_replicas_stay_equal, two_passes_come_to_the_outcome,
-};
+pub use laws::{answers_go_to_clients, equal_replicas_stay_equal, two_passes_come_to_the_outcome};
