@@ -1,6 +1,5 @@
 -- What every table keeps.
-use Rattle.std.proofs.Common.{ℕ, ◌<◌, ◌≤◌, ◌^◌, List, All, length, Option, Some, None, replicate, arith}
-use Rattle.std.specs.List.{slice_set}
+use Rattle.std.proofs.Common.{ℕ, ◌<◌, ◌≤◌, ◌^◌, List, length, Option, Some, None, replicate, arith}
 use Rattle.std.proofs.lemmas.List.{length-replicate, length-set}
 use Rattle.std.proofs.lemmas.List.Elements.{All-replicate, All-set}
 use Rattle.bfs_model.specs.Server.Limits.{most_clients, most_reply_bytes}

@@ -1,2 +1,4 @@
 pub mod Keeping
 pub mod Exact
+pub mod Recording
+pub mod Public

@@ -1,4 +1,5 @@
 -- Definitions of reply tables.
+pub mod Answers
 pub mod Classes
 pub mod Errors
 pub mod Tables

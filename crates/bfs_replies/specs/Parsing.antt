@@ -1,10 +1,9 @@
 -- How what the code reads of a text answers to a reading of the definitions.
-use Rattle.std.specs.Prelude.{◌≡◌, ℕ, ◌≤◌, true, List, length, Option, Some, None, Result, Ok, Err}
+use Rattle.std.specs.Prelude.{◌≡◌, true, Option, Some, None, Result, Ok, Err}
 use Rattle.std.specs.Option.{option_map}
-use Rattle.bfs_model.specs.Bytes.Formats.{Reading, items_from}
+use Rattle.bfs_model.specs.Bytes.Formats.{Reading}
 use Rattle.bfs_model.specs.Bytes.Items.{Input}
 use Rattle.bfs_replies.specs.Tables as model
-use Rattle.bfs_replies.specs.TextReading.{last_from, table_from}
 use Rattle.bfs_replies.specs.declared.reading.LastText.{LastText}
 
 -- a strict reader gave what is read from its place, and stands behind it; or nothing can be read

@@ -1,12 +1,13 @@
 ghost use Rattle.std.specs.Prelude.{◌≡◌, ◌≤◌, ◌<◌, ◌++◌, ◌↔◌, ◌≢◌, length, replicate, None, IfOk, IfSome, OnOk, OnErr, IsErrOf};
 ghost use Rattle.std.specs.Option.{option_map};
 ghost use Rattle.bfs_model.specs.Server.Limits.{most_clients, most_reply_bytes};
-ghost use Rattle.bfs_replies.specs.Classes.{class_of};
+ghost use Rattle.bfs_replies.specs.Classes.{class_behind, class_of, timestamp_of, timestamps_of};
 ghost use Rattle.bfs_replies.specs.Errors.{record_code_of};
 ghost use Rattle.bfs_replies.specs.Tables.{IsKept, last_of, recorded};
 ghost use Rattle.bfs_replies.specs.Texts.{table_text};
 
 use crate::texts::put_all;
+use crate::timestamps::{Timestamps, timestamps_in};
 use bfs_types::{Bytes, MOST_REPLY_BYTES, Memory};
 use bfs_xdr::put_u32;
 use std::alloc::Global;
@@ -24,6 +25,26 @@ pub enum Class {
     Old,
     /// Of a client that there isn't.
     Unknown,
+}
+
+impl Class {
+    /// By the timestamp of its client's last request, if there was one.
+    pub(crate) fn behind(last: Option<u64>, timestamp: u64) -> Class
+        ensures { result ≡ class_behind last timestamp }
+    {
+        match last {
+            None => Class::New,
+            Some(last) => {
+                if last < timestamp {
+                    Class::New
+                } else if last == timestamp {
+                    Class::Repeat
+                } else {
+                    Class::Old
+                }
+            }
+        }
+    }
 }
 
 /// Why a reply is not recorded. The table is then as it was.
@@ -118,22 +139,21 @@ impl ReplyTable {
     }
 
     /// What a client's request with that timestamp is to its last one. It takes no memory.
+    #[tactic(auto, using(crate::proofs::Recording::timestamp_found))]
     pub fn classify(&self, client: u32, timestamp: u64) -> Class
         ensures { result ≡ class_of self.now client timestamp }
     {
         match self.clients.get(client as usize) {
             None => Class::Unknown,
-            Some(None) => Class::New,
-            Some(Some(last)) => {
-                if last.timestamp < timestamp {
-                    Class::New
-                } else if last.timestamp == timestamp {
-                    Class::Repeat
-                } else {
-                    Class::Old
-                }
-            }
+            Some(last) => Class::behind(timestamp_of(last), timestamp),
         }
+    }
+
+    /// The timestamp of each client's last request, without the reply to it. `Memory` if memory runs out.
+    pub fn timestamps(&self) -> Result<Timestamps, Memory>
+        ensures { IfOk result (λ timestamps. timestamps ≡ timestamps_of self.now) }
+    {
+        timestamps_in(self.alloc, &self.clients)
     }
 
     /// A client's last timestamp, with the reply to it; `None` where there is no reply to it yet, or no such client. It takes no
@@ -191,6 +211,15 @@ impl ReplyTable {
             alloc: self.alloc,
             clients: copy_of_all(self.alloc, &self.clients)?,
         })
+    }
+}
+
+pub(crate) fn timestamp_of(last: &Option<Last>) -> Option<u64>
+    ensures { result ≡ timestamp_of last.now }
+{
+    match last {
+        None => None,
+        Some(last) => Some(last.timestamp),
     }
 }
 

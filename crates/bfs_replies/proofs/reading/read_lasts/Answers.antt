@@ -1,4 +1,4 @@
-use Rattle.std.proofs.Common.{◌+◌, ◌-◌, [], ◌∷◌, ◌++◌, ap, ◌∙◌, arith}
+use Rattle.std.proofs.Common.{◌+◌, ◌-◌, arith}
 use Rattle.bfs_model.proofs.Public.{turn, turn_none, turns_done}
 use Rattle.bfs_replies.specs.Parsing.{last_seen}
 use Rattle.bfs_replies.specs.TextReading.{last_from}

@@ -1,0 +1,4 @@
+-- The statements that are proved of the definitions.
+pub mod Replicas
+pub mod Tables
+pub mod TwoPasses

@@ -1,0 +1,6 @@
+-- What must be believed (Outcome, Executed), the statements that are proved of it (Laws), and what contracts of private functions cite
+-- (Inside).
+pub mod Outcome
+pub mod Executed
+pub mod Laws
+pub mod Inside

@@ -1,0 +1,2 @@
+-- Definitions of tallies.
+pub mod Tallies

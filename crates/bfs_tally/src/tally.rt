@@ -1,0 +1,153 @@
+ghost use Rattle.std.specs.Prelude.{◌≡◌, ◌≤◌, ◌==◌, ◌<◌, [], false, length, OnOk, OnErr, IfSome};
+ghost use Rattle.std.specs.Option.{option_map};
+ghost use Rattle.bfs_model.specs.Server.Limits.{most_replicas, most_reply_bytes};
+ghost use Rattle.bfs_tally.specs.Tallies.{agreed, has_counted, is_agreed, is_wanted, senders_of, tallied, with_reply};
+
+use bfs_auth::Keys;
+use bfs_messages::{Message, Reply, Signed, is_signed};
+use bfs_types::{Bytes, MOST_REPLY_BYTES, Memory};
+use std::alloc::Global;
+use std::marker::Model;
+
+#[derive(Debug, Drop)]
+struct Counted {
+    sender: u32,
+    result: Bytes<MOST_REPLY_BYTES>,
+}
+
+impl Model for Counted {
+    ghost use Rattle.bfs_tally.specs.Tallies as model;
+
+    ghost Value = { model.Counted };
+
+    ghost view = { λ counted. record { sender = counted.sender; result = counted.result } };
+}
+
+/// The replies to one request of a client, at most one of each replica (OSDI 1999 section 4.1).
+#[derive(Debug, Drop)]
+pub struct Tally {
+    alloc: Global,
+    f: u32,
+    client: u32,
+    timestamp: u64,
+    counted: Vec<Counted>,
+}
+
+impl Model for Tally {
+    ghost use Rattle.bfs_tally.specs.Tallies as model;
+
+    ghost Value = { model.Tally };
+
+    ghost invariant = { λ tally. model.AreOfReplicas tally.counted.items };
+
+    ghost view = { λ tally. record { f = tally.f; client = tally.client; timestamp = tally.timestamp; counted = tally.counted.items } };
+}
+
+impl Tally {
+    /// No reply yet to the client's request of that timestamp. At most `f` replicas are faulty. It takes no memory.
+    #[tactic(auto, using(crate::proofs::Senders::none_yet))]
+    pub fn new(alloc: Global, f: u32, client: u32, timestamp: u64) -> Tally
+        ensures { result ≡ record { f = f; client = client; timestamp = timestamp; counted = [] } }
+    {
+        Tally {
+            alloc,
+            f,
+            client,
+            timestamp,
+            counted: Vec::new(alloc),
+        }
+    }
+
+    /// Counts a REPLY to this request, the first of its sender, if the client, who holds the keys, finds it signed. Any other message
+    /// is passed over. `Memory` if memory runs out; then nothing changes.
+    pub fn add(&mut self, keys: &Keys, signed: &Signed<Message>) -> Result<(), Memory>
+        ensures ok { OnOk result (self.new ≡ tallied keys.now self.old signed.now) }
+        ensures err { OnErr result (self.new ≡ self.old) }
+    {
+        match &signed.message {
+            Message::Reply(reply) => {
+                if self.is_wanted(reply) && is_signed(keys, signed) {
+                    // one of them sent it, since its hash passes
+                    keys.replicas();
+                    self.count(reply)?;
+                }
+                Ok(())
+            }
+            _ => Ok(()),
+        }
+    }
+
+    fn is_wanted(&self, reply: &Reply) -> bool
+        ensures { result ≡ is_wanted self.now reply.now }
+    {
+        reply.client() == self.client
+            && reply.timestamp() == self.timestamp
+            && !self.has_counted(reply.sender())
+    }
+
+    fn has_counted(&self, sender: u32) -> bool
+        ensures { result ≡ has_counted self.now.counted sender }
+    {
+        self.counted.iter().any(
+            |one: &Counted| -> bool
+                ensures { result ≡ (sender == one.now.sender) }
+            { sender == one.sender },
+        )
+    }
+
+    #[tactic(auto, using(crate::proofs::Senders::one_more))]
+    fn count(&mut self, reply: &Reply) -> Result<(), Memory>
+        requires first { has_counted self.old.counted reply.now.sender ≡ false }
+        requires replica { reply.now.sender < most_replicas }
+        ensures ok { OnOk result (self.new ≡ with_reply self.old reply.now) }
+        ensures err { OnErr result (self.new ≡ self.old) }
+    {
+        let counted = Counted {
+            sender: reply.sender(),
+            result: Bytes::new(self.alloc, reply.result())?,
+        };
+        self.counted.push(counted)?;
+        Ok(())
+    }
+
+    /// How many replies are counted: at most one of each replica.
+    #[tactic(auto, using(crate::proofs::Senders::at_most))]
+    pub fn replies(&self) -> usize
+        ensures value { result ≡ length self.now.counted }
+        ensures within { result ≤ most_replicas }
+    {
+        self.counted.len()
+    }
+
+    /// The first result that `f + 1` of the counted replicas sent; `None` as long as there is none. It takes no memory.
+    pub fn result(&self) -> Option<&[u8]>
+        ensures value { option_map (λ bytes. bytes.now) result ≡ agreed self.now }
+        ensures within { IfSome result (λ bytes. length bytes.now ≤ most_reply_bytes) }
+    {
+        for one in &self.counted {
+            if self.is_agreed(one) {
+                return Some(one.result.as_slice());
+            }
+        }
+        None
+    }
+
+    fn is_agreed(&self, one: &Counted) -> bool
+        ensures { result ≡ is_agreed self.now one.now }
+    {
+        self.senders_of(one.result.as_slice()) > self.f as usize
+    }
+
+    // how many replicas sent that result
+    fn senders_of(&self, wanted: &[u8]) -> usize
+        ensures { result ≡ senders_of self.now.counted wanted.now }
+    {
+        let mut count = 0;
+        for one in &self.counted {
+            if one.result.as_slice() == wanted {
+                count += 1;
+            }
+        }
+        count
+    }
+}
