@@ -17,9 +17,11 @@ loop-last-preserved c =
     let so_far = c.loop-last.invariant.1 in
     let read = c.in-Ok.ensures.read in (
       read.1,
-      (so_far.0 ++ last_seen c.in-Ok.field-0 ∷ [],
-       length_push so_far.0 (last_seen c.in-Ok.field-0) ∙ ap (λ n. n + 1) so_far.1,
-       turn last_from (c.args.count - c.loop-last._last) (c.args.count - (c.loop-last._last + 1)) c.loop-last.left.left so_far.0 (last_seen c.in-Ok.field-0) c.read_last.new.reader.left _ (omega arith) read.0 so_far.2),
+      (
+        so_far.0 ++ last_seen c.in-Ok.field-0 ∷ [],
+        length_push so_far.0 (last_seen c.in-Ok.field-0) ∙ ap (λ n. n + 1) so_far.1,
+        turn last_from (c.args.count - c.loop-last._last) (c.args.count - (c.loop-last._last + 1)) c.loop-last.left.left so_far.0 (last_seen c.in-Ok.field-0) c.read_last.new.reader.left _ (omega arith) read.0 so_far.2,
+      ),
     )
 
 pub returns : goal.returns
@@ -28,5 +30,5 @@ returns c =
     let count : length so_far.0 ≡ c.args.count = omega (arith, so_far.1) in
     let rest = c.rest.ensures in
     sym (ap passed (turns_done last_from (c.args.count - c.loop-last._last) 0 c.loop-last.left.left so_far.0 _ (omega arith) so_far.2)
-      ∙ ap (λ (n : ℕ). Some (n, c.loop-last.left.left)) count
-      ∙ ap (λ (left : List ℕ). Some (c.args.count, left)) (sym rest))
+    ∙ ap (λ (n : ℕ). Some (n, c.loop-last.left.left)) count
+    ∙ ap (λ (left : List ℕ). Some (c.args.count, left)) (sym rest))
