@@ -6,6 +6,7 @@ use bfs_replies::{Class, MOST_CLIENTS, ReadError, RecordError, ReplyTable};
 use bfs_testing::words::{same_bytes, spells};
 use bfs_testing::{holds, same};
 use bfs_types::MOST_REPLY_BYTES;
+use sha2::{Digest, Sha256};
 use std::test::Fail;
 
 #[test]
@@ -74,6 +75,31 @@ fn a_text_is_read_with_what_is_behind_it(rt: HostRuntime) -> Result<(), Fail> {
     let (timestamp, reply) = table.last(1).ok_or("a reply")?;
     same!(rt; timestamp, 5);
     same_bytes(alloc, reply, b"abc")
+}
+
+// the SHA-256 of that text
+const DIGEST: &str = "ef285de6f8640fde65b7a4274b148d97c164ebe46cf3adf4367817a18b2df379";
+
+#[test]
+fn the_text_of_a_table_is_hashed(rt: HostRuntime) -> Result<(), Fail> {
+    let alloc = rt.alloc();
+    let mut table = ReplyTable::new(alloc, 3)?;
+    table.record(1, 5, b"abc")?;
+    let mut hasher = Sha256::new();
+    table.hash_text(&mut hasher);
+    spells(alloc, &hasher.finalize(), DIGEST)
+}
+
+#[test]
+fn a_text_is_passed_over(rt: HostRuntime) -> Result<(), Fail> {
+    let alloc = rt.alloc();
+    let mut bytes = hex::decode(alloc, TEXT)?;
+    bytes.push(9)?;
+    let (clients, rest) = ReplyTable::skip_text(bytes.as_slice()).ok_or("a table")?;
+    same!(rt; clients, 3);
+    same_bytes(alloc, rest, &[9])?;
+    holds!(rt; ReplyTable::skip_text(&[0, 0, 0]).is_none());
+    Ok(())
 }
 
 #[test]
