@@ -1,5 +1,0 @@
-//! What a client makes of replies, as tests.
-#![tactic(auto)]
-
-#[cfg(test)]
-mod replies;
