@@ -1,0 +1,32 @@
+-- Why a replica refuses a message or a call, and the numbers of the refusals.
+use Rattle.std.specs.Prelude.{ℕ}
+use Rattle.bfs_order.specs.declared.error.OrderError.{OrderError}
+use Rattle.bfs_order.specs.declared.error.OrderError.TheVariants as order
+use Rattle.bfs_node.specs.declared.error.NodeError.{NodeError}
+use Rattle.bfs_node.specs.declared.error.NodeError.TheVariants as node
+
+-- a refusal of the order, as one of the replica
+abbrev pub of_order : OrderError → NodeError
+of_order order.WrongKind = node.WrongKind
+of_order order.BadAuthenticator = node.BadAuthenticator
+of_order order.WrongView = node.WrongView
+of_order order.OutsideMarks = node.OutsideMarks
+of_order order.NotPrimary = node.NotPrimary
+of_order order.Conflicting = node.Conflicting
+of_order order.AlreadyHave = node.AlreadyHave
+of_order order.NoCertificate = node.NoCertificate
+of_order order.Memory = node.Memory
+
+abbrev pub code_of : NodeError → ℕ
+code_of node.BatchFull = 13
+code_of node.Malformed = 23
+code_of node.BadAuthenticator = 24
+code_of node.WrongView = 25
+code_of node.OutsideMarks = 26
+code_of node.Conflicting = 27
+code_of node.NotPrimary = 28
+code_of node.AlreadyHave = 29
+code_of node.NoCertificate = 34
+code_of node.WrongKind = 36
+code_of node.Memory = 40
+code_of node.Failed = 41

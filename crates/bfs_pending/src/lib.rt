@@ -1,0 +1,8 @@
+//! The requests of clients that wait to be ordered.
+#![tactic(auto)]
+
+mod names;
+mod waiting;
+
+pub use names::BatchNames;
+pub use waiting::PendingRequests;
