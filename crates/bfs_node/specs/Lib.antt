@@ -1,9 +1,0 @@
--- What the contracts of bfs_node cite.
-pub mod Errors
-pub mod Nodes
-pub mod Receivers
-pub mod Snapshots
-pub mod Delivering
-pub mod Proposing
-pub mod Executing
-pub mod Checkpoints
