@@ -1,3 +1,3 @@
--- Requests that wait: what must be believed (Requests), and what contracts of private functions cite (Inside).
+-- Requests that wait: which stand in a batch and which wait on (Requests), and how they are found by their names (Names).
 pub mod Requests
-pub mod Inside
+pub mod Names

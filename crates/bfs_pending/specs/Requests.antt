@@ -1,5 +1,5 @@
 -- The requests that wait to be ordered (OSDI 1999 section 4.2).
-use Rattle.std.specs.Prelude.{ℕ, ◌==◌, Bool, ◌&&◌, not, List, filter}
+use Rattle.std.specs.Prelude.{◌==◌, Bool, ◌&&◌, not, List, filter}
 use Rattle.std.specs.List.{list_any}
 use Rattle.bfs_messages.specs.Messages.{Request, Batch, requests_of}
 use Rattle.bfs_messages.specs.declared.signed.Signed.{Signed}

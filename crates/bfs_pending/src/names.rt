@@ -1,8 +1,5 @@
 ghost use Rattle.std.specs.Prelude.{◌≡◌, IfOk};
-ghost use Rattle.bfs_messages.specs.Messages as model;
-ghost use Rattle.bfs_messages.specs.declared.signed.Signed as declared;
-ghost use Rattle.bfs_pending.specs.Inside.Names.{has_name, name_of};
-ghost use Rattle.bfs_pending.specs.Requests.{is_among};
+ghost use Rattle.bfs_pending.specs.Names.{AreNamesOf, has_name, name_of};
 
 use bfs_messages::{OrderedBatch, Request, Signed};
 use bfs_types::Memory;
@@ -35,16 +32,17 @@ impl Model for BatchNames {
 impl BatchNames {
     /// Those of a batch. `Memory` if memory runs out.
     pub fn of(alloc: Global, batch: &OrderedBatch) -> Result<BatchNames, Memory>
-        ensures { IfOk result (λ names. (one : declared.Signed model.Request) → has_name names (name_of one) ≡ is_among batch.now one) }
+        ensures { IfOk result (λ names. AreNamesOf batch.now names) }
     {
+        let requests = batch.requests();
         let mut names = BTreeSet::new(alloc);
-        for signed in batch.requests() {
+        for signed in requests {
             names.insert(name_of(signed))?;
         }
         Ok(BatchNames { names })
     }
 
-    /// Whether the batch has a request of the same client and timestamp.
+    /// Whether one of the same client and timestamp stands in the batch.
     pub fn has(&self, signed: &Signed<Request>) -> bool
         ensures { result ≡ has_name self.now (name_of signed.now) }
     {

@@ -1,6 +1,8 @@
-ghost use Rattle.std.specs.Prelude.{◌≡◌, ◌<◌, ◌≤◌, [], ◌∷◌, ◌++◌, not, filter, length, nat_le, IfOk, OnOk, OnErr};
+ghost use Rattle.std.specs.Prelude.{◌≡◌, ◌<◌, ◌≤◌, [], ◌∷◌, ◌++◌, length, nat_le, vec_len, IfOk, OnOk, OnErr};
 ghost use Rattle.bfs_model.specs.Server.Limits.{most_requests};
-ghost use Rattle.bfs_pending.specs.Inside.Names.{has_name, name_of};
+ghost use Rattle.bfs_messages.specs.Messages.{Batch};
+ghost use Rattle.bfs_pending.specs.Names.{AreNamesOf};
+ghost use Rattle.bfs_pending.specs.Requests.{without};
 
 use crate::names::BatchNames;
 use bfs_messages::{Request, Signed};
@@ -72,18 +74,20 @@ impl PendingRequests {
 
     /// Equal ones, which share the calls. `Memory` if memory runs out.
     pub fn try_clone(&self, alloc: Global) -> Result<Vec<Signed<Request>>, Memory>
-        ensures { IfOk result (λ copies. copies.items ≡ self.now) }
+        ensures value { IfOk result (λ copies. copies.items ≡ self.now) }
+        ensures within { IfOk result (λ copies. vec_len copies ≤ most_requests) }
     {
-        let mut copies = Vec::with_capacity(alloc, self.requests.len())?;
-        for signed in &self.requests {
+        let requests = self.requests.as_slice();
+        let mut copies = Vec::with_capacity(alloc, requests.len())?;
+        for signed in requests {
             copies.push(signed.try_clone(alloc)?)?;
         }
         Ok(copies)
     }
 
-    /// Those that stand in a batch leave. It takes no memory.
-    pub fn drop_named(&mut self, names: &BatchNames)
-        ensures { self.new ≡ filter (λ one. not (has_name names.now (name_of one))) self.old }
+    /// Those leave that stand in the batch of these names; the others stay in their order. It takes no memory.
+    pub fn drop_batch(&mut self, names: &BatchNames)
+        ensures { (batch : Batch) → AreNamesOf batch names.now → self.new ≡ without self.old batch }
     {
         self.requests.retain(|signed| !names.has(signed));
     }

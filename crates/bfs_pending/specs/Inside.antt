@@ -1,2 +1,0 @@
--- What contracts of private functions cite.
-pub mod Names
