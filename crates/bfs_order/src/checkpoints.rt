@@ -29,7 +29,10 @@ impl Order {
         }
     }
 
-    fn checkpoint_refusal(&self, number: u64) -> Option<OrderError>
+    /// Whether `on_checkpoint` would refuse the number, whatever the digest, so that it is known before a digest is computed: `OutsideMarks`
+    /// unless the number is above the low mark, not above the high one, and below 2^63; then `AlreadyHave` where the replica has told that
+    /// checkpoint. It takes no memory.
+    pub fn checkpoint_refusal(&self, number: u64) -> Option<OrderError>
         ensures { result ≡ checkpoint_refusal self.now number }
     {
         if !(self.is_between(number) && number < 1 << 63) {

@@ -1,4 +1,6 @@
-ghost use Rattle.std.specs.Prelude.{◌≡◌, ◌≢◌, ◌<◌, ◌≤◌, ◌+◌, ◌*◌, None, Some, IfOk, IfErr, OnOk, OnErr};
+ghost use Rattle.std.specs.Prelude.{◌≡◌, ◌≢◌, ◌<◌, ◌≤◌, ◌+◌, ◌*◌, ◌^◌, None, Some, IfOk, IfErr, OnOk, OnErr};
+ghost use Rattle.bfs_agreement.specs.Votes.{SlotsDiffer};
+ghost use Rattle.bfs_log.specs.Logs.{headers};
 ghost use Rattle.bfs_order.specs.Replica.Accepting.{accepted};
 ghost use Rattle.bfs_order.specs.Replica.Refusals.{refusal};
 ghost use Rattle.bfs_order.specs.Replica.States.{fresh};
@@ -62,16 +64,34 @@ impl Order {
         }
     }
 
+    /// At most so many of the `3f + 1` replicas are faulty.
+    pub fn f(&self) -> u32
+        ensures value { result ≡ self.now.f }
+        ensures within { result ≤ 10 }
+    {
+        self.f
+    }
+
+    /// Its own number among the replicas.
+    pub fn me(&self) -> u32
+        ensures value { result ≡ self.now.me }
+        ensures within { result < 3 * self.now.f + 1 }
+    {
+        self.me
+    }
+
     /// The view last entered.
     pub fn view(&self) -> u64
-        ensures { result ≡ self.now.view }
+        ensures value { result ≡ self.now.view }
+        ensures within { result < 2 ^ 63 }
     {
         self.view
     }
 
     /// The low mark: the number of the stable checkpoint.
     pub fn low(&self) -> u64
-        ensures { result ≡ self.now.low }
+        ensures value { result ≡ self.now.low }
+        ensures within { result < 2 ^ 63 }
     {
         self.low
     }
@@ -85,15 +105,19 @@ impl Order {
 
     /// The number last executed.
     pub fn last_executed(&self) -> u64
-        ensures { result ≡ self.now.last }
+        ensures value { result ≡ self.now.last }
+        ensures within { result < 2 ^ 63 }
     {
         self.last
     }
 
-    /// The messages that were accepted and not dropped, its own among them, in the order in which they came.
+    /// The messages that were accepted and not dropped, its own among them, in the order in which they came. No two of them are of one
+    /// kind, sender, view and number.
     pub fn log(&self) -> &[Signed<Message>]
-        ensures { result.now ≡ self.now.log }
+        ensures value { result.now ≡ self.now.log }
+        ensures differ { SlotsDiffer (headers self.now.log) }
     {
+        self.log.messages_differ();
         self.log.messages()
     }
 

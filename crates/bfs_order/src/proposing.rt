@@ -32,7 +32,10 @@ impl Order {
         self.me == self.leader(self.view) && self.asked <= self.view
     }
 
-    fn proposal_refusal(&self) -> Option<OrderError>
+    /// Whether `propose` would refuse, whatever the batch, so that it is known before a batch is made: `NotPrimary` unless the replica is
+    /// the primary of the view and no view change is under way; then `OutsideMarks` where the next number is above the high mark, or not
+    /// below 2^63. It takes no memory.
+    pub fn proposal_refusal(&self) -> Option<OrderError>
         ensures { result ≡ proposal_refusal self.now }
     {
         if !self.leads() {
