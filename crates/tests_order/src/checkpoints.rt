@@ -3,6 +3,7 @@ ghost use Rattle.std.specs.Prelude.{◌<◌, ◌≤◌, ◌+◌, ◌*◌};
 
 use crate::replica::{Replica, Said, checkpoint, null_proposal, refusal_of, signed_by, vote};
 use bfs_messages::{Message, Signed};
+use bfs_order::OrderError;
 use bfs_testing::{holds, same};
 use bfs_types::Memory;
 use std::alloc::Global;
@@ -34,7 +35,9 @@ fn a_replica_tells_each_checkpoint_once(rt: HostRuntime) -> Result<(), Fail> {
     let mut replica = Replica::new(alloc, 1, 1)?;
     same!(rt; refusal_of(replica.order.on_checkpoint(&replica.keys, 0, [1; 32])), 26);
     same!(rt; refusal_of(replica.order.on_checkpoint(&replica.keys, 33, [1; 32])), 26);
+    same!(rt; replica.order.checkpoint_refusal(32), None);
     same!(rt; refusal_of(replica.order.on_checkpoint(&replica.keys, 32, [1; 32])), 0);
+    same!(rt; replica.order.checkpoint_refusal(32), Some(OrderError::AlreadyHave));
     same!(rt; refusal_of(replica.order.on_checkpoint(&replica.keys, 32, [2; 32])), 29);
     Ok(())
 }

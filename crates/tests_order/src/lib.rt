@@ -1,11 +1,13 @@
 //! One replica's order, as tests: a worked run, each refusal with those before and behind it, certificates, checkpoints and views, among 1, 4 and 31
-//! replicas.
+//! replicas. And the requests that wait to be ordered.
 #![tactic(auto)]
 
 #[cfg(test)]
 mod checkpoints;
 #[cfg(test)]
 mod normal;
+#[cfg(test)]
+mod pending;
 #[cfg(test)]
 mod refusals;
 #[cfg(test)]

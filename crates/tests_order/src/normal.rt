@@ -3,6 +3,7 @@ ghost use Rattle.std.specs.Prelude.{◌<◌, ◌≤◌, ◌+◌, ◌*◌};
 
 use crate::replica::{Replica, Said, null_proposal, other_vote, refusal_of, vote};
 use bfs_messages::{Message, OrderedBatch};
+use bfs_order::OrderError;
 use bfs_testing::{holds, same};
 use bfs_types::Memory;
 use std::alloc::Global;
@@ -18,6 +19,8 @@ fn null(alloc: Global) -> Result<Arc<OrderedBatch>, Memory> {
 fn a_number_is_ordered(rt: HostRuntime) -> Result<(), Fail> {
     let alloc = rt.alloc();
     let mut replica = Replica::new(alloc, 1, 1)?;
+    same!(rt; (replica.order.f(), replica.order.me()), (1, 1));
+    same!(rt; replica.order.proposal_refusal(), Some(OrderError::NotPrimary));
     same!(rt; refusal_of(replica.order.propose(&replica.keys, null(alloc)?)), 28);
     same!(rt; replica.takes(&rt, alloc, 0, null_proposal(alloc, 0, 0, 1)?)?, Said::Sent(1));
     same!(rt; replica.takes(&rt, alloc, 0, null_proposal(alloc, 0, 0, 1)?)?, Said::Refused(29));
@@ -75,6 +78,7 @@ fn a_replica_alone_orders_what_it_proposes(rt: HostRuntime) -> Result<(), Fail> 
     let alloc = rt.alloc();
     let mut replica = Replica::new(alloc, 0, 0)?;
     same!(rt; replica.next(), 0);
+    same!(rt; replica.order.proposal_refusal(), None);
     same!(rt; refusal_of(replica.order.propose(&replica.keys, null(alloc)?)), 0);
     same!(rt; replica.next(), 1);
     same!(rt; replica.order.log().len(), 2);

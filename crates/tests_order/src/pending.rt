@@ -1,0 +1,83 @@
+//! Requests wait until a batch in which they stand is executed.
+use bfs_auth::Authenticator;
+use bfs_messages::{OrderedBatch, Request, Signed};
+use bfs_pending::{BatchNames, PendingRequests};
+use bfs_testing::{holds, same};
+use bfs_types::{MOST_REQUESTS, Memory, Time};
+use std::alloc::Global;
+use std::test::Fail;
+
+// A client and a timestamp.
+type Name = (u32, u64);
+
+fn request(alloc: Global, client: u32, timestamp: u64) -> Result<Signed<Request>, Memory> {
+    Ok(Signed {
+        message: Request::new(alloc, client, timestamp, b"a call")?,
+        auth: Authenticator::new(alloc),
+    })
+}
+
+fn waiting(alloc: Global, names: &[Name]) -> Result<PendingRequests, Memory> {
+    let mut pending = PendingRequests::new(alloc);
+    for (client, timestamp) in names {
+        if pending.is_full() {
+            return Err(Memory);
+        }
+        pending.push(request(alloc, *client, *timestamp)?)?;
+    }
+    Ok(pending)
+}
+
+fn batch(alloc: Global, names: &[Name]) -> Result<OrderedBatch, Memory> {
+    let requests = waiting(alloc, names)?.try_clone(alloc)?;
+    let time = Time::new(1, 0).ok_or(Memory)?;
+    Ok(OrderedBatch::new(time, requests))
+}
+
+fn are(requests: &[Signed<Request>], names: &[Name]) -> bool {
+    requests.len() == names.len()
+        && requests.iter().zip(names).all(|(signed, name)| {
+            (signed.message.client(), signed.message.timestamp()) == *name
+        })
+}
+
+fn drop_batch(alloc: Global, pending: &mut PendingRequests, names: &[Name]) -> Result<(), Memory> {
+    pending.drop_batch(&BatchNames::of(alloc, &batch(alloc, names)?)?);
+    Ok(())
+}
+
+#[test]
+fn what_stands_in_a_batch_waits_no_longer(rt: HostRuntime) -> Result<(), Fail> {
+    let alloc = rt.alloc();
+    let mut pending = waiting(alloc, &[(3, 5), (4, 5), (3, 6), (5, 7)])?;
+    same!(rt; pending.len(), 4);
+    holds!(rt; !pending.is_full());
+    drop_batch(alloc, &mut pending, &[(5, 7), (3, 5), (6, 1)])?;
+    holds!(rt; are(pending.requests(), &[(4, 5), (3, 6)]));
+    drop_batch(alloc, &mut pending, &[])?;
+    same!(rt; pending.len(), 2);
+    Ok(())
+}
+
+#[test]
+fn a_request_is_found_by_client_and_timestamp(rt: HostRuntime) -> Result<(), Fail> {
+    let alloc = rt.alloc();
+    let names = BatchNames::of(alloc, &batch(alloc, &[(3, 5), (4, 6)])?)?;
+    holds!(rt; names.has(&request(alloc, 3, 5)?));
+    holds!(rt; names.has(&request(alloc, 4, 6)?));
+    holds!(rt; !names.has(&request(alloc, 3, 6)?));
+    holds!(rt; !names.has(&request(alloc, 5, 5)?));
+    Ok(())
+}
+
+#[test]
+fn as_many_wait_as_a_batch_can_have(rt: HostRuntime) -> Result<(), Fail> {
+    let alloc = rt.alloc();
+    let mut pending = PendingRequests::new(alloc);
+    for timestamp in 0..MOST_REQUESTS as u64 {
+        holds!(rt; !pending.is_full());
+        pending.push(request(alloc, 1, timestamp)?)?;
+    }
+    holds!(rt; pending.is_full());
+    Ok(())
+}
