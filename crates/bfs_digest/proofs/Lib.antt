@@ -3,6 +3,7 @@ pub mod Records
 pub mod Texts
 pub mod Live
 pub mod Pieces
+pub mod Fronts
 pub mod Hashed
 pub mod Parts
 pub mod Rising
@@ -21,3 +22,4 @@ pub mod Distinct
 pub mod Placing
 pub mod Forming
 pub mod Formed
+pub mod Public

@@ -1,5 +1,5 @@
 -- A file system by its header and its inodes.
-use Rattle.std.proofs.Common.{◌≡◌, ◌++◌, Option, Some, None, refl}
+use Rattle.std.proofs.Common.{◌≡◌, ℕ, List, [], ◌++◌, Option, Some, None, refl}
 use Rattle.std.specs.Option.{option_map}
 use Rattle.std.specs.FinMap.{entries}
 use Rattle.bfs_model.specs.Server.Tree.{Inodes, FileSystem}
@@ -21,3 +21,13 @@ pub digest_is : (files : Option FileSystem) (header : Header) (inodes : Inodes) 
     → option_map digest_of files ≡ Some (digest_with header inodes)
 unfolding digest_of
 digest_is files header inodes e f = made_of digest_with files header inodes e f
+
+-- and what is appended to is followed by it
+pub appended_is : (front : List ℕ) (files : Option FileSystem) (header : Header) (inodes : Inodes) (bytes : List ℕ) → Some header ≡ option_map header_of files → Some inodes ≡ option_map (λ f. f.tree) files
+    → bytes ≡ front ++ (header_text header ++ records_text (entries inodes)) → option_map (λ f. front ++ snapshot_text f) files ≡ Some bytes
+appended_is front None header inodes bytes e f is = absurd cc
+appended_is front (Some live) header inodes bytes e f is = let text = text_is (Some live) header inodes e f in cc
+
+pub behind_nothing : (files : Option FileSystem) → option_map (λ f. [] ++ snapshot_text f) files ≡ option_map snapshot_text files
+behind_nothing None = refl
+behind_nothing (Some live) = refl

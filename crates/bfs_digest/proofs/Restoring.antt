@@ -53,6 +53,9 @@ no_other_version bytes rest read other =
     let pair = some_is (version, rest) (other.number, other.rest) (sym read ∙ other_read bytes other) in
     other.other (sym (ap (λ p. p.0) pair))
 
+pub spelled_has_no_other_version : (bytes : List ℕ) (files : FileSystem) → Spells bytes files → HasOtherVersion bytes → ⊥
+spelled_has_no_other_version bytes files spells = no_other_version bytes (behind_version files) (text_read bytes files spells)
+
 pub unspelled_is_malformed : (bytes rest : List ℕ) → version_from bytes ≡ Some (version, rest) → files_from rest ≡ None → IsMalformed bytes
 unspelled_is_malformed bytes rest read none = (
   no_other_version bytes rest read,

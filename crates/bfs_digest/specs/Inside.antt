@@ -5,3 +5,4 @@ pub mod Formation
 pub mod Outlines
 pub mod Names
 pub mod Hashed
+pub mod Putting

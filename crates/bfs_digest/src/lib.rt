@@ -28,4 +28,4 @@ pub use laws::{
 };
 pub use refreshing::refresh;
 pub use restoration::restore;
-pub use snapshots::snapshot;
+pub use snapshots::{put_snapshot, snapshot};

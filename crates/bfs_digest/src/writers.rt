@@ -1,11 +1,12 @@
-// The text of a file system, appended piece by piece: each byte is written once.
-ghost use Rattle.std.specs.Prelude.{◌≡◌, ◌++◌, length, OnOk};
+// The text of a file system, appended piece by piece: each byte is written once. Where memory runs out, some of it may have been appended.
+ghost use Rattle.std.specs.Prelude.{◌≡◌, ◌++◌, length, OnOk, OnErr};
 ghost use Rattle.std.specs.FinMap.{entries};
 ghost use Rattle.bfs_model.specs.Bytes.Items.{word};
 ghost use Rattle.bfs_inode.specs.Inodes.{body_seen};
 ghost use Rattle.bfs_inode.specs.Records.{body_text, entries_text, entry_text, record_text};
 ghost use Rattle.bfs_tree.specs.Tree.{at_home};
 ghost use Rattle.bfs_digest.specs.Text.{header_text, records_text};
+ghost use Rattle.bfs_digest.specs.Inside.Putting.{BeginsWith};
 
 use crate::headers::{Header, MAGIC, VERSION};
 use crate::words::head_words;
@@ -16,7 +17,8 @@ use bfs_xdr::{put_opaque, put_u32, put_u64, put_words};
 
 #[tactic(auto, using(std::proofs::lemmas::List::append_assoc))]
 pub(crate) fn put_header(out: &mut Vec<u8>, header: &Header) -> Result<(), Memory>
-    ensures { OnOk result (out.new.items ≡ out.old.items ++ header_text header.now) }
+    ensures ok { OnOk result (out.new.items ≡ out.old.items ++ header_text header.now) }
+    ensures err { OnErr result (BeginsWith out.old.items out.new.items) }
 {
     put_u32(out, MAGIC)?;
     put_u32(out, VERSION)?;
@@ -28,7 +30,8 @@ pub(crate) fn put_header(out: &mut Vec<u8>, header: &Header) -> Result<(), Memor
 
 /// The records of all inodes, by rising fileid.
 pub(crate) fn put_records(out: &mut Vec<u8>, tree: &Tree) -> Result<(), Memory>
-    ensures { OnOk result (out.new.items ≡ out.old.items ++ records_text (entries (at_home tree.now))) }
+    ensures ok { OnOk result (out.new.items ≡ out.old.items ++ records_text (entries (at_home tree.now))) }
+    ensures err { OnErr result (BeginsWith out.old.items out.new.items) }
 {
     for (id, inode) in tree.iter() {
         put_record(out, FileId::new(*id), inode)?;
@@ -38,14 +41,16 @@ pub(crate) fn put_records(out: &mut Vec<u8>, tree: &Tree) -> Result<(), Memory>
 
 #[tactic(auto, using(std::proofs::lemmas::List::append_assoc), unfolding(bfs_inode::specs::Records::record_text))]
 fn put_record(out: &mut Vec<u8>, id: FileId, inode: &Inode) -> Result<(), Memory>
-    ensures { OnOk result (out.new.items ≡ out.old.items ++ record_text id inode.now) }
+    ensures ok { OnOk result (out.new.items ≡ out.old.items ++ record_text id inode.now) }
+    ensures err { OnErr result (BeginsWith out.old.items out.new.items) }
 {
     put_words(out, &head_words(id, inode))?;
     put_body(out, inode.body())
 }
 
 fn put_body(out: &mut Vec<u8>, body: &Body) -> Result<(), Memory>
-    ensures { OnOk result (out.new.items ≡ out.old.items ++ body_text (body_seen body.now)) }
+    ensures ok { OnOk result (out.new.items ≡ out.old.items ++ body_text (body_seen body.now)) }
+    ensures err { OnErr result (BeginsWith out.old.items out.new.items) }
 {
     match body {
         Body::File(data) => put_opaque(out, data.as_slice()),
@@ -56,7 +61,8 @@ fn put_body(out: &mut Vec<u8>, body: &Body) -> Result<(), Memory>
 
 #[tactic(auto, using(std::proofs::lemmas::List::append_assoc))]
 fn put_directory(out: &mut Vec<u8>, directory: &Directory) -> Result<(), Memory>
-    ensures { OnOk result (out.new.items ≡ out.old.items ++ (word directory.now.parent ++ word (length directory.now.entries) ++ entries_text directory.now.entries)) }
+    ensures ok { OnOk result (out.new.items ≡ out.old.items ++ (word directory.now.parent ++ word (length directory.now.entries) ++ entries_text directory.now.entries)) }
+    ensures err { OnErr result (BeginsWith out.old.items out.new.items) }
 {
     put_u32(out, directory.parent().number())?;
     put_u32(out, directory.len() as u32)?;
@@ -64,7 +70,8 @@ fn put_directory(out: &mut Vec<u8>, directory: &Directory) -> Result<(), Memory>
 }
 
 fn put_entries(out: &mut Vec<u8>, directory: &Directory) -> Result<(), Memory>
-    ensures { OnOk result (out.new.items ≡ out.old.items ++ entries_text directory.now.entries) }
+    ensures ok { OnOk result (out.new.items ≡ out.old.items ++ entries_text directory.now.entries) }
+    ensures err { OnErr result (BeginsWith out.old.items out.new.items) }
 {
     for entry in directory.iter() {
         put_entry(out, entry)?;
@@ -74,7 +81,8 @@ fn put_entries(out: &mut Vec<u8>, directory: &Directory) -> Result<(), Memory>
 
 #[tactic(auto, using(std::proofs::lemmas::List::append_assoc))]
 fn put_entry(out: &mut Vec<u8>, entry: &Entry) -> Result<(), Memory>
-    ensures { OnOk result (out.new.items ≡ out.old.items ++ entry_text entry.now) }
+    ensures ok { OnOk result (out.new.items ≡ out.old.items ++ entry_text entry.now) }
+    ensures err { OnErr result (BeginsWith out.old.items out.new.items) }
 {
     put_u32(out, entry.cookie)?;
     put_opaque(out, entry.name.as_slice())?;

@@ -1,0 +1,6 @@
+pub mod Standing
+pub mod Again
+pub mod Taken
+pub mod Certifying
+pub mod Stable
+pub mod Public

@@ -1,0 +1,39 @@
+-- What ties the text of a replica to its reading, and a stable checkpoint to its certificate.
+use Rattle.std.specs.Prelude.{◌≡◌, ℕ, true, List, length}
+use Rattle.bfs_model.specs.Server.Stored.{IsLive}
+use Rattle.bfs_model.specs.Server.Tree.{FileSystem}
+use Rattle.bfs_agreement.specs.Votes.{SlotsDiffer, is_stable}
+use Rattle.bfs_log.specs.Logs.{Log, headers}
+use Rattle.bfs_replies.specs.Tables.{Table, IsKept}
+use Rattle.bfs_checkpoints.specs.Certificates.{IsCertificate, checkpoints, told_by}
+use Rattle.bfs_checkpoints.specs.Texts.{SpellsNode, node_text}
+use Rattle.bfs_checkpoints.specs.Outcomes.{NodeHasOtherVersion, NodeIsMalformed, SpellsIllFormedNode}
+
+-- a replica has one text
+abbrev pub ANodeHasOneText : Type 0
+ANodeHasOneText = (clients others : ℕ) (files : FileSystem) (table : Table) (one other : List ℕ) → SpellsNode clients one files table → SpellsNode others other files table → one ≡ other
+
+-- a text spells at most one replica
+abbrev pub ATextSpellsOneNode : Type 0
+ATextSpellsOneNode = (clients others : ℕ) (bytes : List ℕ) (files found : FileSystem) (table read : Table)
+    → SpellsNode clients bytes files table → SpellsNode others bytes found read → (found ≡ files) × (read ≡ table)
+
+-- nothing refuses the bytes but want of memory
+pub record IsReadable (clients : ℕ) (bytes : List ℕ) : Type 0 where
+  pub not_malformed : NodeIsMalformed clients bytes → ⊥
+  pub not_other : NodeHasOtherVersion clients bytes → ⊥
+  pub not_ill_formed : SpellsIllFormedNode clients bytes → ⊥
+
+-- the text of a live file system and a table spells them, and can be read
+abbrev pub LiveNodesAreReadAgain : Type 0
+LiveNodesAreReadAgain = (files : FileSystem) (table : Table) → IsLive files → IsKept table → SpellsNode (length table) (node_text files table) files table × IsReadable (length table) (node_text files table)
+
+-- the CHECKPOINTs of a log that tell a checkpoint, which by them is stable
+pub record Certifies (f number : ℕ) (digest : List ℕ) (messages : Log) : Type 0 where
+  pub certificate : IsCertificate f messages
+  pub number_is : (told_by messages).number ≡ number
+  pub digest_is : (told_by messages).digest ≡ digest
+
+-- of a log that tells nothing twice
+abbrev pub AStableCheckpointHasACertificate : Type 0
+AStableCheckpointHasACertificate = (f number : ℕ) (digest : List ℕ) (log : Log) → SlotsDiffer (headers log) → is_stable f (headers log) number digest ≡ true → Certifies f number digest (checkpoints number digest log)

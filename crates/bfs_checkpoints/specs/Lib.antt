@@ -1,0 +1,8 @@
+-- What contracts of bfs_checkpoints cite.
+pub mod Texts
+pub mod Outcomes
+pub mod Adoption
+pub mod Snapshots
+pub mod Certificates
+pub mod Keeping
+pub mod Laws

@@ -1,0 +1,19 @@
+-- Snapshots of a replica.
+use Rattle.std.specs.Prelude.{◌≡◌, ℕ, List}
+use Rattle.bfs_model.specs.Server.Tree.{FileSystem}
+use Rattle.bfs_replies.specs.Tables.{Table}
+use Rattle.bfs_checkpoints.specs.Texts.{node_digest, node_text}
+
+-- a text, and a digest
+pub record Snapshot : Type 0 where
+  pub text : List ℕ
+  pub digest : List ℕ
+
+abbrev pub snapshot_of : FileSystem → Table → Snapshot
+snapshot_of files table = record { text = node_text files table; digest = node_digest files table }
+
+-- the text of a replica's state, and the digest of the same state
+pub record IsSnapshot (snapshot : Snapshot) : Type 0 where
+  pub files : FileSystem
+  pub table : Table
+  pub is : snapshot ≡ snapshot_of files table

@@ -1,0 +1,21 @@
+//! What a replica keeps and tells of its state at a checkpoint (OSDI 1999 section 4.3): the file system and the last replies.
+#![tactic(auto)]
+
+mod adoption;
+mod certificates;
+mod digests;
+mod keeping;
+mod laws;
+mod reading;
+mod snapshots;
+
+pub use adoption::{AdoptError, Adopted, adopt};
+pub use certificates::certificate_with;
+pub use digests::digest_node;
+pub use keeping::Snapshots;
+pub use laws::{
+    a_node_has_one_text, a_stable_checkpoint_has_a_certificate, a_text_spells_one_node,
+    live_nodes_are_read_again,
+};
+pub use reading::read_node;
+pub use snapshots::{Snapshot, take_snapshot};

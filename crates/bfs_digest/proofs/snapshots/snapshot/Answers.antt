@@ -1,8 +1,0 @@
--- What was put is the header and the records of all inodes.
-use Rattle.std.proofs.Common.{Some, sym, ap, ◌∙◌}
-use Rattle.bfs_tree.specs.Tree.{at_home}
-use Rattle.bfs_digest.proofs.Parts.{text_is}
-use Rattle.bfs_digest.proofs.snapshots.snapshot.Goals as goal
-
-pub returns-in-Ok-clause-value : goal.returns-in-Ok-clause-value
-returns-in-Ok-clause-value c = text_is c.args.files.now c.in-Some.header (at_home c.in-Some.tree.now) c.in-Some.ensures.header c.in-Some.ensures.tree ∙ ap Some (sym c.in-Ok.ensures)
