@@ -1,0 +1,2 @@
+-- The clients of a run, and their keys (Clients).
+pub mod Clients
