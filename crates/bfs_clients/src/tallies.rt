@@ -1,4 +1,4 @@
-ghost use Rattle.std.specs.Prelude.{◌≡◌, ℕ, [], OnOk, OnErr, if◌then◌else◌};
+ghost use Rattle.std.specs.Prelude.{◌≡◌, ℕ, [], fold, OnOk, OnErr, if◌then◌else◌};
 ghost use Rattle.std.specs.Option.{option_and_then, option_map};
 ghost use Rattle.bfs_tally.specs.Tallies.{agreed, tallied};
 ghost use Rattle.bfs_clients.specs.Names.{found, same_name};
@@ -78,6 +78,18 @@ impl Tallies {
             timestamp: reply.timestamp(),
         };
         count(&mut self.tallies, name, keys, signed)
+    }
+
+    /// Counts messages one after another, each as `add` does. `Memory` if memory runs out; then those before one of them are counted.
+    #[tactic(auto, using(crate::proofs::Adding::one_more, crate::proofs::Adding::none_yet, crate::proofs::Adding::all))]
+    pub fn add_all(&mut self, clients: &Clients, messages: &[Signed<Message>]) -> Result<(), Memory>
+        ensures ok { OnOk result ((client timestamp : ℕ) → tally_at self.new client timestamp ≡ option_map (λ tally. fold (tallied_by clients.now) tally messages.now) (tally_at self.old client timestamp)) }
+        ensures f { self.new.f ≡ self.old.f }
+    {
+        for signed in messages {
+            self.add(clients, signed)?;
+        }
+        Ok(())
     }
 
     /// What the client accepts as the result of its request of that timestamp: what `f + 1` replicas agree on. `None` as long as there is
