@@ -30,7 +30,15 @@ fn add(tallies: &mut Tallies, clients: &Clients, signed: &Signed<Message>) -> Re
     tallies.add(clients, signed)
 }
 
-// tallies of three requests, of a client that there isn't too
+fn add_all(
+    tallies: &mut Tallies,
+    clients: &Clients,
+    messages: &[Signed<Message>],
+) -> Result<(), Memory> {
+    tallies.add_all(clients, messages)
+}
+
+// tallies of four requests, one of them of a client that there isn't
 fn begun(alloc: Global) -> Result<Tallies, Memory> {
     let mut tallies = Tallies::new(alloc, 1);
     tallies.begin(0, 7)?;
@@ -108,5 +116,21 @@ fn a_tally_that_is_begun_again_stays(rt: HostRuntime) -> Result<(), Fail> {
     let signed = reply(alloc, 1, (1, 7), 1, RIGHT)?;
     add(&mut tallies, &clients, &signed)?;
     holds!(rt; has(&tallies, 1, 7, Some(RIGHT)));
+    Ok(())
+}
+
+#[test]
+fn many_replies_are_counted_one_after_another(rt: HostRuntime) -> Result<(), Fail> {
+    let alloc = rt.alloc();
+    let clients = two_clients(alloc)?;
+    let mut tallies = begun(alloc)?;
+    let mut replies = Vec::new(alloc);
+    replies.push(reply(alloc, 2, (0, 8), 0, OTHER)?)?;
+    replies.push(reply(alloc, 3, (0, 8), 0, RIGHT)?)?;
+    replies.push(reply(alloc, 3, (0, 7), 0, RIGHT)?)?;
+    replies.push(reply(alloc, 1, (0, 8), 0, RIGHT)?)?;
+    add_all(&mut tallies, &clients, &replies)?;
+    holds!(rt; has(&tallies, 0, 8, Some(RIGHT)));
+    holds!(rt; has(&tallies, 0, 7, None));
     Ok(())
 }
