@@ -1,0 +1,10 @@
+use Rattle.std.proofs.Common.{◌≡◌, ℕ, take}
+use Rattle.std.specs.Prelude.{fold}
+use Rattle.std.specs.Option.{option_map}
+use Rattle.bfs_clients.specs.Tallies.{tallied_by, tally_at}
+use Rattle.bfs_clients.proofs.tallies.Tallies.add_all.Given as goal
+
+-- what those so far come to
+abbrev pub invariant-loop-signed : goal.invariant-loop-signed
+invariant-loop-signed l = (l.self.f ≡ l.fn.self.f)
+    × ((client timestamp : ℕ) → tally_at l.self client timestamp ≡ option_map (λ tally. fold (tallied_by l.clients) tally (take l.signed-index l.messages)) (tally_at l.fn.self client timestamp))

@@ -1,0 +1,5 @@
+-- The clients of a run, and their keys (Clients); what they make of the replies to their requests (Tallies), found by client and timestamp
+-- (Names).
+pub mod Clients
+pub mod Names
+pub mod Tallies

@@ -1,0 +1,9 @@
+//! The clients of a run of replicas: the keys that they sign their requests with, and what they make of the replies.
+#![tactic(auto)]
+
+mod clients;
+mod names;
+mod tallies;
+
+pub use clients::Clients;
+pub use tallies::Tallies;

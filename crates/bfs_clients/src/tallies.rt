@@ -1,0 +1,118 @@
+ghost use Rattle.std.specs.Prelude.{◌≡◌, ℕ, [], fold, OnOk, OnErr, if◌then◌else◌};
+ghost use Rattle.std.specs.Option.{option_and_then, option_map};
+ghost use Rattle.bfs_tally.specs.Tallies.{agreed, tallied};
+ghost use Rattle.bfs_clients.specs.Names.{found, same_name};
+ghost use Rattle.bfs_clients.specs.Tallies.{begun, tallied_by, tally_at};
+ghost use Rattle.bfs_clients.specs.declared.names.Name as declared;
+
+use crate::clients::Clients;
+use crate::names::Name;
+use bfs_auth::Keys;
+use bfs_messages::{Message, Signed};
+use bfs_tally::Tally;
+use bfs_types::Memory;
+use std::alloc::Global;
+use std::collections::BTreeMap;
+use std::marker::Model;
+
+/// What clients make of the replies to the requests that they sent: a tally for each request, found by its client and timestamp.
+#[derive(Drop)]
+pub struct Tallies {
+    alloc: Global,
+    f: u32,
+    tallies: BTreeMap<Name, Tally>,
+}
+
+impl Model for Tallies {
+    ghost use Rattle.bfs_clients.specs.Tallies as model;
+
+    ghost Value = { model.Tallies };
+
+    ghost view = { λ all. record { f = all.f; entries = all.tallies.entries } };
+
+    ghost invariant = { λ all. model.AreNamed all.tallies.entries };
+}
+
+impl Tallies {
+    /// No request yet. At most `f` replicas are faulty. It takes no memory.
+    pub fn new(alloc: Global, f: u32) -> Tallies
+        ensures { result ≡ record { f = f; entries = [] } }
+    {
+        Tallies {
+            alloc,
+            f,
+            tallies: BTreeMap::new(alloc),
+        }
+    }
+
+    /// Begins a tally for a client's request of that timestamp, with no reply yet; where there is one already, it stays. `Memory` if
+    /// memory runs out; then nothing changes.
+    pub fn begin(&mut self, client: u32, timestamp: u64) -> Result<(), Memory>
+        ensures ok { OnOk result ((other at : ℕ) → tally_at self.new other at ≡ begun self.old client timestamp other at) }
+        ensures err { OnErr result (self.new ≡ self.old) }
+        ensures f { self.new.f ≡ self.old.f }
+    {
+        let name = Name { client, timestamp };
+        if !self.tallies.contains_key(&name) {
+            let tally = Tally::new(self.alloc, self.f, client, timestamp);
+            self.tallies.insert(name, tally)?;
+        }
+        Ok(())
+    }
+
+    /// Counts a REPLY by the tally of its client and timestamp, if one was begun and the client finds the reply signed. Any other message
+    /// is passed over. `Memory` if memory runs out; then nothing changes.
+    pub fn add(&mut self, clients: &Clients, signed: &Signed<Message>) -> Result<(), Memory>
+        ensures ok { OnOk result ((client timestamp : ℕ) → tally_at self.new client timestamp ≡ option_map (λ tally. tallied_by clients.now tally signed.now) (tally_at self.old client timestamp)) }
+        ensures err { OnErr result (self.new ≡ self.old) }
+        ensures f { self.new.f ≡ self.old.f }
+    {
+        let Message::Reply(reply) = &signed.message else {
+            return Ok(());
+        };
+        let Some(keys) = clients.keys(reply.client()) else {
+            return Ok(());
+        };
+        let name = Name {
+            client: reply.client(),
+            timestamp: reply.timestamp(),
+        };
+        count(&mut self.tallies, name, keys, signed)
+    }
+
+    /// Counts messages one after another, each as `add` does. `Memory` if memory runs out; then those before one of them are counted.
+    #[tactic(auto, using(crate::proofs::Adding::one_more, crate::proofs::Adding::none_yet, crate::proofs::Adding::all))]
+    pub fn add_all(&mut self, clients: &Clients, messages: &[Signed<Message>]) -> Result<(), Memory>
+        ensures ok { OnOk result ((client timestamp : ℕ) → tally_at self.new client timestamp ≡ option_map (λ tally. fold (tallied_by clients.now) tally messages.now) (tally_at self.old client timestamp)) }
+        ensures f { self.new.f ≡ self.old.f }
+    {
+        for signed in messages {
+            self.add(clients, signed)?;
+        }
+        Ok(())
+    }
+
+    /// What the client accepts as the result of its request of that timestamp: what `f + 1` replicas agree on. `None` as long as there is
+    /// no such result, and where no tally was begun for the request. It takes no memory.
+    pub fn result(&self, client: u32, timestamp: u64) -> Option<&[u8]>
+        ensures { option_map (λ bytes. bytes.now) result ≡ option_and_then agreed (tally_at self.now client timestamp) }
+    {
+        self.tallies.get(&Name { client, timestamp })?.result()
+    }
+}
+
+// Counts a message by the tally of that name, if there is one.
+fn count(
+    tallies: &mut BTreeMap<Name, Tally>,
+    name: Name,
+    keys: &Keys,
+    signed: &Signed<Message>,
+) -> Result<(), Memory>
+    ensures ok { OnOk result ((other : declared.Name) → found tallies.new.entries other ≡ if same_name name other then option_map (λ tally. tallied keys.now tally signed.now) (found tallies.old.entries other) else found tallies.old.entries other) }
+    ensures err { OnErr result (tallies.new.entries ≡ tallies.old.entries) }
+{
+    match tallies.get_mut(&name) {
+        Some(tally) => tally.add(keys, signed),
+        None => Ok(()),
+    }
+}
