@@ -1,0 +1,93 @@
+-- A message comes: each kind goes to its part, and what the part gives is sent (OSDI 1999 sections 4.1 to 4.3).
+use Rattle.std.specs.Prelude.{ℕ, not, List, [], ◌∷◌, ◌++◌, length, Option, Some, None, nat_le, if◌then◌else◌}
+use Rattle.std.specs.Option.{option_map}
+use Rattle.bfs_model.specs.Server.Limits.{most_requests}
+use Rattle.bfs_agreement.specs.Votes.{Header}
+use Rattle.bfs_checkpoints.specs.Certificates.{checkpoints}
+use Rattle.bfs_checkpoints.specs.Keeping.{Keeping, settled}
+use Rattle.bfs_log.specs.Headers.{header}
+use Rattle.bfs_messages.specs.Messages as model
+use Rattle.bfs_messages.specs.declared.signed.Signed.{Signed}
+use Rattle.bfs_messages.specs.declared.message.Message.{Message}
+use Rattle.bfs_messages.specs.declared.message.Message.TheVariants.{Request, PrePrepare, Prepare, Commit, Checkpoint, ViewChange, NewView, Reply}
+use Rattle.bfs_messages.specs.Signing.{request_is_signed}
+use Rattle.bfs_order.specs.Replica.Accepting.{accepted, makes_stable}
+use Rattle.bfs_order.specs.Replica.Refusals.{refusal}
+use Rattle.bfs_order.specs.Replica.States.{State, with_message}
+use Rattle.bfs_node.specs.Errors.{of_order}
+use Rattle.bfs_node.specs.Nodes.{Node, Outcome}
+use Rattle.bfs_node.specs.declared.error.NodeError.{NodeError}
+use Rattle.bfs_node.specs.declared.error.NodeError.TheVariants as error
+
+-- Requests ---------------------------------------------------------------------------------------------------------------
+
+abbrev pub request_in : Signed Message → model.Request → Signed model.Request
+request_in signed request = record { message = request; auth = signed.auth }
+
+-- of a client whose keyed hash is not right, or one too many
+abbrev pub request_refusal : Node → Signed model.Request → Option NodeError
+request_refusal node request =
+    if not (request_is_signed node.keys request) then Some error.BadAuthenticator else
+    (if nat_le most_requests (length node.pending) then Some error.BatchFull else None)
+
+-- it goes to the end of the list of those that wait; nothing is sent
+abbrev pub with_request : Node → Signed model.Request → Outcome
+with_request node request = record { now = record node { pending = node.pending ++ request ∷ [] }; sent = [] }
+
+-- Messages of the order ----------------------------------------------------------------------------------------------------
+
+abbrev pub order_refusal : Node → Signed Message → Option NodeError
+order_refusal node signed = option_map of_order (refusal node.keys node.order signed)
+
+-- a CHECKPOINT that makes its number stable settles the snapshots, by the CHECKPOINTs of that number and digest in the log that it stands in
+abbrev pub settled_by : State → Header → Keeping → Keeping
+settled_by state h snapshots = if makes_stable state h then settled (checkpoints h.number h.digest state.log) snapshots else snapshots
+
+abbrev pub ordered : Node → Signed Message → Outcome
+ordered node signed =
+    let done = accepted node.keys node.order signed in
+    record {
+      now = record node { order = done.now; snapshots = settled_by (with_message node.order signed) (header signed) node.snapshots };
+      sent = done.sent;
+    }
+
+-- All kinds ---------------------------------------------------------------------------------------------------------------------
+
+-- why a message is refused, if it is: replicas send no REPLY to one another
+abbrev pub message_refusal : Node → Signed Message → Message → Option NodeError
+message_refusal node signed (Request request) = request_refusal node (request_in signed request)
+message_refusal node signed (PrePrepare proposal) = order_refusal node signed
+message_refusal node signed (Prepare vote) = order_refusal node signed
+message_refusal node signed (Commit vote) = order_refusal node signed
+message_refusal node signed (Checkpoint checkpoint) = order_refusal node signed
+message_refusal node signed (ViewChange change) = Some error.Malformed
+message_refusal node signed (NewView new) = Some error.Malformed
+message_refusal node signed (Reply reply) = Some error.WrongKind
+
+abbrev pub delivery_refusal : Node → Signed Message → Option NodeError
+delivery_refusal node signed = message_refusal node signed signed.message
+
+-- what a message that is not refused does
+abbrev pub message_delivered : Node → Signed Message → Message → Outcome
+message_delivered node signed (Request request) = with_request node (request_in signed request)
+message_delivered node signed (PrePrepare proposal) = ordered node signed
+message_delivered node signed (Prepare vote) = ordered node signed
+message_delivered node signed (Commit vote) = ordered node signed
+message_delivered node signed (Checkpoint checkpoint) = ordered node signed
+message_delivered node signed (ViewChange change) = record { now = node; sent = [] }
+message_delivered node signed (NewView new) = record { now = node; sent = [] }
+message_delivered node signed (Reply reply) = record { now = node; sent = [] }
+
+abbrev pub delivered : Node → Signed Message → Outcome
+delivered node signed = message_delivered node signed signed.message
+
+-- Bytes -------------------------------------------------------------------------------------------------------------------------
+
+-- bytes that spell no message are refused
+abbrev pub bytes_refusal : Node → Option (Signed Message) → Option NodeError
+bytes_refusal node None = Some error.Malformed
+bytes_refusal node (Some signed) = delivery_refusal node signed
+
+abbrev pub bytes_delivered : Node → Option (Signed Message) → Outcome
+bytes_delivered node None = record { now = node; sent = [] }
+bytes_delivered node (Some signed) = delivered node signed

@@ -1,0 +1,4 @@
+-- What contracts of private functions, and the invariant, cite.
+pub mod Bounds
+pub mod Finishing
+pub mod Settling

@@ -1,0 +1,9 @@
+-- What the contracts of bfs_node cite.
+pub mod Errors
+pub mod Nodes
+pub mod Receivers
+pub mod Delivering
+pub mod Proposing
+pub mod Executing
+pub mod Checkpoints
+pub mod Inside

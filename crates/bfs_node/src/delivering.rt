@@ -1,0 +1,151 @@
+// A message comes.
+ghost use Rattle.std.specs.Prelude.{◌≡◌, ◌≢◌, ◌==◌, [], true, false, None, Some, IfOk, IfErr, OnOk, OnErr};
+ghost use Rattle.bfs_checkpoints.specs.Certificates.{IsCertificate};
+ghost use Rattle.bfs_log.specs.Headers.{header};
+ghost use Rattle.bfs_messages.specs.Reading.{message_of};
+ghost use Rattle.bfs_node.specs.Delivering.{bytes_delivered, bytes_refusal, delivered, delivery_refusal, order_refusal, ordered, request_refusal, with_request};
+ghost use Rattle.bfs_node.specs.Inside.Settling.{settled_at};
+ghost use Rattle.bfs_node.specs.declared.error.NodeError.TheVariants as error;
+
+use crate::error::NodeError;
+use crate::node::Node;
+use bfs_checkpoints::certificate_with;
+use bfs_log::header_of;
+use bfs_messages::{Message, Request, Signed, decode, is_request_signed};
+use std::thread::Threads;
+
+impl Node {
+    /// Takes the bytes of a message that came, and gives what is to be sent. `Malformed` where they spell none; else it is refused as `take`
+    /// refuses it. Nothing changes then.
+    pub fn deliver(
+        &mut self,
+        rt: &(impl Threads + Sync),
+        bytes: &[u8],
+    ) -> Result<Vec<Signed<Message>>, NodeError>
+        ensures taken { OnOk result (bytes_refusal self.old (message_of bytes.now) ≡ None) }
+        ensures now { OnOk result (self.new ≡ (bytes_delivered self.old (message_of bytes.now)).now) }
+        ensures sent { IfOk result (λ sent. sent.items ≡ (bytes_delivered self.old (message_of bytes.now)).sent) }
+        ensures refused { IfErr result (λ e. e ≢ error.Memory → bytes_refusal self.old (message_of bytes.now) ≡ Some e) }
+        ensures err { OnErr result (self.new ≡ self.old) }
+    {
+        let signed = decode(self.alloc, bytes)?;
+        self.take(rt, signed)
+    }
+
+    /// Takes a message that came, and gives what is to be sent. A REQUEST waits to be ordered: it is refused where its authenticator is not
+    /// its client's (`BadAuthenticator`) or as many wait as a batch can have (`BatchFull`). A message of the order is refused as
+    /// `Order::on_message` refuses it. A REPLY is for clients (`WrongKind`); VIEW-CHANGE and NEW-VIEW are not taken yet (`Malformed`).
+    /// `Memory` if memory runs out. Nothing changes where it is refused.
+    pub fn take(
+        &mut self,
+        rt: &(impl Threads + Sync),
+        signed: Signed<Message>,
+    ) -> Result<Vec<Signed<Message>>, NodeError>
+        ensures taken { OnOk result (delivery_refusal self.old signed ≡ None) }
+        ensures now { OnOk result (self.new ≡ (delivered self.old signed).now) }
+        ensures sent { IfOk result (λ sent. sent.items ≡ (delivered self.old signed).sent) }
+        ensures refused { IfErr result (λ e. e ≢ error.Memory → delivery_refusal self.old signed ≡ Some e) }
+        ensures err { OnErr result (self.new ≡ self.old) }
+    {
+        let Signed { message, auth } = signed;
+        match message {
+            Message::Request(request) => self.take_request(Signed {
+                message: request,
+                auth,
+            }),
+            Message::PrePrepare(proposal) => self.take_vote(
+                rt,
+                Signed {
+                    message: Message::PrePrepare(proposal),
+                    auth,
+                },
+            ),
+            Message::Prepare(vote) => self.take_vote(
+                rt,
+                Signed {
+                    message: Message::Prepare(vote),
+                    auth,
+                },
+            ),
+            Message::Commit(vote) => self.take_vote(
+                rt,
+                Signed {
+                    message: Message::Commit(vote),
+                    auth,
+                },
+            ),
+            Message::Checkpoint(checkpoint) => self.take_checkpoint(
+                rt,
+                Signed {
+                    message: Message::Checkpoint(checkpoint),
+                    auth,
+                },
+            ),
+            Message::ViewChange(_) | Message::NewView(_) => Err(NodeError::Malformed),
+            Message::Reply(_) => Err(NodeError::WrongKind),
+        }
+    }
+
+    fn take_request(&mut self, request: Signed<Request>) -> Result<Vec<Signed<Message>>, NodeError>
+        ensures taken { OnOk result (request_refusal self.old request ≡ None) }
+        ensures now { OnOk result (self.new ≡ (with_request self.old request).now) }
+        ensures sent { IfOk result (λ sent. sent.items ≡ []) }
+        ensures refused { IfErr result (λ e. e ≢ error.Memory → request_refusal self.old request ≡ Some e) }
+        ensures err { OnErr result (self.new ≡ self.old) }
+    {
+        if !is_request_signed(&self.keys, &request) {
+            return Err(NodeError::BadAuthenticator);
+        }
+        if self.pending.is_full() {
+            return Err(NodeError::BatchFull);
+        }
+        self.pending.push(request)?;
+        Ok(Vec::new(self.alloc))
+    }
+
+    // no CHECKPOINT
+    fn take_vote(
+        &mut self,
+        rt: &(impl Threads + Sync),
+        signed: Signed<Message>,
+    ) -> Result<Vec<Signed<Message>>, NodeError>
+        requires { ((header signed).tag == 5) ≡ false }
+        ensures taken { OnOk result (order_refusal self.old signed ≡ None) }
+        ensures now { OnOk result (self.new ≡ (ordered self.old signed).now) }
+        ensures sent { IfOk result (λ sent. sent.items ≡ (ordered self.old signed).sent) }
+        ensures refused { IfErr result (λ e. e ≢ error.Memory → order_refusal self.old signed ≡ Some e) }
+        ensures err { OnErr result (self.new ≡ self.old) }
+    {
+        Ok(self.order.on_message(rt, &self.keys, signed)?)
+    }
+
+    // The CHECKPOINTs that may make its number stable are copied before it is taken, so that nothing is refused afterwards.
+    fn take_checkpoint(
+        &mut self,
+        rt: &(impl Threads + Sync),
+        signed: Signed<Message>,
+    ) -> Result<Vec<Signed<Message>>, NodeError>
+        requires { ((header signed).tag == 5) ≡ true }
+        ensures taken { OnOk result (order_refusal self.old signed ≡ None) }
+        ensures now { OnOk result (self.new ≡ (ordered self.old signed).now) }
+        ensures sent { IfOk result (λ sent. sent.items ≡ (ordered self.old signed).sent) }
+        ensures refused { IfErr result (λ e. e ≢ error.Memory → order_refusal self.old signed ≡ Some e) }
+        ensures err { OnErr result (self.new ≡ self.old) }
+    {
+        let number = header_of(&signed.message).number;
+        let certificate = certificate_with(self.alloc, self.order.log(), &signed)?;
+        let sent = self.order.on_message(rt, &self.keys, signed)?;
+        self.settle_at(number, certificate);
+        Ok(sent)
+    }
+
+    /// Settles the snapshots by the CHECKPOINTs of a number, where the low mark is at it. It takes no memory.
+    pub(crate) fn settle_at(&mut self, number: u64, certificate: Vec<Signed<Message>>)
+        requires { self.old.order.low ≡ number → IsCertificate self.old.order.f certificate.items }
+        ensures { self.new ≡ settled_at self.old number certificate.items }
+    {
+        if self.order.low() == number {
+            self.snapshots.settle(certificate);
+        }
+    }
+}

@@ -1,0 +1,133 @@
+ghost use Rattle.std.specs.Prelude.{◌≡◌};
+ghost use Rattle.bfs_node.specs.Errors.{code_of, of_decoding, of_executing, of_order};
+
+use bfs_messages::DecodeError;
+use bfs_order::OrderError;
+use bfs_serial::ExecError;
+use bfs_types::Memory;
+use std::alloc::AllocError;
+use thiserror::Error;
+
+/// Why a replica refuses a message or a call. Nothing has changed then, but that a file system fails where memory runs out while it is
+/// executed on.
+#[derive(Clone, Copy, Debug, PartialEq, Eq, Error)]
+pub enum NodeError {
+    /// There are as many requests waiting as a batch can have.
+    #[error("as many requests wait as a batch can have")]
+    BatchFull,
+    /// The bytes spell no message of a kind that is taken.
+    #[error("the bytes spell no message")]
+    Malformed,
+    /// The authenticator of the message, or of a request in its batch, is not the sender's, or there is no such sender.
+    #[error("the authenticator is not the sender's")]
+    BadAuthenticator,
+    /// The message is of another view than the one entered, or a view change is under way.
+    #[error("the view is another one")]
+    WrongView,
+    /// The number is not between the marks, or no multiple of 16 where it is that of a checkpoint.
+    #[error("the number is outside the marks")]
+    OutsideMarks,
+    /// The sender has told another digest for the place, or sends a PREPARE as the primary.
+    #[error("the message conflicts with another one")]
+    Conflicting,
+    /// A PRE-PREPARE or a proposal is not the primary's.
+    #[error("the sender is not the primary")]
+    NotPrimary,
+    /// The message is there, or the checkpoint was told.
+    #[error("the message is there already")]
+    AlreadyHave,
+    /// The messages are no certificate of a checkpoint.
+    #[error("the checkpoint has no certificate")]
+    NoCertificate,
+    /// The message is a REPLY, which is for clients.
+    #[error("the message is not one for replicas")]
+    WrongKind,
+    /// Memory ran out.
+    #[error("out of memory")]
+    Memory,
+    /// The file system has failed.
+    #[error("the file system has failed")]
+    Failed,
+}
+
+impl NodeError {
+    /// The number of the refusal.
+    pub fn code(self) -> u32
+        ensures { result ≡ code_of self }
+    {
+        match self {
+            NodeError::BatchFull => 13,
+            NodeError::Malformed => 23,
+            NodeError::BadAuthenticator => 24,
+            NodeError::WrongView => 25,
+            NodeError::OutsideMarks => 26,
+            NodeError::Conflicting => 27,
+            NodeError::NotPrimary => 28,
+            NodeError::AlreadyHave => 29,
+            NodeError::NoCertificate => 34,
+            NodeError::WrongKind => 36,
+            NodeError::Memory => 40,
+            NodeError::Failed => 41,
+        }
+    }
+}
+
+impl From<OrderError> for NodeError {
+    ghost from_gives = { λ error given. given ≡ of_order error };
+
+    fn from(error: OrderError) -> NodeError {
+        match error {
+            OrderError::WrongKind => NodeError::WrongKind,
+            OrderError::BadAuthenticator => NodeError::BadAuthenticator,
+            OrderError::WrongView => NodeError::WrongView,
+            OrderError::OutsideMarks => NodeError::OutsideMarks,
+            OrderError::NotPrimary => NodeError::NotPrimary,
+            OrderError::Conflicting => NodeError::Conflicting,
+            OrderError::AlreadyHave => NodeError::AlreadyHave,
+            OrderError::NoCertificate => NodeError::NoCertificate,
+            OrderError::Memory => NodeError::Memory,
+        }
+    }
+}
+
+impl From<DecodeError> for NodeError {
+    ghost from_gives = { λ error given. given ≡ of_decoding error };
+
+    fn from(error: DecodeError) -> NodeError {
+        match error {
+            DecodeError::Malformed => NodeError::Malformed,
+            DecodeError::Memory => NodeError::Memory,
+        }
+    }
+}
+
+impl From<ExecError> for NodeError {
+    ghost from_gives = { λ error given. given ≡ of_executing error };
+
+    fn from(error: ExecError) -> NodeError {
+        match error {
+            ExecError::Failed => NodeError::Failed,
+            ExecError::Memory => NodeError::Memory,
+        }
+    }
+}
+
+impl From<Memory> for NodeError {
+    ghost use Rattle.bfs_node.specs.declared.error.NodeError.TheVariants as errors;
+
+    ghost from_gives = { λ _ given. given ≡ errors.Memory };
+
+    fn from(_error: Memory) -> NodeError {
+        NodeError::Memory
+    }
+}
+
+impl From<AllocError> for NodeError {
+    ghost use Rattle.bfs_node.specs.declared.error.NodeError.TheVariants as errors;
+
+    ghost from_gives = { λ _ given. given ≡ errors.Memory };
+
+    fn from(_error: AllocError) -> NodeError {
+        NodeError::Memory
+    }
+}

@@ -1,0 +1,17 @@
+//! One replica of the file service: its order of batches, its file system, the last replies to clients, and its checkpoints (OSDI 1999
+//! section 4).
+#![tactic(auto)]
+
+mod checkpoints;
+mod delivering;
+mod error;
+mod executing;
+mod node;
+mod proposing;
+mod receivers;
+mod replying;
+
+pub use bfs_outcome::{Engine, Executor, Gate, MOST_WORKERS, NoGate, Workers};
+pub use error::NodeError;
+pub use node::Node;
+pub use receivers::{Receivers, receivers_of};
