@@ -10,6 +10,7 @@ use crate::order::Order;
 use bfs_auth::Keys;
 use bfs_log::Slot;
 use bfs_messages::{Checkpoint, Message, Signed, sign};
+use bfs_types::MOST_NUMBER;
 
 impl Order {
     /// Raises the low mark, and drops what stands up to it, where enough replicas tell that a checkpoint is stable.
@@ -35,7 +36,7 @@ impl Order {
     pub fn checkpoint_refusal(&self, number: u64) -> Option<OrderError>
         ensures { result ≡ checkpoint_refusal self.now number }
     {
-        if !(self.is_between(number) && number < 1 << 63) {
+        if !(self.is_between(number) && number <= MOST_NUMBER) {
             return Some(OrderError::OutsideMarks);
         }
         let slot = Slot {

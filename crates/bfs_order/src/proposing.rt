@@ -12,11 +12,8 @@ use crate::order::Order;
 use crate::refusals::WINDOW;
 use bfs_auth::Keys;
 use bfs_messages::{Message, OrderedBatch, PrePrepare, Signed, Vote, sign};
-use bfs_types::Memory;
+use bfs_types::{MOST_NUMBER, Memory};
 use std::sync::Arc;
-
-// The greatest number that a message can have.
-const LAST_NUMBER: u64 = 0x7fff_ffff_ffff_ffff;
 
 impl Order {
     fn greatest_taken(&self) -> u64
@@ -42,7 +39,7 @@ impl Order {
             return Some(OrderError::NotPrimary);
         }
         let greatest = self.greatest_taken();
-        if greatest < self.low + WINDOW && greatest < LAST_NUMBER {
+        if greatest < self.low + WINDOW && greatest < MOST_NUMBER {
             None
         } else {
             Some(OrderError::OutsideMarks)

@@ -10,7 +10,7 @@ use crate::order::Order;
 use bfs_auth::Keys;
 use bfs_log::{Header, header_of};
 use bfs_messages::{Message, Signed};
-use bfs_types::Memory;
+use bfs_types::{MOST_NUMBER, Memory};
 
 fn greatest_of(handed: &[Signed<Message>]) -> u64
     ensures value { result ≡ greatest_number handed.now }
@@ -41,7 +41,7 @@ impl Order {
         ensures refused { IfErr result (λ e. leaving_refusal self.old view ≡ Some e) }
         ensures err { OnErr result (self.new ≡ self.old) }
     {
-        if !(self.view.max(self.asked) < view && view < 1 << 63) {
+        if !(self.view.max(self.asked) < view && view <= MOST_NUMBER) {
             return Err(OrderError::WrongView);
         }
         self.asked = view;
@@ -82,7 +82,7 @@ impl Order {
     fn entering_refusal(&self, view: u64) -> Option<OrderError>
         ensures { result ≡ entering_refusal self.now view }
     {
-        if self.view < view && (self.asked <= view && view < 1 << 63) {
+        if self.view < view && (self.asked <= view && view <= MOST_NUMBER) {
             None
         } else {
             Some(OrderError::WrongView)
