@@ -1,5 +1,5 @@
 // The primary proposes a batch.
-ghost use Rattle.std.specs.Prelude.{◌≡◌, ◌≢◌, ◌<◌, false, None, Some, IfOk, IfErr, OnOk, OnErr};
+ghost use Rattle.std.specs.Prelude.{◌≡◌, ◌≢◌, ◌<◌, false, None, Some, IfSome, IfOk, IfErr, OnOk, OnErr};
 ghost use Rattle.std.specs.Arc.{arc_value};
 ghost use Rattle.bfs_log.specs.Headers.{header};
 ghost use Rattle.bfs_order.specs.Replica.Proposing.{greatest_taken, leads, lone_commits, own_proposal, proposal, proposal_refusal, proposed};
@@ -33,7 +33,8 @@ impl Order {
     /// the primary of the view and no view change is under way; then `OutsideMarks` where the next number is above the high mark, or not
     /// below 2^63. It takes no memory.
     pub fn proposal_refusal(&self) -> Option<OrderError>
-        ensures { result ≡ proposal_refusal self.now }
+        ensures value { result ≡ proposal_refusal self.now }
+        ensures one { IfSome result (λ e. e ≢ error.Memory) }
     {
         if !self.leads() {
             return Some(OrderError::NotPrimary);
@@ -65,6 +66,7 @@ impl Order {
         ensures now { OnOk result (self.new ≡ (proposed keys.now self.old (arc_value batch)).now) }
         ensures sent { IfOk result (λ sent. sent ≡ proposal keys.now self.old (arc_value batch)) }
         ensures refused { IfErr result (λ e. e ≢ error.Memory → proposal_refusal self.old ≡ Some e) }
+        ensures memory { IfErr result (λ e. e ≡ error.Memory → proposal_refusal self.old ≡ None) }
         ensures err { OnErr result (self.new ≡ self.old) }
     {
         if let Some(error) = self.proposal_refusal() {
