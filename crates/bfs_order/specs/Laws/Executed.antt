@@ -12,7 +12,7 @@ use Rattle.bfs_order.specs.Replica.Executing.{executed, next_committed}
 use Rattle.bfs_order.specs.Replica.States.{State, known}
 
 -- it is the PRE-PREPARE of that batch by the primary of the view entered
-pub record Proposes (s : State) (next : Committed) (m : Signed Message) : Type 0 where
+pub record IsProposalOf (s : State) (next : Committed) (m : Signed Message) : Type 0 where
   pub tag : (header m).tag ≡ 2
   pub sender : (header m).sender ≡ primary s.f s.view
   pub view : (header m).view ≡ s.view
@@ -25,7 +25,7 @@ pub record HasItsCertificate (s : State) (next : Committed) : Type 0 where
   pub follows : next.number ≡ s.last + 1
   pub proposal : Signed Message
   pub in_log : Contains s.log proposal
-  pub proposes : Proposes s next proposal
+  pub proposes : IsProposalOf s next proposal
   pub prepares : 2 * s.f ≤ backups s.f (known s) s.view next.number (header proposal).digest
   pub commits : 2 * s.f + 1 ≤ tellers s.f (known s) 4 s.view next.number (header proposal).digest
   pub own : Told (known s) 4 s.me s.view next.number (header proposal).digest
