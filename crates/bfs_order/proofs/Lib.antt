@@ -6,6 +6,7 @@ mod KeptLogs
 mod Certificates
 mod Copies
 mod Entering
+mod Executed
 mod Fronts
 mod Next
 mod Proposals

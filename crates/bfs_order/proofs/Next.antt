@@ -3,7 +3,6 @@ use Rattle.std.proofs.Common.{◌≡◌, ◌+◌, Bool, true, false, cond, List,
 use Rattle.std.specs.Prelude.{Option, Some, None, option_and_then, unwrap_or}
 use Rattle.std.specs.Option.{option_map}
 use Rattle.bfs_agreement.specs.Votes.{committed, primary}
-use Rattle.bfs_log.specs.Batches.{Committed}
 use Rattle.bfs_log.specs.Digests.{digest_in}
 use Rattle.bfs_log.specs.Headers.{header}
 use Rattle.bfs_log.specs.Logs.{batch_in, proposal_in}

@@ -1,5 +1,5 @@
 -- The next number of a view has no PRE-PREPARE.
-use Rattle.std.proofs.Common.{◌≡◌, ℕ, ◌+◌, ◌<◌, Bool, true, false, ◌&&◌, ◌||◌, cond, eqb, max, List, [], ◌∷◌, refl, ap, subst, sym, arith}
+use Rattle.std.proofs.Common.{◌≡◌, ℕ, ◌<◌, Bool, true, false, ◌&&◌, ◌||◌, cond, eqb, max, List, [], ◌∷◌, refl, subst, sym, arith}
 use Rattle.std.specs.Prelude.{◌==◌}
 use Rattle.std.proofs.lemmas.Bool.{ne_eqb}
 use Rattle.bfs_auth.specs.Keys.{Keys}
@@ -9,7 +9,7 @@ use Rattle.bfs_log.specs.Logs.{greatest_proposed}
 use Rattle.bfs_messages.specs.Messages.{Batch}
 use Rattle.bfs_messages.specs.declared.signed.Signed.{Signed}
 use Rattle.bfs_messages.specs.declared.message.Message.{Message}
-use Rattle.bfs_order.specs.Replica.Proposing.{greatest_taken, next_number, proposal}
+use Rattle.bfs_order.specs.Replica.Proposing.{next_number, proposal}
 use Rattle.bfs_order.specs.Replica.Refusals.{is_there}
 use Rattle.bfs_order.specs.Replica.States.{State, known}
 

@@ -3,3 +3,4 @@ pub mod Calls
 pub mod Logs
 pub mod Clean
 pub mod Sent
+pub mod Executed

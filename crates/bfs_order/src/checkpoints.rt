@@ -1,5 +1,5 @@
 // When a checkpoint is stable, and its own checkpoints.
-ghost use Rattle.std.specs.Prelude.{◌≡◌, ◌≢◌, None, Some, IfOk, IfErr, OnOk, OnErr};
+ghost use Rattle.std.specs.Prelude.{◌≡◌, ◌≢◌, None, Some, IfSome, IfOk, IfErr, OnOk, OnErr};
 ghost use Rattle.bfs_order.specs.Inside.Asking.{asked_settled};
 ghost use Rattle.bfs_order.specs.Replica.Checkpoints.{checkpoint, checkpoint_refusal, checkpointed};
 ghost use Rattle.bfs_order.specs.declared.error.OrderError.TheVariants as error;
@@ -10,6 +10,7 @@ use crate::order::Order;
 use bfs_auth::Keys;
 use bfs_log::Slot;
 use bfs_messages::{Checkpoint, Message, Signed, sign};
+use bfs_types::MOST_NUMBER;
 
 impl Order {
     /// Raises the low mark, and drops what stands up to it, where enough replicas tell that a checkpoint is stable.
@@ -33,9 +34,10 @@ impl Order {
     /// unless the number is above the low mark, not above the high one, and below 2^63; then `AlreadyHave` where the replica has told that
     /// checkpoint. It takes no memory.
     pub fn checkpoint_refusal(&self, number: u64) -> Option<OrderError>
-        ensures { result ≡ checkpoint_refusal self.now number }
+        ensures value { result ≡ checkpoint_refusal self.now number }
+        ensures one { IfSome result (λ e. e ≢ error.Memory) }
     {
-        if !(self.is_between(number) && number < 1 << 63) {
+        if !(self.is_between(number) && number <= MOST_NUMBER) {
             return Some(OrderError::OutsideMarks);
         }
         let slot = Slot {
@@ -63,6 +65,7 @@ impl Order {
         ensures now { OnOk result (self.new ≡ (checkpointed keys.now self.old number digest).now) }
         ensures sent { IfOk result (λ sent. sent ≡ checkpoint keys.now self.old number digest) }
         ensures refused { IfErr result (λ e. e ≢ error.Memory → checkpoint_refusal self.old number ≡ Some e) }
+        ensures memory { IfErr result (λ e. e ≡ error.Memory → checkpoint_refusal self.old number ≡ None) }
         ensures err { OnErr result (self.new ≡ self.old) }
     {
         if let Some(error) = self.checkpoint_refusal(number) {

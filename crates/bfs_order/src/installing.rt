@@ -1,5 +1,5 @@
 // The certificate of a checkpoint is installed.
-ghost use Rattle.std.specs.Prelude.{◌≡◌, ◌≢◌, ◌<◌, ◌≤◌, ◌+◌, ◌==◌, ◌^◌, ◌&&◌, not, true, length, drop, All, None, Some, IfOk, IfErr, IfNone, OnOk, OnErr};
+ghost use Rattle.std.specs.Prelude.{◌≡◌, ◌≢◌, ◌<◌, ◌≤◌, ◌+◌, ◌==◌, ◌^◌, ◌&&◌, not, true, length, drop, All, None, Some, IfNone, IfSome, IfOk, IfErr, OnOk, OnErr};
 ghost use Rattle.std.specs.List.{list_all};
 ghost use Rattle.bfs_model.specs.Server.Limits.{most_replicas};
 ghost use Rattle.bfs_agreement.specs.Votes.{SlotsDiffer};
@@ -167,6 +167,7 @@ impl Order {
     fn install_refusal(&self, keys: &Keys, certificate: &[Signed<Message>]) -> Option<OrderError>
         ensures value { result ≡ install_refusal keys.now self.now certificate.now }
         ensures senders { IfNone result (are_from_few certificate.now ≡ true) }
+        ensures one { IfSome result (λ e. e ≢ error.Memory) }
     {
         if !is_certificate_of(keys, self.f, certificate) {
             return Some(OrderError::NoCertificate);
@@ -189,6 +190,7 @@ impl Order {
         ensures taken { OnOk result (install_refusal keys.now self.old certificate.now ≡ None) }
         ensures now { OnOk result (self.new ≡ (installed self.old certificate.now).now) }
         ensures refused { IfErr result (λ e. e ≢ error.Memory → install_refusal keys.now self.old certificate.now ≡ Some e) }
+        ensures memory { IfErr result (λ e. e ≡ error.Memory → install_refusal keys.now self.old certificate.now ≡ None) }
         ensures err { OnErr result (self.new ≡ self.old) }
     {
         if let Some(error) = self.install_refusal(keys, certificate) {

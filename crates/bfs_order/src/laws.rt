@@ -1,6 +1,7 @@
 // What holds of a replica after any calls. The bodies do nothing: what is said is the contracts.
 ghost use Rattle.bfs_order.specs.Laws.Calls.{CallsKeepTheReplica, IsAlways, IsKept};
 ghost use Rattle.bfs_order.specs.Laws.Clean.{LogsAreClean, ProperCallsKeepLogsClean};
+ghost use Rattle.bfs_order.specs.Laws.Executed.{NextHasItsCertificate, OnlyTheNextIsExecuted};
 ghost use Rattle.bfs_order.specs.Laws.Logs.{HasCertificate, HasDistinctSlots, HasNoLaterView, IsWindowed};
 ghost use Rattle.bfs_order.specs.Laws.Sent.{KeepsWhatItSaid, SaysOneDigest, SpeaksForItself};
 
@@ -50,4 +51,11 @@ pub fn what_is_sent_says_one_digest()
     ensures own { SpeaksForItself }
     ensures one { SaysOneDigest }
     ensures kept { KeepsWhatItSaid }
+{}
+
+/// What a replica executes is committed: the PRE-PREPARE with that batch stands in its log, and so do the PREPAREs of 2f backups and the
+/// COMMITs of 2f + 1 replicas, its own among them, that tell its digest in the view entered.
+pub fn what_is_executed_has_its_certificate()
+    ensures next { NextHasItsCertificate }
+    ensures executed { OnlyTheNextIsExecuted }
 {}

@@ -133,6 +133,7 @@ impl Order {
         ensures now { OnOk result (self.new ≡ (accepted keys.now self.old signed).now) }
         ensures sent { IfOk result (λ sent. sent.items ≡ (accepted keys.now self.old signed).sent) }
         ensures refused { IfErr result (λ e. e ≢ error.Memory → refusal keys.now self.old signed ≡ Some e) }
+        ensures memory { IfErr result (λ e. e ≡ error.Memory → refusal keys.now self.old signed ≡ None) }
         ensures err { OnErr result (self.new ≡ self.old) }
     {
         if let Some(error) = self.refusal(rt, keys, &signed) {

@@ -1,5 +1,5 @@
 // The primary proposes a batch.
-ghost use Rattle.std.specs.Prelude.{◌≡◌, ◌≢◌, ◌<◌, false, None, Some, IfOk, IfErr, OnOk, OnErr};
+ghost use Rattle.std.specs.Prelude.{◌≡◌, ◌≢◌, ◌<◌, false, None, Some, IfSome, IfOk, IfErr, OnOk, OnErr};
 ghost use Rattle.std.specs.Arc.{arc_value};
 ghost use Rattle.bfs_log.specs.Headers.{header};
 ghost use Rattle.bfs_order.specs.Replica.Proposing.{greatest_taken, leads, lone_commits, own_proposal, proposal, proposal_refusal, proposed};
@@ -12,11 +12,8 @@ use crate::order::Order;
 use crate::refusals::WINDOW;
 use bfs_auth::Keys;
 use bfs_messages::{Message, OrderedBatch, PrePrepare, Signed, Vote, sign};
-use bfs_types::Memory;
+use bfs_types::{MOST_NUMBER, Memory};
 use std::sync::Arc;
-
-// The greatest number that a message can have.
-const LAST_NUMBER: u64 = 0x7fff_ffff_ffff_ffff;
 
 impl Order {
     fn greatest_taken(&self) -> u64
@@ -36,13 +33,14 @@ impl Order {
     /// the primary of the view and no view change is under way; then `OutsideMarks` where the next number is above the high mark, or not
     /// below 2^63. It takes no memory.
     pub fn proposal_refusal(&self) -> Option<OrderError>
-        ensures { result ≡ proposal_refusal self.now }
+        ensures value { result ≡ proposal_refusal self.now }
+        ensures one { IfSome result (λ e. e ≢ error.Memory) }
     {
         if !self.leads() {
             return Some(OrderError::NotPrimary);
         }
         let greatest = self.greatest_taken();
-        if greatest < self.low + WINDOW && greatest < LAST_NUMBER {
+        if greatest < self.low + WINDOW && greatest < MOST_NUMBER {
             None
         } else {
             Some(OrderError::OutsideMarks)
@@ -68,6 +66,7 @@ impl Order {
         ensures now { OnOk result (self.new ≡ (proposed keys.now self.old (arc_value batch)).now) }
         ensures sent { IfOk result (λ sent. sent ≡ proposal keys.now self.old (arc_value batch)) }
         ensures refused { IfErr result (λ e. e ≢ error.Memory → proposal_refusal self.old ≡ Some e) }
+        ensures memory { IfErr result (λ e. e ≡ error.Memory → proposal_refusal self.old ≡ None) }
         ensures err { OnErr result (self.new ≡ self.old) }
     {
         if let Some(error) = self.proposal_refusal() {

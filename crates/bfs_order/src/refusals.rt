@@ -1,8 +1,9 @@
 // Why a message is not taken.
-ghost use Rattle.std.specs.Prelude.{◌≡◌, ◌<◌, ◌==◌, ◌&&◌, not, true, false, IfNone};
+ghost use Rattle.std.specs.Prelude.{◌≡◌, ◌≢◌, ◌<◌, ◌==◌, ◌&&◌, not, true, false, IfNone, IfSome};
 ghost use Rattle.bfs_log.specs.Headers.{header};
 ghost use Rattle.bfs_agreement.specs.Votes.{primary};
 ghost use Rattle.bfs_order.specs.Replica.Refusals.{conflicts, is_authentic, is_between, is_inside, is_of_view, is_ordering, is_there, place_refusal, refusal};
+ghost use Rattle.bfs_order.specs.declared.error.OrderError.TheVariants as error;
 
 use crate::error::OrderError;
 use crate::order::Order;
@@ -78,6 +79,7 @@ impl Order {
         ensures value { result ≡ place_refusal self.now header.now }
         ensures free { IfNone result (is_there self.now header.now ≡ false) }
         ensures leader { IfNone result (header.now.tag ≡ 2 → header.now.sender < 31) }
+        ensures one { IfSome result (λ e. e ≢ error.Memory) }
     {
         if !self.is_of_view(header) {
             return Some(OrderError::WrongView);
@@ -121,6 +123,7 @@ impl Order {
         ensures value { result ≡ refusal keys.now self.now signed.now }
         ensures free { IfNone result (is_there self.now (header signed.now) ≡ false) }
         ensures sender { IfNone result ((header signed.now).sender < 31) }
+        ensures one { IfSome result (λ e. e ≢ error.Memory) }
     {
         let header = header_of(&signed.message);
         if !is_ordering(&header) {

@@ -1,5 +1,5 @@
 // A view is left for a later one, and entered.
-ghost use Rattle.std.specs.Prelude.{◌≡◌, ◌≢◌, ◌<◌, ◌^◌, false, length, take, reverse, None, Some, IfNone, IfOk, IfErr, OnOk, OnErr};
+ghost use Rattle.std.specs.Prelude.{◌≡◌, ◌≢◌, ◌<◌, ◌^◌, false, length, take, reverse, None, Some, IfNone, IfSome, IfOk, IfErr, OnOk, OnErr};
 ghost use Rattle.bfs_order.specs.Inside.Growing.{Grown};
 ghost use Rattle.bfs_order.specs.Replica.Refusals.{is_there};
 ghost use Rattle.bfs_order.specs.Replica.Views.{all_taken_over, entered, entering_refusal, greatest_number, handed_refusal, left, leaving_refusal, taken_over};
@@ -10,7 +10,7 @@ use crate::order::Order;
 use bfs_auth::Keys;
 use bfs_log::{Header, header_of};
 use bfs_messages::{Message, Signed};
-use bfs_types::Memory;
+use bfs_types::{MOST_NUMBER, Memory};
 
 fn greatest_of(handed: &[Signed<Message>]) -> u64
     ensures value { result ≡ greatest_number handed.now }
@@ -41,7 +41,7 @@ impl Order {
         ensures refused { IfErr result (λ e. leaving_refusal self.old view ≡ Some e) }
         ensures err { OnErr result (self.new ≡ self.old) }
     {
-        if !(self.view.max(self.asked) < view && view < 1 << 63) {
+        if !(self.view.max(self.asked) < view && view <= MOST_NUMBER) {
             return Err(OrderError::WrongView);
         }
         self.asked = view;
@@ -63,6 +63,7 @@ impl Order {
         ensures now { OnOk result (self.new ≡ (entered keys.now self.old view min_s handed.items).now) }
         ensures sent { IfOk result (λ sent. sent.items ≡ (entered keys.now self.old view min_s handed.items).sent) }
         ensures refused { IfErr result (λ e. e ≢ error.Memory → entering_refusal self.old view ≡ Some e) }
+        ensures memory { IfErr result (λ e. e ≡ error.Memory → entering_refusal self.old view ≡ None) }
         ensures err { OnErr result (self.new ≡ self.old) }
     {
         if let Some(error) = self.entering_refusal(view) {
@@ -80,9 +81,10 @@ impl Order {
     }
 
     fn entering_refusal(&self, view: u64) -> Option<OrderError>
-        ensures { result ≡ entering_refusal self.now view }
+        ensures value { result ≡ entering_refusal self.now view }
+        ensures one { IfSome result (λ e. e ≢ error.Memory) }
     {
-        if self.view < view && (self.asked <= view && view < 1 << 63) {
+        if self.view < view && (self.asked <= view && view <= MOST_NUMBER) {
             None
         } else {
             Some(OrderError::WrongView)

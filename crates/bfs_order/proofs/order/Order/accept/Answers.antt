@@ -1,4 +1,4 @@
-use Rattle.std.proofs.Common.{◌≡◌, ◌∙◌}
+use Rattle.std.proofs.Common.{◌∙◌}
 use Rattle.bfs_order.proofs.Taking.{now_is}
 use Rattle.bfs_order.proofs.order.Order.accept.Goals as goal
 

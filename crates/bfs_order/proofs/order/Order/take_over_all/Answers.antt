@@ -1,4 +1,4 @@
-use Rattle.std.proofs.Common.{◌≡◌, Result, Ok, Err}
+use Rattle.std.proofs.Common.{Result, Ok, Err}
 use Rattle.std.specs.Prelude.{OnErr}
 use Rattle.bfs_order.specs.Replica.Views.{all_taken_over}
 use Rattle.bfs_order.proofs.Entering.{over_step, grown_step}
