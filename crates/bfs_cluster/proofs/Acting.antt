@@ -1,0 +1,97 @@
+-- What a replica does is what becomes of the world.
+use Rattle.std.proofs.Common.{◌≡◌, ◌∙◌, ℕ, ◌<◌, ◌+◌, List, [], ◌∷◌, length, get_or, Option, Some, None, true, refl, sym, ap, subst}
+use Rattle.std.specs.List.{fold, range_with_len, slice_get, slice_set}
+use Rattle.std.proofs.lemmas.Bool.{lt-ltb}
+use Rattle.std.proofs.lemmas.List.{length-set, set-get_or}
+use Rattle.std.proofs.lemmas.Option.{get_or_from_slice_get, slice_get-get_or}
+use Rattle.bfs_log.specs.Logs.{Log}
+use Rattle.bfs_model.specs.Bytes.Call.{◌>>=◌}
+use Rattle.bfs_messages.specs.declared.message.Message.{Message}
+use Rattle.bfs_messages.specs.declared.signed.Signed.{Signed}
+use Rattle.bfs_node.specs.Nodes.{Node, Outcome}
+use Rattle.bfs_node.specs.Receivers.{receivers_of}
+use Rattle.bfs_node.specs.declared.receivers.Receivers.{Receivers}
+use Rattle.bfs_node.specs.declared.receivers.Receivers.TheVariants.{Replicas, Client}
+use Rattle.bfs_cluster.proofs.Each.{one_more}
+use Rattle.bfs_cluster.specs.Inside.Acts.{Acts, doing, posted_if}
+use Rattle.bfs_cluster.specs.Steps.{executing, turning, turn_taken}
+use Rattle.bfs_cluster.specs.World.{Replica, World, done_if, node_at, node_if_heard, posted, posted_to, with_node}
+
+-- the world with a replica as a call left it
+abbrev pub with_replica : World → (number : ℕ) → Replica → World
+with_replica world number replica = record world { replicas = slice_set world.replicas number replica }
+
+with_itself : (world : World) (number : ℕ) (replica : Replica) → slice_get world.replicas number ≡ Some replica → with_replica world number replica ≡ world
+with_itself world number replica is =
+    ap (λ (replicas : List Replica). record world { replicas = replicas })
+    (ap (slice_set world.replicas number) (sym (get_or_from_slice_get world.replicas number replica replica is)) ∙ set-get_or world.replicas number replica)
+
+pub acted : (world : World) (number : ℕ) (old new : Replica) (done : Option Outcome) (sent : Option Log) → slice_get world.replicas number ≡ Some old
+    → Acts done old new sent → posted_if number (with_replica world number new) sent ≡ done_if number world done
+acted world number old new None sent is did =
+    ap (posted_if number (with_replica world number new)) did.1 ∙ ap (with_replica world number) did.0 ∙ with_itself world number old is
+acted world number old new (Some done) sent is did =
+    ap (posted_if number (with_replica world number new)) did.1 ∙ ap (λ (replica : Replica). posted_if number (with_replica world number replica) (Some done.sent)) did.0
+
+at_number : (act : Node → Option Outcome) (world : World) (number : ℕ) (old : Replica) → slice_get world.replicas number ≡ Some old
+    → (node_at world number >>= act) ≡ doing act old
+at_number act world number old is = ap (λ (replica : Option Replica). node_if_heard replica >>= act) is
+
+in_turn : (world : World) (number : ℕ) → number < length world.replicas → turning world number ≡ turn_taken world number (node_at world number >>= executing)
+in_turn world number within = rw (lt-ltb number (length world.replicas) within) refl
+
+-- the replica that stands at a number
+pub stands : (replicas : List Replica) (number : ℕ) (replica : Replica) → number < length replicas → replica ≡ get_or replicas number replica
+    → slice_get replicas number ≡ Some replica
+stands replicas number replica within is = slice_get-get_or replicas number replica within ∙ ap (λ (r : Replica). Some r) (sym is)
+
+-- the same of what the replica of that number does, if it is heard
+pub acted_at : (act : Node → Option Outcome) (world : World) (number : ℕ) (old new : Replica) (sent : Option Log)
+    → slice_get world.replicas number ≡ Some old → Acts (doing act old) old new sent
+    → posted_if number (with_replica world number new) sent ≡ done_if number world (node_at world number >>= act)
+acted_at act world number old new sent is did =
+    acted world number old new (doing act old) sent is did ∙ ap (done_if number world) (sym (at_number act world number old is))
+
+-- At its turn ------------------------------------------------------------------------------------------------------------
+
+pub turn_passes : (world : World) (number : ℕ) (old new : Replica) (given : Option Log) → number < length world.replicas
+    → slice_get world.replicas number ≡ Some old → given ≡ None → Acts (doing executing old) old new given
+    → record (with_replica world number new) { turn = Some (number + 1) } ≡ turning world number
+turn_passes world number old new given within is gives did =
+    subst (λ (done : Option Outcome). record (with_replica world number new) { turn = Some (number + 1) } ≡ turn_taken world number done) (sym (at_number executing world number old is))
+    (go (doing executing old) (subst (λ (given : Option Log). Acts (doing executing old) old new given) gives did))
+    ∙ sym (in_turn world number within)
+  where
+    go : (done : Option Outcome) → Acts done old new None → record (with_replica world number new) { turn = Some (number + 1) } ≡ turn_taken world number done
+    go (Some done) did = absurd (let never : None ≡ Some done.sent = did.1 in cc)
+    go None did =
+        ap (λ (replica : Replica). record (with_replica world number replica) { turn = Some (number + 1) }) did.0
+        ∙ ap (λ (w : World). record w { turn = Some (number + 1) }) (with_itself world number old is)
+
+-- As many replicas as before -------------------------------------------------------------------------------------------
+
+posted_keeps : (sender : ℕ) (world : World) (signed : Signed Message) → (posted sender world signed).replicas ≡ world.replicas
+posted_keeps sender world signed = go (receivers_of signed.message)
+  where
+    go : (receivers : Receivers) → (posted_to sender world signed receivers).replicas ≡ world.replicas
+    go Replicas = refl
+    go (Client client) = refl
+
+all_posted_keep : (sender : ℕ) (world : World) (sent : Log) → (fold (posted sender) world sent).replicas ≡ world.replicas
+all_posted_keep sender world [] = refl
+all_posted_keep sender world (signed ∷ sent) = all_posted_keep sender (posted sender world signed) sent ∙ posted_keeps sender world signed
+
+pub as_many : (number : ℕ) (world : World) (done : Option Outcome) → length (done_if number world done).replicas ≡ length world.replicas
+as_many number world None = refl
+as_many number world (Some done) =
+    ap length (all_posted_keep number _ done.sent) ∙ length-set world.replicas number (record { heard = true; node = done.now })
+
+-- one replica more, in a loop over their numbers
+pub goes_on : (act : Node → Option Outcome) (first before next : World) (n : ℕ)
+    → next ≡ done_if n before (node_at before n >>= act)
+    → (before ≡ fold (λ world number. done_if number world (node_at world number >>= act)) first (range_with_len 0 n)) × (length before.replicas ≡ length first.replicas)
+    → (next ≡ fold (λ world number. done_if number world (node_at world number >>= act)) first (range_with_len 0 (n + 1))) × (length next.replicas ≡ length first.replicas)
+goes_on act first before next n is so_far = (
+  is ∙ ap (λ (world : World). done_if n world (node_at world n >>= act)) so_far.0 ∙ sym (one_more (λ world number. done_if number world (node_at world number >>= act)) first n),
+  ap (λ (world : World). length world.replicas) is ∙ as_many n before (node_at before n >>= act) ∙ so_far.1,
+)

@@ -1,0 +1,4 @@
+pub mod Acting
+pub mod Each
+pub mod Settling
+pub mod Turns

@@ -1,0 +1,45 @@
+-- What a replica does at its turn.
+use Rattle.std.proofs.Common.{◌≡◌, ◌∙◌, Bool, [], ◌∷◌, ◌++◌, Option, Some, None, true, refl, sym, ap, subst}
+use Rattle.std.specs.Option.{option_map}
+use Rattle.bfs_log.specs.Logs.{Log}
+use Rattle.bfs_messages.specs.declared.message.Message.{Message}
+use Rattle.bfs_messages.specs.declared.signed.Signed.{Signed}
+use Rattle.bfs_node.specs.Checkpoints.{checkpoint, checkpoint_refusal}
+use Rattle.bfs_node.specs.Executing.{after_execution, execution}
+use Rattle.bfs_node.specs.Nodes.{Node, Outcome}
+use Rattle.bfs_cluster.specs.Inside.Acts.{Acts, CheckpointsAfter, doing}
+use Rattle.bfs_cluster.specs.Steps.{executing, followed_by, next_of, with_checkpoint}
+use Rattle.bfs_cluster.specs.World.{Replica}
+
+-- what one that is heard does
+pub if_heard : (act : Node → Option Outcome) (old : Replica) → old.heard ≡ true → doing act old ≡ act old.node
+if_heard act old heard =
+    ap (λ (h : Bool). doing act (record { heard = h; node = old.node })) heard
+
+same_outcome : (outcome : Outcome) (now : Node) (sent : Log) → outcome.now ≡ now → outcome.sent ≡ sent → outcome ≡ record { now = now; sent = sent }
+same_outcome outcome now sent first second =
+    ap (λ (node : Node). record { now = node; sent = outcome.sent }) first ∙ ap (λ (log : Log). record { now = now; sent = log }) second
+
+came : (new : Replica) (sent : Log) (outcome : Outcome) → new.heard ≡ true → outcome ≡ record { now = new.node; sent = sent }
+    → (new ≡ record { heard = true; node = outcome.now }) × (Some sent ≡ Some outcome.sent)
+came new sent outcome heard is = (
+  ap (λ (h : Bool). record { heard = h; node = new.node }) heard ∙ ap (λ (o : Outcome). record { heard = true; node = o.now }) (sym is),
+  ap (λ (o : Outcome). Some o.sent) (sym is),
+)
+
+-- a batch is executed, and then a checkpoint made where one is due
+pub executed : (old between new : Replica) (before sent : Log) → old.heard ≡ true → between.heard ≡ true
+    → option_map (option_map (λ (outcome : Outcome). outcome.sent)) (execution old.node) ≡ Some (Some before)
+    → option_map (after_execution old.node) (execution old.node) ≡ Some between.node → CheckpointsAfter between before new sent
+    → Acts (doing executing old) old new (Some sent)
+executed old between new before sent heard stays told now after =
+    subst (λ (done : Option Outcome). Acts done old new (Some sent)) (sym (if_heard executing old heard)) (go (execution old.node) told now)
+  where
+    go : (ran : Option (Option Outcome)) → option_map (option_map (λ (outcome : Outcome). outcome.sent)) ran ≡ Some (Some before)
+        → option_map (after_execution old.node) ran ≡ Some between.node → Acts (option_map with_checkpoint (next_of ran)) old new (Some sent)
+    go None told now = absurd (cc)
+    go (Some None) told now = absurd (cc)
+    go (Some (Some outcome)) told now =
+        let first : outcome.now ≡ between.node = cc in
+        let second : outcome.sent ≡ before = cc in
+        came new sent (with_checkpoint outcome) (after.0 ∙ stays) (ap with_checkpoint (same_outcome outcome between.node before first second) ∙ after.1)

@@ -1,0 +1,31 @@
+-- The requests of a block come to the replicas.
+use Rattle.std.specs.Prelude.{ℕ, length, Option, Some}
+use Rattle.std.specs.List.{fold, range_with_len}
+use Rattle.bfs_log.specs.Logs.{Log}
+use Rattle.bfs_model.specs.Bytes.Call.{◌>>=◌}
+use Rattle.bfs_model.specs.Server.Tree.{Time}
+use Rattle.bfs_messages.specs.declared.message.Message.{Message}
+use Rattle.bfs_messages.specs.declared.signed.Signed.{Signed}
+use Rattle.bfs_node.specs.Nodes.{Node, Outcome}
+use Rattle.bfs_node.specs.Proposing.{proposal_refusal, proposed}
+use Rattle.bfs_cluster.specs.Steps.{handed, unless_refused}
+use Rattle.bfs_cluster.specs.World.{World, done_if, node_at}
+
+-- that happens to each replica, by rising number
+abbrev pub to_each : (World → ℕ → World) → World → World
+to_each happens world = fold happens world (range_with_len 0 (length world.replicas))
+
+-- a client's request comes to each
+abbrev pub requested : World → Signed Message → World
+requested world signed = to_each (handed signed) world
+
+abbrev pub proposal : Time → Node → Option Outcome
+proposal time node = unless_refused (proposal_refusal node) (Some (proposed node time))
+
+-- a replica proposes, unless it is refused: one that is not the primary is
+abbrev pub proposing : Time → World → (number : ℕ) → World
+proposing time world number = done_if number world (node_at world number >>= proposal time)
+
+-- requests, already signed by their clients, come to each replica, one after another; then each proposes at that time
+abbrev pub with_block : World → Time → Log → World
+with_block world time requests = to_each (proposing time) (fold requested world requests)

@@ -1,0 +1,34 @@
+-- What a replica's calls and a cluster's steps come to.
+use Rattle.std.specs.Prelude.{◌≡◌, ℕ, Bool, true, false, Option, Some, None}
+use Rattle.std.specs.List.{fold}
+use Rattle.bfs_log.specs.Logs.{Log}
+use Rattle.bfs_model.specs.Bytes.Call.{◌>>=◌}
+use Rattle.bfs_node.specs.Checkpoints.{checkpoint, checkpoint_refusal}
+use Rattle.bfs_node.specs.Nodes.{Node, Outcome}
+use Rattle.bfs_cluster.specs.Steps.{followed_by, step, unless_refused}
+use Rattle.bfs_cluster.specs.World.{Replica, World, node_if_heard, posted}
+
+-- what a replica that is heard does
+abbrev pub doing : (act : Node → Option Outcome) → Replica → Option Outcome
+doing act replica = node_if_heard (Some replica) >>= act
+
+-- a replica that is heard has done that and sent that; or it did nothing
+abbrev pub Acts : (done : Option Outcome) → (old new : Replica) → (sent : Option Log) → Type 0
+Acts None old new sent = (new ≡ old) × (sent ≡ None)
+Acts (Some done) old new sent = (new ≡ record { heard = true; node = done.now }) × (sent ≡ Some done.sent)
+
+-- a checkpoint was made where one was due, and its message is behind what was to be sent
+abbrev pub CheckpointsAfter : (old : Replica) → (to_send : Log) → (new : Replica) → (sent : Log) → Type 0
+CheckpointsAfter old to_send new sent =
+    (new.heard ≡ old.heard)
+    × (followed_by (record { now = old.node; sent = to_send }) (unless_refused (checkpoint_refusal old.node) (checkpoint old.node)) ≡ record { now = new.node; sent = sent })
+
+-- all that is sent, if anything is
+abbrev pub posted_if : (sender : ℕ) → World → Option Log → World
+posted_if sender world None = world
+posted_if sender world (Some sent) = fold (posted sender) world sent
+
+-- a step was made, or none is left
+abbrev pub Steps : (went : Bool) → (old new : World) → Type 0
+Steps true old new = step old ≡ Some new
+Steps false old new = (new ≡ old) × (step old ≡ None)

@@ -1,0 +1,2 @@
+-- The statements that are proved of the definitions.
+pub mod Settling

@@ -1,0 +1,8 @@
+-- What must be believed (World, Steps, Blocks, Standings), the statements that are proved of it (Laws), and
+-- what contracts of private functions cite (Inside).
+pub mod World
+pub mod Steps
+pub mod Blocks
+pub mod Standings
+pub mod Laws
+pub mod Inside

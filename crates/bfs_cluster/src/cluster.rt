@@ -1,0 +1,119 @@
+ghost use Rattle.std.specs.Prelude.{◌≡◌, false, true, [], IfOk};
+ghost use Rattle.bfs_cluster.specs.World.{hearing, new_world};
+
+use crate::replica::Replica;
+use bfs_messages::{Message, Signed};
+use bfs_node::{Executor, MOST_WORKERS, Node, Workers};
+use bfs_settings::Settings;
+use bfs_types::Memory;
+use std::alloc::Global;
+use std::collections::VecDeque;
+use std::marker::Model;
+
+// a message on its way to the replicas from `next` on, but for its sender
+#[derive(Drop)]
+pub(crate) struct Broadcast {
+    pub sender: usize,
+    pub next: usize,
+    pub signed: Signed<Message>,
+}
+
+impl Model for Broadcast {
+    ghost use Rattle.bfs_cluster.specs.World as model;
+
+    ghost Value = { model.Broadcast };
+
+    ghost view = { λ broadcast. record { sender = broadcast.sender; next = broadcast.next; signed = broadcast.signed } };
+}
+
+/// Replicas of one process, and the messages between them. After a call that answers `Memory`, a message may be lost and a file system
+/// failed: then nothing is said of what further calls leave.
+#[derive(Drop)]
+pub struct Cluster {
+    pub(crate) alloc: Global,
+    pub(crate) replicas: Vec<Replica>,
+    pub(crate) queue: VecDeque<Broadcast>,
+    pub(crate) replies: Vec<Signed<Message>>,
+    // whose turn it is to execute, while no messages are delivered
+    pub(crate) turn: Option<usize>,
+}
+
+impl Model for Cluster {
+    ghost use Rattle.bfs_cluster.specs.World as model;
+    ghost use Rattle.std.specs.Coded.{codes};
+    ghost use Rattle.bfs_serial.specs.Codes.{inodes_code};
+
+    ghost Value = { model.World };
+
+    ghost coded = { Prim.hlevel (codes, inodes_code) };
+
+    ghost view = { λ cluster. record { replicas = cluster.replicas.items; queue = cluster.queue.items; replies = cluster.replies.items; turn = cluster.turn } };
+}
+
+impl Cluster {
+    /// As many replicas as the settings ask for, all heard, which have done nothing. Replica 0 executes as `executor` says, and each other
+    /// one with a worker more than the one before it, up to the most there can be and then from one on: nothing else depends on it.
+    #[tactic(auto, using(crate::proofs::Each::one_more_made))]
+    pub fn new(alloc: Global, settings: &Settings, executor: Executor) -> Result<Cluster, Memory>
+        ensures { IfOk result (λ cluster. cluster ≡ new_world settings.now) }
+    {
+        let mut replicas = Vec::new(alloc);
+        for number in 0..settings.replicas() {
+            replicas.push(Replica {
+                heard: true,
+                node: Node::new(alloc, settings, number)?,
+                executor: executor_of(executor, number),
+            })?;
+        }
+        Ok(Cluster {
+            alloc,
+            replicas,
+            queue: VecDeque::new(alloc),
+            replies: Vec::new(alloc),
+            turn: None,
+        })
+    }
+
+    /// The replica sends and receives nothing from now on, and executes nothing. Where there is none of that number, nothing changes.
+    pub fn silence(&mut self, replica: u32)
+        ensures { self.new ≡ hearing false self.old replica }
+    {
+        self.set_heard(replica as usize, false);
+    }
+
+    /// The replica is heard from now on. Where there is none of that number, nothing changes.
+    pub fn hear(&mut self, replica: u32)
+        ensures { self.new ≡ hearing true self.old replica }
+    {
+        self.set_heard(replica as usize, true);
+    }
+
+    fn set_heard(&mut self, number: usize, heard: bool)
+        ensures { self.new ≡ hearing heard self.old number }
+    {
+        if number < self.replicas.len() {
+            let replica = &mut self.replicas[number];
+            replica.heard = heard;
+        }
+    }
+
+    /// What was sent to clients since this was asked for last, in the order in which it was sent.
+    pub fn take_replies(&mut self) -> Vec<Signed<Message>>
+        ensures replies { result.items ≡ self.old.replies }
+        ensures taken { self.new ≡ record self.old { replies = [] } }
+    {
+        std::mem::replace(&mut self.replies, Vec::new(self.alloc))
+    }
+}
+
+// from one to the most there can be
+fn executor_of(executor: Executor, number: u32) -> Executor {
+    let before = (executor.workers.count() - 1 + number % MOST_WORKERS) % MOST_WORKERS;
+    match Workers::new(before + 1) {
+        Some(workers) => Executor {
+            workers,
+            ..executor
+        },
+        None => unreachable!(),
+    }
+}

@@ -1,0 +1,14 @@
+//! Replicas in one process, among which messages are delivered in the order in which they were sent.
+#![tactic(auto)]
+
+mod blocks;
+mod cluster;
+mod laws;
+mod replica;
+mod standings;
+mod stepping;
+
+pub use bfs_node::{Engine, Executor, Workers};
+pub use cluster::Cluster;
+pub use laws::a_world_settles_once;
+pub use standings::Standing;

@@ -1,0 +1,121 @@
+ghost use Rattle.std.specs.Prelude.{◌≡◌, ◌≢◌, Some, None, IfOk, OnOk};
+ghost use Rattle.std.specs.Option.{option_map};
+ghost use Rattle.bfs_cluster.specs.Blocks.{proposal};
+ghost use Rattle.bfs_cluster.specs.Inside.Acts.{Acts, CheckpointsAfter, doing};
+ghost use Rattle.bfs_cluster.specs.Steps.{delivery, executing};
+ghost use Rattle.bfs_node.specs.declared.error.NodeError.TheVariants as refusal;
+
+use bfs_messages::{Message, Signed};
+use bfs_node::{Executor, NoGate, Node, NodeError};
+use bfs_types::{Memory, Time};
+use std::alloc::Global;
+use std::marker::Model;
+use std::sync::Wait;
+use std::thread::Threads;
+
+/// A replica of a cluster, which is heard or silent. While it is silent, each call answers `None` and changes nothing.
+#[derive(Drop)]
+pub(crate) struct Replica {
+    pub heard: bool,
+    pub node: Node,
+    pub executor: Executor,
+}
+
+impl Model for Replica {
+    ghost use Rattle.bfs_cluster.specs.World as model;
+    ghost use Rattle.std.specs.Coded.{codes};
+    ghost use Rattle.bfs_serial.specs.Codes.{inodes_code};
+
+    ghost Value = { model.Replica };
+
+    ghost coded = { Prim.hlevel (codes, inodes_code) };
+
+    ghost view = { λ replica. record { heard = replica.heard; node = replica.node } };
+}
+
+impl Replica {
+    /// What it sends when a message comes; `None` where it refuses that message.
+    pub fn take<R: Threads + Sync>(
+        &mut self,
+        rt: &R,
+        signed: Signed<Message>,
+    ) -> Result<Option<Vec<Signed<Message>>>, Memory>
+        ensures { IfOk result (λ sent. Acts (doing (delivery signed) self.old) self.old self.new (option_map (λ all. all.items) sent)) }
+    {
+        if !self.heard {
+            return Ok(None);
+        }
+        match self.node.take(rt, signed) {
+            Ok(sent) => Ok(Some(sent)),
+            Err(error) => lost(error),
+        }
+    }
+
+    /// What it sends to propose the requests that wait; `None` where it is no primary, or can't propose now.
+    pub fn propose(
+        &mut self,
+        alloc: Global,
+        time: Time,
+    ) -> Result<Option<Vec<Signed<Message>>>, Memory>
+        ensures { IfOk result (λ sent. Acts (doing (proposal time) self.old) self.old self.new (option_map (λ all. all.items) sent)) }
+    {
+        if !self.heard {
+            return Ok(None);
+        }
+        match self.node.propose(time) {
+            Ok(own) => {
+                let mut sent = Vec::new(alloc);
+                sent.push(own)?;
+                Ok(Some(sent))
+            }
+            Err(error) => lost(error),
+        }
+    }
+
+    /// Executes the next committed batch, and makes the checkpoint that is due; `None` where no batch is next.
+    pub fn execute<R: Threads + Wait + Sync>(
+        &mut self,
+        rt: &R,
+    ) -> Result<Option<Vec<Signed<Message>>>, Memory>
+        ensures { IfOk result (λ sent. Acts (doing executing self.old) self.old self.new (option_map (λ all. all.items) sent)) }
+    {
+        if !self.heard {
+            return Ok(None);
+        }
+        match self.node.execute_ready(rt, self.executor, &NoGate) {
+            Ok(Some(mut sent)) => {
+                self.make_checkpoint(rt, &mut sent)?;
+                Ok(Some(sent))
+            }
+            Ok(None) => Ok(None),
+            Err(_) => Err(Memory),
+        }
+    }
+
+    // its message is put behind what is sent
+    fn make_checkpoint<R: Threads + Sync>(
+        &mut self,
+        rt: &R,
+        sent: &mut Vec<Signed<Message>>,
+    ) -> Result<(), Memory>
+        ensures { OnOk result (CheckpointsAfter self.old sent.old.items self.new sent.new.items) }
+    {
+        match self.node.checkpoint(rt) {
+            Ok(signed) => Ok(sent.push(signed)?),
+            Err(NodeError::Memory | NodeError::Failed) => Err(Memory),
+            Err(_) => Ok(()),
+        }
+    }
+}
+
+// what a refused call sends
+fn lost(error: NodeError) -> Result<Option<Vec<Signed<Message>>>, Memory>
+    ensures nothing { IfOk result (λ sent. sent ≡ None) }
+    ensures refused { OnOk result (error ≢ refusal.Memory) }
+{
+    match error {
+        // a file system fails only where memory runs out
+        NodeError::Memory | NodeError::Failed => Err(Memory),
+        _ => Ok(None),
+    }
+}

@@ -1,0 +1,166 @@
+ghost use Rattle.std.specs.Prelude.{◌≡◌, ◌<◌, ◌+◌, None, [], ◌∷◌, length, IfOk, OnOk};
+ghost use Rattle.std.specs.List.{fold, list_any};
+ghost use Rattle.std.specs.Option.{option_map};
+ghost use Rattle.bfs_cluster.specs.Inside.Acts.{Steps, posted_if};
+ghost use Rattle.bfs_cluster.specs.Steps.{Settles, delivering, handed, has_ready, turning};
+ghost use Rattle.bfs_cluster.specs.World.{posted};
+
+use crate::cluster::{Broadcast, Cluster};
+use crate::replica::Replica;
+use bfs_messages::{Message, Signed};
+use bfs_node::{Receivers, receivers_of};
+use bfs_types::Memory;
+use std::sync::Wait;
+use std::thread::Threads;
+
+impl Cluster {
+    /// Delivers messages and executes what is ready, until no message is left and nothing is ready.
+    pub fn settle<R: Threads + Wait + Sync>(&mut self, rt: &R) -> Result<(), Memory>
+        ensures { OnOk result (Settles self.old self.new) }
+    {
+        for _ in rt.forever() {
+            if !self.step(rt)? {
+                return Ok(());
+            }
+        }
+        unreachable!()
+    }
+
+    // `false` where no step is left
+    fn step<R: Threads + Wait + Sync>(&mut self, rt: &R) -> Result<bool, Memory>
+        ensures { IfOk result (λ went. Steps went self.old self.new) }
+    {
+        match self.turn {
+            Some(number) => {
+                self.take_turn(rt, number)?;
+                Ok(true)
+            }
+            None => match self.queue.pop_front() {
+                Some(broadcast) => {
+                    self.deliver(rt, broadcast)?;
+                    Ok(true)
+                }
+                None => Ok(self.begin_turns()),
+            },
+        }
+    }
+
+    // `false` where nothing is ready
+    fn begin_turns(&mut self) -> bool
+        requires turn { self.old.turn ≡ None }
+        requires queue { self.old.queue ≡ [] }
+        ensures { Steps result self.old self.new }
+    {
+        let ready = self.is_any_ready();
+        if ready {
+            self.turn = Some(0);
+        }
+        ready
+    }
+
+    fn is_any_ready(&self) -> bool
+        ensures { result ≡ list_any has_ready self.now.replicas }
+    {
+        self.replicas.iter().any(
+            |replica: &Replica| -> bool
+                ensures { result ≡ has_ready replica.now }
+            { replica.heard && replica.node.is_ready() },
+        )
+    }
+
+    // the next receiver of a broadcast has it
+    fn deliver<R: Threads + Sync>(&mut self, rt: &R, broadcast: Broadcast) -> Result<(), Memory>
+        ensures { OnOk result (self.new ≡ delivering self.old broadcast) }
+    {
+        let number = broadcast.next;
+        if number >= self.replicas.len() {
+            return Ok(());
+        }
+        if number == broadcast.sender {
+            return self.keep(broadcast);
+        }
+        let copy = broadcast.signed.try_clone(self.alloc)?;
+        self.keep(broadcast)?;
+        self.hand(rt, copy, number)
+    }
+
+    // the broadcast stays the first, for those behind its next receiver
+    fn keep(&mut self, broadcast: Broadcast) -> Result<(), Memory>
+        requires { broadcast.next < length self.old.replicas }
+        ensures { OnOk result (self.new ≡ record self.old { queue = (record broadcast { next = broadcast.next + 1 }) ∷ self.old.queue }) }
+    {
+        self.queue.push_front(Broadcast {
+            next: broadcast.next + 1,
+            ..broadcast
+        })?;
+        Ok(())
+    }
+
+    /// A message comes to a replica.
+    pub(crate) fn hand<R: Threads + Sync>(
+        &mut self,
+        rt: &R,
+        signed: Signed<Message>,
+        number: usize,
+    ) -> Result<(), Memory>
+        requires { number < length self.old.replicas }
+        ensures { OnOk result (self.new ≡ handed signed self.old number) }
+    {
+        let sent = self.replicas[number].take(rt, signed)?;
+        self.post_if(number, sent)
+    }
+
+    // a replica executes a batch, or it is the next one's turn
+    fn take_turn<R: Threads + Wait + Sync>(&mut self, rt: &R, number: usize) -> Result<(), Memory>
+        ensures { OnOk result (self.new ≡ turning self.old number) }
+    {
+        if number >= self.replicas.len() {
+            self.turn = None;
+            return Ok(());
+        }
+        match self.replicas[number].execute(rt)? {
+            Some(sent) => self.post(number, sent),
+            None => {
+                self.turn = Some(number + 1);
+                Ok(())
+            }
+        }
+    }
+
+    /// Sends what a replica gave to be sent, if it gave anything.
+    pub(crate) fn post_if(
+        &mut self,
+        sender: usize,
+        sent: Option<Vec<Signed<Message>>>,
+    ) -> Result<(), Memory>
+        ensures { OnOk result (self.new ≡ posted_if sender self.old (option_map (λ all. all.items) sent)) }
+    {
+        match sent {
+            Some(sent) => self.post(sender, sent),
+            None => Ok(()),
+        }
+    }
+
+    fn post(&mut self, sender: usize, sent: Vec<Signed<Message>>) -> Result<(), Memory>
+        ensures { OnOk result (self.new ≡ fold (posted sender) self.old sent.items) }
+    {
+        for signed in sent {
+            self.post_one(sender, signed)?;
+        }
+        Ok(())
+    }
+
+    fn post_one(&mut self, sender: usize, signed: Signed<Message>) -> Result<(), Memory>
+        ensures { OnOk result (self.new ≡ posted sender self.old signed) }
+    {
+        match receivers_of(&signed.message) {
+            Receivers::Replicas => self.queue.push_back(Broadcast {
+                sender,
+                next: 0,
+                signed,
+            })?,
+            Receivers::Client(_) => self.replies.push(signed)?,
+        }
+        Ok(())
+    }
+}
