@@ -15,19 +15,63 @@ const SECRET: &[u8] = &[0; 32];
 
 const CLIENTS: u32 = 16;
 
-/// The number of a refusal, 0 where there is none.
-pub fn refusal_of<T: Drop>(given: Result<T, NodeError>) -> u32 {
+// the number of a refusal, 0 where there is none
+fn refusal_of<T: Drop>(given: Result<T, NodeError>) -> u32 {
     match given {
         Ok(_) => 0,
         Err(error) => error.code(),
     }
 }
 
-/// How many messages are sent, where the call is not refused.
-pub fn count_of(given: Result<Vec<Signed<Message>>, NodeError>) -> Result<usize, u32> {
+/// What a call came to: how many messages are sent, or the number of the refusal.
+#[derive(Clone, Copy, Debug, PartialEq, Eq)]
+pub enum Said {
+    Sent(usize),
+    Refused(u32),
+}
+
+fn what_came_of(given: Result<Vec<Signed<Message>>, NodeError>) -> Said {
     match given {
-        Ok(sent) => Ok(sent.len()),
-        Err(error) => Err(error.code()),
+        Ok(sent) => Said::Sent(sent.len()),
+        Err(error) => Said::Refused(error.code()),
+    }
+}
+
+/// A message comes to the replica.
+pub fn take<R: Threads + Sync>(rt: &R, node: &mut Node, signed: Signed<Message>) -> Said {
+    what_came_of(node.take(rt, signed))
+}
+
+/// Bytes come to the replica.
+pub fn deliver<R: Threads + Sync>(rt: &R, node: &mut Node, bytes: &[u8]) -> Said {
+    what_came_of(node.deliver(rt, bytes))
+}
+
+/// How many requests wait, the number last executed, and the view.
+pub fn standing(node: &Node) -> (u32, u64, u64) {
+    (node.pending(), node.last_executed(), node.view())
+}
+
+/// Whether a batch may be executed.
+pub fn is_ready(node: &Node) -> bool {
+    node.is_ready() && node.is_live()
+}
+
+/// The number of the refusal of a checkpoint, 0 where it is made.
+pub fn checkpoint<R: Threads + Sync>(rt: &R, node: &mut Node) -> u32 {
+    refusal_of(node.checkpoint(rt))
+}
+
+/// Whether the replica has a digest.
+pub fn has_digest<R: Threads + Sync>(rt: &R, node: &Node) -> bool {
+    node.digest(rt).is_ok()
+}
+
+/// How many CHECKPOINTs tell the stable snapshot, and how many bytes it has; none where there is none.
+pub fn stable(node: &Node) -> (usize, usize) {
+    match node.stable() {
+        Some((text, certificate)) => (certificate.len(), text.len()),
+        None => (0, 0),
     }
 }
 
@@ -61,29 +105,22 @@ pub fn request_signed_by(
     sign(alloc, &keys, Message::Request(request))
 }
 
-/// Proposes the requests that wait, at 1.000000.
-pub fn propose(node: &mut Node) -> Result<(), NodeError> {
-    let Some(time) = Time::new(1, 0) else {
-        return Err(NodeError::Memory);
-    };
-    node.propose(time)?;
-    Ok(())
+/// The number of the refusal of a proposal at 1.000000, 0 where there is none.
+pub fn propose(node: &mut Node) -> u32 {
+    match Time::new(1, 0) {
+        Some(time) => refusal_of(node.propose(time)),
+        None => 40,
+    }
 }
 
 /// Executes the next batch one request after another, and gives how many clients are answered; `None` where no batch is next.
-pub fn execute<R: Threads + Wait + Sync>(
-    rt: &R,
-    node: &mut Node,
-) -> Result<Option<usize>, NodeError> {
-    let Some(workers) = Workers::new(1) else {
-        return Err(NodeError::Memory);
-    };
+pub fn execute<R: Threads + Wait + Sync>(rt: &R, node: &mut Node) -> Option<usize> {
     let executor = Executor {
-        workers,
+        workers: Workers::new(1)?,
         engine: None,
     };
-    match node.execute_ready(rt, executor, &NoGate)? {
-        Some(replies) => Ok(Some(replies.len())),
-        None => Ok(None),
+    match node.execute_ready(rt, executor, &NoGate) {
+        Ok(Some(replies)) => Some(replies.len()),
+        _ => None,
     }
 }
