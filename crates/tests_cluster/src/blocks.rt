@@ -1,0 +1,51 @@
+//! Blocks of requests, where all replicas are heard.
+use crate::run::{
+    common_digest, four_replicas, null_request, replies, run_block, standings, two_clients,
+};
+use bfs_testing::{holds, same};
+use std::test::Fail;
+
+#[test]
+fn each_replica_answers_and_all_stand_alike(rt: HostRuntime) -> Result<(), Fail> {
+    let alloc = rt.alloc();
+    let mut cluster = four_replicas(alloc)?;
+    let request = null_request(alloc, &two_clients(alloc)?, 1, 7)?;
+    let before = common_digest(&standings(&rt, &cluster)?);
+    run_block(&rt, &mut cluster, 1, &[request])?;
+    same!(rt; replies(&mut cluster), 4);
+    same!(rt; replies(&mut cluster), 0);
+    let all = standings(&rt, &cluster)?;
+    same!(rt; all.len(), 4);
+    let after = common_digest(&all);
+    // the clients' last replies are part of it
+    holds!(rt; before.is_some() && after.is_some() && before != after);
+    Ok(())
+}
+
+#[test]
+fn a_repeated_request_is_answered_and_not_executed(rt: HostRuntime) -> Result<(), Fail> {
+    let alloc = rt.alloc();
+    let clients = two_clients(alloc)?;
+    let mut repeated = four_replicas(alloc)?;
+    run_block(
+        &rt,
+        &mut repeated,
+        1,
+        &[null_request(alloc, &clients, 0, 7)?],
+    )?;
+    run_block(
+        &rt,
+        &mut repeated,
+        2,
+        &[null_request(alloc, &clients, 0, 7)?],
+    )?;
+    same!(rt; replies(&mut repeated), 8);
+    let mut empty = four_replicas(alloc)?;
+    run_block(&rt, &mut empty, 1, &[null_request(alloc, &clients, 0, 7)?])?;
+    run_block(&rt, &mut empty, 2, &[])?;
+    same!(rt; replies(&mut empty), 4);
+    let given = common_digest(&standings(&rt, &repeated)?);
+    let wanted = common_digest(&standings(&rt, &empty)?);
+    holds!(rt; given.is_some() && given == wanted);
+    Ok(())
+}

@@ -1,0 +1,89 @@
+//! A run of four replicas, of which one may be faulty, and of two clients.
+use bfs_clients::Clients;
+use bfs_cluster::{Cluster, Executor, Standing, Workers};
+use bfs_messages::{Message, Request, Signed};
+use bfs_settings::{Settings, SettingsError};
+use bfs_testing::words::call;
+use bfs_types::{Memory, Time};
+use std::alloc::Global;
+use std::sync::Wait;
+use std::test::Fail;
+use std::thread::Threads;
+
+const SECRET: &[u8] = b"a secret";
+
+fn settings(alloc: Global) -> Result<Settings, SettingsError> {
+    Settings::new(alloc, 1, 2, SECRET)
+}
+
+/// The two clients.
+pub fn two_clients(alloc: Global) -> Result<Clients, Fail> {
+    let settings = settings(alloc)?;
+    Ok(Clients::new(alloc, &settings)?)
+}
+
+/// Four replicas, each of which executes one request after another.
+pub fn four_replicas(alloc: Global) -> Result<Cluster, Fail> {
+    let settings = settings(alloc)?;
+    let workers = Workers::new(1).ok_or("one worker")?;
+    let executor = Executor {
+        workers,
+        engine: None,
+    };
+    Ok(Cluster::new(alloc, &settings, executor)?)
+}
+
+// no test needs what the contract says of it
+fn null_call(alloc: Global, xid: u32) -> Result<Vec<u8>, Memory> {
+    call(alloc, xid, 0)
+}
+
+/// A client's call of NULL, with its timestamp as its number, signed by the client.
+pub fn null_request(
+    alloc: Global,
+    clients: &Clients,
+    client: u32,
+    timestamp: u32,
+) -> Result<Signed<Message>, Fail> {
+    let bytes = null_call(alloc, timestamp)?;
+    if bytes.len() > 1_000 {
+        return Err("a call that is too long".into());
+    }
+    let request = Request::new(alloc, client, timestamp as u64, &bytes)?;
+    Ok(clients.sign(request)?.ok_or("a client")?)
+}
+
+/// Sends a block of that time, in seconds, and delivers messages until there are none.
+pub fn run_block<R: Threads + Wait + Sync>(
+    rt: &R,
+    cluster: &mut Cluster,
+    seconds: u32,
+    requests: &[Signed<Message>],
+) -> Result<(), Fail> {
+    let time = Time::new(seconds, 0).ok_or("a time")?;
+    cluster.send_block(rt, time, requests)?;
+    Ok(cluster.settle(rt)?)
+}
+
+/// How many replies clients were sent.
+pub fn replies(cluster: &mut Cluster) -> usize {
+    cluster.take_replies().len()
+}
+
+/// Where the replicas stand that are heard.
+pub fn standings<R: Threads + Sync>(rt: &R, cluster: &Cluster) -> Result<Vec<Standing>, Memory> {
+    cluster.standings(rt)
+}
+
+/// The digest of the first replicas, where as many are to stand alike.
+pub fn common_digest(standings: &[Standing]) -> Option<[u8; 32]> {
+    let Some(Standing::Digest(_, digest)) = standings.first() else {
+        return None;
+    };
+    for (number, standing) in standings.iter().enumerate() {
+        if *standing != Standing::Digest(number, *digest) {
+            return None;
+        }
+    }
+    Some(*digest)
+}
