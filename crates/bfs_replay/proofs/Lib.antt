@@ -1,6 +1,9 @@
+pub mod Beginning
 pub mod CommandLine
 pub mod Counts
-pub mod ReplyLines
+pub mod Lines
 pub mod Rows
+pub mod Running
 pub mod Takes
+pub mod Telling
 pub mod Usages

@@ -1,17 +1,25 @@
--- Replies that are written out, and how they are printed.
-use Rattle.std.proofs.Common.{◌≡◌, ℕ, [], ◌∷◌, codes, refl}
+-- Results that are written out, and how they are printed.
+use Rattle.std.proofs.Common.{◌≡◌, ℕ, [], ◌∷◌, Some, None, codes, refl}
 use Rattle.std.specs.Fmt.{digits}
 use Rattle.hex.proofs.OnLiterals.{hex_on_literals}
 use Rattle.bfs_trace.specs.Events.{Request}
-use Rattle.bfs_replay.specs.Output.{reply_line}
+use Rattle.bfs_replay.specs.Output.{behind_line, result_line}
 
 abbrev pub request_by : (client timestamp : ℕ) → Request
 request_by c t = record { client = c; timestamp = t; call = [] }
 
-pub row-reply : reply_line (request_by 15 7) (0 ∷ 255 ∷ []) ≡ codes "c15 t7 00ff\n"
-unfolding hex_on_literals digits reply_line
-row-reply = refl
+pub row-result : result_line (request_by 15 7) (Some (0 ∷ 255 ∷ [])) ≡ codes "c15 t7 00ff\n"
+unfolding hex_on_literals digits result_line
+row-result = refl
 
-pub row-no_reply : reply_line (request_by 0 1) [] ≡ codes "c0 t1 -\n"
-unfolding hex_on_literals digits reply_line
-row-no_reply = refl
+pub row-no_bytes : result_line (request_by 0 1) (Some []) ≡ codes "c0 t1 -\n"
+unfolding hex_on_literals digits result_line
+row-no_bytes = refl
+
+pub row-none : result_line (request_by 0 1) None ≡ codes "c0 t1 none\n"
+unfolding hex_on_literals digits result_line
+row-none = refl
+
+pub row-behind : behind_line 3 16 ≡ codes "behind 3 16\n"
+unfolding hex_on_literals digits behind_line
+row-behind = refl

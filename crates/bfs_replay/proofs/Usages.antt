@@ -15,7 +15,7 @@ asked_on_literals = tt
 
 -- the trace `a.trace`, executed so
 abbrev pub by : (workers : ℕ) → Option Engine → Option Asked
-by workers engine = Some (record { workers = workers; engine = engine; trace = codes "a.trace" })
+by workers engine = Some (record { workers = workers; engine = engine; config = None; trace = codes "a.trace" })
 
 -- words behind the program's name
 abbrev pub behind_name : List Text → List Text
@@ -54,6 +54,18 @@ pub row-both : asked_by (behind_name (codes "--workers=1" ∷ codes "a.trace" �
 unfolding asked_on_literals
 row-both = refl
 
+-- the trace `a.trace` by the engine that is not named, set up by `a.toml`
+abbrev pub configured : Option Asked
+configured = Some (record { workers = 4; engine = Some engine.Levels; config = Some (codes "a.toml"); trace = codes "a.trace" })
+
+pub row-configured : asked_by (behind_name (codes "--config" ∷ codes "a.toml" ∷ codes "a.trace" ∷ [])) ≡ configured
+unfolding asked_on_literals
+row-configured = refl
+
+pub row-configured_behind : asked_by (behind_name (codes "a.trace" ∷ codes "--config=a.toml" ∷ [])) ≡ configured
+unfolding asked_on_literals
+row-configured_behind = refl
+
 -- Words that are no usage of `replay` ------------------------------------------------------------------------------
 
 pub row-no_worker : asked_by (behind_name (codes "--workers" ∷ codes "0" ∷ codes "a.trace" ∷ [])) ≡ None
@@ -84,7 +96,15 @@ pub row-two_traces : asked_by (behind_name (codes "a.trace" ∷ codes "b.trace" 
 unfolding asked_on_literals
 row-two_traces = refl
 
-pub row-other_option : asked_by (behind_name (codes "--config" ∷ codes "a.toml" ∷ codes "a.trace" ∷ [])) ≡ None
+pub row-two_configurations : asked_by (behind_name (codes "--config=a.toml" ∷ codes "--config=a.toml" ∷ codes "a.trace" ∷ [])) ≡ None
+unfolding asked_on_literals
+row-two_configurations = refl
+
+pub row-no_configuration : asked_by (behind_name (codes "a.trace" ∷ codes "--config" ∷ [])) ≡ None
+unfolding asked_on_literals
+row-no_configuration = refl
+
+pub row-other_option : asked_by (behind_name (codes "--conf" ∷ codes "a.toml" ∷ codes "a.trace" ∷ [])) ≡ None
 unfolding asked_on_literals
 row-other_option = refl
 

@@ -1,5 +1,5 @@
--- What the words of the command line ask for: `replay [--workers N] [--engine runs|levels|serial] TRACE`.
-use Rattle.std.specs.Prelude.{◌≡◌, ◌==◌, ⊤, ℕ, List, [], ◌∷◌, true, Option, Some, None, Result, Ok, Err, bytes_eq, codes, if◌then◌else◌, pos}
+-- What the words of the command line ask for: `replay [--workers N] [--engine runs|levels|serial] [--config FILE] TRACE`.
+use Rattle.std.specs.Prelude.{◌≡◌, ◌==◌, ⊤, ℕ, List, [], ◌∷◌, true, Option, Some, None, Result, Ok, Err, bytes_eq, codes, if◌then◌else◌, option_map, pos}
 use Rattle.std.specs.Str.Parse.{without_leading_plus}
 use Rattle.clap.specs.Words.{App, Row, Rule, Text, Kinds, fault_of, first_of, matches_of, new_app, new_rule, one_of, with_rule}
 use Rattle.clap.specs.declared.builder.value_parser.ValueParser.TheVariants as parser
@@ -22,19 +22,25 @@ workers_rule = record (new_rule (codes "workers")) { long = Some (codes "workers
 abbrev pub engine_rule : Rule
 engine_rule = record (new_rule (codes "engine")) { long = Some (codes "engine"); defaults = codes "levels" ∷ [] }
 
+-- `--config FILE`; none where there is none
+abbrev pub config_rule : Rule
+config_rule = record (new_rule (codes "config")) { long = Some (codes "config") }
+
 -- the path of the trace, the one word that stands alone
 abbrev pub trace_rule : Rule
 trace_rule = record (new_rule (codes "trace")) { required = true }
 
 abbrev pub replay_app : App
-replay_app = with_rule (with_rule (with_rule (new_app (codes "replay")) workers_rule) engine_rule) trace_rule
+replay_app = with_rule (with_rule (with_rule (with_rule (new_app (codes "replay")) workers_rule) engine_rule) config_rule) trace_rule
 
 -- What they ask for ----------------------------------------------------------------------------------------------------
 
--- how many workers execute the requests of a block, by which engine, if by any, and the path of the trace
+-- how many workers execute the requests of a block, by which engine, if by any, the path of the settings, if there are any, and that of
+-- the trace
 pub record Asked : Type 0 where
   pub workers : ℕ
   pub engine : Option Engine
+  pub config : Option Text
   pub trace : Text
 
 -- the number that decimal digits spell, behind a `+` or not, where so many workers there can be
@@ -58,7 +64,7 @@ asked_among rows = do
   workers ← workers_among rows
   engine ← first_of (codes "engine") rows >>= engine_named
   trace ← first_of (codes "trace") rows
-  Some (record { workers = workers; engine = engine; trace = trace })
+  Some (record { workers = workers; engine = engine; config = first_of (codes "config") rows; trace = trace })
 
 abbrev pub unless_faulty : Kinds → Option Asked → Option Asked
 unless_faulty [] asked = asked
@@ -70,7 +76,12 @@ asked_by words = unless_faulty (fault_of replay_app words) (asked_among (matches
 
 -- the options as a record of text
 abbrev pub as_asked : Options → Asked
-as_asked options = record { workers = options.workers; engine = options.engine; trace = options.trace.now }
+as_asked options = record {
+  workers = options.workers;
+  engine = options.engine;
+  config = option_map (λ path. path.now) options.config;
+  trace = options.trace.now;
+}
 
 -- the options are those that the words ask for; unspecified where memory ran out
 abbrev pub Asks : Result Options UsageError → Option Asked → Type 0

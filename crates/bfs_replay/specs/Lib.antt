@@ -2,3 +2,6 @@
 pub mod Output
 pub mod CommandLine
 pub mod Errors
+pub mod Outcomes
+pub mod Runs
+pub mod Inside

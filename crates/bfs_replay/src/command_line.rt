@@ -1,6 +1,6 @@
 ghost use Rattle.std.specs.Prelude.{◌≡◌, ◌≢◌, ◌↔◌, [], false, map, option_map, IfOk, IfErr};
 ghost use Rattle.clap.specs.Words.{app_of, fault_of, found_of, kind_of, matches_of, rows_of, rule_of};
-ghost use Rattle.bfs_replay.specs.CommandLine.{Asks, as_asked, asked_among, asked_by, engine_named, engine_rule, replay_app, workers_among, workers_rule};
+ghost use Rattle.bfs_replay.specs.CommandLine.{Asks, as_asked, asked_among, asked_by, config_rule, engine_named, engine_rule, replay_app, workers_among, workers_rule};
 
 use crate::usage::{Options, UsageError};
 use bfs_parallel::Engine;
@@ -31,16 +31,26 @@ fn engine_argument<'a>(alloc: Global) -> Arg<'a>
         .default_value("levels")
 }
 
+/// `--config FILE`
+fn config_argument<'a>(alloc: Global) -> Arg<'a>
+    ensures rule { rule_of result ≡ config_rule }
+    ensures local { result.global ≡ false }
+{
+    Arg::new(alloc, "config").long("config")
+}
+
 /// The words that `replay` takes.
 fn command<'a>(alloc: Global) -> Result<Command<'a>, AllocError>
     ensures app { IfOk result (λ c. app_of c ≡ replay_app) }
 {
     let workers = workers_argument(alloc);
     let engine = engine_argument(alloc);
+    let config = config_argument(alloc);
     let trace = Arg::new(alloc, "trace").required(true);
     let command = Command::new(alloc, "replay")
         .arg(workers)?
         .arg(engine)?
+        .arg(config)?
         .arg(trace)?;
     Ok(command)
 }
@@ -98,16 +108,18 @@ fn options_among<'a>(found: &ArgMatches<'a>) -> Option<Options<'a>>
 {
     let workers = workers_among(found)?;
     let engine = engine_named(found.get_str("engine")?)?;
+    let config = found.get_str("config");
     let trace = found.get_str("trace")?;
     Some(Options {
         workers,
         engine,
+        config,
         trace,
     })
 }
 
-/// Reads the words of the command line, the program's name first: `replay [--workers N] [--engine runs|levels|serial] TRACE`. N is a number
-/// from 1 to 64, in decimal digits behind a `+` or not, and 4 where there is none; the engine is `levels` where there is none. Any other
+/// Reads the words of the command line, the program's name first: `replay [--workers N] [--engine runs|levels|serial] [--config FILE] TRACE`.
+/// N is a number from 1 to 64, in decimal digits behind a `+` or not, and 4 where there is none; the engine is `levels` where there is none. Any other
 /// number or engine, an option twice, any other option (`--help` and `--version` among them), no trace and two traces are
 /// `UsageError::Usage`.
 #[tactic(auto, using(crate::proofs::CommandLine::asked_where_taken, crate::proofs::CommandLine::none_where_refused))]

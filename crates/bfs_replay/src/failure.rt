@@ -1,8 +1,9 @@
 ghost use Rattle.std.specs.Prelude.{◌≡◌};
-ghost use Rattle.bfs_replay.specs.Errors.{exit_status, failure_of_options, failure_of_run, failure_of_trace};
+ghost use Rattle.bfs_replay.specs.Errors.{exit_status, failure_of_options, failure_of_run, failure_of_settings, failure_of_trace};
 
 use crate::run::ReplayError;
 use crate::usage::UsageError;
+use bfs_settings::SettingsError;
 use bfs_trace::TraceError;
 use thiserror::Error;
 
@@ -12,9 +13,12 @@ pub enum Failure {
     /// The words of the command line are no usage of the program.
     #[error("usage")]
     Usage,
-    /// The trace can't be read, or is too long.
+    /// The settings or the trace can't be read, or are too long.
     #[error("cannot read input")]
     Input,
+    /// The settings break the rules.
+    #[error("bad configuration")]
+    Config,
     /// Standard output refused what was written.
     #[error("cannot write output")]
     Output,
@@ -24,6 +28,9 @@ pub enum Failure {
     /// Memory ran out.
     #[error("out of memory")]
     Memory,
+    /// Two replicas have different digests.
+    #[error("replicas differ")]
+    Differ,
 }
 
 impl Failure {
@@ -32,7 +39,8 @@ impl Failure {
         ensures { result ≡ exit_status self }
     {
         match self {
-            Failure::Usage | Failure::Input | Failure::Output => 2,
+            Failure::Differ => 1,
+            Failure::Usage | Failure::Input | Failure::Config | Failure::Output => 2,
             Failure::Line(_) => 3,
             Failure::Memory => 4,
         }
@@ -46,6 +54,17 @@ impl From<UsageError> for Failure {
         match error {
             UsageError::Usage => Failure::Usage,
             UsageError::Memory => Failure::Memory,
+        }
+    }
+}
+
+impl From<SettingsError> for Failure {
+    ghost from_gives = { λ error failure. failure ≡ failure_of_settings error };
+
+    fn from(error: SettingsError) -> Failure {
+        match error {
+            SettingsError::BadSettings => Failure::Config,
+            SettingsError::Memory => Failure::Memory,
         }
     }
 }
@@ -67,7 +86,7 @@ impl From<ReplayError> for Failure {
     fn from(error: ReplayError) -> Failure {
         match error {
             ReplayError::WriteFault => Failure::Output,
-            ReplayError::Memory | ReplayError::Failed => Failure::Memory,
+            ReplayError::Memory => Failure::Memory,
         }
     }
 }

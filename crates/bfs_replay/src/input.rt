@@ -6,7 +6,7 @@ use std::alloc::Global;
 use std::io;
 use std::io::{ErrorKind, Read};
 
-/// The most bytes of a trace.
+/// The most bytes of a trace, and of a document of settings.
 pub const MOST_TRACE_BYTES: usize = 67_108_864;
 
 /// Reads all bytes that the reader has. `Failure::Input` comes if there are more than `MOST_TRACE_BYTES` or the reader refuses,

@@ -2,22 +2,24 @@
 #![tactic(auto)]
 
 mod command_line;
-mod digests;
 mod failure;
 mod input;
+mod outcome;
 mod population;
-mod replies;
+mod results;
 mod run;
+mod standings;
 mod usage;
 
-pub use bfs_parallel::Engine;
+pub use bfs_cluster::{Engine, Executor, Workers};
+pub use bfs_settings::{Settings, SettingsError, default_settings, parse_settings};
 pub use bfs_trace::{
     Block, Population, Request, Trace, TraceError, TraceEvent, parse_trace, sent_calls,
 };
-pub use bfs_workers::Workers;
 pub use command_line::options;
 pub use failure::Failure;
 pub use input::{MOST_TRACE_BYTES, read_input};
-pub use population::default_population;
-pub use run::{Outcome, ReplayError, run_trace};
+pub use outcome::{Outcome, compare};
+pub use population::population_of;
+pub use run::{ReplayError, run_trace};
 pub use usage::{Options, UsageError};

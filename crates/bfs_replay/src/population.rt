@@ -1,16 +1,14 @@
 ghost use Rattle.std.specs.Prelude.{◌≡◌};
+ghost use Rattle.bfs_settings.specs.Settings.{replicas_for};
 
+use bfs_settings::Settings;
 use bfs_trace::Population;
 
-const DEFAULT_CLIENTS: u32 = 16;
-
-const DEFAULT_REPLICAS: u32 = 1;
-
-/// The clients and replicas of a run that nothing else configures: 16 clients, and one replica.
-pub fn default_population() -> Population
-    ensures { result ≡ record { clients = 16; replicas = 1 } }
+/// Whom a trace may name under the settings: their clients, and their replicas.
+pub fn population_of(settings: &Settings) -> Population
+    ensures { result ≡ record { clients = settings.now.clients; replicas = replicas_for settings.now.f } }
 {
-    match Population::new(DEFAULT_CLIENTS, DEFAULT_REPLICAS) {
+    match Population::new(settings.clients(), settings.replicas()) {
         Some(population) => population,
         None => unreachable!(),
     }

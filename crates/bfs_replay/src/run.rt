@@ -1,30 +1,22 @@
-ghost use Rattle.std.specs.Prelude.{◌≡◌, ◌≢◌, Some, IsSome, OnOk, IfOk, IfErr};
-ghost use Rattle.std.specs.Option.{ForSome};
+ghost use Rattle.std.specs.Prelude.{◌≡◌, ◌≢◌, List, ℕ, IfOk, IfErr, OnOk};
 ghost use Rattle.std.specs.Io.KnownBytes.{Appends};
-ghost use Rattle.bfs_model.specs.Server.Serial.{execute};
-ghost use Rattle.bfs_digest.specs.Digests.{digest_of};
 ghost use Rattle.bfs_replay.specs.Errors.{replay_error_code};
-ghost use Rattle.bfs_replay.specs.Output.{as_batch, block_output, digest_line, files_after, event_output, output_of};
+ghost use Rattle.bfs_replay.specs.Runs.{BlockRuns, EventRuns, EventsRun, TraceRuns, sent_requests};
 
-use crate::digests::print_digest;
-use crate::replies::print_replies;
-use bfs_executor::Executor;
-use bfs_parallel::Engine;
-use bfs_serial::{Batch, ExecError, FileSystem, PushError};
+use crate::outcome::{Outcome, compare};
+use crate::results::{print_results, tallies_of};
+use crate::standings::{digests_in, print_standings};
+use bfs_clients::Clients;
+use bfs_cluster::{Cluster, Executor};
+use bfs_messages::{Message, Request, Signed};
+use bfs_settings::Settings;
 use bfs_trace::{Block, Trace, TraceEvent};
-use bfs_workers::{NoGate, Workers};
+use bfs_types::Memory;
 use std::alloc::Global;
 use std::io::Write;
 use std::sync::Wait;
 use std::thread::Threads;
 use thiserror::Error;
-
-/// How a run ended.
-#[derive(Clone, Copy, Debug, PartialEq, Eq)]
-pub enum Outcome {
-    /// All replicas that were compared agree, as one does with itself.
-    Agree,
-}
 
 /// Why a run stopped. What it wrote stays, and is the beginning of its output.
 #[derive(Clone, Copy, Debug, PartialEq, Eq, Error)]
@@ -35,9 +27,6 @@ pub enum ReplayError {
     /// Memory ran out.
     #[error("out of memory")]
     Memory,
-    /// The file system had failed.
-    #[error("the file system has failed")]
-    Failed,
 }
 
 impl ReplayError {
@@ -48,110 +37,113 @@ impl ReplayError {
         match self {
             ReplayError::WriteFault => 39,
             ReplayError::Memory => 40,
-            ReplayError::Failed => 41,
         }
     }
 }
 
-/// Lets the events of a trace happen one after another on a new file system: the requests of a block are executed as one
-/// batch, by the workers as the engine says, or one after another where there is no engine; and then a line is written for each of
-/// them: `c<client> t<timestamp> <reply>`, the reply in lower-case hexadecimal digits, or `-` where it has no bytes. At the end comes a line
-/// `digest 0 <digest>`: the digest that the file system then has, in such digits. What is written depends on the trace alone, and not on
-/// who falls silent or is heard in it.
-pub fn run_trace<R: AllocGlobal + Threads + Wait + Sync, W: Write>(
-    rt: &R,
-    trace: &Trace,
-    workers: Workers,
-    engine: Option<Engine>,
-    writer: &mut W,
-) -> Result<Outcome, ReplayError>
-    ensures written { OnOk result (Appends (W.contents writer.old) (W.contents writer.new) (output_of trace.now)) }
-    ensures live { IfErr result (λ e. e ≢ ReplayError.Failed) }
-{
-    let executor = Executor { workers, engine };
-    let alloc = rt.alloc();
-    let Ok(mut files) = FileSystem::new(alloc) else {
-        return Err(ReplayError::Memory);
-    };
-    for event in trace.events() {
-        run_event(rt, alloc, &executor, &mut files, event, writer)?;
+impl From<Memory> for ReplayError {
+    fn from(_error: Memory) -> ReplayError {
+        ReplayError::Memory
     }
-    run_digest(rt, alloc, &executor, &files, writer)?;
-    Ok(Outcome::Agree)
 }
 
-// writes the digest of the file system of the one replica
-fn run_digest<R: Threads + Sync, W: Write>(
+/// Lets the events of a trace happen one after another to new replicas, as many as the settings ask for, in this process. The requests
+/// of a block are signed by their clients and come to each replica that is heard; the primary proposes them as one batch, and the replicas
+/// order and execute it, each by the executor: replica i with i workers more than the first. Then a line is written for each request:
+/// `c<client> t<timestamp> <result>`, the result in lower-case hexadecimal digits, `-` where it has no bytes, and `none` where no `f + 1`
+/// replicas sent one. At the end each replica that is heard and has executed the most has a line `digest <replica> <digest>`, and each
+/// other one that is heard a line `behind <replica> <number last executed>`. What is written depends on the settings and the trace alone.
+pub fn run_trace<R: AllocGlobal + Threads + Wait + Sync, W: Write>(
+    rt: &R,
+    settings: &Settings,
+    trace: &Trace,
+    executor: Executor,
+    writer: &mut W,
+) -> Result<Outcome, ReplayError>
+    ensures { IfOk result (λ outcome. (output : List ℕ) × TraceRuns settings.now trace.now output outcome × Appends (W.contents writer.old) (W.contents writer.new) output) }
+{
+    let alloc = rt.alloc();
+    let clients = Clients::new(alloc, settings)?;
+    let mut cluster = Cluster::new(alloc, settings, executor)?;
+    run_events(rt, alloc, &clients, &mut cluster, trace.events(), writer)?;
+    let standings = cluster.standings(rt)?;
+    print_standings(alloc, &standings, writer)?;
+    Ok(compare(&digests_in(alloc, &standings)?))
+}
+
+// one after another
+fn run_events<R: Threads + Wait + Sync, W: Write>(
     rt: &R,
     alloc: Global,
-    executor: &Executor,
-    files: &FileSystem,
+    clients: &Clients,
+    cluster: &mut Cluster,
+    events: &[TraceEvent],
     writer: &mut W,
 ) -> Result<(), ReplayError>
-    requires live { IsSome files.now }
-    ensures written { OnOk result (ForSome files.now (λ live. Appends (W.contents writer.old) (W.contents writer.new) (digest_line 0 (digest_of live)))) }
-    ensures fails { IfErr result (λ e. e ≢ ReplayError.Failed) }
+    ensures { OnOk result ((output : List ℕ) × EventsRun clients.now events.now cluster.old cluster.new output × Appends (W.contents writer.old) (W.contents writer.new) output) }
 {
-    match executor.digest(rt, alloc, files) {
-        Ok(digest) => print_digest(alloc, 0, &digest, writer),
-        Err(ExecError::Memory) => Err(ReplayError::Memory),
-        Err(ExecError::Failed) => Err(ReplayError::Failed),
+    for event in events {
+        run_event(rt, alloc, clients, cluster, event, writer)?;
     }
+    Ok(())
 }
 
 fn run_event<R: Threads + Wait + Sync, W: Write>(
     rt: &R,
     alloc: Global,
-    executor: &Executor,
-    files: &mut FileSystem,
+    clients: &Clients,
+    cluster: &mut Cluster,
     event: &TraceEvent,
     writer: &mut W,
 ) -> Result<(), ReplayError>
-    requires live { IsSome files.old }
-    ensures written { OnOk result (ForSome files.old (λ live. Appends (W.contents writer.old) (W.contents writer.new) (event_output live event.now))) }
-    ensures files { OnOk result (ForSome files.old (λ live. files.new ≡ Some (files_after live event.now))) }
-    ensures fails { IfErr result (λ e. e ≢ ReplayError.Failed) }
+    ensures { OnOk result ((output : List ℕ) × EventRuns clients.now event.now cluster.old cluster.new output × Appends (W.contents writer.old) (W.contents writer.new) output) }
 {
     match event {
-        TraceEvent::Block(block) => run_block(rt, alloc, executor, files, block, writer),
-        TraceEvent::Silent(_) | TraceEvent::Heard(_) => Ok(()),
+        TraceEvent::Block(block) => run_block(rt, alloc, clients, cluster, block, writer),
+        TraceEvent::Silent(replica) => {
+            cluster.silence(*replica);
+            Ok(())
+        }
+        TraceEvent::Heard(replica) => {
+            cluster.hear(*replica);
+            Ok(())
+        }
     }
 }
 
-// executes the requests of a block as one batch, and writes a line for each
 fn run_block<R: Threads + Wait + Sync, W: Write>(
     rt: &R,
     alloc: Global,
-    executor: &Executor,
-    files: &mut FileSystem,
+    clients: &Clients,
+    cluster: &mut Cluster,
     block: &Block,
     writer: &mut W,
 ) -> Result<(), ReplayError>
-    requires live { IsSome files.old }
-    ensures written { OnOk result (ForSome files.old (λ live. Appends (W.contents writer.old) (W.contents writer.new) (block_output live block.now))) }
-    ensures files { OnOk result (ForSome files.old (λ live. files.new ≡ Some (execute live (as_batch block.now)).0)) }
-    ensures fails { IfErr result (λ e. e ≢ ReplayError.Failed) }
+    ensures { OnOk result ((output : List ℕ) × BlockRuns clients.now block.now cluster.old cluster.new output × Appends (W.contents writer.old) (W.contents writer.new) output) }
 {
-    let batch = make_batch(alloc, block)?;
-    match executor.execute(rt, alloc, files, &batch, &NoGate) {
-        Ok(replies) => print_replies(alloc, block.requests(), &replies, writer),
-        Err(ExecError::Memory) => Err(ReplayError::Memory),
-        Err(ExecError::Failed) => Err(ReplayError::Failed),
-    }
+    let requests = sent_requests(alloc, clients, block)?;
+    cluster.send_block(rt, block.time(), &requests)?;
+    cluster.settle(rt)?;
+    let replies = cluster.take_replies();
+    let tallies = tallies_of(alloc, clients, block.requests(), &replies)?;
+    print_results(alloc, block.requests(), &tallies, writer)
 }
 
-fn make_batch(alloc: Global, block: &Block) -> Result<Batch, ReplayError>
-    ensures made { IfOk result (λ batch. batch ≡ as_batch block.now) }
-    ensures fails { IfErr result (λ e. e ≡ ReplayError.Memory) }
+// as their clients send them
+fn sent_requests(
+    alloc: Global,
+    clients: &Clients,
+    block: &Block,
+) -> Result<Vec<Signed<Message>>, Memory>
+    ensures { IfOk result (λ sent. sent.items ≡ sent_requests clients.now block.now.requests) }
 {
-    let mut batch = Batch::new(alloc);
-    batch.set_time(block.time());
-    for request in block.requests() {
-        match batch.push(request.call()) {
-            Ok(()) => {}
-            Err(PushError::Memory) => return Err(ReplayError::Memory),
-            Err(PushError::RequestTooLong | PushError::BatchFull) => unreachable!(),
+    let requests = block.requests();
+    let mut sent = Vec::with_capacity(alloc, requests.len())?;
+    for request in requests {
+        let message = Request::new(alloc, request.client(), request.timestamp(), request.call())?;
+        if let Some(signed) = clients.sign(message)? {
+            sent.push(signed)?;
         }
     }
-    Ok(batch)
+    Ok(sent)
 }

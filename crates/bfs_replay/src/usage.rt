@@ -12,6 +12,8 @@ pub struct Options<'a> {
     pub workers: Workers,
     /// Which requests they execute at one time, or `None` where requests are executed one after another.
     pub engine: Option<Engine>,
+    /// The path of the settings, or `None` where they are the default.
+    pub config: Option<&'a str>,
     /// The path of the trace.
     pub trace: &'a str,
 }
@@ -19,8 +21,8 @@ pub struct Options<'a> {
 /// Why the words of the command line are not taken.
 #[derive(Clone, Copy, Debug, PartialEq, Eq, Error)]
 pub enum UsageError {
-    /// The words are not of the form `replay [--workers N] [--engine runs|levels|serial] TRACE`.
-    #[error("usage: replay [--workers N] [--engine runs|levels|serial] TRACE")]
+    /// The words are not of the form `replay [--workers N] [--engine runs|levels|serial] [--config FILE] TRACE`.
+    #[error("usage: replay [--workers N] [--engine runs|levels|serial] [--config FILE] TRACE")]
     Usage,
     /// Memory ran out.
     #[error("out of memory")]

@@ -1,8 +1,9 @@
-//! Replays a trace of NFS calls: `replay [--workers N] [--engine runs|levels|serial] TRACE`. docs/TRACE.md says what a trace is and what is printed.
+//! Replays a trace of NFS calls: `replay [--workers N] [--engine runs|levels|serial] [--config FILE] TRACE`. docs/TRACE.md says what a trace is and what is printed.
 #![tactic(auto)]
 
 use bfs_replay::{
-    Failure, Outcome, default_population, options, parse_trace, read_input, run_trace,
+    Executor, Failure, Settings, default_settings, options, parse_settings, parse_trace, population_of,
+    read_input, run_trace,
 };
 use std::fs::File;
 use std::io;
@@ -14,7 +15,7 @@ use std::thread::Threads;
 
 fn main(rt: HostRuntime) -> ExitCode {
     match replay(&rt, rt.stdout()) {
-        Ok(Outcome::Agree) => ExitCode::SUCCESS,
+        Ok(()) => ExitCode::SUCCESS,
         Err(failure) => {
             // where standard error refuses too, the status alone tells
             let _ = eprintln!(rt; "replay: {failure}");
@@ -23,11 +24,12 @@ fn main(rt: HostRuntime) -> ExitCode {
     }
 }
 
-/// Faults come in this order: the words, reading the trace, its lines, and the run with its output.
+/// Faults come in this order: the words, reading the settings, what they say, reading the trace, its lines, the run with its output,
+/// and the comparison of its replicas.
 fn replay<R: Runtime + AllocGlobal + Threads + Wait + Sync, W: Write + Drop>(
     rt: &R,
     output: W,
-) -> Result<Outcome, Failure> {
+) -> Result<(), Failure> {
     let alloc = rt.alloc();
     let words: Vec<String> = std::env::args(rt)
         .map_err(|error| memory_or(error, Failure::Usage))?
@@ -38,13 +40,38 @@ fn replay<R: Runtime + AllocGlobal + Threads + Wait + Sync, W: Write + Drop>(
         Ok(options) => options,
         Err(error) => return Err(Failure::from(error)),
     };
-    let file = File::open(rt, options.trace).map_err(|error| memory_or(error, Failure::Input))?;
-    let text = read_input(alloc, file)?;
-    let trace = parse_trace(alloc, text.as_slice(), default_population())?;
+    let settings = settings_at(rt, options.config)?;
+    let text = read_file(rt, options.trace)?;
+    let trace = parse_trace(alloc, text.as_slice(), population_of(&settings))?;
     let mut out = BufWriter::new(alloc, output).map_err(not_written)?;
-    let outcome = run_trace(rt, &trace, options.workers, options.engine, &mut out)?;
+    let executor = Executor {
+        workers: options.workers,
+        engine: options.engine,
+    };
+    let outcome = run_trace(rt, &settings, &trace, executor, &mut out)?;
     out.flush().map_err(not_written)?;
-    Ok(outcome)
+    match outcome.failure() {
+        Some(failure) => Err(failure),
+        None => Ok(()),
+    }
+}
+
+/// The settings that a file says, or the default where there is none.
+fn settings_at<R: Runtime + AllocGlobal>(rt: &R, path: Option<&str>) -> Result<Settings, Failure> {
+    let alloc = rt.alloc();
+    match path {
+        Some(path) => {
+            let document = read_file(rt, path)?;
+            Ok(parse_settings(alloc, document.as_slice())?)
+        }
+        None => default_settings(alloc).map_err(|_| Failure::Memory),
+    }
+}
+
+/// All bytes of a file.
+fn read_file<R: Runtime + AllocGlobal>(rt: &R, path: &str) -> Result<Vec<u8>, Failure> {
+    let file = File::open(rt, path).map_err(|error| memory_or(error, Failure::Input))?;
+    read_input(rt.alloc(), file)
 }
 
 fn not_written(error: io::Error) -> Failure {

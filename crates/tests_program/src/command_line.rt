@@ -25,14 +25,16 @@ static TAKEN: [(&str, u32, Option<Engine>); 13] = [
     ("replay --engine levels a.trace", 4, Some(Engine::Levels)),
 ];
 
-static REFUSED: [&str; 26] = [
+static REFUSED: [&str; 28] = [
     "replay",
     "replay a.trace b.trace",
     "replay --help",
     "replay -h",
     "replay --version",
     "replay --help a.trace",
-    "replay --config a.toml a.trace",
+    "replay --conf a.toml a.trace",
+    "replay a.trace --config",
+    "replay --config a.toml --config a.toml a.trace",
     "replay -w 2 a.trace",
     "replay --work 2 a.trace",
     "replay --workers a.trace",
@@ -86,12 +88,34 @@ fn refuses_other_command_lines(rt: HostRuntime) -> Result<(), Fail> {
     Ok(())
 }
 
+/// The path of the settings that the words of a line ask for; `-` where there is none, or the words are no usage.
+fn config_of(alloc: Global, line: &'static str) -> Result<String, Fail> {
+    let words: Vec<&str> = line.split(' ').collect(alloc)?;
+    let path = match options(alloc, words.as_slice()) {
+        Ok(asked) => asked.config.unwrap_or("-"),
+        Err(_) => "-",
+    };
+    Ok(String::from_str(alloc, path)?)
+}
+
+#[test]
+fn reads_where_the_settings_are(rt: HostRuntime) -> Result<(), Fail> {
+    for line in [
+        "replay --config a.toml a.trace",
+        "replay a.trace --config=a.toml",
+    ] {
+        same!(rt; config_of(rt.alloc(), line)?.as_str(), "a.toml");
+    }
+    same!(rt; config_of(rt.alloc(), "replay a.trace")?.as_str(), "-");
+    Ok(())
+}
+
 #[test]
 fn tells_the_usage(rt: HostRuntime) -> Result<(), Fail> {
     let text = format!(in rt.alloc(); "{}", UsageError::Usage)?;
     same!(rt;
         text.as_str(),
-        "usage: replay [--workers N] [--engine runs|levels|serial] TRACE"
+        "usage: replay [--workers N] [--engine runs|levels|serial] [--config FILE] TRACE"
     );
     same!(rt; UsageError::Usage.code(), 42);
     same!(rt; Failure::from(UsageError::Usage).status(), 2);

@@ -12,6 +12,8 @@ mod output;
 #[cfg(test)]
 mod populations;
 #[cfg(test)]
+mod settings;
+#[cfg(test)]
 mod traces;
 #[cfg(test)]
 mod verbs;

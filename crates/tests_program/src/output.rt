@@ -1,7 +1,8 @@
 //! What the run of a trace writes, and where it stops.
+use crate::populations::parse_alone;
 use bfs_replay::{
-    Engine, Failure, Outcome, Population, ReplayError, TraceError, Workers, default_population,
-    parse_trace, run_trace,
+    Engine, Executor, Failure, Outcome, ReplayError, TraceError, Workers,
+    default_settings, parse_settings, parse_trace, population_of, run_trace,
 };
 use bfs_testing::{holds, same};
 use std::alloc::Global;
@@ -11,61 +12,105 @@ use std::sync::Wait;
 use std::test::Fail;
 use std::thread::Threads;
 
+/// One worker, and that engine.
+fn alone(engine: Option<Engine>) -> Executor {
+    Executor {
+        workers: Workers::one(),
+        engine,
+    }
+}
+
 const ROOT_TRACE: &[u8] =
     b"batch 1.000000\n0 1 raw 000000010000000000000002000186a30000000200000001000000000000000000000000000000004246533200000001000000020000000000000000000000000000000000000000\n";
 
-// the reply, and the digest of another implementation: a new file system whose last time is 1, and whose next ordinal is 4
+// the reply; and SHA-256 of another implementation's digest of the file system (whose last time is 1, and whose next ordinal is 4), followed by
+// the text of the table of 16 clients with that reply
 const ROOT_OUTPUT: &[u8] =
-    b"c0 t1 0000000100000001000000000000000000000000000000000000000000000002000041ed000000020000000000000000000000400000100000000000000000010000000100000002000000000000000000000000000000000000000000000000\ndigest 0 9b37908d185e63c080d2e6b11de5f95843b53f677df75e001afa5827a4ed00cc\n";
+    b"c0 t1 0000000100000001000000000000000000000000000000000000000000000002000041ed000000020000000000000000000000400000100000000000000000010000000100000002000000000000000000000000000000000000000000000000\ndigest 0 f1a072500dce096319b92affdcfe5391038ccf9e338fdcdc663b0f06048bf8d3\n";
 
 #[test]
 fn prints_a_line_for_each_request(rt: HostRuntime) -> Result<(), Fail> {
-    let trace = parse_trace(rt.alloc(), ROOT_TRACE, default_population())?;
+    let trace = parse_alone(rt.alloc(), ROOT_TRACE)?;
     let mut out = Vec::new(rt.alloc());
-    same!(rt; run_trace(&rt, &trace, Workers::one(), None, &mut out)?, Outcome::Agree);
+    same!(rt; run_trace(&rt, &default_settings(rt.alloc())?, &trace, alone(None), &mut out)?, Outcome::Agree);
     holds!(rt; out.as_slice() == ROOT_OUTPUT);
     Ok(())
 }
 
 // the last time is a microsecond, and the next ordinal 4
 const SILENT_OUTPUT: &[u8] =
-    b"c15 t18446744073709551615 -\ndigest 0 28fd805cef7fc54e5e3086d94731a190a9efcc8c45e0015d2044650345858fa2\n";
+    b"c15 t18446744073709551615 -\ndigest 0 af1d4f5e683043ff713de53e65655cf25093d323f62f04afc40156bc30ee6273\n";
 
 #[test]
 fn prints_a_dash_for_what_is_no_call(rt: HostRuntime) -> Result<(), Fail> {
-    let silent = parse_trace(
+    let silent = parse_alone(
         rt.alloc(),
         b"# no call\n\nbatch 0.000000\n15 018446744073709551615 raw aB",
-        default_population(),
     )?;
     let mut out = Vec::new(rt.alloc());
-    run_trace(&rt, &silent, Workers::one(), None, &mut out)?;
+    run_trace(&rt, &default_settings(rt.alloc())?, &silent, alone(None), &mut out)?;
     holds!(rt; out.as_slice() == SILENT_OUTPUT);
     Ok(())
 }
 
 const NEW_OUTPUT: &[u8] =
-    b"digest 0 be27e39566f317750eebee1ffd539c1e05bb6276147755f12c9fc1c293bb36b4\n";
+    b"digest 0 51dede48717683313066381a34d994241157d17d3f47221f45f32391de50cad0\n";
 
 #[test]
 fn prints_the_digest_of_a_new_file_system(rt: HostRuntime) -> Result<(), Fail> {
-    let empty = parse_trace(rt.alloc(), b"# no block\n", default_population())?;
+    let empty = parse_alone(rt.alloc(), b"# no block\n")?;
     for engine in [None, Some(Engine::Runs), Some(Engine::Levels)] {
         let mut out = Vec::new(rt.alloc());
-        run_trace(&rt, &empty, Workers::one(), engine, &mut out)?;
+        run_trace(&rt, &default_settings(rt.alloc())?, &empty, alone(engine), &mut out)?;
         holds!(rt; out.as_slice() == NEW_OUTPUT);
     }
     Ok(())
 }
 
-#[test]
-fn prints_nothing_of_who_is_silent(rt: HostRuntime) -> Result<(), Fail> {
-    let text = format!(in rt.alloc(); "silent 3\n{}heard 3\n", str::from_utf8(ROOT_TRACE)?)?;
-    let four_replicas = Population::new(16, 4).ok_or("population")?;
-    let trace = parse_trace(rt.alloc(), text.as_bytes(), four_replicas)?;
+/// What the run of a trace prints, where a fault of a replica is tolerated.
+fn output_of_four<R: AllocGlobal + Threads + Wait + Sync>(
+    rt: &R,
+    text: &str,
+) -> Result<Vec<u8>, Fail> {
+    let settings = parse_settings(rt.alloc(), b"f = 1\n")?;
+    let trace = parse_trace(rt.alloc(), text.as_bytes(), population_of(&settings))?;
     let mut out = Vec::new(rt.alloc());
-    run_trace(&rt, &trace, Workers::one(), None, &mut out)?;
-    holds!(rt; out.as_slice() == ROOT_OUTPUT);
+    match run_trace(rt, &settings, &trace, alone(None), &mut out)? {
+        Outcome::Agree => Ok(out),
+        Outcome::Differ => Err("replicas differ".into()),
+    }
+}
+
+const FOUR_OUTPUT: &str =
+    "c0 t1 0000000100000001000000000000000000000000000000000000000000000002000041ed000000020000000000000000000000400000100000000000000000010000000100000002000000000000000000000000000000000000000000000000\ndigest 0 f1a072500dce096319b92affdcfe5391038ccf9e338fdcdc663b0f06048bf8d3\ndigest 1 f1a072500dce096319b92affdcfe5391038ccf9e338fdcdc663b0f06048bf8d3\ndigest 2 f1a072500dce096319b92affdcfe5391038ccf9e338fdcdc663b0f06048bf8d3\ndigest 3 f1a072500dce096319b92affdcfe5391038ccf9e338fdcdc663b0f06048bf8d3\n";
+
+#[test]
+fn prints_a_digest_of_each_replica(rt: HostRuntime) -> Result<(), Fail> {
+    let out = output_of_four(&rt, str::from_utf8(ROOT_TRACE)?)?;
+    holds!(rt; out.as_slice() == FOUR_OUTPUT.as_bytes());
+    Ok(())
+}
+
+const BEHIND_OUTPUT: &str =
+    "c0 t1 0000000100000001000000000000000000000000000000000000000000000002000041ed000000020000000000000000000000400000100000000000000000010000000100000002000000000000000000000000000000000000000000000000\ndigest 0 f1a072500dce096319b92affdcfe5391038ccf9e338fdcdc663b0f06048bf8d3\ndigest 1 f1a072500dce096319b92affdcfe5391038ccf9e338fdcdc663b0f06048bf8d3\ndigest 2 f1a072500dce096319b92affdcfe5391038ccf9e338fdcdc663b0f06048bf8d3\nbehind 3 0\n";
+
+#[test]
+fn prints_who_is_behind(rt: HostRuntime) -> Result<(), Fail> {
+    let text = format!(in rt.alloc(); "silent 3\n{}heard 3\n", str::from_utf8(ROOT_TRACE)?)?;
+    let out = output_of_four(&rt, text.as_str())?;
+    holds!(rt; out.as_slice() == BEHIND_OUTPUT.as_bytes());
+    Ok(())
+}
+
+// replica 0 is the primary of the first view
+const NONE_OUTPUT: &str =
+    "c0 t1 none\ndigest 1 51dede48717683313066381a34d994241157d17d3f47221f45f32391de50cad0\ndigest 2 51dede48717683313066381a34d994241157d17d3f47221f45f32391de50cad0\ndigest 3 51dede48717683313066381a34d994241157d17d3f47221f45f32391de50cad0\n";
+
+#[test]
+fn prints_none_where_the_primary_is_silent(rt: HostRuntime) -> Result<(), Fail> {
+    let text = format!(in rt.alloc(); "silent 0\n{}", str::from_utf8(ROOT_TRACE)?)?;
+    let out = output_of_four(&rt, text.as_str())?;
+    holds!(rt; out.as_slice() == NONE_OUTPUT.as_bytes());
     Ok(())
 }
 
@@ -95,14 +140,15 @@ impl Write for Refusing {
 
 #[test]
 fn stops_where_the_writer_refuses(rt: HostRuntime) -> Result<(), Fail> {
-    let trace = parse_trace(rt.alloc(), ROOT_TRACE, default_population())?;
+    let settings = default_settings(rt.alloc())?;
+    let trace = parse_alone(rt.alloc(), ROOT_TRACE)?;
     for room in 0..ROOT_OUTPUT.len() {
         let mut writer = Refusing {
             room,
             kind: ErrorKind::StorageFull,
             taken: Vec::new(rt.alloc()),
         };
-        match run_trace(&rt, &trace, Workers::one(), Some(Engine::Runs), &mut writer) {
+        match run_trace(&rt, &settings, &trace, alone(Some(Engine::Runs)), &mut writer) {
             Err(error) => {
                 same!(rt; error, ReplayError::WriteFault);
                 same!(rt; error.code(), 39);
@@ -119,13 +165,14 @@ fn stops_where_the_writer_refuses(rt: HostRuntime) -> Result<(), Fail> {
 
 #[test]
 fn tells_that_the_writer_wants_memory(rt: HostRuntime) -> Result<(), Fail> {
-    let trace = parse_trace(rt.alloc(), ROOT_TRACE, default_population())?;
+    let settings = default_settings(rt.alloc())?;
+    let trace = parse_alone(rt.alloc(), ROOT_TRACE)?;
     let mut writer = Refusing {
         room: 10,
         kind: ErrorKind::OutOfMemory,
         taken: Vec::new(rt.alloc()),
     };
-    let refused = run_trace(&rt, &trace, Workers::one(), Some(Engine::Runs), &mut writer);
+    let refused = run_trace(&rt, &settings, &trace, alone(Some(Engine::Runs)), &mut writer);
     same!(rt; refused.err(), Some(ReplayError::Memory));
     Ok(())
 }
@@ -148,14 +195,14 @@ fn trace_of_long_word(
 
 /// What the run of a trace prints.
 fn output<R: AllocGlobal + Threads + Wait + Sync>(rt: &R, text: &str) -> Result<Vec<u8>, Fail> {
-    let trace = parse_trace(rt.alloc(), text.as_bytes(), default_population())?;
+    let trace = parse_alone(rt.alloc(), text.as_bytes())?;
     let mut out = Vec::new(rt.alloc());
-    run_trace(rt, &trace, Workers::one(), None, &mut out)?;
+    run_trace(rt, &default_settings(rt.alloc())?, &trace, alone(None), &mut out)?;
     Ok(out)
 }
 
 const GARBAGE: &[u8] =
-    b"c0 t1 000000010000000100000000000000000000000000000004\ndigest 0 9b37908d185e63c080d2e6b11de5f95843b53f677df75e001afa5827a4ed00cc\n";
+    b"c0 t1 000000010000000100000000000000000000000000000004\ndigest 0 accdde5f58617efd6c1699e03889c1d5f923ab9ef62ffb5d6018e850865dcfeb\n";
 
 #[test]
 fn sends_what_is_longer_than_the_server_takes(rt: HostRuntime) -> Result<(), Fail> {
