@@ -2,8 +2,8 @@
 #![tactic(auto)]
 
 use bfs_replay::{
-    Executor, Failure, Settings, default_settings, options, parse_settings, parse_trace, population_of,
-    read_input, run_trace,
+    Executor, Failure, Settings, default_settings, options, parse_settings, parse_trace,
+    population_of, read_input, run_trace,
 };
 use std::fs::File;
 use std::io;
