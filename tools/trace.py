@@ -11,6 +11,7 @@ PROGRAM, VERSION = 100003, 2  # NFS version 2
 CLIENTS = 16  # the clients of a trace are the numbers below it
 MOST_REQUESTS = 1_024  # of a block
 MOST_BYTES = 16_384  # of a call, and of a reply
+NO_REPLY = ("-", "none")  # what stands for a reply of no bytes, and where the replicas gave none
 SECOND = 1_000_000  # times are in microseconds
 TIMES = 2**32 * SECOND  # and below it
 UNSET = 0xFFFFFFFF
@@ -149,6 +150,8 @@ def read_trace(path):
                 if len(call) > MOST_BYTES:
                     raise ValueError(f"the call has above {MOST_BYTES:,} bytes")
                 requests.append(Request(line, last, client, timestamp, call))
+            elif re.fullmatch(r"(silent|heard) \d+", content):
+                room = None
             elif content and not content.startswith("#"):
                 raise ValueError("it is neither `batch S.UUUUUU` nor `CLIENT T VERB ..`")
         except ValueError as error:
@@ -158,13 +161,13 @@ def read_trace(path):
 
 def read_replies(path, requests):
     """The replies to the requests of a trace, by their place in the output; `None` where a request got none."""
-    output, replies = [(line, content) for line, content in lines(path) if not re.fullmatch(r"digest 0 [0-9a-f]{64}", content)], []
+    output, replies = [(line, content) for line, content in lines(path) if not re.fullmatch(r"digest \d+ [0-9a-f]{64}|behind \d+ \d+", content)], []
     for (line, content), request in zip(output, requests):
         begin = f"c{request.client} t{request.timestamp} "
         reply = content[len(begin) :]
-        if not content.startswith(begin) or reply != "-" and not is_hexadecimal(reply) or len(reply) > 2 * MOST_BYTES:
+        if not content.startswith(begin) or reply not in NO_REPLY and not is_hexadecimal(reply) or len(reply) > 2 * MOST_BYTES:
             raise Fault(f"{path}: line {line}: no reply to line {request.line} of the trace, {begin.strip()}")
-        replies.append(None if reply == "-" else bytes.fromhex(reply))
+        replies.append(None if reply in NO_REPLY else bytes.fromhex(reply))
     if len(output) != len(requests):
         raise Fault(f"{path}: {len(output)} lines of replies, where the trace has {len(requests)} requests")
     return replies
