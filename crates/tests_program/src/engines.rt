@@ -73,7 +73,13 @@ fn output<R: AllocGlobal + Threads + Wait + Sync>(
     let settings = default_settings(rt.alloc())?;
     let workers = Workers::new(workers).ok_or("workers")?;
     let mut out = Vec::new(rt.alloc());
-    run_trace(rt, &settings, &trace, Executor { workers, engine }, &mut out)?;
+    run_trace(
+        rt,
+        &settings,
+        &trace,
+        Executor { workers, engine },
+        &mut out,
+    )?;
     Ok(out)
 }
 

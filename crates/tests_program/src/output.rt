@@ -1,8 +1,8 @@
 //! What the run of a trace writes, and where it stops.
 use crate::populations::parse_alone;
 use bfs_replay::{
-    Engine, Executor, Failure, Outcome, ReplayError, TraceError, Workers,
-    default_settings, parse_settings, parse_trace, population_of, run_trace,
+    Engine, Executor, Failure, Outcome, ReplayError, TraceError, Workers, default_settings,
+    parse_settings, parse_trace, population_of, run_trace,
 };
 use bfs_testing::{holds, same};
 use std::alloc::Global;
@@ -48,7 +48,13 @@ fn prints_a_dash_for_what_is_no_call(rt: HostRuntime) -> Result<(), Fail> {
         b"# no call\n\nbatch 0.000000\n15 018446744073709551615 raw aB",
     )?;
     let mut out = Vec::new(rt.alloc());
-    run_trace(&rt, &default_settings(rt.alloc())?, &silent, alone(None), &mut out)?;
+    run_trace(
+        &rt,
+        &default_settings(rt.alloc())?,
+        &silent,
+        alone(None),
+        &mut out,
+    )?;
     holds!(rt; out.as_slice() == SILENT_OUTPUT);
     Ok(())
 }
@@ -61,7 +67,13 @@ fn prints_the_digest_of_a_new_file_system(rt: HostRuntime) -> Result<(), Fail> {
     let empty = parse_alone(rt.alloc(), b"# no block\n")?;
     for engine in [None, Some(Engine::Runs), Some(Engine::Levels)] {
         let mut out = Vec::new(rt.alloc());
-        run_trace(&rt, &default_settings(rt.alloc())?, &empty, alone(engine), &mut out)?;
+        run_trace(
+            &rt,
+            &default_settings(rt.alloc())?,
+            &empty,
+            alone(engine),
+            &mut out,
+        )?;
         holds!(rt; out.as_slice() == NEW_OUTPUT);
     }
     Ok(())
@@ -148,7 +160,13 @@ fn stops_where_the_writer_refuses(rt: HostRuntime) -> Result<(), Fail> {
             kind: ErrorKind::StorageFull,
             taken: Vec::new(rt.alloc()),
         };
-        match run_trace(&rt, &settings, &trace, alone(Some(Engine::Runs)), &mut writer) {
+        match run_trace(
+            &rt,
+            &settings,
+            &trace,
+            alone(Some(Engine::Runs)),
+            &mut writer,
+        ) {
             Err(error) => {
                 same!(rt; error, ReplayError::WriteFault);
                 same!(rt; error.code(), 39);
@@ -172,7 +190,13 @@ fn tells_that_the_writer_wants_memory(rt: HostRuntime) -> Result<(), Fail> {
         kind: ErrorKind::OutOfMemory,
         taken: Vec::new(rt.alloc()),
     };
-    let refused = run_trace(&rt, &settings, &trace, alone(Some(Engine::Runs)), &mut writer);
+    let refused = run_trace(
+        &rt,
+        &settings,
+        &trace,
+        alone(Some(Engine::Runs)),
+        &mut writer,
+    );
     same!(rt; refused.err(), Some(ReplayError::Memory));
     Ok(())
 }
@@ -197,7 +221,13 @@ fn trace_of_long_word(
 fn output<R: AllocGlobal + Threads + Wait + Sync>(rt: &R, text: &str) -> Result<Vec<u8>, Fail> {
     let trace = parse_alone(rt.alloc(), text.as_bytes())?;
     let mut out = Vec::new(rt.alloc());
-    run_trace(rt, &default_settings(rt.alloc())?, &trace, alone(None), &mut out)?;
+    run_trace(
+        rt,
+        &default_settings(rt.alloc())?,
+        &trace,
+        alone(None),
+        &mut out,
+    )?;
     Ok(out)
 }
 
