@@ -1,6 +1,6 @@
 //! Command lines: what the words ask for, and those that are refused.
 use bfs_replay::{Engine, Failure, UsageError, options};
-use bfs_testing::same;
+use bfs_testing::{holds, same};
 use std::alloc::Global;
 use std::test::Fail;
 
@@ -88,25 +88,22 @@ fn refuses_other_command_lines(rt: HostRuntime) -> Result<(), Fail> {
     Ok(())
 }
 
-/// The path of the settings that the words of a line ask for; `-` where there is none, or the words are no usage.
-fn config_of(alloc: Global, line: &'static str) -> Result<String, Fail> {
+/// Whether the words of a line ask for the settings at that path.
+fn asks_for_settings(alloc: Global, line: &str, path: Option<&str>) -> Result<bool, Fail> {
     let words: Vec<&str> = line.split(' ').collect(alloc)?;
-    let path = match options(alloc, words.as_slice()) {
-        Ok(asked) => asked.config.unwrap_or("-"),
-        Err(_) => "-",
+    let asked = match options(alloc, words.as_slice()) {
+        Ok(asked) => asked,
+        Err(_) => return Ok(false),
     };
-    Ok(String::from_str(alloc, path)?)
+    Ok(asked.config == path)
 }
 
 #[test]
 fn reads_where_the_settings_are(rt: HostRuntime) -> Result<(), Fail> {
-    for line in [
-        "replay --config a.toml a.trace",
-        "replay a.trace --config=a.toml",
-    ] {
-        same!(rt; config_of(rt.alloc(), line)?.as_str(), "a.toml");
-    }
-    same!(rt; config_of(rt.alloc(), "replay a.trace")?.as_str(), "-");
+    let path = Some("a.toml");
+    holds!(rt; asks_for_settings(rt.alloc(), "replay --config a.toml a.trace", path)?);
+    holds!(rt; asks_for_settings(rt.alloc(), "replay a.trace --config=a.toml", path)?);
+    holds!(rt; asks_for_settings(rt.alloc(), "replay a.trace", None)?);
     Ok(())
 }
 
