@@ -158,7 +158,7 @@ pub row-blocks : trace_spelled sixteen_clients (codes "batch 1.000000\n0 1 raw 0
 unfolding read_on_literals
 row-blocks = refl
 
--- a replica falls silent and is heard again, where there are several
+-- a replica falls silent and is heard again
 abbrev pub four_replicas : Population
 four_replicas = record { clients = 16; replicas = 4 }
 
@@ -175,6 +175,6 @@ pub row-no_such_replica : trace_spelled four_replicas (codes "silent 3\nsilent 4
 unfolding read_on_literals
 row-no_such_replica = refl
 
-pub row-the_only_replica : trace_spelled sixteen_clients (codes "batch 1.000000\nsilent 0\n") ≡ Err 2
+pub row-the_only_replica : trace_spelled sixteen_clients (codes "silent 0\nheard 1\n") ≡ Err 2
 unfolding read_on_literals
 row-the_only_replica = refl

@@ -41,11 +41,11 @@ batch_line words = do
   time ← time_spelled word
   Some (line.Event (event.Block (record { time = time; requests = [] })))
 
--- what stands behind `silent` and `heard`: a replica. The only one there is can't fall silent
+-- what stands behind `silent` and `heard`: a replica below the number of replicas
 abbrev pub replica_named : Population → List (List ℕ) → Option ℕ
 replica_named population words = do
   word ← only_word words
-  if population.replicas == 1 then None else number_spelled (population.replicas - 1) word
+  number_spelled (population.replicas - 1) word
 
 abbrev pub silent_line : Population → List (List ℕ) → Option Line
 silent_line population words = do

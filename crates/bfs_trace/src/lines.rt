@@ -99,16 +99,13 @@ fn parse_batch(alloc: Global, words: &mut Words<'_>) -> Result<Line, Fault>
     Ok(Line::Event(TraceEvent::Block(Block::new(alloc, time))))
 }
 
-/// Reads the word behind `silent` or `heard`: a replica's number, where there is another replica.
+/// Reads the word behind `silent` or `heard`: a replica's number.
 fn parse_replica(population: Population, words: &mut Words<'_>) -> Result<u32, Fault>
     ensures { Parses (λ replica. replica) result (replica_named population words.old) }
 {
     let word = words.last_word().ok_or(Fault::Bad)?;
-    let replicas = population.replicas();
-    if replicas == 1 {
-        return Err(Fault::Bad);
-    }
-    let replica = parse_number(replicas as u64 - 1, word).ok_or(Fault::Bad)?;
+    let most_replica = population.replicas() as u64 - 1;
+    let replica = parse_number(most_replica, word).ok_or(Fault::Bad)?;
     Ok(replica as u32)
 }
 

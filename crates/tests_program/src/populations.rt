@@ -62,14 +62,28 @@ fn names_clients_below_their_number(rt: HostRuntime) -> Result<(), Fail> {
 
 #[test]
 fn names_replicas_below_their_number(rt: HostRuntime) -> Result<(), Fail> {
-    let cases = [(1, 0, 1), (2, 1, 0), (2, 2, 1), (31, 30, 0), (31, 31, 1)];
+    let cases = [
+        (1, 0, 0),
+        (1, 1, 1),
+        (2, 1, 0),
+        (2, 2, 1),
+        (31, 30, 0),
+        (31, 31, 1),
+    ];
     for (replicas, replica, line) in cases {
         for word in ["silent", "heard"] {
             let text = format!(in rt.alloc(); "{word} {replica}\n")?;
             same!(rt; line_at_fault(rt.alloc(), 16, replicas, text.as_str())?, line);
         }
     }
-    for text in ["silent\n", "silent 0 1\n", "heard +1\n", "Heard 1\n"] {
+    for text in [
+        "silent\n",
+        "silent 0 1\n",
+        "heard +1\n",
+        "Heard 1\n",
+        "timeout 1\n",
+        "timeouts\n",
+    ] {
         same!(rt; line_at_fault(rt.alloc(), 16, 4, text)?, 1);
     }
     Ok(())
@@ -89,8 +103,10 @@ fn reads_who_is_silent_between_blocks(rt: HostRuntime) -> Result<(), Fail> {
         ]
     );
     holds!(rt; is_read);
-    let text = "batch 1.000000\nheard 3\n0 1 null\n";
-    same!(rt; line_at_fault(rt.alloc(), 16, 4, text)?, 3);
+    for event in ["silent 0", "heard 3"] {
+        let text = format!(in rt.alloc(); "batch 1.000000\n{event}\n0 1 null\n")?;
+        same!(rt; line_at_fault(rt.alloc(), 16, 4, text.as_str())?, 3);
+    }
     Ok(())
 }
 

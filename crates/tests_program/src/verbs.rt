@@ -202,8 +202,8 @@ static FAULTS: [&str; 100] = [
     "0 1 statfs",
     "0 1 statfs #2 0",
     "0 1 silent",
-    "silent 0",
-    "heard 0",
+    "silent 1",
+    "heard 1",
     "timeout",
 ];
 
