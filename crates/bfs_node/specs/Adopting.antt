@@ -55,8 +55,9 @@ holding node certificate files table snapshot = record node {
 abbrev pub adopted : Node → Log → FileSystem → Table → Node
 adopted node certificate files table = holding node certificate (Some files) table (snapshot_of files table)
 
--- it holds what the text spells, which has the certificate's digest
+-- it may adopt by the certificate, and holds what the text spells, which has the certificate's digest
 pub record Adopts (node : Node) (text : List ℕ) (certificate : Log) (now : Node) : Type 0 where
+  pub may : may_adopt node certificate ≡ true
   pub files : FileSystem
   pub table : Table
   pub spells : SpellsNode (length node.table) text files table
