@@ -15,13 +15,13 @@ use Rattle.bfs_node.specs.declared.receivers.Receivers.TheVariants.{Replicas, Cl
 use Rattle.bfs_cluster.proofs.Each.{one_more}
 use Rattle.bfs_cluster.specs.Inside.Acts.{Acts, doing, posted_if}
 use Rattle.bfs_cluster.specs.Steps.{executing, turning, turn_taken}
-use Rattle.bfs_cluster.specs.World.{Replica, World, done_if, node_at, node_if_heard, posted, posted_to, with_node}
+use Rattle.bfs_cluster.specs.World.{Replica, World, done_if, node_at, node_if_heard, posted, posted_to}
 
 -- the world with a replica as a call left it
 abbrev pub with_replica : World → (number : ℕ) → Replica → World
 with_replica world number replica = record world { replicas = slice_set world.replicas number replica }
 
-with_itself : (world : World) (number : ℕ) (replica : Replica) → slice_get world.replicas number ≡ Some replica → with_replica world number replica ≡ world
+pub with_itself : (world : World) (number : ℕ) (replica : Replica) → slice_get world.replicas number ≡ Some replica → with_replica world number replica ≡ world
 with_itself world number replica is =
     ap (λ (replicas : List Replica). record world { replicas = replicas })
     (ap (slice_set world.replicas number) (sym (get_or_from_slice_get world.replicas number replica replica is)) ∙ set-get_or world.replicas number replica)

@@ -1,4 +1,6 @@
 pub mod Acting
+pub mod Catching
 pub mod Each
+pub mod Once
 pub mod Settling
 pub mod Turns

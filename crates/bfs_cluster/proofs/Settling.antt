@@ -1,7 +1,7 @@
--- What a run leaves does not depend on the number of steps at which it is looked at.
+-- What a world comes to at rest does not depend on the number of steps at which it is looked at.
 use Rattle.std.proofs.Common.{◌≡◌, ◌∙◌, ℕ, zero, suc, ◌+◌, Bool, true, Option, Some, None, refl, sym, ap, subst, arith}
 use Rattle.bfs_cluster.specs.Inside.Acts.{Steps}
-use Rattle.bfs_cluster.specs.Steps.{after, onward, step, Settles}
+use Rattle.bfs_cluster.specs.Steps.{after, onward, step, Rests}
 use Rattle.bfs_cluster.specs.World.{World}
 
 -- where no step is left, none is made
@@ -30,8 +30,8 @@ one_step_more world before next went is stepped so_far =
     let last : after (suc zero) before ≡ next = ap (λ (w : Option World). onward before w (λ next. after zero next)) made in
     (so_far.0 + suc zero, onwards world so_far.0 (suc zero) ∙ ap (after (suc zero)) so_far.1 ∙ last)
 
-pub settles_once : (world one other : World) → Settles world one → Settles world other → one ≡ other
-settles_once world one other a b =
+pub rests_once : (world one other : World) → Rests world one → Rests world other → one ≡ other
+rests_once world one other a b =
     sym (stays one b.steps a.ended)
     ∙ ap (after b.steps) (sym a.comes)
     ∙ sym (onwards world a.steps b.steps)

@@ -1,14 +1,11 @@
 -- What a replica does at its turn.
-use Rattle.std.proofs.Common.{◌≡◌, ◌∙◌, Bool, [], ◌∷◌, ◌++◌, Option, Some, None, true, refl, sym, ap, subst}
+use Rattle.std.proofs.Common.{◌≡◌, ◌∙◌, Bool, Option, Some, None, true, sym, ap, subst}
 use Rattle.std.specs.Option.{option_map}
 use Rattle.bfs_log.specs.Logs.{Log}
-use Rattle.bfs_messages.specs.declared.message.Message.{Message}
-use Rattle.bfs_messages.specs.declared.signed.Signed.{Signed}
-use Rattle.bfs_node.specs.Checkpoints.{checkpoint, checkpoint_refusal}
 use Rattle.bfs_node.specs.Executing.{after_execution, execution}
 use Rattle.bfs_node.specs.Nodes.{Node, Outcome}
 use Rattle.bfs_cluster.specs.Inside.Acts.{Acts, CheckpointsAfter, doing}
-use Rattle.bfs_cluster.specs.Steps.{executing, followed_by, next_of, with_checkpoint}
+use Rattle.bfs_cluster.specs.Steps.{executing, next_of, with_checkpoint}
 use Rattle.bfs_cluster.specs.World.{Replica}
 
 -- what one that is heard does

@@ -1,6 +1,6 @@
 -- The steps of a run, each of which the world alone tells: messages are delivered in the order in which they were sent, each to all other
 -- replicas by rising number; where none is left, each replica that is heard executes all that is ready, by rising number; and so on, until no
--- message is left and nothing is ready.
+-- message is left and nothing is ready. Then those that are behind catch up, and all begins anew, until none does.
 use Rattle.std.specs.Prelude.{◌≡◌, ℕ, zero, suc, ◌+◌, ◌==◌, Bool, ◌&&◌, List, [], ◌∷◌, ◌++◌, length, Option, Some, None, nat_lt, if◌then◌else◌}
 use Rattle.std.specs.List.{list_any}
 use Rattle.std.specs.Option.{option_map}
@@ -12,6 +12,7 @@ use Rattle.bfs_node.specs.Delivering.{delivered, delivery_refusal}
 use Rattle.bfs_node.specs.Executing.{execution, is_ready}
 use Rattle.bfs_node.specs.Nodes.{Node, Outcome}
 use Rattle.bfs_node.specs.declared.error.NodeError.{NodeError}
+use Rattle.bfs_cluster.specs.CatchingUp.{AllCatchUp, AllStay, Times}
 use Rattle.bfs_cluster.specs.World.{Broadcast, Replica, World, done_by, done_if, node_at}
 
 -- what is done where it is not refused
@@ -89,7 +90,23 @@ after zero world = world
 after (suc steps) world = onward world (step world) (λ next. after steps next)
 
 -- the world comes to the other one by some number of steps, and no step is left there
-pub record Settles (world other : World) : Type 0 where
+pub record Rests (world other : World) : Type 0 where
   pub steps : ℕ
   pub comes : after steps world ≡ other
   pub ended : step other ≡ None
+
+-- Settling -----------------------------------------------------------------------------------------------------------------
+
+-- the world comes to rest, and then those that are behind catch up
+pub record Round (world other : World) : Type 0 where
+  pub rest : World
+  pub comes : Rests world rest
+  pub goes_on : AllCatchUp rest other
+
+-- so often, until the world comes to rest and none catches up
+pub record Settles (world other : World) : Type 0 where
+  pub rounds : ℕ
+  pub last : World
+  pub comes : Times Round rounds world last
+  pub rests : Rests last other
+  pub ended : AllStay other

@@ -2,6 +2,7 @@
 #![tactic(auto)]
 
 mod blocks;
+mod catching_up;
 mod cluster;
 mod laws;
 mod replica;

@@ -1,10 +1,14 @@
 ghost use Rattle.std.specs.Prelude.{◌≡◌, ◌≢◌, Some, None, IfOk, OnOk};
 ghost use Rattle.std.specs.Option.{option_map};
 ghost use Rattle.bfs_cluster.specs.Blocks.{proposal};
+ghost use Rattle.bfs_cluster.specs.CatchingUp.{Offer, offered};
 ghost use Rattle.bfs_cluster.specs.Inside.Acts.{Acts, CheckpointsAfter, doing};
+ghost use Rattle.bfs_cluster.specs.Inside.Trying.{Tries};
 ghost use Rattle.bfs_cluster.specs.Steps.{delivery, executing};
 ghost use Rattle.bfs_node.specs.declared.error.NodeError.TheVariants as refusal;
+ghost use Rattle.bfs_order.specs.Replica.Installing.{number_of};
 
+use bfs_log::header_of;
 use bfs_messages::{Message, Signed};
 use bfs_node::{Executor, NoGate, Node, NodeError};
 use bfs_types::{Memory, Time};
@@ -92,6 +96,37 @@ impl Replica {
         }
     }
 
+    /// Its stable snapshot and the certificate, if its number is above that one.
+    pub fn offer(&self, last: u64) -> Option<(&[u8], &[Signed<Message>])>
+        ensures { option_map {U = Offer} (λ offer. (offer.0.now, offer.1.now)) result ≡ offered last self.now }
+    {
+        if !self.heard {
+            return None;
+        }
+        let (text, certificate) = self.node.stable()?;
+        if last < number_in(certificate) {
+            Some((text, certificate))
+        } else {
+            None
+        }
+    }
+
+    /// Adopts a snapshot; `false` where it refuses to.
+    pub fn adopt<R: Threads + Sync>(
+        &mut self,
+        rt: &R,
+        text: &[u8],
+        certificate: &[Signed<Message>],
+    ) -> Result<bool, Memory>
+        ensures { IfOk result (λ took. Tries took self.old text.now certificate.now self.new) }
+    {
+        match self.node.adopt(rt, text, certificate) {
+            Ok(()) => Ok(true),
+            Err(NodeError::Memory) => Err(Memory),
+            Err(_) => Ok(false),
+        }
+    }
+
     // its message is put behind what is sent
     fn make_checkpoint<R: Threads + Sync>(
         &mut self,
@@ -105,6 +140,15 @@ impl Replica {
             Err(NodeError::Memory | NodeError::Failed) => Err(Memory),
             Err(_) => Ok(()),
         }
+    }
+}
+
+fn number_in(certificate: &[Signed<Message>]) -> u64
+    ensures { result ≡ number_of certificate.now }
+{
+    match certificate.first() {
+        None => 0,
+        Some(first) => header_of(&first.message).number,
     }
 }
 

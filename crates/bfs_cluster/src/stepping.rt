@@ -2,7 +2,7 @@ ghost use Rattle.std.specs.Prelude.{◌≡◌, ◌<◌, ◌+◌, None, [], ◌�
 ghost use Rattle.std.specs.List.{fold, list_any};
 ghost use Rattle.std.specs.Option.{option_map};
 ghost use Rattle.bfs_cluster.specs.Inside.Acts.{Steps, posted_if};
-ghost use Rattle.bfs_cluster.specs.Steps.{Settles, delivering, handed, has_ready, turning};
+ghost use Rattle.bfs_cluster.specs.Steps.{Rests, Settles, delivering, handed, has_ready, turning};
 ghost use Rattle.bfs_cluster.specs.World.{posted};
 
 use crate::cluster::{Broadcast, Cluster};
@@ -14,9 +14,22 @@ use std::sync::Wait;
 use std::thread::Threads;
 
 impl Cluster {
-    /// Delivers messages and executes what is ready, until no message is left and nothing is ready.
+    /// Delivers messages and executes what is ready, until no message is left and nothing is ready. Then replicas that are behind catch
+    /// up, and all begins anew, until none does.
     pub fn settle<R: Threads + Wait + Sync>(&mut self, rt: &R) -> Result<(), Memory>
         ensures { OnOk result (Settles self.old self.new) }
+    {
+        for _ in rt.forever() {
+            self.rest(rt)?;
+            if !self.catch_up(rt)? {
+                return Ok(());
+            }
+        }
+        unreachable!()
+    }
+
+    fn rest<R: Threads + Wait + Sync>(&mut self, rt: &R) -> Result<(), Memory>
+        ensures { OnOk result (Rests self.old self.new) }
     {
         for _ in rt.forever() {
             if !self.step(rt)? {

@@ -1,22 +1,22 @@
 -- When a CHECKPOINT makes its number stable: the low mark rises to it, and the CHECKPOINTs that tell it are a certificate.
-use Rattle.std.proofs.Common.{◌≡◌, ◌∙◌, ◌<◌, ◌≤◌, ℕ, ◌+◌, ◌==◌, Bool, true, false, ◌&&◌, ◌||◌, not, cond, eqb, ltb, leb, List, [], ◌∷◌, ◌++◌, Option, Some, None, refl, sym, ap, ap₂, subst, arith}
+use Rattle.std.proofs.Common.{◌≡◌, ◌∙◌, ◌<◌, ℕ, ◌==◌, Bool, true, false, ◌&&◌, not, cond, ltb, List, [], ◌∷◌, ◌++◌, Option, Some, None, refl, sym, ap, ap₂, arith}
 use Rattle.std.proofs.lemmas.Bool.{and_parts, eqb-true, ltb-true, eq-eqb, ne_eqb}
 use Rattle.std.proofs.lemmas.List.{append-nil}
 use Rattle.bfs_auth.specs.Keys.{Keys}
-use Rattle.bfs_agreement.specs.Votes.{Header, SlotsDiffer, is_stable, is_taken}
+use Rattle.bfs_agreement.specs.Votes.{Header, SlotsDiffer, is_taken}
 use Rattle.bfs_checkpoints.specs.Certificates.{IsCertificate, checkpoints}
 use Rattle.bfs_checkpoints.specs.Keeping.{Keeping, settled as settled_snapshots, with_snapshot}
 use Rattle.bfs_checkpoints.specs.Snapshots.{Snapshot}
 use Rattle.bfs_checkpoints.proofs.Public.{certificate_of}
 use Rattle.bfs_log.specs.Headers.{header}
-use Rattle.bfs_log.specs.Logs.{Log, headers}
+use Rattle.bfs_log.specs.Logs.{Log}
 use Rattle.bfs_log.proofs.Public.{differ_pushed}
 use Rattle.bfs_messages.specs.declared.signed.Signed.{Signed}
 use Rattle.bfs_messages.specs.declared.message.Message.{Message}
-use Rattle.bfs_order.specs.Replica.Accepting.{accepted, answers, makes_stable, settled}
+use Rattle.bfs_order.specs.Replica.Accepting.{accepted, makes_stable, settled}
 use Rattle.bfs_order.specs.Replica.Answers.{answers_in}
 use Rattle.bfs_order.specs.Replica.Checkpoints.{checkpoint, checkpoint_refusal, checkpointed}
-use Rattle.bfs_order.specs.Replica.Refusals.{conflicts, is_authentic, is_between, is_inside, is_of_view, is_ordering, is_there, place_refusal, refusal}
+use Rattle.bfs_order.specs.Replica.Refusals.{conflicts, is_authentic, is_between, is_inside, is_of_view, is_ordering, is_there, refusal}
 use Rattle.bfs_order.specs.Replica.States.{State, known, with_message, with_more}
 use Rattle.bfs_order.specs.declared.error.OrderError.{OrderError}
 use Rattle.bfs_node.specs.Checkpoints.{with_checkpoint}

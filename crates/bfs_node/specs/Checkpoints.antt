@@ -1,5 +1,5 @@
 -- A replica tells the others what it is after a number (OSDI 1999 section 4.3).
-use Rattle.std.specs.Prelude.{ℕ, ◌%◌, ◌==◌, not, List, [], ◌∷◌, Option, Some, None, if◌then◌else◌}
+use Rattle.std.specs.Prelude.{◌%◌, ◌==◌, not, [], ◌∷◌, Option, Some, None, if◌then◌else◌}
 use Rattle.std.specs.Option.{option_map}
 use Rattle.bfs_model.specs.Server.Tree.{FileSystem}
 use Rattle.bfs_checkpoints.specs.Keeping.{with_snapshot}

@@ -1,5 +1,5 @@
 -- A message comes: each kind goes to its part, and what the part gives is sent (OSDI 1999 sections 4.1 to 4.3).
-use Rattle.std.specs.Prelude.{ℕ, not, List, [], ◌∷◌, ◌++◌, length, Option, Some, None, nat_le, if◌then◌else◌}
+use Rattle.std.specs.Prelude.{not, [], ◌∷◌, ◌++◌, length, Option, Some, None, nat_le, if◌then◌else◌}
 use Rattle.std.specs.Option.{option_map}
 use Rattle.bfs_model.specs.Server.Limits.{most_requests}
 use Rattle.bfs_agreement.specs.Votes.{Header}

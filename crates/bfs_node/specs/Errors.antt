@@ -1,5 +1,7 @@
 -- Why a replica refuses a message or a call, and the numbers of the refusals.
 use Rattle.std.specs.Prelude.{ℕ}
+use Rattle.bfs_checkpoints.specs.declared.adoption.AdoptError.{AdoptError}
+use Rattle.bfs_checkpoints.specs.declared.adoption.AdoptError.TheVariants as adopting
 use Rattle.bfs_messages.specs.declared.error.DecodeError.{DecodeError}
 use Rattle.bfs_messages.specs.declared.error.DecodeError.TheVariants as decoding
 use Rattle.bfs_order.specs.declared.error.OrderError.{OrderError}
@@ -29,8 +31,18 @@ abbrev pub of_executing : ExecError → NodeError
 of_executing executing.Failed = node.Failed
 of_executing executing.Memory = node.Memory
 
+abbrev pub of_adopting : AdoptError → NodeError
+of_adopting adopting.Malformed = node.MalformedText
+of_adopting adopting.WrongVersion = node.WrongVersion
+of_adopting adopting.NotWellFormed = node.NotWellFormed
+of_adopting adopting.DigestDiffers = node.DigestDiffers
+of_adopting adopting.Memory = node.Memory
+
 abbrev pub code_of : NodeError → ℕ
 code_of node.BatchFull = 13
+code_of node.MalformedText = 20
+code_of node.NotWellFormed = 21
+code_of node.WrongVersion = 22
 code_of node.Malformed = 23
 code_of node.BadAuthenticator = 24
 code_of node.WrongView = 25
@@ -39,6 +51,7 @@ code_of node.Conflicting = 27
 code_of node.NotPrimary = 28
 code_of node.AlreadyHave = 29
 code_of node.NoCertificate = 34
+code_of node.DigestDiffers = 35
 code_of node.WrongKind = 36
 code_of node.Memory = 40
 code_of node.Failed = 41

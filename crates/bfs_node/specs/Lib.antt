@@ -6,4 +6,5 @@ pub mod Delivering
 pub mod Proposing
 pub mod Executing
 pub mod Checkpoints
+pub mod Adopting
 pub mod Inside

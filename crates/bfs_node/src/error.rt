@@ -1,6 +1,7 @@
 ghost use Rattle.std.specs.Prelude.{◌≡◌};
-ghost use Rattle.bfs_node.specs.Errors.{code_of, of_decoding, of_executing, of_order};
+ghost use Rattle.bfs_node.specs.Errors.{code_of, of_adopting, of_decoding, of_executing, of_order};
 
+use bfs_checkpoints::AdoptError;
 use bfs_messages::DecodeError;
 use bfs_order::OrderError;
 use bfs_serial::ExecError;
@@ -15,6 +16,15 @@ pub enum NodeError {
     /// There are as many requests waiting as a batch can have.
     #[error("as many requests wait as a batch can have")]
     BatchFull,
+    /// The text spells no replica of as many clients.
+    #[error("the text spells no replica")]
+    MalformedText,
+    /// The file system that the text spells is not well formed.
+    #[error("the file system is not well formed")]
+    NotWellFormed,
+    /// The file system's text is of another version.
+    #[error("the text is of another version")]
+    WrongVersion,
     /// The bytes spell no message of a kind that is taken.
     #[error("the bytes spell no message")]
     Malformed,
@@ -36,9 +46,12 @@ pub enum NodeError {
     /// The message is there, or the checkpoint was told.
     #[error("the message is there already")]
     AlreadyHave,
-    /// The messages are no certificate of a checkpoint.
+    /// The messages are no certificate of a checkpoint that is ahead.
     #[error("the checkpoint has no certificate")]
     NoCertificate,
+    /// What the text spells has another digest than its certificate tells.
+    #[error("the digest is another one")]
+    DigestDiffers,
     /// The message is a REPLY, which is for clients.
     #[error("the message is not one for replicas")]
     WrongKind,
@@ -57,6 +70,9 @@ impl NodeError {
     {
         match self {
             NodeError::BatchFull => 13,
+            NodeError::MalformedText => 20,
+            NodeError::NotWellFormed => 21,
+            NodeError::WrongVersion => 22,
             NodeError::Malformed => 23,
             NodeError::BadAuthenticator => 24,
             NodeError::WrongView => 25,
@@ -65,6 +81,7 @@ impl NodeError {
             NodeError::NotPrimary => 28,
             NodeError::AlreadyHave => 29,
             NodeError::NoCertificate => 34,
+            NodeError::DigestDiffers => 35,
             NodeError::WrongKind => 36,
             NodeError::Memory => 40,
             NodeError::Failed => 41,
@@ -97,6 +114,20 @@ impl From<DecodeError> for NodeError {
         match error {
             DecodeError::Malformed => NodeError::Malformed,
             DecodeError::Memory => NodeError::Memory,
+        }
+    }
+}
+
+impl From<AdoptError> for NodeError {
+    ghost from_gives = { λ error given. given ≡ of_adopting error };
+
+    fn from(error: AdoptError) -> NodeError {
+        match error {
+            AdoptError::Malformed => NodeError::MalformedText,
+            AdoptError::WrongVersion => NodeError::WrongVersion,
+            AdoptError::NotWellFormed => NodeError::NotWellFormed,
+            AdoptError::DigestDiffers => NodeError::DigestDiffers,
+            AdoptError::Memory => NodeError::Memory,
         }
     }
 }

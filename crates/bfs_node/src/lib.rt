@@ -2,6 +2,7 @@
 //! section 4).
 #![tactic(auto)]
 
+mod adopting;
 mod checkpoints;
 mod delivering;
 mod error;

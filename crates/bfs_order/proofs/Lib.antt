@@ -15,3 +15,4 @@ mod Taking
 mod Cleaning
 mod Saying
 mod Viewing
+mod Vouching

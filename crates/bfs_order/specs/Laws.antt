@@ -4,3 +4,4 @@ pub mod Logs
 pub mod Clean
 pub mod Sent
 pub mod Executed
+pub mod Certificates

@@ -164,6 +164,14 @@ fn certified(alloc: Global, log: &Log, certificate: &[Signed<Message>]) -> Resul
 }
 
 impl Order {
+    /// Whether messages are a certificate that `install` takes: CHECKPOINTs of 2f + 1 different replicas or more, all of one number and
+    /// digest. It takes no memory.
+    pub fn is_certificate(&self, keys: &Keys, certificate: &[Signed<Message>]) -> bool
+        ensures { result ≡ is_certificate keys.now self.now.f certificate.now }
+    {
+        is_certificate_of(keys, self.f, certificate)
+    }
+
     fn install_refusal(&self, keys: &Keys, certificate: &[Signed<Message>]) -> Option<OrderError>
         ensures value { result ≡ install_refusal keys.now self.now certificate.now }
         ensures senders { IfNone result (are_from_few certificate.now ≡ true) }

@@ -1,5 +1,6 @@
 // What holds of a replica after any calls. The bodies do nothing: what is said is the contracts.
 ghost use Rattle.bfs_order.specs.Laws.Calls.{CallsKeepTheReplica, IsAlways, IsKept};
+ghost use Rattle.bfs_order.specs.Laws.Certificates.{CertificatesMakeStable};
 ghost use Rattle.bfs_order.specs.Laws.Clean.{LogsAreClean, ProperCallsKeepLogsClean};
 ghost use Rattle.bfs_order.specs.Laws.Executed.{NextHasItsCertificate, OnlyTheNextIsExecuted};
 ghost use Rattle.bfs_order.specs.Laws.Logs.{HasCertificate, HasDistinctSlots, HasNoLaterView, IsWindowed};
@@ -58,4 +59,9 @@ pub fn what_is_sent_says_one_digest()
 pub fn what_is_executed_has_its_certificate()
     ensures next { NextHasItsCertificate }
     ensures executed { OnlyTheNextIsExecuted }
+{}
+
+/// The messages of a certificate that can be installed make its checkpoint stable by themselves: 2f + 1 replicas tell it.
+pub fn certificates_make_checkpoints_stable()
+    ensures { CertificatesMakeStable }
 {}

@@ -15,7 +15,8 @@ mod views;
 
 pub use error::OrderError;
 pub use laws::{
-    a_replica_stays_itself, logs_are_clean, numbers_lie_in_the_window, slots_differ,
-    the_stable_checkpoint_has_its_certificate, views_are_entered, what_is_sent_says_one_digest,
+    a_replica_stays_itself, certificates_make_checkpoints_stable, logs_are_clean,
+    numbers_lie_in_the_window, slots_differ, the_stable_checkpoint_has_its_certificate,
+    views_are_entered, what_is_sent_says_one_digest,
 };
 pub use order::Order;

@@ -1,5 +1,5 @@
-use Rattle.bfs_cluster.proofs.Settling.{settles_once}
+use Rattle.bfs_cluster.proofs.Once.{settles_once}
 use Rattle.bfs_cluster.proofs.laws.a_world_settles_once.Goals as goal
 
 pub returns : goal.returns
-returns c = settles_once
+returns c = settles_once c.a_text_spells_one_node.ensures c.live_nodes_are_read_again.ensures

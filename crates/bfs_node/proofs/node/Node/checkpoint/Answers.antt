@@ -1,4 +1,4 @@
-use Rattle.std.proofs.Common.{◌≡◌, ◌∙◌, ◌∷◌, [], Some, Option, ap}
+use Rattle.std.proofs.Common.{◌≡◌, ◌∷◌, [], Some, Option, ap}
 use Rattle.std.specs.Option.{option_map}
 use Rattle.bfs_model.specs.Server.Tree.{FileSystem}
 use Rattle.bfs_messages.specs.declared.signed.Signed.{Signed}

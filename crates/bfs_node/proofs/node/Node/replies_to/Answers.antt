@@ -1,5 +1,4 @@
 use Rattle.bfs_node.proofs.Telling.{one_told}
-use Rattle.std.proofs.Common.{◌∙◌, ap, arith}
 use Rattle.bfs_node.proofs.node.Node.replies_to.Goals as goal
 
 pub loop-answer-preserved : goal.loop-answer-preserved

@@ -1,5 +1,5 @@
 -- The CHECKPOINTs that were copied are those that may make its number stable.
-use Rattle.std.proofs.Common.{◌≡◌, ◌∙◌, ◌∷◌, ◌++◌, [], ap}
+use Rattle.std.proofs.Common.{◌∙◌, ◌∷◌, ◌++◌, [], ap}
 use Rattle.bfs_agreement.specs.Votes.{Header}
 use Rattle.bfs_checkpoints.specs.Certificates.{checkpoints}
 use Rattle.bfs_log.specs.Headers.{header}

@@ -1,5 +1,5 @@
 -- The CHECKPOINTs that were copied are those that may make its own stable.
-use Rattle.std.proofs.Common.{◌≡◌, ◌∙◌, ◌∷◌, ◌++◌, [], ℕ, List, ap, sym}
+use Rattle.std.proofs.Common.{◌∙◌, ◌∷◌, ◌++◌, [], ℕ, ap}
 use Rattle.bfs_checkpoints.specs.Certificates.{checkpoints}
 use Rattle.bfs_log.specs.Headers.{header}
 use Rattle.bfs_log.specs.Logs.{Log}

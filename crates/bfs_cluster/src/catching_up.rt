@@ -1,0 +1,104 @@
+// Replicas that are behind adopt the stable snapshot of one that is ahead.
+ghost use Rattle.std.specs.Prelude.{◌≡◌, ◌<◌, List, ℕ, length, IfOk};
+ghost use Rattle.std.specs.Option.{option_map};
+ghost use Rattle.bfs_cluster.specs.CatchingUp.{Offer as Offered, ahead_of, offer_to};
+ghost use Rattle.bfs_cluster.specs.Inside.Trying.{AllCatchUpIf, CatchesUpIf, TakesIf};
+
+use crate::cluster::Cluster;
+use bfs_messages::{Message, Signed};
+use bfs_types::Memory;
+use std::sync::Wait;
+use std::thread::Threads;
+
+/// A copy of a stable snapshot's text, and of its certificate.
+#[derive(Drop)]
+struct Offer {
+    text: Vec<u8>,
+    certificate: Vec<Signed<Message>>,
+}
+
+impl Cluster {
+    /// Each replica that is behind adopts, the lowest first, until none can; `false` where none could. It is asked for once no message is
+    /// left and nothing is ready.
+    pub(crate) fn catch_up<R: Threads + Wait + Sync>(&mut self, rt: &R) -> Result<bool, Memory>
+        ensures { IfOk result (λ any. AllCatchUpIf any self.old self.new) }
+    {
+        let mut any = false;
+        for _ in rt.forever() {
+            if !self.adopt_lowest(rt)? {
+                return Ok(any);
+            }
+            any = true;
+        }
+        unreachable!()
+    }
+
+    fn adopt_lowest<R: Threads + Sync>(&mut self, rt: &R) -> Result<bool, Memory>
+        ensures { IfOk result (λ caught. CatchesUpIf caught self.old self.new) }
+    {
+        for number in 0..self.replicas.len() {
+            if self.adopt_at(rt, number)? {
+                return Ok(true);
+            }
+        }
+        Ok(false)
+    }
+
+    fn adopt_at<R: Threads + Sync>(&mut self, rt: &R, number: usize) -> Result<bool, Memory>
+        requires { number < length self.old.replicas }
+        ensures { IfOk result (λ took. TakesIf took self.old number self.new) }
+    {
+        match self.offer_to(number)? {
+            None => Ok(false),
+            Some(offer) => {
+                self.replicas[number].adopt(rt, offer.text.as_slice(), offer.certificate.as_slice())
+            }
+        }
+    }
+
+    fn offer_to(&self, number: usize) -> Result<Option<Offer>, Memory>
+        requires { number < length self.now.replicas }
+        ensures { IfOk result (λ offer. option_map {U = Offered} (λ copy. (copy.text.items, copy.certificate.items)) offer ≡ offer_to self.now number) }
+    {
+        let replica = &self.replicas[number];
+        if !replica.heard {
+            return Ok(None);
+        }
+        match self.ahead_of(replica.node.last_executed()) {
+            None => Ok(None),
+            Some((text, certificate)) => Ok(Some(Offer {
+                text: self.copy_of(text)?,
+                certificate: self.copies_of(certificate)?,
+            })),
+        }
+    }
+
+    fn ahead_of(&self, last: u64) -> Option<(&[u8], &[Signed<Message>])>
+        ensures { option_map {U = Offered} (λ offer. (offer.0.now, offer.1.now)) result ≡ ahead_of last self.now.replicas }
+    {
+        for replica in &self.replicas {
+            if let Some(offer) = replica.offer(last) {
+                return Some(offer);
+            }
+        }
+        None
+    }
+
+    fn copy_of(&self, text: &[u8]) -> Result<Vec<u8>, Memory>
+        ensures { IfOk result (λ copy. copy.items ≡ text.now) }
+    {
+        let mut copy = Vec::new(self.alloc);
+        copy.extend_from_slice(text)?;
+        Ok(copy)
+    }
+
+    fn copies_of(&self, messages: &[Signed<Message>]) -> Result<Vec<Signed<Message>>, Memory>
+        ensures { IfOk result (λ copies. copies.items ≡ messages.now) }
+    {
+        let mut copies = Vec::new(self.alloc);
+        for message in messages {
+            copies.push(message.try_clone(self.alloc)?)?;
+        }
+        Ok(copies)
+    }
+}
