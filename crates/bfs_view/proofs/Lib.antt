@@ -1,0 +1,3 @@
+-- What proofs share.
+mod Folds
+mod Steps

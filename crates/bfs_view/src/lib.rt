@@ -1,0 +1,16 @@
+//! From one view to the next: what a replica says of its log, what is right of that, and what a new view takes over (OSDI 1999 section 4.4).
+#![tactic(auto)]
+
+mod certificates;
+mod choice;
+mod error;
+
+mod new_views;
+mod senders;
+mod view_changes;
+
+pub use choice::{Choice, Chosen, choice_of};
+pub use error::ViewError;
+
+pub use new_views::{check_new_view, choose};
+pub use view_changes::valid_view_change;
