@@ -1,3 +1,4 @@
 -- What proofs share.
 mod Folds
+mod Headers
 mod Steps

@@ -1,7 +1,7 @@
 // Which certificates are right.
 ghost use Rattle.std.specs.Prelude.{◌≡◌, ◌≤◌, ◌+◌, ◌*◌, ◌==◌, ◌&&◌, not, map, nat_le, nat_lt, length, bytes_eq};
-ghost use Rattle.std.specs.List.{list_all};
-ghost use Rattle.bfs_agreement.specs.Votes.{backups, primary, told};
+ghost use Rattle.std.specs.List.{list_all, list_any};
+ghost use Rattle.bfs_agreement.specs.Votes.{backups, primary, says, told};
 ghost use Rattle.bfs_log.specs.Headers.{header, vote_header};
 ghost use Rattle.bfs_log.specs.Logs.{headers};
 ghost use Rattle.bfs_messages.specs.Messages as model;
@@ -34,15 +34,10 @@ pub(crate) fn does_match(proposed: &Vote, vote: &Vote) -> bool
         && (vote.number() == proposed.number() && vote.digest() == proposed.digest())
 }
 
-#[tactic(auto, using(crate::proofs::Folds::all_map))]
-fn do_match(certificate: &Certificate) -> bool
-    ensures { result ≡ list_all (λ m. matches (vote_in certificate.now) (header m)) (prepares_in certificate.now) }
+fn do_match(proposed: &Vote, prepares: &[Signed<Vote>]) -> bool
+    ensures { result ≡ list_all (λ s. matches proposed.now (vote_header 3 s.message)) prepares.now }
 {
-    let proposed = vote_in(certificate);
-    certificate
-        .prepares()
-        .iter()
-        .all(|signed| does_match(proposed, &signed.message))
+    prepares.iter().all(|signed| does_match(proposed, &signed.message))
 }
 
 fn do_all_differ(certificate: &Certificate) -> bool
@@ -57,11 +52,23 @@ fn do_all_differ(certificate: &Certificate) -> bool
 pub(crate) fn is_told_by(certificate: &Certificate, sender: u32) -> bool
     ensures { result ≡ told (headers (messages_in certificate.now)) 3 sender (view_in certificate.now) (number_in certificate.now) (vote_in certificate.now).digest }
 {
-    let proposed = vote_in(certificate);
-    certificate
-        .prepares()
+    do_tell(certificate.prepares(), vote_in(certificate), sender)
+}
+
+fn do_tell(prepares: &[Signed<Vote>], proposed: &Vote, sender: u32) -> bool
+    ensures { result ≡ list_any (λ s. says 3 sender proposed.now.view proposed.now.number proposed.now.digest (vote_header 3 s.message)) prepares.now }
+{
+    prepares
         .iter()
-        .any(|signed| signed.message.sender() == sender && does_match(proposed, &signed.message))
+        .any(|signed| does_say(&signed.message, proposed, sender))
+}
+
+fn does_say(vote: &Vote, proposed: &Vote, sender: u32) -> bool
+    ensures { result ≡ says 3 sender proposed.now.view proposed.now.number proposed.now.digest (vote_header 3 vote.now) }
+{
+    (vote.sender() == sender
+        && (vote.view() == proposed.view() && vote.number() == proposed.number()))
+        && vote.digest() == proposed.digest()
 }
 
 fn count_backups(f: u32, certificate: &Certificate) -> u32
@@ -79,6 +86,7 @@ fn count_backups(f: u32, certificate: &Certificate) -> u32
 }
 
 /// Whether 2f backups match the PRE-PREPARE of the primary.
+#[tactic(auto, using(crate::proofs::Headers::proposed_by))]
 pub(crate) fn is_proved(f: u32, certificate: &Certificate) -> bool
     requires { f ≤ 10 }
     ensures { result ≡ is_proved f certificate.now }
@@ -105,54 +113,55 @@ fn is_vote_signed(keys: &Keys, signed: &Signed<Vote>) -> bool
     is_prepare_signed(keys, signed)
 }
 
-#[tactic(auto, using(crate::proofs::Folds::all_map))]
 fn are_prepares_signed(keys: &Keys, prepares: &[Signed<Vote>]) -> bool
-    ensures { result ≡ list_all (is_all_signed keys.now) (map (as_message kind.Prepare) prepares.now) }
+    ensures { result ≡ list_all (λ s. is_all_signed keys.now (as_message kind.Prepare s)) prepares.now }
 {
     prepares.iter().all(|signed| is_vote_signed(keys, signed))
 }
 
 /// Whether a certificate shows that its batch was prepared.
+#[tactic(auto, using(crate::proofs::Folds::all_map))]
 pub(crate) fn does_certify(keys: &Keys, certificate: &Certificate) -> bool
     ensures { result ≡ certifies keys.now certificate.now }
 {
-    do_match(certificate)
+    do_match(vote_in(certificate), certificate.prepares())
         && (do_all_differ(certificate)
             && (is_proved(faults_of(keys), certificate)
                 && (is_batch_signed(keys, certificate.proposal())
                     && are_prepares_signed(keys, certificate.prepares()))))
 }
 
-fn does_vouch(
-    keys: &Keys,
-    f: u32,
-    number: u64,
-    digest: &[u8; 32],
-    signed: &Signed<Checkpoint>,
-) -> bool
+// Whether a replica's CHECKPOINT tells what the first one does.
+fn does_vouch(keys: &Keys, f: u32, first: &Checkpoint, signed: &Signed<Checkpoint>) -> bool
     requires { f ≤ 10 }
-    ensures { result ≡ vouches keys.now f number digest.now (as_message kind.Checkpoint signed.now) }
+    ensures { result ≡ vouches keys.now f first.now.number first.now.digest (as_message kind.Checkpoint signed.now) }
 {
     let checkpoint = &signed.message;
-    checkpoint.number() == number
-        && (checkpoint.digest() == digest
+    checkpoint.number() == first.number()
+        && (checkpoint.digest() == first.digest()
             && (checkpoint.sender() < 3 * f + 1 && is_checkpoint_signed(keys, signed)))
 }
 
 #[tactic(auto, using(crate::proofs::Folds::all_map))]
-fn do_vouch(
+fn do_vouch(keys: &Keys, f: u32, first: &Checkpoint, checkpoints: &[Signed<Checkpoint>]) -> bool
+    requires { f ≤ 10 }
+    ensures { result ≡ list_all (vouches keys.now f first.now.number first.now.digest) (map (as_message kind.Checkpoint) checkpoints.now) }
+{
+    does_each_vouch(keys, f, first, checkpoints)
+}
+
+fn does_each_vouch(
     keys: &Keys,
     f: u32,
-    number: u64,
-    digest: &[u8; 32],
+    first: &Checkpoint,
     checkpoints: &[Signed<Checkpoint>],
 ) -> bool
     requires { f ≤ 10 }
-    ensures { result ≡ list_all (vouches keys.now f number digest.now) (map (as_message kind.Checkpoint) checkpoints.now) }
+    ensures { result ≡ list_all (λ s. vouches keys.now f first.now.number first.now.digest (as_message kind.Checkpoint s)) checkpoints.now }
 {
     checkpoints
         .iter()
-        .all(|signed| does_vouch(keys, f, number, digest, signed))
+        .all(|signed| does_vouch(keys, f, first, signed))
 }
 
 /// Whether the CHECKPOINTs of a VIEW-CHANGE show that its stable number is stable.
@@ -175,6 +184,6 @@ fn are_certificate(keys: &Keys, first: &Checkpoint, checkpoints: &[Signed<Checkp
     ensures { result ≡ (list_all (vouches keys.now (faults keys.now) first.now.number first.now.digest) (map (as_message kind.Checkpoint) checkpoints.now) && (senders_differ (map (as_message kind.Checkpoint) checkpoints.now) && nat_le (2 * faults keys.now + 1) (length checkpoints.now))) }
 {
     let f = faults_of(keys);
-    do_vouch(keys, f, first.number(), first.digest(), checkpoints)
+    do_vouch(keys, f, first, checkpoints)
         && (do_senders_differ(checkpoints) && 2 * f as usize + 1 <= checkpoints.len())
 }

@@ -1,5 +1,6 @@
 // Who sends the parts of VIEW-CHANGEs and NEW-VIEWs.
 ghost use Rattle.std.specs.Prelude.{◌≡◌, ◌≤◌, ◌==◌, map};
+ghost use Rattle.std.specs.List.{list_any};
 ghost use Rattle.bfs_agreement.specs.Votes.{count_below, replicas};
 ghost use Rattle.bfs_log.specs.Headers.{header};
 ghost use Rattle.bfs_messages.specs.declared.signed.Signed as signed;
@@ -57,6 +58,12 @@ pub(crate) fn faults_of(keys: &Keys) -> u32
 #[tactic(auto, using(crate::proofs::Folds::any_map))]
 pub(crate) fn is_sender<T: Sent>(messages: &[T], sender: u32) -> bool
     ensures { result ≡ has_sender (map T.sent messages.now) sender }
+{
+    is_any_from(messages, sender)
+}
+
+fn is_any_from<T: Sent>(messages: &[T], sender: u32) -> bool
+    ensures { result ≡ list_any (λ m. (header (T.sent m)).sender == sender) messages.now }
 {
     messages.iter().any(
         |message: &T| -> bool
