@@ -2,3 +2,7 @@
 mod Folds
 mod Headers
 mod Steps
+mod Passed
+mod Few
+mod Certified
+mod Latest

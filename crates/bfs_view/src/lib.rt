@@ -4,6 +4,7 @@
 mod certificates;
 mod choice;
 mod error;
+mod making;
 
 mod new_views;
 mod senders;
@@ -12,5 +13,6 @@ mod view_changes;
 pub use choice::{Choice, Chosen, choice_of};
 pub use error::ViewError;
 
+pub use making::make_view_change;
 pub use new_views::{check_new_view, choose};
 pub use view_changes::valid_view_change;

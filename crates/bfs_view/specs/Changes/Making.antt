@@ -35,9 +35,12 @@ abbrev pub is_prepared_for : State → (number : ℕ) → Header → Bool
 is_prepared_for s number h =
     (h.tag == 2) && ((h.number == number) && ((h.sender == primary s.f h.view) && prepared s.f s.me (known s) h.view h.number h.digest))
 
--- what the log proves to be prepared for a number
+-- what some messages of the log are that
+abbrev pub prepared_among : State → (number : ℕ) → Log → List Certificate
+prepared_among s number messages = map (certificate_of s.f s.log) (proposals (filter (λ m. is_prepared_for s number (header m)) messages))
+
 abbrev pub prepared_for : State → (number : ℕ) → List Certificate
-prepared_for s number = map (certificate_of s.f s.log) (proposals (filter (λ m. is_prepared_for s number (header m)) s.log))
+prepared_for s number = prepared_among s number s.log
 
 -- the one of the later view
 abbrev pub later : Option Certificate → Certificate → Option Certificate
@@ -53,12 +56,12 @@ abbrev pub certificates : State → List Certificate
 certificates s = filter_map (λ number. latest (prepared_for s number)) (range_with_len (s.low + 1) window)
 
 -- a replica's CHECKPOINT of the low mark
-abbrev pub is_of_low : State → Header → Bool
-is_of_low s h = (h.tag == 5) && ((h.number == s.low) && nat_lt h.sender (replicas s.f))
+abbrev pub is_of_low : (f low : ℕ) → Header → Bool
+is_of_low f low h = (h.tag == 5) && ((h.number == low) && nat_lt h.sender (replicas f))
 
 -- those that made the low mark stable; the number 0 has none (OSDI 1999 section 4.3)
 abbrev pub stable_checkpoints : State → List (Signed model.Checkpoint)
-stable_checkpoints s = if s.low == 0 then [] else checkpoints (filter (λ m. is_of_low s (header m)) s.log)
+stable_checkpoints s = if s.low == 0 then [] else checkpoints (filter (λ m. is_of_low s.f s.low (header m)) s.log)
 
 -- what a replica takes into a view (OSDI 1999 section 4.4)
 abbrev pub change_of : State → (view : ℕ) → model.ViewChange
