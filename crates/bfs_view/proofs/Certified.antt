@@ -13,9 +13,9 @@ use Rattle.bfs_messages.specs.declared.message.Message.{Message}
 use Rattle.bfs_messages.specs.declared.message.Message.TheVariants.{Request, PrePrepare, Prepare, Commit, Checkpoint, ViewChange, NewView, Reply}
 use Rattle.bfs_order.specs.Replica.States.{State, known}
 use Rattle.bfs_view.specs.Changes.Certificates.{is_proved, number_in, view_in, vote_in}
-use Rattle.bfs_view.specs.Changes.Kinds.{prepare_in, prepares}
+use Rattle.bfs_view.specs.Changes.Kinds.{checkpoint_in, prepare_in, prepares, proposal_in}
 use Rattle.bfs_view.specs.Changes.Making.{backs, certificate_of}
-use Rattle.bfs_view.specs.Changes.Parts.{as_message, messages_in}
+use Rattle.bfs_view.specs.Changes.Parts.{as_message, messages_in, prepares_in}
 use Rattle.bfs_view.proofs.Few.{backed_by, passing}
 use Rattle.bfs_view.proofs.Headers.{proposed_by}
 
@@ -51,6 +51,32 @@ prepare_kind m e = go m.message m.auth e
     go (NewView new) auth e = absurd (omega (arith, e))
     go (Reply reply) auth e = absurd (omega (arith, e))
 
+pub proposal_kind : IsKind 2 PrePrepare proposal_in
+proposal_kind m e = go m.message m.auth e
+  where
+    go : (message : Message) (auth : List (List ℕ)) → (message_header message).tag ≡ 2 → Is PrePrepare (proposal_in message auth) (record { message = message; auth = auth })
+    go (Request request) auth e = absurd (omega (arith, e))
+    go (PrePrepare proposal) auth e = record { signed = record { message = proposal; auth = auth }; is = refl; same = refl }
+    go (Prepare vote) auth e = absurd (omega (arith, e))
+    go (Commit vote) auth e = absurd (omega (arith, e))
+    go (Checkpoint checkpoint) auth e = absurd (omega (arith, e))
+    go (ViewChange change) auth e = absurd (omega (arith, e))
+    go (NewView new) auth e = absurd (omega (arith, e))
+    go (Reply reply) auth e = absurd (omega (arith, e))
+
+pub checkpoint_kind : IsKind 5 Checkpoint checkpoint_in
+checkpoint_kind m e = go m.message m.auth e
+  where
+    go : (message : Message) (auth : List (List ℕ)) → (message_header message).tag ≡ 5 → Is Checkpoint (checkpoint_in message auth) (record { message = message; auth = auth })
+    go (Request request) auth e = absurd (omega (arith, e))
+    go (PrePrepare proposal) auth e = absurd (omega (arith, e))
+    go (Prepare vote) auth e = absurd (omega (arith, e))
+    go (Commit vote) auth e = absurd (omega (arith, e))
+    go (Checkpoint checkpoint) auth e = record { signed = record { message = checkpoint; auth = auth }; is = refl; same = refl }
+    go (ViewChange change) auth e = absurd (omega (arith, e))
+    go (NewView new) auth e = absurd (omega (arith, e))
+    go (Reply reply) auth e = absurd (omega (arith, e))
+
 -- What is told -----------------------------------------------------------------------------------------------------------
 
 pub told_kept : (p q : Header → Bool) (log : Log) → ((h : Header) → p h ≡ true → q h ≡ true) → list_any p (headers (filter (λ m. q (header m)) log)) ≡ list_any p (headers log)
@@ -78,9 +104,11 @@ says_backs f k proposed h known_k backup e =
 
 module _ (f : ℕ) (log : Log) (p : Signed model.PrePrepare) where
   -- the messages of a certificate that is made of the log
+  pub prepares_made : prepares_in (certificate_of f log p) ≡ filter (λ m. backs f p.message.vote (header m)) log
+  prepares_made = again 3 Prepare prepare_in prepare_kind (filter (λ m. backs f p.message.vote (header m)) log) (passing (λ m. backs f p.message.vote (header m)) (λ m. (header m).tag ≡ 3) (λ m e. (backed_by f p.message.vote m e).at.tag) log)
+
   pub messages_made : messages_in (certificate_of f log p) ≡ as_message PrePrepare p ∷ filter (λ m. backs f p.message.vote (header m)) log
-  messages_made = ap (λ (xs : Log). as_message PrePrepare p ∷ xs)
-      (again 3 Prepare prepare_in prepare_kind (filter (λ m. backs f p.message.vote (header m)) log) (passing (λ m. backs f p.message.vote (header m)) (λ m. (header m).tag ≡ 3) (λ m e. (backed_by f p.message.vote m e).at.tag) log))
+  messages_made = ap (λ (xs : Log). as_message PrePrepare p ∷ xs) prepares_made
 
   pub told_in : (k : ℕ) → k < replicas f → eqb k (primary f p.message.vote.view) ≡ false
       → told (headers (messages_in (certificate_of f log p))) 3 k p.message.vote.view p.message.vote.number p.message.vote.digest ≡ told (headers log) 3 k p.message.vote.view p.message.vote.number p.message.vote.digest
@@ -134,9 +162,9 @@ backed_alike f log p among led =
     let vote = p.message.vote in
     let made = proposed_by c (primary f vote.view) ∙ led in
     let there : told (headers log) 2 (primary f vote.view) vote.view vote.number vote.digest ≡ true =
-        subst (λ k. told (headers log) 2 k vote.view vote.number vote.digest ≡ true) (eqb-true vote.sender (primary f vote.view) led) (told_there log (as_message PrePrepare p) among) in
+    subst (λ k. told (headers log) 2 k vote.view vote.number vote.digest ≡ true) (eqb-true vote.sender (primary f vote.view) led) (told_there log (as_message PrePrepare p) among) in
     let count : backups f (headers (messages_in c)) vote.view vote.number vote.digest ≡ backups f (headers log) vote.view vote.number vote.digest =
-        same_below _ _ (replicas f) (same_test f log p) in
+    same_below _ _ (replicas f) (same_test f log p) in
     alike _ _ _ _ (2 * f) made there count
   where
     alike : (a b : Bool) (x y k : ℕ) → a ≡ true → b ≡ true → x ≡ y → (a && leb k x) ≡ (b && leb k y)

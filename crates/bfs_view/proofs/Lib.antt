@@ -5,4 +5,10 @@ mod Steps
 mod Passed
 mod Few
 mod Certified
+mod Members
 mod Latest
+mod Best
+mod OfTheSet
+mod Prepared
+mod Counting
+mod Made

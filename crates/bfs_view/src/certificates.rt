@@ -37,7 +37,9 @@ pub(crate) fn does_match(proposed: &Vote, vote: &Vote) -> bool
 fn do_match(proposed: &Vote, prepares: &[Signed<Vote>]) -> bool
     ensures { result ≡ list_all (λ s. matches proposed.now (vote_header 3 s.message)) prepares.now }
 {
-    prepares.iter().all(|signed| does_match(proposed, &signed.message))
+    prepares
+        .iter()
+        .all(|signed| does_match(proposed, &signed.message))
 }
 
 fn do_all_differ(certificate: &Certificate) -> bool
@@ -104,7 +106,9 @@ fn is_batch_signed(keys: &Keys, proposal: &Signed<PrePrepare>) -> bool
 fn are_signed(keys: &Keys, requests: &[Signed<Request>]) -> bool
     ensures { result ≡ list_all (request_is_signed keys.now) requests.now }
 {
-    requests.iter().all(|signed| is_request_signed(keys, signed))
+    requests
+        .iter()
+        .all(|signed| is_request_signed(keys, signed))
 }
 
 fn is_vote_signed(keys: &Keys, signed: &Signed<Vote>) -> bool

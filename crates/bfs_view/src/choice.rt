@@ -142,11 +142,7 @@ fn last_in(certificates: &[Certificate]) -> u64
     }
 }
 
-fn chosen_for(
-    alloc: Global,
-    number: u64,
-    changes: &[Signed<ViewChange>],
-) -> Result<Chosen, Memory>
+fn chosen_for(alloc: Global, number: u64, changes: &[Signed<ViewChange>]) -> Result<Chosen, Memory>
     requires { number ≤ most_number }
     ensures { IfOk result (λ c. c ≡ chosen_for (messages_of changes.now) number) }
 {
@@ -171,13 +167,7 @@ fn best_from<'a>(
         [] => Ok(found),
         [first, rest @ ..] => {
             let change = &first.message;
-            let found = best_in(
-                alloc,
-                number,
-                change.sender(),
-                found,
-                change.certificates(),
-            )?;
+            let found = best_in(alloc, number, change.sender(), found, change.certificates())?;
             let best = best_from(alloc, number, found, rest)?;
             Ok(best)
         }
@@ -211,11 +201,7 @@ fn best_in<'a>(
     }
 }
 
-fn better<'a>(
-    alloc: Global,
-    found: Option<Found<'a>>,
-    more: Found<'a>,
-) -> Result<Found<'a>, Memory>
+fn better<'a>(alloc: Global, found: Option<Found<'a>>, more: Found<'a>) -> Result<Found<'a>, Memory>
     ensures { IfOk result (λ best. Some (seen best) ≡ better (option_map seen found.entry) (seen more.entry)) }
 {
     match found {

@@ -112,11 +112,7 @@ fn certificates(alloc: Global, order: &Order) -> Result<Vec<Certificate>, Memory
     Ok(found)
 }
 
-fn certificates_before(
-    alloc: Global,
-    order: &Order,
-    end: u64,
-) -> Result<Vec<Certificate>, Memory>
+fn certificates_before(alloc: Global, order: &Order, end: u64) -> Result<Vec<Certificate>, Memory>
     requires { order.now.low < end }
     ensures value { IfOk result (λ found. found.items ≡ filter_map (λ number. latest (prepared_for order.now number)) (range_with_len (order.now.low + 1) (end - (order.now.low + 1)))) }
     ensures few { IfOk result (λ found. length found.items ≤ end - (order.now.low + 1)) }

@@ -7,7 +7,6 @@ use Rattle.bfs_messages.specs.declared.signed.Signed.{Signed}
 use Rattle.bfs_messages.specs.declared.message.Message.{Message}
 use Rattle.bfs_messages.specs.declared.message.Message.TheVariants.{Request, PrePrepare, Prepare, Commit, Checkpoint, ViewChange, NewView, Reply}
 
-
 abbrev pub proposal_in : Message → (auth : List (List ℕ)) → Option (Signed model.PrePrepare)
 proposal_in (PrePrepare proposal) auth = Some (record { message = proposal; auth = auth })
 proposal_in (Request request) auth = None

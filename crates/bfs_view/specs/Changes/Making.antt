@@ -85,6 +85,8 @@ signed_proposal keys proposal = record { message = proposal; auth = signature ke
 -- a NEW-VIEW from VIEW-CHANGEs, with what they choose (OSDI 1999 section 4.4)
 abbrev pub new_view_from : Keys → (sender view : ℕ) → List (Signed model.ViewChange) → model.NewView
 new_view_from keys sender view changes = record {
-  sender = sender; view = view; changes = changes;
+  sender = sender;
+  view = view;
+  changes = changes;
   proposals = map (λ c. signed_proposal keys (chosen_proposal sender view c)) (choice (messages_of changes)).chosen;
 }
