@@ -3,10 +3,12 @@
 
 mod certificates;
 mod choice;
+mod copies;
 mod error;
 mod laws;
 mod making;
 mod new_views;
+mod proposing;
 mod senders;
 mod view_changes;
 
@@ -18,4 +20,5 @@ pub use laws::{
 };
 pub use making::make_view_change;
 pub use new_views::{check_new_view, choose};
+pub use proposing::{handed_in, make_new_view};
 pub use view_changes::valid_view_change;

@@ -15,10 +15,10 @@ use Rattle.bfs_messages.specs.declared.signed.Signed.{Signed}
 use Rattle.bfs_messages.specs.declared.message.Message.TheVariants.{PrePrepare, ViewChange}
 use Rattle.bfs_order.specs.Replica.Refusals.{window}
 use Rattle.bfs_order.specs.Replica.States.{State, known}
-use Rattle.bfs_view.specs.Changes.Parts.{messages_of}
+use Rattle.bfs_view.specs.Changes.Parts.{as_message}
 use Rattle.bfs_view.specs.Changes.Kinds.{checkpoints, prepares, proposals}
 use Rattle.bfs_view.specs.Changes.Certificates.{matches, view_in}
-use Rattle.bfs_view.specs.Changes.Choice.{Chosen, choice}
+use Rattle.bfs_view.specs.Changes.Choice.{Choice, Chosen}
 
 -- A VIEW-CHANGE ---------------------------------------------------------------------------------------------------------
 
@@ -82,11 +82,15 @@ chosen_proposal sender view c = record {
 abbrev pub signed_proposal : Keys → model.PrePrepare → Signed model.PrePrepare
 signed_proposal keys proposal = record { message = proposal; auth = signature keys (body_text (PrePrepare proposal)) }
 
--- a NEW-VIEW from VIEW-CHANGEs, with what they choose (OSDI 1999 section 4.4)
-abbrev pub new_view_from : Keys → (sender view : ℕ) → List (Signed model.ViewChange) → model.NewView
-new_view_from keys sender view changes = record {
+-- a NEW-VIEW from VIEW-CHANGEs, with what was chosen from them (OSDI 1999 section 4.4)
+abbrev pub new_view_from : Keys → (sender view : ℕ) → List (Signed model.ViewChange) → Choice → model.NewView
+new_view_from keys sender view changes choice = record {
   sender = sender;
   view = view;
   changes = changes;
-  proposals = map (λ c. signed_proposal keys (chosen_proposal sender view c)) (choice (messages_of changes)).chosen;
+  proposals = map (λ c. signed_proposal keys (chosen_proposal sender view c)) choice.chosen;
 }
+
+-- what a replica takes over into the view that a NEW-VIEW begins
+abbrev pub handed_in : model.NewView → Log
+handed_in new = map (as_message PrePrepare) new.proposals
