@@ -1,0 +1,89 @@
+// What the primary of a new view begins it with.
+ghost use Rattle.std.specs.Prelude.{◌≡◌, ◌≤◌, length, map, IfOk};
+ghost use Rattle.bfs_model.specs.Server.Limits.{log_size, most_number, most_replicas};
+ghost use Rattle.bfs_messages.specs.Signing.{signed_by};
+ghost use Rattle.bfs_messages.specs.declared.message.Message.TheVariants as kind;
+ghost use Rattle.bfs_view.specs.Changes.Making.{chosen_proposal, handed_in, new_view_from, signed_proposal};
+
+use crate::choice::{Choice, Chosen};
+use crate::copies::{Copied, copies_of};
+use bfs_auth::Keys;
+use bfs_messages::{Message, NewView, PrePrepare, Signed, ViewChange, sign, sign_proposal};
+use bfs_types::Memory;
+use std::alloc::Global;
+use std::sync::Arc;
+
+/// The NEW-VIEW of a primary, by its number, from VIEW-CHANGEs and what is chosen from them, signed for all replicas. `Memory` if memory runs
+/// out.
+pub fn make_new_view(
+    alloc: Global,
+    keys: &Keys,
+    sender: u32,
+    view: u64,
+    changes: &[Signed<ViewChange>],
+    choice: &Choice,
+) -> Result<Signed<Message>, Memory>
+    requires view { view ≤ most_number }
+    requires changes { length changes.now ≤ most_replicas }
+    requires chosen { length choice.now.chosen ≤ log_size }
+    ensures { IfOk result (λ signed. signed ≡ signed_by keys.now (kind.NewView (new_view_from keys.now sender view changes.now choice.now))) }
+{
+    let copies = copies_of(alloc, changes)?;
+    let proposals = proposals_of(alloc, keys, sender, view, choice.chosen())?;
+    let new = NewView::new(sender, view, copies, proposals);
+    sign(alloc, keys, Message::NewView(new))
+}
+
+fn proposals_of(
+    alloc: Global,
+    keys: &Keys,
+    sender: u32,
+    view: u64,
+    chosen: &[Chosen],
+) -> Result<Vec<Signed<PrePrepare>>, Memory>
+    requires { view ≤ most_number }
+    ensures { IfOk result (λ proposals. proposals.items ≡ map (λ c. signed_proposal keys.now (chosen_proposal sender view c)) chosen.now) }
+{
+    let mut proposals = Vec::new(alloc);
+    for due in chosen {
+        proposals.push(proposal_of(alloc, keys, sender, view, due)?)?;
+    }
+    Ok(proposals)
+}
+
+fn proposal_of(
+    alloc: Global,
+    keys: &Keys,
+    sender: u32,
+    view: u64,
+    due: &Chosen,
+) -> Result<Signed<PrePrepare>, Memory>
+    requires { view ≤ most_number }
+    ensures { IfOk result (λ signed. signed ≡ signed_proposal keys.now (chosen_proposal sender view due.now)) }
+{
+    let batch = Arc::try_clone(due.batch())?;
+    let proposal = PrePrepare::new(sender, view, due.number(), batch);
+    sign_proposal(alloc, keys, proposal)
+}
+
+/// What a replica takes over into the view that a NEW-VIEW begins: its PRE-PREPAREs, which share their batches with it. `Memory` if memory
+/// runs out.
+pub fn handed_in(alloc: Global, new: &NewView) -> Result<Vec<Signed<Message>>, Memory>
+    ensures { IfOk result (λ handed. handed.items ≡ handed_in new.now) }
+{
+    let mut handed = Vec::new(alloc);
+    for proposal in new.proposals() {
+        handed.push(proposal_message(alloc, proposal)?)?;
+    }
+    Ok(handed)
+}
+
+fn proposal_message(alloc: Global, proposal: &Signed<PrePrepare>) -> Result<Signed<Message>, Memory>
+    ensures { IfOk result (λ m. m ≡ record { message = kind.PrePrepare proposal.now.message; auth = proposal.now.auth }) }
+{
+    let copy = proposal.copied(alloc)?;
+    Ok(Signed {
+        message: Message::PrePrepare(copy.message),
+        auth: copy.auth,
+    })
+}
