@@ -1,3 +1,4 @@
 mod Adding
+mod Blocks
 mod Naming
 mod Numbered

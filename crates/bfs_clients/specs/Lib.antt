@@ -3,3 +3,4 @@
 pub mod Clients
 pub mod Names
 pub mod Tallies
+pub mod Inside

@@ -12,8 +12,8 @@ use std::marker::Model;
 /// The clients of a run, and the keys that each shares with the replicas.
 #[derive(Drop)]
 pub struct Clients {
-    alloc: Global,
-    f: u32,
+    pub(crate) alloc: Global,
+    pub(crate) f: u32,
     keys: Vec<Keys>,
 }
 

@@ -3,6 +3,7 @@
 
 mod clients;
 mod names;
+mod signing;
 mod tallies;
 
 pub use clients::Clients;

@@ -6,6 +6,7 @@ use bfs_testing::{holds, same};
 use bfs_types::Memory;
 use std::alloc::Global;
 use std::test::Fail;
+use std::thread::Threads;
 
 // a request of a client with the timestamp 7
 fn sign(alloc: Global, clients: &Clients, client: u32) -> Result<Option<Signed<Message>>, Memory> {
@@ -58,6 +59,46 @@ fn a_request_that_one_client_signed_is_not_the_other_s(rt: HostRuntime) -> Resul
     let message = Message::Request(Request::new(alloc, 0, 7, b"a call")?);
     let other = Signed { message, auth };
     holds!(rt; !passes(alloc, 0, &other)?);
+    Ok(())
+}
+
+// a block of requests of three clients in turn, with rising timestamps; the third client there isn't
+fn sign_block<R: Threads + Sync>(
+    rt: &R,
+    alloc: Global,
+    clients: &Clients,
+) -> Result<Vec<Signed<Message>>, Memory> {
+    let mut requests = Vec::new(alloc);
+    for number in 0u32..40 {
+        requests.push(Request::new(alloc, number % 3, number as u64, &[7; 1_000])?)?;
+    }
+    clients.sign_all(rt, requests.as_slice())
+}
+
+// of each request, in their order
+fn timestamps(alloc: Global, block: Vec<Signed<Message>>) -> Result<Vec<u64>, Memory> {
+    let mut all = Vec::new(alloc);
+    for signed in block {
+        if let Some(request) = in_batch(signed) {
+            all.push(request.message.timestamp())?;
+        }
+    }
+    Ok(all)
+}
+
+#[test]
+fn a_block_is_signed_in_its_order(rt: HostRuntime) -> Result<(), Fail> {
+    let alloc = rt.alloc();
+    let block = sign_block(&rt, alloc, &two_clients(alloc)?)?;
+    for signed in &block {
+        holds!(rt; passes(alloc, 0, signed)? && passes(alloc, 3, signed)?);
+    }
+    let given = timestamps(alloc, block)?;
+    same!(rt; given.len(), 27);
+    for (place, timestamp) in given.iter().enumerate() {
+        // 0, 1, 3, 4, 6, 7, ..
+        same!(rt; *timestamp, (place + place / 2) as u64);
+    }
     Ok(())
 }
 

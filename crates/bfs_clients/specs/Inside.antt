@@ -1,0 +1,2 @@
+-- What contracts inside this crate speak of.
+pub mod Signing

@@ -1,0 +1,86 @@
+// The requests of a block, signed by their clients.
+ghost use Rattle.std.specs.Prelude.{◌≡◌, true, is_ok, IfOk};
+ghost use Rattle.std.specs.List.{AllZip, filter_map, list_all};
+ghost use Rattle.bfs_clients.specs.Clients.{signed_request};
+ghost use Rattle.bfs_clients.specs.Inside.Signing.{signed_in};
+
+use crate::clients::Clients;
+use bfs_auth::least_texts;
+use bfs_messages::{Message, Request, Signed};
+use bfs_types::Memory;
+use rayon::prelude::*;
+use std::alloc::{AllocError, Global};
+use std::thread::Threads;
+
+/// A request, signed, where there is its client.
+type MaybeSigned = Result<Option<Signed<Message>>, Memory>;
+
+impl Clients {
+    /// The requests in their order, each signed by its client for all replicas; one whose client there isn't is left out. They are signed by
+    /// as many threads as there are processors, unless there is too little to hash for them. `Memory` if memory runs out.
+    pub fn sign_all(
+        &self,
+        rt: &(impl Threads + Sync),
+        requests: &[Request],
+    ) -> Result<Vec<Signed<Message>>, Memory>
+        ensures { IfOk result (λ all. all.items ≡ filter_map (signed_request self.now) requests.now) }
+    {
+        let each = self.sign_each(rt, requests)?;
+        all_in(self.alloc, each)
+    }
+
+    fn sign_each(
+        &self,
+        rt: &(impl Threads + Sync),
+        requests: &[Request],
+    ) -> Result<Vec<MaybeSigned>, AllocError>
+        ensures { IfOk result (λ each. AllZip (λ request signed. IfOk signed (λ one. one ≡ signed_request self.now request)) requests.now each.items) }
+    {
+        requests
+            .par_iter()
+            .with_min_len(least_texts(self.mean_length(requests)))
+            .map(
+                |request: &Request| -> MaybeSigned
+                    ensures { IfOk result (λ one. one ≡ signed_request self.entry.now request.now) }
+                { self.sign_copy(request) },
+            )
+            .collect(rt, self.alloc)
+    }
+
+    fn sign_copy(&self, request: &Request) -> MaybeSigned
+        ensures { IfOk result (λ one. one ≡ signed_request self.now request.now) }
+    {
+        self.sign(Request::new(
+            self.alloc,
+            request.client(),
+            request.timestamp(),
+            request.call(),
+        )?)
+    }
+
+    // what is hashed of a request, for all replicas together
+    fn mean_length(&self, requests: &[Request]) -> usize {
+        let mut bytes = 0usize;
+        for request in requests {
+            bytes = bytes.saturating_add(request.call().len());
+        }
+        let replicas = (self.f as usize).saturating_mul(3).saturating_add(1);
+        match requests.len() {
+            0 => 0,
+            count => (bytes / count).saturating_mul(replicas),
+        }
+    }
+}
+
+// unless memory ran out at one
+fn all_in(alloc: Global, each: Vec<MaybeSigned>) -> Result<Vec<Signed<Message>>, Memory>
+    ensures { IfOk result (λ all. (list_all is_ok each.items ≡ true) × (all.items ≡ filter_map signed_in each.items)) }
+{
+    let mut all = Vec::new(alloc);
+    for signed in each {
+        if let Some(signed) = signed? {
+            all.push(signed)?;
+        }
+    }
+    Ok(all)
+}
