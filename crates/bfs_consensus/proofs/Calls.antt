@@ -26,7 +26,7 @@ pub record Within (s : State) (v n : ℕ) : Type 0 where
   pub min_s : s.min_s < n
   pub high : n ≤ s.low + 32
 
-within_is : (s : State) (v n : ℕ) → is_within s v n ≡ true → Within s v n
+pub within_is : (s : State) (v n : ℕ) → is_within s v n ≡ true → Within s v n
 within_is s v n e =
     let a = and_parts (v == s.view) ((s.asked == s.view) && (nat_lt s.low n && (nat_lt s.min_s n && nat_le n (s.low + 32)))) e in
     let b = and_parts (s.asked == s.view) (nat_lt s.low n && (nat_lt s.min_s n && nat_le n (s.low + 32))) a.1 in
@@ -35,11 +35,11 @@ within_is s v n e =
     record { view = eqb-true v s.view a.0; asked = eqb-true s.asked s.view b.0; low = ltb-true s.low n c.0; min_s = ltb-true s.min_s n d.0; high = leb-true n (s.low + 32) d.1 }
 
 -- one after another
-abbrev MaySayAll : (f me : ℕ) → State → List Header → Type 0
+abbrev pub MaySayAll : (f me : ℕ) → State → List Header → Type 0
 MaySayAll f me s [] = Unit {0}
 MaySayAll f me s (h ∷ hs) = MaySay f me s h × MaySayAll f me (record s { log = h ∷ s.log }) hs
 
-say_join : (f me : ℕ) (s : State) (xs ys : List Header) → MaySayAll f me s xs → MaySayAll f me (record s { log = with_said xs s.log }) ys → MaySayAll f me s (xs ++ ys)
+pub say_join : (f me : ℕ) (s : State) (xs ys : List Header) → MaySayAll f me s xs → MaySayAll f me (record s { log = with_said xs s.log }) ys → MaySayAll f me s (xs ++ ys)
 say_join f me s [] ys a b = b
 say_join f me s (x ∷ xs) ys a b = (a.0, say_join f me (record s { log = x ∷ s.log }) xs ys a.1 b)
 
@@ -72,7 +72,7 @@ backs_may f me s v n d within there =
 pub here_itself : (w : World) (i : ℕ) (p : History) → with_history w i p i ≡ p
 here_itself w i p = cond_both (i == i) p (w i) (λ (x : History). x ≡ p) (λ _. refl) (λ e. absurd (eqb-false i i e refl))
 
-said_allowed : (f : ℕ) (faulty : ℕ → Bool) (w : World) (i : ℕ) (s : State) (hs : List Header) → (w i).now ≡ s → MaySayAll f i s hs → AreAllowed f faulty w (steps_of i (all_said hs))
+pub said_allowed : (f : ℕ) (faulty : ℕ → Bool) (w : World) (i : ℕ) (s : State) (hs : List Header) → (w i).now ≡ s → MaySayAll f i s hs → AreAllowed f faulty w (steps_of i (all_said hs))
 said_allowed f faulty w i s [] same may = tt
 said_allowed f faulty w i s (h ∷ hs) same may = (
   subst (λ (x : State). MaySay f i x h) (sym same) may.0,
@@ -81,7 +81,7 @@ said_allowed f faulty w i s (h ∷ hs) same may = (
 )
 
 -- one move, and then it says these
-then_said : (f : ℕ) (faulty : ℕ → Bool) (w : World) (i : ℕ) (move : Move) (hs : List Header) → IsAllowed f faulty w i (w i) move → MaySayAll f i (after_move f i (w i) move).now hs → AreAllowed f faulty w (steps_of i (move ∷ all_said hs))
+pub then_said : (f : ℕ) (faulty : ℕ → Bool) (w : World) (i : ℕ) (move : Move) (hs : List Header) → IsAllowed f faulty w i (w i) move → MaySayAll f i (after_move f i (w i) move).now hs → AreAllowed f faulty w (steps_of i (move ∷ all_said hs))
 then_said f faulty w i move hs may says = (may, said_allowed f faulty (with_history w i (after_move f i (w i) move)) i (after_move f i (w i) move).now hs (ap (λ (p : History). p.now) (here_itself w i (after_move f i (w i) move))) says)
 
 -- Each call -----------------------------------------------------------------------------------------------------------

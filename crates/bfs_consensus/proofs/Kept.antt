@@ -153,7 +153,7 @@ accept_kept f me faulty w p h kept correct here may =
       high = kept.high;
       ready = λ k v n d x. elim (kept.ready k v n d x) [
         | inl a ↦ inl a
-        | inr b ↦ inr (prepared_more f me p.now.log (h ∷ p.now.log) v n d (λ t j y. told_more h p.now.log t j v n d y) b)
+        | inr b ↦ inr (prepared_more f me p.now.log (h ∷ p.now.log) v n d (λ t j small y. told_more h p.now.log t j v n d y) b)
       ];
       one = kept.one;
       changes_asked = kept.changes_asked;
@@ -208,7 +208,7 @@ drop_kept f me p m kept lt =
       ready = λ k v n d x. elim (cases_lt m n) [
         | inl above ↦ elim (kept.ready k v n d x) [
           | inl a ↦ absurd (omega (arith, a, above, lt))
-          | inr b ↦ inr (prepared_more f me p.now.log (kept_above m p.now.log) v n d (λ t j y. told_kept m p.now.log t j v n d above y) b)
+          | inr b ↦ inr (prepared_more f me p.now.log (kept_above m p.now.log) v n d (λ t j small y. told_kept m p.now.log t j v n d above y) b)
         ]
         | inr le ↦ inl le
       ];
@@ -303,7 +303,7 @@ enter_kept f me faulty w p r kept may =
       high = kept.high;
       ready = λ k v n d x. elim (kept.ready k v n d x) [
         | inl a ↦ inl a
-        | inr b ↦ inr (prepared_more f me log (taken_in low hs log) v n d (λ t j y. log_stays low hs log t j v n d y) b)
+        | inr b ↦ inr (prepared_more f me log (taken_in low hs log) v n d (λ t j small y. log_stays low hs log t j v n d y) b)
       ];
       one = kept.one;
       changes_asked = λ l x. let le = kept.changes_asked l x in let lt = may.asked in omega (arith, le, lt);

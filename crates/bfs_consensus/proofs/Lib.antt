@@ -9,3 +9,4 @@ mod Choice
 mod Calls
 mod Nodes
 mod Running
+pub mod Public

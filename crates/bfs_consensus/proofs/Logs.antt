@@ -83,7 +83,7 @@ prepared_told f me log v n d e =
     let a = and_parts (is_backed f log v n d) ((me == primary f v) || told log 3 me v n d) e in
     (and_parts (told log 2 (primary f v) v n d) (nat_le (2 * f) (count_below (λ k. not (k == primary f v) && told log 3 k v n d) (replicas f))) a.0).0
 
-pub prepared_more : (f me : ℕ) (log new : List Header) (v n : ℕ) (d : List ℕ) → ((t k : ℕ) → Told log t k v n d → Told new t k v n d) → prepared f me log v n d ≡ true → prepared f me new v n d ≡ true
+pub prepared_more : (f me : ℕ) (log new : List Header) (v n : ℕ) (d : List ℕ) → ((t k : ℕ) → t < 5 → Told log t k v n d → Told new t k v n d) → prepared f me log v n d ≡ true → prepared f me new v n d ≡ true
 prepared_more f me log new v n d grows e =
     let p = primary f v in
     let a = and_parts (is_backed f log v n d) ((me == p) || told log 3 me v n d) e in
@@ -91,8 +91,8 @@ prepared_more f me log new v n d grows e =
     let enough : 2 * f ≤ count_below (λ k. not (k == p) && told log 3 k v n d) (replicas f) = leb-true (2 * f) (count_below (λ k. not (k == p) && told log 3 k v n d) (replicas f)) b.1 in
     let grown : count_below (λ k. not (k == p) && told log 3 k v n d) (replicas f) ≤ count_below (λ k. not (k == p) && told new 3 k v n d) (replicas f)
     = more (λ k. not (k == p) && told log 3 k v n d) (λ k. not (k == p) && told new 3 k v n d) (replicas f)
-    (λ k h. let c = and_parts (not (k == p)) (told log 3 k v n d) h in and_from (not (k == p)) (told new 3 k v n d) c.0 (grows 3 k c.1)) in
+    (λ k h. let c = and_parts (not (k == p)) (told log 3 k v n d) h in and_from (not (k == p)) (told new 3 k v n d) c.0 (grows 3 k (omega arith) c.1)) in
     let still : nat_le (2 * f) (count_below (λ k. not (k == p) && told new 3 k v n d) (replicas f)) ≡ true = le-leb (2 * f) (count_below (λ k. not (k == p) && told new 3 k v n d) (replicas f)) (omega (arith, enough, grown)) in
-    let backed : is_backed f new v n d ≡ true = and_from (told new 2 p v n d) (nat_le (2 * f) (count_below (λ k. not (k == p) && told new 3 k v n d) (replicas f))) (grows 2 p b.0) still in
-    let own : ((me == p) || told new 3 me v n d) ≡ true = elim (or_cases (me == p) (told log 3 me v n d) a.1) [ inl x ↦ or_left (me == p) (told new 3 me v n d) x | inr y ↦ or_right (me == p) (told new 3 me v n d) (grows 3 me y) ] in
+    let backed : is_backed f new v n d ≡ true = and_from (told new 2 p v n d) (nat_le (2 * f) (count_below (λ k. not (k == p) && told new 3 k v n d) (replicas f))) (grows 2 p (omega arith) b.0) still in
+    let own : ((me == p) || told new 3 me v n d) ≡ true = elim (or_cases (me == p) (told log 3 me v n d) a.1) [ inl x ↦ or_left (me == p) (told new 3 me v n d) x | inr y ↦ or_right (me == p) (told new 3 me v n d) (grows 3 me (omega arith) y) ] in
     and_from (is_backed f new v n d) ((me == p) || told new 3 me v n d) backed own

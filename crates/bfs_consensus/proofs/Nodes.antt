@@ -34,7 +34,7 @@ at_at w i p q = fun_ext (λ j. over (j == i) p q (w j))
 at_own : (w : World) (i : ℕ) → with_history w i (w i) ≡ w
 at_own w i = fun_ext (λ j. cond_both (j == i) (w i) (w j) (λ (p : History). p ≡ w j) (λ e. ap w (sym (eqb-true j i e))) (λ _. refl))
 
-run_at : (f : ℕ) (w : World) (i : ℕ) (moves : List Move) → after_steps f w (steps_of i moves) ≡ with_history w i (after_moves f i (w i) moves)
+pub run_at : (f : ℕ) (w : World) (i : ℕ) (moves : List Move) → after_steps f w (steps_of i moves) ≡ with_history w i (after_moves f i (w i) moves)
 run_at f w i [] = sym (at_own w i)
 run_at f w i (move ∷ moves) =
     let p = after_move f i (w i) move in

@@ -60,7 +60,7 @@ offered_before f me p h kept may (Commits tag ready) k e x =
 was_prepared : (f me : ℕ) (s : State) (h : Header) → h.tag ≡ 4 → Reason f me s h → prepared f me (h ∷ s.log) h.view h.number h.digest ≡ true
 was_prepared f me s h commits (Proposes tag is_primary above) = absurd (omega (arith, commits, tag))
 was_prepared f me s h commits (Prepares tag there) = absurd (omega (arith, commits, tag))
-was_prepared f me s h commits (Commits tag ready) = prepared_more f me s.log (h ∷ s.log) h.view h.number h.digest (λ t k x. told_more h s.log t k h.view h.number h.digest x) ready
+was_prepared f me s h commits (Commits tag ready) = prepared_more f me s.log (h ∷ s.log) h.view h.number h.digest (λ t k small x. told_more h s.log t k h.view h.number h.digest x) ready
 
 -- what was committed in an earlier view, and is chosen for this one, is what it says now
 chosen_now : (f me : ℕ) (p : History) (h : Header) → Kept f me p → MaySay f me p.now h → (v k : ℕ) (d : List ℕ) → Told p.sent 4 k v h.number d → v < h.view
@@ -88,7 +88,7 @@ said_ready f me p h kept may k v n d x = elim (told_cases h p.sent 4 k v n d x) 
   | inl a ↦ inr (moved h 4 k v n d a (λ t k v n d. prepared f me (h ∷ p.now.log) v n d ≡ true) (was_prepared f me p.now h a.tag may.reason))
   | inr b ↦ elim (kept.ready k v n d b) [
     | inl y ↦ inl y
-    | inr z ↦ inr (prepared_more f me p.now.log (h ∷ p.now.log) v n d (λ t j y. told_more h p.now.log t j v n d y) z)
+    | inr z ↦ inr (prepared_more f me p.now.log (h ∷ p.now.log) v n d (λ t j small y. told_more h p.now.log t j v n d y) z)
   ]
 ]
 

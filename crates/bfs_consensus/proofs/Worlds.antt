@@ -42,13 +42,13 @@ at_each P w i p here all j = cond_both (j == i) p (w j) (P j) (λ e. subst (λ (
 world_grows : (f : ℕ) (w : World) (step : Step) (j : ℕ) → Grows (w j) (after_step f w step j)
 world_grows f w step = at_each (λ j q. Grows (w j) q) w step.who (after_move f step.who (w step.who) step.move) (grows f step.who (w step.who) step.move) (λ j. grows_same (w j))
 
-said_on : (faulty : ℕ → Bool) (w new : World) → ((j : ℕ) → Grows (w j) (new j)) → (t k v n : ℕ) (d : List ℕ) → WasSent faulty w t k v n d → WasSent faulty new t k v n d
+pub said_on : (faulty : ℕ → Bool) (w new : World) → ((j : ℕ) → Grows (w j) (new j)) → (t k v n : ℕ) (d : List ℕ) → WasSent faulty w t k v n d → WasSent faulty new t k v n d
 said_on faulty w new on t k v n d all_said correct = elim (all_said correct) [
   | inl x ↦ inl ((on k).sent t k v n d x)
   | inr y ↦ inr (y.0, (on k).offers 2 k v n d y.1)
 ]
 
-new_view_on : (f : ℕ) (faulty : ℕ → Bool) (w new : World) (r : NewView) → ((j : ℕ) → Grows (w j) (new j)) → IsValidNewView f faulty w r → IsValidNewView f faulty new r
+pub new_view_on : (f : ℕ) (faulty : ℕ → Bool) (w new : World) (r : NewView) → ((j : ℕ) → Grows (w j) (new j)) → IsValidNewView f faulty w r → IsValidNewView f faulty new r
 new_view_on f faulty w new r on x =
     record {
       senders = x.senders;
