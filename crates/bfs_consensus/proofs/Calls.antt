@@ -230,7 +230,7 @@ leaves_allowed f faulty w i =
 
 -- Entering ------------------------------------------------------------------------------------------------------------
 
-in_told : (hs : List Header) (h : Header) → IsIn h hs → Told hs h.tag h.sender h.view h.number h.digest
+pub in_told : (hs : List Header) (h : Header) → IsIn h hs → Told hs h.tag h.sender h.view h.number h.digest
 in_told [] h i = absurd i
 in_told (g ∷ hs) h i = elim i [
   | inl e ↦ subst (λ (x : Header). Told (x ∷ hs) h.tag h.sender h.view h.number h.digest) e (or_left (says h.tag h.sender h.view h.number h.digest h) (told hs h.tag h.sender h.view h.number h.digest) (says_itself h))

@@ -1,5 +1,5 @@
 -- What the crates above may cite.
-pub use Rattle.bfs_consensus.proofs.Calls.{MaySayAll, Within, said_allowed, say_join, then_said}
+pub use Rattle.bfs_consensus.proofs.Calls.{MaySayAll, Within, in_told, said_allowed, say_join, then_said}
 pub use Rattle.bfs_consensus.proofs.Counts.{more}
 pub use Rattle.bfs_consensus.proofs.Logs.{prepared_more}
 pub use Rattle.bfs_consensus.proofs.Nodes.{run_at}

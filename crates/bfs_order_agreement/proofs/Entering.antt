@@ -16,21 +16,22 @@ use Rattle.bfs_messages.specs.declared.message.Message.TheVariants.{Prepare, Com
 use Rattle.bfs_order.specs.declared.error.OrderError.{OrderError}
 use Rattle.bfs_order.specs.declared.error.OrderError.TheVariants.{WrongKind, WrongView, OutsideMarks, NotPrimary, Conflicting, AlreadyHave}
 use Rattle.bfs_order.specs.Replica.Accepting.{settled, answers, accepted}
-use Rattle.bfs_order.specs.Replica.Answers.{said_once, own_vote, prepares_in, commits_in, votes_in, answers_in}
-use Rattle.bfs_order.specs.Replica.Outcomes.{Outcome, quiet, unless}
+use Rattle.bfs_order.specs.Replica.Answers.{said_once, own_vote, prepares_in, commits_in, votes_in}
+use Rattle.bfs_order.specs.Replica.Outcomes.{Outcome, unless}
 use Rattle.bfs_order.specs.Replica.Refusals.{interval, is_between, is_inside, is_of_view, is_there, conflicts, place_refusal}
 use Rattle.bfs_order.specs.Replica.States as order
 use Rattle.bfs_order.specs.Replica.States.{known, with_more, with_message}
-use Rattle.bfs_order.specs.Replica.Views.{entering_refusal, greatest_number, opened, handed_refusal, taken_over, all_taken_over, entered}
+use Rattle.bfs_order.specs.Replica.Views.{entering_refusal, opened, handed_refusal, taken_over, all_taken_over, entered}
 use Rattle.bfs_consensus.specs.Histories.{IsIn, ViewChange, NewView, State, History, World, IsChoice, IsValidNewView}
 use Rattle.bfs_consensus.specs.Moves.{Enters, MayEnter, taken_in, after_move}
 use Rattle.bfs_consensus.specs.Calls.{with_said, all_said}
 use Rattle.bfs_consensus.proofs.Public.{MaySayAll, Within, in_told, say_join, then_said}
-use Rattle.bfs_order_agreement.specs.Following.{HaveTheSameVotes, Tracks, Follows}
+use Rattle.bfs_order_agreement.specs.Following.{HaveTheSameVotes, Follows}
 use Rattle.bfs_order_agreement.specs.Replicas.{Replica, new_view, where_taken}
 use Rattle.bfs_order_agreement.proofs.Telling.{or_false, or_moved, not_equal, finds_none, no_slot, any_both, any_said, slot_same}
 use Rattle.bfs_order_agreement.proofs.Saying.{IsAhead, told_there, ahead_said, votes_may, after_said}
-use Rattle.bfs_order_agreement.proofs.Deeds.{Result, passed, stays_so, in_said, said_view, unsettled, itself_there}
+use Rattle.bfs_order_agreement.proofs.Results.{Result, passed, stays_so, in_said, said_view}
+use Rattle.bfs_order_agreement.proofs.Taking.{unsettled, itself_there}
 
 -- What is handed over -----------------------------------------------------------------------------------------------------
 
@@ -377,7 +378,7 @@ enters faulty w r keys view min_s handed changes follows differ valid = go (ente
 
     now_follows : s.view < view → AreTaken begun then.now out
         → Follows (record { state = out.now; sent = out.sent ++ r.sent; offers = cond (s.me == primary s.f view) handed [] ++ r.offers; changes = r.changes; executed = r.executed })
-            (record then { now = record then.now { log = with_said (headers out.sent) then.now.log }; sent = with_said (headers out.sent) p.sent })
+        (record then { now = record then.now { log = with_said (headers out.sent) then.now.log }; sent = with_said (headers out.sent) p.sent })
     now_follows lt all = record {
       state = record {
         view = sym all.view;

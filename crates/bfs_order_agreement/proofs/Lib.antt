@@ -2,6 +2,8 @@
 mod Telling
 mod Saying
 mod Dropping
-mod Entering
+mod Results
+mod Taking
 mod Deeds
+mod Entering
 mod Worlds

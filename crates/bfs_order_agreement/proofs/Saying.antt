@@ -1,11 +1,11 @@
 -- What a replica says of its own is said in its history too, also while the history is ahead by PRE-PREPAREs that are yet to be taken.
-use Rattle.std.proofs.Common.{◌≡◌, ℕ, ◌+◌, ◌<◌, ◌≤◌, ◌==◌, Bool, true, false, ◌||◌, List, [], ◌∷◌, ◌++◌, refl, sym, ap, subst, ◌∙◌, arith}
+use Rattle.std.proofs.Common.{◌≡◌, ℕ, ◌<◌, ◌==◌, Bool, true, false, ◌||◌, List, [], ◌∷◌, ◌++◌, refl, sym, ap, subst, ◌∙◌, arith}
 use Rattle.std.specs.List.{list_any}
 use Rattle.std.proofs.lemmas.Bool.{cond_both, or_right}
 use Rattle.std.proofs.lemmas.List.{map-append}
 use Rattle.std.proofs.lemmas.List.Folds.{list_any-append}
 use Rattle.bfs_auth.specs.Keys.{Keys}
-use Rattle.bfs_agreement.specs.Votes.{Header, is_slot, has_slot, is_taken, told, Told, primary, prepared}
+use Rattle.bfs_agreement.specs.Votes.{Header, is_slot, has_slot, told, Told, primary, prepared}
 use Rattle.bfs_log.specs.Headers.{header, message_header}
 use Rattle.bfs_log.specs.Logs.{Log, headers}
 use Rattle.bfs_messages.specs.Signing.{signed_by}
@@ -16,7 +16,7 @@ use Rattle.bfs_order.specs.Replica.Refusals.{is_there}
 use Rattle.bfs_order.specs.Replica.States as order
 use Rattle.bfs_order.specs.Replica.States.{known, with_more}
 use Rattle.bfs_consensus.specs.Histories.{IsIn, State, History}
-use Rattle.bfs_consensus.specs.Moves.{Reason, Prepares, Commits, MaySay}
+use Rattle.bfs_consensus.specs.Moves.{Reason, Prepares, Commits}
 use Rattle.bfs_consensus.specs.Calls.{with_said, all_said}
 use Rattle.bfs_consensus.specs.Nodes.{after_moves}
 use Rattle.bfs_consensus.proofs.Public.{MaySayAll, Within, say_join, prepared_more}

@@ -1,12 +1,12 @@
 -- Every list of calls is one of moves.
-use Rattle.std.proofs.Common.{◌≡◌, ℕ, ◌<◌, ◌==◌, Bool, true, false, cond, List, [], ◌∷◌, ◌++◌, Option, None, refl, sym, ap, subst, ◌∙◌, arith}
+use Rattle.std.proofs.Common.{◌≡◌, ℕ, ◌==◌, Bool, true, false, cond, List, [], ◌∷◌, ◌++◌, refl, sym, subst, ◌∙◌, arith}
 use Rattle.std.proofs.lemmas.Bool.{eqb-true}
-use Rattle.bfs_agreement.specs.Votes.{Header, says, Told}
+use Rattle.bfs_agreement.specs.Votes.{says}
 use Rattle.bfs_log.specs.Headers.{header}
 use Rattle.bfs_log.specs.Logs.{headers}
 use Rattle.bfs_order.specs.Replica.States as order
-use Rattle.bfs_order.specs.Laws.Calls.{Call, Takes, Proposes, Executes, Checkpoints, Installs, Leaves, Enters, CallsKeepTheReplica}
-use Rattle.bfs_consensus.specs.Histories.{IsIn, ViewChange, World, WasSent, FewAreFaulty, History}
+use Rattle.bfs_order.specs.Laws.Calls.{Takes, Proposes, Executes, Checkpoints, Installs, Leaves, Enters, CallsKeepTheReplica}
+use Rattle.bfs_consensus.specs.Histories.{IsIn, ViewChange, World, History}
 use Rattle.bfs_consensus.specs.Moves.{Move, Step, AreAllowed, after_step, after_steps, with_history, new_world}
 use Rattle.bfs_consensus.specs.Calls.{steps_of}
 use Rattle.bfs_consensus.specs.Nodes.{after_moves}
@@ -15,7 +15,8 @@ use Rattle.bfs_consensus.proofs.Public.{Grows, new_view_on, run_at, said_on}
 use Rattle.bfs_order_agreement.specs.Following.{Follows}
 use Rattle.bfs_order_agreement.specs.Laws.{DeedsAreMoves, OrdersAgree}
 use Rattle.bfs_order_agreement.specs.Replicas.{Replica, Deed, Orders, TimesOut, ChangesView, call_of, after_deed, new_view, MayDo, Replicas, histories, with_replica, new_replicas, Turn, after_turn, after_turns, MayTakeTurns}
-use Rattle.bfs_order_agreement.proofs.Deeds.{takes, checkpoints, installs, proposes, executes, leaves, stays_so}
+use Rattle.bfs_order_agreement.proofs.Taking.{takes, checkpoints, installs}
+use Rattle.bfs_order_agreement.proofs.Deeds.{proposes, executes, leaves}
 use Rattle.bfs_order_agreement.proofs.Entering.{enters}
 
 pub deeds_are_moves : DeedsAreMoves

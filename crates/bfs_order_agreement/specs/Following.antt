@@ -1,5 +1,5 @@
 -- When a history of moves is that of a replica.
-use Rattle.std.specs.Prelude.{◌≡◌, ℕ, ◌≤◌, max, Bool, false, List}
+use Rattle.std.specs.Prelude.{◌≡◌, ◌≤◌, max, Bool, false, List}
 use Rattle.std.specs.List.{list_any}
 use Rattle.bfs_agreement.specs.Votes.{Header}
 use Rattle.bfs_log.specs.Logs.{headers}

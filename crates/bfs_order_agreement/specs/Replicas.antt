@@ -1,5 +1,5 @@
 -- Replicas by the calls of their orders, and what of these has been sent and executed (OSDI 1999 sections 4.2 and 4.4).
-use Rattle.std.specs.Prelude.{◌≡◌, ℕ, ◌<◌, ◌≤◌, ◌==◌, max, Bool, true, false, ◌&&◌, List, [], ◌∷◌, ◌++◌, Option, Some, None, if◌then◌else◌}
+use Rattle.std.specs.Prelude.{◌≡◌, ℕ, ◌<◌, ◌≤◌, ◌==◌, max, Bool, true, List, [], ◌∷◌, ◌++◌, Option, Some, None, if◌then◌else◌}
 use Rattle.bfs_auth.specs.Keys.{Keys}
 use Rattle.bfs_agreement.specs.Votes.{Header, SlotsDiffer, primary, prepared}
 use Rattle.bfs_log.specs.Headers.{header}
