@@ -26,7 +26,7 @@ use Rattle.bfs_consensus.specs.Moves.{Leaves, Executes, IsOpen, Proposes, MaySay
 use Rattle.bfs_consensus.specs.Calls.{with_said, all_said}
 use Rattle.bfs_consensus.proofs.Public.{MaySayAll, Within, said_allowed, more, prepared_more}
 use Rattle.bfs_order_agreement.specs.Following.{Tracks, Follows}
-use Rattle.bfs_order_agreement.specs.Replicas.{Replica, TellsWhatIsPrepared, header_in, where_taken}
+use Rattle.bfs_order_agreement.specs.Replicas.{Replica, TellsWhatIsPrepared, message_in, where_taken}
 use Rattle.bfs_order_agreement.proofs.Telling.{slot_same, told_same}
 use Rattle.bfs_order_agreement.proofs.Saying.{commits_may, after_said}
 use Rattle.bfs_order_agreement.proofs.Results.{Result, passed, stays_so, stay_tracks, joined_now, tracks_answers, tracks_one, within, said_follows}
@@ -138,7 +138,7 @@ committed_now s t tracks v n d e =
     (le-leb (2 * s.f + 1) (tellers s.f t.log 4 v n d) (omega (arith, enough, most))) (told_now s t tracks 4 s.me v n d (omega arith) b.1))
 
 pub executes : (faulty : ℕ → Bool) (w : World) (r : Replica) → Follows r (w r.state.me)
-    → let next = where_committed r.state (next_proposal r.state) in Result faulty w r (execution r.state next).now [] [] [] (header_in next)
+    → let next = where_committed r.state (next_proposal r.state) in Result faulty w r (execution r.state next).now [] [] [] (message_in next)
 executes faulty w r follows = go (next_proposal r.state) refl
   where
     s : order.State
@@ -148,7 +148,7 @@ executes faulty w r follows = go (next_proposal r.state) refl
     p = w s.me
 
     runs : (m : Signed Message) → next_proposal s ≡ Some m → committed s.f s.me (known s) s.view (s.last + 1) (header m).digest ≡ true
-        → Result faulty w r (record s { last = s.last + 1 }) [] [] [] (header m ∷ [])
+        → Result faulty w r (record s { last = s.last + 1 }) [] [] [] (m ∷ [])
     runs m is ready =
         let h = header m in
         let k = primary s.f s.view in
@@ -167,16 +167,16 @@ executes faulty w r follows = go (next_proposal r.state) refl
             offers = follows.offers;
             changes = follows.changes;
             executed = λ x i. elim i [
-              | inl e ↦ subst (λ (y : Header). Executed (after_move s.f s.me p (Executes h)) y) (sym e) (p.now.log, inl refl)
+              | inl e ↦ subst (λ (y : Signed Message). Executed (after_move s.f s.me p (Executes h)) (header y)) (sym e) (p.now.log, inl refl)
               | inr j ↦ let old = follows.executed x j in (old.0, inr old.1)
             ];
           },
         )
 
-    go : (o : Option (Signed Message)) → next_proposal s ≡ o → Result faulty w r (execution s (where_committed s o)).now [] [] [] (header_in (where_committed s o))
+    go : (o : Option (Signed Message)) → next_proposal s ≡ o → Result faulty w r (execution s (where_committed s o)).now [] [] [] (message_in (where_committed s o))
     go None is = stays_so faulty w r s follows follows.state
     go (Some m) is = cond_both (committed s.f s.me (known s) s.view (s.last + 1) (header m).digest) (Some m) None
-        (λ (o : Option (Signed Message)). Result faulty w r (execution s o).now [] [] [] (header_in o))
+        (λ (o : Option (Signed Message)). Result faulty w r (execution s o).now [] [] [] (message_in o))
         (λ ready. runs m is ready)
         (λ _. stays_so faulty w r s follows follows.state)
 

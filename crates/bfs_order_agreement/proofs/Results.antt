@@ -22,7 +22,7 @@ use Rattle.bfs_order_agreement.proofs.Saying.{IsAhead, ahead_said}
 use Rattle.bfs_order_agreement.proofs.Dropping.{dropped, in_kept}
 
 -- a list of moves, and what they come to
-abbrev pub Result : (faulty : ℕ → Bool) → World → Replica → (now : order.State) → (votes offers : Log) → List ViewChange → List Header → Type 0
+abbrev pub Result : (faulty : ℕ → Bool) → World → Replica → (now : order.State) → (votes offers : Log) → List ViewChange → Log → Type 0
 Result faulty w r now votes offers changes executed = (moves : List Move) × AreAllowed r.state.f faulty w (steps_of r.state.me moves)
     × Follows (record { state = now; sent = votes ++ r.sent; offers = offers ++ r.offers; changes = changes ++ r.changes; executed = executed ++ r.executed })
     (after_moves r.state.f r.state.me (w r.state.me) moves)

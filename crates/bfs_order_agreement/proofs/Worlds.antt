@@ -13,7 +13,7 @@ use Rattle.bfs_consensus.specs.Nodes.{after_moves}
 use Rattle.bfs_consensus.specs.Laws.{MovesAgree}
 use Rattle.bfs_consensus.proofs.Public.{Grows, new_view_on, run_at, said_on}
 use Rattle.bfs_order_agreement.specs.Following.{Follows}
-use Rattle.bfs_order_agreement.specs.Laws.{DeedsAreMoves, OrdersAgree}
+use Rattle.bfs_order_agreement.specs.Laws.{DeedsAreMoves, OrderedBatchesAgree, OrdersAgree}
 use Rattle.bfs_order_agreement.specs.Replicas.{Replica, Deed, Orders, TimesOut, ChangesView, call_of, after_deed, new_view, MayDo, Replicas, histories, with_replica, new_replicas, Turn, after_turn, after_turns, MayTakeTurns}
 use Rattle.bfs_order_agreement.proofs.Taking.{takes, checkpoints, installs}
 use Rattle.bfs_order_agreement.proofs.Deeds.{proposes, executes, leaves}
@@ -118,4 +118,8 @@ new_followed f i =
 pub orders_agree : MovesAgree → DeedsAreMoves → CallsKeepTheReplica → OrdersAgree
 orders_agree agree moved same f faulty turns few may i j one other left right number =
     let all = all_turns f faulty moved same turns (new_replicas f) new_world (new_followed f) may in
-    agree f faulty all.0 few all.1 i j one other ((all.2 i).follows.executed one left) ((all.2 j).follows.executed other right) number
+    agree f faulty all.0 few all.1 i j (header one) (header other) ((all.2 i).follows.executed one left) ((all.2 j).follows.executed other right) number
+
+pub batches_agree : OrdersAgree → OrderedBatchesAgree
+batches_agree agree f faulty turns few may i j one other batch batch' left right number first second differ =
+    differ (sym first.1 ∙ agree f faulty turns few may i j one other left right number ∙ second.1)

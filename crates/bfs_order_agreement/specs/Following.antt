@@ -2,7 +2,10 @@
 use Rattle.std.specs.Prelude.{◌≡◌, ◌≤◌, max, Bool, false, List}
 use Rattle.std.specs.List.{list_any}
 use Rattle.bfs_agreement.specs.Votes.{Header}
+use Rattle.bfs_log.specs.Headers.{header}
 use Rattle.bfs_log.specs.Logs.{headers}
+use Rattle.bfs_messages.specs.declared.signed.Signed.{Signed}
+use Rattle.bfs_messages.specs.declared.message.Message.{Message}
 use Rattle.bfs_order.specs.Replica.States as order
 use Rattle.bfs_order.specs.Replica.States.{known}
 use Rattle.bfs_consensus.specs.Histories.{IsIn, State, History, Executed}
@@ -33,4 +36,4 @@ pub record Follows (r : Replica) (p : History) : Type 0 where
   pub sent : HaveTheSame (headers r.sent) p.sent
   pub offers : HaveTheSame (headers r.offers) p.offers
   pub changes : r.changes ≡ p.changes
-  pub executed : (h : Header) → IsIn h r.executed → Executed p h
+  pub executed : (m : Signed Message) → IsIn m r.executed → Executed p (header m)

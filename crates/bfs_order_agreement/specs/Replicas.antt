@@ -1,7 +1,7 @@
 -- Replicas by the calls of their orders, and what of these has been sent and executed (OSDI 1999 sections 4.2 and 4.4).
 use Rattle.std.specs.Prelude.{◌≡◌, ℕ, ◌<◌, ◌≤◌, ◌==◌, max, Bool, true, List, [], ◌∷◌, ◌++◌, Option, Some, None, if◌then◌else◌}
 use Rattle.bfs_auth.specs.Keys.{Keys}
-use Rattle.bfs_agreement.specs.Votes.{Header, SlotsDiffer, primary, prepared}
+use Rattle.bfs_agreement.specs.Votes.{SlotsDiffer, primary, prepared}
 use Rattle.bfs_log.specs.Headers.{header}
 use Rattle.bfs_log.specs.Logs.{Log, headers}
 use Rattle.bfs_messages.specs.declared.signed.Signed.{Signed}
@@ -25,7 +25,7 @@ pub record Replica : Type 0 where
   -- VIEW-CHANGEs that it has sent
   pub changes : List ViewChange
   -- PRE-PREPAREs of the batches that it has executed
-  pub executed : List Header
+  pub executed : Log
 
 -- What a replica does -----------------------------------------------------------------------------------------------------
 
@@ -69,14 +69,14 @@ changes_by s (Orders call) = []
 changes_by s (TimesOut change) = where_taken (leaving_refusal s change.view) (change ∷ [])
 changes_by s (ChangesView keys view min_s handed changes) = []
 
-abbrev pub header_in : Option (Signed Message) → List Header
-header_in None = []
-header_in (Some m) = header m ∷ []
+abbrev pub message_in : Option (Signed Message) → Log
+message_in None = []
+message_in (Some m) = m ∷ []
 
-abbrev pub executed_by : State → Call → List Header
+abbrev pub executed_by : State → Call → Log
 executed_by s (Takes keys m) = []
 executed_by s (Proposes keys batch) = []
-executed_by s Executes = header_in (next_order s)
+executed_by s Executes = message_in (next_order s)
 executed_by s (Checkpoints keys number digest) = []
 executed_by s (Installs keys certificate) = []
 executed_by s (Leaves view) = []

@@ -1,5 +1,5 @@
 // Agreement over the calls of orders. The bodies do nothing: what is said is the contracts.
-ghost use Rattle.bfs_order_agreement.specs.Laws.{DeedsAreMoves, OrdersAgree};
+ghost use Rattle.bfs_order_agreement.specs.Laws.{DeedsAreMoves, OrderedBatchesAgree, OrdersAgree};
 
 use bfs_consensus::agreement::moves_agree;
 use bfs_order::a_replica_stays_itself;
@@ -17,4 +17,11 @@ pub fn orders_agree()
     moves_agree();
     a_replica_stays_itself();
     deeds_are_moves();
+}
+
+/// They execute one batch by its text, where no two texts of batches have one digest.
+pub fn ordered_batches_agree()
+    ensures { OrderedBatchesAgree }
+{
+    orders_agree();
 }
