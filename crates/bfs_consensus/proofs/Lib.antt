@@ -1,0 +1,12 @@
+mod Counts
+mod Told
+mod Carried
+mod Logs
+mod Kept
+mod Said
+mod Worlds
+mod Choice
+mod Calls
+mod Nodes
+mod Running
+pub mod Public

@@ -1,0 +1,9 @@
+-- What proofs share.
+mod Telling
+mod Saying
+mod Dropping
+mod Results
+mod Taking
+mod Deeds
+mod Entering
+mod Worlds
