@@ -1,8 +1,10 @@
-//! Replicas in one process, as tests: what they answer, where they stand at the end, and their checkpoints.
+//! Replicas in one process, as tests: what they answer, where they stand at the end, their checkpoints, and how they catch up.
 #![tactic(auto)]
 
 #[cfg(test)]
 mod blocks;
+#[cfg(test)]
+mod catching_up;
 #[cfg(test)]
 mod checkpoints;
 #[cfg(test)]

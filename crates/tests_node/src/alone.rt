@@ -1,6 +1,6 @@
 //! A replica that is alone orders what comes at once.
 use crate::replica::{
-    Said, checkpoint, deliver, execute, has_digest, is_ready, propose, replica, request_signed_by,
+    Said, checkpoint, deliver, digest, execute, is_ready, propose, replica, request_signed_by,
     stable, standing, take,
 };
 use bfs_messages::encode;
@@ -34,7 +34,7 @@ fn a_repeated_request_is_answered_again(rt: HostRuntime) -> Result<(), Fail> {
         same!(rt; execute(&rt, &mut node), Some(1));
     }
     same!(rt; standing(&node), (0, 2, 0));
-    holds!(rt; has_digest(&rt, &node));
+    holds!(rt; digest(&rt, &node).is_some());
     Ok(())
 }
 

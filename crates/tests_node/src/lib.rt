@@ -1,6 +1,8 @@
-//! One replica, as tests: a request's way through it, what it refuses, and its checkpoints.
+//! One replica, as tests: a request's way through it, what it refuses, its checkpoints, and what it adopts.
 #![tactic(auto)]
 
+#[cfg(test)]
+mod adoption;
 #[cfg(test)]
 mod alone;
 #[cfg(test)]

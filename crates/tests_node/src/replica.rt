@@ -2,7 +2,7 @@
 ghost use Rattle.std.specs.Prelude.{◌<◌};
 
 use bfs_auth::{Keys, Principal};
-use bfs_messages::{Message, Request, Signed, sign};
+use bfs_messages::{Checkpoint, Message, Request, Signed, sign};
 use bfs_node::{Executor, NoGate, Node, NodeError, Workers};
 use bfs_settings::Settings;
 use bfs_testing::words::call;
@@ -62,9 +62,28 @@ pub fn checkpoint<R: Threads + Sync>(rt: &R, node: &mut Node) -> u32 {
     refusal_of(node.checkpoint(rt))
 }
 
-/// Whether the replica has a digest.
-pub fn has_digest<R: Threads + Sync>(rt: &R, node: &Node) -> bool {
-    node.digest(rt).is_ok()
+/// The replica's digest, if its file system has not failed.
+pub fn digest<R: Threads + Sync>(rt: &R, node: &Node) -> Option<[u8; 32]> {
+    node.digest(rt).ok()
+}
+
+/// The number of the refusal of an adoption, 0 where it is adopted.
+pub fn adopt<R: Threads + Sync>(
+    rt: &R,
+    node: &mut Node,
+    text: &[u8],
+    certificate: &[Signed<Message>],
+) -> u32 {
+    refusal_of(node.adopt(rt, text, certificate))
+}
+
+/// A copy of the text of the stable snapshot; no bytes where there is none.
+pub fn stable_text(alloc: Global, node: &Node) -> Result<Vec<u8>, Memory> {
+    let mut copy = Vec::new(alloc);
+    if let Some((text, _)) = node.stable() {
+        copy.extend_from_slice(text)?;
+    }
+    Ok(copy)
 }
 
 /// How many CHECKPOINTs tell the stable snapshot, and how many bytes it has; none where there is none.
@@ -103,6 +122,23 @@ pub fn request_signed_by(
     }
     let request = Request::new(alloc, client, timestamp as u64, &bytes)?;
     sign(alloc, &keys, Message::Request(request))
+}
+
+/// The CHECKPOINT of number 16 in the name of a replica of four, which is signed by one of them.
+pub fn checkpoint_signed_by(
+    alloc: Global,
+    signer: u32,
+    sender: u32,
+    digest: [u8; 32],
+) -> Result<Signed<Message>, Memory>
+    requires { signer < 4 }
+{
+    let keys = Keys::derive(alloc, SECRET, Principal::Replica(signer), 4, CLIENTS)?;
+    sign(
+        alloc,
+        &keys,
+        Message::Checkpoint(Checkpoint::new(sender, 16, digest)),
+    )
 }
 
 /// The number of the refusal of a proposal at 1.000000, 0 where there is none.
