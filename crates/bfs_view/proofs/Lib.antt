@@ -12,3 +12,4 @@ mod OfTheSet
 mod Prepared
 mod Counting
 mod Made
+mod Right

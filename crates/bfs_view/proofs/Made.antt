@@ -202,7 +202,7 @@ module _ (keys : Keys) (s : State) (view : ℕ) (fs : faults keys ≡ s.f) (befo
       and_from _ _ (and_from _ _ (rises of_number (λ n c e. let m = made_of s n c e in ap number_in (sym m.is) ∙ m.number) s.low s.low window (omega arith)) (all_from (is_due (change_of s view)) (certificates s) due))
       (and_from _ _ signed (and_from _ _ stable (all_from (certifies keys) (certificates s) (λ c h. let w = in_window s c h in certified w.0 c w.3))))
 
-faults_of : (secret : List ℕ) (f me clients : ℕ) → faults (own_keys secret clients f me) ≡ f
+pub faults_of : (secret : List ℕ) (f me clients : ℕ) → faults (own_keys secret clients f me) ≡ f
 faults_of secret f me clients =
     let n = length-map-range_with_len (λ k. shared_keys secret (Replica me) (Replica k)) 0 (3 * f + 1) in
     omega (arith, n)

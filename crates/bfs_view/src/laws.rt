@@ -1,6 +1,6 @@
 // What holds of the choice of a new view, and of what a replica says of its log. The bodies do nothing: what is said is the contracts.
 ghost use Rattle.bfs_view.specs.Laws.Choices.{ChoiceIsOfTheSet, NumbersAreChosenOnce, OthersAreNull, PreparedIsChosen, RefusalIsOfTheSet, StableIsPassed, ValidChoicesAreShort};
-ghost use Rattle.bfs_view.specs.Laws.Made.{MadeHasPrepared, MadeIsValid, MadeIsValidAfterCalls};
+ghost use Rattle.bfs_view.specs.Laws.Made.{MadeHasPrepared, MadeIsValid, MadeIsValidAfterCalls, NewViewIsRight};
 
 use bfs_auth::what_is_signed_passes;
 use bfs_messages::batches_with_one_text;
@@ -49,3 +49,10 @@ pub fn made_is_valid()
 pub fn made_has_prepared()
     ensures { MadeHasPrepared }
 {}
+
+/// The NEW-VIEW that a primary makes is right for each replica for which its VIEW-CHANGEs are valid.
+pub fn made_new_view_is_right()
+    ensures { NewViewIsRight }
+{
+    what_is_signed_passes();
+}

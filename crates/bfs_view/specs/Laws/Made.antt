@@ -1,8 +1,11 @@
--- What holds of the VIEW-CHANGE that a replica makes of its log (OSDI 1999 section 4.4).
-use Rattle.std.specs.Prelude.{◌≡◌, ℕ, ◌+◌, ◌<◌, ◌≤◌, true, List}
+-- What holds of the VIEW-CHANGE that a replica makes of its log, and of the NEW-VIEW that a primary makes (OSDI 1999 section 4.4).
+use Rattle.std.specs.Prelude.{◌≡◌, ℕ, ◌+◌, ◌<◌, ◌≤◌, true, List, None}
 use Rattle.std.specs.List.{All, Contains}
-use Rattle.bfs_agreement.specs.Votes.{prepared, replicas}
-use Rattle.bfs_messages.specs.Messages.{Certificate}
+use Rattle.bfs_agreement.specs.Votes.{prepared, primary, replicas}
+use Rattle.bfs_messages.specs.Messages.{Certificate, ViewChange}
+use Rattle.bfs_messages.specs.Signing.{signed_by}
+use Rattle.bfs_messages.specs.declared.signed.Signed.{Signed}
+use Rattle.bfs_messages.specs.declared.message.Message.TheVariants.{NewView}
 use Rattle.bfs_order.specs.Laws.Calls.{Call, after}
 use Rattle.bfs_order.specs.Laws.Clean.{HasCleanLog, IsProper, own_keys}
 use Rattle.bfs_order.specs.Laws.Logs.{HasCertificate, HasDistinctSlots, HasNoLaterView}
@@ -10,7 +13,10 @@ use Rattle.bfs_order.specs.Replica.Refusals.{window}
 use Rattle.bfs_order.specs.Replica.States.{State, fresh, known}
 use Rattle.bfs_view.specs.Changes.Certificates.{number_in, view_in}
 use Rattle.bfs_view.specs.Changes.ViewChanges.{valid_view_change}
-use Rattle.bfs_view.specs.Changes.Making.{certificates, change_of, signed_change}
+use Rattle.bfs_view.specs.Changes.Making.{certificates, change_of, new_view_from, signed_change}
+use Rattle.bfs_view.specs.Changes.Choice.{choice}
+use Rattle.bfs_view.specs.Changes.NewViews.{are_for, choice_refusal, new_view_refusal}
+use Rattle.bfs_view.specs.Changes.Parts.{messages_of}
 
 -- by its own keys it is valid where the log is clean, and what each replica's log always is
 abbrev pub MadeIsValid : Type 0
@@ -29,3 +35,9 @@ abbrev pub MadeHasPrepared : Type 0
 MadeHasPrepared = (s : State) (view number : ℕ) (digest : List ℕ) → prepared s.f s.me (known s) view number digest ≡ true
     → s.low < number → number ≤ s.low + window
     → (c : Certificate) × Contains (certificates s) c × (number_in c ≡ number) × (view ≤ view_in c)
+
+-- the NEW-VIEW that a primary makes is right for each replica for which its VIEW-CHANGEs can be chosen from
+abbrev pub NewViewIsRight : Type 0
+NewViewIsRight = (secret : List ℕ) (clients f me other view : ℕ) (changes : List (Signed ViewChange)) → me < replicas f → other < replicas f → me ≡ primary f view
+    → are_for view changes ≡ true → choice_refusal (own_keys secret clients f other) changes ≡ None
+    → new_view_refusal (own_keys secret clients f other) (signed_by (own_keys secret clients f me) (NewView (new_view_from (own_keys secret clients f me) me view changes (choice (messages_of changes))))) ≡ None
