@@ -2,6 +2,7 @@ ghost use Rattle.std.specs.Prelude.{◌≡◌, false, true, [], IfOk};
 ghost use Rattle.bfs_cluster.specs.World.{hearing, new_world};
 
 use crate::replica::Replica;
+use crate::watching::Sent;
 use bfs_messages::{Message, Signed};
 use bfs_node::{Executor, MOST_WORKERS, Node, Workers};
 use bfs_settings::Settings;
@@ -36,6 +37,8 @@ pub struct Cluster {
     pub(crate) replies: Vec<Signed<Message>>,
     // whose turn it is to execute, while no messages are delivered
     pub(crate) turn: Option<usize>,
+    pub(crate) is_watched: bool,
+    pub(crate) watched: Vec<Sent>,
 }
 
 impl Model for Cluster {
@@ -71,6 +74,8 @@ impl Cluster {
             queue: VecDeque::new(alloc),
             replies: Vec::new(alloc),
             turn: None,
+            is_watched: false,
+            watched: Vec::new(alloc),
         })
     }
 

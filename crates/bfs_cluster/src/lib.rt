@@ -8,8 +8,10 @@ mod laws;
 mod replica;
 mod standings;
 mod stepping;
+mod watching;
 
 pub use bfs_node::{Engine, Executor, Workers};
 pub use cluster::Cluster;
 pub use laws::a_world_settles_once;
 pub use standings::Standing;
+pub use watching::Sent;

@@ -166,6 +166,7 @@ impl Cluster {
     fn post_one(&mut self, sender: usize, signed: Signed<Message>) -> Result<(), Memory>
         ensures { OnOk result (self.new ≡ posted sender self.old signed) }
     {
+        self.note(sender, &signed)?;
         match receivers_of(&signed.message) {
             Receivers::Replicas => self.queue.push_back(Broadcast {
                 sender,

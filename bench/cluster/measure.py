@@ -1,0 +1,66 @@
+#!/usr/bin/env python3
+"""`measure.py PROGRAM` prints, by the program of main.txt, what a batch of 1,024 requests takes a run of one replica and one of four: on one processor
+and on all, beside what must be hashed for it and its executions one after another; and the memory of each run. The least of ROUNDS runs.
+
+What must be hashed, for n replicas: the client signs a request for each; each checks it when it comes, and each backup again in the PRE-PREPARE; each
+hashes the batch; each signs its reply, and the client checks each. Counted in blocks of SHA-256, at the speed of the kit's `sha2`.
+"""
+import os
+import subprocess
+import sys
+
+ROUNDS, BATCHES, REQUESTS = 5, "12", 1_024
+CALLS = {"getattr": 72, "write": 8_280}  # bytes of a call
+REPLY = 32 + 96  # bytes of what is signed of a reply, with attributes as its result
+
+
+def run(*command):
+    process = subprocess.Popen(command, stdout=subprocess.PIPE, text=True)
+    said = process.stdout.read()
+    _, status, usage = os.wait4(process.pid, 0)
+    if status != 0:
+        sys.exit(f"{' '.join(command)}: ended with status {status}")
+    return [int(word) for word in said.split()], usage.ru_maxrss
+
+
+def least(*command):
+    """The run of the least time, and the most memory."""
+    runs = [run(*command) for _ in range(ROUNDS)]
+    return min(said for said, _ in runs), max(memory for _, memory in runs)
+
+
+def blocks(length):
+    return (length + 9 + 63) // 64
+
+
+def keyed(length):
+    return blocks(64 + length) + blocks(64 + 32)
+
+
+def hashed(replicas, workload):
+    """Blocks of SHA-256, for a batch."""
+    request = 20 + CALLS[workload]
+    batch = replicas * blocks(16 + REQUESTS * (request + 4 + 32 * replicas))
+    return REQUESTS * ((3 * replicas - 1) * keyed(request) + 2 * replicas * keyed(REPLY)) + batch
+
+
+def main(program):
+    one = "taskset", "-c", str(min(os.sched_getaffinity(0)))
+    (hashing,), _ = least(*one, program, "hash", "8192", "1024")
+    block = hashing / (1_024 * blocks(8_192))
+    for workload in CALLS:
+        (serial,), plain = least(*one, program, "serial", workload, BATCHES)
+        for faults in ("0", "1"):
+            replicas = 3 * int(faults) + 1
+            due = block * hashed(replicas, workload) + replicas * serial
+            (alone, *parts), memory = least(*one, program, "run", faults, workload, BATCHES)
+            (every, *_), _ = least(program, "run", faults, workload, BATCHES)
+            print(
+                f"{workload}, {replicas} replicas: hashes and executions {due / 1000:.1f} ms; one processor {alone / 1000:.1f} ms: {alone / due:.2f}; "
+                f"{len(os.sched_getaffinity(0))} processors {every / 1000:.1f} ms: {every / due:.2f}; of one: signing, coming, ordering, counting "
+                f"{' '.join(f'{part / 1000:.1f}' for part in parts)} ms; memory {memory / 1024:.0f} MiB: {memory / plain:.2f} of the plain run's"
+            )
+
+
+if __name__ == "__main__":
+    main(sys.argv[1])
