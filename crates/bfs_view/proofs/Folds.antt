@@ -1,0 +1,21 @@
+-- Lists: a fold over one after another, one number more, and a test of what a function makes of each.
+use Rattle.std.proofs.Common.{◌≡◌, ℕ, Bool, ◌&&◌, ◌||◌, ◌+◌, ◌-◌, ◌<◌, List, [], ◌∷◌, ◌++◌, map, refl, ap, ◌∙◌, arith}
+use Rattle.std.specs.List.{fold, list_all, list_any, range_with_len}
+use Rattle.std.proofs.lemmas.List.FromFn.{map-range_with_len_more}
+
+pub fold_append : {A B : Type 0} (f : B → A → B) (b : B) (xs ys : List A) → fold f b (xs ++ ys) ≡ fold f (fold f b xs) ys
+fold_append f b [] ys = refl
+fold_append f b (x ∷ xs) ys = fold_append f (f b x) xs ys
+
+pub one_number_more : {A : Type 0} (f : ℕ → A) (low n : ℕ) → low < n → map f (range_with_len (low + 1) (n + 1 - (low + 1))) ≡ map f (range_with_len (low + 1) (n - (low + 1))) ++ f n ∷ []
+one_number_more f low n lt =
+    let k : n + 1 - (low + 1) ≡ (n - (low + 1)) + 1 = omega (arith, lt) in
+    ap (λ j. map f (range_with_len (low + 1) j)) k ∙ map-range_with_len_more f (low + 1) (n - (low + 1)) n (omega (arith, lt))
+
+pub any_map : {X Y : Type 0} (p : Y → Bool) (f : X → Y) (xs : List X) → list_any p (map f xs) ≡ list_any (λ x. p (f x)) xs
+any_map p f [] = refl
+any_map p f (x ∷ xs) = ap (λ b. p (f x) || b) (any_map p f xs)
+
+pub all_map : {X Y : Type 0} (p : Y → Bool) (f : X → Y) (xs : List X) → list_all p (map f xs) ≡ list_all (λ x. p (f x)) xs
+all_map p f [] = refl
+all_map p f (x ∷ xs) = ap (λ b. p (f x) && b) (all_map p f xs)

@@ -1,0 +1,14 @@
+-- What proofs share.
+mod Folds
+mod Headers
+mod Steps
+mod Passed
+mod Few
+mod Certified
+mod Members
+mod Latest
+mod Best
+mod OfTheSet
+mod Prepared
+mod Counting
+mod Made

@@ -1,0 +1,33 @@
+-- Which VIEW-CHANGEs are valid, as the holder of some keys sees it (OSDI 1999 section 4.4).
+use Rattle.std.specs.Prelude.{ℕ, ◌+◌, Bool, true, ◌&&◌, List, [], ◌∷◌, map, nat_lt, nat_le}
+use Rattle.std.specs.List.{list_all}
+use Rattle.bfs_auth.specs.Keys.{Keys}
+use Rattle.bfs_messages.specs.Messages as model
+use Rattle.bfs_messages.specs.Messages.{Certificate}
+use Rattle.bfs_messages.specs.Signing.{is_signed}
+use Rattle.bfs_messages.specs.declared.signed.Signed.{Signed}
+use Rattle.bfs_messages.specs.declared.message.Message.TheVariants.{ViewChange}
+use Rattle.bfs_order.specs.Replica.Refusals.{window}
+use Rattle.bfs_view.specs.Changes.Parts.{as_message}
+use Rattle.bfs_view.specs.Changes.Certificates.{certifies, has_stable, number_in, view_in}
+
+-- each number is greater than the one before it, and the first than low
+abbrev pub do_rise : (low : ℕ) → List ℕ → Bool
+do_rise low [] = true
+do_rise low (n ∷ ns) = nat_lt low n && do_rise n ns
+
+-- of a number in the window above the stable one, prepared before the view that is asked for (OSDI 1999 section 4.4)
+abbrev pub is_due : model.ViewChange → Certificate → Bool
+is_due change c = nat_le (number_in c) (change.stable + window) && nat_lt (view_in c) change.view
+
+-- the certificates are of rising numbers in the window (OSDI 1999 section 4.4)
+abbrev pub are_in_order : model.ViewChange → Bool
+are_in_order change = do_rise change.stable (map number_in change.certificates) && list_all (is_due change) change.certificates
+
+-- it is its sender's, and has certificates of its stable number and of each batch (OSDI 1999 section 4.4)
+abbrev pub valid_view_change : Keys → Signed model.ViewChange → Bool
+valid_view_change keys s =
+    are_in_order s.message
+    && (is_signed keys (as_message ViewChange s)
+    && (has_stable keys s.message
+    && list_all (certifies keys) s.message.certificates))

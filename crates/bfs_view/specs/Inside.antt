@@ -1,0 +1,2 @@
+-- What contracts of private functions cite.
+pub mod Found

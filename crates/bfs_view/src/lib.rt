@@ -1,0 +1,21 @@
+//! From one view to the next: what a replica says of its log, what is right of that, and what a new view takes over (OSDI 1999 section 4.4).
+#![tactic(auto)]
+
+mod certificates;
+mod choice;
+mod error;
+mod laws;
+mod making;
+mod new_views;
+mod senders;
+mod view_changes;
+
+pub use choice::{Choice, Chosen, choice_of};
+pub use error::ViewError;
+pub use laws::{
+    choice_is_of_the_set, made_has_prepared, made_is_valid, prepared_is_chosen,
+    valid_choices_are_short,
+};
+pub use making::make_view_change;
+pub use new_views::{check_new_view, choose};
+pub use view_changes::valid_view_change;
