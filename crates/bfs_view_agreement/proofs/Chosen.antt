@@ -1,12 +1,12 @@
 -- What is chosen from VIEW-CHANGEs that are found right makes a valid NEW-VIEW.
-use Rattle.std.proofs.Common.{◌≡◌, ℕ, zero, suc, ◌+◌, ◌*◌, ◌<◌, ◌≤◌, ◌==◌, max, Bool, true, false, cond, ◌&&◌, ◌||◌, not, List, [], ◌∷◌, Option, Some, None, inl, inr, refl, sym, ap, subst, ◌∙◌, arith}
+use Rattle.std.proofs.Common.{◌≡◌, ℕ, zero, suc, ◌+◌, ◌*◌, ◌<◌, ◌≤◌, ◌==◌, Bool, true, false, cond, ◌&&◌, ◌||◌, not, List, [], ◌∷◌, Option, Some, None, inl, inr, refl, sym, ap, subst, ◌∙◌, arith}
 use Rattle.std.specs.Prelude.{nat_lt, nat_le, map}
 use Rattle.std.specs.List.{list_any, list_all, range_with_len}
 use Rattle.std.proofs.lemmas.Bool.{and_parts, cases_Bool, eqb-true, ltb-true, ltb-false}
 use mathlib.Core.Path.{fun_ext}
 use Rattle.sha2.specs.Sha256.{sha256}
 use Rattle.bfs_auth.specs.Keys.{Keys}
-use Rattle.bfs_agreement.specs.Votes.{Header, SlotsDiffer, is_slot, is_taken, Told, count_below, replicas, primary, is_backed}
+use Rattle.bfs_agreement.specs.Votes.{Header, SlotsDiffer, is_slot, Told, count_below, replicas, primary, is_backed}
 use Rattle.bfs_log.specs.Headers.{header}
 use Rattle.bfs_log.specs.Logs.{Log, headers}
 use Rattle.bfs_messages.specs.Messages as model
@@ -15,22 +15,19 @@ use Rattle.bfs_messages.specs.Signing.{is_signed}
 use Rattle.bfs_messages.specs.declared.signed.Signed.{Signed}
 use Rattle.bfs_messages.specs.declared.message.Message.TheVariants.{ViewChange}
 use Rattle.bfs_order.specs.Replica.Installing.{has_sender, senders_differ}
-use Rattle.bfs_order.specs.Replica.States.{State}
 use Rattle.bfs_order.specs.Replica.Views.{greatest_number}
 use Rattle.bfs_consensus.specs.Histories as told
 use Rattle.bfs_consensus.specs.Histories.{IsIn, World, WasSent, IsChoice, IsValidCertificate, IsValidNewView}
 use Rattle.bfs_consensus.proofs.Public.{Is, in_told}
 use Rattle.bfs_order_agreement.specs.Replicas.{new_view}
-use Rattle.bfs_view.specs.declared.error.ViewError.{ViewError}
 use Rattle.bfs_view.specs.declared.error.ViewError.TheVariants.{BadCertificate, TooFew}
 use Rattle.bfs_view.specs.Changes.Certificates.{faults, number_in, view_in, vote_in, is_proved, certifies, has_stable}
 use Rattle.bfs_view.specs.Changes.Choice.{Chosen, choice, latest_stable}
-use Rattle.bfs_view.specs.Changes.NewViews.{senders, are_for, do_agree, choice_refusal}
+use Rattle.bfs_view.specs.Changes.NewViews.{senders, do_agree}
 use Rattle.bfs_view.specs.Changes.Parts.{as_message, as_changes, messages_in, messages_of}
 use Rattle.bfs_view.specs.Changes.ViewChanges.{is_due, are_in_order, valid_view_change}
 use Rattle.bfs_view.specs.Laws.Choices.{StableIsPassed, NumbersAreChosenOnce, PreparedIsChosen}
 use Rattle.bfs_view_agreement.specs.Changes.{told_certificate, told_change, proposal_of, IsGenuine}
-use Rattle.bfs_view_agreement.specs.Replicas.{IsRightNewView}
 use Rattle.bfs_view_agreement.specs.Laws.{RightNewViewsAreValid}
 use Rattle.bfs_view_agreement.proofs.Lists.{is_in, contains, in_map, out_of_map, in_range, told_in, passes_at}
 

@@ -1,9 +1,9 @@
 -- What is in a list, and what a list of messages tells.
-use Rattle.std.proofs.Common.{◌≡◌, ℕ, zero, suc, ◌+◌, ◌<◌, ◌≤◌, Bool, true, false, List, [], ◌∷◌, ◌++◌, ◌⊎◌, inl, inr, refl, sym, subst, arith}
+use Rattle.std.proofs.Common.{◌≡◌, ℕ, zero, suc, ◌+◌, ◌≤◌, Bool, true, List, [], ◌∷◌, inl, inr, refl, sym, subst, arith}
 use Rattle.std.specs.Prelude.{All, Contains, map}
 use Rattle.std.specs.List.{list_all, range_with_len}
 use Rattle.std.proofs.lemmas.Bool.{and_parts, or_cases}
-use Rattle.std.proofs.lemmas.List.Elements.{All-nil, All-cons, All-head, All-tail, All-weaker, All-contains, Contains-push, Contains-append_left, Contains-append_right}
+use Rattle.std.proofs.lemmas.List.Elements.{All-nil, All-cons, All-weaker, All-contains, Contains-push, Contains-append_left, Contains-append_right}
 use Rattle.bfs_agreement.specs.Votes.{Header, says, told, Told}
 use Rattle.bfs_consensus.specs.Histories.{IsIn}
 use Rattle.bfs_consensus.proofs.Public.{Is, says_is}

@@ -1,5 +1,5 @@
 -- Every list of calls and deliveries is one of which agreement is proved.
-use Rattle.std.proofs.Common.{◌≡◌, ℕ, ◌==◌, Bool, true, false, cond, List, [], ◌∷◌, refl, sym, ap, subst, ◌∙◌}
+use Rattle.std.proofs.Common.{◌≡◌, ℕ, ◌==◌, Bool, true, false, cond, List, [], ◌∷◌, refl, sym, subst}
 use Rattle.bfs_order.specs.Laws.Calls.{IsKept}
 use Rattle.bfs_order.specs.Laws.Logs.{IsWindowed}
 use Rattle.bfs_order.specs.Replica.States.{State}

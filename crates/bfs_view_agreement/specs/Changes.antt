@@ -1,10 +1,9 @@
 -- VIEW-CHANGEs and NEW-VIEWs by the headers of what they hold (OSDI 1999 section 4.4).
-use Rattle.std.specs.Prelude.{◌≡◌, ℕ, Bool, true, false, List, map}
+use Rattle.std.specs.Prelude.{◌≡◌, ℕ, Bool, false, map}
 use Rattle.sha2.specs.Sha256.{sha256}
-use Rattle.bfs_auth.specs.Keys.{Keys}
 use Rattle.bfs_agreement.specs.Votes.{Header, primary}
 use Rattle.bfs_log.specs.Headers.{header}
-use Rattle.bfs_log.specs.Logs.{Log, headers}
+use Rattle.bfs_log.specs.Logs.{headers}
 use Rattle.bfs_messages.specs.Messages as model
 use Rattle.bfs_messages.specs.Batches.{batch_text}
 use Rattle.bfs_messages.specs.declared.signed.Signed.{Signed}
