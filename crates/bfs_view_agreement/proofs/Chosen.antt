@@ -1,0 +1,236 @@
+-- What is chosen from VIEW-CHANGEs that are found right makes a valid NEW-VIEW.
+use Rattle.std.proofs.Common.{◌≡◌, ℕ, zero, suc, ◌+◌, ◌*◌, ◌<◌, ◌≤◌, ◌==◌, Bool, true, false, cond, ◌&&◌, ◌||◌, not, List, [], ◌∷◌, Option, Some, None, inl, inr, refl, sym, ap, subst, ◌∙◌, arith}
+use Rattle.std.specs.Prelude.{nat_lt, nat_le, map}
+use Rattle.std.specs.List.{list_any, list_all, range_with_len}
+use Rattle.std.proofs.lemmas.Bool.{and_parts, cases_Bool, eqb-true, ltb-true, ltb-false}
+use mathlib.Core.Path.{fun_ext}
+use Rattle.sha2.specs.Sha256.{sha256}
+use Rattle.bfs_auth.specs.Keys.{Keys}
+use Rattle.bfs_agreement.specs.Votes.{Header, SlotsDiffer, is_slot, Told, count_below, replicas, primary, is_backed}
+use Rattle.bfs_log.specs.Headers.{header}
+use Rattle.bfs_log.specs.Logs.{Log, headers}
+use Rattle.bfs_messages.specs.Messages as model
+use Rattle.bfs_messages.specs.Batches.{batch_text}
+use Rattle.bfs_messages.specs.Signing.{is_signed}
+use Rattle.bfs_messages.specs.declared.signed.Signed.{Signed}
+use Rattle.bfs_messages.specs.declared.message.Message.TheVariants.{ViewChange}
+use Rattle.bfs_order.specs.Replica.Installing.{has_sender, senders_differ}
+use Rattle.bfs_order.specs.Replica.Views.{greatest_number}
+use Rattle.bfs_consensus.specs.Histories as told
+use Rattle.bfs_consensus.specs.Histories.{IsIn, World, WasSent, IsChoice, IsValidCertificate, IsValidNewView}
+use Rattle.bfs_consensus.proofs.Public.{Is, in_told}
+use Rattle.bfs_order_agreement.specs.Replicas.{new_view}
+use Rattle.bfs_view.specs.declared.error.ViewError.TheVariants.{BadCertificate, TooFew}
+use Rattle.bfs_view.specs.Changes.Certificates.{faults, number_in, view_in, vote_in, is_proved, certifies, has_stable}
+use Rattle.bfs_view.specs.Changes.Choice.{Chosen, choice, latest_stable}
+use Rattle.bfs_view.specs.Changes.NewViews.{senders, do_agree}
+use Rattle.bfs_view.specs.Changes.Parts.{as_message, as_changes, messages_in, messages_of}
+use Rattle.bfs_view.specs.Changes.ViewChanges.{is_due, are_in_order, valid_view_change}
+use Rattle.bfs_view.specs.Laws.Choices.{StableIsPassed, NumbersAreChosenOnce, PreparedIsChosen}
+use Rattle.bfs_view_agreement.specs.Changes.{told_certificate, told_change, proposal_of, IsGenuine}
+use Rattle.bfs_view_agreement.specs.Laws.{RightNewViewsAreValid}
+use Rattle.bfs_view_agreement.proofs.Lists.{is_in, contains, in_map, out_of_map, in_range, told_in, passes_at}
+
+passed : {E : Type 0} (b : Bool) (e : E) (o : Option E) → cond (not b) (Some e) o ≡ None → (b ≡ true) × (o ≡ None)
+passed true e o h = (refl, h)
+passed false e o h = absurd cc
+
+not_hit : {E : Type 0} (b : Bool) (e : E) (o : Option E) → cond b (Some e) o ≡ None → b ≡ false
+not_hit true e o h = absurd cc
+not_hit false e o h = refl
+
+-- Numbers -----------------------------------------------------------------------------------------------------------------
+
+module _ (xs : List Chosen) (x : Chosen) (a m : ℕ) (e : map (λ (c : Chosen). c.number) (x ∷ xs) ≡ range_with_len a (suc m)) where
+  head : x.number ≡ a
+  head = cc
+
+  rest : map (λ (c : Chosen). c.number) xs ≡ range_with_len (a + 1) m
+  rest = cc
+
+  later : (y : Chosen) → IsIn y xs → a < y.number
+  later y i = let le = in_range (a + 1) m y.number (subst (λ (l : List ℕ). IsIn y.number l) rest (in_map (λ (c : Chosen). c.number) xs y i)) in omega (arith, le)
+
+one_for : (xs : List Chosen) (a m : ℕ) → map (λ (c : Chosen). c.number) xs ≡ range_with_len a m → (c b : Chosen) → IsIn c xs → IsIn b xs → c.number ≡ b.number → c ≡ b
+one_for [] a m e c b i j same = absurd i
+one_for (x ∷ xs) a zero e c b i j same = absurd cc
+one_for (x ∷ xs) a (suc m) e c b i j same =
+    let first = head xs x a m e in
+    elim i [
+      | inl p ↦ elim j [
+        | inl q ↦ p ∙ sym q
+        | inr q ↦ let lt = later xs x a m e b q in let at : c.number ≡ x.number = ap (λ (y : Chosen). y.number) p in absurd (omega (arith, lt, at, first, same))
+      ]
+      | inr p ↦ elim j [
+        | inl q ↦ let lt = later xs x a m e c p in let at : b.number ≡ x.number = ap (λ (y : Chosen). y.number) q in absurd (omega (arith, lt, at, first, same))
+        | inr q ↦ one_for xs (a + 1) m (rest xs x a m e) c b p q same
+      ]
+    ]
+
+none_found : (test : Header → Bool) (hs : List Header) → ((h : Header) → IsIn h hs → test h ≡ false) → list_any test hs ≡ false
+none_found test [] none = refl
+none_found test (h ∷ hs) none = ap (λ (b : Bool). b || list_any test hs) (none h (inl refl)) ∙ none_found test hs (λ x i. none x (inr i))
+
+other_number : (t k v n : ℕ) (h : Header) → (h.number ≡ n → ⊥) → is_slot t k v n h ≡ false
+other_number t k v n h differ = elim (cases_Bool (is_slot t k v n h)) [
+  | inl e ↦
+      let a = and_parts (h.tag == t) ((h.sender == k) && ((h.view == v) && (h.number == n))) e in
+      let b = and_parts (h.sender == k) ((h.view == v) && (h.number == n)) a.1 in
+      let c = and_parts (h.view == v) (h.number == n) b.1 in
+      absurd (differ (eqb-true h.number n c.1))
+  | inr e ↦ e
+]
+
+slots_differ : (f view : ℕ) (xs : List Chosen) (a m : ℕ) → map (λ (c : Chosen). c.number) xs ≡ range_with_len a m → SlotsDiffer (map (proposal_of f view) xs)
+slots_differ f view [] a m e = tt
+slots_differ f view (x ∷ xs) a zero e = absurd cc
+slots_differ f view (x ∷ xs) a (suc m) e = (
+  none_found (is_slot 2 (primary f view) view x.number) (map (proposal_of f view) xs) (λ h i.
+      let got = out_of_map (proposal_of f view) xs h i in
+      let lt = later xs x a m e got.0 got.1 in
+      let first = head xs x a m e in
+      let at : h.number ≡ got.0.number = ap (λ (y : Header). y.number) got.2 in
+      other_number 2 (primary f view) view x.number h (λ same. absurd (omega (arith, lt, first, at, same)))),
+  slots_differ f view xs (a + 1) m (rest xs x a m e),
+)
+
+below_greatest : (handed : Log) (h : Header) → IsIn h (headers handed) → h.number ≤ greatest_number handed
+below_greatest [] h i = absurd i
+below_greatest (m ∷ ms) h i = elim i [
+  | inl e ↦ let same : h.number ≡ (header m).number = ap (λ (x : Header). x.number) e in omega (arith, same)
+  | inr j ↦ let le = below_greatest ms h j in omega (arith, le)
+]
+
+-- The choice --------------------------------------------------------------------------------------------------------------
+
+module _ (passed_stable : StableIsPassed) (numbers : NumbersAreChosenOnce) (prepared : PreparedIsChosen) (f view : ℕ) (chs : List model.ViewChange) (handed : Log)
+    (proposals : headers handed ≡ map (proposal_of f view) (choice chs).chosen)
+    (whole : (change : model.ViewChange) (c : model.Certificate) → IsIn change chs → IsIn c change.certificates → c.proposal.message.vote.digest ≡ sha256 (batch_text c.proposal.message.batch)) where
+  chosen_at : (h : Header) → IsIn h (headers handed) → (c : Chosen) × IsIn c (choice chs).chosen × (h ≡ proposal_of f view c)
+  chosen_at h i = out_of_map (proposal_of f view) (choice chs).chosen h (subst (λ (l : List Header). IsIn h l) proposals i)
+
+  above : (c : Chosen) → IsIn c (choice chs).chosen → latest_stable chs < c.number
+  above c i =
+      let le = in_range (latest_stable chs + 1) _ c.number (subst (λ (l : List ℕ). IsIn c.number l) (numbers chs) (in_map (λ (x : Chosen). x.number) (choice chs).chosen c i)) in
+      omega (arith, le)
+
+  is_choice : IsChoice f (new_view view (choice chs).min_s handed (map told_change chs))
+  is_choice = record {
+    kinds = λ t k v n d x.
+        let got = told_in (headers handed) t k v n d x in
+        let c = chosen_at got.0 got.1 in
+        let is = got.2 in
+        (sym is.tag ∙ ap (λ (h : Header). h.tag) c.2, sym is.sender ∙ ap (λ (h : Header). h.sender) c.2, sym is.view ∙ ap (λ (h : Header). h.view) c.2);
+    within = λ k v n d x.
+        let got = told_in (headers handed) 2 k v n d x in
+        let c = chosen_at got.0 got.1 in
+        let lt = above c.0 c.1 in
+        let same : got.0.number ≡ n = got.2.number in
+        let at : got.0.number ≡ c.0.number = ap (λ (h : Header). h.number) c.2 in
+        let le = below_greatest handed got.0 got.1 in
+        (omega (arith, lt, same, at), omega (arith, le, same));
+    once = λ k v n d e x y.
+        let one = told_in (headers handed) 2 k v n d x in
+        let two = told_in (headers handed) 2 k v n e y in
+        let c = chosen_at one.0 one.1 in
+        let b = chosen_at two.0 two.1 in
+        let n_c : c.0.number ≡ n = sym (ap (λ (h : Header). h.number) c.2) ∙ one.2.number in
+        let n_b : b.0.number ≡ n = sym (ap (λ (h : Header). h.number) b.2) ∙ two.2.number in
+        let same = one_for (choice chs).chosen _ _ (numbers chs) c.0 b.0 c.1 b.1 (n_c ∙ sym n_b) in
+        sym one.2.digest ∙ ap (λ (h : Header). h.digest) c.2 ∙ ap (λ (z : Chosen). sha256 (batch_text z.batch)) same ∙ sym (ap (λ (h : Header). h.digest) b.2) ∙ two.2.digest;
+    stable = λ m i.
+        let got = out_of_map told_change chs m i in
+        let le = passed_stable chs got.0 (contains chs got.0 got.1) in
+        let same : m.stable ≡ got.0.stable = ap (λ (x : told.ViewChange). x.stable) got.2 in
+        omega (arith, le, same);
+    highest = λ m c i k lt.
+        let change = out_of_map told_change chs m i in
+        let cert = out_of_map told_certificate change.0.certificates c (subst (λ (x : told.ViewChange). IsIn c x.certificates) change.2 k) in
+        let number : c.proposal.number ≡ number_in cert.0 = ap (λ (x : told.Certificate). x.proposal.number) cert.2 in
+        let of_view : c.proposal.view ≡ view_in cert.0 = ap (λ (x : told.Certificate). x.proposal.view) cert.2 in
+        let over : latest_stable chs < number_in cert.0 = subst (λ (x : ℕ). latest_stable chs < x) number lt in
+        let r = prepared chs change.0 cert.0 (contains chs change.0 change.1) (contains change.0.certificates cert.0 cert.1) over in
+        let by = is_in chs r.by r.among in
+        let held = is_in r.by.certificates r.certificate r.held in
+        let best : Chosen = record { number = number_in cert.0; batch = r.certificate.proposal.message.batch } in
+        let there = in_map (proposal_of f view) (choice chs).chosen best (is_in (choice chs).chosen best r.chosen) in
+        let tells = in_told (headers handed) (proposal_of f view best) (subst (λ (l : List Header). IsIn (proposal_of f view best) l) (sym proposals) there) in
+        let at_number : Told (headers handed) 2 (primary f view) view c.proposal.number (sha256 (batch_text best.batch)) =
+        subst (λ (n : ℕ). Told (headers handed) 2 (primary f view) view n (sha256 (batch_text best.batch))) (sym number) tells in
+        let le = r.view in (
+          told_change r.by,
+          told_certificate r.certificate,
+          in_map told_change chs r.by by,
+          in_map told_certificate r.by.certificates r.certificate held,
+          r.number ∙ sym number,
+          omega (arith, of_view, le),
+          subst (λ (d : List ℕ). Told (headers handed) 2 (primary f view) view c.proposal.number d) (sym (whole r.by r.certificate by held)) at_number,
+        );
+  }
+
+-- The NEW-VIEW ------------------------------------------------------------------------------------------------------------
+
+same_senders : (changes : List (Signed model.ViewChange)) (k : ℕ) → has_sender (as_changes changes) k ≡ list_any (λ (m : told.ViewChange). m.sender == k) (map told_change (messages_of changes))
+same_senders [] k = refl
+same_senders (s ∷ changes) k = ap (λ (b : Bool). (s.message.sender == k) || b) (same_senders changes k)
+
+sent_as : (faulty : ℕ → Bool) (w : World) (h : Header) (t k v n : ℕ) (d : List ℕ) → Is h t k v n d → WasSent faulty w h.tag h.sender h.view h.number h.digest → WasSent faulty w t k v n d
+sent_as faulty w h t k v n d is x =
+    subst (λ (s : List ℕ). WasSent faulty w t k v n s) is.digest (subst (λ (s : ℕ). WasSent faulty w t k v s h.digest) is.number (subst (λ (s : ℕ). WasSent faulty w t k s h.number h.digest) is.view
+    (subst (λ (s : ℕ). WasSent faulty w t s h.view h.number h.digest) is.sender (subst (λ (s : ℕ). WasSent faulty w s h.sender h.view h.number h.digest) is.tag x))))
+
+valid_certificate : (faulty : ℕ → Bool) (w : World) (f : ℕ) (keys : Keys) (view : ℕ) (s : Signed model.ViewChange) (c : model.Certificate) → faults keys ≡ f → s.message.view ≡ view
+    → valid_view_change keys s ≡ true → IsGenuine faulty w s.message → IsIn c s.message.certificates → IsValidCertificate f faulty w view (told_certificate c)
+valid_certificate faulty w f keys view s c fit of_view valid genuine i =
+    let change = s.message in
+    let a = and_parts (are_in_order change) (is_signed keys (as_message ViewChange s) && (has_stable keys change && list_all (certifies keys) change.certificates)) valid in
+    let b = and_parts (is_signed keys (as_message ViewChange s)) (has_stable keys change && list_all (certifies keys) change.certificates) a.1 in
+    let g = and_parts (has_stable keys change) (list_all (certifies keys) change.certificates) b.1 in
+    let due = passes_at (is_due change) change.certificates c (and_parts _ (list_all (is_due change) change.certificates) a.0).1 i in
+    let earlier = ltb-true (view_in c) change.view (and_parts (nat_le (number_in c) _) (nat_lt (view_in c) change.view) due).1 in
+    let certified = passes_at (certifies keys) change.certificates c g.1 i in
+    let p = and_parts _ (senders_differ (messages_in c) && (is_proved (faults keys) c && _)) certified in
+    let q = and_parts (senders_differ (messages_in c)) (is_proved (faults keys) c && _) p.1 in
+    let backed = and_parts (is_proved (faults keys) c) _ q.1 in
+    record {
+      earlier = subst (λ (x : ℕ). view_in c < x) of_view earlier;
+      backed = subst (λ (x : ℕ). is_backed x (headers (messages_in c)) (view_in c) (number_in c) (vote_in c).digest ≡ true) fit backed.0;
+      authentic = λ t k v n d x.
+          let got = told_in (headers (messages_in c)) t k v n d x in
+          let from = out_of_map header (messages_in c) got.0 got.1 in
+          let sent = genuine.certificates c from.0 i from.1 in
+          sent_as faulty w got.0 t k v n d got.2 (subst (λ (h : Header). WasSent faulty w h.tag h.sender h.view h.number h.digest) (sym from.2) sent);
+    }
+
+pub right_valid : StableIsPassed → NumbersAreChosenOnce → PreparedIsChosen → RightNewViewsAreValid
+right_valid stable numbers prepared faulty w s keys view changes handed right =
+    let chs = messages_of changes in
+    let a = passed (do_agree changes && list_all (valid_view_change keys) changes) BadCertificate _ right.right in
+    let valid = (and_parts (do_agree changes) (list_all (valid_view_change keys) changes) a.0).1 in
+    let enough : 2 * faults keys + 1 ≤ senders (faults keys) changes = ltb-false (senders (faults keys) changes) (2 * faults keys + 1) (not_hit (nat_lt (senders (faults keys) changes) (2 * faults keys + 1)) TooFew None a.1) in
+    let at_f : 2 * s.f + 1 ≤ senders s.f changes = subst (λ (f : ℕ). 2 * f + 1 ≤ senders f changes) right.keys_fit enough in
+    let whole = λ (change : model.ViewChange) (c : model.Certificate) (i : IsIn change chs) (j : IsIn c change.certificates). (right.genuine change i).whole c j in
+    let differ : SlotsDiffer (headers handed) = subst (λ (l : List Header). SlotsDiffer l) (sym right.proposals) (slots_differ s.f view (choice chs).chosen _ _ (numbers chs)) in (
+      differ,
+      record {
+        senders = subst (λ (p : ℕ → Bool). 2 * s.f + 1 ≤ count_below p (replicas s.f)) (fun_ext (same_senders changes)) at_f;
+        views = λ m i.
+            let change = out_of_map told_change chs m i in
+            let signed = out_of_map (λ (x : Signed model.ViewChange). x.message) changes change.0 change.1 in
+            let same = passes_at (λ (x : Signed model.ViewChange). x.message.view == view) changes signed.0 right.of_view signed.1 in
+            ap (λ (x : told.ViewChange). x.view) change.2 ∙ ap (λ (x : model.ViewChange). x.view) signed.2 ∙ eqb-true signed.0.message.view view same;
+        sent = λ m i.
+            let change = out_of_map told_change chs m i in
+            subst (λ (x : told.ViewChange). faulty x.sender ≡ false → IsIn x (w x.sender).changes) (sym change.2) (right.genuine change.0 change.1).sent;
+        valid = λ m c i k.
+            let change = out_of_map told_change chs m i in
+            let signed = out_of_map (λ (x : Signed model.ViewChange). x.message) changes change.0 change.1 in
+            let cert = out_of_map told_certificate change.0.certificates c (subst (λ (x : told.ViewChange). IsIn c x.certificates) change.2 k) in
+            let same = eqb-true signed.0.message.view view (passes_at (λ (x : Signed model.ViewChange). x.message.view == view) changes signed.0 right.of_view signed.1) in
+            let genuine = subst (λ (x : model.ViewChange). IsGenuine faulty w x) signed.2 (right.genuine change.0 change.1) in
+            let here = subst (λ (x : model.ViewChange). IsIn cert.0 x.certificates) signed.2 cert.1 in
+            subst (λ (x : told.Certificate). IsValidCertificate s.f faulty w view x) (sym cert.2)
+            (valid_certificate faulty w s.f keys view signed.0 cert.0 right.keys_fit same (passes_at (valid_view_change keys) changes signed.0 valid signed.1) genuine here);
+        choice = is_choice stable numbers prepared s.f view chs handed right.proposals whole;
+      },
+    )

@@ -1,0 +1,5 @@
+-- What proofs share.
+mod Lists
+mod Made
+mod Chosen
+mod Worlds

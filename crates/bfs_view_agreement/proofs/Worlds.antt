@@ -1,0 +1,42 @@
+-- Every list of calls and deliveries is one of which agreement is proved.
+use Rattle.std.proofs.Common.{◌≡◌, ℕ, ◌==◌, Bool, true, false, cond, List, [], ◌∷◌, refl, sym, subst}
+use Rattle.bfs_order.specs.Laws.Calls.{IsKept}
+use Rattle.bfs_order.specs.Laws.Logs.{IsWindowed}
+use Rattle.bfs_order.specs.Replica.States.{State}
+use Rattle.bfs_consensus.specs.Histories.{IsIn, World}
+use Rattle.bfs_order_agreement.specs.Laws.{OrdersAgree}
+use Rattle.bfs_order_agreement.specs.Replicas as ordered
+use Rattle.bfs_order_agreement.specs.Replicas.{Replica, Replicas, call_of, histories, with_replica, after_deed, after_turn, new_replicas, MayDo}
+use Rattle.bfs_view_agreement.specs.Laws.{MadeTellsWhatIsPrepared, RightNewViewsAreValid, ReplicasAgree}
+use Rattle.bfs_view_agreement.specs.Replicas.{Deed, Orders, TimesOut, ChangesView, ordered_deed, MayDoSo, Turn, ordered_turn, after_turns, MayTakeTurns}
+
+may_do : (faulty : ℕ → Bool) → MadeTellsWhatIsPrepared → RightNewViewsAreValid → (w : World) (s : State) (deed : Deed) → IsWindowed s → MayDoSo faulty w s deed → MayDo faulty w s (ordered_deed s deed)
+may_do faulty made valid w s (Orders call) windowed may = may
+may_do faulty made valid w s (TimesOut view) windowed may = made s view windowed
+may_do faulty made valid w s (ChangesView keys view changes handed) windowed may = valid faulty w s keys view changes handed may
+
+abbrev AreWindowed : Replicas → Type 0
+AreWindowed w = (i : ℕ) → IsWindowed (w i).state
+
+windowed_on : IsKept IsWindowed → (w : Replicas) (turn : ordered.Turn) → AreWindowed w → AreWindowed (after_turn w turn)
+windowed_on kept w turn all j = go (j == turn.who)
+  where
+    r : Replica
+    r = after_deed (w turn.who) turn.deed
+
+    go : (b : Bool) → IsWindowed (cond b r (w j)).state
+    go true = kept.1 (w turn.who).state (call_of turn.deed) (all turn.who)
+    go false = all j
+
+ordered_turns : (faulty : ℕ → Bool) → IsKept IsWindowed → MadeTellsWhatIsPrepared → RightNewViewsAreValid → (turns : List Turn) (w : Replicas) → AreWindowed w → MayTakeTurns faulty w turns
+    → (list : List ordered.Turn) × ordered.MayTakeTurns faulty w list × (ordered.after_turns w list ≡ after_turns w turns)
+ordered_turns faulty kept made valid [] w all may = ([], tt, refl)
+ordered_turns faulty kept made valid (turn ∷ turns) w all may =
+    let first = ordered_turn w turn in
+    let rest = ordered_turns faulty kept made valid turns (after_turn w first) (windowed_on kept w first all) may.1 in
+    (first ∷ rest.0, (may_do faulty made valid (histories w) (w turn.who).state turn.deed (all turn.who) may.0, rest.1), rest.2)
+
+pub replicas_agree : IsKept IsWindowed → OrdersAgree → MadeTellsWhatIsPrepared → RightNewViewsAreValid → ReplicasAgree
+replicas_agree kept agree made valid f faulty turns few may i j one other left right number =
+    let got = ordered_turns faulty kept made valid turns (new_replicas f) (λ k. kept.0 f k) may in
+    agree f faulty got.0 few got.1 i j one other (subst (λ (w : Replicas). IsIn one (w i).executed) (sym got.2) left) (subst (λ (w : Replicas). IsIn other (w j).executed) (sym got.2) right) number

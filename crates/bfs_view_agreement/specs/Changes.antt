@@ -1,0 +1,36 @@
+-- VIEW-CHANGEs and NEW-VIEWs by the headers of what they hold (OSDI 1999 section 4.4).
+use Rattle.std.specs.Prelude.{◌≡◌, ℕ, Bool, false, map}
+use Rattle.sha2.specs.Sha256.{sha256}
+use Rattle.bfs_agreement.specs.Votes.{Header, primary}
+use Rattle.bfs_log.specs.Headers.{header}
+use Rattle.bfs_log.specs.Logs.{headers}
+use Rattle.bfs_messages.specs.Messages as model
+use Rattle.bfs_messages.specs.Batches.{batch_text}
+use Rattle.bfs_messages.specs.declared.signed.Signed.{Signed}
+use Rattle.bfs_messages.specs.declared.message.Message.{Message}
+use Rattle.bfs_messages.specs.declared.message.Message.TheVariants.{PrePrepare}
+use Rattle.bfs_consensus.specs.Histories.{IsIn, Certificate, ViewChange, World, WasSent}
+use Rattle.bfs_view.specs.Changes.Choice.{Chosen}
+use Rattle.bfs_view.specs.Changes.Parts.{as_message, messages_in, prepares_in}
+
+abbrev pub told_certificate : model.Certificate → Certificate
+told_certificate c = record { proposal = header (as_message PrePrepare c.proposal); prepares = headers (prepares_in c) }
+
+abbrev pub told_change : model.ViewChange → ViewChange
+told_change change =
+    record { sender = change.sender; view = change.view; stable = change.stable; certificates = map told_certificate change.certificates }
+
+-- the PRE-PREPARE of a view for what was chosen
+abbrev pub proposal_of : (f view : ℕ) → Chosen → Header
+proposal_of f view c = record { tag = 2; sender = primary f view; view = view; number = c.number; digest = sha256 (batch_text c.batch) }
+
+-- a certificate's PRE-PREPARE tells its batch's digest, as each PRE-PREPARE does
+abbrev pub IsWhole : model.Certificate → Type 0
+IsWhole c = c.proposal.message.vote.digest ≡ sha256 (batch_text c.proposal.message.batch)
+
+-- a VIEW-CHANGE under a correct sender's name was sent by it, and so was each message in its certificates
+pub record IsGenuine (faulty : ℕ → Bool) (w : World) (change : model.ViewChange) : Type 0 where
+  pub sent : faulty change.sender ≡ false → IsIn (told_change change) (w change.sender).changes
+  pub certificates : (c : model.Certificate) (m : Signed Message) → IsIn c change.certificates → IsIn m (messages_in c)
+      → WasSent faulty w (header m).tag (header m).sender (header m).view (header m).number (header m).digest
+  pub whole : (c : model.Certificate) → IsIn c change.certificates → IsWhole c
