@@ -7,49 +7,49 @@ use Rattle.std.specs.FinMap.{get, entries, from_entries}
 use Rattle.bfs_model.specs.Server.Tree.{Inode, Inodes, root_id, is_directory, parent_of}
 use Rattle.bfs_model.specs.Server.WellFormed.{named, IsNumbered, IsWellFormed}
 use Rattle.bfs_tree.proofs.Public.{each_of_all, all_of_each}
-use Rattle.bfs_digest.specs.Inside.Formation.{IsCounted, LeadsToRoot, IsPlaced, TakesRecords, AreMarks, names_in}
+use Rattle.bfs_digest.specs.Inside.Formation.{IsCounted, LeadsToRoot, IsPlaced, TakesRecords, AreNotes, names_in}
 use Rattle.bfs_digest.specs.Inside.Names.{Counted, most_counted, counted_at}
-use Rattle.bfs_digest.specs.Inside.Outlines.{mark_of, marked, outline, is_named, MarksRise}
+use Rattle.bfs_digest.specs.Inside.Outlines.{note_of, are_noted, outline, is_named, NotesRise}
 use Rattle.bfs_digest.specs.Inside.Taking.{AreRecords}
 use Rattle.bfs_digest.specs.Text.{Header}
 use Rattle.bfs_digest.specs.Inside.TextReading.{files_with, records_from}
-use Rattle.bfs_digest.specs.declared.outlines.Mark.{Mark}
+use Rattle.bfs_digest.specs.declared.outlines.InodeNote.{InodeNote}
 use Rattle.bfs_digest.proofs.Forming.{all_counted, all_numbered, all_placed, all_named}
 use Rattle.bfs_digest.proofs.Indexed as indexed
 use Rattle.bfs_digest.proofs.Outlined.{outline_of, same_directory, same_parent, directory_bared, way_along}
 use Rattle.bfs_digest.proofs.Texts.{AreRising, records_written, rising_sorted, entries_from, all_recordable}
 
--- Marks --------------------------------------------------------------------------------------------------------------------
+-- Notes --------------------------------------------------------------------------------------------------------------------
 
-marks_rise_from : (low least : ℕ) (inodes : List (ℕ × Inode)) → low ≤ least → AreRising least inodes → MarksRise low (map mark_of inodes)
-marks_rise_from low least [] le h = tt
-marks_rise_from low least (x ∷ inodes) le h = let first : least ≤ x.0 = h.0 in (omega arith, marks_rise_from (x.0 + 1) (x.0 + 1) inodes (omega arith) h.2)
+notes_rise_from : (low least : ℕ) (inodes : List (ℕ × Inode)) → low ≤ least → AreRising least inodes → NotesRise low (map note_of inodes)
+notes_rise_from low least [] le h = tt
+notes_rise_from low least (x ∷ inodes) le h = let first : least ≤ x.0 = h.0 in (omega arith, notes_rise_from (x.0 + 1) (x.0 + 1) inodes (omega arith) h.2)
 
 pub rising_of : (header : Header) (records : List ℕ) → AreRecords header records → (inodes : List (ℕ × Inode)) (rest : List ℕ) → records_from header.count root_id records ≡ Some (inodes, rest) → AreRising root_id inodes
 rising_of header records are inodes rest read = (records_written header.count root_id records inodes rest are.bytes read).2
 
-pub marks_rise : (header : Header) (records : List ℕ) (are : AreRecords header records) (marks : Vec Mark) → AreMarks (Some marks) (records_from header.count root_id records) → MarksRise 0 marks.items
-marks_rise header records are marks noted =
-    subst (MarksRise 0) (sym (noted are.inodes [] are.read)) (marks_rise_from 0 root_id are.inodes (omega arith) (rising_of header records are are.inodes [] are.read))
+pub notes_rise : (header : Header) (records : List ℕ) (are : AreRecords header records) (notes : Vec InodeNote) → AreNotes (Some notes) (records_from header.count root_id records) → NotesRise 0 notes.items
+notes_rise header records are notes noted =
+    subst (NotesRise 0) (sym (noted are.inodes [] are.read)) (notes_rise_from 0 root_id are.inodes (omega arith) (rising_of header records are are.inodes [] are.read))
 
--- of all marks, and of all inodes
-all_of_marks : (P : Mark → Type 0) (xs : List (ℕ × Inode)) → All P (map mark_of xs) → AllByRecursion (λ x. P (mark_of x)) xs
-all_of_marks P [] all = tt
-all_of_marks P (x ∷ xs) all = (all 0 (mark_of x) (omega arith), all_of_marks P xs (λ k d lt. all (suc k) d (omega arith)))
+-- of all notes, and of all inodes
+all_of_notes : (P : InodeNote → Type 0) (xs : List (ℕ × Inode)) → All P (map note_of xs) → AllByRecursion (λ x. P (note_of x)) xs
+all_of_notes P [] all = tt
+all_of_notes P (x ∷ xs) all = (all 0 (note_of x) (omega arith), all_of_notes P xs (λ k d lt. all (suc k) d (omega arith)))
 
-marks_of_all : (P : Mark → Type 0) (xs : List (ℕ × Inode)) → AllByRecursion (λ x. P (mark_of x)) xs → All P (map mark_of xs)
-marks_of_all P [] all k d lt = absurd (omega arith)
-marks_of_all P (x ∷ xs) all zero d lt = all.0
-marks_of_all P (x ∷ xs) all (suc k) d lt = marks_of_all P xs all.1 k d (omega arith)
+notes_of_all : (P : InodeNote → Type 0) (xs : List (ℕ × Inode)) → AllByRecursion (λ x. P (note_of x)) xs → All P (map note_of xs)
+notes_of_all P [] all k d lt = absurd (omega arith)
+notes_of_all P (x ∷ xs) all zero d lt = all.0
+notes_of_all P (x ∷ xs) all (suc k) d lt = notes_of_all P xs all.1 k d (omega arith)
 
-all_lead_from : (inodes xs : List (ℕ × Inode)) → AllByRecursion (λ x. LeadsToRoot (outline_of inodes) (marked (mark_of x))) xs → AllByRecursion (LeadsToRoot (from_entries inodes)) xs
+all_lead_from : (inodes xs : List (ℕ × Inode)) → AllByRecursion (λ x. LeadsToRoot (outline_of inodes) (are_noted (note_of x))) xs → AllByRecursion (LeadsToRoot (from_entries inodes)) xs
 all_lead_from inodes [] all = tt
 all_lead_from inodes (x ∷ xs) all = (
   λ folder. way_along (parent_of (outline_of inodes)) (parent_of (from_entries inodes)) (same_parent inodes) x.0 (all.0 (directory_bared x.1.body ∙ folder)),
   all_lead_from inodes xs all.1,
 )
 
-all_lead_back : (inodes xs : List (ℕ × Inode)) → AllByRecursion (LeadsToRoot (from_entries inodes)) xs → AllByRecursion (λ x. LeadsToRoot (outline_of inodes) (marked (mark_of x))) xs
+all_lead_back : (inodes xs : List (ℕ × Inode)) → AllByRecursion (LeadsToRoot (from_entries inodes)) xs → AllByRecursion (λ x. LeadsToRoot (outline_of inodes) (are_noted (note_of x))) xs
 all_lead_back inodes [] all = tt
 all_lead_back inodes (x ∷ xs) all = (
   λ folder. way_along (parent_of (from_entries inodes)) (parent_of (outline_of inodes)) (λ k. sym (same_parent inodes k)) x.0 (all.0 (sym (directory_bared x.1.body) ∙ folder)),
@@ -84,11 +84,11 @@ module _ (header : Header) (records : List ℕ) (are : AreRecords header records
   placed_there formed = all_placed inodes header.next_ordinal inodes (counted_there formed) (numbered_there formed)
 
   formed_from : (names : Counted) → is_directory (get (outline_of inodes) root_id) ≡ true → AllByRecursion (IsPlaced (outline_of inodes) header.next_ordinal) inodes
-      → ((id : ℕ) → counted_at names id ≡ min (sum_by (λ inode. names_in inode id) inodes) most_counted) → list_all (is_named names) (map mark_of inodes) ≡ true → All (λ mark. LeadsToRoot (outline_of inodes) (marked mark)) (map mark_of inodes)
+      → ((id : ℕ) → counted_at names id ≡ min (sum_by (λ inode. names_in inode id) inodes) most_counted) → list_all (is_named names) (map note_of inodes) ≡ true → All (λ note. LeadsToRoot (outline_of inodes) (are_noted note)) (map note_of inodes)
       → IsWellFormed (files_with header inodes)
   formed_from names root placed counts named_so ways =
       let counted = all_counted inodes header.next_ordinal names (named_are names counts) inodes (all_recordable root_id inodes rises) placed named_so in
-      let lead = all_lead_from inodes inodes (all_of_marks (λ mark. LeadsToRoot (outline_of inodes) (marked mark)) inodes ways) in
+      let lead = all_lead_from inodes inodes (all_of_notes (λ note. LeadsToRoot (outline_of inodes) (are_noted note)) inodes ways) in
       let numbered = all_numbered inodes header.next_ordinal inodes placed in
       record {
         tree = indexed.well_formed m (sym (same_directory inodes root_id) ∙ root) (subst (AllByRecursion (IsCounted m)) (sym own) counted) (subst (AllByRecursion (LeadsToRoot m)) (sym own) lead);
@@ -96,29 +96,29 @@ module _ (header : Header) (records : List ℕ) (are : AreRecords header records
         ordinal = are.ordinal;
       }
 
-  ways_there : IsWellFormed (files_with header inodes) → All (λ mark. LeadsToRoot (outline_of inodes) (marked mark)) (map mark_of inodes)
-  ways_there formed = marks_of_all (λ mark. LeadsToRoot (outline_of inodes) (marked mark)) inodes (all_lead_back inodes inodes (subst (AllByRecursion (LeadsToRoot m)) own (indexed.all_lead m formed.tree)))
+  ways_there : IsWellFormed (files_with header inodes) → All (λ note. LeadsToRoot (outline_of inodes) (are_noted note)) (map note_of inodes)
+  ways_there formed = notes_of_all (λ note. LeadsToRoot (outline_of inodes) (are_noted note)) inodes (all_lead_back inodes inodes (subst (AllByRecursion (LeadsToRoot m)) own (indexed.all_lead m formed.tree)))
 
-  -- against the marks of the inodes
-  module _ (marks : List Mark) (noted : marks ≡ map mark_of inodes) where
-    pub rootless : is_directory (get (outline marks) root_id) ≡ false → IsWellFormed (files_with header inodes) → ⊥
-    rootless none formed = true≢false (sym (root_there formed) ∙ ap (λ (x : List Mark). is_directory (get (outline x) root_id)) (sym noted) ∙ none)
+  -- against the notes of the inodes
+  module _ (notes : List InodeNote) (noted : notes ≡ map note_of inodes) where
+    pub rootless : is_directory (get (outline notes) root_id) ≡ false → IsWellFormed (files_with header inodes) → ⊥
+    rootless none formed = true≢false (sym (root_there formed) ∙ ap (λ (x : List InodeNote). is_directory (get (outline x) root_id)) (sym noted) ∙ none)
 
-    pub misplaced : TakesRecords None (outline marks) header.next_ordinal (records_from header.count root_id records) → IsWellFormed (files_with header inodes) → ⊥
+    pub misplaced : TakesRecords None (outline notes) header.next_ordinal (records_from header.count root_id records) → IsWellFormed (files_with header inodes) → ⊥
     misplaced refused formed =
-        refused inodes rest read (subst (λ (x : List Mark). AllByRecursion (IsPlaced (outline x) header.next_ordinal) inodes) (sym noted) (placed_there formed))
+        refused inodes rest read (subst (λ (x : List InodeNote). AllByRecursion (IsPlaced (outline x) header.next_ordinal) inodes) (sym noted) (placed_there formed))
 
-    pub misnamed : (names : Counted) → TakesRecords (Some names) (outline marks) header.next_ordinal (records_from header.count root_id records) → list_all (is_named names) marks ≡ false → IsWellFormed (files_with header inodes) → ⊥
+    pub misnamed : (names : Counted) → TakesRecords (Some names) (outline notes) header.next_ordinal (records_from header.count root_id records) → list_all (is_named names) notes ≡ false → IsWellFormed (files_with header inodes) → ⊥
     misnamed names taken fails formed =
         let named_so = all_named inodes header.next_ordinal names (named_are names (taken inodes rest read).1) inodes (counted_there formed) in
         true≢false (sym named_so ∙ ap (list_all (is_named names)) (sym noted) ∙ fails)
 
-    pub told_by_ways : (names : Counted) (lead : Bool) → is_directory (get (outline marks) root_id) ≡ true → TakesRecords (Some names) (outline marks) header.next_ordinal (records_from header.count root_id records) → list_all (is_named names) marks ≡ true
-        → (IsTrue lead ↔ All (λ mark. LeadsToRoot (outline marks) (marked mark)) marks) → IsTrue lead ↔ IsWellFormed (files_with header inodes)
+    pub told_by_ways : (names : Counted) (lead : Bool) → is_directory (get (outline notes) root_id) ≡ true → TakesRecords (Some names) (outline notes) header.next_ordinal (records_from header.count root_id records) → list_all (is_named names) notes ≡ true
+        → (IsTrue lead ↔ All (λ note. LeadsToRoot (outline notes) (are_noted note)) notes) → IsTrue lead ↔ IsWellFormed (files_with header inodes)
     told_by_ways names lead root taken named_so ways =
         let taken_all = taken inodes rest read in
-        let here = subst (λ (x : List Mark). IsTrue lead ↔ All (λ mark. LeadsToRoot (outline x) (marked mark)) x) noted ways in (
-          λ yes. formed_from names (ap (λ (x : List Mark). is_directory (get (outline x) root_id)) (sym noted) ∙ root) (subst (λ (x : List Mark). AllByRecursion (IsPlaced (outline x) header.next_ordinal) inodes) noted taken_all.0) taken_all.1
+        let here = subst (λ (x : List InodeNote). IsTrue lead ↔ All (λ note. LeadsToRoot (outline x) (are_noted note)) x) noted ways in (
+          λ yes. formed_from names (ap (λ (x : List InodeNote). is_directory (get (outline x) root_id)) (sym noted) ∙ root) (subst (λ (x : List InodeNote). AllByRecursion (IsPlaced (outline x) header.next_ordinal) inodes) noted taken_all.0) taken_all.1
               (ap (list_all (is_named names)) (sym noted) ∙ named_so) (here.0 yes),
           λ formed. here.1 (ways_there formed),
         )

@@ -12,7 +12,7 @@ use Rattle.bfs_inode.specs.Records.{EntryIsRecordable, BodyIsRecordable}
 use Rattle.bfs_tree.specs.Inside.WellFormed.{is_child}
 use Rattle.bfs_digest.specs.Inside.Formation.{is_counted, IsCounted, may_stand, BodyIsPlaced, IsPlaced}
 use Rattle.bfs_digest.specs.Inside.Names.{Counted, most_counted, counted_at}
-use Rattle.bfs_digest.specs.Inside.Outlines.{mark_of, is_named_so, is_named}
+use Rattle.bfs_digest.specs.Inside.Outlines.{note_of, is_named_so, is_named}
 use Rattle.bfs_model.proofs.Public.{some_is}
 use Rattle.bfs_digest.proofs.Indexed.{counts_from}
 use Rattle.bfs_digest.proofs.InodeParts.{differ_of}
@@ -100,10 +100,10 @@ module _ (inodes : List (ℕ × Inode)) (ordinal : ℕ) where
       (once_named id count (id == root_id) is named_so)
   counted_body id links count (link path) few placed is named_so = let same : links ≡ count = eqb-true links count named_so in eq-eqb links (named m id) (omega arith)
 
-  pub all_counted : (names : Counted) → ((id : ℕ) → counted_at names id ≡ min (named (from_entries inodes) id) most_counted) → (xs : List (ℕ × Inode)) → AllByRecursion Recordable xs → AllByRecursion (IsPlaced o ordinal) xs → list_all (is_named names) (map mark_of xs) ≡ true → AllByRecursion (IsCounted m) xs
+  pub all_counted : (names : Counted) → ((id : ℕ) → counted_at names id ≡ min (named (from_entries inodes) id) most_counted) → (xs : List (ℕ × Inode)) → AllByRecursion Recordable xs → AllByRecursion (IsPlaced o ordinal) xs → list_all (is_named names) (map note_of xs) ≡ true → AllByRecursion (IsCounted m) xs
   all_counted names counts [] recordable placed named_so = tt
   all_counted names counts (x ∷ xs) recordable placed named_so =
-      let parts = and_parts (is_named names (mark_of x)) (list_all (is_named names) (map mark_of xs)) named_so in
+      let parts = and_parts (is_named names (note_of x)) (list_all (is_named names) (map note_of xs)) named_so in
       let limited : IsLimited x.1 = record { links = placed.0.links; body = limited_body x.0 x.1.links x.1.body recordable.0.body placed.0.body } in
       ((limited, counted_body x.0 x.1.links (counted_at names x.0) x.1.body placed.0.links placed.0.body (counts x.0) parts.0), all_counted names counts xs recordable.1 placed.1 parts.1)
 
@@ -148,7 +148,7 @@ module _ (inodes : List (ℕ × Inode)) (ordinal : ℕ) where
       } in
       (placed, all_placed xs counted.1 numbered.1)
 
-  pub all_named : (names : Counted) → ((id : ℕ) → counted_at names id ≡ min (named (from_entries inodes) id) most_counted) → (xs : List (ℕ × Inode)) → AllByRecursion (IsCounted m) xs → list_all (is_named names) (map mark_of xs) ≡ true
+  pub all_named : (names : Counted) → ((id : ℕ) → counted_at names id ≡ min (named (from_entries inodes) id) most_counted) → (xs : List (ℕ × Inode)) → AllByRecursion (IsCounted m) xs → list_all (is_named names) (map note_of xs) ≡ true
   all_named names counts [] counted = refl
   all_named names counts (x ∷ xs) counted =
-      and_from (is_named names (mark_of x)) _ (named_body x.0 x.1.links (counted_at names x.0) x.1.body counted.0.0.links (counts x.0) counted.0.1) (all_named names counts xs counted.1)
+      and_from (is_named names (note_of x)) _ (named_body x.0 x.1.links (counted_at names x.0) x.1.body counted.0.0.links (counts x.0) counted.0.1) (all_named names counts xs counted.1)

@@ -9,7 +9,7 @@ use Rattle.std.proofs.lemmas.Cmp.{nat_cmp_total}
 use Rattle.bfs_model.specs.Server.Tree.{Entry, Body, file, directory, link, Inode, Inodes, root_id, is_directory_body, is_directory, parent_in, parent_at, parent_of}
 use Rattle.bfs_model.specs.Server.WellFormed.{directories_among, ReachesRoot, at_root, step}
 use Rattle.bfs_tree.specs.Inside.WellFormed.{may_name, is_child}
-use Rattle.bfs_digest.specs.Inside.Outlines.{bare, bare_body, mark_of, marked, outline}
+use Rattle.bfs_digest.specs.Inside.Outlines.{bare, bare_body, note_of, are_noted, outline}
 
 -- what is left of an inode
 abbrev pub bared : Inode → Inode
@@ -19,16 +19,16 @@ picked : (b : Bool) (x : Inode) (o : Option Inode) → cond b (Some (bared x)) (
 picked true x o = refl
 picked false x o = refl
 
-find_bared : (k : ℕ) (inodes : List (ℕ × Inode)) → find nat_cmp k (map marked (map mark_of inodes)) ≡ option_map bared (find nat_cmp k inodes)
+find_bared : (k : ℕ) (inodes : List (ℕ × Inode)) → find nat_cmp k (map are_noted (map note_of inodes)) ≡ option_map bared (find nat_cmp k inodes)
 find_bared k [] = refl
 find_bared k (e ∷ es) = ap (cond (eq_by_cmp nat_cmp k e.0) (Some (bared e.1))) (find_bared k es) ∙ picked (eq_by_cmp nat_cmp k e.0) e.1 (find nat_cmp k es)
 
 abbrev pub outline_of : List (ℕ × Inode) → Inodes
-outline_of inodes = outline (map mark_of inodes)
+outline_of inodes = outline (map note_of inodes)
 
 pub get_bared : (inodes : List (ℕ × Inode)) (k : ℕ) → get (outline_of inodes) k ≡ option_map bared (get (from_entries {R = nat_cmp} inodes) k)
 unfolding outline
-get_bared inodes k = get-from_entries nat_cmp_total (map marked (map mark_of inodes)) k ∙ find_bared k inodes ∙ ap (option_map bared) (sym (get-from_entries nat_cmp_total inodes k))
+get_bared inodes k = get-from_entries nat_cmp_total (map are_noted (map note_of inodes)) k ∙ find_bared k inodes ∙ ap (option_map bared) (sym (get-from_entries nat_cmp_total inodes k))
 
 -- What is asked of inodes ------------------------------------------------------------------------------------------------
 

@@ -12,8 +12,8 @@ use Rattle.bfs_model.specs.Bytes.Formats.{Reading}
 use Rattle.bfs_tree.proofs.Public.{all_further}
 use Rattle.bfs_digest.specs.Inside.Formation.{may_stand, IsPlaced, names_in, names_in_entries}
 use Rattle.bfs_digest.specs.Inside.Names.{Counted, most_counted, counted_at, AreWithin, Adds}
-use Rattle.bfs_digest.specs.Inside.Outlines.{mark_of}
-use Rattle.bfs_digest.specs.declared.outlines.Mark.{Mark}
+use Rattle.bfs_digest.specs.Inside.Outlines.{note_of}
+use Rattle.bfs_digest.specs.declared.outlines.InodeNote.{InodeNote}
 use Rattle.bfs_digest.proofs.Counting.{EntriesCounted, entries_begin, entries_more, entries_end, InodesCounted, inodes_begin, inodes_more, inodes_end}
 use Rattle.bfs_model.proofs.Public.{some_is}
 
@@ -31,9 +31,9 @@ mapped_more f done x all others y is so_far = append_assoc done (x ∷ []) (map 
 pub mapped_end : {A B : Type 0} (f : A → B) (done : List B) (all : List A) → done ++ map f [] ≡ map f all → done ≡ map f all
 mapped_end f done all so_far = sym (append-nil done) ∙ so_far
 
--- the marks and the names of those that are left are still to come
-abbrev pub MarksLeft : List Mark → (all others : List (ℕ × Inode)) → Type 0
-MarksLeft done all others = done ++ map mark_of others ≡ map mark_of all
+-- the notes and the names of those that are left are still to come
+abbrev pub NotesLeft : List InodeNote → (all others : List (ℕ × Inode)) → Type 0
+NotesLeft done all others = done ++ map note_of others ≡ map note_of all
 
 abbrev pub name_of : Entry → List ℕ
 name_of entry = entry.name

@@ -7,9 +7,9 @@ ghost use Rattle.bfs_digest.specs.Inside.Taking.{AreRecords};
 
 use crate::headers::Header;
 use crate::names::Names;
-use crate::outlines::{Mark, is_directory};
+use crate::outlines::{InodeNote, is_directory};
 use crate::reach::all_reach_root;
-use crate::spelling::marks_of;
+use crate::spelling::notes_of;
 use crate::taking::take_records;
 use bfs_types::{FileId, Memory};
 use std::alloc::Global;
@@ -21,35 +21,35 @@ pub(crate) fn is_well_formed(alloc: Global, header: &Header, records: &[u8]) -> 
     requires { AreRecords header.now records.now }
     ensures { IfOk result (λ formed. TellsFormed formed header.now records.now) }
 {
-    let Some(marks) = marks_of(alloc, records, header.count)? else {
+    let Some(notes) = notes_of(alloc, records, header.count)? else {
         return Ok(false);
     };
-    let marks = marks.as_slice();
-    if !is_directory(marks, FileId::root()) {
+    let notes = notes.as_slice();
+    if !is_directory(notes, FileId::root()) {
         return Ok(false);
     }
-    let Some(names) = take_records(alloc, marks, records, header.count, header.next_ordinal)? else {
+    let Some(names) = take_records(alloc, notes, records, header.count, header.next_ordinal)? else {
         return Ok(false);
     };
-    if !are_named(marks, &names) {
+    if !are_named(notes, &names) {
         return Ok(false);
     }
-    all_reach_root(alloc, marks)
+    all_reach_root(alloc, notes)
 }
 
-fn are_named(marks: &[Mark], names: &Names) -> bool
-    ensures { result ≡ list_all (is_named names.now) marks.now }
+fn are_named(notes: &[InodeNote], names: &Names) -> bool
+    ensures { result ≡ list_all (is_named names.now) notes.now }
 {
-    marks.iter().all(|mark| is_named(names, mark))
+    notes.iter().all(|note| is_named(names, note))
 }
 
 // whether an inode is named as often as it should be
-fn is_named(names: &Names, mark: &Mark) -> bool
-    ensures { result ≡ is_named names.now mark.now }
+fn is_named(names: &Names, note: &InodeNote) -> bool
+    ensures { result ≡ is_named names.now note.now }
 {
-    let count = names.count(mark.fileid);
-    match mark.parent {
-        None => mark.links == count,
-        Some(_) => mark.fileid == FileId::root() || count == 1,
+    let count = names.count(note.fileid);
+    match note.parent {
+        None => note.links == count,
+        Some(_) => note.fileid == FileId::root() || count == 1,
     }
 }

@@ -1,16 +1,16 @@
-// Whether a text spells inodes, without memory: nothing is built of it. And the marks of those that it spells.
+// Whether a text spells inodes, without memory: nothing is built of it. And the notes of those that it spells.
 ghost use Rattle.std.specs.Prelude.{◌≡◌, None, IfOk, OnErr};
 ghost use Rattle.std.specs.Option.{option_map};
 ghost use Rattle.bfs_model.specs.Server.Tree.{first_ordinal, parent_in, root_id};
 ghost use Rattle.bfs_inode.specs.Records.{body_from, entries_from, listing_from, record_from};
-ghost use Rattle.bfs_digest.specs.Inside.Formation.{AreMarks};
-ghost use Rattle.bfs_digest.specs.Inside.Outlines.{mark_of};
+ghost use Rattle.bfs_digest.specs.Inside.Formation.{AreNotes};
+ghost use Rattle.bfs_digest.specs.Inside.Outlines.{note_of};
 ghost use Rattle.bfs_digest.specs.Inside.TextReading.{files_from, records_from};
 ghost use Rattle.bfs_digest.specs.Inside.Taking.{AreSpelled, Reads, Skips};
 
 use crate::errors::Malformed;
 use crate::headers::Header;
-use crate::outlines::Mark;
+use crate::outlines::InodeNote;
 use crate::readers::{MOST_RECORDED_BYTES, TextReader};
 use bfs_inode::FileId;
 use bfs_types::{MOST_ENTRIES, MOST_PATH_BYTES, Memory};
@@ -37,10 +37,10 @@ fn skip_records(reader: &mut TextReader, count: u32) -> Result<(), Malformed>
 {
     let mut least = FileId::root().number() as u64;
     for _record in 0..count {
-        let Ok(mark) = skip_record(reader) else {
+        let Ok(note) = skip_record(reader) else {
             return Err(Malformed);
         };
-        let id = mark.fileid.number() as u64;
+        let id = note.fileid.number() as u64;
         if id < least {
             return Err(Malformed);
         }
@@ -49,34 +49,34 @@ fn skip_records(reader: &mut TextReader, count: u32) -> Result<(), Malformed>
     Ok(())
 }
 
-/// The marks of so many records, or `None` if the text spells no such ones. `Memory` if memory runs out.
-pub(crate) fn marks_of(
+/// The notes of so many records, or `None` if the text spells no such ones. `Memory` if memory runs out.
+pub(crate) fn notes_of(
     alloc: Global,
     records: &[u8],
     count: u32,
-) -> Result<Option<Vec<Mark>>, Memory>
-    ensures { IfOk result (λ marks. AreMarks marks (records_from count root_id records.now)) }
+) -> Result<Option<Vec<InodeNote>>, Memory>
+    ensures { IfOk result (λ notes. AreNotes notes (records_from count root_id records.now)) }
 {
     let mut reader = TextReader::new(records);
-    let mut marks = Vec::with_capacity(alloc, count as usize)?;
+    let mut notes = Vec::with_capacity(alloc, count as usize)?;
     for _record in 0..count {
-        let Ok(mark) = skip_record(&mut reader) else {
+        let Ok(note) = skip_record(&mut reader) else {
             return Ok(None);
         };
-        let fileid = mark.fileid;
-        marks.push(Mark { fileid, ..mark })?;
+        let fileid = note.fileid;
+        notes.push(InodeNote { fileid, ..note })?;
     }
-    Ok(Some(marks))
+    Ok(Some(notes))
 }
 
-// the mark of an inode
+// the note of an inode
 #[tactic(auto, unfolding(bfs_inode::specs::Records::record_from))]
-fn skip_record(reader: &mut TextReader) -> Result<Mark, Malformed>
-    ensures { Reads (λ x. x) result (option_map (λ read. (mark_of read.0, read.1)) (record_from reader.old)) reader.new }
+fn skip_record(reader: &mut TextReader) -> Result<InodeNote, Malformed>
+    ensures { Reads (λ x. x) result (option_map (λ read. (note_of read.0, read.1)) (record_from reader.old)) reader.new }
 {
     let head = reader.head()?;
     let parent = skip_body(reader, head.kind)?;
-    Ok(Mark {
+    Ok(InodeNote {
         fileid: head.fileid,
         links: head.metadata.links,
         parent,

@@ -6,12 +6,12 @@ ghost use Rattle.bfs_model.specs.Server.Tree.{first_ordinal, root_id};
 ghost use Rattle.bfs_inode.specs.Records.{body_from, entries_from, listing_from, record_from};
 ghost use Rattle.bfs_digest.specs.Inside.Formation.{AreNames, BodyIsPlaced, IsPlaced, ListingIsPlaced, Takes, TakesEntries, TakesRecords, TellsNames, may_stand, names_in, names_in_body, names_in_listing};
 ghost use Rattle.bfs_digest.specs.Inside.Names.{AreWithin};
-ghost use Rattle.bfs_digest.specs.Inside.Outlines.{MarksRise, outline};
+ghost use Rattle.bfs_digest.specs.Inside.Outlines.{NotesRise, outline};
 ghost use Rattle.bfs_digest.specs.Inside.Taking.{entry_seen};
 ghost use Rattle.bfs_digest.specs.Inside.TextReading.{records_from};
 
 use crate::names::Names;
-use crate::outlines::{Mark, is_child, is_directory};
+use crate::outlines::{InodeNote, is_child, is_directory};
 use crate::readers::{EntryText, HeadText, TextReader};
 use crate::spelling::skip_body;
 use bfs_inode::is_bad_name;
@@ -22,18 +22,18 @@ use std::alloc::Global;
 /// memory runs out.
 pub(crate) fn take_records(
     alloc: Global,
-    marks: &[Mark],
+    notes: &[InodeNote],
     records: &[u8],
     count: u32,
     ordinal: u64,
 ) -> Result<Option<Names>, Memory>
-    requires { MarksRise 0 marks.now }
-    ensures { IfOk result (λ names. TakesRecords names (outline marks.now) ordinal (records_from count root_id records.now)) }
+    requires { NotesRise 0 notes.now }
+    ensures { IfOk result (λ names. TakesRecords names (outline notes.now) ordinal (records_from count root_id records.now)) }
 {
     let mut reader = TextReader::new(records);
     let mut names = Names::new(alloc);
     for _record in 0..count {
-        if !take_record(alloc, marks, &mut names, &mut reader, ordinal)? {
+        if !take_record(alloc, notes, &mut names, &mut reader, ordinal)? {
             return Ok(None);
         }
     }
@@ -43,14 +43,14 @@ pub(crate) fn take_records(
 #[tactic(auto, unfolding(bfs_inode::specs::Records::record_from))]
 fn take_record(
     alloc: Global,
-    marks: &[Mark],
+    notes: &[InodeNote],
     names: &mut Names,
     reader: &mut TextReader,
     ordinal: u64,
 ) -> Result<bool, Memory>
-    requires rising { MarksRise 0 marks.now }
+    requires rising { NotesRise 0 notes.now }
     requires within { AreWithin names.old }
-    ensures takes { IfOk result (λ placed. Takes (IsPlaced (outline marks.now) ordinal) names_in placed names.old names.new (record_from reader.old) reader.new) }
+    ensures takes { IfOk result (λ placed. Takes (IsPlaced (outline notes.now) ordinal) names_in placed names.old names.new (record_from reader.old) reader.new) }
     ensures within { IfOk result (λ taken. AreWithin names.new) }
 {
     let Ok(head) = reader.head() else {
@@ -59,26 +59,26 @@ fn take_record(
     if head.metadata.links > MOST_LINKS || !is_fileid(head.fileid, ordinal) {
         return Ok(false);
     }
-    take_body(alloc, marks, names, reader, head, ordinal)
+    take_body(alloc, notes, names, reader, head, ordinal)
 }
 
 fn take_body(
     alloc: Global,
-    marks: &[Mark],
+    notes: &[InodeNote],
     names: &mut Names,
     reader: &mut TextReader,
     head: HeadText,
     ordinal: u64,
 ) -> Result<bool, Memory>
-    requires rising { MarksRise 0 marks.now }
+    requires rising { NotesRise 0 notes.now }
     requires within { AreWithin names.old }
-    ensures takes { IfOk result (λ placed. Takes (BodyIsPlaced (outline marks.now) ordinal head.fileid head.metadata.links) names_in_body placed names.old names.new (body_from head.kind reader.old) reader.new) }
+    ensures takes { IfOk result (λ placed. Takes (BodyIsPlaced (outline notes.now) ordinal head.fileid head.metadata.links) names_in_body placed names.old names.new (body_from head.kind reader.old) reader.new) }
     ensures within { IfOk result (λ taken. AreWithin names.new) }
 {
     if head.kind == 2 {
         return take_listing(
             alloc,
-            marks,
+            notes,
             names,
             reader,
             head.fileid,
@@ -102,16 +102,16 @@ fn may_be_plain(id: FileId, links: u32) -> bool
 #[tactic(auto, unfolding(bfs_inode::specs::Records::listing_from))]
 fn take_listing(
     alloc: Global,
-    marks: &[Mark],
+    notes: &[InodeNote],
     names: &mut Names,
     reader: &mut TextReader,
     dir: FileId,
     links: u32,
     ordinal: u64,
 ) -> Result<bool, Memory>
-    requires rising { MarksRise 0 marks.now }
+    requires rising { NotesRise 0 notes.now }
     requires within { AreWithin names.old }
-    ensures takes { IfOk result (λ placed. Takes (ListingIsPlaced (outline marks.now) ordinal dir links) names_in_listing placed names.old names.new (listing_from reader.old) reader.new) }
+    ensures takes { IfOk result (λ placed. Takes (ListingIsPlaced (outline notes.now) ordinal dir links) names_in_listing placed names.old names.new (listing_from reader.old) reader.new) }
     ensures within { IfOk result (λ taken. AreWithin names.new) }
 {
     let Ok(parent) = reader.word() else {
@@ -124,7 +124,7 @@ fn take_listing(
         return Ok(false);
     }
     let entries = reader.rest();
-    let Some(directories) = take_entries(marks, names, reader, dir, count, ordinal)? else {
+    let Some(directories) = take_entries(notes, names, reader, dir, count, ordinal)? else {
         return Ok(false);
     };
     if links as u64 != 2 + directories as u64 {
@@ -135,16 +135,16 @@ fn take_listing(
 
 // so many entries of a directory, and how many of them name directories
 fn take_entries(
-    marks: &[Mark],
+    notes: &[InodeNote],
     names: &mut Names,
     reader: &mut TextReader,
     dir: FileId,
     count: u32,
     ordinal: u64,
 ) -> Result<Option<u32>, Memory>
-    requires rising { MarksRise 0 marks.now }
+    requires rising { NotesRise 0 notes.now }
     requires within { AreWithin names.old }
-    ensures takes { IfOk result (λ directories. TakesEntries directories (outline marks.now) ordinal dir names.old names.new (entries_from count first_ordinal reader.old) reader.new) }
+    ensures takes { IfOk result (λ directories. TakesEntries directories (outline notes.now) ordinal dir names.old names.new (entries_from count first_ordinal reader.old) reader.new) }
     ensures within { IfOk result (λ taken. AreWithin names.new) }
 {
     let mut directories = 0;
@@ -152,24 +152,24 @@ fn take_entries(
         let Ok(entry) = reader.entry() else {
             return Ok(None);
         };
-        if !may_stand(marks, dir, &entry, ordinal) {
+        if !may_stand(notes, dir, &entry, ordinal) {
             return Ok(None);
         }
         names.count_one(entry.child)?;
-        directories += is_directory(marks, entry.child) as u32;
+        directories += is_directory(notes, entry.child) as u32;
     }
     Ok(Some(directories))
 }
 
 // whether an entry may stand in the directory
-fn may_stand(marks: &[Mark], dir: FileId, entry: &EntryText, ordinal: u64) -> bool
-    requires { MarksRise 0 marks.now }
-    ensures { result ≡ may_stand (outline marks.now) ordinal dir (entry_seen entry.now) }
+fn may_stand(notes: &[InodeNote], dir: FileId, entry: &EntryText, ordinal: u64) -> bool
+    requires { NotesRise 0 notes.now }
+    ensures { result ≡ may_stand (outline notes.now) ordinal dir (entry_seen entry.now) }
 {
     entry.cookie >= 3
         && (entry.cookie as u64) < ordinal
         && !is_bad_name(entry.name)
-        && is_child(marks, dir, entry.child)
+        && is_child(notes, dir, entry.child)
 }
 
 // the root is its own parent

@@ -10,10 +10,10 @@ use Rattle.bfs_model.specs.Server.Tree.{Entry, Listing, Body, file, directory, l
 use Rattle.bfs_model.specs.Server.WellFormed.{times, named, directories_among, NamesDiffer, IsLimited, IsWellFormed, ReachesRoot}
 use Rattle.bfs_tree.specs.Inside.WellFormed.{is_child}
 use Rattle.bfs_digest.specs.Inside.Names.{Counted, Adds, counted_at, most_counted}
-use Rattle.bfs_digest.specs.Inside.Outlines.{mark_of}
+use Rattle.bfs_digest.specs.Inside.Outlines.{note_of}
 use Rattle.bfs_digest.specs.Text.{Header}
 use Rattle.bfs_digest.specs.Inside.TextReading.{files_with, records_from}
-use Rattle.bfs_digest.specs.declared.outlines.Mark.{Mark}
+use Rattle.bfs_digest.specs.declared.outlines.InodeNote.{InodeNote}
 
 -- a directory names such inodes alone, has the links that come of them, and is the root or named once
 abbrev pub is_directory_counted : Inodes → (id links : ℕ) → Listing → Bool
@@ -95,10 +95,10 @@ TakesRecords (Some names) outline ordinal reading = (inodes : List (ℕ × Inode
     → AllByRecursion (IsPlaced outline ordinal) inodes × ((id : ℕ) → counted_at names id ≡ min (sum_by (λ inode. names_in inode id) inodes) most_counted)
 TakesRecords None outline ordinal reading = (inodes : List (ℕ × Inode)) (rest : List ℕ) → reading ≡ Some (inodes, rest) → AllByRecursion (IsPlaced outline ordinal) inodes → ⊥
 
--- the marks of the inodes that are read, or nothing can be read
-abbrev pub AreMarks : Option (Vec Mark) → Reading (List (ℕ × Inode)) → Type 0
-AreMarks (Some marks) reading = (inodes : List (ℕ × Inode)) (rest : List ℕ) → reading ≡ Some (inodes, rest) → marks.items ≡ map mark_of inodes
-AreMarks None reading = (inodes : List (ℕ × Inode)) (rest : List ℕ) → reading ≡ Some (inodes, rest) → ⊥
+-- the notes of the inodes that are read, or nothing can be read
+abbrev pub AreNotes : Option (Vec InodeNote) → Reading (List (ℕ × Inode)) → Type 0
+AreNotes (Some notes) reading = (inodes : List (ℕ × Inode)) (rest : List ℕ) → reading ≡ Some (inodes, rest) → notes.items ≡ map note_of inodes
+AreNotes None reading = (inodes : List (ℕ × Inode)) (rest : List ℕ) → reading ≡ Some (inodes, rest) → ⊥
 
 -- the names of the entries that are read
 abbrev pub AreNames : List (List ℕ) → Reading (List Entry) → Type 0

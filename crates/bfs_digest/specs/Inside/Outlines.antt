@@ -3,7 +3,7 @@ use Rattle.std.specs.Prelude.{ℕ, ◌+◌, ◌≤◌, ◌==◌, ◌||◌, Bool,
 use Rattle.std.specs.FinMap.{from_entries}
 use Rattle.bfs_model.specs.Server.Tree.{Body, file, directory, Inode, Inodes, epoch, root_id, parent_in}
 use Rattle.bfs_digest.specs.Inside.Names.{Counted, counted_at}
-use Rattle.bfs_digest.specs.declared.outlines.Mark.{Mark}
+use Rattle.bfs_digest.specs.declared.outlines.InodeNote.{InodeNote}
 
 abbrev pub bare_body : (parent : Option ℕ) → Body
 bare_body None = file []
@@ -13,19 +13,19 @@ bare_body (Some parent) = directory (record { parent = parent; entries = [] })
 abbrev pub bare : (links : ℕ) → (parent : Option ℕ) → Inode
 bare links parent = record { permissions = 0; links = links; uid = 0; gid = 0; atime = epoch; mtime = epoch; ctime = epoch; body = bare_body parent }
 
-abbrev pub mark_of : ℕ × Inode → Mark
-mark_of inode = record { fileid = inode.0; links = inode.1.links; parent = parent_in inode.1.body }
+abbrev pub note_of : ℕ × Inode → InodeNote
+note_of inode = record { fileid = inode.0; links = inode.1.links; parent = parent_in inode.1.body }
 
-abbrev pub marked : Mark → ℕ × Inode
-marked mark = (mark.fileid, bare mark.links mark.parent)
+abbrev pub are_noted : InodeNote → ℕ × Inode
+are_noted note = (note.fileid, bare note.links note.parent)
 
-unfoldable pub outline : List Mark → Inodes
-outline marks = from_entries (map marked marks)
+unfoldable pub outline : List InodeNote → Inodes
+outline notes = from_entries (map are_noted notes)
 
 -- their fileids rise, from one that is the least on
-abbrev pub MarksRise : (least : ℕ) → List Mark → Type 0
-MarksRise least [] = Unit {0}
-MarksRise least (mark ∷ marks) = (least ≤ mark.fileid) × MarksRise (mark.fileid + 1) marks
+abbrev pub NotesRise : (least : ℕ) → List InodeNote → Type 0
+NotesRise least [] = Unit {0}
+NotesRise least (note ∷ notes) = (least ≤ note.fileid) × NotesRise (note.fileid + 1) notes
 
 -- what is named so often is named as often as it should be: a directory once, unless it is the root, and anything else by as many
 -- entries as it has links
@@ -33,5 +33,5 @@ abbrev pub is_named_so : (count id links : ℕ) → (parent : Option ℕ) → Bo
 is_named_so count id links None = links == count
 is_named_so count id links (Some parent) = id == root_id || count == 1
 
-abbrev pub is_named : Counted → Mark → Bool
-is_named names mark = is_named_so (counted_at names mark.fileid) mark.fileid mark.links mark.parent
+abbrev pub is_named : Counted → InodeNote → Bool
+is_named names note = is_named_so (counted_at names note.fileid) note.fileid note.links note.parent

@@ -4,8 +4,8 @@ use Rattle.bfs_digest.specs.Inside.Outlines.{outline}
 use Rattle.bfs_digest.proofs.Reached.{first_reached}
 use Rattle.bfs_digest.proofs.reach.all_reach_root.Goals as goal
 
-pub loop-mark-init : goal.loop-mark-init
-loop-mark-init c = record {
-  reached = first_reached (outline c.args.marks.now) c.new-reached.result c.insert.new.self c.number.result (c.number.ensures ∙ c.root.ensures) c.new-reached.ensures.empty c.in_ok-insert.ensures.updates;
+pub loop-note-init : goal.loop-note-init
+loop-note-init c = record {
+  reached = first_reached (outline c.args.notes.now) c.new-reached.result c.insert.new.self c.number.result (c.number.ensures ∙ c.root.ensures) c.new-reached.ensures.empty c.in_ok-insert.ensures.updates;
   all = λ k d low lt. absurd (omega arith);
 }

@@ -8,6 +8,6 @@ use Rattle.bfs_digest.proofs.reach.note_way.Given as goal
 
 abbrev pub invariant-loop-step : goal.invariant-loop-step
 invariant-loop-step l = record {
-  reached : AreReached (outline l.marks) (contains nat_cmp l.reached);
-  way : ReachesRoot (parent_of (outline l.marks)) l.at;
+  reached : AreReached (outline l.notes) (contains nat_cmp l.reached);
+  way : ReachesRoot (parent_of (outline l.notes)) l.at;
 }

@@ -14,16 +14,16 @@ use Rattle.bfs_digest.proofs.reach.reaches_root.Goals as goal
 pub returns-then-contains : goal.returns-then-contains
 returns-then-contains c =
     let is : contains nat_cmp c.args.reached.now c.loop-step.at ≡ true = ap (contains nat_cmp c.args.reached.now) (sym c.number.ensures) ∙ sym c.contains.ensures ∙ c.if-contains.true in
-    found (outline c.args.marks.now) (contains nat_cmp c.args.reached.now) c.args.id c.loop-step.at c.requires.reached is c.loop-step.invariant.way
+    found (outline c.args.notes.now) (contains nat_cmp c.args.reached.now) c.args.id c.loop-step.at c.requires.reached is c.loop-step.invariant.way
 
 pub returns-in-None : goal.returns-in-None
 returns-in-None c =
     let out : contains nat_cmp c.args.reached.now c.loop-step.at ≡ false = ap (contains nat_cmp c.args.reached.now) (sym c.number.ensures) ∙ sym c.contains.ensures ∙ c.if-contains.false in
-    ended (outline c.args.marks.now) (contains nat_cmp c.args.reached.now) c.args.id c.loop-step.at c.requires.reached out (sym c.parent_of.ensures ∙ c.in-None.is) c.loop-step.invariant.way
+    ended (outline c.args.notes.now) (contains nat_cmp c.args.reached.now) c.args.id c.loop-step.at c.requires.reached out (sym c.parent_of.ensures ∙ c.in-None.is) c.loop-step.invariant.way
 
 pub loop-step-preserved : goal.loop-step-preserved
 loop-step-preserved c =
-    let m = outline c.args.marks.now in
+    let m = outline c.args.notes.now in
     let has = contains nat_cmp c.args.reached.now in
     let out : contains nat_cmp c.args.reached.now c.loop-step.at ≡ false = ap (contains nat_cmp c.args.reached.now) (sym c.number.ensures) ∙ sym c.contains.ensures ∙ c.if-contains.false in
     let up = sym c.parent_of.ensures ∙ c.in-Some.is in
@@ -36,13 +36,13 @@ loop-step-preserved c =
 pub returns : goal.returns
 returns c =
     let is : contains nat_cmp c.args.reached.now c.loop-step.at ≡ c.contains-2.result = ap (contains nat_cmp c.args.reached.now) (sym c.number-2.ensures) ∙ sym c.contains-2.ensures in
-    walked (outline c.args.marks.now) (contains nat_cmp c.args.reached.now) c.args.id c.loop-step.at _ c.contains-2.result (omega arith) c.requires.reached is c.loop-step.invariant.way c.loop-step.invariant.left
+    walked (outline c.args.notes.now) (contains nat_cmp c.args.reached.now) c.args.id c.loop-step.at _ c.contains-2.result (omega arith) c.requires.reached is c.loop-step.invariant.way c.loop-step.invariant.left
 
 pub loop-step-init : goal.loop-step-init
 loop-step-init c =
-    let all : length c.args.marks.now - 0 ≡ len (outline c.args.marks.now) = omega (arith, outline_len c.args.marks.now c.requires.rising) in
+    let all : length c.args.notes.now - 0 ≡ len (outline c.args.notes.now) = omega (arith, outline_len c.args.notes.now c.requires.rising) in
     record {
-      end = sym (outline_len c.args.marks.now c.requires.rising);
+      end = sym (outline_len c.args.notes.now c.requires.rising);
       way = (λ way. way, λ way. way);
-      left = ap (λ (n : ℕ). is_within (outline c.args.marks.now) n c.args.id root_id) all;
+      left = ap (λ (n : ℕ). is_within (outline c.args.notes.now) n c.args.id root_id) all;
     }

@@ -9,7 +9,7 @@ use Rattle.bfs_digest.proofs.reach.reaches_root.Given as goal
 
 abbrev pub invariant-loop-step : goal.invariant-loop-step
 invariant-loop-step l = record {
-  end : l._step-end ≡ len (outline l.marks);
-  way : ReachesRoot (parent_of (outline l.marks)) l.at ↔ ReachesRoot (parent_of (outline l.marks)) l.fn.id;
-  left : is_within (outline l.marks) (l._step-end - l._step) l.at root_id ≡ is_within (outline l.marks) (len (outline l.marks)) l.fn.id root_id;
+  end : l._step-end ≡ len (outline l.notes);
+  way : ReachesRoot (parent_of (outline l.notes)) l.at ↔ ReachesRoot (parent_of (outline l.notes)) l.fn.id;
+  left : is_within (outline l.notes) (l._step-end - l._step) l.at root_id ≡ is_within (outline l.notes) (len (outline l.notes)) l.fn.id root_id;
 }

@@ -27,7 +27,7 @@ names_of_one child id = cond (eqb child id) 1 0
 
 pub loop-entry-init : goal.loop-entry-init
 loop-entry-init c =
-    let o = outline c.args.marks.now in
+    let o = outline c.args.notes.now in
     record {
       within = c.requires.within;
       few = omega arith;
@@ -37,13 +37,13 @@ loop-entry-init c =
 
 pub returns-in_default-clause-takes : goal.returns-in_default-clause-takes
 returns-in_default-clause-takes c =
-    let o = outline c.args.marks.now in
+    let o = outline c.args.notes.now in
     λ entries rest read stand. walk_unread entries_rise (entries_from c.args.count first_ordinal c.args.reader.now) (c.args.count - c.loop-entry._entry) c.loop-entry.reader (EntriesTaken o c.args.ordinal c.args.dir c.args.names.now c.loop-entry.names c.loop-entry.directories)
     (c.args.count - (c.loop-entry._entry + 1)) (omega arith) c.in_default.ensures.value c.loop-entry.invariant.taken entries rest read
 
 pub returns-then-not-may_stand-clause-takes : goal.returns-then-not-may_stand-clause-takes
 returns-then-not-may_stand-clause-takes c =
-    let o = outline c.args.marks.now in
+    let o = outline c.args.notes.now in
     let entry : Entry = entry_seen c.in-Ok.entry in
     λ entries rest read. walk_refused entries_rise (entries_from c.args.count first_ordinal c.args.reader.now) (c.args.count - c.loop-entry._entry) c.loop-entry.reader (EntriesTaken o c.args.ordinal c.args.dir c.args.names.now c.loop-entry.names c.loop-entry.directories)
     (c.args.count - (c.loop-entry._entry + 1)) (λ y. entry ≡ y) (λ all. list_all (may_stand o c.args.ordinal c.args.dir) all ≡ true) (omega arith) (λ y r e. (built_by (entry_from c.loop-entry.reader) entry entry c.entry.new.self c.in-Ok.ensures.value refl y r e).0)
@@ -51,7 +51,7 @@ returns-then-not-may_stand-clause-takes c =
 
 pub loop-entry-preserved : goal.loop-entry-preserved
 loop-entry-preserved c =
-    let o = outline c.args.marks.now in
+    let o = outline c.args.notes.now in
     let entry : Entry = entry_seen c.in-Ok.entry in
     let one = byte_of c.is_directory.result in
     let few = byte_small c.is_directory.result in
@@ -66,7 +66,7 @@ loop-entry-preserved c =
 
 pub returns-clause-takes : goal.returns-clause-takes
 returns-clause-takes c =
-    let o = outline c.args.marks.now in
+    let o = outline c.args.notes.now in
     λ entries rest read.
     let ends = walk_ends entries_rise (entries_from c.args.count first_ordinal c.args.reader.now) (c.args.count - c.loop-entry._entry) c.loop-entry.reader (EntriesTaken o c.args.ordinal c.args.dir c.args.names.now c.loop-entry.names c.loop-entry.directories)
     (omega arith) c.loop-entry.invariant.taken entries rest read in

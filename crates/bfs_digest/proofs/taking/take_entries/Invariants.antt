@@ -11,5 +11,5 @@ abbrev pub invariant-loop-entry : goal.invariant-loop-entry
 invariant-loop-entry l = record {
   within : AreWithin l.names;
   few : l.directories ≤ l._entry;
-  taken : Walks entries_from (entries_from l.count first_ordinal l.fn.reader) (l.count - l._entry) l.reader (EntriesTaken (outline l.marks) l.ordinal l.dir l.fn.names l.names l.directories);
+  taken : Walks entries_from (entries_from l.count first_ordinal l.fn.reader) (l.count - l._entry) l.reader (EntriesTaken (outline l.notes) l.ordinal l.dir l.fn.names l.names l.directories);
 }

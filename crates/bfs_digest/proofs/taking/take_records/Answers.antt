@@ -13,7 +13,7 @@ use Rattle.bfs_digest.proofs.taking.take_records.Goals as goal
 
 pub loop-record-init : goal.loop-record-init
 loop-record-init c =
-    let o = outline c.args.marks.now in
+    let o = outline c.args.notes.now in
     record {
       within = none_within c.new-names.result c.new-names.ensures;
       taken = walk_begins records_from c.args.count (c.args.count - 0) root_id c.args.records.now c.new-reader.result (RecordsTaken o c.args.ordinal c.new-names.result) (omega arith) c.new-reader.ensures
@@ -22,14 +22,14 @@ loop-record-init c =
 
 pub returns-then-not-branch : goal.returns-then-not-branch
 returns-then-not-branch c =
-    let o = outline c.args.marks.now in
+    let o = outline c.args.notes.now in
     λ inodes rest read. walk_refused records_rise (records_from c.args.count root_id c.args.records.now) (c.args.count - c.loop-record._record) c.loop-record.reader (RecordsTaken o c.args.ordinal c.loop-record.names)
     (c.args.count - (c.loop-record._record + 1)) (λ y. IsPlaced o c.args.ordinal y → ⊥) (AllByRecursion (IsPlaced o c.args.ordinal)) (omega arith) (rw c.if-not-branch.true at c.in_ok-take_record.ensures.takes)
     (record_refused o c.args.ordinal c.loop-record.names) c.loop-record.invariant.taken inodes rest read
 
 pub loop-record-preserved : goal.loop-record-preserved
 loop-record-preserved c =
-    let o = outline c.args.marks.now in
+    let o = outline c.args.notes.now in
     record {
       within = c.in_ok-take_record.ensures.within;
       taken = walk_on records_rise (records_from c.args.count root_id c.args.records.now) (c.args.count - c.loop-record._record) c.loop-record.reader (RecordsTaken o c.args.ordinal c.loop-record.names)
@@ -39,6 +39,6 @@ loop-record-preserved c =
 
 pub returns : goal.returns
 returns c =
-    let o = outline c.args.marks.now in
+    let o = outline c.args.notes.now in
     λ inodes rest read. records_taken_last o c.args.ordinal c.loop-record.names inodes
     (walk_ends records_rise (records_from c.args.count root_id c.args.records.now) (c.args.count - c.loop-record._record) c.loop-record.reader (RecordsTaken o c.args.ordinal c.loop-record.names) (omega arith) c.loop-record.invariant.taken inodes rest read).0

@@ -10,5 +10,5 @@ use Rattle.bfs_digest.proofs.taking.take_records.Given as goal
 abbrev pub invariant-loop-record : goal.invariant-loop-record
 invariant-loop-record l = record {
   within : AreWithin l.names;
-  taken : Walks records_from (records_from l.count root_id l.records) (l.count - l._record) l.reader (RecordsTaken (outline l.marks) l.ordinal l.names);
+  taken : Walks records_from (records_from l.count root_id l.records) (l.count - l._record) l.reader (RecordsTaken (outline l.notes) l.ordinal l.names);
 }
