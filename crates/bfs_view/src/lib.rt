@@ -5,6 +5,7 @@ mod certificates;
 mod choice;
 mod copies;
 mod error;
+mod keeping;
 mod laws;
 mod making;
 mod new_views;
@@ -14,6 +15,7 @@ mod view_changes;
 
 pub use choice::{Choice, Chosen, choice_of};
 pub use error::ViewError;
+pub use keeping::KeptViewChanges;
 pub use laws::{
     choice_is_of_the_set, made_has_prepared, made_is_valid, made_new_view_is_right,
     prepared_is_chosen, valid_choices_are_short,
