@@ -42,3 +42,7 @@ if_above view (Some s) = if nat_lt view s.message.view then Some s else None
 -- those for views that were entered or passed go
 abbrev pub above_view : (view : ℕ) → Kept → Kept
 above_view view kept = record kept { changes = map (if_above view) kept.changes }
+
+-- what was kept of a sender before
+abbrev pub put_back : Kept → (sender asked : ℕ) → Option (Signed model.ViewChange) → Kept
+put_back kept sender asked change = record { asked = slice_set kept.asked sender asked; changes = slice_set kept.changes sender change }
