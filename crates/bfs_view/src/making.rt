@@ -11,6 +11,7 @@ ghost use Rattle.bfs_view.specs.Changes.Certificates.{is_proved, number_in, view
 ghost use Rattle.bfs_view.specs.Changes.Kinds.{checkpoints, prepares};
 ghost use Rattle.bfs_view.specs.Changes.Making.{backs, certificate_of, certificates, change_of, is_of_low, later, latest, prepared_among, prepared_for, signed_change, stable_checkpoints};
 ghost use Rattle.bfs_view.specs.Changes.Parts.{as_message, messages_in};
+ghost use Rattle.bfs_view.specs.Inside.Near.{IsNear};
 
 use crate::certificates::{does_match, is_proved, is_told_by, vote_in};
 use bfs_auth::Keys;
@@ -32,7 +33,8 @@ pub fn make_view_change(
     view: u64,
 ) -> Result<Signed<ViewChange>, Memory>
     requires { view ≤ most_number }
-    ensures { IfOk result (λ change. change ≡ signed_change keys.now (change_of order.now view)) }
+    ensures value { IfOk result (λ change. change ≡ signed_change keys.now (change_of order.now view)) }
+    ensures near { IsNear (change_of order.now view) }
 {
     let checkpoints = stable_checkpoints(alloc, order)?;
     let certificates = certificates(alloc, order)?;
