@@ -68,7 +68,7 @@ above_near view (Some s) near = go (nat_lt view s.message.view)
 
 pub above_few : (view : ℕ) (kept : Kept) → AreFew kept → AreFew (above_view view kept)
 above_few view kept are = record {
-  few = subst (λ n. n ≤ most_replicas) (sym (length-map (if_above view) kept.changes)) are.few;
+  few = subst (λ n. n ≤ most_replicas) (sym (length-map kept.changes (if_above view))) are.few;
   near = All-map IsNearIfKept (if_above view) kept.changes (λ k d within. above_near view (get_or kept.changes k d) (are.near k d within));
 }
 

@@ -1,5 +1,5 @@
 -- What was prepared is chosen, unless something of a higher rank is; the rest is null.
-use Rattle.std.proofs.Common.{◌≡◌, ℕ, ◌+◌, ◌-◌, ◌<◌, ◌≤◌, List, [], ◌∷◌, map, max, Bool, true, false, ltb, leb, Option, Some, None, refl, sym, ap, subst, ◌∙◌, arith}
+use Rattle.std.proofs.Common.{◌≡◌, ℕ, ◌+◌, ◌-◌, ◌<◌, ◌≤◌, List, [], ◌∷◌, length, map, max, Bool, true, false, ltb, leb, Option, Some, None, refl, sym, ap, subst, ◌∙◌, arith}
 use Rattle.std.specs.Ordering.{is_lt}
 use Rattle.std.specs.List.{list_all, Contains, flat_map, range_with_len}
 use Rattle.bfs_messages.specs.Messages.{Batch, Certificate, ViewChange}

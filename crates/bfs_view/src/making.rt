@@ -34,7 +34,19 @@ pub fn make_view_change(
 ) -> Result<Signed<ViewChange>, Memory>
     requires { view ≤ most_number }
     ensures value { IfOk result (λ change. change ≡ signed_change keys.now (change_of order.now view)) }
-    ensures near { IsNear (change_of order.now view) }
+    ensures near { IfOk result (λ change. IsNear change.message) }
+{
+    signed_change(alloc, order, keys, view)
+}
+
+fn signed_change(
+    alloc: Global,
+    order: &Order,
+    keys: &Keys,
+    view: u64,
+) -> Result<Signed<ViewChange>, Memory>
+    requires { view ≤ most_number }
+    ensures { IfOk result (λ change. change ≡ signed_change keys.now (change_of order.now view)) }
 {
     let checkpoints = stable_checkpoints(alloc, order)?;
     let certificates = certificates(alloc, order)?;

@@ -32,9 +32,34 @@ pub fn make_new_view(
     ensures { IfOk result (λ signed. signed ≡ signed_by keys.now (kind.NewView (new_view_from keys.now sender view changes.now choice.now))) }
 {
     let copies = copies_of(alloc, changes)?;
-    let proposals = proposals_of(alloc, keys, sender, view, choice.chosen())?;
-    let new = NewView::new(sender, view, copies, proposals);
+    let new = new_view_from(alloc, keys, sender, view, copies, choice)?;
     sign(alloc, keys, Message::NewView(new))
+}
+
+fn new_view_from(
+    alloc: Global,
+    keys: &Keys,
+    sender: u32,
+    view: u64,
+    changes: Vec<Signed<ViewChange>>,
+    choice: &Choice,
+) -> Result<NewView, Memory>
+    requires view { view ≤ most_number }
+    requires changes { length changes.items ≤ most_replicas }
+    requires chosen { length choice.now.chosen ≤ log_size }
+    ensures { IfOk result (λ new. new ≡ new_view_from keys.now sender view changes.items choice.now) }
+{
+    let proposals = proposals_of(alloc, keys, sender, view, choice.chosen())?;
+    Ok(NewView::new(sender, view, changes, proposals))
+}
+
+// what near VIEW-CHANGEs choose: a NEW-VIEW has room for it
+fn few_chosen(alloc: Global, changes: &[Signed<ViewChange>]) -> Result<Choice, Memory>
+    requires { AreNear changes.now }
+    ensures value { IfOk result (λ c. c ≡ choice (messages_of changes.now)) }
+    ensures few { IfOk result (λ c. length c.chosen ≤ log_size) }
+{
+    choice_of(alloc, changes)
 }
 
 /// How a primary begins a view.
@@ -64,9 +89,8 @@ pub fn begin_view(
     ensures min_s { IfOk result (λ begun. begun.min_s ≡ (choice (messages_of changes.items)).min_s) }
     ensures handed { IfOk result (λ begun. begun.handed.items ≡ handed_in (new_view_from keys.now sender view changes.items (choice (messages_of changes.items)))) }
 {
-    let choice = choice_of(alloc, &changes)?;
-    let proposals = proposals_of(alloc, keys, sender, view, choice.chosen())?;
-    let new = NewView::new(sender, view, changes, proposals);
+    let choice = few_chosen(alloc, &changes)?;
+    let new = new_view_from(alloc, keys, sender, view, changes, &choice)?;
     let handed = handed_in(alloc, &new)?;
     Ok(Begun {
         new_view: sign(alloc, keys, Message::NewView(new))?,

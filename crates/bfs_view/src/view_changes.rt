@@ -17,6 +17,12 @@ pub fn valid_view_change(keys: &Keys, signed: &Signed<ViewChange>) -> bool
     ensures value { result ≡ valid_view_change keys.now signed.now }
     ensures near { result ≡ true → IsNear signed.now.message }
 {
+    is_valid(keys, signed)
+}
+
+fn is_valid(keys: &Keys, signed: &Signed<ViewChange>) -> bool
+    ensures { result ≡ valid_view_change keys.now signed.now }
+{
     let change = &signed.message;
     are_in_order(change)
         && (is_view_change_signed(keys, signed)
