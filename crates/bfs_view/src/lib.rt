@@ -20,7 +20,7 @@ pub use laws::{
     choice_is_of_the_set, made_has_prepared, made_is_valid, made_new_view_is_right,
     prepared_is_chosen, valid_choices_are_short,
 };
-pub use making::make_view_change;
+pub use making::{make_view_change, view_change_message};
 pub use new_views::{check_new_view, choose};
 pub use proposing::{Begun, begin_view, handed_in, make_new_view};
 pub use view_changes::valid_view_change;

@@ -14,6 +14,7 @@ ghost use Rattle.bfs_view.specs.Changes.Parts.{as_message, messages_in};
 ghost use Rattle.bfs_view.specs.Inside.Near.{IsNear};
 
 use crate::certificates::{does_match, is_proved, is_told_by, vote_in};
+use crate::copies::Copied;
 use bfs_auth::Keys;
 use bfs_log::primary_of;
 use bfs_messages::{
@@ -52,6 +53,20 @@ fn signed_change(
     let certificates = certificates(alloc, order)?;
     let change = ViewChange::new(order.me(), view, order.low(), checkpoints, certificates);
     sign_view_change(alloc, keys, change)
+}
+
+/// A VIEW-CHANGE as one of the messages that replicas send; it shares its batches. `Memory` if memory runs out.
+pub fn view_change_message(
+    alloc: Global,
+    change: &Signed<ViewChange>,
+) -> Result<Signed<Message>, Memory>
+    ensures { IfOk result (λ m. m ≡ as_message kind.ViewChange change.now) }
+{
+    let copy = change.copied(alloc)?;
+    Ok(Signed {
+        message: Message::ViewChange(copy.message),
+        auth: copy.auth,
+    })
 }
 
 fn stable_checkpoints(alloc: Global, order: &Order) -> Result<Vec<Signed<Checkpoint>>, Memory>
