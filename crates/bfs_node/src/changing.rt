@@ -1,10 +1,11 @@
 // Views change.
-ghost use Rattle.std.specs.Prelude.{◌≡◌, ◌≢◌, ◌<◌, ◌≤◌, ◌^◌, ◌++◌, None, Some, IfOk, IfErr, OnOk, OnErr, true};
+ghost use Rattle.std.specs.Prelude.{◌≡◌, ◌≢◌, ◌<◌, ◌≤◌, ◌^◌, ◌++◌, ◌∷◌, [], None, Some, IfOk, IfErr, OnOk, OnErr, true};
 ghost use Rattle.bfs_messages.specs.declared.message.Message.TheVariants as kind;
 ghost use Rattle.bfs_node.specs.Changing.{begun, begun_if_due, change_refusal, leads, may_begin, next_view, timed_out, timeout_refusal, view_refusal, with_new_view, with_view_change};
 ghost use Rattle.bfs_node.specs.Inside.Asking.{asking, MayAsk};
 ghost use Rattle.bfs_node.specs.declared.error.NodeError.TheVariants as error;
 ghost use Rattle.bfs_order.specs.Replica.Views.{entering_refusal, leaving_refusal};
+ghost use Rattle.bfs_view.specs.Changes.Parts.{as_message};
 ghost use Rattle.bfs_view.specs.Inside.Near.{IsNear};
 
 use crate::error::NodeError;
@@ -17,6 +18,7 @@ use bfs_view::{
     Begun, begin_view, check_new_view, handed_in, make_view_change, valid_view_change,
     view_change_message,
 };
+use std::alloc::Global;
 
 impl Node {
     /// Time has run out for the view: the replica leaves for the one after it, or after the one that it has asked for, and gives the
@@ -34,8 +36,7 @@ impl Node {
             return Err(NodeError::from(error));
         }
         let own = make_view_change(self.alloc, &self.order, &self.keys, view)?;
-        let mut sent = Vec::new(self.alloc);
-        sent.push(view_change_message(self.alloc, &own)?)?;
+        let sent = sent_first(self.alloc, &own)?;
         Ok(self.keep(own, view, sent)?)
     }
 
@@ -206,4 +207,12 @@ impl Node {
         self.changes.drop_up_to(view);
         Ok(sent)
     }
+}
+
+fn sent_first(alloc: Global, own: &Signed<ViewChange>) -> Result<Vec<Signed<Message>>, Memory>
+    ensures { IfOk result (λ sent. sent.items ≡ as_message kind.ViewChange own.now ∷ []) }
+{
+    let mut sent = Vec::new(alloc);
+    sent.push(view_change_message(alloc, own)?)?;
+    Ok(sent)
 }
