@@ -1,4 +1,4 @@
--- A message comes: each kind goes to its part, and what the part gives is sent (OSDI 1999 sections 4.1 to 4.3).
+-- A message comes: each kind goes to its part, and what the part gives is sent (OSDI 1999 sections 4.1 to 4.4).
 use Rattle.std.specs.Prelude.{not, [], ◌∷◌, ◌++◌, length, Option, Some, None, nat_le, if◌then◌else◌}
 use Rattle.std.specs.Option.{option_map}
 use Rattle.bfs_model.specs.Server.Limits.{most_requests}
@@ -14,6 +14,7 @@ use Rattle.bfs_messages.specs.Signing.{request_is_signed}
 use Rattle.bfs_order.specs.Replica.Accepting.{accepted, makes_stable}
 use Rattle.bfs_order.specs.Replica.Refusals.{refusal}
 use Rattle.bfs_order.specs.Replica.States.{State, with_message}
+use Rattle.bfs_node.specs.Changing.{change_in, change_refusal, view_refusal, with_new_view, with_view_change}
 use Rattle.bfs_node.specs.Errors.{of_order}
 use Rattle.bfs_node.specs.Nodes.{Node, Outcome}
 use Rattle.bfs_node.specs.declared.error.NodeError.{NodeError}
@@ -60,8 +61,8 @@ message_refusal node signed (PrePrepare proposal) = order_refusal node signed
 message_refusal node signed (Prepare vote) = order_refusal node signed
 message_refusal node signed (Commit vote) = order_refusal node signed
 message_refusal node signed (Checkpoint checkpoint) = order_refusal node signed
-message_refusal node signed (ViewChange change) = Some error.Malformed
-message_refusal node signed (NewView new) = Some error.Malformed
+message_refusal node signed (ViewChange change) = change_refusal node (change_in signed change)
+message_refusal node signed (NewView new) = view_refusal node signed new
 message_refusal node signed (Reply reply) = Some error.WrongKind
 
 abbrev pub delivery_refusal : Node → Signed Message → Option NodeError
@@ -74,8 +75,8 @@ message_delivered node signed (PrePrepare proposal) = ordered node signed
 message_delivered node signed (Prepare vote) = ordered node signed
 message_delivered node signed (Commit vote) = ordered node signed
 message_delivered node signed (Checkpoint checkpoint) = ordered node signed
-message_delivered node signed (ViewChange change) = record { now = node; sent = [] }
-message_delivered node signed (NewView new) = record { now = node; sent = [] }
+message_delivered node signed (ViewChange change) = with_view_change node (change_in signed change)
+message_delivered node signed (NewView new) = with_new_view node signed new
 message_delivered node signed (Reply reply) = record { now = node; sent = [] }
 
 abbrev pub delivered : Node → Signed Message → Outcome

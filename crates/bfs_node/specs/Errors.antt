@@ -8,6 +8,8 @@ use Rattle.bfs_order.specs.declared.error.OrderError.{OrderError}
 use Rattle.bfs_order.specs.declared.error.OrderError.TheVariants as order
 use Rattle.bfs_serial.specs.declared.executor.ExecError.{ExecError}
 use Rattle.bfs_serial.specs.declared.executor.ExecError.TheVariants as executing
+use Rattle.bfs_view.specs.declared.error.ViewError.{ViewError}
+use Rattle.bfs_view.specs.declared.error.ViewError.TheVariants as view
 use Rattle.bfs_node.specs.declared.error.NodeError.{NodeError}
 use Rattle.bfs_node.specs.declared.error.NodeError.TheVariants as node
 
@@ -38,6 +40,14 @@ of_adopting adopting.NotWellFormed = node.NotWellFormed
 of_adopting adopting.DigestDiffers = node.DigestDiffers
 of_adopting adopting.Memory = node.Memory
 
+abbrev pub of_view : ViewError → NodeError
+of_view view.WrongKind = node.WrongKind
+of_view view.BadAuthenticator = node.BadAuthenticator
+of_view view.BadCertificate = node.BadCertificate
+of_view view.TooFew = node.TooFew
+of_view view.WrongChoice = node.WrongChoice
+of_view view.Memory = node.Memory
+
 abbrev pub code_of : NodeError → ℕ
 code_of node.BatchFull = 13
 code_of node.MalformedText = 20
@@ -50,6 +60,9 @@ code_of node.OutsideMarks = 26
 code_of node.Conflicting = 27
 code_of node.NotPrimary = 28
 code_of node.AlreadyHave = 29
+code_of node.TooFew = 30
+code_of node.BadCertificate = 31
+code_of node.WrongChoice = 32
 code_of node.NoCertificate = 34
 code_of node.DigestDiffers = 35
 code_of node.WrongKind = 36

@@ -10,6 +10,7 @@ use Rattle.bfs_messages.specs.Messages.{Request}
 use Rattle.bfs_messages.specs.declared.signed.Signed.{Signed}
 use Rattle.bfs_order.specs.Replica.States.{State, fresh}
 use Rattle.bfs_replies.specs.Tables.{Table}
+use Rattle.bfs_view.specs.Changes.Keeping as views
 
 pub record Node : Type 0 where
   pub keys : Keys
@@ -21,6 +22,8 @@ pub record Node : Type 0 where
   pub table : Table
   -- requests that wait to be ordered, in the order in which they came
   pub pending : List (Signed Request)
+  -- VIEW-CHANGEs for views that were not entered yet
+  pub changes : views.Kept
   pub snapshots : Keeping
 
 -- a replica of 3f + 1, which has done nothing
@@ -31,6 +34,7 @@ new_node f clients secret me = record {
   files = Some new_file_system;
   table = replicate clients None;
   pending = [];
+  changes = views.nothing_kept f;
   snapshots = nothing_kept f;
 }
 

@@ -34,8 +34,10 @@ impl Node {
 
     /// Takes a message that came, and gives what is to be sent. A REQUEST waits to be ordered: it is refused where its authenticator is not
     /// its client's (`BadAuthenticator`) or as many wait as a batch can have (`BatchFull`). A message of the order is refused as
-    /// `Order::on_message` refuses it. A REPLY is for clients (`WrongKind`); VIEW-CHANGE and NEW-VIEW are not taken yet (`Malformed`).
-    /// `Memory` if memory runs out. Nothing changes where it is refused.
+    /// `Order::on_message` refuses it. A VIEW-CHANGE is kept, if this replica leads its view: it is refused where it is not its sender's
+    /// (`BadAuthenticator`), its view was entered or passed (`WrongView`), its sender has asked for that view or a later one (`AlreadyHave`)
+    /// or it is not valid (`BadCertificate`). By a NEW-VIEW its view is entered: it is refused as `check_new_view` and then as
+    /// `Order::enter_view` refuse it. A REPLY is for clients (`WrongKind`). `Memory` if memory runs out. Nothing changes where it is refused.
     pub fn take(
         &mut self,
         rt: &(impl Threads + Sync),
@@ -81,7 +83,11 @@ impl Node {
                     auth,
                 },
             ),
-            Message::ViewChange(_) | Message::NewView(_) => Err(NodeError::Malformed),
+            Message::ViewChange(change) => self.take_view_change(Signed {
+                message: change,
+                auth,
+            }),
+            Message::NewView(new) => self.take_new_view(new, auth),
             Message::Reply(_) => Err(NodeError::WrongKind),
         }
     }

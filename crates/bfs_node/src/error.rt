@@ -1,11 +1,12 @@
 ghost use Rattle.std.specs.Prelude.{◌≡◌};
-ghost use Rattle.bfs_node.specs.Errors.{code_of, of_adopting, of_decoding, of_executing, of_order};
+ghost use Rattle.bfs_node.specs.Errors.{code_of, of_adopting, of_decoding, of_executing, of_order, of_view};
 
 use bfs_checkpoints::AdoptError;
 use bfs_messages::DecodeError;
 use bfs_order::OrderError;
 use bfs_serial::ExecError;
 use bfs_types::Memory;
+use bfs_view::ViewError;
 use std::alloc::AllocError;
 use thiserror::Error;
 
@@ -46,6 +47,15 @@ pub enum NodeError {
     /// The message is there, or the checkpoint was told.
     #[error("the message is there already")]
     AlreadyHave,
+    /// The VIEW-CHANGEs of a NEW-VIEW are of fewer than 2f + 1 replicas.
+    #[error("too few replicas change the view")]
+    TooFew,
+    /// A VIEW-CHANGE is not valid, or asks for another view than the NEW-VIEW that it stands in.
+    #[error("a view change is not valid")]
+    BadCertificate,
+    /// The PRE-PREPAREs of a NEW-VIEW are not what its VIEW-CHANGEs choose.
+    #[error("the proposals are not what is chosen")]
+    WrongChoice,
     /// The messages are no certificate of a checkpoint that is ahead.
     #[error("the checkpoint has no certificate")]
     NoCertificate,
@@ -80,6 +90,9 @@ impl NodeError {
             NodeError::Conflicting => 27,
             NodeError::NotPrimary => 28,
             NodeError::AlreadyHave => 29,
+            NodeError::TooFew => 30,
+            NodeError::BadCertificate => 31,
+            NodeError::WrongChoice => 32,
             NodeError::NoCertificate => 34,
             NodeError::DigestDiffers => 35,
             NodeError::WrongKind => 36,
@@ -103,6 +116,21 @@ impl From<OrderError> for NodeError {
             OrderError::AlreadyHave => NodeError::AlreadyHave,
             OrderError::NoCertificate => NodeError::NoCertificate,
             OrderError::Memory => NodeError::Memory,
+        }
+    }
+}
+
+impl From<ViewError> for NodeError {
+    ghost from_gives = { λ error given. given ≡ of_view error };
+
+    fn from(error: ViewError) -> NodeError {
+        match error {
+            ViewError::WrongKind => NodeError::WrongKind,
+            ViewError::BadAuthenticator => NodeError::BadAuthenticator,
+            ViewError::BadCertificate => NodeError::BadCertificate,
+            ViewError::TooFew => NodeError::TooFew,
+            ViewError::WrongChoice => NodeError::WrongChoice,
+            ViewError::Memory => NodeError::Memory,
         }
     }
 }

@@ -17,6 +17,7 @@ use bfs_replies::ReplyTable;
 use bfs_serial::FileSystem;
 use bfs_settings::Settings;
 use bfs_types::Memory;
+use bfs_view::KeptViewChanges;
 use std::alloc::Global;
 use std::marker::Model;
 use std::thread::Threads;
@@ -33,6 +34,7 @@ pub struct Node {
     pub(crate) files: FileSystem,
     pub(crate) table: ReplyTable,
     pub(crate) pending: PendingRequests,
+    pub(crate) changes: KeptViewChanges,
     pub(crate) snapshots: Snapshots,
 }
 
@@ -46,9 +48,9 @@ impl Model for Node {
 
     ghost coded = { Prim.hlevel (codes, inodes_code) };
 
-    ghost view = { λ n. record { keys = n.keys; order = n.order; files = n.files; table = n.table; pending = n.pending; snapshots = n.snapshots } };
+    ghost view = { λ n. record { keys = n.keys; order = n.order; files = n.files; table = n.table; pending = n.pending; changes = n.changes; snapshots = n.snapshots } };
 
-    ghost invariant = { λ n. IsWhole (record { keys = n.keys; order = n.order; files = n.files; table = n.table; pending = n.pending; snapshots = n.snapshots }) };
+    ghost invariant = { λ n. IsWhole (record { keys = n.keys; order = n.order; files = n.files; table = n.table; pending = n.pending; changes = n.changes; snapshots = n.snapshots }) };
 }
 
 impl Node {
@@ -72,6 +74,7 @@ impl Node {
             files: FileSystem::new(alloc)?,
             table: ReplyTable::new(alloc, clients)?,
             pending: PendingRequests::new(alloc),
+            changes: KeptViewChanges::new(alloc, f)?,
             snapshots: Snapshots::new(alloc, f),
         })
     }

@@ -80,6 +80,14 @@ impl Order {
         self.me
     }
 
+    /// The view last asked for: above the one entered while a view change is under way.
+    pub fn asked(&self) -> u64
+        ensures value { result ≡ self.now.asked }
+        ensures within { result < 2 ^ 63 }
+    {
+        self.asked
+    }
+
     /// The view last entered.
     pub fn view(&self) -> u64
         ensures value { result ≡ self.now.view }

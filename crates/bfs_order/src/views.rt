@@ -1,5 +1,5 @@
 // A view is left for a later one, and entered.
-ghost use Rattle.std.specs.Prelude.{◌≡◌, ◌≢◌, ◌<◌, ◌^◌, false, length, take, reverse, None, Some, IfNone, IfSome, IfOk, IfErr, OnOk, OnErr};
+ghost use Rattle.std.specs.Prelude.{◌≡◌, ◌≢◌, ◌<◌, ◌^◌, ◌++◌, false, length, take, reverse, None, Some, IfNone, IfSome, IfOk, IfErr, OnOk, OnErr};
 ghost use Rattle.bfs_order.specs.Inside.Growing.{Grown};
 ghost use Rattle.bfs_order.specs.Replica.Refusals.{is_there};
 ghost use Rattle.bfs_order.specs.Replica.Views.{all_taken_over, entered, entering_refusal, greatest_number, handed_refusal, left, leaving_refusal, taken_over};
@@ -41,8 +41,8 @@ impl Order {
         ensures refused { IfErr result (λ e. leaving_refusal self.old view ≡ Some e) }
         ensures err { OnErr result (self.new ≡ self.old) }
     {
-        if !(self.view.max(self.asked) < view && view <= MOST_NUMBER) {
-            return Err(OrderError::WrongView);
+        if let Some(error) = self.leaving_refusal(view) {
+            return Err(error);
         }
         self.asked = view;
         Ok(())
@@ -66,12 +66,32 @@ impl Order {
         ensures memory { IfErr result (λ e. e ≡ error.Memory → entering_refusal self.old view ≡ None) }
         ensures err { OnErr result (self.new ≡ self.old) }
     {
+        self.enter_view_behind(keys, view, min_s, handed, Vec::new(self.alloc))
+    }
+
+    /// Enters a view as `enter_view` does, and gives what is to be sent behind messages that are to be sent before it: the NEW-VIEW of a
+    /// primary, say.
+    pub fn enter_view_behind(
+        &mut self,
+        keys: &Keys,
+        view: u64,
+        min_s: u64,
+        handed: Vec<Signed<Message>>,
+        first: Vec<Signed<Message>>,
+    ) -> Result<Vec<Signed<Message>>, OrderError>
+        ensures taken { OnOk result (entering_refusal self.old view ≡ None) }
+        ensures now { OnOk result (self.new ≡ (entered keys.now self.old view min_s handed.items).now) }
+        ensures sent { IfOk result (λ sent. sent.items ≡ first.items ++ (entered keys.now self.old view min_s handed.items).sent) }
+        ensures refused { IfErr result (λ e. e ≢ error.Memory → entering_refusal self.old view ≡ Some e) }
+        ensures memory { IfErr result (λ e. e ≡ error.Memory → entering_refusal self.old view ≡ None) }
+        ensures err { OnErr result (self.new ≡ self.old) }
+    {
         if let Some(error) = self.entering_refusal(view) {
             return Err(error);
         }
         let saved = self.saved();
         self.open(view, min_s, greatest_of(&handed));
-        match self.take_over_all(keys, handed) {
+        match self.take_over_all(keys, handed, first) {
             Ok(sent) => Ok(sent),
             Err(_) => {
                 self.put_back(&saved);
@@ -80,7 +100,20 @@ impl Order {
         }
     }
 
-    fn entering_refusal(&self, view: u64) -> Option<OrderError>
+    /// Why a view isn't left for that one, if it isn't.
+    pub fn leaving_refusal(&self, view: u64) -> Option<OrderError>
+        ensures value { result ≡ leaving_refusal self.now view }
+        ensures one { IfSome result (λ e. e ≢ error.Memory) }
+    {
+        if self.view.max(self.asked) < view && view <= MOST_NUMBER {
+            None
+        } else {
+            Some(OrderError::WrongView)
+        }
+    }
+
+    /// Why a view isn't entered, if it isn't.
+    pub fn entering_refusal(&self, view: u64) -> Option<OrderError>
         ensures value { result ≡ entering_refusal self.now view }
         ensures one { IfSome result (λ e. e ≢ error.Memory) }
     {
@@ -104,7 +137,8 @@ impl Order {
     }
 
     fn put_back(&mut self, saved: &Saved)
-        requires { saved.now.view < 2 ^ 63 }
+        requires view { saved.now.view < 2 ^ 63 }
+        requires asked { saved.now.asked < 2 ^ 63 }
         ensures { self.new ≡ record self.old { view = saved.now.view; asked = saved.now.asked; min_s = saved.now.min_s; handed = saved.now.handed; log = take saved.now.messages self.old.log } }
     {
         self.view = saved.view;
@@ -156,12 +190,12 @@ impl Order {
         &mut self,
         keys: &Keys,
         mut handed: Vec<Signed<Message>>,
+        mut sent: Vec<Signed<Message>>,
     ) -> Result<Vec<Signed<Message>>, Memory>
         ensures now { OnOk result (self.new ≡ (all_taken_over keys.now self.old handed.items).now) }
-        ensures sent { IfOk result (λ sent. sent.items ≡ (all_taken_over keys.now self.old handed.items).sent) }
+        ensures sent { IfOk result (λ all. all.items ≡ sent.items ++ (all_taken_over keys.now self.old handed.items).sent) }
         ensures err { OnErr result (Grown self.old self.new) }
     {
-        let mut sent = Vec::new(self.alloc);
         handed.reverse();
         while let Some(signed) = handed.pop() {
             let mut more = self.take_over(keys, signed)?;

@@ -13,3 +13,4 @@ mod Prepared
 mod Counting
 mod Made
 mod Right
+mod Kept

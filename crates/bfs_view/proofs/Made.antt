@@ -30,13 +30,14 @@ use Rattle.bfs_view.specs.Changes.Kinds.{checkpoint_in, checkpoints, prepare_in,
 use Rattle.bfs_view.specs.Changes.Making.{backs, certificate_of, certificates, change_of, is_of_low, is_prepared_for, latest, prepared_for, signed_change, stable_checkpoints}
 use Rattle.bfs_view.specs.Changes.Parts.{as_message, checkpoints_in, is_all_signed, messages_in, prepares_in}
 use Rattle.bfs_view.specs.Changes.ViewChanges.{are_in_order, do_rise, is_due, valid_view_change}
+use Rattle.bfs_view.specs.Inside.Near.{IsNear}
 use Rattle.bfs_view.specs.Laws.Made.{MadeHasPrepared, MadeIsValid, MadeIsValidAfterCalls}
 use Rattle.bfs_view.proofs.Certified.{IsKind, again, backed_alike, checkpoint_kind, messages_made, prepare_kind, prepares_made, proposal_kind}
 use Rattle.bfs_view.proofs.Counting.{fewer_below, senders_fit}
 use Rattle.bfs_view.proofs.Few.{backed_by, backups_apart, low_apart, of_low, passing}
 use Rattle.bfs_view.proofs.Folds.{any_map}
 use Rattle.bfs_view.proofs.Latest.{latest_in, latest_is}
-use Rattle.bfs_view.proofs.Members.{all_from, any_at, any_from, in_filter, in_filter_map, in_front, in_map, in_range, none_in, of_filter, of_filter_map, of_map, of_range}
+use Rattle.bfs_view.proofs.Members.{all_from, any_at, any_from, greatest_at_most, in_filter, in_filter_map, in_front, in_map, in_range, none_in, of_filter, of_filter_map, of_map, of_range}
 
 -- Where a certificate comes from -----------------------------------------------------------------------------------------
 
@@ -261,3 +262,10 @@ made_has s view number digest is low high =
       ap number_in (sym from.is) ∙ from.number,
       omega (arith, last.2, seen),
     )
+
+-- its certificates are of numbers in the window
+pub made_near : (s : State) (view : ℕ) → IsNear (change_of s view)
+made_near s view = greatest_at_most (map number_in (certificates s)) (s.low + window) (λ n h.
+    let r = of_map number_in n (certificates s) h in
+    let w = in_window s r.0 r.1 in
+    omega (arith, w.2, sym r.2 ∙ ap number_in (sym w.3.is) ∙ w.3.number))

@@ -1,5 +1,5 @@
 -- What was prepared is chosen, unless something of a higher rank is; the rest is null.
-use Rattle.std.proofs.Common.{◌≡◌, ℕ, ◌+◌, ◌-◌, ◌<◌, ◌≤◌, List, [], ◌∷◌, map, max, Bool, true, false, ltb, leb, Option, Some, None, refl, sym, ap, subst, ◌∙◌, arith}
+use Rattle.std.proofs.Common.{◌≡◌, ℕ, ◌+◌, ◌-◌, ◌<◌, ◌≤◌, List, [], ◌∷◌, length, map, max, Bool, true, false, ltb, leb, Option, Some, None, refl, sym, ap, subst, ◌∙◌, arith}
 use Rattle.std.specs.Ordering.{is_lt}
 use Rattle.std.specs.List.{list_all, Contains, flat_map, range_with_len}
 use Rattle.bfs_messages.specs.Messages.{Batch, Certificate, ViewChange}
@@ -12,6 +12,7 @@ use Rattle.bfs_view.specs.Changes.Parts.{messages_of}
 use Rattle.bfs_view.specs.Changes.ViewChanges.{are_in_order, do_rise, is_due, valid_view_change}
 use Rattle.bfs_view.specs.Changes.Certificates.{number_in, view_in}
 use Rattle.bfs_view.specs.Changes.Choice.{Candidate, candidate, rank, candidates, best, batch_of, greatest, latest_stable, last_in, last_number, Chosen, chosen_for, choice}
+use Rattle.bfs_view.specs.Inside.Near.{IsNear}
 use Rattle.bfs_view.specs.Laws.Choices.{IsChosenFor, NumbersAreChosenOnce, OthersAreNull, PreparedIsChosen, StableIsPassed, ValidChoicesAreShort}
 use Rattle.bfs_view.proofs.Members.{all_at, at_most_greatest, greatest_at_most, in_map, in_range, of_map}
 use Rattle.bfs_view.proofs.Best.{best_is, views_fall}
@@ -79,14 +80,20 @@ due_in keys s valid =
     let order = (and_parts (are_in_order s.message) _ valid).0 in
     (and_parts (do_rise s.message.stable (map number_in s.message.certificates)) (list_all (is_due s.message) s.message.certificates) order).1
 
-pub choices_short : ValidChoicesAreShort
-choices_short keys changes valid =
+pub valid_near : (keys : Keys) (s : Signed ViewChange) → valid_view_change keys s ≡ true → IsNear s.message
+valid_near keys s valid = last_due s.message (due_in keys s valid)
+
+pub near_short : (changes : List (Signed ViewChange)) → ((s : Signed ViewChange) → Contains changes s → IsNear s.message) → length (choice (messages_of changes)).chosen ≤ window
+near_short changes near =
     let ms = messages_of changes in
     let top : greatest (map last_in ms) ≤ latest_stable ms + window = greatest_at_most (map last_in ms) (latest_stable ms + window) (λ n h.
     let r = of_map last_in n ms h in
     let o = of_map (λ (s : Signed ViewChange). s.message) r.0 changes r.1 in
-    let last = subst (λ (c : ViewChange). last_in c ≤ c.stable + window) o.2 (last_due o.0.message (due_in keys o.0 (all_at (valid_view_change keys) changes valid o.0 o.1))) in
+    let last = subst (λ (c : ViewChange). last_in c ≤ c.stable + window) o.2 (near o.0 o.1) in
     let passed = stable_passed ms r.0 r.1 in
     omega (arith, last, passed, r.2)) in
     let count = length-map-range_with_len (chosen_for ms) (latest_stable ms + 1) (last_number ms - latest_stable ms) in
     omega (arith, top, count)
+
+pub choices_short : ValidChoicesAreShort
+choices_short keys changes valid = near_short changes (λ s h. valid_near keys s (all_at (valid_view_change keys) changes valid s h))

@@ -6,4 +6,5 @@ pub mod Choice
 pub mod NewViews
 pub mod Kinds
 pub mod Making
+pub mod Keeping
 pub mod Codes

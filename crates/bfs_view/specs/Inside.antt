@@ -1,2 +1,3 @@
 -- What contracts of private functions cite.
 pub mod Found
+pub mod Near

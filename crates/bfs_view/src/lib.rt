@@ -5,6 +5,7 @@ mod certificates;
 mod choice;
 mod copies;
 mod error;
+mod keeping;
 mod laws;
 mod making;
 mod new_views;
@@ -14,11 +15,12 @@ mod view_changes;
 
 pub use choice::{Choice, Chosen, choice_of};
 pub use error::ViewError;
+pub use keeping::{KeptViewChanges, Replaced};
 pub use laws::{
     choice_is_of_the_set, made_has_prepared, made_is_valid, made_new_view_is_right,
     prepared_is_chosen, valid_choices_are_short,
 };
-pub use making::make_view_change;
+pub use making::{make_view_change, view_change_message};
 pub use new_views::{check_new_view, choose};
-pub use proposing::{handed_in, make_new_view};
+pub use proposing::{Begun, begin_view, handed_in, make_new_view};
 pub use view_changes::valid_view_change;

@@ -11,8 +11,10 @@ ghost use Rattle.bfs_view.specs.Changes.Certificates.{is_proved, number_in, view
 ghost use Rattle.bfs_view.specs.Changes.Kinds.{checkpoints, prepares};
 ghost use Rattle.bfs_view.specs.Changes.Making.{backs, certificate_of, certificates, change_of, is_of_low, later, latest, prepared_among, prepared_for, signed_change, stable_checkpoints};
 ghost use Rattle.bfs_view.specs.Changes.Parts.{as_message, messages_in};
+ghost use Rattle.bfs_view.specs.Inside.Near.{IsNear};
 
 use crate::certificates::{does_match, is_proved, is_told_by, vote_in};
+use crate::copies::Copied;
 use bfs_auth::Keys;
 use bfs_log::primary_of;
 use bfs_messages::{
@@ -32,12 +34,39 @@ pub fn make_view_change(
     view: u64,
 ) -> Result<Signed<ViewChange>, Memory>
     requires { view ≤ most_number }
+    ensures value { IfOk result (λ change. change ≡ signed_change keys.now (change_of order.now view)) }
+    ensures near { IfOk result (λ change. IsNear change.message) }
+{
+    signed_change(alloc, order, keys, view)
+}
+
+fn signed_change(
+    alloc: Global,
+    order: &Order,
+    keys: &Keys,
+    view: u64,
+) -> Result<Signed<ViewChange>, Memory>
+    requires { view ≤ most_number }
     ensures { IfOk result (λ change. change ≡ signed_change keys.now (change_of order.now view)) }
 {
     let checkpoints = stable_checkpoints(alloc, order)?;
     let certificates = certificates(alloc, order)?;
     let change = ViewChange::new(order.me(), view, order.low(), checkpoints, certificates);
     sign_view_change(alloc, keys, change)
+}
+
+/// A VIEW-CHANGE as one of the messages that replicas send; it shares its batches. `Memory` if memory runs out.
+pub fn view_change_message(
+    alloc: Global,
+    change: &Signed<ViewChange>,
+) -> Result<Signed<Message>, Memory>
+    ensures { IfOk result (λ m. m ≡ as_message kind.ViewChange change.now) }
+{
+    let copy = change.copied(alloc)?;
+    Ok(Signed {
+        message: Message::ViewChange(copy.message),
+        auth: copy.auth,
+    })
 }
 
 fn stable_checkpoints(alloc: Global, order: &Order) -> Result<Vec<Signed<Checkpoint>>, Memory>

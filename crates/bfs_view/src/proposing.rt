@@ -3,9 +3,12 @@ ghost use Rattle.std.specs.Prelude.{◌≡◌, ◌≤◌, length, map, IfOk};
 ghost use Rattle.bfs_model.specs.Server.Limits.{log_size, most_number, most_replicas};
 ghost use Rattle.bfs_messages.specs.Signing.{signed_by};
 ghost use Rattle.bfs_messages.specs.declared.message.Message.TheVariants as kind;
+ghost use Rattle.bfs_view.specs.Changes.Choice.{choice};
+ghost use Rattle.bfs_view.specs.Changes.Parts.{messages_of};
+ghost use Rattle.bfs_view.specs.Inside.Near.{AreNear};
 ghost use Rattle.bfs_view.specs.Changes.Making.{chosen_proposal, handed_in, new_view_from, signed_proposal};
 
-use crate::choice::{Choice, Chosen};
+use crate::choice::{Choice, Chosen, choice_of};
 use crate::copies::{Copied, copies_of};
 use bfs_auth::Keys;
 use bfs_messages::{Message, NewView, PrePrepare, Signed, ViewChange, sign, sign_proposal};
@@ -29,9 +32,71 @@ pub fn make_new_view(
     ensures { IfOk result (λ signed. signed ≡ signed_by keys.now (kind.NewView (new_view_from keys.now sender view changes.now choice.now))) }
 {
     let copies = copies_of(alloc, changes)?;
-    let proposals = proposals_of(alloc, keys, sender, view, choice.chosen())?;
-    let new = NewView::new(sender, view, copies, proposals);
+    let new = new_view_from(alloc, keys, sender, view, copies, choice)?;
     sign(alloc, keys, Message::NewView(new))
+}
+
+fn new_view_from(
+    alloc: Global,
+    keys: &Keys,
+    sender: u32,
+    view: u64,
+    changes: Vec<Signed<ViewChange>>,
+    choice: &Choice,
+) -> Result<NewView, Memory>
+    requires view { view ≤ most_number }
+    requires changes { length changes.items ≤ most_replicas }
+    requires chosen { length choice.now.chosen ≤ log_size }
+    ensures { IfOk result (λ new. new ≡ new_view_from keys.now sender view changes.items choice.now) }
+{
+    let proposals = proposals_of(alloc, keys, sender, view, choice.chosen())?;
+    Ok(NewView::new(sender, view, changes, proposals))
+}
+
+// what near VIEW-CHANGEs choose: a NEW-VIEW has room for it
+fn few_chosen(alloc: Global, changes: &[Signed<ViewChange>]) -> Result<Choice, Memory>
+    requires { AreNear changes.now }
+    ensures value { IfOk result (λ c. c ≡ choice (messages_of changes.now)) }
+    ensures few { IfOk result (λ c. length c.chosen ≤ log_size) }
+{
+    choice_of(alloc, changes)
+}
+
+/// How a primary begins a view.
+#[derive(Drop)]
+pub struct Begun {
+    /// Its NEW-VIEW, signed for all replicas.
+    pub new_view: Signed<Message>,
+    /// The number that the view begins behind.
+    pub min_s: u64,
+    /// What it takes over into the view itself.
+    pub handed: Vec<Signed<Message>>,
+}
+
+/// Makes the NEW-VIEW of a primary, by its number, from VIEW-CHANGEs that were found valid when they came, or that it has made itself. `Memory` if
+/// memory runs out.
+pub fn begin_view(
+    alloc: Global,
+    keys: &Keys,
+    sender: u32,
+    view: u64,
+    changes: Vec<Signed<ViewChange>>,
+) -> Result<Begun, Memory>
+    requires view { view ≤ most_number }
+    requires few { length changes.items ≤ most_replicas }
+    requires near { AreNear changes.items }
+    ensures new { IfOk result (λ begun. begun.new_view ≡ signed_by keys.now (kind.NewView (new_view_from keys.now sender view changes.items (choice (messages_of changes.items))))) }
+    ensures min_s { IfOk result (λ begun. begun.min_s ≡ (choice (messages_of changes.items)).min_s) }
+    ensures handed { IfOk result (λ begun. begun.handed.items ≡ handed_in (new_view_from keys.now sender view changes.items (choice (messages_of changes.items)))) }
+{
+    let choice = few_chosen(alloc, &changes)?;
+    let new = new_view_from(alloc, keys, sender, view, changes, &choice)?;
+    let handed = handed_in(alloc, &new)?;
+    Ok(Begun {
+        new_view: sign(alloc, keys, Message::NewView(new))?,
+        min_s: choice.min_s(),
+        handed,
+    })
 }
 
 fn proposals_of(

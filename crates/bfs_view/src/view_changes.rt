@@ -1,7 +1,8 @@
 // Which VIEW-CHANGEs are valid.
-ghost use Rattle.std.specs.Prelude.{◌≡◌, ◌≤◌, ◌+◌, ◌&&◌, map, nat_le, nat_lt};
+ghost use Rattle.std.specs.Prelude.{◌≡◌, ◌≤◌, ◌+◌, ◌&&◌, true, map, nat_le, nat_lt};
 ghost use Rattle.std.specs.List.{list_all};
 ghost use Rattle.bfs_view.specs.Changes.Certificates.{certifies, number_in, view_in};
+ghost use Rattle.bfs_view.specs.Inside.Near.{IsNear};
 ghost use Rattle.bfs_view.specs.Changes.ViewChanges.{are_in_order, do_rise, is_due, valid_view_change};
 
 use crate::certificates::{does_certify, has_stable, vote_in};
@@ -13,6 +14,13 @@ use bfs_types::LOG_SIZE;
 /// certificates are of rising numbers, at most `LOG_SIZE` above the stable one, each of a batch that was prepared in an earlier view. Each
 /// message within it has to pass by these keys. It takes no memory.
 pub fn valid_view_change(keys: &Keys, signed: &Signed<ViewChange>) -> bool
+    ensures value { result ≡ valid_view_change keys.now signed.now }
+    ensures near { result ≡ true → IsNear signed.now.message }
+{
+    is_valid(keys, signed)
+}
+
+fn is_valid(keys: &Keys, signed: &Signed<ViewChange>) -> bool
     ensures { result ≡ valid_view_change keys.now signed.now }
 {
     let change = &signed.message;

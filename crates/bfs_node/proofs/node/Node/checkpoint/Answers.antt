@@ -10,7 +10,7 @@ use Rattle.bfs_node.proofs.node.Node.checkpoint.Goals as goal
 
 pub returns-clause-now : goal.returns-clause-now
 returns-clause-now g c =
-    let node : Node = record { keys = c.self.inside.keys; order = c.self.inside.order; files = c.self.inside.files; table = c.self.inside.table; pending = c.self.inside.pending; snapshots = c.self.inside.snapshots } in
+    let node : Node = record { keys = c.self.inside.keys; order = c.self.inside.order; files = c.self.inside.files; table = c.self.inside.table; pending = c.self.inside.pending; changes = c.self.inside.changes; snapshots = c.self.inside.snapshots } in
     let other : Node = record node { files = c.take_snapshot.new.files } in
     rw (← c.self.view_is)
     (on_ok c.tell.result
@@ -19,7 +19,7 @@ returns-clause-now g c =
 
 pub returns-clause-sent : goal.returns-clause-sent
 returns-clause-sent g c =
-    let node : Node = record { keys = c.self.inside.keys; order = c.self.inside.order; files = c.self.inside.files; table = c.self.inside.table; pending = c.self.inside.pending; snapshots = c.self.inside.snapshots } in
+    let node : Node = record { keys = c.self.inside.keys; order = c.self.inside.order; files = c.self.inside.files; table = c.self.inside.table; pending = c.self.inside.pending; changes = c.self.inside.changes; snapshots = c.self.inside.snapshots } in
     let other : Node = record node { files = c.take_snapshot.new.files } in
     rw (← c.self.view_is)
     (if_ok c.tell.result (λ (own : Signed Message). (with_checkpoint other c.in_ok-snapshot.snapshot).sent ≡ own ∷ []) (λ (own : Signed Message). option_map (λ (outcome : Outcome). outcome.sent) (checkpoint node) ≡ Some (own ∷ []))

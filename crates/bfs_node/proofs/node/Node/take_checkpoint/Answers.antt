@@ -20,7 +20,7 @@ settle_at-requires g c low =
 
 pub returns-clause-now : goal.returns-clause-now
 returns-clause-now g c =
-    let node : Node = record { keys = c.self.inside.keys; order = c.self.inside.order; files = c.self.inside.files; table = c.self.inside.table; pending = c.self.inside.pending; snapshots = c.self.inside.snapshots } in
+    let node : Node = record { keys = c.self.inside.keys; order = c.self.inside.order; files = c.self.inside.files; table = c.self.inside.table; pending = c.self.inside.pending; changes = c.self.inside.changes; snapshots = c.self.inside.snapshots } in
     let signed = c.args.signed in
     rw (← c.self.view_is)
     (c.settle_at.ensures

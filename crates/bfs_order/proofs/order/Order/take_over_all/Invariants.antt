@@ -7,7 +7,7 @@ use Rattle.bfs_order.proofs.order.Order.take_over_all.Given as goal
 abbrev pub invariant-loop-signed : goal.invariant-loop-signed
 invariant-loop-signed l =
     ((all_taken_over l.keys l.self (reverse l.handed.items)).now ≡ (all_taken_over l.keys l.fn.self l.fn.handed.items).now)
-    × (l.sent.items ++ (all_taken_over l.keys l.self (reverse l.handed.items)).sent ≡ (all_taken_over l.keys l.fn.self l.fn.handed.items).sent)
+    × (l.sent.items ++ (all_taken_over l.keys l.self (reverse l.handed.items)).sent ≡ l.fn.sent.items ++ (all_taken_over l.keys l.fn.self l.fn.handed.items).sent)
     × Grown l.fn.self l.self
 
 abbrev pub decreases-loop-signed : goal.decreases-loop-signed

@@ -1,0 +1,109 @@
+-- Views change: a replica leaves its view, the primary of the next one begins it, and the others enter it (OSDI 1999 section 4.4).
+use Rattle.std.specs.Prelude.{ℕ, ◌+◌, ◌*◌, ◌==◌, Bool, ◌&&◌, not, max, [], ◌∷◌, length, Option, Some, None, nat_lt, nat_le, if◌then◌else◌}
+use Rattle.std.specs.Option.{option_map}
+use Rattle.bfs_agreement.specs.Votes.{primary}
+use Rattle.bfs_messages.specs.Messages as model
+use Rattle.bfs_messages.specs.Signing.{is_signed, signed_by}
+use Rattle.bfs_messages.specs.declared.signed.Signed.{Signed}
+use Rattle.bfs_messages.specs.declared.message.Message.{Message}
+use Rattle.bfs_messages.specs.declared.message.Message.TheVariants.{NewView, ViewChange}
+use Rattle.bfs_order.specs.Replica.States.{State}
+use Rattle.bfs_order.specs.Replica.Views as order
+use Rattle.bfs_view.specs.Changes.Choice.{choice}
+use Rattle.bfs_view.specs.Changes.Keeping.{above_view, changes_for, was_asked, with_asked, with_change}
+use Rattle.bfs_view.specs.Changes.Making.{change_of, handed_in, new_view_from, signed_change}
+use Rattle.bfs_view.specs.Changes.NewViews.{choice_in, new_view_refusal}
+use Rattle.bfs_view.specs.Changes.Parts.{as_message, messages_of}
+use Rattle.bfs_view.specs.Changes.ViewChanges.{valid_view_change}
+use Rattle.bfs_node.specs.Errors.{of_order, of_view}
+use Rattle.bfs_node.specs.Nodes.{Node, Outcome}
+use Rattle.bfs_node.specs.declared.error.NodeError.{NodeError}
+use Rattle.bfs_node.specs.declared.error.NodeError.TheVariants as error
+
+-- A new view begins ------------------------------------------------------------------------------------------------------------
+
+abbrev pub leads : Node → (view : ℕ) → Bool
+leads node view = node.order.me == primary node.order.f view
+
+-- it has left for the view, and keeps VIEW-CHANGEs of 2f + 1 replicas for it: its own is one of them
+abbrev pub may_begin : Node → Bool
+may_begin node =
+    nat_lt node.order.view node.order.asked
+    && (leads node node.order.asked && nat_le (2 * node.order.f + 1) (length (changes_for node.order.asked node.changes)))
+
+abbrev pub entered_by : Node → model.NewView → (min_s : ℕ) → Outcome
+entered_by node new min_s =
+    let done = order.entered node.keys node.order new.view min_s (handed_in new) in
+    record { now = record node { order = done.now; changes = above_view new.view node.changes }; sent = done.sent }
+
+-- from all that it keeps for the view
+abbrev pub own_new_view : Node → model.NewView
+own_new_view node =
+    let changes = changes_for node.order.asked node.changes in
+    new_view_from node.keys node.order.me node.order.asked changes (choice (messages_of changes))
+
+-- the NEW-VIEW is sent, and the view is entered in the same step
+abbrev pub begun : Node → Outcome
+begun node =
+    let new = own_new_view node in
+    let done = entered_by node new (choice (messages_of new.changes)).min_s in
+    record { now = done.now; sent = signed_by node.keys (NewView new) ∷ done.sent }
+
+abbrev pub begun_if_due : Node → Outcome
+begun_if_due node = if may_begin node then begun node else record { now = node; sent = [] }
+
+-- one more VIEW-CHANGE: it counts where the replica leads its view
+abbrev pub with_view_change : Node → Signed model.ViewChange → Outcome
+with_view_change node s =
+    if leads node s.message.view then begun_if_due (record node { changes = with_change node.changes s })
+    else record { now = record node { changes = with_asked node.changes s.message }; sent = [] }
+
+-- A timeout --------------------------------------------------------------------------------------------------------------------
+
+-- after the view entered, and after the one asked for
+abbrev pub next_view : State → ℕ
+next_view s = max s.view s.asked + 1
+
+-- only below 2^63
+abbrev pub timeout_refusal : Node → Option NodeError
+timeout_refusal node = option_map of_order (order.leaving_refusal node.order (next_view node.order))
+
+-- what it says of its log
+abbrev pub own_change : Node → Signed model.ViewChange
+own_change node = signed_change node.keys (change_of node.order (next_view node.order))
+
+-- it leaves, and its VIEW-CHANGE is sent in the same step: it takes no message of an earlier view any more
+abbrev pub timed_out : Node → Outcome
+timed_out node =
+    let own = own_change node in
+    let done = with_view_change (record node { order = (order.left node.order (next_view node.order)).now }) own in
+    record { now = done.now; sent = as_message ViewChange own ∷ done.sent }
+
+-- A VIEW-CHANGE comes ----------------------------------------------------------------------------------------------------------
+
+abbrev pub change_in : Signed Message → model.ViewChange → Signed model.ViewChange
+change_in signed change = record { message = change; auth = signed.auth }
+
+-- its sender's, for a later view than the one entered, later than its sender's last one, and valid
+abbrev pub change_refusal : Node → Signed model.ViewChange → Option NodeError
+change_refusal node s =
+    if not (is_signed node.keys (as_message ViewChange s)) then Some error.BadAuthenticator else
+    (if not (nat_lt node.order.view s.message.view) then Some error.WrongView else
+    (if was_asked node.changes s.message then Some error.AlreadyHave else
+    (if not (valid_view_change node.keys s) then Some error.BadCertificate else None)))
+
+-- A NEW-VIEW comes -------------------------------------------------------------------------------------------------------------
+
+abbrev pub entering_refusal : Node → model.NewView → Option NodeError
+entering_refusal node new = option_map of_order (order.entering_refusal node.order new.view)
+
+abbrev pub first_of : Option NodeError → Option NodeError → Option NodeError
+first_of None second = second
+first_of (Some refused) second = Some refused
+
+-- one that is not right, or of a view that is not entered any more
+abbrev pub view_refusal : Node → Signed Message → model.NewView → Option NodeError
+view_refusal node signed new = first_of (option_map of_view (new_view_refusal node.keys signed)) (entering_refusal node new)
+
+abbrev pub with_new_view : Node → Signed Message → model.NewView → Outcome
+with_new_view node signed new = entered_by node new (choice_in signed.message).min_s

@@ -1,0 +1,244 @@
+// Views change.
+ghost use Rattle.std.specs.Prelude.{◌≡◌, ◌≢◌, ◌<◌, ◌≤◌, ◌^◌, ◌++◌, ◌∷◌, [], None, Some, IfOk, IfErr, OnOk, OnErr, true};
+ghost use Rattle.bfs_messages.specs.declared.message.Message.TheVariants as kind;
+ghost use Rattle.bfs_node.specs.Changing.{begun, begun_if_due, change_refusal, leads, may_begin, next_view, timed_out, timeout_refusal, view_refusal, with_new_view, with_view_change};
+ghost use Rattle.bfs_node.specs.Inside.Asking.{asking, MayAsk};
+ghost use Rattle.bfs_node.specs.declared.error.NodeError.TheVariants as error;
+ghost use Rattle.bfs_order.specs.Replica.Views.{entering_refusal, leaving_refusal};
+ghost use Rattle.bfs_view.specs.Changes.Parts.{as_message};
+ghost use Rattle.bfs_view.specs.Inside.Near.{IsNear};
+
+use crate::error::NodeError;
+use crate::node::Node;
+use bfs_auth::Authenticator;
+use bfs_log::primary_of;
+use bfs_messages::{Message, NewView, Signed, ViewChange, is_view_change_signed};
+use bfs_order::a_replica_stays_itself;
+use bfs_types::Memory;
+use bfs_view::{
+    Begun, begin_view, check_new_view, handed_in, make_view_change, valid_view_change,
+    view_change_message,
+};
+use std::alloc::Global;
+
+impl Node {
+    /// Time has run out for the view: the replica leaves for the one after it, or after the one that it has asked for, and gives the
+    /// VIEW-CHANGE that it sends. A primary that keeps VIEW-CHANGEs of 2f + 1 replicas for the view then begins it in the same step, and gives
+    /// its NEW-VIEW and what it sends in the view too. `WrongView` where no view is left below 2^63; then `Memory`. Nothing changes then.
+    pub fn timeout(&mut self) -> Result<Vec<Signed<Message>>, NodeError>
+        ensures taken { OnOk result (timeout_refusal self.old ≡ None) }
+        ensures now { OnOk result (self.new ≡ (timed_out self.old).now) }
+        ensures sent { IfOk result (λ sent. sent.items ≡ (timed_out self.old).sent) }
+        ensures refused { IfErr result (λ e. e ≢ error.Memory → timeout_refusal self.old ≡ Some e) }
+        ensures err { OnErr result (self.new ≡ self.old) }
+    {
+        let view = self.next_view();
+        if let Some(error) = self.order.leaving_refusal(view) {
+            return Err(NodeError::from(error));
+        }
+        let own = make_view_change(self.alloc, &self.order, &self.keys, view)?;
+        let sent = sent_first(self.alloc, &own)?;
+        Ok(self.keep(own, view, sent)?)
+    }
+
+    fn next_view(&self) -> u64
+        ensures { result ≡ next_view self.now.order }
+    {
+        self.order.view().max(self.order.asked()) + 1
+    }
+
+    /// A VIEW-CHANGE comes: it is kept, or noted where another replica leads its view. It is refused in this order: `BadAuthenticator`,
+    /// `WrongView`, `AlreadyHave`, `BadCertificate`, `Memory`.
+    pub(crate) fn take_view_change(
+        &mut self,
+        signed: Signed<ViewChange>,
+    ) -> Result<Vec<Signed<Message>>, NodeError>
+        ensures taken { OnOk result (change_refusal self.old signed ≡ None) }
+        ensures now { OnOk result (self.new ≡ (with_view_change self.old signed).now) }
+        ensures sent { IfOk result (λ sent. sent.items ≡ (with_view_change self.old signed).sent) }
+        ensures refused { IfErr result (λ e. e ≢ error.Memory → change_refusal self.old signed ≡ Some e) }
+        ensures err { OnErr result (self.new ≡ self.old) }
+    {
+        if !is_view_change_signed(&self.keys, &signed) {
+            return Err(NodeError::BadAuthenticator);
+        }
+        let change = &signed.message;
+        if self.order.view() >= change.view() {
+            return Err(NodeError::WrongView);
+        }
+        if self.changes.was_asked(change) {
+            return Err(NodeError::AlreadyHave);
+        }
+        if !valid_view_change(&self.keys, &signed) {
+            return Err(NodeError::BadCertificate);
+        }
+        let (asked, first) = (self.order.asked(), Vec::new(self.alloc));
+        Ok(self.keep(signed, asked, first)?)
+    }
+
+    // It asks for the view, and has one more VIEW-CHANGE. What it sends stands behind what is to be sent before.
+    fn keep(
+        &mut self,
+        change: Signed<ViewChange>,
+        asked: u64,
+        first: Vec<Signed<Message>>,
+    ) -> Result<Vec<Signed<Message>>, Memory>
+        requires near { IsNear change.message }
+        requires asked { MayAsk self.old asked }
+        requires within { asked < 2 ^ 63 }
+        ensures now { OnOk result (self.new ≡ (with_view_change (asking self.old asked) change).now) }
+        ensures sent { IfOk result (λ sent. sent.items ≡ first.items ++ (with_view_change (asking self.old asked) change).sent) }
+        ensures err { OnErr result (self.new ≡ self.old) }
+    {
+        if self.leads(change.message.view()) {
+            return self.count(change, asked, first);
+        }
+        self.changes.note(&change.message);
+        self.ask(asked);
+        Ok(first)
+    }
+
+    // one for a view that it leads
+    fn count(
+        &mut self,
+        change: Signed<ViewChange>,
+        asked: u64,
+        first: Vec<Signed<Message>>,
+    ) -> Result<Vec<Signed<Message>>, Memory>
+        requires led { leads self.old change.message.view ≡ true }
+        requires near { IsNear change.message }
+        requires asked { MayAsk self.old asked }
+        requires within { asked < 2 ^ 63 }
+        ensures now { OnOk result (self.new ≡ (with_view_change (asking self.old asked) change).now) }
+        ensures sent { IfOk result (λ sent. sent.items ≡ first.items ++ (with_view_change (asking self.old asked) change).sent) }
+        ensures err { OnErr result (self.new ≡ self.old) }
+    {
+        let replaced = self.changes.keep(change);
+        match self.begin_if_due(asked, first) {
+            Ok(sent) => Ok(sent),
+            Err(Memory) => {
+                self.changes.take_back(replaced);
+                Err(Memory)
+            }
+        }
+    }
+
+    fn leads(&self, view: u64) -> bool
+        ensures { result ≡ leads self.now view }
+    {
+        self.order.me() == primary_of(self.order.f(), view)
+    }
+
+    // nothing where it has asked for that view
+    fn ask(&mut self, view: u64)
+        requires { MayAsk self.old view }
+        ensures { self.new ≡ asking self.old view }
+    {
+        match self.order.leave_view(view) {
+            Ok(()) => {}
+            Err(_) => {}
+        }
+    }
+
+    fn may_begin(&self, asked: u64) -> bool
+        ensures { result ≡ may_begin (asking self.now asked) }
+    {
+        let quorum = 2 * self.order.f() as usize + 1;
+        self.order.view() < asked && (self.leads(asked) && quorum <= self.changes.count_for(asked))
+    }
+
+    // It asks for the view, and begins it if that is due.
+    fn begin_if_due(
+        &mut self,
+        asked: u64,
+        first: Vec<Signed<Message>>,
+    ) -> Result<Vec<Signed<Message>>, Memory>
+        requires asked { MayAsk self.old asked }
+        requires within { asked < 2 ^ 63 }
+        ensures now { OnOk result (self.new ≡ (begun_if_due (asking self.old asked)).now) }
+        ensures sent { IfOk result (λ sent. sent.items ≡ first.items ++ (begun_if_due (asking self.old asked)).sent) }
+        ensures err { OnErr result (self.new ≡ self.old) }
+    {
+        if self.may_begin(asked) {
+            self.begin(asked, first)
+        } else {
+            self.ask(asked);
+            Ok(first)
+        }
+    }
+
+    // Its NEW-VIEW is sent, and the view is entered in the same step. What it keeps for the view is copied: it stays where memory runs out.
+    fn begin(
+        &mut self,
+        view: u64,
+        mut first: Vec<Signed<Message>>,
+    ) -> Result<Vec<Signed<Message>>, Memory>
+        requires above { self.old.order.view < view }
+        requires asked { MayAsk self.old view }
+        requires within { view < 2 ^ 63 }
+        ensures now { OnOk result (self.new ≡ (begun (asking self.old view)).now) }
+        ensures sent { IfOk result (λ sent. sent.items ≡ first.items ++ (begun (asking self.old view)).sent) }
+        ensures err { OnErr result (self.new ≡ self.old) }
+    {
+        a_replica_stays_itself();
+        let changes = self.changes.changes_for(self.alloc, view)?;
+        let begun = begin_view(self.alloc, &self.keys, self.order.me(), view, changes)?;
+        let Begun {
+            new_view,
+            min_s,
+            handed,
+        } = begun;
+        first.push(new_view)?;
+        let sent = self
+            .order
+            .enter_view_behind(&self.keys, view, min_s, handed, first);
+        match sent {
+            Ok(sent) => {
+                self.changes.drop_up_to(view);
+                Ok(sent)
+            }
+            Err(_) => Err(Memory),
+        }
+    }
+
+    /// A NEW-VIEW comes: its view is entered. It is refused as `check_new_view` refuses it, and then as `Order::enter_view` does.
+    pub(crate) fn take_new_view(
+        &mut self,
+        new: NewView,
+        auth: Authenticator,
+    ) -> Result<Vec<Signed<Message>>, NodeError>
+        ensures taken { OnOk result (view_refusal self.old (record { message = kind.NewView new; auth = auth }) new ≡ None) }
+        ensures now { OnOk result (self.new ≡ (with_new_view self.old (record { message = kind.NewView new; auth = auth }) new).now) }
+        ensures sent { IfOk result (λ sent. sent.items ≡ (with_new_view self.old (record { message = kind.NewView new; auth = auth }) new).sent) }
+        ensures refused { IfErr result (λ e. e ≢ error.Memory → view_refusal self.old (record { message = kind.NewView new; auth = auth }) new ≡ Some e) }
+        ensures err { OnErr result (self.new ≡ self.old) }
+    {
+        a_replica_stays_itself();
+        let signed = Signed {
+            message: Message::NewView(new),
+            auth,
+        };
+        let choice = check_new_view(self.alloc, &self.keys, &signed)?;
+        let Message::NewView(new) = &signed.message else {
+            unreachable!()
+        };
+        let view = new.view();
+        if let Some(error) = self.order.entering_refusal(view) {
+            return Err(NodeError::from(error));
+        }
+        let handed = handed_in(self.alloc, new)?;
+        let sent = self
+            .order
+            .enter_view(&self.keys, view, choice.min_s(), handed)?;
+        self.changes.drop_up_to(view);
+        Ok(sent)
+    }
+}
+
+fn sent_first(alloc: Global, own: &Signed<ViewChange>) -> Result<Vec<Signed<Message>>, Memory>
+    ensures { IfOk result (λ sent. sent.items ≡ as_message kind.ViewChange own.now ∷ []) }
+{
+    let mut sent = Vec::new(alloc);
+    sent.push(view_change_message(alloc, own)?)?;
+    Ok(sent)
+}
