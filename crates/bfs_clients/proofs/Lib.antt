@@ -2,3 +2,5 @@ mod Adding
 mod Blocks
 mod Naming
 mod Numbered
+mod Placing
+mod Counting
