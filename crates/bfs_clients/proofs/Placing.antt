@@ -1,6 +1,6 @@
 -- Tallies stay at their places where more come behind them, and where messages are counted.
-use Rattle.std.proofs.Common.{◌≡◌, ◌∙◌, ◌++◌, ◌+◌, ◌<◌, Bool, true, false, ℕ, zero, suc, List, [], ◌∷◌, map, length, get_or, refl, sym, ap, ap₂, subst, cond, arith}
-use Rattle.std.specs.Prelude.{Option, Some, None, All, filter, fold, if◌then◌else◌}
+use Rattle.std.proofs.Common.{◌≡◌, ◌∙◌, ◌++◌, Bool, true, false, ℕ, zero, suc, List, [], ◌∷◌, map, length, get_or, refl, sym, ap, ap₂, cond, arith}
+use Rattle.std.specs.Prelude.{None, All, filter, fold, if◌then◌else◌}
 use Rattle.std.specs.List.{slice_get}
 use Rattle.std.proofs.lemmas.Bool.{eq-eqb}
 use Rattle.std.proofs.lemmas.List.{get_or-map, get_or_append_left, get_or_push, length-append, length-map, map-append}

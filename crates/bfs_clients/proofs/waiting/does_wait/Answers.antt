@@ -1,4 +1,4 @@
-use Rattle.std.proofs.Common.{◌≡◌, ap, sym, ◌∙◌}
+use Rattle.std.proofs.Common.{ap, sym, ◌∙◌}
 use Rattle.std.specs.Option.{option_map}
 use Rattle.bfs_clients.specs.Tallies.{no_replies}
 use Rattle.bfs_clients.specs.Inside.Rows.{tallies_at}

@@ -1,4 +1,4 @@
-use Rattle.std.proofs.Common.{◌≡◌, ◌∙◌, ap, map}
+use Rattle.std.proofs.Common.{◌∙◌, ap, map}
 use Rattle.std.specs.Prelude.{fold}
 use Rattle.bfs_clients.specs.Tallies.{tallied_by}
 use Rattle.bfs_clients.proofs.Placing.{all_counted}

@@ -1,4 +1,4 @@
-use Rattle.std.proofs.Common.{◌≡◌, ◌∙◌, ◌++◌, ◌∷◌, [], ap, map, List}
+use Rattle.std.proofs.Common.{◌∙◌, ◌++◌, ◌∷◌, [], ap, map, List}
 use Rattle.std.specs.Prelude.{Result, Ok, Err, OnErr}
 use Rattle.bfs_tally.specs.Tallies.{Tally}
 use Rattle.bfs_clients.specs.Inside.Places.{tally_in}
