@@ -1,12 +1,12 @@
 -- A message counts by the tallies of the request that it answers, and by no other ones.
-use Rattle.std.proofs.Common.{◌≡◌, ◌∙◌, ◌&&◌, ◌==◌, ◌++◌, ◌+◌, ◌<◌, Bool, true, false, ℕ, zero, suc, List, [], ◌∷◌, map, take, length, get_or, slice_set, refl, sym, ap, ap₂, subst, cond, arith}
+use Rattle.std.proofs.Common.{◌≡◌, ◌∙◌, ◌&&◌, ◌==◌, ◌++◌, ◌+◌, ◌<◌, Bool, true, false, ℕ, zero, suc, List, [], ◌∷◌, map, take, length, get_or, slice_set, refl, sym, ap, subst, cond, arith}
 use Rattle.std.specs.Prelude.{Option, Some, None, Result, Ok, Err, OnOk, OnErr, All, not, fold, if◌then◌else◌}
 use Rattle.std.specs.BTreeMap.{BTreeMap, WritesThrough, is_at}
 use Rattle.std.specs.Map.{lookup}
 use Rattle.std.specs.Option.{is_some}
 use Rattle.std.proofs.lemmas.Bool.{eqb-true}
 use Rattle.std.proofs.lemmas.List.{map-id}
-use Rattle.std.proofs.lemmas.List.Elements.{All-head, All-tail, All-map, All-append, All-nil}
+use Rattle.std.proofs.lemmas.List.Elements.{All-tail, All-append, All-nil}
 use Rattle.std.proofs.lemmas.List.Sums.{fold_more}
 use Rattle.bfs_auth.specs.Keys.{Keys}
 use Rattle.bfs_messages.specs.Messages as model
@@ -18,6 +18,7 @@ use Rattle.bfs_tally.specs.Tallies.{Tally, has_counted, is_wanted, tallied, tall
 use Rattle.bfs_clients.specs.Clients.{Clients, keys_at}
 use Rattle.bfs_clients.specs.Names.{name_cmp, same_name}
 use Rattle.bfs_clients.specs.Inside.Rows.{AreNamed, row_at, row_in}
+use Rattle.bfs_clients.proofs.Maps.{map_twice, same_map}
 use Rattle.bfs_clients.proofs.Naming.{one_name, tied}
 use Rattle.bfs_clients.specs.Tallies.{IsNamed, tallied_by, tallied_with}
 use Rattle.bfs_clients.specs.declared.names.Name.{Name}
@@ -42,11 +43,7 @@ named_as (NewView new) signed name tally is = is
 pub still_named : (keys : Keys) (signed : Signed Message) (name : Name) (tally : Tally) → IsNamed name tally → IsNamed name (tallied keys tally signed)
 still_named keys signed name tally is = named_as signed.message (is_signed keys signed) name tally is
 
-pub all_named : (keys : Keys) (signed : Signed Message) (name : Name) (row : List Tally) → All (IsNamed name) row → All (IsNamed name) (map (λ tally. tallied keys tally signed) row)
-all_named keys signed name row are =
-    All-map (IsNamed name) (λ tally. tallied keys tally signed) row (λ k d lt. still_named keys signed name (get_or row k d) (are k d lt))
-
--- and so does each, where one of them is changed to one of its request
+-- where one of a row is changed to one of its request, all are of it still
 pub changed_named : (name : Name) (row : List Tally) (i : ℕ) (tally changed : Tally) → tally ≡ get_or row i tally → (IsNamed name tally → IsNamed name changed) → All (IsNamed name) row
     → All (IsNamed name) (slice_set row i changed)
 changed_named name [] i tally changed is keeps all k d lt = all k d lt
@@ -106,15 +103,6 @@ same_by clients keys signed reply name tally named held same =
     (sym held ∙ ap (keys_at clients) (eqb-true reply.client name.client (both (reply.client == name.client) (reply.timestamp == name.timestamp) same) ∙ sym named.0))
 
 -- Rows -----------------------------------------------------------------------------------------------------------------
-
-same_map : (f g : Tally → Tally) (row : List Tally) → All (λ tally. f tally ≡ g tally) row → map f row ≡ map g row
-same_map f g [] same = refl
-same_map f g (tally ∷ row) same =
-    ap₂ (λ (first : Tally) (rest : List Tally). first ∷ rest) (All-head (λ one. f one ≡ g one) tally row same) (same_map f g row (All-tail (λ one. f one ≡ g one) tally row same))
-
-map_twice : (f g : Tally → Tally) (row : List Tally) → map f (map g row) ≡ map (λ tally. f (g tally)) row
-map_twice f g [] = refl
-map_twice f g (tally ∷ row) = ap (λ (rest : List Tally). f (g tally) ∷ rest) (map_twice f g row)
 
 unchanged : (f : Tally → Tally) (row : List Tally) → All (λ tally. f tally ≡ tally) row → row ≡ map f row
 unchanged f row same = sym (same_map f (λ tally. tally) row same ∙ map-id row)

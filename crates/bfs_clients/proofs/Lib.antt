@@ -1,5 +1,6 @@
 mod Adding
 mod Blocks
+mod Maps
 mod Naming
 mod Numbered
 mod Placing

@@ -1,10 +1,9 @@
 -- Tallies stay at their places where more come behind them, and where messages are counted.
-use Rattle.std.proofs.Common.{◌≡◌, ◌∙◌, ◌++◌, Bool, true, false, ℕ, zero, suc, List, [], ◌∷◌, map, length, get_or, refl, sym, ap, ap₂, cond, arith}
-use Rattle.std.specs.Prelude.{None, All, filter, fold, if◌then◌else◌}
+use Rattle.std.proofs.Common.{◌≡◌, ◌∙◌, ◌++◌, Bool, true, false, ℕ, zero, suc, List, [], ◌∷◌, map, length, get_or, refl, sym, ap, ap₂, cond}
+use Rattle.std.specs.Prelude.{None, filter, fold, if◌then◌else◌}
 use Rattle.std.specs.List.{slice_get}
 use Rattle.std.proofs.lemmas.Bool.{eq-eqb}
-use Rattle.std.proofs.lemmas.List.{get_or-map, get_or_append_left, get_or_push, length-append, length-map, map-append}
-use Rattle.std.proofs.lemmas.List.Elements.{All-head, All-push, All-tail}
+use Rattle.std.proofs.lemmas.List.{get_or-map, get_or_append_left, get_or_push, map-append}
 use Rattle.bfs_messages.specs.declared.message.Message.{Message}
 use Rattle.bfs_messages.specs.declared.signed.Signed.{Signed}
 use Rattle.bfs_tally.specs.Tallies.{Tally}
@@ -15,6 +14,7 @@ use Rattle.bfs_clients.specs.Inside.Rows.{Rows, tallies_at}
 use Rattle.bfs_clients.specs.Tallies.{no_replies, tallied_by}
 use Rattle.bfs_clients.specs.Inside.Places.{AreTaken, IsTaken, tally_in}
 use Rattle.bfs_clients.specs.declared.waiting.Place.{Place}
+use Rattle.bfs_clients.proofs.Maps.{map_twice, same_map}
 
 -- More behind them -----------------------------------------------------------------------------------------------------
 
@@ -30,23 +30,11 @@ HasMore old new = (client timestamp : ℕ) → (more : List Tally) × (tallies_a
 pub more_by_one : (old new : Rows) (name : Name) (tally : Tally) → HasOneMore old new name tally → HasMore old new
 more_by_one old new name tally more client timestamp = ((if same_name name (record { client = client; timestamp = timestamp }) then tally ∷ [] else []), more client timestamp)
 
-still_taken : (old new : Rows) → HasMore old new → (place : Place) → IsTaken old place → IsTaken new place
-still_taken old new more place taken =
-    let has = more place.client place.timestamp in
-    omega (arith, taken, ap length has.1, length-append (tallies_at old place.client place.timestamp) has.0)
-
 still_there : (old new : Rows) → HasMore old new → (place : Place) → IsTaken old place → tally_in new place ≡ tally_in old place
 still_there old new more place taken =
     let none : Tally = no_replies 0 place.client place.timestamp in
     let has = more place.client place.timestamp in
     ap (λ row. get_or row place.number none) has.1 ∙ get_or_append_left (tallies_at old place.client place.timestamp) has.0 none place.number taken
-
-pub all_still_taken : (old new : Rows) → HasMore old new → (places : List Place) → AreTaken old places → AreTaken new places
-all_still_taken old new more places taken k d lt = still_taken old new more (get_or places k d) (taken k d lt)
-
-same_map : {A B : Type 0} (f g : A → B) (xs : List A) → All (λ x. f x ≡ g x) xs → map f xs ≡ map g xs
-same_map f g [] same = refl
-same_map f g (x ∷ xs) same = ap₂ (λ first rest. first ∷ rest) (All-head (λ one. f one ≡ g one) x xs same) (same_map f g xs (All-tail (λ one. f one ≡ g one) x xs same))
 
 pub all_still_there : (old new : Rows) → HasMore old new → (places : List Place) → AreTaken old places → map (tally_in new) places ≡ map (tally_in old) places
 all_still_there old new more places taken = same_map (tally_in new) (tally_in old) places (λ k d lt. still_there old new more (get_or places k d) (taken k d lt))
@@ -68,21 +56,11 @@ there old new place tally more number_is =
     ap (λ row. get_or row place.number (no_replies 0 place.client place.timestamp)) (row_behind old new place tally more)
     ∙ get_or_push (tallies_at old place.client place.timestamp) tally (no_replies 0 place.client place.timestamp) place.number (sym number_is)
 
-taken_there : (old new : Rows) (place : Place) (tally : Tally) → HasOneMore old new (record { client = place.client; timestamp = place.timestamp }) tally
-    → place.number ≡ length (tallies_at old place.client place.timestamp) → IsTaken new place
-taken_there old new place tally more number_is =
-    omega (arith, number_is, ap length (row_behind old new place tally more), length-append (tallies_at old place.client place.timestamp) (tally ∷ []))
-
 pub pushed : (old new : Rows) (places : List Place) (place : Place) (tally : Tally) → HasOneMore old new (record { client = place.client; timestamp = place.timestamp }) tally
     → place.number ≡ length (tallies_at old place.client place.timestamp) → AreTaken old places → map (tally_in new) (places ++ place ∷ []) ≡ map (tally_in old) places ++ tally ∷ []
 pushed old new places place tally more number_is taken =
     map-append (tally_in new) places (place ∷ [])
     ∙ ap₂ (λ (before : List Tally) (last : Tally). before ++ last ∷ []) (all_still_there old new (more_by_one old new _ tally more) places taken) (there old new place tally more number_is)
-
-pub pushed_taken : (old new : Rows) (places : List Place) (place : Place) (tally : Tally) → HasOneMore old new (record { client = place.client; timestamp = place.timestamp }) tally
-    → place.number ≡ length (tallies_at old place.client place.timestamp) → AreTaken old places → AreTaken new (places ++ place ∷ [])
-pushed_taken old new places place tally more number_is taken =
-    All-push (IsTaken new) places place (all_still_taken old new (more_by_one old new _ tally more) places taken) (taken_there old new place tally more number_is)
 
 -- Messages counted -----------------------------------------------------------------------------------------------------
 
@@ -97,20 +75,11 @@ counted_there clients messages old new counted place taken =
     ap (λ row. get_or row place.number none) (counted place.client place.timestamp)
     ∙ get_or-map (λ tally. fold (tallied_by clients) tally messages) (tallies_at old place.client place.timestamp) place.number none none taken
 
-map_twice : {A B C : Type 0} (f : B → C) (g : A → B) (xs : List A) → map f (map g xs) ≡ map (λ x. f (g x)) xs
-map_twice f g [] = refl
-map_twice f g (x ∷ xs) = ap (λ rest. f (g x) ∷ rest) (map_twice f g xs)
-
 pub all_counted : (clients : Clients) (messages : List (Signed Message)) (old new : Rows) → HasCounted clients messages old new → (places : List Place) → AreTaken old places
     → map (tally_in new) places ≡ map (λ tally. fold (tallied_by clients) tally messages) (map (tally_in old) places)
 all_counted clients messages old new counted places taken =
     same_map (tally_in new) (λ place. fold (tallied_by clients) (tally_in old place) messages) places (λ k d lt. counted_there clients messages old new counted (get_or places k d) (taken k d lt))
     ∙ sym (map_twice (λ tally. fold (tallied_by clients) tally messages) (tally_in old) places)
-
-pub counted_taken : (clients : Clients) (messages : List (Signed Message)) (old new : Rows) → HasCounted clients messages old new → (places : List Place) → AreTaken old places → AreTaken new places
-counted_taken clients messages old new counted places taken k d lt =
-    let place : Place = get_or places k d in
-    omega (arith, taken k d lt, ap length (counted place.client place.timestamp), length-map (tallies_at old place.client place.timestamp) (λ tally. fold (tallied_by clients) tally messages))
 
 pub none_there : (row : List Tally) (i : ℕ) (none : Tally) → slice_get row i ≡ None → get_or row i none ≡ none
 none_there [] i none is = refl

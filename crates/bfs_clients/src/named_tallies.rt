@@ -127,7 +127,7 @@ impl NamedTallies {
     fn add(&mut self, clients: &Clients, signed: &Signed<Message>) -> Result<(), Memory>
         ensures { OnOk result ((client timestamp : ℕ) → tallies_at self.new client timestamp ≡ map (λ tally. tallied_by clients.now tally signed.now) (tallies_at self.old client timestamp)) }
     {
-        // (for its invariant)
+        // (so that the proof of the early returns sees the invariant)
         let _rows = &self.rows;
         let Message::Reply(reply) = &signed.message else {
             return Ok(());
@@ -140,6 +140,13 @@ impl NamedTallies {
             timestamp: reply.timestamp(),
         };
         count(&mut self.rows, name, keys, signed)
+    }
+
+    /// Forgets all tallies. It takes no memory.
+    pub fn clear(&mut self)
+        ensures { (client timestamp : ℕ) → tallies_at self.new client timestamp ≡ [] }
+    {
+        self.rows = BTreeMap::new(self.alloc);
     }
 
     /// The tally that has that place among those of that client and timestamp.

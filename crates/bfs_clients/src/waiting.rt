@@ -99,12 +99,21 @@ impl WaitingRequests {
             .tally(place.client, place.timestamp, place.number)
     }
 
-    /// Forgets those that have a result. It takes no memory.
+    /// Forgets those that have a result. It takes no memory, and gives back that of all tallies once none waits.
     pub fn drop_answered(&mut self)
         ensures { self.new ≡ filter waits self.old }
     {
         let tallies = &self.tallies;
         self.places.retain(|place| does_wait(tallies, *place));
+        self.clear_if_none_waits();
+    }
+
+    fn clear_if_none_waits(&mut self)
+        ensures { self.new ≡ self.old }
+    {
+        if self.places.is_empty() {
+            self.tallies.clear();
+        }
     }
 }
 

@@ -15,6 +15,7 @@ invariant_of-self c =
 
 pub returns : goal.returns
 returns c =
-    ap (map (tally_in c.self.inside.tallies)) (filter_same _ (λ place. waits (tally_in c.self.inside.tallies place)) _ (λ x b f' k. search rules) _ _ c.retain.ensures.filtered)
+    c.clear_if_none_waits.ensures
+    ∙ ap (map (tally_in c.self.inside.tallies)) (filter_same _ (λ place. waits (tally_in c.self.inside.tallies place)) _ (λ x b f' k. search rules) _ _ c.retain.ensures.filtered)
     ∙ kept (tally_in c.self.inside.tallies) waits c.self.inside.places.items
     ∙ ap (filter waits) c.self.view_is
