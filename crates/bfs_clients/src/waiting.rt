@@ -108,6 +108,7 @@ impl WaitingRequests {
         self.clear_if_none_waits();
     }
 
+    // No place leads to a tally any more, so all of them may go.
     fn clear_if_none_waits(&mut self)
         ensures { self.new ≡ self.old }
     {
