@@ -1,6 +1,6 @@
 -- Requests that are signed side by side.
 use Rattle.std.proofs.Common.{◌≡◌, ◌∙◌, ap, refl, sym, true≢false, List, [], ◌∷◌}
-use Rattle.std.specs.Prelude.{Bool, true, Option, Result, Ok, Err, IfOk, is_ok}
+use Rattle.std.specs.Prelude.{true, Option, Result, Ok, Err, IfOk, is_ok}
 use Rattle.std.specs.List.{AllZip, cons_option, filter_map, list_all}
 use Rattle.bfs_clients.specs.Inside.Signing.{signed_in}
 

@@ -18,7 +18,7 @@ tied_then Equal s = refl
 tied_then Greater s = refl
 
 -- names with the same fields are one
-tied : (name other : Name) → is_at (name_cmp name) other ≡ same_name name other
+pub tied : (name other : Name) → is_at (name_cmp name) other ≡ same_name name other
 tied name other =
     tied_then (nat_cmp name.client other.client) (nat_cmp name.timestamp other.timestamp)
     ∙ rw (unsigned_tied name.client other.client, unsigned_tied name.timestamp other.timestamp) refl
@@ -27,7 +27,7 @@ both : (a b : Bool) → (a && b) ≡ true → (a ≡ true) × (b ≡ true)
 both true b same = (refl, same)
 both false b same = absurd (cc)
 
-one_name : (name other : Name) → same_name name other ≡ true → name ≡ other
+pub one_name : (name other : Name) → same_name name other ≡ true → name ≡ other
 one_name name other same =
     let each = both (name.client == other.client) (name.timestamp == other.timestamp) same in
     ap₂ (λ client timestamp. record { client = client; timestamp = timestamp }) (eqb-true name.client other.client each.0) (eqb-true name.timestamp other.timestamp each.1)

@@ -2,9 +2,12 @@
 #![tactic(auto)]
 
 mod clients;
+mod named_tallies;
 mod names;
 mod signing;
 mod tallies;
+mod waiting;
 
 pub use clients::Clients;
 pub use tallies::Tallies;
+pub use waiting::WaitingRequests;

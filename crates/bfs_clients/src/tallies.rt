@@ -1,4 +1,4 @@
-ghost use Rattle.std.specs.Prelude.{◌≡◌, ℕ, [], fold, OnOk, OnErr, if◌then◌else◌};
+ghost use Rattle.std.specs.Prelude.{◌≡◌, ℕ, [], fold, IfOk, OnOk, OnErr, if◌then◌else◌};
 ghost use Rattle.std.specs.Option.{option_and_then, option_map};
 ghost use Rattle.bfs_tally.specs.Tallies.{agreed, tallied};
 ghost use Rattle.bfs_clients.specs.Names.{found, same_name};
@@ -90,6 +90,16 @@ impl Tallies {
             self.add(clients, signed)?;
         }
         Ok(())
+    }
+
+    /// A copy of the tally of a client's request of that timestamp; `None` where none was begun. `Memory` if memory runs out.
+    pub fn copy(&self, client: u32, timestamp: u64) -> Result<Option<Tally>, Memory>
+        ensures { IfOk result (λ tally. tally ≡ tally_at self.now client timestamp) }
+    {
+        match self.tallies.get(&Name { client, timestamp }) {
+            Some(tally) => Ok(Some(tally.try_clone()?)),
+            None => Ok(None),
+        }
     }
 
     /// What the client accepts as the result of its request of that timestamp: what `f + 1` replicas agree on. `None` as long as there is

@@ -1,4 +1,4 @@
-ghost use Rattle.std.specs.Prelude.{◌≡◌, ◌≤◌, ◌==◌, ◌<◌, [], false, length, OnOk, OnErr, IfSome};
+ghost use Rattle.std.specs.Prelude.{◌≡◌, ◌≤◌, ◌==◌, ◌<◌, [], false, length, IfOk, OnOk, OnErr, IfSome};
 ghost use Rattle.std.specs.Option.{option_map};
 ghost use Rattle.bfs_model.specs.Server.Limits.{most_replicas, most_reply_bytes};
 ghost use Rattle.bfs_tally.specs.Tallies.{agreed, has_counted, is_agreed, is_wanted, senders_of, tallied, with_reply};
@@ -21,6 +21,17 @@ impl Model for Counted {
     ghost Value = { model.Counted };
 
     ghost view = { λ counted. record { sender = counted.sender; result = counted.result } };
+}
+
+impl Counted {
+    fn try_clone(&self, alloc: Global) -> Result<Counted, Memory>
+        ensures { IfOk result (λ copy. copy ≡ self.now) }
+    {
+        Ok(Counted {
+            sender: self.sender,
+            result: Bytes::new(alloc, self.result.as_slice())?,
+        })
+    }
 }
 
 /// The replies to one request of a client, at most one of each replica (OSDI 1999 section 4.1).
@@ -56,6 +67,33 @@ impl Tally {
             timestamp,
             counted: Vec::new(alloc),
         }
+    }
+
+    /// The client whose request it is.
+    pub fn client(&self) -> u32
+        ensures { result ≡ self.now.client }
+    {
+        self.client
+    }
+
+    /// The client's timestamp of the request.
+    pub fn timestamp(&self) -> u64
+        ensures { result ≡ self.now.timestamp }
+    {
+        self.timestamp
+    }
+
+    /// The same replies to the same request. `Memory` if memory runs out.
+    pub fn try_clone(&self) -> Result<Tally, Memory>
+        ensures { IfOk result (λ copy. copy ≡ self.now) }
+    {
+        Ok(Tally {
+            alloc: self.alloc,
+            f: self.f,
+            client: self.client,
+            timestamp: self.timestamp,
+            counted: copy_of(self.alloc, &self.counted)?,
+        })
     }
 
     /// Counts a REPLY to this request, the first of its sender, if the client, who holds the keys, finds it signed. Any other message
@@ -150,4 +188,14 @@ impl Tally {
         }
         count
     }
+}
+
+fn copy_of(alloc: Global, replies: &[Counted]) -> Result<Vec<Counted>, Memory>
+    ensures { IfOk result (λ copies. copies.items ≡ replies.now) }
+{
+    let mut copies = Vec::with_capacity(alloc, replies.len())?;
+    for one in replies {
+        copies.push(one.try_clone(alloc)?)?;
+    }
+    Ok(copies)
 }

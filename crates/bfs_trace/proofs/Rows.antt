@@ -178,3 +178,16 @@ row-no_such_replica = refl
 pub row-the_only_replica : trace_spelled sixteen_clients (codes "silent 0\nheard 1\n") ≡ Err 2
 unfolding read_on_literals
 row-the_only_replica = refl
+
+-- a timeout ends a block, and nothing stands behind its word
+pub row-timeout : trace_spelled sixteen_clients (codes "timeout\nbatch 1.000000\ntimeout\n") ≡ Ok (event.Timeout ∷ block_at 1 0 [] ∷ event.Timeout ∷ [])
+unfolding read_on_literals
+row-timeout = refl
+
+pub row-timeout_ends_a_block : trace_spelled sixteen_clients (codes "batch 1.000000\ntimeout\n0 1 raw 00\n") ≡ Err 3
+unfolding read_on_literals
+row-timeout_ends_a_block = refl
+
+pub row-timeout_of_one : trace_spelled four_replicas (codes "timeout 0\n") ≡ Err 1
+unfolding read_on_literals
+row-timeout_of_one = refl

@@ -57,6 +57,11 @@ heard_line population words = do
   replica ← replica_named population words
   Some (line.Event (event.Heard replica))
 
+-- nothing stands behind `timeout`
+abbrev pub timeout_line : List (List ℕ) → Option Line
+timeout_line [] = Some (line.Event event.Timeout)
+timeout_line (word ∷ words) = None
+
 -- `CLIENT T VERB ..`: a client below the number of clients, a timestamp below 2^64, and a call
 abbrev pub request_line : Population → (client : List ℕ) → List (List ℕ) → Option Line
 request_line population client [] = None
@@ -71,7 +76,8 @@ line_in population [] = None
 line_in population (first ∷ words) =
     if bytes_eq first (codes "batch") then batch_line words else (
     if bytes_eq first (codes "silent") then silent_line population words else (
-    if bytes_eq first (codes "heard") then heard_line population words else request_line population first words))
+    if bytes_eq first (codes "heard") then heard_line population words else (
+    if bytes_eq first (codes "timeout") then timeout_line words else request_line population first words)))
 
 -- what a line says, or None where it breaks the grammar
 unfoldable pub line_spelled : Population → List ℕ → Option Line

@@ -132,6 +132,8 @@ pub enum TraceEvent {
     Silent(u32),
     /// The replica of that number is heard again.
     Heard(u32),
+    /// Each replica that is heard has waited too long, and asks for the next view (OSDI 1999 section 4.4).
+    Timeout,
 }
 
 impl TraceEvent {

@@ -1,6 +1,6 @@
 ghost use Rattle.std.specs.Prelude.{◌≡◌, ◌<◌, ◌≤◌, length, IfOk};
 ghost use Rattle.bfs_model.specs.Server.Limits.{most_clients, most_request_bytes};
-ghost use Rattle.bfs_trace.specs.Lines.{batch_line, call_by_verb, call_spelled, heard_line, line_spelled, replica_named, raw_call, request_line, silent_line, verb_call};
+ghost use Rattle.bfs_trace.specs.Lines.{batch_line, call_by_verb, call_spelled, heard_line, line_spelled, replica_named, raw_call, request_line, silent_line, timeout_line, verb_call};
 ghost use Rattle.bfs_trace.specs.Inside.Reading.{Parses};
 
 use crate::events::{Block, Request, TraceEvent};
@@ -123,6 +123,15 @@ fn parse_heard(population: Population, words: &mut Words<'_>) -> Result<Line, Fa
     Ok(Line::Event(TraceEvent::Heard(replica)))
 }
 
+fn parse_timeout(words: &mut Words<'_>) -> Result<Line, Fault>
+    ensures { Parses (λ line. line) result (timeout_line words.old) }
+{
+    match words.next_word() {
+        None => Ok(Line::Event(TraceEvent::Timeout)),
+        Some(_) => Err(Fault::Bad),
+    }
+}
+
 /// Reads `CLIENT T VERB ..`, whose first word is read already.
 fn parse_request(
     alloc: Global,
@@ -153,6 +162,8 @@ pub(crate) fn parse_line(alloc: Global, population: Population, text: &[u8]) -> 
         parse_silent(population, &mut words)
     } else if first == b"heard".as_slice() {
         parse_heard(population, &mut words)
+    } else if first == b"timeout".as_slice() {
+        parse_timeout(&mut words)
     } else {
         parse_request(alloc, population, first, &mut words)
     }

@@ -42,8 +42,8 @@ fn read_line(
 /// `batch S.UUUUUU` begins a block at a time in seconds and microseconds since the beginning of 1970. `CLIENT T VERB ..` is a
 /// request of the block before it: a client's number, its timestamp below 2^64, and a call of at most 16,384 bytes. `raw HEX` is
 /// the whole call; each other verb is a procedure of RFC 1094 section 2.2, and the words behind it spell its arguments, as
-/// `getattr #2` or `read #2 0 64`. A block has at most 1,024 requests. `silent REPLICA` and `heard REPLICA` stand between blocks.
-/// All of the text is read before the answer, and `TraceError::BadLine` has the first line that breaks this grammar.
+/// `getattr #2` or `read #2 0 64`. A block has at most 1,024 requests. `silent REPLICA`, `heard REPLICA` and `timeout` stand between
+/// blocks. All of the text is read before the answer, and `TraceError::BadLine` has the first line that breaks this grammar.
 #[tactic(auto, unfolding(crate::specs::Trace::read_lines))]
 pub fn parse_trace(alloc: Global, text: &[u8], population: Population) -> Result<Trace, TraceError>
     ensures { ParsesTrace result (trace_spelled population text.now) }

@@ -7,3 +7,5 @@ mod replies;
 mod requests;
 #[cfg(test)]
 mod run;
+#[cfg(test)]
+mod waiting;

@@ -1,29 +1,11 @@
 //! Replies to several requests of two clients, where one of four replicas may be faulty.
-use crate::run::{keys_of_replica, two_clients};
-use bfs_auth::sign_text_for_client;
+use crate::run::{reply, two_clients};
 use bfs_clients::{Clients, Tallies};
-use bfs_messages::{Message, Reply, Signed};
+use bfs_messages::{Message, Signed};
 use bfs_testing::holds;
-use bfs_types::{MOST_REPLY_BYTES, Memory};
+use bfs_types::Memory;
 use std::alloc::Global;
 use std::test::Fail;
-
-// a replica's reply to the request of a client, with its keyed hash for another one perhaps
-fn reply(
-    alloc: Global,
-    sender: u32,
-    (client, timestamp): (u32, u64),
-    receiver: u32,
-    bytes: &[u8],
-) -> Result<Signed<Message>, Fail> {
-    let keys = keys_of_replica(alloc, sender)?;
-    if bytes.len() > MOST_REPLY_BYTES || receiver as usize >= keys.clients() {
-        return Err("a result that is too long, or no such client".into());
-    }
-    let message = Message::Reply(Reply::new(alloc, sender, 0, client, timestamp, bytes)?);
-    let auth = sign_text_for_client(alloc, &keys, receiver, &message)?;
-    Ok(Signed { message, auth })
-}
 
 // adds a message: no test needs what the contract says of it
 fn add(tallies: &mut Tallies, clients: &Clients, signed: &Signed<Message>) -> Result<(), Memory> {

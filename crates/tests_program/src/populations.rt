@@ -92,18 +92,19 @@ fn names_replicas_below_their_number(rt: HostRuntime) -> Result<(), Fail> {
 #[test]
 fn reads_who_is_silent_between_blocks(rt: HostRuntime) -> Result<(), Fail> {
     let population = Population::new(16, 4).ok_or("population")?;
-    let text = b"silent 3\nbatch 1.000000\n0 1 null\nheard 3\n";
+    let text = b"silent 3\nbatch 1.000000\n0 1 null\nheard 3\ntimeout\n";
     let trace = parse_trace(rt.alloc(), text, population)?;
     let is_read = matches!(
         trace.events(),
         [
             TraceEvent::Silent(3),
             TraceEvent::Block(_),
-            TraceEvent::Heard(3)
+            TraceEvent::Heard(3),
+            TraceEvent::Timeout
         ]
     );
     holds!(rt; is_read);
-    for event in ["silent 0", "heard 3"] {
+    for event in ["heard 3", "timeout"] {
         let text = format!(in rt.alloc(); "batch 1.000000\n{event}\n0 1 null\n")?;
         same!(rt; line_at_fault(rt.alloc(), 16, 4, text.as_str())?, 3);
     }

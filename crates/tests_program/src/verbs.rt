@@ -202,9 +202,9 @@ static FAULTS: [&str; 100] = [
     "0 1 statfs",
     "0 1 statfs #2 0",
     "0 1 silent",
+    "0 1 timeout",
     "silent 1",
     "heard 1",
-    "timeout",
 ];
 
 /// Whether a line spells the call of those digits.
