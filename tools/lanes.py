@@ -42,7 +42,7 @@ def read(path):
         if event := re.fullmatch(r"(silent|heard) (\d+)", content):
             (silent.add if event[1] == "silent" else silent.discard)(int(event[2]) + 1)
             lanes = max(lanes, int(event[2]) + 2)
-        elif re.fullmatch(r"batch \d+\.\d{6}", content):
+        elif re.fullmatch(r"batch \d+\.\d{6}|timeout", content):
             parts.append(Part(content, silent))
         elif parts and (message := LINE.fullmatch(content)):
             kind, sender, receivers, view, number, digest, _ = message.groups()

@@ -46,9 +46,10 @@ class Fault(Exception):
 
 
 class Request(NamedTuple):
-    """A request: its line in the trace, its batch's effective time, its client and timestamp, and the bytes of its call."""
+    """A request: its line in the trace, how many timeouts are above it, its batch's effective time, its client and timestamp, and the bytes of its call."""
 
     line: int
+    timeouts: int
     time: int
     client: int
     timestamp: int
@@ -132,7 +133,7 @@ def lines(path):
 
 def read_trace(path):
     """The requests of a trace. Its first line that is at fault is a fault."""
-    requests, last, room = [], 0, None
+    requests, last, room, timeouts = [], 0, None, 0
     for line, content in lines(path):
         try:
             if batch := re.fullmatch(r"batch (\d+)\.(\d{6})", content):
@@ -149,9 +150,9 @@ def read_trace(path):
                 call, room = call_of(client, timestamp, request[3], request[4].split(" ")[1:]), room - 1
                 if len(call) > MOST_BYTES:
                     raise ValueError(f"the call has above {MOST_BYTES:,} bytes")
-                requests.append(Request(line, last, client, timestamp, call))
-            elif re.fullmatch(r"(silent|heard) \d+", content):
-                room = None
+                requests.append(Request(line, timeouts, last, client, timestamp, call))
+            elif re.fullmatch(r"(silent|heard) \d+|timeout", content):
+                room, timeouts = None, timeouts + (content == "timeout")
             elif content and not content.startswith("#"):
                 raise ValueError("it is neither `batch S.UUUUUU` nor `CLIENT T VERB ..`")
         except ValueError as error:
@@ -160,17 +161,39 @@ def read_trace(path):
 
 
 def read_replies(path, requests):
-    """The replies to the requests of a trace, by their place in the output; `None` where a request got none."""
-    output, replies = [(line, content) for line, content in lines(path) if not re.fullmatch(r"digest \d+ [0-9a-f]{64}|behind \d+ \d+", content)], []
-    for (line, content), request in zip(output, requests):
-        begin = f"c{request.client} t{request.timestamp} "
-        reply = content[len(begin) :]
-        if not content.startswith(begin) or reply not in NO_REPLY and not is_hexadecimal(reply) or len(reply) > 2 * MOST_BYTES:
-            raise Fault(f"{path}: line {line}: no reply to line {request.line} of the trace, {begin.strip()}")
-        replies.append(None if reply in NO_REPLY else bytes.fromhex(reply))
-    if len(output) != len(requests):
+    """The replies to the requests of a trace, by their place in it; `None` where a request got none, neither behind its block nor at a timeout."""
+    output = [each for each in lines(path) if not re.fullmatch(r"digest \d+ [0-9a-f]{64}|behind \d+ \d+|view \d+", each[1])]
+    replies, waiting, timeouts, late = [], [], 0, len(output) - len(requests)
+    for line, content in output:
+        request = requests[len(replies)] if len(replies) < len(requests) else None
+        if late > 0 and (request is None or request.timeouts > timeouts):
+            place = next((place for place in waiting if content.startswith(begin_of(requests[place]))), None)
+            if place is not None:
+                waiting.remove(place)
+                replies[place], late = reply_in(path, line, content, requests[place]), late - 1
+                continue
+        if request is None:
+            raise Fault(f"{path}: {len(output)} lines of replies, where the trace has {len(requests)} requests")
+        timeouts = request.timeouts
+        replies.append(reply_in(path, line, content, request))
+        if content.endswith(" none"):
+            waiting.append(len(replies) - 1)
+    if len(replies) < len(requests):
         raise Fault(f"{path}: {len(output)} lines of replies, where the trace has {len(requests)} requests")
     return replies
+
+
+def begin_of(request):
+    return f"c{request.client} t{request.timestamp} "
+
+
+def reply_in(path, line, content, request):
+    """The reply that a line tells, which is one to that request; `None` where there is none."""
+    begin = begin_of(request)
+    reply = content[len(begin) :]
+    if not content.startswith(begin) or reply not in NO_REPLY and not is_hexadecimal(reply) or len(reply) > 2 * MOST_BYTES:
+        raise Fault(f"{path}: line {line}: no reply to line {request.line} of the trace, {begin.strip()}")
+    return None if reply in NO_REPLY else bytes.fromhex(reply)
 
 
 def start(program, *words, **streams):

@@ -1,5 +1,6 @@
--- Where replicas stand at the end: those that are heard and have executed the most show their digests, and the others how far they are.
-use Rattle.std.specs.Prelude.{ℕ, ◌+◌, ◌==◌, max, List, [], ◌∷◌, Option, Some, if◌then◌else◌}
+-- Where replicas stand: the view that enough of them are in; and at the end, those that are heard and have executed the most show their digests,
+-- and the others how far they are.
+use Rattle.std.specs.Prelude.{ℕ, ◌+◌, ◌*◌, ◌/◌, ◌==◌, Bool, ◌&&◌, max, List, [], ◌∷◌, count_by, find, length, Option, Some, nat_le, if◌then◌else◌}
 use Rattle.std.specs.Option.{option_map}
 use Rattle.bfs_model.specs.Bytes.Call.{◌>>=◌}
 use Rattle.bfs_checkpoints.specs.Texts.{node_digest}
@@ -32,3 +33,20 @@ standings_from most number (replica ∷ rest) =
 -- by rising number
 abbrev pub standings : World → Option (List Standing)
 standings world = standings_from (most_executed world.replicas) 0 world.replicas
+
+-- Views --------------------------------------------------------------------------------------------------------------------
+
+-- it is heard, and has entered that view last
+abbrev pub is_in : (view : ℕ) → Replica → Bool
+is_in view replica = replica.heard && (replica.node.order.view == view)
+
+-- 2f + 1 of 3f + 1 replicas
+abbrev pub quorum : (replicas : ℕ) → ℕ
+quorum replicas = 2 * (replicas / 3) + 1
+
+abbrev pub are_in : World → (view : ℕ) → Bool
+are_in world view = nat_le (quorum (length world.replicas)) (count_by (is_in view) world.replicas)
+
+-- the view that 2f + 1 replicas are in: there is one at most
+abbrev pub common_view : World → Option ℕ
+common_view world = option_map (λ replica. replica.node.order.view) (find (λ replica. are_in world replica.node.order.view) world.replicas)

@@ -1,6 +1,7 @@
-ghost use Rattle.std.specs.Prelude.{◌≡◌, ◌<◌, length, OnOk};
-ghost use Rattle.bfs_cluster.specs.Blocks.{proposing, requested, to_each, with_block};
+ghost use Rattle.std.specs.Prelude.{◌≡◌, OnOk};
+ghost use Rattle.bfs_cluster.specs.Blocks.{requested, with_block};
 
+use crate::acts::Act;
 use crate::cluster::Cluster;
 use bfs_messages::{Message, Signed};
 use bfs_types::{Memory, Time};
@@ -20,7 +21,7 @@ impl Cluster {
         for signed in requests {
             self.request(rt, signed)?;
         }
-        self.propose(time)
+        self.act(&Act::Propose(time))
     }
 
     fn request<R: Threads + Sync>(&mut self, rt: &R, signed: &Signed<Message>) -> Result<(), Memory>
@@ -31,22 +32,5 @@ impl Cluster {
             self.hand(rt, copy, number)?;
         }
         Ok(())
-    }
-
-    fn propose(&mut self, time: Time) -> Result<(), Memory>
-        ensures { OnOk result (self.new ≡ to_each (proposing time) self.old) }
-    {
-        for number in 0..self.replicas.len() {
-            self.propose_at(time, number)?;
-        }
-        Ok(())
-    }
-
-    fn propose_at(&mut self, time: Time, number: usize) -> Result<(), Memory>
-        requires { number < length self.old.replicas }
-        ensures { OnOk result (self.new ≡ proposing time self.old number) }
-    {
-        let sent = self.replicas[number].propose(self.alloc, time)?;
-        self.post_if(number, sent)
     }
 }

@@ -1,6 +1,7 @@
 //! Replicas in one process, among which messages are delivered in the order in which they were sent.
 #![tactic(auto)]
 
+mod acts;
 mod blocks;
 mod catching_up;
 mod cluster;
@@ -8,6 +9,7 @@ mod laws;
 mod replica;
 mod standings;
 mod stepping;
+mod timeouts;
 mod watching;
 
 pub use bfs_node::{Engine, Executor, Workers};

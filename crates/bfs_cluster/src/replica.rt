@@ -2,12 +2,15 @@ ghost use Rattle.std.specs.Prelude.{◌≡◌, ◌≢◌, Some, None, IfOk, OnOk
 ghost use Rattle.std.specs.Option.{option_map};
 ghost use Rattle.bfs_cluster.specs.Blocks.{proposal};
 ghost use Rattle.bfs_cluster.specs.CatchingUp.{Offer, offered};
-ghost use Rattle.bfs_cluster.specs.Inside.Acts.{Acts, CheckpointsAfter, doing};
+ghost use Rattle.bfs_cluster.specs.Inside.Acts.{Acts, CheckpointsAfter, deed, doing};
 ghost use Rattle.bfs_cluster.specs.Inside.Trying.{Tries};
+ghost use Rattle.bfs_cluster.specs.Standings.{is_in};
 ghost use Rattle.bfs_cluster.specs.Steps.{delivery, executing};
+ghost use Rattle.bfs_cluster.specs.Timeouts.{timing_out, waiting_proposal};
 ghost use Rattle.bfs_node.specs.declared.error.NodeError.TheVariants as refusal;
 ghost use Rattle.bfs_order.specs.Replica.Installing.{number_of};
 
+use crate::acts::Act;
 use bfs_log::header_of;
 use bfs_messages::{Message, Signed};
 use bfs_node::{Executor, NoGate, Node, NodeError};
@@ -55,8 +58,23 @@ impl Replica {
         }
     }
 
-    /// What it sends to propose the requests that wait; `None` where it is no primary, or can't propose now.
-    pub fn propose(
+    /// What it sends to do that; `None` where it refuses to.
+    pub fn act(
+        &mut self,
+        alloc: Global,
+        act: &Act,
+    ) -> Result<Option<Vec<Signed<Message>>>, Memory>
+        ensures { IfOk result (λ sent. Acts (doing (deed act.now) self.old) self.old self.new (option_map (λ all. all.items) sent)) }
+    {
+        match act {
+            Act::Propose(time) => self.propose(alloc, *time),
+            Act::ProposeWaiting(time) => self.propose_waiting(alloc, *time),
+            Act::TimeOut => self.time_out(),
+        }
+    }
+
+    // the requests that wait; `None` where it is no primary, or can't propose now
+    fn propose(
         &mut self,
         alloc: Global,
         time: Time,
@@ -72,6 +90,31 @@ impl Replica {
                 sent.push(own)?;
                 Ok(Some(sent))
             }
+            Err(error) => lost(error),
+        }
+    }
+
+    fn propose_waiting(
+        &mut self,
+        alloc: Global,
+        time: Time,
+    ) -> Result<Option<Vec<Signed<Message>>>, Memory>
+        ensures { IfOk result (λ sent. Acts (doing (waiting_proposal time) self.old) self.old self.new (option_map (λ all. all.items) sent)) }
+    {
+        if !self.heard || self.node.pending() == 0 {
+            return Ok(None);
+        }
+        self.propose(alloc, time)
+    }
+
+    fn time_out(&mut self) -> Result<Option<Vec<Signed<Message>>>, Memory>
+        ensures { IfOk result (λ sent. Acts (doing timing_out self.old) self.old self.new (option_map (λ all. all.items) sent)) }
+    {
+        if !self.heard {
+            return Ok(None);
+        }
+        match self.node.timeout() {
+            Ok(sent) => Ok(Some(sent)),
             Err(error) => lost(error),
         }
     }
@@ -94,6 +137,13 @@ impl Replica {
             Ok(None) => Ok(None),
             Err(_) => Err(Memory),
         }
+    }
+
+    /// Whether it is heard, and has entered that view last.
+    pub fn is_in(&self, view: u64) -> bool
+        ensures { result ≡ is_in view self.now }
+    {
+        self.heard && self.node.view() == view
     }
 
     /// Its stable snapshot and the certificate, if its number is above that one.

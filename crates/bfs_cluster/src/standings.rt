@@ -1,5 +1,5 @@
-ghost use Rattle.std.specs.Prelude.{◌≡◌, Some, IfOk};
-ghost use Rattle.bfs_cluster.specs.Standings.{most_executed, standing_at, standings};
+ghost use Rattle.std.specs.Prelude.{◌≡◌, Some, IfOk, count_by, length};
+ghost use Rattle.bfs_cluster.specs.Standings.{are_in, common_view, is_in, most_executed, quorum, standing_at, standings};
 
 use crate::cluster::Cluster;
 use crate::replica::Replica;
@@ -30,6 +30,30 @@ impl Cluster {
         Ok(all)
     }
 
+    /// The view that 2f + 1 replicas which are heard are in, if there is one.
+    pub fn common_view(&self) -> Option<u64>
+        ensures { result ≡ common_view self.now }
+    {
+        for replica in &self.replicas {
+            let view = replica.node.view();
+            if self.are_in(view) {
+                return Some(view);
+            }
+        }
+        None
+    }
+
+    fn are_in(&self, view: u64) -> bool
+        ensures { result ≡ are_in self.now view }
+    {
+        let number = self
+            .replicas
+            .iter()
+            .filter(|replica| replica.is_in(view))
+            .count();
+        quorum(self.replicas.len()) <= number
+    }
+
     fn most_executed(&self) -> u64
         ensures { result ≡ most_executed self.now.replicas }
     {
@@ -41,6 +65,12 @@ impl Cluster {
         }
         most
     }
+}
+
+fn quorum(replicas: usize) -> usize
+    ensures { result ≡ quorum replicas }
+{
+    2 * (replicas / 3) + 1
 }
 
 fn standing_of<R: Threads + Sync>(

@@ -5,5 +5,4 @@ pub mod Lines
 pub mod Rows
 pub mod Running
 pub mod Takes
-pub mod Telling
 pub mod Usages

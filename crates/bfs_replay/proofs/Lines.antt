@@ -1,19 +1,21 @@
 -- Lines of results, one after another.
-use Rattle.std.proofs.Common.{◌≡◌, ℕ, List, [], ◌∷◌, ◌++◌, refl, ap, ap₂}
+use Rattle.std.proofs.Common.{◌≡◌, ◌∙◌, ℕ, Bool, true, false, List, [], ◌∷◌, ◌++◌, Option, Some, refl, ap, ap₂}
 use Rattle.std.specs.List.{flat_map}
 use Rattle.std.specs.Option.{option_and_then}
 use Rattle.std.proofs.lemmas.List.Elements.{All-head, All-tail}
 use Rattle.bfs_clients.specs.Clients.{Clients}
-use Rattle.bfs_clients.specs.Tallies.{Tallies, tally_at}
+use Rattle.bfs_clients.specs.Tallies.{Tallies, tally_at, tally_of}
+use Rattle.bfs_clients.specs.Waiting.{waits}
 use Rattle.bfs_log.specs.Logs.{Log}
-use Rattle.bfs_tally.specs.Tallies.{agreed}
+use Rattle.bfs_tally.specs.Tallies.{Tally, agreed}
 use Rattle.bfs_trace.specs.Events.{Request}
-use Rattle.bfs_replay.specs.Inside.Results.{HasResult, HasResults}
+use Rattle.bfs_replay.specs.Inside.Results.{HasResult, HasResults, if_waiting, waiting_among}
 use Rattle.bfs_replay.specs.Output.{result_line, result_lines}
+use Rattle.bfs_replay.specs.Runs.{unanswered}
 
 -- the line of a request, by its tally
 abbrev pub line_by : Tallies → Request → List ℕ
-line_by tallies request = result_line request (option_and_then agreed (tally_at tallies request.client request.timestamp))
+line_by tallies request = result_line request.client request.timestamp (option_and_then agreed (tally_at tallies request.client request.timestamp))
 
 abbrev pub lines_by : Tallies → List Request → List ℕ
 lines_by tallies requests = flat_map (line_by tallies) requests
@@ -23,5 +25,19 @@ pub lines_told : (clients : Clients) (replies : Log) (tallies : Tallies) (reques
 lines_told clients replies tallies [] has = refl
 lines_told clients replies tallies (request ∷ requests) has =
     ap₂ (λ (line lines : List ℕ). line ++ lines)
-    (ap (λ tally. result_line request (option_and_then agreed tally)) (All-head (HasResult clients replies tallies) request requests has))
+    (ap (λ tally. result_line request.client request.timestamp (option_and_then agreed tally)) (All-head (HasResult clients replies tallies) request requests has))
     (lines_told clients replies tallies requests (All-tail (HasResult clients replies tallies) request requests has))
+
+-- those that wait, by what their clients make of the replies
+pub waiting_told : (clients : Clients) (replies : Log) (tallies : Tallies) (requests : List Request) → HasResults clients replies tallies requests
+    → waiting_among tallies requests ≡ unanswered clients replies requests
+waiting_told clients replies tallies [] has = refl
+waiting_told clients replies tallies (request ∷ requests) has =
+    ap₂ (λ (first : Option Tally) (more : List Tally). if_waiting first ++ more) (All-head (HasResult clients replies tallies) request requests has)
+    (waiting_told clients replies tallies requests (All-tail (HasResult clients replies tallies) request requests has))
+    ∙ go (waits (tally_of clients replies request.client request.timestamp)) refl
+  where
+    go : (wait : Bool) → waits (tally_of clients replies request.client request.timestamp) ≡ wait
+        → if_waiting (Some (tally_of clients replies request.client request.timestamp)) ++ unanswered clients replies requests ≡ unanswered clients replies (request ∷ requests)
+    go true is = rw is refl
+    go false is = rw is refl

@@ -2,24 +2,24 @@
 use Rattle.std.proofs.Common.{◌≡◌, ℕ, [], ◌∷◌, Some, None, codes, refl}
 use Rattle.std.specs.Fmt.{digits}
 use Rattle.hex.proofs.OnLiterals.{hex_on_literals}
-use Rattle.bfs_trace.specs.Events.{Request}
-use Rattle.bfs_replay.specs.Output.{behind_line, result_line}
+use Rattle.bfs_replay.specs.Output.{behind_line, result_line, view_line}
 
-abbrev pub request_by : (client timestamp : ℕ) → Request
-request_by c t = record { client = c; timestamp = t; call = [] }
-
-pub row-result : result_line (request_by 15 7) (Some (0 ∷ 255 ∷ [])) ≡ codes "c15 t7 00ff\n"
+pub row-result : result_line 15 7 (Some (0 ∷ 255 ∷ [])) ≡ codes "c15 t7 00ff\n"
 unfolding hex_on_literals digits result_line
 row-result = refl
 
-pub row-no_bytes : result_line (request_by 0 1) (Some []) ≡ codes "c0 t1 -\n"
+pub row-no_bytes : result_line 0 1 (Some []) ≡ codes "c0 t1 -\n"
 unfolding hex_on_literals digits result_line
 row-no_bytes = refl
 
-pub row-none : result_line (request_by 0 1) None ≡ codes "c0 t1 none\n"
+pub row-none : result_line 0 1 None ≡ codes "c0 t1 none\n"
 unfolding hex_on_literals digits result_line
 row-none = refl
 
 pub row-behind : behind_line 3 16 ≡ codes "behind 3 16\n"
 unfolding hex_on_literals digits behind_line
 row-behind = refl
+
+pub row-view : view_line 12 ≡ codes "view 12\n"
+unfolding digits view_line
+row-view = refl

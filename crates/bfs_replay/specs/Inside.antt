@@ -1,2 +1,3 @@
 -- What contracts of private functions cite.
 pub mod Results
+pub mod Settling

@@ -1,6 +1,7 @@
 //! What `replay` is asked to do and does: its command line, and the run of a trace.
 #![tactic(auto)]
 
+mod blocks;
 mod command_line;
 mod failure;
 mod input;
@@ -9,6 +10,7 @@ mod population;
 mod results;
 mod run;
 mod standings;
+mod timeouts;
 mod usage;
 
 pub use bfs_cluster::{Engine, Executor, Workers};

@@ -5,11 +5,12 @@ ghost use Rattle.std.specs.Io.KnownBytes.{Appends};
 ghost use Rattle.std.specs.IoError.{error_kind};
 ghost use Rattle.std.specs.Option.{option_map};
 ghost use Rattle.bfs_replay.specs.Inside.Results.{HasResults};
-ghost use Rattle.bfs_replay.specs.Output.{result_line, result_lines};
+ghost use Rattle.bfs_replay.specs.Output.{answered_line, answered_lines, result_line, result_lines};
 
 use crate::run::ReplayError;
-use bfs_clients::{Clients, Tallies};
+use bfs_clients::{Clients, Tallies, WaitingRequests};
 use bfs_messages::{Message, Signed};
+use bfs_tally::Tally;
 use bfs_trace::Request;
 use bfs_types::Memory;
 use std::alloc::Global;
@@ -43,23 +44,58 @@ pub(crate) fn print_results<W: Write>(
     ensures { (clients : Clients) (replies : Log) → HasResults clients replies tallies.now requests.now → OnOk result (Appends (W.contents writer.old) (W.contents writer.new) (result_lines clients replies requests.now)) }
 {
     for request in requests {
-        let found = tallies.result(request.client(), request.timestamp());
-        print_result(alloc, request, found, writer)?;
+        let (client, timestamp) = (request.client(), request.timestamp());
+        let found = tallies.result(client, timestamp);
+        print_result(alloc, client, timestamp, found, writer)?;
     }
     Ok(())
+}
+
+/// Writes a line for each request that has a result.
+pub(crate) fn print_answered<W: Write>(
+    alloc: Global,
+    waiting: &WaitingRequests,
+    writer: &mut W,
+) -> Result<(), ReplayError>
+    ensures { OnOk result (Appends (W.contents writer.old) (W.contents writer.new) (answered_lines waiting.now)) }
+{
+    for index in 0..waiting.len() {
+        if let Some(tally) = waiting.get(index) {
+            print_if_answered(alloc, tally, writer)?;
+        }
+    }
+    Ok(())
+}
+
+fn print_if_answered<W: Write>(
+    alloc: Global,
+    tally: &Tally,
+    writer: &mut W,
+) -> Result<(), ReplayError>
+    ensures { OnOk result (Appends (W.contents writer.old) (W.contents writer.new) (answered_line tally.now)) }
+{
+    match tally.result() {
+        Some(bytes) => print_result(
+            alloc,
+            tally.client(),
+            tally.timestamp(),
+            Some(bytes),
+            writer,
+        ),
+        None => Ok(()),
+    }
 }
 
 #[tactic(auto, unfolding(crate::specs::Output::result_line))]
 fn print_result<W: Write>(
     alloc: Global,
-    request: &Request,
+    client: u32,
+    timestamp: u64,
     found: Option<&[u8]>,
     writer: &mut W,
 ) -> Result<(), ReplayError>
-    ensures { OnOk result (Appends (W.contents writer.old) (W.contents writer.new) (result_line request.now (option_map (λ bytes. bytes.now) found.entry))) }
+    ensures { OnOk result (Appends (W.contents writer.old) (W.contents writer.new) (result_line client timestamp (option_map (λ bytes. bytes.now) found.entry))) }
 {
-    let client = request.client();
-    let timestamp = request.timestamp();
     let written = match found {
         None => writeln!(writer, "c{client} t{timestamp} none"),
         Some([]) => writeln!(writer, "c{client} t{timestamp} -"),

@@ -1,19 +1,20 @@
-ghost use Rattle.std.specs.Prelude.{◌≡◌, ◌≢◌, List, ℕ, IfOk, IfErr, OnOk};
+ghost use Rattle.std.specs.Prelude.{◌≡◌, List, ℕ, IfOk, OnOk};
 ghost use Rattle.std.specs.Io.KnownBytes.{Appends};
 ghost use Rattle.bfs_replay.specs.Errors.{replay_error_code};
-ghost use Rattle.bfs_replay.specs.Runs.{BlockRuns, EventRuns, EventsRun, TraceRuns, sent_requests};
+ghost use Rattle.bfs_replay.specs.Runs.{EventRuns, EventsRun, TraceRuns, new_run};
 
+use crate::blocks::run_block;
 use crate::outcome::{Outcome, compare};
-use crate::results::{print_results, tallies_of};
 use crate::standings::{digests_in, print_standings};
-use bfs_clients::Clients;
+use crate::timeouts::run_timeout;
+use bfs_clients::{Clients, WaitingRequests};
 use bfs_cluster::{Cluster, Executor};
-use bfs_messages::{Message, Request, Signed};
 use bfs_settings::Settings;
-use bfs_trace::{Block, Trace, TraceEvent};
-use bfs_types::Memory;
+use bfs_trace::{Trace, TraceEvent};
+use bfs_types::{Memory, Time};
 use std::alloc::Global;
 use std::io::Write;
+use std::marker::Model;
 use std::sync::Wait;
 use std::thread::Threads;
 use thiserror::Error;
@@ -47,11 +48,35 @@ impl From<Memory> for ReplayError {
     }
 }
 
+/// The replicas of a run, and what is kept from one event to the next.
+#[derive(Drop)]
+pub(crate) struct Run {
+    pub cluster: Cluster,
+    pub waiting: WaitingRequests,
+    // the last block's
+    pub time: Time,
+    // the one that was printed last
+    pub view: u64,
+}
+
+impl Model for Run {
+    ghost use Rattle.bfs_replay.specs.Runs as model;
+    ghost use Rattle.std.specs.Coded.{codes};
+    ghost use Rattle.bfs_serial.specs.Codes.{inodes_code};
+
+    ghost Value = { model.Run };
+
+    ghost coded = { Prim.hlevel (codes, inodes_code) };
+
+    ghost view = { λ run. record { world = run.cluster; waiting = run.waiting; time = run.time; view = run.view } };
+}
+
 /// Lets the events of a trace happen one after another to new replicas, as many as the settings ask for, in this process. The requests
 /// of a block are signed by their clients and come to each replica that is heard; the primary proposes them as one batch, and the replicas
 /// order and execute it, each by the executor: replica i with i workers more than the first. Then a line is written for each request:
 /// `c<client> t<timestamp> <result>`, the result in lower-case hexadecimal digits, `-` where it has no bytes, and `none` where no `f + 1`
-/// replicas sent one. At the end each replica that is heard and has executed the most has a line `digest <replica> <digest>`, and each
+/// replicas sent one. At a timeout the replicas ask for the next view: `view <view>` is written once 2f + 1 replicas are in it, its primary
+/// proposes the requests that wait, and those whose line told no result have a line as soon as there is one. At the end each replica that is heard and has executed the most has a line `digest <replica> <digest>`, and each
 /// other one that is heard a line `behind <replica> <number last executed>`. What is written depends on the settings and the trace alone.
 pub fn run_trace<R: AllocGlobal + Threads + Wait + Sync, W: Write>(
     rt: &R,
@@ -64,11 +89,22 @@ pub fn run_trace<R: AllocGlobal + Threads + Wait + Sync, W: Write>(
 {
     let alloc = rt.alloc();
     let clients = Clients::new(alloc, settings)?;
-    let mut cluster = Cluster::new(alloc, settings, executor)?;
-    run_events(rt, alloc, &clients, &mut cluster, trace.events(), writer)?;
-    let standings = cluster.standings(rt)?;
+    let mut run = new_run(alloc, settings, executor)?;
+    run_events(rt, alloc, &clients, &mut run, trace.events(), writer)?;
+    let standings = run.cluster.standings(rt)?;
     print_standings(alloc, &standings, writer)?;
     Ok(compare(&digests_in(alloc, &standings)?))
+}
+
+fn new_run(alloc: Global, settings: &Settings, executor: Executor) -> Result<Run, Memory>
+    ensures { IfOk result (λ run. run ≡ new_run settings.now) }
+{
+    Ok(Run {
+        cluster: Cluster::new(alloc, settings, executor)?,
+        waiting: WaitingRequests::new(alloc),
+        time: Time::epoch(),
+        view: 0,
+    })
 }
 
 // one after another
@@ -76,14 +112,14 @@ fn run_events<R: Threads + Wait + Sync, W: Write>(
     rt: &R,
     alloc: Global,
     clients: &Clients,
-    cluster: &mut Cluster,
+    run: &mut Run,
     events: &[TraceEvent],
     writer: &mut W,
 ) -> Result<(), ReplayError>
-    ensures { OnOk result ((output : List ℕ) × EventsRun clients.now events.now cluster.old cluster.new output × Appends (W.contents writer.old) (W.contents writer.new) output) }
+    ensures { OnOk result ((output : List ℕ) × EventsRun clients.now events.now run.old run.new output × Appends (W.contents writer.old) (W.contents writer.new) output) }
 {
     for event in events {
-        run_event(rt, alloc, clients, cluster, event, writer)?;
+        run_event(rt, alloc, clients, run, event, writer)?;
     }
     Ok(())
 }
@@ -92,58 +128,22 @@ fn run_event<R: Threads + Wait + Sync, W: Write>(
     rt: &R,
     alloc: Global,
     clients: &Clients,
-    cluster: &mut Cluster,
+    run: &mut Run,
     event: &TraceEvent,
     writer: &mut W,
 ) -> Result<(), ReplayError>
-    ensures { OnOk result ((output : List ℕ) × EventRuns clients.now event.now cluster.old cluster.new output × Appends (W.contents writer.old) (W.contents writer.new) output) }
+    ensures { OnOk result ((output : List ℕ) × EventRuns clients.now event.now run.old run.new output × Appends (W.contents writer.old) (W.contents writer.new) output) }
 {
     match event {
-        TraceEvent::Block(block) => run_block(rt, alloc, clients, cluster, block, writer),
+        TraceEvent::Block(block) => run_block(rt, alloc, clients, run, block, writer),
         TraceEvent::Silent(replica) => {
-            cluster.silence(*replica);
+            run.cluster.silence(*replica);
             Ok(())
         }
         TraceEvent::Heard(replica) => {
-            cluster.hear(*replica);
+            run.cluster.hear(*replica);
             Ok(())
         }
+        TraceEvent::Timeout => run_timeout(rt, alloc, clients, run, writer),
     }
-}
-
-fn run_block<R: Threads + Wait + Sync, W: Write>(
-    rt: &R,
-    alloc: Global,
-    clients: &Clients,
-    cluster: &mut Cluster,
-    block: &Block,
-    writer: &mut W,
-) -> Result<(), ReplayError>
-    ensures { OnOk result ((output : List ℕ) × BlockRuns clients.now block.now cluster.old cluster.new output × Appends (W.contents writer.old) (W.contents writer.new) output) }
-{
-    let requests = sent_requests(alloc, clients, block)?;
-    cluster.send_block(rt, block.time(), &requests)?;
-    cluster.settle(rt)?;
-    let replies = cluster.take_replies();
-    let tallies = tallies_of(alloc, clients, block.requests(), &replies)?;
-    print_results(alloc, block.requests(), &tallies, writer)
-}
-
-// as their clients send them
-fn sent_requests(
-    alloc: Global,
-    clients: &Clients,
-    block: &Block,
-) -> Result<Vec<Signed<Message>>, Memory>
-    ensures { IfOk result (λ sent. sent.items ≡ sent_requests clients.now block.now.requests) }
-{
-    let requests = block.requests();
-    let mut sent = Vec::with_capacity(alloc, requests.len())?;
-    for request in requests {
-        let message = Request::new(alloc, request.client(), request.timestamp(), request.call())?;
-        if let Some(signed) = clients.sign(message)? {
-            sent.push(signed)?;
-        }
-    }
-    Ok(sent)
 }

@@ -6,19 +6,20 @@ use bfs_cluster::{Cluster, Executor, Workers};
 use bfs_messages::{Message, Request, Signed};
 use bfs_settings::Settings;
 use bfs_trace::{Block, TraceEvent};
-use bfs_types::Memory;
+use bfs_types::{Memory, Time};
 use std::alloc::Global;
 use std::rt::Runtime;
 use std::sync::Wait;
 use std::thread::Threads;
 
-/// The replicas and the clients, and which replicas are heard.
+/// The replicas and the clients, which replicas are heard, and the last block's time.
 #[derive(Drop)]
 struct Watched {
     alloc: Global,
     clients: Clients,
     cluster: Cluster,
     heard: Vec<bool>,
+    time: Time,
 }
 
 /// Lets the events of a trace happen to new replicas, and prints a line for each event and for each message.
@@ -41,6 +42,7 @@ pub fn watch_trace<R: Runtime + AllocGlobal + Threads + Wait + Sync>(
                 watched.cluster.hear(*replica);
                 watched.set_heard(*replica, true);
             }
+            TraceEvent::Timeout => watch_timeout(rt, &mut watched)?,
         }
     }
     Ok(())
@@ -63,6 +65,7 @@ fn begin(alloc: Global, settings: &Settings) -> Result<Watched, Memory> {
         clients: Clients::new(alloc, settings)?,
         cluster,
         heard,
+        time: Time::epoch(),
     })
 }
 
@@ -80,6 +83,7 @@ fn watch_block<R: Runtime + AllocGlobal + Threads + Wait + Sync>(
     block: &Block,
 ) -> Result<(), Error> {
     let alloc = watched.alloc;
+    watched.time = block.time();
     println!(rt;
         "batch {}.{:06}",
         block.time().seconds(),
@@ -94,10 +98,34 @@ fn watch_block<R: Runtime + AllocGlobal + Threads + Wait + Sync>(
     watched
         .cluster
         .send_block(rt, block.time(), signed.as_slice())?;
+    watch_settling(rt, watched)
+}
+
+// primaries propose what waits once all has settled
+fn watch_timeout<R: Runtime + AllocGlobal + Threads + Wait + Sync>(
+    rt: &R,
+    watched: &mut Watched,
+) -> Result<(), Error> {
+    println!(rt; "timeout")?;
+    watched.cluster.timeout()?;
+    watch_settling(rt, watched)?;
+    watched.cluster.propose_waiting(watched.time)?;
+    watch_settling(rt, watched)
+}
+
+fn watch_settling<R: Runtime + AllocGlobal + Threads + Wait + Sync>(
+    rt: &R,
+    watched: &mut Watched,
+) -> Result<(), Error> {
     watched.cluster.settle(rt)?;
     for sent in watched.cluster.take_sent() {
         let sender = Sender::Replica(sent.sender);
-        let line = line_of(alloc, sender, &sent.signed, watched.heard.as_slice())?;
+        let line = line_of(
+            watched.alloc,
+            sender,
+            &sent.signed,
+            watched.heard.as_slice(),
+        )?;
         println!(rt; "{line}")?;
     }
     let _ = watched.cluster.take_replies();

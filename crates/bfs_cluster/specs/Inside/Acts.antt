@@ -5,8 +5,21 @@ use Rattle.bfs_log.specs.Logs.{Log}
 use Rattle.bfs_model.specs.Bytes.Call.{◌>>=◌}
 use Rattle.bfs_node.specs.Checkpoints.{checkpoint, checkpoint_refusal}
 use Rattle.bfs_node.specs.Nodes.{Node, Outcome}
+use Rattle.bfs_cluster.specs.Blocks.{proposal}
 use Rattle.bfs_cluster.specs.Steps.{followed_by, step, unless_refused}
-use Rattle.bfs_cluster.specs.World.{Replica, World, node_if_heard, posted}
+use Rattle.bfs_cluster.specs.Timeouts.{timing_out, waiting_proposal}
+use Rattle.bfs_cluster.specs.World.{Replica, World, done_if, node_at, node_if_heard, posted}
+use Rattle.bfs_cluster.specs.declared.acts.Act.{Act}
+use Rattle.bfs_cluster.specs.declared.acts.Act.TheVariants as act
+
+-- what a replica does that is told to
+abbrev pub deed : Act → Node → Option Outcome
+deed (act.Propose time) = proposal time
+deed (act.ProposeWaiting time) = waiting_proposal time
+deed act.TimeOut = timing_out
+
+abbrev pub acting : Act → World → (number : ℕ) → World
+acting act world number = done_if number world (node_at world number >>= deed act)
 
 -- what a replica that is heard does
 abbrev pub doing : (act : Node → Option Outcome) → Replica → Option Outcome

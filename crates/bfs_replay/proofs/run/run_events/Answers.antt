@@ -9,7 +9,7 @@ loop-event-preserved g c =
     let before = c.loop-event.invariant in
     let one = c.in_ok-run_event.ensures in (
       before.0 ++ one.0,
-      one_more c.args.clients.now c.args.events.now c.loop-event.event-index c.event-item.result c.args.cluster.now c.loop-event.cluster c.run_event.new.cluster before.0 one.0 within c.event-item.is
+      one_more c.args.clients.now c.args.events.now c.loop-event.event-index c.event-item.result c.args.run.now c.loop-event.run c.run_event.new.run before.0 one.0 within c.event-item.is
           before.1 one.1,
       Appends-trans _ _ _ _ _ before.2 one.2,
     )

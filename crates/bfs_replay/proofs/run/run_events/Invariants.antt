@@ -6,5 +6,5 @@ use Rattle.bfs_replay.proofs.run.run_events.Given as goal
 
 abbrev pub invariant-loop-event : goal.invariant-loop-event
 invariant-loop-event g l =
-    (output : List ℕ) × EventsRun l.clients (take l.event-index l.events) l.fn.cluster l.cluster output
+    (output : List ℕ) × EventsRun l.clients (take l.event-index l.events) l.fn.run l.run output
     × Appends (g.W.Write.contents l.fn.writer) (g.W.Write.contents l.writer) output

@@ -14,9 +14,9 @@ returns g c =
     let ran = c.in_ok-run_events.ensures in
     let stands = c.in_ok-standings.standings.items in (
       ran.0 ++ standing_lines stands,
-      trace_run c.args.settings.now c.args.trace.now c.in_ok-clients.clients c.in_ok-cluster.cluster c.run_events.new.cluster ran.0 stands c.deref-3.result.now c.compare.result
-          c.in_ok-clients.ensures c.in_ok-cluster.ensures
-          (subst (λ (events : List TraceEvent). EventsRun c.in_ok-clients.clients events c.in_ok-cluster.cluster c.run_events.new.cluster ran.0) c.events.ensures ran.1)
+      trace_run c.args.settings.now c.args.trace.now c.in_ok-clients.clients c.in_ok-run.run c.run_events.new.run ran.0 stands c.deref-3.result.now c.compare.result
+          c.in_ok-clients.ensures c.in_ok-run.ensures
+          (subst (λ (events : List TraceEvent). EventsRun c.in_ok-clients.clients events c.in_ok-run.run c.run_events.new.run ran.0) c.events.ensures ran.1)
           c.in_ok-standings.ensures (c.deref-3.ensures.value ∙ c.in_ok-digests_in.ensures ∙ ap (filter_map digest_in) c.deref-2.ensures.value) c.compare.ensures,
       Appends-trans _ _ _ _ _ ran.2
           (subst (λ (those : List Standing). Appends (g.W.Write.contents c.run_events.new.writer) (g.W.Write.contents c.print_standings.new.writer) (standing_lines those))

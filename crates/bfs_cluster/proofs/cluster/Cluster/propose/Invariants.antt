@@ -1,8 +1,0 @@
-use Rattle.std.proofs.Common.{◌≡◌, length}
-use Rattle.std.specs.List.{fold, range_with_len}
-use Rattle.bfs_cluster.specs.Blocks.{proposing}
-use Rattle.bfs_cluster.proofs.cluster.Cluster.propose.Given as goal
-
-abbrev pub invariant-loop-number : goal.invariant-loop-number
-invariant-loop-number l =
-    (l.self ≡ fold (proposing l.time) l.fn.self (range_with_len 0 l.number)) × (length l.self.replicas ≡ length l.fn.self.replicas)
