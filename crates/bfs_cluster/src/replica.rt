@@ -59,11 +59,7 @@ impl Replica {
     }
 
     /// What it sends to do that; `None` where it refuses to.
-    pub fn act(
-        &mut self,
-        alloc: Global,
-        act: &Act,
-    ) -> Result<Option<Vec<Signed<Message>>>, Memory>
+    pub fn act(&mut self, alloc: Global, act: &Act) -> Result<Option<Vec<Signed<Message>>>, Memory>
         ensures { IfOk result (λ sent. Acts (doing (deed act.now) self.old) self.old self.new (option_map (λ all. all.items) sent)) }
     {
         match act {
@@ -74,11 +70,7 @@ impl Replica {
     }
 
     // the requests that wait; `None` where it is no primary, or can't propose now
-    fn propose(
-        &mut self,
-        alloc: Global,
-        time: Time,
-    ) -> Result<Option<Vec<Signed<Message>>>, Memory>
+    fn propose(&mut self, alloc: Global, time: Time) -> Result<Option<Vec<Signed<Message>>>, Memory>
         ensures { IfOk result (λ sent. Acts (doing (proposal time) self.old) self.old self.new (option_map (λ all. all.items) sent)) }
     {
         if !self.heard {
