@@ -34,13 +34,17 @@ impl Cluster {
     pub fn common_view(&self) -> Option<u64>
         ensures { result ≡ common_view self.now }
     {
-        for replica in &self.replicas {
-            let view = replica.node.view();
-            if self.are_in(view) {
-                return Some(view);
-            }
-        }
-        None
+        let found = self
+            .replicas
+            .iter()
+            .find(|replica| self.is_common(replica))?;
+        Some(found.node.view())
+    }
+
+    fn is_common(&self, replica: &Replica) -> bool
+        ensures { result ≡ are_in self.now replica.now.node.order.view }
+    {
+        self.are_in(replica.node.view())
     }
 
     fn are_in(&self, view: u64) -> bool
