@@ -1,0 +1,5 @@
+-- What proofs share.
+mod Bounds
+mod Executing
+mod Steps
+mod Turns

@@ -1,0 +1,28 @@
+-- The statements that are proved of the definitions: contracts of functions of src/laws.rt, which do nothing.
+use Rattle.std.specs.Prelude.{◌≡◌, ℕ, Bool, List}
+use Rattle.bfs_log.specs.Headers.{header}
+use Rattle.bfs_messages.specs.declared.signed.Signed.{Signed}
+use Rattle.bfs_messages.specs.declared.message.Message.{Message}
+use Rattle.bfs_consensus.specs.Histories.{IsIn, FewAreFaulty}
+use Rattle.bfs_order_agreement.specs.Replicas as ordered
+use Rattle.bfs_view_agreement.specs.Replicas as turns
+use Rattle.bfs_node_agreement.specs.Replicas.{Replica, NodeTurn, new_replicas, after_turns, ordered_turns}
+
+-- the order knows what the node's order knows, and has executed what the node has
+pub record Tracks (r : Replica) (o : ordered.Replica) : Type 0 where
+  pub state : o.state ≡ r.node.order
+  pub executed : o.executed ≡ r.executed
+
+-- whatever nodes do is what turns of their orders do
+abbrev pub StepsAreTurns : Type 0
+StepsAreTurns = (f clients : ℕ) (secret : List ℕ) (steps : List NodeTurn) (i : ℕ)
+    → Tracks (after_turns (new_replicas f clients secret) steps i) (turns.after_turns (ordered.new_replicas f) (ordered_turns (new_replicas f clients secret) steps) i)
+
+-- over every list of calls of nodes and deliveries of bytes, any two that execute a batch for a number, in whatever views, execute one digest,
+-- where what passes is genuine and each view is entered by a NEW-VIEW that is right
+abbrev pub NodesAgree : Type 0
+NodesAgree = (f clients : ℕ) (secret : List ℕ) (faulty : ℕ → Bool) (steps : List NodeTurn) → FewAreFaulty f faulty
+    → turns.MayTakeTurns faulty (ordered.new_replicas f) (ordered_turns (new_replicas f clients secret) steps)
+    → (i j : ℕ) (one other : Signed Message)
+    → IsIn one (after_turns (new_replicas f clients secret) steps i).executed → IsIn other (after_turns (new_replicas f clients secret) steps j).executed
+    → (header one).number ≡ (header other).number → (header one).digest ≡ (header other).digest
