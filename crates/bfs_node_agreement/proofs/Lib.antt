@@ -2,4 +2,5 @@
 mod Bounds
 mod Executing
 mod Steps
+mod Taken
 mod Turns

@@ -1,11 +1,21 @@
 -- The statements that are proved of the definitions: contracts of functions of src/laws.rt, which do nothing.
-use Rattle.std.specs.Prelude.{◌≡◌, ℕ, Bool, List}
+use Rattle.std.specs.Prelude.{◌≡◌, ℕ, Bool, List, None}
 use Rattle.bfs_log.specs.Headers.{header}
+use Rattle.bfs_messages.specs.Fits.{FitsMessage}
+use Rattle.bfs_messages.specs.Messages as model
 use Rattle.bfs_messages.specs.declared.signed.Signed.{Signed}
 use Rattle.bfs_messages.specs.declared.message.Message.{Message}
-use Rattle.bfs_consensus.specs.Histories.{IsIn, FewAreFaulty}
+use Rattle.bfs_messages.specs.declared.message.Message.TheVariants.{NewView}
+use Rattle.bfs_consensus.specs.Histories.{IsIn, World, FewAreFaulty}
 use Rattle.bfs_order_agreement.specs.Replicas as ordered
+use Rattle.bfs_view.specs.Changes.Certificates.{faults}
+use Rattle.bfs_view.specs.Changes.Making.{handed_in}
+use Rattle.bfs_view.specs.Changes.Parts.{messages_of}
+use Rattle.bfs_view_agreement.specs.Changes.{IsGenuine}
 use Rattle.bfs_view_agreement.specs.Replicas as turns
+use Rattle.bfs_view_agreement.specs.Replicas.{IsRightNewView}
+use Rattle.bfs_node.specs.Changing.{view_refusal}
+use Rattle.bfs_node.specs.Nodes.{Node}
 use Rattle.bfs_node_agreement.specs.Replicas.{Replica, NodeTurn, new_replicas, after_turns, ordered_turns}
 
 -- the order knows what the node's order knows, and has executed what the node has
@@ -26,3 +36,10 @@ NodesAgree = (f clients : ℕ) (secret : List ℕ) (faulty : ℕ → Bool) (step
     → (i j : ℕ) (one other : Signed Message)
     → IsIn one (after_turns (new_replicas f clients secret) steps i).executed → IsIn other (after_turns (new_replicas f clients secret) steps j).executed
     → (header one).number ≡ (header other).number → (header one).digest ≡ (header other).digest
+
+-- a NEW-VIEW that a node takes is right by its keys, where its VIEW-CHANGEs are genuine: it keeps the limits, as each that is read does
+abbrev pub TakenNewViewsAreRight : Type 0
+TakenNewViewsAreRight = (faulty : ℕ → Bool) (w : World) (node : Node) (new : model.NewView) (auth : List (List ℕ)) → faults node.keys ≡ node.order.f
+    → FitsMessage (NewView new) → view_refusal node (record { message = NewView new; auth = auth }) new ≡ None
+    → ((change : model.ViewChange) → IsIn change (messages_of new.changes) → IsGenuine faulty w change)
+    → IsRightNewView faulty w node.order node.keys new.view new.changes (handed_in new)

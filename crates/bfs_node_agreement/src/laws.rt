@@ -1,5 +1,5 @@
 // Agreement of nodes. The bodies do nothing: what is said is the contracts.
-ghost use Rattle.bfs_node_agreement.specs.Laws.{NodesAgree, StepsAreTurns};
+ghost use Rattle.bfs_node_agreement.specs.Laws.{NodesAgree, StepsAreTurns, TakenNewViewsAreRight};
 
 use bfs_view_agreement::laws::replicas_agree;
 
@@ -16,3 +16,8 @@ pub fn nodes_agree()
     steps_are_turns();
     replicas_agree();
 }
+
+/// A NEW-VIEW that a node takes is one of which agreement is proved.
+pub fn taken_new_views_are_right()
+    ensures { TakenNewViewsAreRight }
+{}
