@@ -1,4 +1,5 @@
 -- What proofs share.
+mod Begun
 mod Bounds
 mod Executing
 mod Steps

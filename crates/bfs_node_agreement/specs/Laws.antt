@@ -1,5 +1,5 @@
 -- The statements that are proved of the definitions: contracts of functions of src/laws.rt, which do nothing.
-use Rattle.std.specs.Prelude.{◌≡◌, ℕ, Bool, List, None}
+use Rattle.std.specs.Prelude.{◌≡◌, ℕ, Bool, true, List, None}
 use Rattle.bfs_log.specs.Headers.{header}
 use Rattle.bfs_messages.specs.Fits.{FitsMessage}
 use Rattle.bfs_messages.specs.Messages as model
@@ -9,12 +9,14 @@ use Rattle.bfs_messages.specs.declared.message.Message.TheVariants.{NewView}
 use Rattle.bfs_consensus.specs.Histories.{IsIn, World, FewAreFaulty}
 use Rattle.bfs_order_agreement.specs.Replicas as ordered
 use Rattle.bfs_view.specs.Changes.Certificates.{faults}
+use Rattle.bfs_view.specs.Changes.Keeping.{changes_for}
 use Rattle.bfs_view.specs.Changes.Making.{handed_in}
+use Rattle.bfs_view.specs.Changes.NewViews.{choice_refusal}
 use Rattle.bfs_view.specs.Changes.Parts.{messages_of}
 use Rattle.bfs_view_agreement.specs.Changes.{IsGenuine}
 use Rattle.bfs_view_agreement.specs.Replicas as turns
 use Rattle.bfs_view_agreement.specs.Replicas.{IsRightNewView}
-use Rattle.bfs_node.specs.Changing.{view_refusal}
+use Rattle.bfs_node.specs.Changing.{may_begin, own_new_view, view_refusal}
 use Rattle.bfs_node.specs.Nodes.{Node}
 use Rattle.bfs_node_agreement.specs.Replicas.{Replica, NodeTurn, new_replicas, after_turns, ordered_turns}
 
@@ -43,3 +45,10 @@ TakenNewViewsAreRight = (faulty : ℕ → Bool) (w : World) (node : Node) (new :
     → FitsMessage (NewView new) → view_refusal node (record { message = NewView new; auth = auth }) new ≡ None
     → ((change : model.ViewChange) → IsIn change (messages_of new.changes) → IsGenuine faulty w change)
     → IsRightNewView faulty w node.order node.keys new.view new.changes (handed_in new)
+
+-- one that it begins is right, where its VIEW-CHANGEs can be chosen from and are genuine
+abbrev pub BegunNewViewsAreRight : Type 0
+BegunNewViewsAreRight = (faulty : ℕ → Bool) (w : World) (node : Node) → faults node.keys ≡ node.order.f → may_begin node ≡ true
+    → choice_refusal node.keys (changes_for node.order.asked node.changes) ≡ None
+    → ((change : model.ViewChange) → IsIn change (messages_of (changes_for node.order.asked node.changes)) → IsGenuine faulty w change)
+    → IsRightNewView faulty w node.order node.keys node.order.asked (changes_for node.order.asked node.changes) (handed_in (own_new_view node))

@@ -1,5 +1,5 @@
 // Agreement of nodes. The bodies do nothing: what is said is the contracts.
-ghost use Rattle.bfs_node_agreement.specs.Laws.{NodesAgree, StepsAreTurns, TakenNewViewsAreRight};
+ghost use Rattle.bfs_node_agreement.specs.Laws.{BegunNewViewsAreRight, NodesAgree, StepsAreTurns, TakenNewViewsAreRight};
 
 use bfs_view_agreement::laws::replicas_agree;
 
@@ -20,4 +20,9 @@ pub fn nodes_agree()
 /// A NEW-VIEW that a node takes is one of which agreement is proved.
 pub fn taken_new_views_are_right()
     ensures { TakenNewViewsAreRight }
+{}
+
+/// So is one that a node begins, where its VIEW-CHANGEs can be chosen from.
+pub fn begun_new_views_are_right()
+    ensures { BegunNewViewsAreRight }
 {}
