@@ -82,7 +82,8 @@ impl Order {
 
     /// The view last asked for: above the one entered while a view change is under way.
     pub fn asked(&self) -> u64
-        ensures { result ≡ self.now.asked }
+        ensures value { result ≡ self.now.asked }
+        ensures within { result < 2 ^ 63 }
     {
         self.asked
     }

@@ -137,7 +137,8 @@ impl Order {
     }
 
     fn put_back(&mut self, saved: &Saved)
-        requires { saved.now.view < 2 ^ 63 }
+        requires view { saved.now.view < 2 ^ 63 }
+        requires asked { saved.now.asked < 2 ^ 63 }
         ensures { self.new ≡ record self.old { view = saved.now.view; asked = saved.now.asked; min_s = saved.now.min_s; handed = saved.now.handed; log = take saved.now.messages self.old.log } }
     {
         self.view = saved.view;
