@@ -13,6 +13,7 @@ use crate::node::Node;
 use bfs_auth::Authenticator;
 use bfs_log::primary_of;
 use bfs_messages::{Message, NewView, Signed, ViewChange, is_view_change_signed};
+use bfs_order::a_replica_stays_itself;
 use bfs_types::Memory;
 use bfs_view::{
     Begun, begin_view, check_new_view, handed_in, make_view_change, valid_view_change,
@@ -61,16 +62,18 @@ impl Node {
         if !is_view_change_signed(&self.keys, &signed) {
             return Err(NodeError::BadAuthenticator);
         }
-        if self.order.view() >= signed.message.view() {
+        let change = &signed.message;
+        if self.order.view() >= change.view() {
             return Err(NodeError::WrongView);
         }
-        if self.changes.was_asked(&signed.message) {
+        if self.changes.was_asked(change) {
             return Err(NodeError::AlreadyHave);
         }
         if !valid_view_change(&self.keys, &signed) {
             return Err(NodeError::BadCertificate);
         }
-        Ok(self.keep(signed, self.order.asked(), Vec::new(self.alloc))?)
+        let (asked, first) = (self.order.asked(), Vec::new(self.alloc));
+        Ok(self.keep(signed, asked, first)?)
     }
 
     // It asks for the view, and has one more VIEW-CHANGE. What it sends stands behind what is to be sent before.
@@ -82,15 +85,34 @@ impl Node {
     ) -> Result<Vec<Signed<Message>>, Memory>
         requires near { IsNear change.message }
         requires asked { MayAsk self.old asked }
+        requires within { asked < 2 ^ 63 }
         ensures now { OnOk result (self.new ≡ (with_view_change (asking self.old asked) change).now) }
         ensures sent { IfOk result (λ sent. sent.items ≡ first.items ++ (with_view_change (asking self.old asked) change).sent) }
         ensures err { OnErr result (self.new ≡ self.old) }
     {
-        if !self.leads(change.message.view()) {
-            self.changes.note(&change.message);
-            self.ask(asked);
-            return Ok(first);
+        if self.leads(change.message.view()) {
+            return self.count(change, asked, first);
         }
+        self.changes.note(&change.message);
+        self.ask(asked);
+        Ok(first)
+    }
+
+    // one for a view that it leads
+    fn count(
+        &mut self,
+        change: Signed<ViewChange>,
+        asked: u64,
+        first: Vec<Signed<Message>>,
+    ) -> Result<Vec<Signed<Message>>, Memory>
+        requires led { leads self.old change.message.view ≡ true }
+        requires near { IsNear change.message }
+        requires asked { MayAsk self.old asked }
+        requires within { asked < 2 ^ 63 }
+        ensures now { OnOk result (self.new ≡ (with_view_change (asking self.old asked) change).now) }
+        ensures sent { IfOk result (λ sent. sent.items ≡ first.items ++ (with_view_change (asking self.old asked) change).sent) }
+        ensures err { OnErr result (self.new ≡ self.old) }
+    {
         let replaced = self.changes.keep(change);
         match self.begin_if_due(asked, first) {
             Ok(sent) => Ok(sent),
@@ -122,8 +144,7 @@ impl Node {
         ensures { result ≡ may_begin (asking self.now asked) }
     {
         let quorum = 2 * self.order.f() as usize + 1;
-        self.order.view() < asked
-            && (self.leads(asked) && quorum <= self.changes.count_for(asked))
+        self.order.view() < asked && (self.leads(asked) && quorum <= self.changes.count_for(asked))
     }
 
     // It asks for the view, and begins it if that is due.
@@ -133,6 +154,7 @@ impl Node {
         first: Vec<Signed<Message>>,
     ) -> Result<Vec<Signed<Message>>, Memory>
         requires asked { MayAsk self.old asked }
+        requires within { asked < 2 ^ 63 }
         ensures now { OnOk result (self.new ≡ (begun_if_due (asking self.old asked)).now) }
         ensures sent { IfOk result (λ sent. sent.items ≡ first.items ++ (begun_if_due (asking self.old asked)).sent) }
         ensures err { OnErr result (self.new ≡ self.old) }
@@ -153,16 +175,19 @@ impl Node {
     ) -> Result<Vec<Signed<Message>>, Memory>
         requires above { self.old.order.view < view }
         requires asked { MayAsk self.old view }
+        requires within { view < 2 ^ 63 }
         ensures now { OnOk result (self.new ≡ (begun (asking self.old view)).now) }
         ensures sent { IfOk result (λ sent. sent.items ≡ first.items ++ (begun (asking self.old view)).sent) }
         ensures err { OnErr result (self.new ≡ self.old) }
     {
+        a_replica_stays_itself();
         let changes = self.changes.changes_for(self.alloc, view)?;
+        let begun = begin_view(self.alloc, &self.keys, self.order.me(), view, changes)?;
         let Begun {
             new_view,
             min_s,
             handed,
-        } = begin_view(self.alloc, &self.keys, self.order.me(), view, changes)?;
+        } = begun;
         first.push(new_view)?;
         let sent = self
             .order
@@ -188,6 +213,7 @@ impl Node {
         ensures refused { IfErr result (λ e. e ≢ error.Memory → view_refusal self.old (record { message = kind.NewView new; auth = auth }) new ≡ Some e) }
         ensures err { OnErr result (self.new ≡ self.old) }
     {
+        a_replica_stays_itself();
         let signed = Signed {
             message: Message::NewView(new),
             auth,
