@@ -1,7 +1,7 @@
 //! What a replica refuses.
 use crate::replica::{Said, deliver, propose, replica, request_signed_by, standing, take};
 use bfs_auth::Authenticator;
-use bfs_messages::{Message, Reply, Signed, ViewChange};
+use bfs_messages::{Message, Reply, Signed};
 use bfs_testing::same;
 use std::test::Fail;
 
@@ -16,12 +16,6 @@ fn what_is_no_message_is_refused(rt: HostRuntime) -> Result<(), Fail> {
         auth: Authenticator::new(alloc),
     };
     same!(rt; take(&rt, &mut node, signed), Said::Refused(36));
-    let change = ViewChange::new(0, 1, 0, Vec::new(alloc), Vec::new(alloc));
-    let signed = Signed {
-        message: Message::ViewChange(change),
-        auth: Authenticator::new(alloc),
-    };
-    same!(rt; take(&rt, &mut node, signed), Said::Refused(23));
     Ok(())
 }
 

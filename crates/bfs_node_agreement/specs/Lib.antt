@@ -1,0 +1,4 @@
+-- What the contracts of bfs_node_agreement cite.
+pub mod Steps
+pub mod Replicas
+pub mod Laws

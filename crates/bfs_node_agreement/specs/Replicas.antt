@@ -1,0 +1,47 @@
+-- Nodes by what they do, and what of it has been sent and executed (OSDI 1999 sections 4.2 to 4.4).
+use Rattle.std.specs.Prelude.{ℕ, ◌==◌, List, [], ◌∷◌, ◌++◌, map, if◌then◌else◌}
+use Rattle.bfs_log.specs.Logs.{Log}
+use Rattle.bfs_view_agreement.specs.Replicas.{Deed, Turn}
+use Rattle.bfs_node.specs.Nodes.{Node, new_node}
+use Rattle.bfs_node_agreement.specs.Steps.{NodeStep, outcome, executed_by, deeds_of}
+
+pub record Replica : Type 0 where
+  pub node : Node
+  -- all that its calls gave to be sent
+  pub sent : Log
+  -- PRE-PREPAREs of the batches that it has executed
+  pub executed : Log
+
+abbrev pub after_step : Replica → NodeStep → Replica
+after_step r step = record {
+  node = (outcome r.node step).now;
+  sent = (outcome r.node step).sent ++ r.sent;
+  executed = executed_by r.node step ++ r.executed;
+}
+
+-- each by its number
+abbrev pub Replicas : Type 0
+Replicas = ℕ → Replica
+
+abbrev pub new_replicas : (f clients : ℕ) → (secret : List ℕ) → Replicas
+new_replicas f clients secret = λ k. record { node = new_node f clients secret k; sent = []; executed = [] }
+
+-- a step of one replica
+pub record NodeTurn : Type 0 where
+  pub who : ℕ
+  pub step : NodeStep
+
+abbrev pub after_turn : Replicas → NodeTurn → Replicas
+after_turn w turn = λ j. if j == turn.who then after_step (w turn.who) turn.step else w j
+
+abbrev pub after_turns : Replicas → List NodeTurn → Replicas
+after_turns w [] = w
+after_turns w (turn ∷ turns) = after_turns (after_turn w turn) turns
+
+abbrev pub turn_of : (who : ℕ) → Deed → Turn
+turn_of who deed = record { who = who; deed = deed }
+
+-- what they are to the orders
+abbrev pub ordered_turns : Replicas → List NodeTurn → List Turn
+ordered_turns w [] = []
+ordered_turns w (turn ∷ turns) = map (turn_of turn.who) (deeds_of (w turn.who).node turn.step) ++ ordered_turns (after_turn w turn) turns

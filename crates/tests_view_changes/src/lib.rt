@@ -1,0 +1,16 @@
+//! Replicas that change their view, as tests: a silent primary is replaced, what was prepared or executed stands in the new view, and which
+//! VIEW-CHANGEs and NEW-VIEWs are refused.
+#![tactic(auto)]
+
+#[cfg(test)]
+mod keeping;
+#[cfg(test)]
+mod moving;
+#[cfg(test)]
+mod new_views;
+#[cfg(test)]
+mod parts;
+#[cfg(test)]
+mod replicas;
+#[cfg(test)]
+mod view_changes;

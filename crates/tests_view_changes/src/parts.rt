@@ -1,0 +1,119 @@
+//! The messages that tests make in the name of replicas and of a client.
+use crate::replicas::{CLIENTS, SECRET};
+use bfs_auth::{Keys, Principal};
+use bfs_messages::{
+    Certificate, Message, NewView, OrderedBatch, PrePrepare, Request, Signed, ViewChange, Vote,
+    sign, sign_prepare, sign_proposal, sign_view_change,
+};
+use bfs_testing::words::call;
+use bfs_types::{Memory, Time};
+use std::alloc::Global;
+use std::sync::Arc;
+
+fn keys_of(alloc: Global, replica: u32) -> Result<Keys, Memory> {
+    Keys::derive(alloc, SECRET, Principal::Replica(replica % 4), 4, CLIENTS)
+}
+
+/// Client 1's call of NULL, with its timestamp as its number.
+pub fn request(alloc: Global, timestamp: u32) -> Result<Signed<Message>, Memory> {
+    let keys = Keys::derive(alloc, SECRET, Principal::Client(1), 4, CLIENTS)?;
+    let bytes = call(alloc, timestamp, 0)?;
+    if bytes.len() > 1_000 {
+        return Err(Memory);
+    }
+    let request = Request::new(alloc, 1, timestamp as u64, &bytes)?;
+    sign(alloc, &keys, Message::Request(request))
+}
+
+// the PRE-PREPARE of a primary for number 1, with a batch without requests
+fn proposal(alloc: Global, sender: u32, view: u64) -> Result<Signed<PrePrepare>, Memory> {
+    let time = Time::new(5, 0).ok_or(Memory)?;
+    let batch = Arc::new(alloc, OrderedBatch::new(time, Vec::new(alloc)))?;
+    let proposal = PrePrepare::new(sender, view % (1 << 63), 1, batch);
+    sign_proposal(alloc, &keys_of(alloc, sender)?, proposal)
+}
+
+// that number 1 was prepared in view 0, by PREPAREs of these backups
+fn certificate(alloc: Global, backups: &[u32]) -> Result<Certificate, Memory> {
+    let proposal = proposal(alloc, 0, 0)?;
+    let digest = *proposal.message.vote().digest();
+    let mut prepares = Vec::new(alloc);
+    for backup in backups {
+        let vote = Vote::new(*backup, 0, 1, digest);
+        prepares.push(sign_prepare(alloc, &keys_of(alloc, *backup)?, vote)?)?;
+    }
+    if prepares.len() > 31 {
+        return Err(Memory);
+    }
+    Ok(Certificate::new(proposal, prepares))
+}
+
+/// What a VIEW-CHANGE says.
+#[derive(Clone, Copy)]
+pub struct Asked {
+    pub sender: u32,
+    pub view: u64,
+    /// Those whose PREPAREs are shown for number 1. Where there are none, there is no certificate.
+    pub backups: &'static [u32],
+}
+
+impl Asked {
+    /// For view 1, with the PREPAREs that number 1 wants.
+    pub fn first(sender: u32) -> Asked {
+        Asked {
+            sender,
+            view: 1,
+            backups: &[1, 2],
+        }
+    }
+
+    /// The VIEW-CHANGE, signed by a replica.
+    pub fn signed_by(self, alloc: Global, signer: u32) -> Result<Signed<ViewChange>, Memory> {
+        let mut certificates = Vec::new(alloc);
+        if !self.backups.is_empty() {
+            certificates.push(certificate(alloc, self.backups)?)?;
+        }
+        if certificates.len() > 32 {
+            return Err(Memory);
+        }
+        let change = ViewChange::new(
+            self.sender,
+            self.view % (1 << 63),
+            0,
+            Vec::new(alloc),
+            certificates,
+        );
+        sign_view_change(alloc, &keys_of(alloc, signer)?, change)
+    }
+
+    /// The VIEW-CHANGE as a message, signed by a replica.
+    pub fn message_by(self, alloc: Global, signer: u32) -> Result<Signed<Message>, Memory> {
+        let Signed { message, auth } = self.signed_by(alloc, signer)?;
+        Ok(Signed {
+            message: Message::ViewChange(message),
+            auth,
+        })
+    }
+}
+
+/// A NEW-VIEW of a replica for view 1, from these VIEW-CHANGEs. It proposes what number 1 was prepared with, if it is asked to.
+pub fn new_view(
+    alloc: Global,
+    sender: u32,
+    asked: &[Asked],
+    proposes: bool,
+) -> Result<Signed<Message>, Memory> {
+    let mut changes = Vec::new(alloc);
+    for one in asked {
+        changes.push(one.signed_by(alloc, one.sender)?)?;
+    }
+    let mut proposals = Vec::new(alloc);
+    if proposes {
+        proposals.push(proposal(alloc, sender, 1)?)?;
+    }
+    if changes.len() > 31 || proposals.len() > 32 {
+        return Err(Memory);
+    }
+    let new = NewView::new(sender, 1, changes, proposals);
+    sign(alloc, &keys_of(alloc, sender)?, Message::NewView(new))
+}
