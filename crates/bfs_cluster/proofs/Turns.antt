@@ -4,8 +4,9 @@ use Rattle.std.specs.Option.{option_map}
 use Rattle.bfs_log.specs.Logs.{Log}
 use Rattle.bfs_node.specs.Executing.{after_execution, execution}
 use Rattle.bfs_node.specs.Nodes.{Node, Outcome}
+use Rattle.bfs_node.specs.declared.error.NodeError.{NodeError}
 use Rattle.bfs_cluster.specs.Inside.Acts.{Acts, CheckpointsAfter, doing}
-use Rattle.bfs_cluster.specs.Steps.{executing, next_of, with_checkpoint}
+use Rattle.bfs_cluster.specs.Steps.{executing, next_of, unless_refused, with_checkpoint}
 use Rattle.bfs_cluster.specs.World.{Replica}
 
 -- what one that is heard does
@@ -40,3 +41,14 @@ executed old between new before sent heard stays told now after =
         let first : outcome.now ≡ between.node = cc in
         let second : outcome.sent ≡ before = cc in
         came new sent (with_checkpoint outcome) (after.0 ∙ stays) (ap with_checkpoint (same_outcome outcome between.node before first second) ∙ after.1)
+
+-- Calls that are refused or done -------------------------------------------------------------------------------------------
+
+-- it did that
+pub did : (refusal : Node → Option NodeError) (done : Node → Outcome) (old new : Replica) (sent : Log) → old.heard ≡ true → refusal old.node ≡ None
+    → new.heard ≡ old.heard → new.node ≡ (done old.node).now → sent ≡ (done old.node).sent
+    → Acts (doing (λ node. unless_refused (refusal node) (Some (done node))) old) old new (Some sent)
+did refusal done old new sent heard none same now said =
+    subst (λ (ran : Option Outcome). Acts ran old new (Some sent))
+    (sym (if_heard (λ node. unless_refused (refusal node) (Some (done node))) old heard ∙ ap (λ (r : Option NodeError). unless_refused r (Some (done old.node))) none))
+    (ap (λ (h : Bool). record { heard = h; node = new.node }) (same ∙ heard) ∙ ap (λ (n : Node). record { heard = true; node = n }) now, ap (λ (log : Log). Some log) said)

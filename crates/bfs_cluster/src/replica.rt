@@ -105,10 +105,11 @@ impl Replica {
         if !self.heard {
             return Ok(None);
         }
-        match self.node.timeout() {
-            Ok(sent) => Ok(Some(sent)),
-            Err(error) => lost(error),
-        }
+        let sent = match self.node.timeout() {
+            Ok(sent) => sent,
+            Err(error) => return lost(error),
+        };
+        Ok(Some(sent))
     }
 
     /// Executes the next committed batch, and makes the checkpoint that is due; `None` where no batch is next.
