@@ -5,4 +5,5 @@ pub mod Lines
 pub mod Rows
 pub mod Running
 pub mod Takes
+pub mod Telling
 pub mod Usages

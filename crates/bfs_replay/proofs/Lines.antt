@@ -1,6 +1,9 @@
 -- Lines of results, one after another.
-use Rattle.std.proofs.Common.{◌≡◌, ◌∙◌, ℕ, Bool, true, false, List, [], ◌∷◌, ◌++◌, Option, Some, refl, ap, ap₂}
-use Rattle.std.specs.List.{flat_map}
+use Rattle.std.proofs.Common.{◌≡◌, ◌∙◌, ℕ, ◌+◌, ◌<◌, Bool, true, false, List, [], ◌∷◌, ◌++◌, Option, Some, length, take, get_or, refl, sym, ap, ap₂, append-nil}
+use Rattle.std.proofs.lemmas.Grind.{flat_map-append}
+use Rattle.std.proofs.lemmas.List.{take_more}
+use Rattle.std.proofs.lemmas.Option.{slice_get-get_or}
+use Rattle.std.specs.List.{flat_map, slice_get}
 use Rattle.std.specs.Option.{option_and_then}
 use Rattle.std.proofs.lemmas.List.Elements.{All-head, All-tail}
 use Rattle.bfs_clients.specs.Clients.{Clients}
@@ -9,8 +12,8 @@ use Rattle.bfs_clients.specs.Waiting.{waits}
 use Rattle.bfs_log.specs.Logs.{Log}
 use Rattle.bfs_tally.specs.Tallies.{Tally, agreed}
 use Rattle.bfs_trace.specs.Events.{Request}
-use Rattle.bfs_replay.specs.Inside.Results.{HasResult, HasResults, if_waiting, waiting_among}
-use Rattle.bfs_replay.specs.Output.{result_line, result_lines}
+use Rattle.bfs_replay.specs.Inside.Results.{HasResult, HasResults, if_waiting, line_at, waiting_among}
+use Rattle.bfs_replay.specs.Output.{answered_line, answered_lines, result_line, result_lines}
 use Rattle.bfs_replay.specs.Runs.{unanswered}
 
 -- the line of a request, by its tally
@@ -41,3 +44,13 @@ waiting_told clients replies tallies (request ∷ requests) has =
         → if_waiting (Some (tally_of clients replies request.client request.timestamp)) ++ unanswered clients replies requests ≡ unanswered clients replies (request ∷ requests)
     go true is = rw is refl
     go false is = rw is refl
+
+no_tally : Tally
+no_tally = record { f = 0; client = 0; timestamp = 0; counted = [] }
+
+-- the line of one more request that waits
+pub one_more_line : (waiting : List Tally) (i : ℕ) → i < length waiting → answered_lines (take (i + 1) waiting) ≡ answered_lines (take i waiting) ++ line_at (slice_get waiting i)
+one_more_line waiting i within =
+    ap answered_lines (take_more waiting i no_tally within) ∙ flat_map-append answered_line (take i waiting) (get_or waiting i no_tally ∷ [])
+    ∙ ap (λ (last : List ℕ). answered_lines (take i waiting) ++ last) (append-nil (answered_line (get_or waiting i no_tally)))
+    ∙ ap (λ (last : Option Tally). answered_lines (take i waiting) ++ line_at last) (sym (slice_get-get_or waiting i no_tally within))

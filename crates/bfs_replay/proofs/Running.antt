@@ -1,8 +1,8 @@
 -- A run: blocks, events one after another, and the end.
-use Rattle.std.proofs.Common.{◌≡◌, ◌∙◌, ℕ, ◌+◌, ◌<◌, List, [], ◌∷◌, ◌++◌, Option, Some, filter, length, take, get_or, refl, sym, ap, subst, append_assoc, append-nil}
-use Rattle.std.specs.List.{filter_map}
+use Rattle.std.proofs.Common.{◌≡◌, ◌∙◌, ℕ, ◌+◌, ◌<◌, List, [], ◌∷◌, ◌++◌, Option, Some, filter, length, map, take, get_or, refl, sym, ap, subst, append_assoc, append-nil}
+use Rattle.std.specs.List.{cons_option, filter_map}
 use Rattle.std.proofs.lemmas.List.{take_more}
-use Rattle.bfs_clients.specs.Clients.{Clients, clients_of}
+use Rattle.bfs_clients.specs.Clients.{Clients, clients_of, signed_request}
 use Rattle.bfs_clients.specs.Waiting.{waits}
 use Rattle.bfs_cluster.specs.Blocks.{with_block}
 use Rattle.bfs_cluster.specs.Standings.{standings}
@@ -11,13 +11,18 @@ use Rattle.bfs_cluster.specs.declared.standings.Standing.{Standing}
 use Rattle.bfs_log.specs.Logs.{Log}
 use Rattle.bfs_settings.specs.Settings.{Settings}
 use Rattle.bfs_tally.specs.Tallies.{Tally}
-use Rattle.bfs_trace.specs.Events.{Block}
+use Rattle.bfs_trace.specs.Events.{Block, Request}
 use Rattle.bfs_trace.specs.declared.events.TraceEvent.{TraceEvent}
 use Rattle.bfs_replay.specs.Inside.Settling.{SettlesAnd, TimesOut}
 use Rattle.bfs_replay.specs.Outcomes.{outcome_of}
 use Rattle.bfs_replay.specs.Output.{answered_lines, result_lines, standing_lines, view_lines}
-use Rattle.bfs_replay.specs.Runs.{BlockRuns, EventRuns, EventsRun, Run, TimeoutRuns, TraceRuns, counted, digest_in, higher_view, new_run, sent_requests, unanswered}
+use Rattle.bfs_replay.specs.Runs.{BlockRuns, EventRuns, EventsRun, Run, TimeoutRuns, TraceRuns, as_message, counted, digest_in, higher_view, new_run, sent_requests, unanswered}
 use Rattle.bfs_replay.specs.declared.outcome.Outcome.{Outcome}
+
+-- what is signed of a block's requests
+pub signed_alike : (clients : Clients) (requests : List Request) → filter_map (signed_request clients) (map as_message requests) ≡ sent_requests clients requests
+signed_alike clients [] = refl
+signed_alike clients (request ∷ requests) = ap (cons_option (signed_request clients (as_message request))) (signed_alike clients requests)
 
 -- a block, once all has settled
 pub block_run : (clients : Clients) (block : Block) (run next : Run) (world : World) (replies : Log) (own : List Tally)

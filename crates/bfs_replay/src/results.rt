@@ -3,8 +3,9 @@ ghost use Rattle.bfs_clients.specs.Clients.{Clients};
 ghost use Rattle.bfs_log.specs.Logs.{Log};
 ghost use Rattle.std.specs.Io.KnownBytes.{Appends};
 ghost use Rattle.std.specs.IoError.{error_kind};
+ghost use Rattle.std.specs.List.{slice_get};
 ghost use Rattle.std.specs.Option.{option_map};
-ghost use Rattle.bfs_replay.specs.Inside.Results.{HasResults};
+ghost use Rattle.bfs_replay.specs.Inside.Results.{HasResults, line_at};
 ghost use Rattle.bfs_replay.specs.Output.{answered_line, answered_lines, result_line, result_lines};
 
 use crate::run::ReplayError;
@@ -60,11 +61,23 @@ pub(crate) fn print_answered<W: Write>(
     ensures { OnOk result (Appends (W.contents writer.old) (W.contents writer.new) (answered_lines waiting.now)) }
 {
     for index in 0..waiting.len() {
-        if let Some(tally) = waiting.get(index) {
-            print_if_answered(alloc, tally, writer)?;
-        }
+        print_at(alloc, waiting, index, writer)?;
     }
     Ok(())
+}
+
+fn print_at<W: Write>(
+    alloc: Global,
+    waiting: &WaitingRequests,
+    index: usize,
+    writer: &mut W,
+) -> Result<(), ReplayError>
+    ensures { OnOk result (Appends (W.contents writer.old) (W.contents writer.new) (line_at (slice_get waiting.now index))) }
+{
+    match waiting.get(index) {
+        Some(tally) => print_if_answered(alloc, tally, writer),
+        None => Ok(()),
+    }
 }
 
 fn print_if_answered<W: Write>(

@@ -1,5 +1,5 @@
 -- Tallies that have what clients make of replies to requests.
-use Rattle.std.specs.Prelude.{◌≡◌, All, List, [], ◌∷◌, Option, Some, None, if◌then◌else◌}
+use Rattle.std.specs.Prelude.{◌≡◌, ℕ, All, List, [], ◌∷◌, Option, Some, None, if◌then◌else◌}
 use Rattle.std.specs.List.{flat_map}
 use Rattle.bfs_clients.specs.Clients.{Clients}
 use Rattle.bfs_clients.specs.Tallies.{Tallies, tally_at, tally_of}
@@ -7,6 +7,7 @@ use Rattle.bfs_clients.specs.Waiting.{waits}
 use Rattle.bfs_log.specs.Logs.{Log}
 use Rattle.bfs_tally.specs.Tallies.{Tally}
 use Rattle.bfs_trace.specs.Events.{Request}
+use Rattle.bfs_replay.specs.Output.{answered_line}
 
 abbrev pub HasResult : Clients → Log → Tallies → Request → Type 0
 HasResult clients replies tallies request = tally_at tallies request.client request.timestamp ≡ Some (tally_of clients replies request.client request.timestamp)
@@ -24,3 +25,8 @@ waiting_at tallies request = if_waiting (tally_at tallies request.client request
 -- the tallies of the requests that have no result
 abbrev pub waiting_among : Tallies → List Request → List Tally
 waiting_among tallies requests = flat_map (waiting_at tallies) requests
+
+-- the line of a request that waits, if it has a result
+abbrev pub line_at : Option Tally → List ℕ
+line_at None = []
+line_at (Some tally) = answered_line tally
