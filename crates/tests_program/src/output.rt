@@ -126,6 +126,27 @@ fn prints_none_where_the_primary_is_silent(rt: HostRuntime) -> Result<(), Fail> 
     Ok(())
 }
 
+// as an independent run of four replicas prints it
+static CHANGED_OUTPUT: &str =
+    "view 1\nc0 t1 000000010000000100000000000000000000000000000000\ndigest 1 a21f4782552430db985c0783dee68048bb7bed246a370453f7fa9b3b5a333f64\ndigest 2 a21f4782552430db985c0783dee68048bb7bed246a370453f7fa9b3b5a333f64\ndigest 3 a21f4782552430db985c0783dee68048bb7bed246a370453f7fa9b3b5a333f64\n";
+
+#[test]
+fn the_next_primary_answers_once_the_view_is_changed(rt: HostRuntime) -> Result<(), Fail> {
+    let out = output_of_four(&rt, "silent 0\ntimeout\nbatch 1.000000\n0 1 null\n")?;
+    holds!(rt; out.as_slice() == CHANGED_OUTPUT.as_bytes());
+    Ok(())
+}
+
+static LATE_OUTPUT: &str =
+    "c0 t1 none\nview 1\nc0 t1 000000010000000100000000000000000000000000000000\ndigest 1 a21f4782552430db985c0783dee68048bb7bed246a370453f7fa9b3b5a333f64\ndigest 2 a21f4782552430db985c0783dee68048bb7bed246a370453f7fa9b3b5a333f64\ndigest 3 a21f4782552430db985c0783dee68048bb7bed246a370453f7fa9b3b5a333f64\n";
+
+#[test]
+fn what_waited_is_printed_at_a_timeout(rt: HostRuntime) -> Result<(), Fail> {
+    let out = output_of_four(&rt, "silent 0\nbatch 1.000000\n0 1 null\ntimeout\n")?;
+    holds!(rt; out.as_slice() == LATE_OUTPUT.as_bytes());
+    Ok(())
+}
+
 /// A writer that takes so many bytes and refuses from then on.
 #[derive(Drop)]
 struct Refusing {
