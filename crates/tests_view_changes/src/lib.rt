@@ -11,6 +11,10 @@ mod new_views;
 #[cfg(test)]
 mod parts;
 #[cfg(test)]
+mod replica;
+#[cfg(test)]
 mod replicas;
+#[cfg(test)]
+mod script;
 #[cfg(test)]
 mod view_changes;

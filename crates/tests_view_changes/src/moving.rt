@@ -1,44 +1,44 @@
-//! The view changes where the primary is silent, or where nobody has to be asked.
-use crate::parts::request;
-use crate::replicas::{Replicas, Said, Standing, replica, standing_of, time_out};
-use bfs_testing::{holds, same};
+//! A view is left, and the next one is entered.
+use crate::replica::{Said, Standing, replica, standing_of, time_out};
+use crate::script::{ALL, BACKUPS, Event, first_wrong};
+use bfs_testing::same;
 use std::test::Fail;
 
-static BACKUPS: [usize; 3] = [1, 2, 3];
+static THE_PRIMARY_IS_SILENT: [Event; 14] = [
+    Event::Ask(BACKUPS, 7),
+    Event::TimeOut(BACKUPS),
+    Event::HandOver(BACKUPS),
+    Event::NewView(3, 0),
+    Event::Stand(&[1], Standing(1, 0, 1)),
+    Event::Stand(&[2, 3], Standing(0, 0, 1)),
+    Event::HandOver(BACKUPS),
+    Event::Stand(BACKUPS, Standing(1, 0, 1)),
+    // the new primary proposes what waits
+    Event::MayNotPropose(2),
+    Event::Propose(1),
+    Event::Settle(BACKUPS),
+    Event::Stand(BACKUPS, Standing(1, 1, 0)),
+    Event::Note(1),
+    Event::AsNoted(BACKUPS),
+];
 
 #[test]
 fn a_silent_primary_is_replaced(rt: HostRuntime) -> Result<(), Fail> {
-    let alloc = rt.alloc();
-    let mut all = Replicas::new(alloc)?;
-    all.tell(&rt, &BACKUPS, &request(alloc, 7)?)?;
-    all.time_out(&BACKUPS)?;
-    all.hand_over(&rt, &BACKUPS)?;
-    same!(rt; all.new_view(), Some((3, 0)));
-    same!(rt; all.standing(1), Some(Standing(1, 0, 1)));
-    same!(rt; all.standing(2), Some(Standing(0, 0, 1)));
-    all.hand_over(&rt, &BACKUPS)?;
-    same!(rt; all.standing(2), Some(Standing(1, 0, 1)));
-    same!(rt; all.standing(3), Some(Standing(1, 0, 1)));
-    // the new primary proposes what waits
-    holds!(rt; !all.propose(2)?);
-    holds!(rt; all.propose(1)?);
-    all.settle(&rt, &BACKUPS)?;
-    same!(rt; all.standing(1), Some(Standing(1, 1, 0)));
-    same!(rt; all.standing(2), Some(Standing(1, 1, 0)));
-    same!(rt; all.standing(3), Some(Standing(1, 1, 0)));
+    same!(rt; first_wrong(&rt, rt.alloc(), &THE_PRIMARY_IS_SILENT)?, None);
     Ok(())
 }
 
+static TWO_HAVE_LEFT: [Event; 5] = [
+    Event::TimeOut(&[2, 3]),
+    Event::Lose,
+    Event::Propose(0),
+    Event::Settle(ALL),
+    Event::Stand(ALL, Standing(0, 0, 0)),
+];
+
 #[test]
 fn a_replica_that_has_left_takes_nothing_of_its_view(rt: HostRuntime) -> Result<(), Fail> {
-    let alloc = rt.alloc();
-    let mut all = Replicas::new(alloc)?;
-    all.time_out(&[2, 3])?;
-    all.lose();
-    holds!(rt; all.propose(0)?);
-    all.settle(&rt, &[0, 1, 2, 3])?;
-    same!(rt; all.standing(1), Some(Standing(0, 0, 0)));
-    same!(rt; all.standing(2), Some(Standing(0, 0, 0)));
+    same!(rt; first_wrong(&rt, rt.alloc(), &TWO_HAVE_LEFT)?, None);
     Ok(())
 }
 
@@ -47,7 +47,6 @@ fn a_replica_that_is_alone_begins_the_next_view_at_once(rt: HostRuntime) -> Resu
     let mut node = replica(rt.alloc(), 0, 0)?;
     // its VIEW-CHANGE and its NEW-VIEW
     same!(rt; time_out(&mut node), Said::Sent(2));
-    same!(rt; standing_of(&node), Standing(1, 0, 0));
     same!(rt; time_out(&mut node), Said::Sent(2));
     same!(rt; standing_of(&node), Standing(2, 0, 0));
     Ok(())

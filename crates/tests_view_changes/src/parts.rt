@@ -1,5 +1,5 @@
 //! The messages that tests make in the name of replicas and of a client.
-use crate::replicas::{CLIENTS, SECRET};
+use crate::replica::{CLIENTS, SECRET};
 use bfs_auth::{Keys, Principal};
 use bfs_messages::{
     Certificate, Message, NewView, OrderedBatch, PrePrepare, Request, Signed, ViewChange, Vote,
@@ -57,16 +57,40 @@ pub struct Asked {
     pub backups: &'static [u32],
 }
 
-impl Asked {
-    /// For view 1, with the PREPAREs that number 1 wants.
-    pub fn first(sender: u32) -> Asked {
-        Asked {
-            sender,
-            view: 1,
-            backups: &[1, 2],
-        }
-    }
+/// The VIEW-CHANGEs of replicas 1 to 3 for view 1, with the PREPAREs that number 1 wants.
+pub const OF_ONE: Asked = Asked {
+    sender: 1,
+    view: 1,
+    backups: &[1, 2],
+};
 
+pub const OF_TWO: Asked = Asked {
+    sender: 2,
+    view: 1,
+    backups: &[1, 2],
+};
+
+pub const OF_THREE: Asked = Asked {
+    sender: 3,
+    view: 1,
+    backups: &[1, 2],
+};
+
+/// That of replica 3 for view 2.
+pub const FOR_ANOTHER_VIEW: Asked = Asked {
+    sender: 3,
+    view: 2,
+    backups: &[1, 2],
+};
+
+/// That of replica 3 with a PREPARE less than number 1 wants.
+pub const A_PREPARE_LESS: Asked = Asked {
+    sender: 3,
+    view: 1,
+    backups: &[1],
+};
+
+impl Asked {
     /// The VIEW-CHANGE, signed by a replica.
     pub fn signed_by(self, alloc: Global, signer: u32) -> Result<Signed<ViewChange>, Memory> {
         let mut certificates = Vec::new(alloc);

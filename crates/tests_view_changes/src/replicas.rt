@@ -1,86 +1,12 @@
-//! Replicas, and messages on their way, which tests hand over.
+//! Four replicas, of which one may be faulty, and messages on their way between them.
+use crate::parts::request;
+use crate::replica::{Standing, execute, propose, replica, standing_of};
 use bfs_messages::{Message, Signed};
-use bfs_node::{Executor, NoGate, Node, NodeError, Workers};
-use bfs_settings::Settings;
-use bfs_types::{Memory, Time};
+use bfs_node::Node;
+use bfs_types::Memory;
 use std::alloc::Global;
 use std::sync::Wait;
 use std::thread::Threads;
-
-pub const SECRET: &[u8] = &[0; 32];
-
-pub const CLIENTS: u32 = 2;
-
-/// What a call came to: how many messages are sent, or the number of the refusal.
-#[derive(Clone, Copy, Debug, PartialEq, Eq)]
-pub enum Said {
-    Sent(usize),
-    Refused(u32),
-}
-
-fn what_came_of(given: &Result<Vec<Signed<Message>>, NodeError>) -> Said {
-    match given {
-        Ok(sent) => Said::Sent(sent.len()),
-        Err(error) => Said::Refused(error.code()),
-    }
-}
-
-/// How a replica stands: its view, the number last executed, and how many requests wait.
-#[derive(Clone, Copy, Debug, PartialEq, Eq)]
-pub struct Standing(pub u64, pub u64, pub u32);
-
-/// The replica of that number among 3f + 1.
-pub fn replica(alloc: Global, f: u32, me: u32) -> Result<Node, Memory> {
-    let Ok(settings) = Settings::new(alloc, f, CLIENTS, SECRET) else {
-        return Err(Memory);
-    };
-    if me < settings.replicas() {
-        Node::new(alloc, &settings, me)
-    } else {
-        Err(Memory)
-    }
-}
-
-/// A message comes to a replica.
-pub fn take<R: Threads + Sync>(rt: &R, node: &mut Node, signed: Signed<Message>) -> Said {
-    what_came_of(&node.take(rt, signed))
-}
-
-/// Time runs out at a replica.
-pub fn time_out(node: &mut Node) -> Said {
-    what_came_of(&node.timeout())
-}
-
-/// How a replica stands.
-pub fn standing_of(node: &Node) -> Standing {
-    Standing(node.view(), node.last_executed(), node.pending())
-}
-
-/// The number of the refusal of a proposal at 1.000000, 0 where there is none.
-pub fn propose(node: &mut Node) -> Result<Signed<Message>, u32> {
-    match Time::new(1, 0) {
-        Some(time) => node.propose(time).map_err(|error| error.code()),
-        None => Err(40),
-    }
-}
-
-/// Executes the next batch one request after another, and gives what is sent: replies, and a CHECKPOINT where one is due.
-pub fn execute<R: Threads + Wait + Sync>(
-    rt: &R,
-    node: &mut Node,
-) -> Result<Option<Vec<Signed<Message>>>, Memory> {
-    let executor = Executor {
-        workers: Workers::one(),
-        engine: None,
-    };
-    let Ok(Some(mut sent)) = node.execute_ready(rt, executor, &NoGate) else {
-        return Ok(None);
-    };
-    if let Ok(checkpoint) = node.checkpoint(rt) {
-        sent.push(checkpoint)?;
-    }
-    Ok(Some(sent))
-}
 
 /// Four replicas, of which one may be faulty, and messages on their way, each with who sends it.
 #[derive(Drop)]
@@ -88,6 +14,7 @@ pub struct Replicas {
     alloc: Global,
     nodes: Vec<Node>,
     on_their_way: Vec<(usize, Signed<Message>)>,
+    noted: Option<[u8; 32]>,
 }
 
 impl Replicas {
@@ -101,17 +28,39 @@ impl Replicas {
             alloc,
             nodes,
             on_their_way: Vec::new(alloc),
+            noted: None,
         })
     }
 
-    /// How a replica stands.
-    pub fn standing(&self, number: usize) -> Option<Standing> {
-        self.nodes.get(number).map(|node| standing_of(node))
+    /// Whether each of these stands so.
+    pub fn stand(&self, numbers: &[usize], wanted: Standing) -> bool {
+        for number in numbers {
+            match self.nodes.get(*number) {
+                Some(node) if standing_of(node) == wanted => {}
+                _ => return false,
+            }
+        }
+        true
     }
 
-    /// A replica's digest.
-    pub fn digest<R: Threads + Sync>(&self, rt: &R, number: usize) -> Option<[u8; 32]> {
+    fn digest<R: Threads + Sync>(&self, rt: &R, number: usize) -> Option<[u8; 32]> {
         self.nodes.get(number)?.digest(rt).ok()
+    }
+
+    /// A replica's digest is noted. It gives whether there is one.
+    pub fn note<R: Threads + Sync>(&mut self, rt: &R, number: usize) -> bool {
+        self.noted = self.digest(rt, number);
+        self.noted.is_some()
+    }
+
+    /// Whether each of these has the digest that was noted.
+    pub fn are_as_noted<R: Threads + Sync>(&self, rt: &R, numbers: &[usize]) -> bool {
+        for number in numbers {
+            if self.digest(rt, *number) != self.noted {
+                return false;
+            }
+        }
+        true
     }
 
     /// How many VIEW-CHANGEs and PRE-PREPAREs a NEW-VIEW has that is on its way.
@@ -136,15 +85,16 @@ impl Replicas {
         Ok(())
     }
 
-    /// A message comes to some of them.
-    pub fn tell<R: Threads + Sync>(
+    /// The client's request of that timestamp comes to these.
+    pub fn ask<R: Threads + Sync>(
         &mut self,
         rt: &R,
-        heard: &[usize],
-        signed: &Signed<Message>,
+        numbers: &[usize],
+        timestamp: u32,
     ) -> Result<(), Memory> {
-        for number in heard {
-            self.tell_one(rt, *number, signed)?;
+        let signed = request(self.alloc, timestamp)?;
+        for number in numbers {
+            self.tell_one(rt, *number, &signed)?;
         }
         Ok(())
     }
@@ -211,12 +161,8 @@ impl Replicas {
         Ok(())
     }
 
-    /// Those that are heard execute what is next.
-    pub fn execute<R: Threads + Wait + Sync>(
-        &mut self,
-        rt: &R,
-        heard: &[usize],
-    ) -> Result<(), Memory> {
+    // those that are heard execute what is next
+    fn execute<R: Threads + Wait + Sync>(&mut self, rt: &R, heard: &[usize]) -> Result<(), Memory> {
         for number in heard {
             self.execute_at(rt, *number)?;
         }

@@ -1,81 +1,81 @@
 //! Which VIEW-CHANGEs are kept, and which are refused.
-use crate::parts::Asked;
-use crate::replicas::{Said, Standing, replica, standing_of, take, time_out};
+use crate::parts::{A_PREPARE_LESS, Asked, FOR_ANOTHER_VIEW, OF_THREE, OF_TWO};
+use crate::replica::{Said, Standing, replica, standing_of, take, time_out};
 use bfs_testing::same;
+use bfs_types::Memory;
+use std::alloc::Global;
 use std::test::Fail;
+use std::thread::Threads;
+
+const FOR_VIEW_ZERO: Asked = Asked {
+    sender: 3,
+    view: 0,
+    backups: &[1, 2],
+};
+
+const FOR_VIEW_FIVE: Asked = Asked {
+    sender: 3,
+    view: 5,
+    backups: &[1, 2],
+};
+
+/// A VIEW-CHANGE, who signs it, and what it comes to.
+struct Step(Asked, u32, Said);
+
+// the place of the first that comes to something else, at a replica that has done nothing
+fn first_wrong<R: Threads + Sync>(
+    rt: &R,
+    alloc: Global,
+    me: u32,
+    steps: &[Step],
+) -> Result<Option<usize>, Memory> {
+    let mut node = replica(alloc, 1, me)?;
+    for (place, Step(asked, signer, wanted)) in steps.iter().enumerate() {
+        if take(rt, &mut node, asked.message_by(alloc, *signer)?) != *wanted {
+            return Ok(Some(place));
+        }
+    }
+    Ok(None)
+}
+
+static AT_THE_NEXT_PRIMARY: [Step; 8] = [
+    Step(OF_THREE, 2, Said::Refused(24)),
+    Step(FOR_VIEW_ZERO, 3, Said::Refused(25)),
+    // it is not noted
+    Step(A_PREPARE_LESS, 3, Said::Refused(31)),
+    Step(OF_THREE, 3, Said::Sent(0)),
+    Step(OF_THREE, 3, Said::Refused(29)),
+    Step(FOR_VIEW_FIVE, 3, Said::Sent(0)),
+    Step(OF_THREE, 3, Said::Refused(29)),
+    Step(OF_TWO, 2, Said::Sent(0)),
+];
+
+static AT_ANOTHER: [Step; 3] = [
+    Step(OF_THREE, 3, Said::Sent(0)),
+    Step(OF_THREE, 3, Said::Refused(29)),
+    Step(FOR_ANOTHER_VIEW, 3, Said::Sent(0)),
+];
 
 #[test]
-fn a_view_change_is_its_senders(rt: HostRuntime) -> Result<(), Fail> {
-    let alloc = rt.alloc();
-    let mut node = replica(alloc, 1, 1)?;
-    let forged = Asked::first(2).message_by(alloc, 3)?;
-    same!(rt; take(&rt, &mut node, forged), Said::Refused(24));
-    let right = Asked::first(2).message_by(alloc, 2)?;
-    same!(rt; take(&rt, &mut node, right), Said::Sent(0));
+fn each_is_refused_for_its_first_fault(rt: HostRuntime) -> Result<(), Fail> {
+    same!(rt; first_wrong(&rt, rt.alloc(), 1, &AT_THE_NEXT_PRIMARY)?, None);
     Ok(())
 }
 
 #[test]
-fn a_view_change_is_for_a_later_view(rt: HostRuntime) -> Result<(), Fail> {
-    let alloc = rt.alloc();
-    let mut node = replica(alloc, 1, 1)?;
-    let asked = Asked {
-        view: 0,
-        ..Asked::first(2)
-    };
-    same!(rt; take(&rt, &mut node, asked.message_by(alloc, 2)?), Said::Refused(25));
+fn those_for_anothers_view_are_noted(rt: HostRuntime) -> Result<(), Fail> {
+    same!(rt; first_wrong(&rt, rt.alloc(), 0, &AT_ANOTHER)?, None);
     Ok(())
 }
 
 #[test]
-fn a_sender_asks_for_rising_views(rt: HostRuntime) -> Result<(), Fail> {
+fn two_and_its_own_begin_a_view(rt: HostRuntime) -> Result<(), Fail> {
     let alloc = rt.alloc();
     let mut node = replica(alloc, 1, 1)?;
-    let first = Asked::first(2);
-    let fifth = Asked { view: 5, ..first };
-    same!(rt; take(&rt, &mut node, first.message_by(alloc, 2)?), Said::Sent(0));
-    same!(rt; take(&rt, &mut node, first.message_by(alloc, 2)?), Said::Refused(29));
-    same!(rt; take(&rt, &mut node, fifth.message_by(alloc, 2)?), Said::Sent(0));
-    same!(rt; take(&rt, &mut node, first.message_by(alloc, 2)?), Said::Refused(29));
-    // of another sender it is the first
-    same!(rt; take(&rt, &mut node, Asked::first(3).message_by(alloc, 3)?), Said::Sent(0));
-    Ok(())
-}
-
-#[test]
-fn a_view_change_for_anothers_view_is_noted(rt: HostRuntime) -> Result<(), Fail> {
-    let alloc = rt.alloc();
-    let mut node = replica(alloc, 1, 3)?;
-    let first = Asked::first(2);
-    same!(rt; take(&rt, &mut node, first.message_by(alloc, 2)?), Said::Sent(0));
-    same!(rt; take(&rt, &mut node, first.message_by(alloc, 2)?), Said::Refused(29));
-    Ok(())
-}
-
-#[test]
-fn its_certificates_are_whole(rt: HostRuntime) -> Result<(), Fail> {
-    let alloc = rt.alloc();
-    let mut node = replica(alloc, 1, 1)?;
-    let asked = Asked {
-        backups: &[1],
-        ..Asked::first(2)
-    };
-    same!(rt; take(&rt, &mut node, asked.message_by(alloc, 2)?), Said::Refused(31));
-    // it was not noted
-    same!(rt; take(&rt, &mut node, Asked::first(2).message_by(alloc, 2)?), Said::Sent(0));
-    Ok(())
-}
-
-#[test]
-fn two_view_changes_and_its_own_begin_a_view(rt: HostRuntime) -> Result<(), Fail> {
-    let alloc = rt.alloc();
-    let mut node = replica(alloc, 1, 1)?;
-    same!(rt; take(&rt, &mut node, Asked::first(2).message_by(alloc, 2)?), Said::Sent(0));
-    same!(rt; take(&rt, &mut node, Asked::first(3).message_by(alloc, 3)?), Said::Sent(0));
-    same!(rt; standing_of(&node), Standing(0, 0, 0));
+    same!(rt; take(&rt, &mut node, OF_TWO.message_by(alloc, 2)?), Said::Sent(0));
+    same!(rt; take(&rt, &mut node, OF_THREE.message_by(alloc, 3)?), Said::Sent(0));
     // its VIEW-CHANGE and its NEW-VIEW
     same!(rt; time_out(&mut node), Said::Sent(2));
     same!(rt; standing_of(&node), Standing(1, 0, 0));
-    same!(rt; take(&rt, &mut node, Asked::first(0).message_by(alloc, 0)?), Said::Refused(25));
     Ok(())
 }

@@ -1,0 +1,83 @@
+//! One replica, and what comes to it.
+use bfs_messages::{Message, Signed};
+use bfs_node::{Executor, NoGate, Node, NodeError, Workers};
+use bfs_settings::Settings;
+use bfs_types::{Memory, Time};
+use std::alloc::Global;
+use std::sync::Wait;
+use std::thread::Threads;
+
+pub const SECRET: &[u8] = &[0; 32];
+
+pub const CLIENTS: u32 = 2;
+
+/// What a call came to: how many messages are sent, or the number of the refusal.
+#[derive(Clone, Copy, Debug, PartialEq, Eq)]
+pub enum Said {
+    Sent(usize),
+    Refused(u32),
+}
+
+fn what_came_of(given: &Result<Vec<Signed<Message>>, NodeError>) -> Said {
+    match given {
+        Ok(sent) => Said::Sent(sent.len()),
+        Err(error) => Said::Refused(error.code()),
+    }
+}
+
+/// How a replica stands: its view, the number last executed, and how many requests wait.
+#[derive(Clone, Copy, Debug, PartialEq, Eq)]
+pub struct Standing(pub u64, pub u64, pub u32);
+
+/// The replica of that number among 3f + 1.
+pub fn replica(alloc: Global, f: u32, me: u32) -> Result<Node, Memory> {
+    let Ok(settings) = Settings::new(alloc, f, CLIENTS, SECRET) else {
+        return Err(Memory);
+    };
+    if me < settings.replicas() {
+        Node::new(alloc, &settings, me)
+    } else {
+        Err(Memory)
+    }
+}
+
+/// A message comes to a replica.
+pub fn take<R: Threads + Sync>(rt: &R, node: &mut Node, signed: Signed<Message>) -> Said {
+    what_came_of(&node.take(rt, signed))
+}
+
+/// Time runs out at a replica.
+pub fn time_out(node: &mut Node) -> Said {
+    what_came_of(&node.timeout())
+}
+
+/// How a replica stands.
+pub fn standing_of(node: &Node) -> Standing {
+    Standing(node.view(), node.last_executed(), node.pending())
+}
+
+/// The number of the refusal of a proposal at 1.000000, 0 where there is none.
+pub fn propose(node: &mut Node) -> Result<Signed<Message>, u32> {
+    match Time::new(1, 0) {
+        Some(time) => node.propose(time).map_err(|error| error.code()),
+        None => Err(40),
+    }
+}
+
+/// Executes the next batch one request after another, and gives what is sent: replies, and a CHECKPOINT where one is due.
+pub fn execute<R: Threads + Wait + Sync>(
+    rt: &R,
+    node: &mut Node,
+) -> Result<Option<Vec<Signed<Message>>>, Memory> {
+    let executor = Executor {
+        workers: Workers::one(),
+        engine: None,
+    };
+    let Ok(Some(mut sent)) = node.execute_ready(rt, executor, &NoGate) else {
+        return Ok(None);
+    };
+    if let Ok(checkpoint) = node.checkpoint(rt) {
+        sent.push(checkpoint)?;
+    }
+    Ok(Some(sent))
+}
