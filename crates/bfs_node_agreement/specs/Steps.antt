@@ -33,6 +33,8 @@ pub data NodeStep : Type 0 where
   Delivers : (bytes : List ℕ) → NodeStep
   Proposes : Time → NodeStep
   Executes : NodeStep
+  -- memory runs out while a batch is executed
+  Fails : NodeStep
   Checkpoints : NodeStep
   TimesOut : NodeStep
   -- with the file system and the table that a text spells
@@ -61,6 +63,7 @@ abbrev pub outcome : Node → NodeStep → Outcome
 outcome node (Delivers bytes) = unless (bytes_refusal node (message_of bytes)) node (bytes_delivered node (message_of bytes))
 outcome node (Proposes time) = unless (proposal_refusal node) node (proposed node time)
 outcome node Executes = after_execution node (execution node)
+outcome node Fails = still (record node { files = None })
 outcome node Checkpoints = unless (checkpoint_refusal node) node (or_still node (checkpoint node))
 outcome node TimesOut = unless (timeout_refusal node) node (timed_out node)
 outcome node (Adopts certificate files table) =
@@ -71,6 +74,7 @@ abbrev pub executed_by : Node → NodeStep → Log
 executed_by node (Delivers bytes) = []
 executed_by node (Proposes time) = []
 executed_by node Executes = if is_ready node then message_in (next_order node.order) else []
+executed_by node Fails = []
 executed_by node Checkpoints = []
 executed_by node TimesOut = []
 executed_by node (Adopts certificate files table) = []
@@ -118,6 +122,7 @@ abbrev pub deeds_of : Node → NodeStep → List Deed
 deeds_of node (Delivers bytes) = bytes_deeds node (message_of bytes)
 deeds_of node (Proposes time) = turns.Orders (order.Proposes node.keys (pending_batch node time)) ∷ []
 deeds_of node Executes = if is_ready node then turns.Orders order.Executes ∷ [] else []
+deeds_of node Fails = []
 deeds_of node Checkpoints = where_taken (checkpoint_refusal node) (checkpoint_deeds node node.files)
 deeds_of node TimesOut = where_taken (timeout_refusal node) (timeout_deeds node)
 deeds_of node (Adopts certificate files table) =
