@@ -11,7 +11,7 @@ use Rattle.bfs_messages.specs.declared.message.Message.{Message}
 use Rattle.bfs_messages.specs.declared.message.Message.TheVariants.{ViewChange}
 use Rattle.bfs_order.specs.Replica.Installing.{has_sender}
 use Rattle.bfs_consensus.specs.Histories.{IsIn, World}
-use Rattle.bfs_order_agreement.proofs.Public.{AllIn, any_in, more_in, none_in}
+use Rattle.bfs_order_agreement.proofs.Public.{AllIn, any_in, more_in, none_in, some_is}
 use Rattle.bfs_view.specs.Changes.Keeping.{Kept, above_view, changes_for, if_above, if_for, with_change}
 use Rattle.bfs_view.specs.Changes.NewViews.{senders}
 use Rattle.bfs_view.specs.Changes.Parts.{as_changes, as_message}
@@ -123,27 +123,26 @@ module _ (faulty : ℕ → Bool) (f : ℕ) where
     where
       nothing : (n : ℕ) → n ≡ n + 0
       nothing n = omega arith
-  many_pass h v p k (x ∷ xs) all passes = subst (λ (n : ℕ). length (filter_map (if_for v) (x ∷ xs)) + count_below p k ≤ count_below p n) (moved k (length xs)) (go x (if_for v x) refl all.0 passes)
+  many_pass h v p k (x ∷ xs) all passes =
+      subst (λ (n : ℕ). length (filter_map (if_for v) (x ∷ xs)) + count_below p k ≤ count_below p n) (moved k (length xs)) (go x (if_for v x) refl all.0 passes (many_pass h v p (k + 1) xs all.1))
     where
       moved : (a b : ℕ) → a + 1 + b ≡ a + suc b
       moved a b = omega arith
-
-      rest : ((s : Signed model.ViewChange) → IsIn s (filter_map (if_for v) xs) → p s.message.sender ≡ true) → length (filter_map (if_for v) xs) + count_below p (k + 1) ≤ count_below p (k + 1 + length xs)
-      rest each = many_pass h v p (k + 1) xs all.1 each
 
       found : (y : Option (Signed model.ViewChange)) (s : Signed model.ViewChange) → if_for v y ≡ Some s → IsGoodAt h k y → s.message.sender ≡ k
       found None s e good = absurd cc
       found (Some t) s e good = same (t.message.view == v) e
         where
           same : (b : Bool) → cond b (Some t) None ≡ Some s → s.message.sender ≡ k
-          same true e = let is : t ≡ s = cc in sym (ap (λ (u : Signed model.ViewChange). u.message.sender) is) ∙ good.0
+          same true e = let is : t ≡ s = some_is t s e in sym (ap (λ (u : Signed model.ViewChange). u.message.sender) is) ∙ good.0
           same false e = absurd cc
 
       go : (y : Option (Signed model.ViewChange)) (o : Option (Signed model.ViewChange)) → if_for v y ≡ o → IsGoodAt h k y
           → ((s : Signed model.ViewChange) → IsIn s (cons_option o (filter_map (if_for v) xs)) → p s.message.sender ≡ true)
+          → (((s : Signed model.ViewChange) → IsIn s (filter_map (if_for v) xs) → p s.message.sender ≡ true) → length (filter_map (if_for v) xs) + count_below p (k + 1) ≤ count_below p (k + 1 + length xs))
           → length (cons_option o (filter_map (if_for v) xs)) + count_below p k ≤ count_below p (k + 1 + length xs)
-      go y None e good each = let le = rest each in let low = no_less p k in omega (arith, le, low)
-      go y (Some s) e good each =
+      go y None e good each rest = let le = rest each in let low = no_less p k in omega (arith, le, low)
+      go y (Some s) e good each rest =
           let le = rest (λ t i. each t (inr i)) in
           let here : p k ≡ true = subst (λ (n : ℕ). p n ≡ true) (found y s e good) (each s (inl refl)) in
           let next = one_more p k here in

@@ -74,11 +74,11 @@ there_is node s i = go node.files refl i
 
 found_in : {A : Type 0} (p : A → Bool) (xs : List A) (m : A) → find p xs ≡ Some m → IsIn m xs
 found_in p [] m e = absurd cc
-found_in {A} p (x ∷ xs) m e = go (p x) e
+found_in {A} p (x ∷ xs) m e = go (p x) e (found_in p xs m)
   where
-    go : (b : Bool) → cond b (Some x) (find p xs) ≡ Some m → IsIn m (x ∷ xs)
-    go true h = inl (sym (some_is x m h))
-    go false h = inr (found_in p xs m h)
+    go : (b : Bool) → cond b (Some x) (find p xs) ≡ Some m → (find p xs ≡ Some m → IsIn m xs) → IsIn m (x ∷ xs)
+    go true h later = inl (sym (some_is x m h))
+    go false h later = inr (later h)
 
 next_in : (s : State) (m : Signed Message) → next_order s ≡ Some m → IsIn m s.log
 next_in s m e = go (next_proposal s) refl e

@@ -48,13 +48,13 @@ filter_in {A} P p (y ∷ ys) all = go (p y) (filter_in P p ys (λ x i. all x (in
 
 pub out_of_filter_map : {A B : Type 0} (g : A → Option B) (xs : List A) (y : B) → IsIn y (filter_map g xs) → (x : A) × IsIn x xs × (g x ≡ Some y)
 out_of_filter_map g [] y i = absurd i
-out_of_filter_map {A} {B} g (x ∷ xs) y i = go (g x) refl i
+out_of_filter_map {A} {B} g (x ∷ xs) y i = go (g x) refl i (out_of_filter_map g xs y)
   where
-    go : (o : Option B) → g x ≡ o → IsIn y (cons_option o (filter_map g xs)) → (z : A) × IsIn z (x ∷ xs) × (g z ≡ Some y)
-    go None e j = let got = out_of_filter_map g xs y j in (got.0, inr got.1, got.2)
-    go (Some b) e j = elim j [
+    go : (o : Option B) → g x ≡ o → IsIn y (cons_option o (filter_map g xs)) → (IsIn y (filter_map g xs) → (z : A) × IsIn z xs × (g z ≡ Some y)) → (z : A) × IsIn z (x ∷ xs) × (g z ≡ Some y)
+    go None e j later = let got = later j in (got.0, inr got.1, got.2)
+    go (Some b) e j later = elim j [
       | inl same ↦ (x, inl refl, e ∙ ap (λ (c : B). Some c) (sym same))
-      | inr k ↦ let got = out_of_filter_map g xs y k in (got.0, inr got.1, got.2)
+      | inr k ↦ let got = later k in (got.0, inr got.1, got.2)
     ]
 
 pub any_in : {A : Type 0} (p : A → Bool) (xs : List A) (x : A) → IsIn x xs → p x ≡ true → list_any p xs ≡ true
@@ -66,27 +66,27 @@ any_in p (y ∷ ys) x i e = elim i [
 
 pub in_filter : {A : Type 0} (p : A → Bool) (xs : List A) (x : A) → IsIn x xs → p x ≡ true → IsIn x (filter p xs)
 in_filter p [] x i t = absurd i
-in_filter {A} p (y ∷ ys) x i t = go (p y) refl i
+in_filter {A} p (y ∷ ys) x i t = go (p y) refl i (λ k. in_filter p ys x k t)
   where
-    go : (b : Bool) → p y ≡ b → IsIn x (y ∷ ys) → IsIn x (cond b (y ∷ filter p ys) (filter p ys))
-    go true e j = elim j [ inl same ↦ inl same | inr k ↦ inr (in_filter p ys x k t) ]
-    go false e j = elim j [ inl same ↦ let no : true ≡ false = sym t ∙ ap p same ∙ e in absurd cc | inr k ↦ in_filter p ys x k t ]
+    go : (b : Bool) → p y ≡ b → IsIn x (y ∷ ys) → (IsIn x ys → IsIn x (filter p ys)) → IsIn x (cond b (y ∷ filter p ys) (filter p ys))
+    go true e j later = elim j [ inl same ↦ inl same | inr k ↦ inr (later k) ]
+    go false e j later = elim j [ inl same ↦ let no : true ≡ false = sym t ∙ ap p same ∙ e in absurd cc | inr k ↦ later k ]
 
 pub out_of_filter : {A : Type 0} (p : A → Bool) (xs : List A) (x : A) → IsIn x (filter p xs) → IsIn x xs × (p x ≡ true)
 out_of_filter p [] x i = absurd i
-out_of_filter {A} p (y ∷ ys) x i = go (p y) refl i
+out_of_filter {A} p (y ∷ ys) x i = go (p y) refl i (out_of_filter p ys x)
   where
-    go : (b : Bool) → p y ≡ b → IsIn x (cond b (y ∷ filter p ys) (filter p ys)) → IsIn x (y ∷ ys) × (p x ≡ true)
-    go true e j = elim j [ inl same ↦ (inl same, ap p same ∙ e) | inr k ↦ let got = out_of_filter p ys x k in (inr got.0, got.1) ]
-    go false e j = let got = out_of_filter p ys x j in (inr got.0, got.1)
+    go : (b : Bool) → p y ≡ b → IsIn x (cond b (y ∷ filter p ys) (filter p ys)) → (IsIn x (filter p ys) → IsIn x ys × (p x ≡ true)) → IsIn x (y ∷ ys) × (p x ≡ true)
+    go true e j later = elim j [ inl same ↦ (inl same, ap p same ∙ e) | inr k ↦ let got = later k in (inr got.0, got.1) ]
+    go false e j later = let got = later j in (inr got.0, got.1)
 
 pub in_filter_map : {A B : Type 0} (g : A → Option B) (xs : List A) (x : A) (y : B) → IsIn x xs → g x ≡ Some y → IsIn y (filter_map g xs)
 in_filter_map g [] x y i e = absurd i
-in_filter_map {A} {B} g (z ∷ zs) x y i e = go (g z) refl i
+in_filter_map {A} {B} g (z ∷ zs) x y i e = go (g z) refl i (λ k. in_filter_map g zs x y k e)
   where
-    go : (o : Option B) → g z ≡ o → IsIn x (z ∷ zs) → IsIn y (cons_option o (filter_map g zs))
-    go None f j = elim j [ inl same ↦ let no : Some y ≡ None = sym e ∙ ap g same ∙ f in absurd cc | inr k ↦ in_filter_map g zs x y k e ]
-    go (Some b) f j = elim j [
+    go : (o : Option B) → g z ≡ o → IsIn x (z ∷ zs) → (IsIn x zs → IsIn y (filter_map g zs)) → IsIn y (cons_option o (filter_map g zs))
+    go None f j later = elim j [ inl same ↦ let no : Some y ≡ None = sym e ∙ ap g same ∙ f in absurd cc | inr k ↦ later k ]
+    go (Some b) f j later = elim j [
       | inl same ↦ let is : Some y ≡ Some b = sym e ∙ ap g same ∙ f in inl (some_is y b is)
-      | inr k ↦ inr (in_filter_map g zs x y k e)
+      | inr k ↦ inr (later k)
     ]

@@ -1,5 +1,5 @@
 -- What holds of each message of a log, as the calls of its order go on.
-use Rattle.std.proofs.Common.{◌≡◌, ℕ, Bool, true, false, cond, ◌||◌, not, List, [], ◌∷◌, ◌++◌, Option, Some, None, inl, inr, refl, sym, ap, subst, ◌∙◌}
+use Rattle.std.proofs.Common.{◌≡◌, ℕ, ◌==◌, Bool, true, false, cond, ◌||◌, not, List, [], ◌∷◌, ◌++◌, Option, Some, None, inl, inr, refl, sym, ap, subst, ◌∙◌}
 use Rattle.std.specs.Prelude.{nat_lt}
 use Rattle.sha2.specs.Sha256.{sha256}
 use Rattle.bfs_auth.specs.Keys.{Keys}
@@ -87,11 +87,12 @@ module _ (keys : Keys) (me : ℕ) where
 
   over_own : (s : State) (ms : Log) → s.me ≡ me → AllIn (IsOwn me) (all_taken_over keys s ms).sent
   over_own s [] is = none_in (IsOwn me)
-  over_own s (m ∷ ms) is = go (handed_refusal s (header m))
+  over_own s (m ∷ ms) is = go (handed_refusal s (header m)) (λ t same. over_own t ms same)
     where
-      go : (r : Option OrderError) → AllIn (IsOwn me) ((unless r s (accepted keys s m)).sent ++ (all_taken_over keys (unless r s (accepted keys s m)).now ms).sent)
-      go None = both_in (IsOwn me) (accepted keys s m).sent _ (answers_own (with_message s m) (header m) is) (over_own (accepted keys s m).now ms is)
-      go (Some refused) = over_own s ms is
+      go : (r : Option OrderError) → ((t : State) → t.me ≡ me → AllIn (IsOwn me) (all_taken_over keys t ms).sent)
+          → AllIn (IsOwn me) ((unless r s (accepted keys s m)).sent ++ (all_taken_over keys (unless r s (accepted keys s m)).now ms).sent)
+      go None later = both_in (IsOwn me) (accepted keys s m).sent _ (answers_own (with_message s m) (header m) is) (later (accepted keys s m).now is)
+      go (Some refused) later = later s is
 
   proposal_own : (s : State) (batch : model.Batch) → s.me ≡ me → AllIn (IsOwn me) (proposed keys s batch).sent
   proposal_own s batch is = more_in (IsOwn me) (proposal keys s batch) (proposal_commits keys s batch)
@@ -149,18 +150,16 @@ module _ (P : Signed Message → Type 0) where
 
   over_in : (keys : Keys) (s : State) (ms : Log) → AllIn P s.log → AllIn P ms → AllIn P (all_taken_over keys s ms).sent → AllIn P (all_taken_over keys s ms).now.log
   over_in keys s [] all come all_said = all
-  over_in keys s (m ∷ ms) all come all_said = go (handed_refusal s (header m)) all_said
+  over_in keys s (m ∷ ms) all come all_said = go (handed_refusal s (header m)) (λ t kept said. over_in keys t ms kept (λ x i. come x (inr i)) said) all_said
     where
-      rest : AllIn P ms
-      rest x i = come x (inr i)
-
-      go : (r : Option OrderError) → AllIn P ((unless r s (accepted keys s m)).sent ++ (all_taken_over keys (unless r s (accepted keys s m)).now ms).sent)
+      go : (r : Option OrderError) → ((t : State) → AllIn P t.log → AllIn P (all_taken_over keys t ms).sent → AllIn P (all_taken_over keys t ms).now.log)
+          → AllIn P ((unless r s (accepted keys s m)).sent ++ (all_taken_over keys (unless r s (accepted keys s m)).now ms).sent)
           → AllIn P (all_taken_over keys (unless r s (accepted keys s m)).now ms).now.log
-      go None said =
+      go None next said =
           let first = (accepted keys s m).sent in
           let later = (all_taken_over keys (accepted keys s m).now ms).sent in
-          over_in keys (accepted keys s m).now ms (accepted_in keys s m all (come m (inl refl)) (λ x i. said x (left_in first later x i))) rest (λ x i. said x (right_in first later x i))
-      go (Some refused) said = over_in keys s ms all rest said
+          next (accepted keys s m).now (accepted_in keys s m all (come m (inl refl)) (λ x i. said x (left_in first later x i))) (λ x i. said x (right_in first later x i))
+      go (Some refused) next said = next s all said
 
   each_in : (log ms : Log) → AllIn P log → AllIn P ms → AllIn P (with_each log ms)
   each_in log [] all come = all

@@ -63,11 +63,12 @@ a_prepare (Reply reply) auth e = absurd (omega (arith, e))
 
 latest_behind : (xs : List model.Certificate) (b c : model.Certificate) → fold later (Some b) xs ≡ Some c → (c ≡ b) ⊎ IsIn c xs
 latest_behind [] b c e = inl (sym (some_is b c e))
-latest_behind (x ∷ xs) b c e = go (nat_lt (view_in b) (view_in x)) e
+latest_behind (x ∷ xs) b c e = go (nat_lt (view_in b) (view_in x)) e (latest_behind xs x c) (latest_behind xs b c)
   where
-    go : (t : Bool) → fold later (Some (cond t x b)) xs ≡ Some c → (c ≡ b) ⊎ IsIn c (x ∷ xs)
-    go true h = inr (latest_behind xs x c h)
-    go false h = elim (latest_behind xs b c h) [ inl same ↦ inl same | inr i ↦ inr (inr i) ]
+    go : (t : Bool) → fold later (Some (cond t x b)) xs ≡ Some c → (fold later (Some x) xs ≡ Some c → (c ≡ x) ⊎ IsIn c xs) → (fold later (Some b) xs ≡ Some c → (c ≡ b) ⊎ IsIn c xs)
+        → (c ≡ b) ⊎ IsIn c (x ∷ xs)
+    go true h one other = inr (one h)
+    go false h one other = elim (other h) [ inl same ↦ inl same | inr i ↦ inr (inr i) ]
 
 latest_among : (xs : List model.Certificate) (c : model.Certificate) → latest xs ≡ Some c → IsIn c xs
 latest_among [] c e = absurd cc
