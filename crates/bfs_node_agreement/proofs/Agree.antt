@@ -7,7 +7,6 @@ use Rattle.bfs_messages.specs.Laws.{MessageWasWritten}
 use Rattle.bfs_messages.specs.Messages as model
 use Rattle.bfs_order.specs.Laws.Calls.{CallsKeepTheReplica, IsKept}
 use Rattle.bfs_order.specs.Laws.Certificates.{CertificatesMakeStable}
-use Rattle.bfs_order.specs.Laws.Executed.{NextHasItsCertificate}
 use Rattle.bfs_order.specs.Laws.Logs.{HasNoLaterView}
 use Rattle.bfs_consensus.specs.Histories.{IsIn, FewAreFaulty}
 use Rattle.bfs_order_agreement.specs.Replicas as ordered
@@ -29,7 +28,7 @@ reached_later : (steps : List NodeTurn) (w : Replicas) (i : ℕ) (s : Standing) 
 reached_later [] w i s j = j
 reached_later (turn ∷ steps) w i s j = reached_later steps (after_turn w turn) i s (reached_on w turn i s j)
 
-module _ (same : CallsKeepTheReplica) (views : IsKept HasNoLaterView) (written : MessageWasWritten) (meet : QuorumsMeet) (stable : CertificatesMakeStable) (nexts : NextHasItsCertificate)
+module _ (same : CallsKeepTheReplica) (views : IsKept HasNoLaterView) (written : MessageWasWritten) (meet : QuorumsMeet) (stable : CertificatesMakeStable)
     (clients f : ℕ) (faulty : ℕ → Bool) (few : FewAreFaulty f faulty) where
   states_known : (steps : List NodeTurn) (w : Replicas) (v : ordered.Replicas) → AreRight f faulty w v → StatesKnown clients faulty w → AreAuthentic faulty w steps
       → StatesDontCollide faulty (after_turns w steps) → StatesKnown clients faulty (after_turns w steps)
@@ -40,16 +39,16 @@ module _ (same : CallsKeepTheReplica) (views : IsKept HasNoLaterView) (written :
       let done = step_done faulty w v who node (stands_of f faulty w v right who) written turn.step comes.0 in
       let next = after_turn w turn in
       let apart_now : StatesDontCollide faulty next = λ i j s t a b x y. apart i j s t a b (reached_later steps next i s x) (reached_later steps next j t y) in
-      let known_now = states_on meet stable nexts clients f faulty few w turn known_of (right who).same_f (λ m i. ((right who).log m i).whole) comes.0 done.stands done.tells apart_now in
+      let known_now = states_on meet stable clients f faulty few w turn known_of (right who).same_f (λ m i. ((right who).log m i).whole) comes.0 done.stands done.tells apart_now in
       states_known steps next (turns.after_turns v (map (turn_of who) (deeds_of node turn.step))) (right_on same views written f faulty w v right turn comes.0) known_now comes.1 apart
 
-pub nodes_agree : StepsAreTurns → TurnsMayBeTaken → ReplicasAgree → CallsKeepTheReplica → IsKept HasNoLaterView → MessageWasWritten → QuorumsMeet → CertificatesMakeStable → NextHasItsCertificate → NodesAgree
-nodes_agree are may agree same views written meet stable nexts f clients secret faulty steps few comes batches_apart states_apart =
+pub nodes_agree : StepsAreTurns → TurnsMayBeTaken → ReplicasAgree → CallsKeepTheReplica → IsKept HasNoLaterView → MessageWasWritten → QuorumsMeet → CertificatesMakeStable → NodesAgree
+nodes_agree are may agree same views written meet stable f clients secret faulty steps few comes batches_apart states_apart =
     let start = new_replicas f clients secret in
     let w = after_turns start steps in
     let list = ordered_turns start steps in
     let taken = may f clients secret faulty steps comes in
-    let known_of = states_known same views written meet stable nexts clients f faulty few steps start (ordered.new_replicas f) (new_right same views written f faulty clients secret)
+    let known_of = states_known same views written meet stable clients f faulty few steps start (ordered.new_replicas f) (new_right same views written f faulty clients secret)
     (new_states clients f secret faulty) comes states_apart in
     let batches : (i j number : ℕ) (batch other : model.Batch) → faulty i ≡ false → faulty j ≡ false → Executed (w i) number batch → Executed (w j) number other → batch ≡ other =
     λ i j number batch other a b x y.

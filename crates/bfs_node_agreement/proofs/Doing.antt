@@ -141,14 +141,14 @@ module _ (faulty : ℕ → Bool) (v : ordered.Replicas) (who : ℕ) (node : Node
   WereKept = AreKept faulty node.order.f (histories v) node.changes
 
   pub nothing_done : (S : Type 0) (out : Outcome) → AreKept faulty node.order.f (histories v) out.now.changes → out.now.keys ≡ node.keys → out.sent ≡ [] → S → Done S [] out
-  nothing_done S out kept keys none state = record {
+  nothing_done S out kept keys none stands = record {
     may = tt;
     keys = keys;
     kept = kept;
     spoken = λ s i. absurd (subst (λ (l : Log). IsIn s l) none i);
     tells = λ s i. absurd (subst (λ (l : Log). IsIn s l) none i);
     brings = tt;
-    stands = state;
+    stands = stands;
   }
 
   -- what the order says is sent
@@ -161,7 +161,7 @@ module _ (faulty : ℕ → Bool) (v : ordered.Replicas) (who : ℕ) (node : Node
   pub order_done : (S : Type 0) (call : order.Call) (out : Outcome) → WereKept → MayDo faulty (histories v) node.order (ordered.Orders call) → out.now.keys ≡ node.keys → out.now.changes ≡ node.changes
       → ((s : Signed Message) → IsIn s out.sent → IsIn s (votes_by node.order call) ⊎ IsOther node s.message)
       → Brings (IsHeard faulty (histories (After (turns.Orders call ∷ [])))) node.order call → S → Done S (turns.Orders call ∷ []) out
-  order_done S call out kept may keys changes sent brings state =
+  order_done S call out kept may keys changes sent brings stands =
       let deeds : List Deed = turns.Orders call ∷ [] in
       let q = after_deeds (v who) deeds in
       let known = λ (s : Signed Message) (i : IsIn s out.sent). known_of deeds call s (λ m k. left_in (votes_by (v who).state call) (v who).sent m k) (sent s i) in
@@ -172,7 +172,7 @@ module _ (faulty : ℕ → Bool) (v : ordered.Replicas) (who : ℕ) (node : Node
         spoken = λ s i. (known s i).0;
         tells = λ s i. (known s i).1;
         brings = (brings, tt);
-        stands = state;
+        stands = stands;
       }
     where
       known_of : (deeds : List Deed) (call : order.Call) (s : Signed Message) → ((m : Signed Message) → IsIn m (votes_by (v who).state call) → IsIn m (after_deeds (v who) deeds).sent)

@@ -21,7 +21,6 @@ use Rattle.bfs_messages.specs.declared.signed.Signed.{Signed}
 use Rattle.bfs_messages.specs.declared.message.Message.{Message}
 use Rattle.bfs_messages.specs.declared.message.Message.TheVariants.{Request, PrePrepare, Prepare, Commit, Checkpoint, ViewChange, NewView, Reply}
 use Rattle.bfs_order.specs.Laws.Certificates.{CertificatesMakeStable}
-use Rattle.bfs_order.specs.Laws.Executed.{NextHasItsCertificate}
 use Rattle.bfs_order.specs.Replica.Executing.{batch_of, next_committed, next_order, next_proposal, where_committed}
 use Rattle.bfs_order.specs.Replica.Installing.{digest_of, is_certificate, number_of, vouches}
 use Rattle.bfs_order.specs.Replica.Proposing.{batch_digest}
@@ -42,6 +41,7 @@ use Rattle.bfs_node_agreement.specs.Premises.{AreSame, AreAuthenticIn, ComesAuth
 use Rattle.bfs_node_agreement.specs.Replicas.{Replica, Replicas, Standing, NodeTurn, after_step, after_turn, after_turns, new_replicas, standing_of, standing_with}
 use Rattle.bfs_node_agreement.specs.Steps.{NodeStep, Delivers, Proposes, Executes, Fails, Checkpoints, TimesOut, Adopts, after_execution, executed_by, outcome as result, still}
 use Rattle.bfs_node_agreement.proofs.Doing.{IsOwnCheckpoint, IsStill, StandsBy, Tells}
+use Rattle.bfs_node_agreement.proofs.Executing.{next_follows}
 
 -- States ------------------------------------------------------------------------------------------------------------------------
 
@@ -223,7 +223,7 @@ here_after w turn = go (turn.who == turn.who) (eq_itself turn.who)
     go true e = refl
     go false e = absurd cc
 
-module _ (meet : QuorumsMeet) (stable : CertificatesMakeStable) (nexts : NextHasItsCertificate) (clients f : ℕ) (faulty : ℕ → Bool) (few : FewAreFaulty f faulty) where
+module _ (meet : QuorumsMeet) (stable : CertificatesMakeStable) (clients f : ℕ) (faulty : ℕ → Bool) (few : FewAreFaulty f faulty) where
   -- the state that a certificate tells of is that of a correct replica
   pub record IsVouched (w : Replicas) (certificate : Log) : Type 0 where
     pub who : ℕ
@@ -310,7 +310,7 @@ module _ (meet : QuorumsMeet) (stable : CertificatesMakeStable) (nexts : NextHas
         go (Some before) None e n live = stays node files (record { files = refl; table = refl; last = refl }) live
         go (Some before) (Some next) e n live =
             let made = outcome.outcome before node.table next.batch in
-            let number : next.number ≡ suc node.order.last = (nexts node.order next n).follows ∙ one_more node.order.last in
+            let number : next.number ≡ suc node.order.last = next_follows node.order next n ∙ one_more node.order.last in
             let was = grown node.order.last before node.table (known_of.comes turn.who (record { number = node.order.last; files = before; table = node.table }) correct (known_of.here turn.who before e)) in
             let by = subst (λ (k : ℕ). Executed (after turn.who) k next.batch) number (executed before next e n) in
             subst (λ (k : ℕ). Comes after k files made.table) (sym number)

@@ -202,7 +202,7 @@ module _ (same : CallsKeepTheReplica) (views : IsKept HasNoLaterView) (written :
       let n = length-map-range_with_len (λ k. shared_keys secret (principal.Replica me) (principal.Replica k)) 0 (3 * f + 1) in
       omega (arith, n)
 
-  pub new_right : (f clients : ℕ) (secret : List ℕ) → AreRight f faulty (new_replicas f clients secret) (ordered.new_replicas f)
+  pub new_right : (clients : ℕ) (secret : List ℕ) → AreRight f faulty (new_replicas f clients secret) (ordered.new_replicas f)
   new_right clients secret i = record {
     tracks = record { state = refl; executed = refl };
     bounded = refl;

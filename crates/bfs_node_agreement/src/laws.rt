@@ -5,7 +5,6 @@ use bfs_agreement::quorums::quorums_meet;
 use bfs_messages::message_was_written;
 use bfs_order::{
     a_replica_stays_itself, certificates_make_checkpoints_stable, views_are_entered,
-    what_is_executed_has_its_certificate,
 };
 use bfs_view_agreement::laws::replicas_agree;
 
@@ -34,7 +33,6 @@ pub fn nodes_agree()
     replicas_agree();
     quorums_meet();
     certificates_make_checkpoints_stable();
-    what_is_executed_has_its_certificate();
     a_replica_stays_itself();
     views_are_entered();
     message_was_written();
