@@ -1,6 +1,6 @@
 -- Where a premise does not hold, two replicas execute two digests: by computing.
-use Rattle.std.proofs.Common.{◌≡◌, ◌∷◌, [], inl, refl, arith}
-use Rattle.bfs_consensus.specs.Examples.{digest, other_digest, ExecutesTwoDigests, NeedsAuthenticity, NeedsFewFaulty}
+use Rattle.std.proofs.Common.{inl, refl, arith}
+use Rattle.bfs_consensus.specs.Examples.{ExecutesTwoDigests, NeedsAuthenticity, NeedsFewFaulty}
 
 executes_two : ExecutesTwoDigests
 executes_two = ((_, inl refl), (_, inl refl), λ e. absurd cc)

@@ -1,5 +1,5 @@
 -- A NEW-VIEW that a node begins is right.
-use Rattle.std.proofs.Common.{◌≡◌, ℕ, ◌+◌, ◌*◌, ◌≤◌, ◌==◌, Bool, true, false, cond, List, [], ◌∷◌, Option, Some, None, length, map, refl, sym, ap, ap₂, subst, ◌∙◌, arith}
+use Rattle.std.proofs.Common.{◌≡◌, ℕ, ◌+◌, ◌*◌, ◌==◌, Bool, true, false, cond, List, [], ◌∷◌, Option, Some, None, length, map, refl, sym, ap, ap₂, subst, ◌∙◌, arith}
 use Rattle.std.specs.Prelude.{nat_lt, nat_le, filter_map}
 use Rattle.std.specs.List.{cons_option}
 use Rattle.std.proofs.lemmas.Bool.{and_parts, and_from, eqb-true, leb-true}
@@ -13,7 +13,7 @@ use Rattle.bfs_messages.specs.Batches.{batch_text}
 use Rattle.bfs_messages.specs.declared.signed.Signed.{Signed}
 use Rattle.bfs_messages.specs.declared.message.Message.{Message}
 use Rattle.bfs_messages.specs.declared.message.Message.TheVariants.{PrePrepare}
-use Rattle.bfs_consensus.specs.Histories.{IsIn, World}
+use Rattle.bfs_consensus.specs.Histories.{World}
 use Rattle.bfs_order_agreement.proofs.Public.{AllIn, IsOwn, whole_of}
 use Rattle.bfs_view.specs.Changes.Choice.{Chosen, choice}
 use Rattle.bfs_view.specs.Changes.Keeping.{changes_for, if_for}

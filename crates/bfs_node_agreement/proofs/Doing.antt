@@ -1,8 +1,7 @@
 -- What the deeds of a node's order may be, and what they leave of what is known.
-use Rattle.std.proofs.Common.{◌≡◌, ℕ, ◌==◌, Bool, true, false, cond, not, List, [], ◌∷◌, ◌++◌, ◌⊎◌, Option, Some, None, map, inl, inr, refl, sym, ap, subst, ◌∙◌}
+use Rattle.std.proofs.Common.{◌≡◌, ℕ, ◌==◌, Bool, true, false, cond, List, [], ◌∷◌, ◌⊎◌, Option, Some, None, map, inl, inr, refl, sym, ap, subst, ◌∙◌}
 use Rattle.std.proofs.lemmas.Bool.{eq-eqb}
 use Rattle.bfs_model.specs.Server.Tree.{FileSystem}
-use Rattle.bfs_auth.specs.Keys.{Keys}
 use Rattle.bfs_checkpoints.specs.Texts.{node_digest}
 use Rattle.bfs_log.specs.Logs.{Log}
 use Rattle.bfs_messages.specs.Messages as model
@@ -13,7 +12,7 @@ use Rattle.bfs_order.specs.Laws.Calls as order
 use Rattle.bfs_order.specs.Replica.States as state
 use Rattle.bfs_order.specs.Replica.Views as views
 use Rattle.bfs_order.specs.declared.error.OrderError.{OrderError}
-use Rattle.bfs_consensus.specs.Histories.{IsIn, World}
+use Rattle.bfs_consensus.specs.Histories.{IsIn}
 use Rattle.bfs_order_agreement.specs.Replicas as ordered
 use Rattle.bfs_order_agreement.specs.Replicas.{after_deed, call_of, histories, votes_by, with_replica, MayDo}
 use Rattle.bfs_order_agreement.proofs.Public.{AllIn, Brings, IsOwn, IsVote, left_in, log_keeps, votes_own}
@@ -26,7 +25,7 @@ use Rattle.bfs_node.specs.Changing.{leads}
 use Rattle.bfs_node.specs.Nodes.{Node, Outcome}
 use Rattle.bfs_node_agreement.specs.Replicas.{turn_of}
 use Rattle.bfs_node_agreement.specs.Steps.{NodeStep, Delivers, Proposes, Executes, Fails, Checkpoints, TimesOut, Adopts, outcome}
-use Rattle.bfs_node_agreement.proofs.Hearing.{AreGrown, Extends, IsHeard, IsSpoken, Spoken, extends_both, extends_deed, extends_turns, grown, spoken_on, spoken_vote}
+use Rattle.bfs_node_agreement.proofs.Hearing.{Extends, IsHeard, IsSpoken, Spoken, extends_both, extends_deed, grown, spoken_vote}
 use Rattle.bfs_node_agreement.proofs.Keeping.{AreKept, kept_on}
 use Rattle.bfs_node_agreement.proofs.Steps.{after_deeds, called}
 

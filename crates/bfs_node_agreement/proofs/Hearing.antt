@@ -1,5 +1,5 @@
 -- What stands in logs was sent, and what nodes have sent their orders have.
-use Rattle.std.proofs.Common.{◌≡◌, ℕ, ◌<◌, ◌==◌, Bool, true, false, cond, ◌&&◌, List, [], ◌∷◌, ◌++◌, ◌⊎◌, map, inl, inr, refl, sym, ap, subst, ◌∙◌, arith}
+use Rattle.std.proofs.Common.{◌≡◌, ℕ, ◌<◌, ◌==◌, Bool, true, false, cond, ◌&&◌, List, [], ◌∷◌, ◌⊎◌, inl, inr, refl, sym, ap, subst, ◌∙◌, arith}
 use Rattle.std.specs.List.{AllByRecursion, list_all}
 use Rattle.std.proofs.lemmas.Bool.{and_parts, eqb-true}
 use Rattle.bfs_auth.specs.Keys.{Keys}
@@ -28,7 +28,7 @@ use Rattle.bfs_view_agreement.specs.Changes.{told_change, IsGenuine}
 use Rattle.bfs_view_agreement.specs.Replicas as turns
 use Rattle.bfs_view_agreement.specs.Replicas.{Turn, ordered_deed, ordered_turn}
 use Rattle.bfs_view_agreement.proofs.Public.{as_it_is, in_map, out_of_map, passes_at, told_in}
-use Rattle.bfs_node_agreement.specs.Premises.{offers_in, HasSaid, IsAuthentic, AreProofsAuthentic}
+use Rattle.bfs_node_agreement.specs.Premises.{offers_in, signed_part, HasSaid, IsAuthentic, AreProofsAuthentic, SaysTheSame}
 use Rattle.bfs_node_agreement.specs.Replicas.{Replicas}
 
 -- What orders have sent grows -----------------------------------------------------------------------------------------------
@@ -161,10 +161,60 @@ offer_spoken o s (Request request) p is i = absurd i
 offer_spoken o s (Checkpoint checkpoint) p is i = absurd i
 offer_spoken o s (Reply reply) p is i = absurd i
 
-told_of : (log : Log) (s : Signed Message) (m : Message) → s.message ≡ m → IsIn s log
+header_kept : (m : Message) → message_header (signed_part m) ≡ message_header m
+header_kept (PrePrepare proposal) = refl
+header_kept (Prepare vote) = refl
+header_kept (Commit vote) = refl
+header_kept (ViewChange change) = refl
+header_kept (NewView new) = refl
+header_kept (Request request) = refl
+header_kept (Checkpoint checkpoint) = refl
+header_kept (Reply reply) = refl
+
+pub same_header : (m n : Message) → SaysTheSame m n → message_header m ≡ message_header n
+same_header m n e = sym (header_kept m) ∙ ap message_header e ∙ header_kept n
+
+-- what is no PRE-PREPARE is signed whole
+pub signed_whole : (m n : Message) → ((message_header n).tag ≡ 2 → ⊥) → signed_part m ≡ n → m ≡ n
+signed_whole (PrePrepare proposal) n other e = absurd (other (sym (ap (λ (x : Message). (message_header x).tag) e)))
+signed_whole (Prepare vote) n other e = e
+signed_whole (Commit vote) n other e = e
+signed_whole (ViewChange change) n other e = e
+signed_whole (NewView new) n other e = e
+signed_whole (Request request) n other e = e
+signed_whole (Checkpoint checkpoint) n other e = e
+signed_whole (Reply reply) n other e = e
+
+pub vote_between : (m : Message) → IsVote m → (1 < (message_header m).tag) × ((message_header m).tag < 5)
+vote_between (PrePrepare proposal) kind = (omega arith, omega arith)
+vote_between (Prepare vote) kind = (omega arith, omega arith)
+vote_between (Commit vote) kind = (omega arith, omega arith)
+vote_between (ViewChange change) kind = absurd kind
+vote_between (NewView new) kind = absurd kind
+vote_between (Request request) kind = absurd kind
+vote_between (Checkpoint checkpoint) kind = absurd kind
+vote_between (Reply reply) kind = absurd kind
+
+between_votes : (m : Message) → 1 < (message_header m).tag → (message_header m).tag < 5 → IsVote m
+between_votes (PrePrepare proposal) low high = tt
+between_votes (Prepare vote) low high = tt
+between_votes (Commit vote) low high = tt
+between_votes (ViewChange change) low high = absurd (omega (arith, high))
+between_votes (NewView new) low high = absurd (omega (arith, high))
+between_votes (Request request) low high = absurd (omega (arith, low))
+between_votes (Checkpoint checkpoint) low high = absurd (omega (arith, high))
+between_votes (Reply reply) low high = absurd (omega (arith, high))
+
+vote_alike : (m n : Message) → SaysTheSame m n → IsVote n → IsVote m
+vote_alike m n e kind =
+    let tag : (message_header n).tag ≡ (message_header m).tag = ap (λ (h : Header). h.tag) (sym (same_header m n e)) in
+    let at = vote_between n kind in
+    between_votes m (subst (λ (t : ℕ). 1 < t) tag at.0) (subst (λ (t : ℕ). t < 5) tag at.1)
+
+told_of : (log : Log) (s : Signed Message) (m : Message) → SaysTheSame s.message m → IsIn s log
     → Told (headers log) (message_header m).tag (message_header m).sender (message_header m).view (message_header m).number (message_header m).digest
 told_of log s m e i =
-    subst (λ (h : Header). Told (headers log) h.tag h.sender h.view h.number h.digest) (ap message_header e) (in_told (headers log) (header s) (in_map header log s i))
+    subst (λ (h : Header). Told (headers log) h.tag h.sender h.view h.number h.digest) (same_header s.message m e) (in_told (headers log) (header s) (in_map header log s i))
 
 vote_said : (o : ordered.Replica) (sent : Log) → AllIn (IsSpoken o) sent → (m : Message) → IsVote m → HasSaid sent m
     → Told (headers o.sent) (message_header m).tag (message_header m).sender (message_header m).view (message_header m).number (message_header m).digest
@@ -173,11 +223,11 @@ vote_said o sent all m kind said =
     let s = said.0 in
     let spoken = all s said.1 in
     elim said.2 [
-      | inl e ↦ inl (told_of o.sent s m e (vote_sent o s m kind (subst (Spoken o s) e spoken)))
+      | inl e ↦ inl (told_of o.sent s m e (vote_sent o s s.message (vote_alike s.message m e kind) spoken))
       | inr offer ↦
           let p = offer.0 in
           let got = offer_spoken o s s.message p spoken offer.1 in
-          let two : (message_header m).tag ≡ 2 = sym (ap (λ (x : Message). (message_header x).tag) offer.2) ∙ got.1 in
+          let two : (message_header m).tag ≡ 2 = ap (λ (h : Header). h.tag) (sym (same_header p.message m offer.2)) ∙ got.1 in
           inr (two, subst (λ (t : ℕ). Told (headers o.offers) t (message_header m).sender (message_header m).view (message_header m).number (message_header m).digest) two (told_of o.offers p m offer.2 got.0))
     ]
 
@@ -198,16 +248,6 @@ kinds_in c m i = elim i [
   | inr j ↦ let from = out_of_map (as_message Prepare) c.prepares m j in subst (λ (x : Signed Message). IsVote x.message) (sym from.2) tt
 ]
 
-pub vote_small : (m : Message) → IsVote m → (message_header m).tag < 5
-vote_small (PrePrepare proposal) kind = omega arith
-vote_small (Prepare vote) kind = omega arith
-vote_small (Commit vote) kind = omega arith
-vote_small (ViewChange change) kind = absurd kind
-vote_small (NewView new) kind = absurd kind
-vote_small (Request request) kind = absurd kind
-vote_small (Checkpoint checkpoint) kind = absurd kind
-vote_small (Reply reply) kind = absurd kind
-
 -- What passes -----------------------------------------------------------------------------------------------------------------
 
 module _ (faulty : ℕ → Bool) (w : Replicas) (v : ordered.Replicas) (spoken : (k : ℕ) → AllIn (IsSpoken (v k)) (w k).sent) (keys : Keys) where
@@ -219,10 +259,12 @@ module _ (faulty : ℕ → Bool) (w : Replicas) (v : ordered.Replicas) (spoken :
 
   change_said : (k : ℕ) (change : model.ViewChange) → HasSaid (w k).sent (ViewChange change) → IsIn (told_change change) (v k).changes
   change_said k change said = elim said.2 [
-    | inl e ↦ subst (Spoken (v k) said.0) e (spoken k said.0 said.1)
+    | inl e ↦
+        let is = signed_whole said.0.message (ViewChange change) (λ two. absurd (omega (arith, two))) e in
+        subst (Spoken (v k) said.0) is (spoken k said.0 said.1)
     | inr offer ↦
         let two = (offer_spoken (v k) said.0 said.0.message offer.0 (spoken k said.0 said.1) offer.1).1 in
-        let six : (header offer.0).tag ≡ 6 = ap (λ (x : Message). (message_header x).tag) offer.2 in
+        let six : (header offer.0).tag ≡ 6 = ap (λ (h : Header). h.tag) (same_header offer.0.message (ViewChange change) offer.2) in
         absurd (omega (arith, two, six))
   ]
 

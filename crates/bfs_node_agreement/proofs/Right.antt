@@ -1,5 +1,5 @@
 -- Each step of a node is turns that its order may take.
-use Rattle.std.proofs.Common.{◌≡◌, ℕ, ◌+◌, ◌<◌, ◌≤◌, ◌==◌, Bool, true, false, cond, ◌&&◌, not, List, [], ◌∷◌, ◌++◌, ◌⊎◌, length, Option, Some, None, option_map, map, inl, inr, refl, sym, ap, subst, ◌∙◌, arith}
+use Rattle.std.proofs.Common.{◌≡◌, ℕ, ◌+◌, ◌<◌, ◌==◌, Bool, true, false, cond, ◌&&◌, not, List, [], ◌∷◌, ◌⊎◌, length, Option, Some, None, option_map, map, inl, inr, refl, sym, ap, subst, ◌∙◌, arith}
 use Rattle.std.specs.Prelude.{max, nat_lt, bytes_eq}
 use Rattle.std.specs.List.{list_all}
 use Rattle.std.proofs.lemmas.Bool.{and_parts, eqb-true}
@@ -8,7 +8,7 @@ use Rattle.bfs_model.specs.Server.Stored.{AreBytes}
 use Rattle.bfs_model.specs.Server.Tree.{FileSystem, Time}
 use Rattle.bfs_auth.specs.Authenticators.{signature_for_client}
 use Rattle.bfs_auth.specs.Keys.{Keys}
-use Rattle.bfs_agreement.specs.Votes.{Told, primary}
+use Rattle.bfs_agreement.specs.Votes.{Told}
 use Rattle.bfs_checkpoints.specs.Snapshots.{snapshot_of}
 use Rattle.bfs_checkpoints.specs.Texts.{node_digest}
 use Rattle.bfs_log.specs.Batches.{Committed}
@@ -27,7 +27,6 @@ use Rattle.bfs_messages.specs.declared.message.Message.TheVariants.{Request, Pre
 use Rattle.bfs_order.specs.Laws.Calls as order
 use Rattle.bfs_order.specs.Laws.Logs.{HasNoLaterView}
 use Rattle.bfs_order.specs.Replica.Accepting.{accepted}
-use Rattle.bfs_order.specs.Replica.Checkpoints as checkpoints
 use Rattle.bfs_order.specs.Replica.Executing.{next_committed}
 use Rattle.bfs_order.specs.Replica.Installing.{is_certificate, digest_of, vouches}
 use Rattle.bfs_order.specs.Replica.Outcomes as outcomes
@@ -35,9 +34,8 @@ use Rattle.bfs_order.specs.Replica.Proposing as proposing
 use Rattle.bfs_order.specs.Replica.Refusals.{is_authentic, is_ordering, place_refusal, refusal}
 use Rattle.bfs_order.specs.Replica.States.{State}
 use Rattle.bfs_order.specs.Replica.Views as views
-use Rattle.bfs_order.specs.declared.error.OrderError as errors
 use Rattle.bfs_order.specs.declared.error.OrderError.{OrderError}
-use Rattle.bfs_consensus.specs.Histories.{IsIn, World, WasSent}
+use Rattle.bfs_consensus.specs.Histories.{IsIn, World}
 use Rattle.bfs_consensus.proofs.Public.{Grows, in_told}
 use Rattle.bfs_order_agreement.specs.Replicas as ordered
 use Rattle.bfs_order_agreement.specs.Replicas.{after_deed, histories, with_replica}
@@ -47,11 +45,11 @@ use Rattle.bfs_replies.specs.Tables.{Table}
 use Rattle.bfs_view.specs.Changes.Certificates.{faults}
 use Rattle.bfs_view.specs.Changes.Choice.{choice}
 use Rattle.bfs_view.specs.Changes.Keeping.{above_view, changes_for, with_asked, with_change, was_asked}
-use Rattle.bfs_view.specs.Changes.Making.{change_of, handed_in}
+use Rattle.bfs_view.specs.Changes.Making.{handed_in}
 use Rattle.bfs_view.specs.Changes.NewViews.{new_view_refusal}
 use Rattle.bfs_view.specs.Changes.Parts.{as_message, messages_in, messages_of}
 use Rattle.bfs_view.specs.Changes.ViewChanges.{valid_view_change}
-use Rattle.bfs_view_agreement.specs.Changes.{told_change, IsGenuine}
+use Rattle.bfs_view_agreement.specs.Changes.{told_change}
 use Rattle.bfs_view_agreement.specs.Replicas as turns
 use Rattle.bfs_view_agreement.specs.Replicas.{Deed, ordered_deed}
 use Rattle.bfs_view_agreement.proofs.Public.{in_map, made_holds, made_proves, passes_at, valid_proves}
@@ -64,14 +62,13 @@ use Rattle.bfs_node.specs.Executing.{executed_on, is_next, replies_to, reply_to,
 use Rattle.bfs_node.specs.Nodes.{Node, Outcome}
 use Rattle.bfs_node.specs.Proposing.{pending_batch, proposed}
 use Rattle.bfs_node.specs.declared.error.NodeError.{NodeError}
-use Rattle.bfs_node.specs.declared.error.NodeError.TheVariants as error
 use Rattle.bfs_node_agreement.specs.Premises.{ArePartsAuthentic, ComesAuthentic, IsAuthentic, IsWhollyAuthentic}
 use Rattle.bfs_node_agreement.specs.Replicas.{Replicas, turn_of}
 use Rattle.bfs_node_agreement.specs.Steps.{NodeStep, Delivers, Proposes, Executes, Fails, Checkpoints, TimesOut, Adopts, still, unless, or_still, after_execution, outcome, where_taken, begun_deeds, change_deeds, message_deeds, bytes_deeds, checkpoint_deeds, timeout_deeds, deeds_of}
 use Rattle.bfs_node_agreement.proofs.Begun.{begun_right, own_handed}
 use Rattle.bfs_node_agreement.proofs.Bounds.{IsBounded, left_bounded}
 use Rattle.bfs_node_agreement.proofs.Doing.{After, BringAll, Done, IsOther, IsOwnCheckpoint, IsStill, StandsBy, Tells, WereKept, at_who, entry_done, extends_deeds, here_is, nothing_done, offered, order_done}
-use Rattle.bfs_node_agreement.proofs.Hearing.{IsHeard, IsSpoken, genuine_of, grown, heard_on, kinds_in, vote_small, vote_was_sent}
+use Rattle.bfs_node_agreement.proofs.Hearing.{IsHeard, IsSpoken, genuine_of, grown, heard_on, kinds_in, vote_between, vote_was_sent}
 use Rattle.bfs_node_agreement.proofs.Keeping.{AreKept, IsGood, kept_above, kept_on, kept_with}
 use Rattle.bfs_node_agreement.proofs.Steps.{after_deeds, begins_open, not_refused, not_second}
 use Rattle.bfs_node_agreement.proofs.Taken.{taken_heard, taken_right}
@@ -456,7 +453,7 @@ module _ (faulty : ℕ → Bool) (w : Replicas) (v : ordered.Replicas) (who : �
         genuine = record {
           sent = λ correct. subst (λ (k : ℕ). IsIn (told_change own.message) (after k).changes) (sym know.me)
               (subst (λ (o : ordered.Replica). IsIn (told_change own.message) o.changes) (sym (here_is v who q)) (told_now may));
-          certificates = λ c m i j. (heard c i m j).sent (vote_small m.message (kinds_in c m j));
+          certificates = λ c m i j. (heard c i m j).sent (vote_between m.message (kinds_in c m j)).1;
           whole = λ c i. (heard c i (as_message PrePrepare c.proposal) (inl refl)).whole c.proposal.message refl;
         };
       }

@@ -1,6 +1,6 @@
 -- Replicas that reach a number have one state there, which comes of the batches up to it.
-use Rattle.std.proofs.Common.{◌≡◌, ℕ, zero, suc, ◌+◌, ◌*◌, ◌≤◌, ◌<◌, ◌==◌, Bool, true, false, cond, ◌&&◌, ◌||◌, not, List, [], ◌∷◌, ◌++◌, ◌⊎◌, Option, Some, None, option_map, map, replicate, bytes_eq, inl, inr, refl, sym, ap, ap₂, subst, ◌∙◌, arith}
-use Rattle.std.specs.Prelude.{max, is_some, nat_lt, nat_le}
+use Rattle.std.proofs.Common.{◌≡◌, ℕ, zero, suc, ◌+◌, ◌*◌, ◌==◌, Bool, true, false, cond, ◌&&◌, not, List, [], ◌∷◌, ◌++◌, Option, Some, None, option_map, replicate, bytes_eq, inl, inr, refl, sym, ap, ap₂, subst, ◌∙◌, arith}
+use Rattle.std.specs.Prelude.{max, is_some, nat_lt}
 use Rattle.std.specs.List.{find, list_all}
 use Rattle.std.proofs.lemmas.Bool.{and_parts, or_cases, eq-eqb, eqb-true, leb-true, ltb-true}
 use Rattle.std.proofs.lemmas.Slice.Eq.{bytes_eq-Decides}
@@ -9,7 +9,7 @@ use Rattle.bfs_model.specs.Server.Tree.{FileSystem, new_file_system}
 use Rattle.bfs_auth.specs.Keys.{Keys}
 use Rattle.bfs_auth.specs.declared.principals.Principal.TheVariants as principal
 use Rattle.bfs_agreement.specs.Laws.{QuorumsMeet}
-use Rattle.bfs_agreement.specs.Votes.{Header, committed, count_below, is_slot, primary, replicas, tellers, told}
+use Rattle.bfs_agreement.specs.Votes.{Header, committed, is_slot, primary, replicas, tellers, told}
 use Rattle.bfs_checkpoints.specs.Texts.{node_digest}
 use Rattle.bfs_log.specs.Batches.{Committed}
 use Rattle.bfs_log.specs.Headers.{header, message_header}
@@ -28,20 +28,20 @@ use Rattle.bfs_order.specs.Replica.States.{State, known}
 use Rattle.bfs_outcome.specs.Outcome as outcome
 use Rattle.bfs_replies.specs.Tables.{Table}
 use Rattle.bfs_consensus.specs.Histories.{IsIn, FewAreFaulty}
-use Rattle.bfs_order_agreement.specs.Replicas as ordered
-use Rattle.bfs_order_agreement.specs.Replicas.{histories, message_in}
+use Rattle.bfs_order_agreement.specs.Replicas.{message_in}
 use Rattle.bfs_order_agreement.proofs.Public.{AllIn, IsWhole, both_in, either_in, left_in, none_in, right_in, some_is}
 use Rattle.bfs_view.specs.Changes.Parts.{as_message}
 use Rattle.bfs_view_agreement.proofs.Public.{out_of_map, passes_at, told_in}
 use Rattle.bfs_node.specs.Adopting.{adopted, is_ahead, may_adopt}
-use Rattle.bfs_node.specs.Executing.{execution, executed_next, executed_on, is_next, is_ready}
+use Rattle.bfs_node.specs.Executing.{executed_on, is_next, is_ready}
 use Rattle.bfs_node.specs.Nodes.{Node, Outcome, new_node}
-use Rattle.bfs_node_agreement.specs.Laws.{BatchesDontCollide, ComesOfBatches, Executed}
-use Rattle.bfs_node_agreement.specs.Premises.{AreSame, AreAuthenticIn, ComesAuthentic, HasSaid, StatesDontCollide, offers_in, standing_digest}
-use Rattle.bfs_node_agreement.specs.Replicas.{Replica, Replicas, Standing, NodeTurn, after_step, after_turn, after_turns, new_replicas, standing_of, standing_with}
+use Rattle.bfs_node_agreement.specs.Laws.{ComesOfBatches, Executed}
+use Rattle.bfs_node_agreement.specs.Premises.{AreAuthenticIn, ComesAuthentic, HasSaid, StatesDontCollide, offers_in, standing_digest}
+use Rattle.bfs_node_agreement.specs.Replicas.{Replica, Replicas, Standing, NodeTurn, after_step, after_turn, new_replicas, standing_of, standing_with}
 use Rattle.bfs_node_agreement.specs.Steps.{NodeStep, Delivers, Proposes, Executes, Fails, Checkpoints, TimesOut, Adopts, after_execution, executed_by, outcome as result, still}
 use Rattle.bfs_node_agreement.proofs.Doing.{IsOwnCheckpoint, IsStill, StandsBy, Tells}
 use Rattle.bfs_node_agreement.proofs.Executing.{next_follows}
+use Rattle.bfs_node_agreement.proofs.Hearing.{same_header, signed_whole}
 
 -- States ------------------------------------------------------------------------------------------------------------------------
 
@@ -150,10 +150,10 @@ offers_are (Reply reply) p i = absurd i
 
 checkpoint_said : (sent : Log) (c : model.Checkpoint) → HasSaid sent (Checkpoint c) → (s : Signed Message) × IsIn s sent × (s.message ≡ Checkpoint c)
 checkpoint_said sent c said = elim said.2 [
-  | inl e ↦ (said.0, said.1, e)
+  | inl e ↦ (said.0, said.1, signed_whole said.0.message (Checkpoint c) (λ two. absurd (omega (arith, two))) e)
   | inr offer ↦
       let two = offers_are said.0.message offer.0 offer.1 in
-      let five : (header offer.0).tag ≡ 5 = ap (λ (x : Message). (message_header x).tag) offer.2 in
+      let five : (header offer.0).tag ≡ 5 = ap (λ (h : Header). h.tag) (same_header offer.0.message (Checkpoint c) offer.2) in
       absurd (omega (arith, two, five))
 ]
 

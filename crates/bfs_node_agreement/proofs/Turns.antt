@@ -1,5 +1,5 @@
 -- Whatever nodes do is what turns of their orders do, and these turns may be taken.
-use Rattle.std.proofs.Common.{◌≡◌, ℕ, zero, suc, ◌+◌, ◌*◌, ◌-◌, ◌/◌, ◌==◌, Bool, true, false, cond, List, [], ◌∷◌, ◌++◌, Option, None, length, map, replicate, inl, inr, refl, sym, ap, subst, ◌∙◌, arith}
+use Rattle.std.proofs.Common.{◌≡◌, ℕ, zero, suc, ◌+◌, ◌*◌, ◌==◌, Bool, true, false, cond, List, [], ◌∷◌, ◌++◌, None, length, map, replicate, inl, refl, sym, ap, subst, ◌∙◌, arith}
 use Rattle.std.proofs.lemmas.Bool.{eqb-true}
 use Rattle.std.proofs.lemmas.List.FromFn.{length-map-range_with_len}
 use Rattle.bfs_auth.specs.Keys.{shared_keys}
@@ -8,7 +8,6 @@ use Rattle.bfs_agreement.specs.Votes.{Told, replicas}
 use Rattle.bfs_log.specs.Headers.{header}
 use Rattle.bfs_log.specs.Logs.{Log, headers}
 use Rattle.bfs_messages.specs.Laws.{MessageWasWritten}
-use Rattle.bfs_messages.specs.Messages as model
 use Rattle.bfs_messages.specs.declared.signed.Signed.{Signed}
 use Rattle.bfs_messages.specs.declared.message.Message.{Message}
 use Rattle.bfs_order.specs.Laws.Calls.{CallsKeepTheReplica, IsKept}
@@ -21,12 +20,9 @@ use Rattle.bfs_order_agreement.specs.Replicas as ordered
 use Rattle.bfs_order_agreement.specs.Replicas.{histories}
 use Rattle.bfs_order_agreement.proofs.Public.{AllIn, IsOwn, both_in, none_in}
 use Rattle.bfs_view.specs.Changes.Certificates.{faults}
-use Rattle.bfs_view.specs.Changes.Keeping.{nothing_kept}
-use Rattle.bfs_view_agreement.specs.Laws.{ReplicasAgree}
 use Rattle.bfs_view_agreement.specs.Replicas as turns
 use Rattle.bfs_view_agreement.specs.Replicas.{Deed, Turn, ordered_turn}
 use Rattle.bfs_view_agreement.proofs.Public.{in_map}
-use Rattle.bfs_node.specs.Nodes.{Node}
 use Rattle.bfs_node_agreement.specs.Laws.{Tracks, StepsAreTurns}
 use Rattle.bfs_node_agreement.specs.Premises.{AreAuthentic, ComesAuthentic}
 use Rattle.bfs_node_agreement.specs.Replicas.{Replica, Replicas, NodeTurn, after_step, after_turn, after_turns, new_replicas, turn_of, ordered_turns}

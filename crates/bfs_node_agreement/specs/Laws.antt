@@ -1,7 +1,6 @@
 -- The statements that are proved of the definitions: contracts of functions of src/laws.rt, which do nothing.
-use Rattle.std.specs.Prelude.{◌≡◌, ℕ, zero, suc, Bool, false, List, Option, Some, None, replicate}
+use Rattle.std.specs.Prelude.{◌≡◌, ℕ, zero, suc, Bool, false, List, Some, None, replicate}
 use Rattle.bfs_model.specs.Server.Tree.{FileSystem, new_file_system}
-use Rattle.bfs_log.specs.Batches.{Committed}
 use Rattle.bfs_log.specs.Logs.{batch_in}
 use Rattle.bfs_messages.specs.Messages.{Batch}
 use Rattle.bfs_messages.specs.declared.signed.Signed.{Signed}

@@ -14,7 +14,7 @@ use Rattle.bfs_messages.specs.declared.message.Message.TheVariants.{Request, Pre
 use Rattle.bfs_consensus.specs.Histories.{IsIn}
 use Rattle.bfs_view.specs.Changes.Making.{handed_in}
 use Rattle.bfs_view.specs.Changes.Parts.{as_message, messages_in}
-use Rattle.bfs_node_agreement.specs.Replicas.{Replica, Replicas, Standing, NodeTurn, after_turn}
+use Rattle.bfs_node_agreement.specs.Replicas.{Replicas, Standing, NodeTurn, after_turn}
 use Rattle.bfs_node_agreement.specs.Steps.{NodeStep, Delivers, Proposes, Executes, Fails, Checkpoints, TimesOut, Adopts}
 
 -- Authenticators ------------------------------------------------------------------------------------------------------------
@@ -30,9 +30,25 @@ offers_in (Checkpoint checkpoint) = []
 offers_in (ViewChange change) = []
 offers_in (Reply reply) = []
 
+-- of what a message's keyed hashes are: of a PRE-PREPARE the batch is attached, and they are of its digest
+abbrev pub signed_part : Message → Message
+signed_part (PrePrepare proposal) = PrePrepare (record proposal { batch = None })
+signed_part (Request request) = Request request
+signed_part (Prepare vote) = Prepare vote
+signed_part (Commit vote) = Commit vote
+signed_part (Checkpoint checkpoint) = Checkpoint checkpoint
+signed_part (ViewChange change) = ViewChange change
+signed_part (NewView new) = NewView new
+signed_part (Reply reply) = Reply reply
+
+-- two messages say the same
+abbrev pub SaysTheSame : Message → Message → Type 0
+SaysTheSame one other = signed_part one ≡ signed_part other
+
 -- a message of those that were sent says it, or a PRE-PREPARE in one of them
 abbrev pub HasSaid : Log → Message → Type 0
-HasSaid sent message = (s : Signed Message) × IsIn s sent × ((s.message ≡ message) ⊎ ((p : Signed Message) × IsIn p (offers_in s.message) × (p.message ≡ message)))
+HasSaid sent message = (s : Signed Message) × IsIn s sent
+    × (SaysTheSame s.message message ⊎ ((p : Signed Message) × IsIn p (offers_in s.message) × SaysTheSame p.message message))
 
 -- what passes under a correct sender's name was sent by it (OSDI 1999 section 2: authenticators aren't forged)
 abbrev pub IsAuthentic : (faulty : ℕ → Bool) → Replicas → Keys → Signed Message → Type 0

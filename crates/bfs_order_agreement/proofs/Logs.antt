@@ -1,5 +1,5 @@
 -- What holds of each message of a log, as the calls of its order go on.
-use Rattle.std.proofs.Common.{◌≡◌, ℕ, ◌==◌, Bool, true, false, cond, ◌||◌, not, List, [], ◌∷◌, ◌++◌, Option, Some, None, inl, inr, refl, sym, ap, subst, ◌∙◌}
+use Rattle.std.proofs.Common.{◌≡◌, ℕ, ◌==◌, Bool, true, false, cond, ◌||◌, not, List, [], ◌∷◌, ◌++◌, Option, Some, None, inl, inr, refl, subst}
 use Rattle.std.specs.Prelude.{nat_lt}
 use Rattle.sha2.specs.Sha256.{sha256}
 use Rattle.bfs_auth.specs.Keys.{Keys}
@@ -17,15 +17,14 @@ use Rattle.bfs_order.specs.Replica.Accepting.{accepted, answers, makes_stable, s
 use Rattle.bfs_order.specs.Replica.Answers.{own_vote, said_once, prepares_in, commits_in, votes_in, answers_in}
 use Rattle.bfs_order.specs.Replica.Checkpoints.{checkpoint, checkpoint_refusal, checkpointed}
 use Rattle.bfs_order.specs.Replica.Executing.{next_order}
-use Rattle.bfs_order.specs.Replica.Installing.{certified, digest_of, install_refusal, installed, is_certificate, number_of, with_each, with_new}
+use Rattle.bfs_order.specs.Replica.Installing.{certified, digest_of, installed, is_certificate, number_of, with_each, with_new}
 use Rattle.bfs_order.specs.Replica.Outcomes.{unless}
-use Rattle.bfs_order.specs.Replica.Proposing.{lone_commits, batch_digest, next_number, own_proposal, proposal, proposal_commits, proposal_refusal, proposed}
+use Rattle.bfs_order.specs.Replica.Proposing.{batch_digest, next_number, own_proposal, proposal, proposal_commits, proposal_refusal, proposed}
 use Rattle.bfs_order.specs.Replica.Refusals.{is_there, refusal}
 use Rattle.bfs_order.specs.Replica.States.{State, known, with_message, with_more}
-use Rattle.bfs_order.specs.Replica.Views.{all_taken_over, entered, entering_refusal, handed_refusal, left, leaving_refusal, opened, taken_over}
+use Rattle.bfs_order.specs.Replica.Views.{all_taken_over, entered, entering_refusal, handed_refusal, left, leaving_refusal, opened}
 use Rattle.bfs_order.specs.declared.error.OrderError.{OrderError}
 use Rattle.bfs_order.specs.declared.error.OrderError.TheVariants.{NoCertificate, OutsideMarks}
-use Rattle.bfs_consensus.specs.Histories.{IsIn}
 use Rattle.bfs_order_agreement.specs.Replicas.{votes_by}
 use Rattle.bfs_order_agreement.proofs.Lists.{AllIn, both_in, filter_in, left_in, more_in, none_in, one_in, right_in}
 

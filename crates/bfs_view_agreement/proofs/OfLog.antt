@@ -1,6 +1,6 @@
 -- Certificates that are made of a log: its messages, and they are proved.
-use Rattle.std.proofs.Common.{◌≡◌, ℕ, zero, suc, ◌+◌, ◌*◌, ◌<◌, ◌≤◌, ◌==◌, Bool, true, false, cond, ◌&&◌, ◌||◌, not, List, [], ◌∷◌, ◌⊎◌, Option, Some, None, map, bytes_eq, inl, inr, refl, sym, ap, subst, ◌∙◌, arith}
-use Rattle.std.specs.Prelude.{filter, filter_map, nat_lt, nat_le}
+use Rattle.std.proofs.Common.{◌≡◌, ℕ, zero, suc, ◌+◌, ◌*◌, ◌<◌, ◌≤◌, ◌==◌, Bool, true, false, cond, ◌&&◌, ◌||◌, not, List, [], ◌∷◌, ◌⊎◌, Some, inl, inr, refl, sym, ap, subst, ◌∙◌, arith}
+use Rattle.std.specs.Prelude.{filter, nat_lt, nat_le}
 use Rattle.std.specs.List.{fold, range_with_len}
 use Rattle.std.proofs.lemmas.Bool.{and_parts, and_from, eqb-true, eq-eqb, lt-ltb, le-leb, leb-true}
 use Rattle.std.proofs.lemmas.Slice.Eq.{bytes_eq-Decides}
@@ -17,7 +17,7 @@ use Rattle.bfs_order.specs.Replica.States.{State, known}
 use Rattle.bfs_consensus.specs.Histories.{IsIn}
 use Rattle.bfs_consensus.proofs.Public.{Is, in_told}
 use Rattle.bfs_order_agreement.proofs.Public.{AllIn, in_filter, in_filter_map, more_in, out_of_filter, out_of_filter_map, some_is}
-use Rattle.bfs_view.specs.Changes.Certificates.{is_proved, matches, view_in}
+use Rattle.bfs_view.specs.Changes.Certificates.{is_proved, view_in}
 use Rattle.bfs_view.specs.Changes.Kinds.{prepare_in, prepares, proposal_in, proposals}
 use Rattle.bfs_view.specs.Changes.Making.{backs, certificate_of, certificates, change_of, is_prepared_for, later, latest, prepared_for}
 use Rattle.bfs_view.specs.Changes.Parts.{as_message, messages_in}

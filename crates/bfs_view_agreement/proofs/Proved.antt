@@ -9,7 +9,6 @@ use Rattle.bfs_messages.specs.Signing.{is_signed}
 use Rattle.bfs_messages.specs.declared.signed.Signed.{Signed}
 use Rattle.bfs_messages.specs.declared.message.Message.TheVariants.{ViewChange}
 use Rattle.bfs_order.specs.Replica.Installing.{senders_differ}
-use Rattle.bfs_consensus.specs.Histories.{IsIn}
 use Rattle.bfs_view.specs.Changes.Certificates.{faults, number_in, view_in, is_proved, certifies, has_stable}
 use Rattle.bfs_view.specs.Changes.NewViews.{choice_refusal, do_agree, senders}
 use Rattle.bfs_view.specs.Changes.Parts.{as_message, messages_in}
