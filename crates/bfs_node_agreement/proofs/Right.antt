@@ -64,7 +64,7 @@ use Rattle.bfs_node.specs.Proposing.{pending_batch, proposed}
 use Rattle.bfs_node.specs.declared.error.NodeError.{NodeError}
 use Rattle.bfs_node_agreement.specs.Premises.{ArePartsAuthentic, ComesAuthentic, IsAuthentic, IsWhollyAuthentic}
 use Rattle.bfs_node_agreement.specs.Replicas.{Replicas, turn_of}
-use Rattle.bfs_node_agreement.specs.Steps.{NodeStep, Delivers, Proposes, Executes, Fails, Checkpoints, TimesOut, Adopts, still, unless, or_still, after_execution, outcome, where_taken, begun_deeds, change_deeds, message_deeds, bytes_deeds, checkpoint_deeds, timeout_deeds, deeds_of}
+use Rattle.bfs_node_agreement.specs.Steps.{NodeStep, Delivers, Takes, Proposes, Executes, Fails, Checkpoints, TimesOut, Adopts, still, unless, or_still, after_execution, outcome, where_taken, begun_deeds, change_deeds, message_deeds, bytes_deeds, checkpoint_deeds, timeout_deeds, deeds_of}
 use Rattle.bfs_node_agreement.proofs.Begun.{begun_right, own_handed}
 use Rattle.bfs_node_agreement.proofs.Bounds.{IsBounded, left_bounded}
 use Rattle.bfs_node_agreement.proofs.Doing.{After, BringAll, Done, IsOther, IsOwnCheckpoint, IsStill, StandsBy, Tells, WereKept, at_who, entry_done, extends_deeds, here_is, nothing_done, offered, order_done}
@@ -482,6 +482,7 @@ module _ (faulty : ℕ → Bool) (w : Replicas) (v : ordered.Replicas) (who : �
 
   pub step_done : MessageWasWritten → (step : NodeStep) → ComesAuthentic faulty w node.keys step → Done faulty v who node know.at (StandsBy node step) (deeds_of node step) (outcome node step)
   step_done written (Delivers bytes) comes = bytes_done written bytes comes.0 comes.1
+  step_done written (Takes signed) comes = message_done signed.message signed.auth comes.1 comes.2 comes.0
   step_done written (Proposes time) comes = proposes_done time
   step_done written Executes comes = executes_done
   step_done written Fails comes = nothing_done faulty v who node know.at (Unit {0}) (still (record node { files = None })) know.kept refl refl tt

@@ -45,7 +45,7 @@ use Rattle.bfs_node.specs.Nodes.{Node, Outcome}
 use Rattle.bfs_node.specs.Proposing.{pending_batch, proposed}
 use Rattle.bfs_node.specs.declared.error.NodeError.{NodeError}
 use Rattle.bfs_node.specs.declared.error.NodeError.TheVariants as error
-use Rattle.bfs_node_agreement.specs.Steps.{NodeStep, Delivers, Proposes, Executes, Fails, Checkpoints, TimesOut, Adopts, still, unless, or_still, after_execution, outcome, executed_by, where_taken, begun_deeds, change_deeds, message_deeds, bytes_deeds, checkpoint_deeds, timeout_deeds, deeds_of}
+use Rattle.bfs_node_agreement.specs.Steps.{NodeStep, Delivers, Takes, Proposes, Executes, Fails, Checkpoints, TimesOut, Adopts, still, unless, or_still, after_execution, outcome, executed_by, where_taken, begun_deeds, change_deeds, message_deeds, bytes_deeds, checkpoint_deeds, timeout_deeds, deeds_of}
 use Rattle.bfs_node_agreement.proofs.Bounds.{IsBounded, left_bounded}
 use Rattle.bfs_node_agreement.proofs.Executing.{next_executes}
 
@@ -267,6 +267,7 @@ adopts node certificate files table = go (may_adopt node certificate && right) r
 
 pub step_leads : (node : Node) (step : NodeStep) → IsBounded node.order → Lead node.order (deeds_of node step) (outcome node step).now.order (executed_by node step)
 step_leads node (Delivers bytes) bounded = bytes_come node (message_of bytes) bounded
+step_leads node (Takes signed) bounded = message_comes node signed.message signed.auth bounded
 step_leads node (Proposes time) bounded = proposes node time
 step_leads node Executes bounded = executes node
 step_leads node Fails bounded = nothing node.order

@@ -5,6 +5,7 @@ use Rattle.bfs_auth.specs.declared.principals.Principal.TheVariants as principal
 use Rattle.bfs_model.specs.Server.Stored.{AreBytes}
 use Rattle.bfs_checkpoints.specs.Texts.{node_digest}
 use Rattle.bfs_log.specs.Logs.{Log}
+use Rattle.bfs_messages.specs.Fits.{FitsMessage}
 use Rattle.bfs_messages.specs.Messages as model
 use Rattle.bfs_messages.specs.Reading.{message_of}
 use Rattle.bfs_messages.specs.Signing.{sender_of, is_signed}
@@ -15,7 +16,7 @@ use Rattle.bfs_consensus.specs.Histories.{IsIn}
 use Rattle.bfs_view.specs.Changes.Making.{handed_in}
 use Rattle.bfs_view.specs.Changes.Parts.{as_message, messages_in}
 use Rattle.bfs_node_agreement.specs.Replicas.{Replicas, Standing, NodeTurn, after_turn}
-use Rattle.bfs_node_agreement.specs.Steps.{NodeStep, Delivers, Proposes, Executes, Fails, Checkpoints, TimesOut, Adopts}
+use Rattle.bfs_node_agreement.specs.Steps.{NodeStep, Delivers, Takes, Proposes, Executes, Fails, Checkpoints, TimesOut, Adopts}
 
 -- Authenticators ------------------------------------------------------------------------------------------------------------
 
@@ -77,9 +78,10 @@ abbrev pub IsWhollyAuthentic : (faulty : ℕ → Bool) → Replicas → Keys →
 IsWhollyAuthentic faulty w keys None = Unit {0}
 IsWhollyAuthentic faulty w keys (Some m) = IsAuthentic faulty w keys m × ArePartsAuthentic faulty w keys m.message
 
--- what comes to a node with these keys: bytes, and by a message or a certificate what was sent
+-- what comes to a node with these keys: bytes or a message within the limits, and by a message or a certificate what was sent
 abbrev pub ComesAuthentic : (faulty : ℕ → Bool) → Replicas → Keys → NodeStep → Type 0
 ComesAuthentic faulty w keys (Delivers bytes) = AreBytes bytes × IsWhollyAuthentic faulty w keys (message_of bytes)
+ComesAuthentic faulty w keys (Takes signed) = FitsMessage signed.message × IsAuthentic faulty w keys signed × ArePartsAuthentic faulty w keys signed.message
 ComesAuthentic faulty w keys (Adopts certificate files table) = AreAuthenticIn faulty w keys certificate
 ComesAuthentic faulty w keys (Proposes time) = Unit {0}
 ComesAuthentic faulty w keys Executes = Unit {0}
