@@ -1,6 +1,6 @@
 -- What stands in logs was sent, and what nodes have sent their orders have.
 use Rattle.std.proofs.Common.{◌≡◌, ℕ, ◌<◌, ◌==◌, Bool, true, false, cond, ◌&&◌, List, [], ◌∷◌, ◌⊎◌, inl, inr, refl, sym, ap, subst, ◌∙◌, arith}
-use Rattle.std.specs.List.{AllByRecursion, list_all}
+use Rattle.std.specs.List.{list_all}
 use Rattle.std.proofs.lemmas.Bool.{and_parts, eqb-true}
 use Rattle.bfs_auth.specs.Keys.{Keys}
 use Rattle.bfs_auth.specs.declared.principals.Principal.TheVariants as principal
@@ -19,7 +19,7 @@ use Rattle.bfs_consensus.specs.Histories.{IsIn, History, World, WasSent}
 use Rattle.bfs_consensus.proofs.Public.{Grows, in_told, said_on}
 use Rattle.bfs_order_agreement.specs.Replicas as ordered
 use Rattle.bfs_order_agreement.specs.Replicas.{after_deed, histories}
-use Rattle.bfs_order_agreement.proofs.Public.{AllIn, IsVote, IsWhole, right_in}
+use Rattle.bfs_order_agreement.proofs.Public.{AllIn, at_place, IsVote, IsWhole, right_in}
 use Rattle.bfs_view.specs.Changes.Certificates.{faults, certifies, has_stable, is_proved}
 use Rattle.bfs_view.specs.Changes.Making.{handed_in}
 use Rattle.bfs_view.specs.Changes.Parts.{as_message, is_all_signed, messages_in}
@@ -268,10 +268,6 @@ module _ (faulty : ℕ → Bool) (w : Replicas) (v : ordered.Replicas) (spoken :
         absurd (omega (arith, two, six))
   ]
 
-  fits_at : (cs : List model.Certificate) → AllByRecursion FitsCertificate cs → (c : model.Certificate) → IsIn c cs → FitsCertificate c
-  fits_at [] all c i = absurd i
-  fits_at (d ∷ cs) all c i = elim i [ inl e ↦ subst FitsCertificate (sym e) all.0 | inr j ↦ fits_at cs all.1 c j ]
-
   pub genuine_of : (s : Signed model.ViewChange) → IsAuthentic faulty w keys (as_message ViewChange s) → AreProofsAuthentic faulty w keys s.message
       → valid_view_change keys s ≡ true → FitsViewChange s.message → IsGenuine faulty (histories v) s.message
   genuine_of s authentic proofs valid fits =
@@ -288,5 +284,5 @@ module _ (faulty : ℕ → Bool) (w : Replicas) (v : ordered.Replicas) (spoken :
             let r = and_parts (is_proved (faults keys) c) (list_all (is_all_signed keys) (messages_in c)) q.1 in
             let signed = (and_parts (is_signed keys m) (carried_are_signed keys m.message) (passes_at (is_all_signed keys) (messages_in c) m r.1 j)).0 in
             vote_was_sent m (proofs c i m j) signed (kinds_in c m j);
-        whole = λ c i. (fits_at change.certificates fits.certificates.1 c i).proposal.0.digest;
+        whole = λ c i. (at_place FitsCertificate change.certificates fits.certificates.1 c i).proposal.0.digest;
       }

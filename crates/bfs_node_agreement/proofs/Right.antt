@@ -39,7 +39,7 @@ use Rattle.bfs_consensus.specs.Histories.{IsIn, World}
 use Rattle.bfs_consensus.proofs.Public.{Grows, in_told}
 use Rattle.bfs_order_agreement.specs.Replicas as ordered
 use Rattle.bfs_order_agreement.specs.Replicas.{after_deed, histories, with_replica}
-use Rattle.bfs_order_agreement.proofs.Public.{AllIn, IsVote, IsWhole, left_in, out_of_filter_map, some_is, whole_of}
+use Rattle.bfs_order_agreement.proofs.Public.{AllIn, IsVote, IsWhole, left_in, not_hit, out_of_filter_map, passed, some_is, whole_of}
 use Rattle.bfs_replies.specs.Answers.{Answer}
 use Rattle.bfs_replies.specs.Tables.{Table}
 use Rattle.bfs_view.specs.Changes.Certificates.{faults}
@@ -87,14 +87,6 @@ fits_read written bytes m are e = go (signed_from bytes) refl e
         next : (b : Bool) → cond b None (Some read.0) ≡ Some m → FitsMessage m.message
         next true f = absurd cc
         next false f = subst (λ (x : Signed Message). FitsMessage x.message) (some_is read.0 m f) (written bytes read.0 read.1 are is).1.0
-
-passed : {E : Type 0} (b : Bool) (e : E) (rest : Option E) → cond (not b) (Some e) rest ≡ None → (b ≡ true) × (rest ≡ None)
-passed true e rest h = (refl, h)
-passed false e rest h = absurd cc
-
-not_hit : {E : Type 0} (b : Bool) (e : E) (rest : Option E) → cond b (Some e) rest ≡ None → rest ≡ None
-not_hit true e rest h = absurd cc
-not_hit false e rest h = h
 
 -- what is not refused is signed
 taken_signed : (keys : Keys) (s : State) (m : Signed Message) → refusal keys s m ≡ None → is_signed keys m ≡ true
@@ -275,7 +267,7 @@ module _ (faulty : ℕ → Bool) (w : Replicas) (v : ordered.Replicas) (who : �
       let a = passed (is_signed node.keys (as_message ViewChange s)) _ _ none in
       let b = passed (nat_lt node.order.view s.message.view) _ _ a.1 in
       let c = not_hit (was_asked node.changes s.message) _ _ b.1 in
-      let valid = (passed (valid_view_change node.keys s) _ _ c).0 in
+      let valid = (passed (valid_view_change node.keys s) _ _ c.1).0 in
       record {
         proved = valid_proves node.keys node.order.f s.message.view s know.fit refl valid;
         genuine = genuine_of faulty w v know.spoken node.keys s authentic parts valid fits;

@@ -18,7 +18,7 @@ use Rattle.bfs_messages.specs.declared.message.Message.TheVariants.{PrePrepare, 
 use Rattle.bfs_consensus.specs.Histories.{IsIn}
 use Rattle.bfs_order_agreement.specs.Replicas as ordered
 use Rattle.bfs_order_agreement.specs.Replicas.{histories}
-use Rattle.bfs_order_agreement.proofs.Public.{AllIn, whole_of}
+use Rattle.bfs_order_agreement.proofs.Public.{AllIn, at_place, passed, whole_of}
 use Rattle.bfs_view.specs.Changes.Certificates.{faults}
 use Rattle.bfs_view.specs.Changes.Choice.{Chosen, choice}
 use Rattle.bfs_view.specs.Changes.NewViews as views
@@ -46,10 +46,6 @@ none_of_view (Some refused) rest e = absurd cc
 both : (one other : Option ViewError) → views.first_of one other ≡ None → (one ≡ None) × (other ≡ None)
 both None other e = (refl, e)
 both (Some refused) other e = absurd cc
-
-passed : (b : Bool) (e : ViewError) (rest : Option ViewError) → cond (not b) (Some e) rest ≡ None → (b ≡ true) × (rest ≡ None)
-passed true e rest h = (refl, h)
-passed false e rest h = absurd cc
 
 chosen_so : (b : Bool) → cond b None (Some WrongChoice) ≡ None → b ≡ true
 chosen_so true e = refl
@@ -91,10 +87,6 @@ module _ (keys : Keys) (f sender view : ℕ) (led : sender ≡ primary f view) w
         | inr j ↦ proposals_signed ps cs fit.1 a.1 p j
       ]
 
-fits_change : (changes : List (Signed model.ViewChange)) → AllByRecursion (FitsSigned FitsViewChange) changes → (s : Signed model.ViewChange) → IsIn s changes → FitsViewChange s.message
-fits_change [] all s i = absurd i
-fits_change (x ∷ xs) all s i = elim i [ inl e ↦ subst (λ (y : Signed model.ViewChange). FitsViewChange y.message) (sym e) all.0.0 | inr j ↦ fits_change xs all.1 s j ]
-
 -- what a node finds of a NEW-VIEW that it takes
 pub record IsTaken (node : Node) (new : model.NewView) : Type 0 where
   pub led : new.sender ≡ primary node.order.f new.view
@@ -133,7 +125,7 @@ module _ (faulty : ℕ → Bool) (w : Replicas) (v : ordered.Replicas) (spoken :
             let valid = passes_at (valid_view_change node.keys) new.changes s.0 enough.1 s.1 in
             let parts = authentic.1 s.0 s.1 in
             subst (λ (x : model.ViewChange). IsGenuine faulty (histories v) x) (sym s.2)
-            (genuine_of faulty w v spoken node.keys s.0 parts.0 parts.1 valid (fits_change new.changes fits.changes.1 s.0 s.1));
+            (genuine_of faulty w v spoken node.keys s.0 parts.0 parts.1 valid (at_place (FitsSigned FitsViewChange) new.changes fits.changes.1 s.0 s.1).0);
         proposals = proposals_are node.keys node.order.f new.sender new.view is.led new.proposals (choice (messages_of new.changes)).chosen fits.proposals.1 is.proposed;
       }
 

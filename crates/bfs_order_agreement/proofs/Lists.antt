@@ -1,7 +1,7 @@
 -- What holds of all that is in a list.
 use Rattle.std.proofs.Common.{◌≡◌, Bool, true, false, cond, List, [], ◌∷◌, ◌++◌, ◌⊎◌, Option, Some, None, inl, inr, refl, sym, subst, ap, ◌∙◌}
 use Rattle.std.specs.Prelude.{filter, filter_map, unwrap_or}
-use Rattle.std.specs.List.{cons_option, list_any}
+use Rattle.std.specs.List.{AllByRecursion, cons_option, list_any}
 use Rattle.std.proofs.lemmas.Bool.{or_left, or_right}
 use Rattle.bfs_consensus.specs.Histories.{IsIn}
 
@@ -90,3 +90,7 @@ in_filter_map {A} {B} g (z ∷ zs) x y i e = go (g z) refl i (λ k. in_filter_ma
       | inl same ↦ let is : Some y ≡ Some b = sym e ∙ ap g same ∙ f in inl (some_is y b is)
       | inr k ↦ inr (later k)
     ]
+
+pub at_place : {A : Type 0} (P : A → Type 0) (xs : List A) → AllByRecursion P xs → AllIn P xs
+at_place P [] all x i = absurd i
+at_place P (y ∷ ys) all x i = elim i [ inl e ↦ subst P (sym e) all.0 | inr j ↦ at_place P ys all.1 x j ]

@@ -15,7 +15,7 @@ use Rattle.bfs_order.specs.Laws.Logs.{HasNoLaterView}
 use Rattle.bfs_order.specs.Replica.Refusals.{window}
 use Rattle.bfs_order.specs.Replica.States.{State, known}
 use Rattle.bfs_consensus.specs.Histories.{IsIn}
-use Rattle.bfs_consensus.proofs.Public.{Is, in_told}
+use Rattle.bfs_consensus.proofs.Public.{Is, in_told, more_below}
 use Rattle.bfs_order_agreement.proofs.Public.{AllIn, in_filter, in_filter_map, more_in, out_of_filter, out_of_filter_map, some_is}
 use Rattle.bfs_view.specs.Changes.Certificates.{is_proved, view_in}
 use Rattle.bfs_view.specs.Changes.Kinds.{prepare_in, prepares, proposal_in, proposals}
@@ -111,16 +111,6 @@ made_holds P s c all i =
 
 -- They are proved -----------------------------------------------------------------------------------------------------------
 
-fewer_step : (a b : Bool) (x y : ℕ) → (a ≡ true → b ≡ true) → x ≤ y → cond a (1 + x) x ≤ cond b (1 + y) y
-fewer_step true true x y i h = omega arith
-fewer_step true false x y i h = let e : false ≡ true = i refl in absurd cc
-fewer_step false true x y i h = omega arith
-fewer_step false false x y i h = omega arith
-
-fewer : (p q : ℕ → Bool) (n : ℕ) → ((k : ℕ) → k < n → p k ≡ true → q k ≡ true) → count_below p n ≤ count_below q n
-fewer p q zero i = omega arith
-fewer p q (suc n) i = fewer_step (p n) (q n) (count_below p n) (count_below q n) (i n (omega arith)) (fewer p q n (λ k low. i k (omega (arith, low))))
-
 -- a backup's PREPARE in the log stands in the certificate too
 backs_it : (f k : ℕ) (vote : model.Vote) (h : Header) → k < replicas f → not (k == primary f vote.view) ≡ true → Is h 3 k vote.view vote.number vote.digest → backs f vote h ≡ true
 backs_it f k vote h low backup is =
@@ -157,7 +147,7 @@ backed_in f log p led backed =
     let first = in_told hs (header (as_message PrePrepare p)) (inl refl) in
     let enough = leb-true (2 * f) (backups f (headers log) vote.view vote.number vote.digest)
     (and_parts (told (headers log) 2 (primary f vote.view) vote.view vote.number vote.digest) (nat_le (2 * f) (backups f (headers log) vote.view vote.number vote.digest)) backed).1 in
-    let more = fewer (λ k. not (k == primary f vote.view) && told (headers log) 3 k vote.view vote.number vote.digest) (λ k. not (k == primary f vote.view) && told hs 3 k vote.view vote.number vote.digest) (replicas f)
+    let more = more_below (λ k. not (k == primary f vote.view) && told (headers log) 3 k vote.view vote.number vote.digest) (λ k. not (k == primary f vote.view) && told hs 3 k vote.view vote.number vote.digest) (replicas f)
     (λ k low e.
     let a = and_parts (not (k == primary f vote.view)) (told (headers log) 3 k vote.view vote.number vote.digest) e in
     and_from (not (k == primary f vote.view)) (told hs 3 k vote.view vote.number vote.digest) a.0 (backup_told f log p k low a.0 a.1)) in

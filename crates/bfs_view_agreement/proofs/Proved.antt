@@ -9,6 +9,7 @@ use Rattle.bfs_messages.specs.Signing.{is_signed}
 use Rattle.bfs_messages.specs.declared.signed.Signed.{Signed}
 use Rattle.bfs_messages.specs.declared.message.Message.TheVariants.{ViewChange}
 use Rattle.bfs_order.specs.Replica.Installing.{senders_differ}
+use Rattle.bfs_order_agreement.proofs.Public.{not_hit, passed}
 use Rattle.bfs_view.specs.Changes.Certificates.{faults, number_in, view_in, is_proved, certifies, has_stable}
 use Rattle.bfs_view.specs.Changes.NewViews.{choice_refusal, do_agree, senders}
 use Rattle.bfs_view.specs.Changes.Parts.{as_message, messages_in}
@@ -17,14 +18,6 @@ use Rattle.bfs_view.specs.declared.error.ViewError.{ViewError}
 use Rattle.bfs_view.specs.declared.error.ViewError.TheVariants.{BadCertificate, TooFew}
 use Rattle.bfs_view_agreement.specs.Changes.{HasProofs}
 use Rattle.bfs_view_agreement.proofs.Lists.{passes_at}
-
-passed : (b : Bool) (e : ViewError) (o : Option ViewError) → cond (not b) (Some e) o ≡ None → (b ≡ true) × (o ≡ None)
-passed true e o h = (refl, h)
-passed false e o h = absurd cc
-
-not_hit : (b : Bool) (e : ViewError) → cond b (Some e) None ≡ None → b ≡ false
-not_hit true e h = absurd cc
-not_hit false e h = refl
 
 pub valid_proves : (keys : Keys) (f view : ℕ) (s : Signed model.ViewChange) → faults keys ≡ f → s.message.view ≡ view → valid_view_change keys s ≡ true → HasProofs f view s.message
 valid_proves keys f view s fit of_view valid =
@@ -51,5 +44,5 @@ pub enough_senders : (keys : Keys) (f : ℕ) (changes : List (Signed model.ViewC
 enough_senders keys f changes fit right =
     let a = passed (do_agree changes && list_all (valid_view_change keys) changes) BadCertificate _ right in
     let valid = (and_parts (do_agree changes) (list_all (valid_view_change keys) changes) a.0).1 in
-    let enough : 2 * faults keys + 1 ≤ senders (faults keys) changes = ltb-false (senders (faults keys) changes) (2 * faults keys + 1) (not_hit (nat_lt (senders (faults keys) changes) (2 * faults keys + 1)) TooFew a.1) in
+    let enough : 2 * faults keys + 1 ≤ senders (faults keys) changes = ltb-false (senders (faults keys) changes) (2 * faults keys + 1) (not_hit (nat_lt (senders (faults keys) changes) (2 * faults keys + 1)) TooFew None a.1).0 in
     (subst (λ (f : ℕ). 2 * f + 1 ≤ senders f changes) fit enough, valid)
