@@ -19,9 +19,13 @@ step_more true false x y i h = let e : false ≡ true = i refl in absurd cc
 step_more false true x y i h = omega arith
 step_more false false x y i h = omega arith
 
+-- what passes one test below a bound passes the other
+pub more_below : (p q : ℕ → Bool) (n : ℕ) → ((k : ℕ) → k < n → p k ≡ true → q k ≡ true) → count_below p n ≤ count_below q n
+more_below p q zero i = omega arith
+more_below p q (suc n) i = step_more (p n) (q n) (count_below p n) (count_below q n) (i n (omega arith)) (more_below p q n (λ k low. i k (omega (arith, low))))
+
 pub more : (p q : ℕ → Bool) (n : ℕ) → ((k : ℕ) → p k ≡ true → q k ≡ true) → count_below p n ≤ count_below q n
-more p q zero i = omega arith
-more p q (suc n) i = step_more (p n) (q n) (count_below p n) (count_below q n) (i n) (more p q n i)
+more p q n i = more_below p q n (λ k low. i k)
 
 step_one : (e a : Bool) (x y : ℕ) → (e ≡ true → x ≤ y) → (e ≡ false → x + 1 ≤ y) → cond (not e && a) (1 + x) x + 1 ≤ cond (e || a) (1 + y) y
 step_one true a x y h g = let k : x ≤ y = h refl in omega arith

@@ -9,4 +9,5 @@ mod Choice
 mod Calls
 mod Nodes
 mod Running
+mod Splitting
 pub mod Public

@@ -1,7 +1,7 @@
 -- A run with a view change, in which the premises of the laws hold: of four replicas, without replica 3, replica 1 executes number 1 in
--- view 0, and after a view change replica 2 executes it in view 1.
-use Rattle.std.specs.Prelude.{◌≡◌, ℕ, Bool, List, [], ◌∷◌, ◌++◌, ◌==◌}
-use Rattle.bfs_agreement.specs.Votes.{Header}
+-- view 0, and after a view change replica 2 executes it in view 1. And one where a premise does not hold: two replicas execute two digests.
+use Rattle.std.specs.Prelude.{◌≡◌, ℕ, Bool, List, [], ◌∷◌, ◌++◌, ◌==◌, ◌||◌}
+use Rattle.bfs_agreement.specs.Votes.{Header, count_below, replicas}
 use Rattle.bfs_consensus.specs.Histories.{ViewChange, Executed, FewAreFaulty}
 use Rattle.bfs_consensus.specs.Moves.{new_world}
 use Rattle.bfs_consensus.specs.Calls.{vote, Call, Receives, Orders, TimesOut, ChangesView, Runs, Turn, after_turns, AreAuthentic}
@@ -64,3 +64,38 @@ IsARun = FewAreFaulty 1 silent × AreAuthentic 1 [] silent new_world (in_view_0 
 -- what agreement says of it
 abbrev pub RunsAgree : Type 0
 RunsAgree = (saying 2 0 0).digest ≡ (saying 2 1 1).digest
+
+-- Where a premise does not hold ---------------------------------------------------------------------------------------------
+
+-- the primary and replica 3 each say one digest to one replica, and another to another one
+abbrev pub told_to : (i : ℕ) → List ℕ → List Turn
+told_to i d =
+    of i (Receives (vote 2 0 0 1 d)) ∷ of i (Receives (vote 3 3 0 1 d))
+    ∷ of i (Receives (vote 4 0 0 1 d)) ∷ of i (Receives (vote 4 3 0 1 d))
+    ∷ of i (Runs (vote 2 0 0 1 d))
+    ∷ []
+
+abbrev pub other_digest : List ℕ
+other_digest = 8 ∷ []
+
+abbrev pub in_two_tongues : List Turn
+in_two_tongues = told_to 1 digest ++ told_to 2 other_digest
+
+abbrev pub ExecutesTwoDigests : Type 0
+ExecutesTwoDigests = Executed (after_turns 1 [] new_world in_two_tongues 1) (vote 2 0 0 1 digest)
+    × Executed (after_turns 1 [] new_world in_two_tongues 2) (vote 2 0 0 1 other_digest)
+    × (digest ≡ other_digest → ⊥)
+
+abbrev pub two_liars : ℕ → Bool
+two_liars k = (k == 0) || (k == 3)
+
+-- all is authentic, but two of four are faulty
+abbrev pub NeedsFewFaulty : Type 0
+NeedsFewFaulty = (count_below two_liars (replicas 1) ≡ 2) × AreAuthentic 1 [] two_liars new_world in_two_tongues × ExecutesTwoDigests
+
+abbrev pub lying_primary : ℕ → Bool
+lying_primary k = k == 0
+
+-- only the primary is faulty, but what comes under the name of replica 3 was not sent by it
+abbrev pub NeedsAuthenticity : Type 0
+NeedsAuthenticity = FewAreFaulty 1 lying_primary × ExecutesTwoDigests

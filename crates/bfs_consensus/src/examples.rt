@@ -1,5 +1,5 @@
 // The laws speak of something. The bodies do nothing: what is said is the contracts.
-ghost use Rattle.bfs_consensus.specs.Examples.{IsARun, RunsAgree};
+ghost use Rattle.bfs_consensus.specs.Examples.{IsARun, NeedsAuthenticity, NeedsFewFaulty, RunsAgree};
 
 use crate::agreement::calls_agree;
 
@@ -15,3 +15,13 @@ pub fn the_run_agrees()
     calls_agree();
     there_is_a_run();
 }
+
+/// Where two of four replicas are faulty, two others execute two digests for one number.
+pub fn agreement_needs_few_faulty()
+    ensures { NeedsFewFaulty }
+{}
+
+/// So they do where messages that a correct replica never sent pass under its name.
+pub fn agreement_needs_authenticity()
+    ensures { NeedsAuthenticity }
+{}

@@ -1,24 +1,31 @@
 -- A NEW-VIEW that a node begins is right.
-use Rattle.std.proofs.Common.{◌≡◌, ℕ, ◌==◌, Bool, true, false, cond, List, [], ◌∷◌, Option, Some, None, map, refl, ap₂}
-use Rattle.std.specs.Prelude.{nat_lt, filter_map}
+use Rattle.std.proofs.Common.{◌≡◌, ℕ, ◌+◌, ◌*◌, ◌==◌, Bool, true, false, cond, List, [], ◌∷◌, Option, Some, None, length, map, refl, sym, ap, ap₂, subst, ◌∙◌, arith}
+use Rattle.std.specs.Prelude.{nat_lt, nat_le, filter_map}
 use Rattle.std.specs.List.{cons_option}
-use Rattle.std.proofs.lemmas.Bool.{and_parts, and_from, eqb-true}
+use Rattle.std.proofs.lemmas.Bool.{and_parts, and_from, eqb-true, leb-true}
 use Rattle.sha2.specs.Sha256.{sha256}
 use Rattle.bfs_auth.specs.Keys.{Keys}
 use Rattle.bfs_agreement.specs.Votes.{Header, primary}
+use Rattle.bfs_log.specs.Headers.{header}
 use Rattle.bfs_log.specs.Logs.{headers}
 use Rattle.bfs_messages.specs.Messages as model
 use Rattle.bfs_messages.specs.Batches.{batch_text}
 use Rattle.bfs_messages.specs.declared.signed.Signed.{Signed}
+use Rattle.bfs_messages.specs.declared.message.Message.{Message}
 use Rattle.bfs_messages.specs.declared.message.Message.TheVariants.{PrePrepare}
-use Rattle.bfs_view.specs.Changes.Choice.{Chosen}
-use Rattle.bfs_view.specs.Changes.Keeping.{if_for}
-use Rattle.bfs_view.specs.Changes.Making.{chosen_proposal, signed_proposal}
+use Rattle.bfs_consensus.specs.Histories.{World}
+use Rattle.bfs_order_agreement.proofs.Public.{AllIn, IsOwn, whole_of}
+use Rattle.bfs_view.specs.Changes.Choice.{Chosen, choice}
+use Rattle.bfs_view.specs.Changes.Keeping.{changes_for, if_for}
+use Rattle.bfs_view.specs.Changes.Making.{chosen_proposal, handed_in, signed_proposal}
 use Rattle.bfs_view.specs.Changes.NewViews.{are_for}
-use Rattle.bfs_view.specs.Changes.Parts.{as_message}
-use Rattle.bfs_view_agreement.specs.Changes.{proposal_of}
-use Rattle.bfs_node.specs.Changing.{leads}
-use Rattle.bfs_node_agreement.specs.Laws.{BegunNewViewsAreRight}
+use Rattle.bfs_view.specs.Changes.Parts.{as_message, messages_of}
+use Rattle.bfs_view_agreement.specs.Changes.{proposal_of, HasProofs, IsGenuine}
+use Rattle.bfs_view_agreement.specs.Replicas.{IsRightNewView}
+use Rattle.bfs_view_agreement.proofs.Public.{out_of_map}
+use Rattle.bfs_node.specs.Changing.{leads, may_begin, own_new_view}
+use Rattle.bfs_node.specs.Nodes.{Node}
+use Rattle.bfs_node_agreement.proofs.Keeping.{AreKept, enough_for, good_for}
 
 all_for : (view : ℕ) (kept : List (Option (Signed model.ViewChange))) → are_for view (filter_map (if_for view) kept) ≡ true
 all_for view [] = refl
@@ -36,14 +43,34 @@ own_proposals keys f me view led [] = refl
 own_proposals keys f me view led (c ∷ chosen) =
     ap₂ (λ (k : ℕ) (hs : List Header). record { tag = 2; sender = k; view = view; number = c.number; digest = sha256 (batch_text c.batch) } ∷ hs) led (own_proposals keys f me view led chosen)
 
-pub begun_right : BegunNewViewsAreRight
-begun_right faulty w node keys_fit may right genuine =
+pub begun_right : (faulty : ℕ → Bool) (h : World) (node : Node) → may_begin node ≡ true → AreKept faulty node.order.f h node.changes
+    → IsRightNewView faulty h node.order node.order.asked (changes_for node.order.asked node.changes) (handed_in (own_new_view node))
+begun_right faulty h node may kept =
     let asked = node.order.asked in
-    let led = (and_parts (leads node asked) _ (and_parts (nat_lt node.order.view asked) _ may).1).0 in
+    let f = node.order.f in
+    let changes = changes_for asked node.changes in
+    let a = and_parts (leads node asked) (nat_le (2 * f + 1) (length changes)) (and_parts (nat_lt node.order.view asked) _ may).1 in
+    let many = leb-true (2 * f + 1) (length changes) a.1 in
+    let pass = enough_for faulty f h asked node.changes kept in
+    let good = good_for faulty f h asked 0 node.changes.changes kept.good in
     record {
-      keys_fit = keys_fit;
       of_view = all_for asked node.changes.changes;
-      right = right;
-      genuine = genuine;
-      proposals = own_proposals node.keys node.order.f node.order.me asked (eqb-true node.order.me (primary node.order.f asked) led) _;
+      enough = omega (arith, many, pass);
+      proved = λ change i.
+          let s = out_of_map (λ (x : Signed model.ViewChange). x.message) changes change i in
+          let is = good s.0 s.1 in
+          subst (λ (x : model.ViewChange). HasProofs f asked x) (sym s.2) (subst (λ (u : ℕ). HasProofs f u s.0.message) is.of_view is.good.proved);
+      genuine = λ change i.
+          let s = out_of_map (λ (x : Signed model.ViewChange). x.message) changes change i in
+          subst (λ (x : model.ViewChange). IsGenuine faulty h x) (sym s.2) (good s.0 s.1).good.genuine;
+      proposals = own_proposals node.keys f node.order.me asked (eqb-true node.order.me (primary f asked) a.0) _;
     }
+
+-- each of its PRE-PREPAREs is its own
+pub own_handed : (node : Node) → AllIn (λ (m : Signed Message). ((header m).tag ≡ 2) × IsOwn node.order.me m) (handed_in (own_new_view node))
+own_handed node m i =
+    let p = out_of_map (as_message PrePrepare) (own_new_view node).proposals m i in
+    let chosen = (choice (messages_of (changes_for node.order.asked node.changes))).chosen in
+    let c = out_of_map (λ (c : Chosen). signed_proposal node.keys (chosen_proposal node.order.me node.order.asked c)) chosen p.0 p.1 in
+    let is : m ≡ as_message PrePrepare (signed_proposal node.keys (chosen_proposal node.order.me node.order.asked c.0)) = p.2 ∙ ap (as_message PrePrepare) c.2 in
+    subst (λ (x : Signed Message). ((header x).tag ≡ 2) × IsOwn node.order.me x) (sym is) (refl, record { kind = tt; sender = refl; whole = λ q e. whole_of (chosen_proposal node.order.me node.order.asked c.0) q refl e })

@@ -45,7 +45,7 @@ use Rattle.bfs_node.specs.Nodes.{Node, Outcome}
 use Rattle.bfs_node.specs.Proposing.{pending_batch, proposed}
 use Rattle.bfs_node.specs.declared.error.NodeError.{NodeError}
 use Rattle.bfs_node.specs.declared.error.NodeError.TheVariants as error
-use Rattle.bfs_node_agreement.specs.Steps.{NodeStep, Delivers, Proposes, Executes, Checkpoints, TimesOut, Adopts, still, unless, or_still, after_execution, outcome, executed_by, where_taken, begun_deeds, change_deeds, message_deeds, bytes_deeds, checkpoint_deeds, timeout_deeds, deeds_of}
+use Rattle.bfs_node_agreement.specs.Steps.{NodeStep, Delivers, Takes, Proposes, Executes, Fails, Checkpoints, TimesOut, Adopts, still, unless, or_still, after_execution, outcome, executed_by, where_taken, begun_deeds, change_deeds, message_deeds, bytes_deeds, checkpoint_deeds, timeout_deeds, deeds_of}
 use Rattle.bfs_node_agreement.proofs.Bounds.{IsBounded, left_bounded}
 use Rattle.bfs_node_agreement.proofs.Executing.{next_executes}
 
@@ -61,7 +61,7 @@ nothing : (s : State) → Lead s [] s []
 nothing s r e = (e, refl)
 
 -- the call of the order in a deed
-abbrev called : State → Deed → order.Call
+abbrev pub called : State → Deed → order.Call
 called s deed = call_of (ordered_deed s deed)
 
 one : (s : State) (deed : Deed) (t : State) → (order.outcome s (called s deed)).now ≡ t → Lead s (deed ∷ []) t (ordered.executed_by s (called s deed))
@@ -76,7 +76,7 @@ then s t u deed deeds first rest r e =
     let b = rest (after_deed r (ordered_deed r.state deed)) a.0 in
     (b.0, b.1 ∙ a.1)
 
-not_refused : (r : Option OrderError) → option_map of_order r ≡ None → r ≡ None
+pub not_refused : (r : Option OrderError) → option_map of_order r ≡ None → r ≡ None
 not_refused None e = refl
 not_refused (Some refused) e = absurd cc
 
@@ -92,6 +92,14 @@ may_enter : (b : Bool) → b ≡ true → cond (not b) (Some WrongView) None ≡
 may_enter true e = refl
 may_enter false e = absurd cc
 
+-- the view that it begins is open
+pub begins_open : (node : Node) → IsBounded node.order → may_begin node ≡ true → views.entering_refusal node.order node.order.asked ≡ None
+begins_open node bounded e =
+    let asked = node.order.asked in
+    let above = (and_parts (nat_lt node.order.view asked) _ e).0 in
+    let fits = and_from (nat_le asked asked) (nat_lt asked (2 ^ 63)) (le-leb asked asked (omega (arith))) bounded in
+    may_enter _ (and_from (nat_lt node.order.view asked) _ above fits)
+
 begins : (node : Node) → IsBounded node.order → Lead node.order (begun_deeds node) (begun_if_due node).now.order []
 begins node bounded = go (may_begin node) refl
   where
@@ -100,10 +108,7 @@ begins node bounded = go (may_begin node) refl
 
     go : (b : Bool) → may_begin node ≡ b
         → Lead node.order (cond b (turns.ChangesView node.keys asked (changes_for asked node.changes) (handed_in (own_new_view node)) ∷ []) []) (cond b (begun node) (still node)).now.order []
-    go true e =
-        let above = (and_parts (nat_lt node.order.view asked) _ e).0 in
-        let fits = and_from (nat_le asked asked) (nat_lt asked (2 ^ 63)) (le-leb asked asked (omega (arith))) bounded in
-        enters node asked (changes_for asked node.changes) (handed_in (own_new_view node)) (may_enter _ (and_from (nat_lt node.order.view asked) _ above fits))
+    go true e = enters node asked (changes_for asked node.changes) (handed_in (own_new_view node)) (begins_open node bounded e)
     go false e = nothing node.order
 
 change_comes : (node : Node) (s : Signed model.ViewChange) → IsBounded node.order → Lead node.order (change_deeds node s) (with_view_change node s).now.order []
@@ -125,7 +130,7 @@ takes node m = one node.order (turns.Orders (order.Takes node.keys m)) _ (go (re
     go None = refl
     go (Some refused) = refl
 
-not_second : (first second : Option NodeError) → first_of first second ≡ None → second ≡ None
+pub not_second : (first second : Option NodeError) → first_of first second ≡ None → second ≡ None
 not_second None second e = e
 not_second (Some refused) second e = absurd cc
 
@@ -262,8 +267,10 @@ adopts node certificate files table = go (may_adopt node certificate && right) r
 
 pub step_leads : (node : Node) (step : NodeStep) → IsBounded node.order → Lead node.order (deeds_of node step) (outcome node step).now.order (executed_by node step)
 step_leads node (Delivers bytes) bounded = bytes_come node (message_of bytes) bounded
+step_leads node (Takes signed) bounded = message_comes node signed.message signed.auth bounded
 step_leads node (Proposes time) bounded = proposes node time
 step_leads node Executes bounded = executes node
+step_leads node Fails bounded = nothing node.order
 step_leads node Checkpoints bounded = tells node
 step_leads node TimesOut bounded = times_out node
 step_leads node (Adopts certificate files table) bounded = adopts node certificate files table

@@ -1,5 +1,5 @@
 -- A NEW-VIEW that a node takes is right.
-use Rattle.std.proofs.Common.{◌≡◌, ℕ, ◌==◌, ◌&&◌, Bool, true, false, cond, not, List, [], ◌∷◌, Option, Some, None, option_map, map, refl, ap, ap₂, ◌∙◌}
+use Rattle.std.proofs.Common.{◌≡◌, ℕ, ◌==◌, ◌&&◌, Bool, true, false, cond, not, List, [], ◌∷◌, Option, Some, None, option_map, map, inl, inr, refl, sym, ap, ap₂, subst, ◌∙◌}
 use Rattle.std.specs.Prelude.{bytes_eq}
 use Rattle.std.proofs.lemmas.Bool.{and_parts, eqb-true}
 use Rattle.sha2.specs.Sha256.{sha256}
@@ -10,23 +10,34 @@ use Rattle.std.specs.List.{AllByRecursion}
 use Rattle.std.proofs.lemmas.Slice.Eq.{bytes_eq-Decides}
 use Rattle.bfs_messages.specs.Messages as model
 use Rattle.bfs_messages.specs.Batches.{batch_text}
-use Rattle.bfs_messages.specs.Limits.{FitsPrePrepare, FitsSigned}
+use Rattle.bfs_messages.specs.Limits.{FitsNewView, FitsPrePrepare, FitsSigned, FitsViewChange}
 use Rattle.bfs_messages.specs.Signing.{is_signed}
 use Rattle.bfs_messages.specs.declared.signed.Signed.{Signed}
 use Rattle.bfs_messages.specs.declared.message.Message.{Message}
 use Rattle.bfs_messages.specs.declared.message.Message.TheVariants.{PrePrepare, NewView}
+use Rattle.bfs_consensus.specs.Histories.{IsIn}
+use Rattle.bfs_order_agreement.specs.Replicas as ordered
+use Rattle.bfs_order_agreement.specs.Replicas.{histories}
+use Rattle.bfs_order_agreement.proofs.Public.{AllIn, at_place, passed, whole_of}
 use Rattle.bfs_view.specs.Changes.Certificates.{faults}
 use Rattle.bfs_view.specs.Changes.Choice.{Chosen, choice}
 use Rattle.bfs_view.specs.Changes.NewViews as views
 use Rattle.bfs_view.specs.Changes.NewViews.{are_for, choice_refusal, do_propose, proposes, ground_refusal}
+use Rattle.bfs_view.specs.Changes.Making.{handed_in}
 use Rattle.bfs_view.specs.Changes.Parts.{as_message, messages_of}
+use Rattle.bfs_view.specs.Changes.ViewChanges.{valid_view_change}
 use Rattle.bfs_view.specs.declared.error.ViewError.{ViewError}
 use Rattle.bfs_view.specs.declared.error.ViewError.TheVariants.{BadAuthenticator, BadCertificate, WrongChoice}
-use Rattle.bfs_view_agreement.specs.Changes.{proposal_of}
-use Rattle.bfs_node.specs.Changing.{entering_refusal, first_of}
+use Rattle.bfs_view_agreement.specs.Changes.{proposal_of, HasProofs, IsGenuine}
+use Rattle.bfs_view_agreement.specs.Replicas.{IsRightNewView}
+use Rattle.bfs_view_agreement.proofs.Public.{enough_senders, out_of_map, passes_at, valid_proves}
+use Rattle.bfs_node.specs.Changing.{entering_refusal, first_of, view_refusal}
 use Rattle.bfs_node.specs.Errors.{of_view}
 use Rattle.bfs_node.specs.declared.error.NodeError.{NodeError}
-use Rattle.bfs_node_agreement.specs.Laws.{TakenNewViewsAreRight}
+use Rattle.bfs_node.specs.Nodes.{Node}
+use Rattle.bfs_node_agreement.specs.Premises.{ArePartsAuthentic, IsAuthentic}
+use Rattle.bfs_node_agreement.specs.Replicas.{Replicas}
+use Rattle.bfs_node_agreement.proofs.Hearing.{IsHeard, IsSpoken, genuine_of, vote_was_sent}
 
 none_of_view : (r : Option ViewError) (rest : Option NodeError) → first_of (option_map of_view r) rest ≡ None → r ≡ None
 none_of_view None rest e = refl
@@ -35,10 +46,6 @@ none_of_view (Some refused) rest e = absurd cc
 both : (one other : Option ViewError) → views.first_of one other ≡ None → (one ≡ None) × (other ≡ None)
 both None other e = (refl, e)
 both (Some refused) other e = absurd cc
-
-passed : (b : Bool) (e : ViewError) (rest : Option ViewError) → cond (not b) (Some e) rest ≡ None → (b ≡ true) × (rest ≡ None)
-passed true e rest h = (refl, h)
-passed false e rest h = absurd cc
 
 chosen_so : (b : Bool) → cond b None (Some WrongChoice) ≡ None → b ≡ true
 chosen_so true e = refl
@@ -65,8 +72,30 @@ module _ (keys : Keys) (f sender view : ℕ) (led : sender ≡ primary f view) w
       let a = and_parts (proposes keys sender view p c) (do_propose keys sender view ps cs) e in
       ap₂ (λ (h : Header) (hs : List Header). h ∷ hs) (proposal_is p c fit.0.0 a.0) (proposals_are ps cs fit.1 a.1)
 
-pub taken_right : TakenNewViewsAreRight
-taken_right faulty w node new auth keys_fit fits taken genuine =
+  -- each of them is signed, and tells the digest of its batch
+  pub proposals_signed : (ps : List (Signed model.PrePrepare)) (cs : List Chosen) → AllByRecursion (FitsSigned FitsPrePrepare) ps → do_propose keys sender view ps cs ≡ true
+      → (p : Signed model.PrePrepare) → IsIn p ps → (is_signed keys (as_message PrePrepare p) ≡ true) × (p.message.vote.digest ≡ sha256 (batch_text p.message.batch))
+  proposals_signed [] cs fit e p i = absurd i
+  proposals_signed (q ∷ ps) [] fit e p i = absurd cc
+  proposals_signed (q ∷ ps) (c ∷ cs) fit e p i =
+      let a = and_parts (proposes keys sender view q c) (do_propose keys sender view ps cs) e in
+      let vote = q.message.vote in
+      let b = and_parts ((vote.sender == sender) && ((vote.view == view) && (vote.number == c.number))) (bytes_eq (batch_text q.message.batch) (batch_text c.batch) && is_signed keys (as_message PrePrepare q)) a.0 in
+      let d = and_parts (bytes_eq (batch_text q.message.batch) (batch_text c.batch)) (is_signed keys (as_message PrePrepare q)) b.1 in
+      elim i [
+        | inl same ↦ subst (λ (x : Signed model.PrePrepare). (is_signed keys (as_message PrePrepare x) ≡ true) × (x.message.vote.digest ≡ sha256 (batch_text x.message.batch))) (sym same) (d.1, fit.0.0.digest)
+        | inr j ↦ proposals_signed ps cs fit.1 a.1 p j
+      ]
+
+-- what a node finds of a NEW-VIEW that it takes
+pub record IsTaken (node : Node) (new : model.NewView) : Type 0 where
+  pub led : new.sender ≡ primary node.order.f new.view
+  pub of_view : are_for new.view new.changes ≡ true
+  pub right : choice_refusal node.keys new.changes ≡ None
+  pub proposed : do_propose node.keys new.sender new.view new.proposals (choice (messages_of new.changes)).chosen ≡ true
+
+is_taken : (node : Node) (new : model.NewView) (auth : List (List ℕ)) → faults node.keys ≡ node.order.f → view_refusal node (record { message = NewView new; auth = auth }) new ≡ None → IsTaken node new
+is_taken node new auth keys_fit taken =
     let keys = node.keys in
     let m : Signed Message = record { message = NewView new; auth = auth } in
     let a = both (ground_refusal keys m) (cond (do_propose keys new.sender new.view new.proposals (choice (messages_of new.changes)).chosen) None (Some WrongChoice))
@@ -74,10 +103,39 @@ taken_right faulty w node new auth keys_fit fits taken genuine =
     let b = passed ((new.sender == primary (faults keys) new.view) && is_signed keys m) BadAuthenticator _ a.0 in
     let d = passed (are_for new.view new.changes) BadCertificate (choice_refusal keys new.changes) b.1 in
     let leads = eqb-true new.sender (primary (faults keys) new.view) (and_parts (new.sender == primary (faults keys) new.view) (is_signed keys m) b.0).0 in
-    record {
-      keys_fit = keys_fit;
-      of_view = d.0;
-      right = d.1;
-      genuine = genuine;
-      proposals = proposals_are keys node.order.f new.sender new.view (leads ∙ ap (λ (f : ℕ). primary f new.view) keys_fit) new.proposals _ fits.proposals.1 (chosen_so _ a.1);
-    }
+    record { led = leads ∙ ap (λ (f : ℕ). primary f new.view) keys_fit; of_view = d.0; right = d.1; proposed = chosen_so _ a.1 }
+
+module _ (faulty : ℕ → Bool) (w : Replicas) (v : ordered.Replicas) (spoken : (k : ℕ) → AllIn (IsSpoken (v k)) (w k).sent) (node : Node) (new : model.NewView) (auth : List (List ℕ))
+    (keys_fit : faults node.keys ≡ node.order.f) (fits : FitsNewView new) (taken : view_refusal node (record { message = NewView new; auth = auth }) new ≡ None)
+    (authentic : ArePartsAuthentic faulty w node.keys (NewView new)) where
+  pub taken_right : IsRightNewView faulty (histories v) node.order new.view new.changes (handed_in new)
+  taken_right =
+      let is = is_taken node new auth keys_fit taken in
+      let enough = enough_senders node.keys node.order.f new.changes keys_fit is.right in
+      record {
+        of_view = is.of_view;
+        enough = enough.0;
+        proved = λ change i.
+            let s = out_of_map (λ (x : Signed model.ViewChange). x.message) new.changes change i in
+            let valid = passes_at (valid_view_change node.keys) new.changes s.0 enough.1 s.1 in
+            let same = eqb-true s.0.message.view new.view (passes_at (λ (x : Signed model.ViewChange). x.message.view == new.view) new.changes s.0 is.of_view s.1) in
+            subst (λ (x : model.ViewChange). HasProofs node.order.f new.view x) (sym s.2) (valid_proves node.keys node.order.f new.view s.0 keys_fit same valid);
+        genuine = λ change i.
+            let s = out_of_map (λ (x : Signed model.ViewChange). x.message) new.changes change i in
+            let valid = passes_at (valid_view_change node.keys) new.changes s.0 enough.1 s.1 in
+            let parts = authentic.1 s.0 s.1 in
+            subst (λ (x : model.ViewChange). IsGenuine faulty (histories v) x) (sym s.2)
+            (genuine_of faulty w v spoken node.keys s.0 parts.0 parts.1 valid (at_place (FitsSigned FitsViewChange) new.changes fits.changes.1 s.0 s.1).0);
+        proposals = proposals_are node.keys node.order.f new.sender new.view is.led new.proposals (choice (messages_of new.changes)).chosen fits.proposals.1 is.proposed;
+      }
+
+  pub taken_heard : AllIn (IsHeard faulty (histories v)) (handed_in new)
+  taken_heard m i =
+      let is = is_taken node new auth keys_fit taken in
+      let p = out_of_map (as_message PrePrepare) new.proposals m i in
+      let good = proposals_signed node.keys node.order.f new.sender new.view is.led new.proposals (choice (messages_of new.changes)).chosen fits.proposals.1 is.proposed p.0 p.1 in
+      let comes : IsAuthentic faulty w node.keys (as_message PrePrepare p.0) = subst (λ (x : Signed Message). IsAuthentic faulty w node.keys x) p.2 (authentic.0 m i) in
+      subst (λ (x : Signed Message). IsHeard faulty (histories v) x) (sym p.2) (record {
+        sent = λ small. vote_was_sent faulty w v spoken node.keys (as_message PrePrepare p.0) comes good.0 tt;
+        whole = λ q e. whole_of p.0.message q good.1 e;
+      })

@@ -1,24 +1,20 @@
 -- The statements that are proved of the definitions: contracts of functions of src/laws.rt, which do nothing.
-use Rattle.std.specs.Prelude.{◌≡◌, ℕ, Bool, true, List, None}
-use Rattle.bfs_log.specs.Headers.{header}
-use Rattle.bfs_messages.specs.Fits.{FitsMessage}
-use Rattle.bfs_messages.specs.Messages as model
+use Rattle.std.specs.Prelude.{◌≡◌, ℕ, zero, suc, Bool, false, List, Some, None, replicate}
+use Rattle.bfs_model.specs.Server.Tree.{FileSystem, new_file_system}
+use Rattle.bfs_log.specs.Logs.{batch_in}
+use Rattle.bfs_messages.specs.Messages.{Batch}
 use Rattle.bfs_messages.specs.declared.signed.Signed.{Signed}
 use Rattle.bfs_messages.specs.declared.message.Message.{Message}
-use Rattle.bfs_messages.specs.declared.message.Message.TheVariants.{NewView}
-use Rattle.bfs_consensus.specs.Histories.{IsIn, World, FewAreFaulty}
+use Rattle.bfs_order.specs.Replica.Proposing.{batch_digest}
+use Rattle.bfs_outcome.specs.Outcome.{outcome}
+use Rattle.bfs_replies.specs.Tables.{Table}
+use Rattle.bfs_consensus.specs.Histories.{IsIn, FewAreFaulty}
 use Rattle.bfs_order_agreement.specs.Replicas as ordered
-use Rattle.bfs_view.specs.Changes.Certificates.{faults}
-use Rattle.bfs_view.specs.Changes.Keeping.{changes_for}
-use Rattle.bfs_view.specs.Changes.Making.{handed_in}
-use Rattle.bfs_view.specs.Changes.NewViews.{choice_refusal}
-use Rattle.bfs_view.specs.Changes.Parts.{messages_of}
-use Rattle.bfs_view_agreement.specs.Changes.{IsGenuine}
 use Rattle.bfs_view_agreement.specs.Replicas as turns
-use Rattle.bfs_view_agreement.specs.Replicas.{IsRightNewView}
-use Rattle.bfs_node.specs.Changing.{may_begin, own_new_view, view_refusal}
-use Rattle.bfs_node.specs.Nodes.{Node}
-use Rattle.bfs_node_agreement.specs.Replicas.{Replica, NodeTurn, new_replicas, after_turns, ordered_turns}
+use Rattle.bfs_node_agreement.specs.Premises.{AreAuthentic, AreSame, StatesDontCollide, standing_digest}
+use Rattle.bfs_node_agreement.specs.Replicas.{Replica, Replicas, Standing, NodeTurn, new_replicas, after_turns, ordered_turns}
+
+-- Nodes and their orders ----------------------------------------------------------------------------------------------------
 
 -- the order knows what the node's order knows, and has executed what the node has
 pub record Tracks (r : Replica) (o : ordered.Replica) : Type 0 where
@@ -30,25 +26,42 @@ abbrev pub StepsAreTurns : Type 0
 StepsAreTurns = (f clients : ℕ) (secret : List ℕ) (steps : List NodeTurn) (i : ℕ)
     → Tracks (after_turns (new_replicas f clients secret) steps i) (turns.after_turns (ordered.new_replicas f) (ordered_turns (new_replicas f clients secret) steps) i)
 
--- over every list of calls of nodes and deliveries of bytes, any two that execute a batch for a number, in whatever views, execute one digest,
--- where what passes is genuine and each view is entered by a NEW-VIEW that is right
-abbrev pub NodesAgree : Type 0
-NodesAgree = (f clients : ℕ) (secret : List ℕ) (faulty : ℕ → Bool) (steps : List NodeTurn) → FewAreFaulty f faulty
+-- where what passes is authentic these turns may be taken: each NEW-VIEW by which a node enters a view is right, and so is each that it begins
+abbrev pub TurnsMayBeTaken : Type 0
+TurnsMayBeTaken = (f clients : ℕ) (secret : List ℕ) (faulty : ℕ → Bool) (steps : List NodeTurn) → AreAuthentic faulty (new_replicas f clients secret) steps
     → turns.MayTakeTurns faulty (ordered.new_replicas f) (ordered_turns (new_replicas f clients secret) steps)
-    → (i j : ℕ) (one other : Signed Message)
-    → IsIn one (after_turns (new_replicas f clients secret) steps i).executed → IsIn other (after_turns (new_replicas f clients secret) steps j).executed
-    → (header one).number ≡ (header other).number → (header one).digest ≡ (header other).digest
 
--- a NEW-VIEW that a node takes is right by its keys, where its VIEW-CHANGEs are genuine: it keeps the limits, as each that is read does
-abbrev pub TakenNewViewsAreRight : Type 0
-TakenNewViewsAreRight = (faulty : ℕ → Bool) (w : World) (node : Node) (new : model.NewView) (auth : List (List ℕ)) → faults node.keys ≡ node.order.f
-    → FitsMessage (NewView new) → view_refusal node (record { message = NewView new; auth = auth }) new ≡ None
-    → ((change : model.ViewChange) → IsIn change (messages_of new.changes) → IsGenuine faulty w change)
-    → IsRightNewView faulty w node.order node.keys new.view new.changes (handed_in new)
+-- Agreement -----------------------------------------------------------------------------------------------------------------
 
--- one that it begins is right, where its VIEW-CHANGEs can be chosen from and are genuine
-abbrev pub BegunNewViewsAreRight : Type 0
-BegunNewViewsAreRight = (faulty : ℕ → Bool) (w : World) (node : Node) → faults node.keys ≡ node.order.f → may_begin node ≡ true
-    → choice_refusal node.keys (changes_for node.order.asked node.changes) ≡ None
-    → ((change : model.ViewChange) → IsIn change (messages_of (changes_for node.order.asked node.changes)) → IsGenuine faulty w change)
-    → IsRightNewView faulty w node.order node.keys node.order.asked (changes_for node.order.asked node.changes) (handed_in (own_new_view node))
+-- a replica has executed a batch as a number
+abbrev pub Executed : Replica → (number : ℕ) → Batch → Type 0
+Executed r number batch = (m : Signed Message) × IsIn m r.executed × (batch_in m.message ≡ Some (record { number = number; batch = batch }))
+
+-- no two batches that correct replicas have executed as one number have one digest
+abbrev pub BatchesDontCollide : (faulty : ℕ → Bool) → Replicas → Type 0
+BatchesDontCollide faulty w = (i j number : ℕ) (batch other : Batch) → faulty i ≡ false → faulty j ≡ false
+    → Executed (w i) number batch → Executed (w j) number other → batch_digest batch ≡ batch_digest other → batch ≡ other
+
+-- the state after batches that correct replicas executed as numbers 1 to n
+abbrev pub ComesOfBatches : (clients : ℕ) (faulty : ℕ → Bool) → Replicas → (number : ℕ) → FileSystem → Table → Type 0
+ComesOfBatches clients faulty w zero files table = (files ≡ new_file_system) × (table ≡ replicate clients None)
+ComesOfBatches clients faulty w (suc number) files table = (before : FileSystem) × (last : Table) × ComesOfBatches clients faulty w number before last
+    × (k : ℕ) × (faulty k ≡ false) × (batch : Batch) × Executed (w k) (suc number) batch
+    × (files ≡ (outcome before last batch).files) × (table ≡ (outcome before last batch).table)
+
+-- any two correct replicas that execute a batch as a number, in whatever views, execute the same one; and any two that reach a number, by
+-- executing or by adopting, have the same file system and table there, and the same digest, which come of the batches up to it
+pub record Agree (clients : ℕ) (faulty : ℕ → Bool) (w : Replicas) : Type 0 where
+  pub batches : (i j number : ℕ) (batch other : Batch) → faulty i ≡ false → faulty j ≡ false → Executed (w i) number batch → Executed (w j) number other → batch ≡ other
+  pub states : (i j : ℕ) (s t : Standing) → faulty i ≡ false → faulty j ≡ false → IsIn s (w i).reached → IsIn t (w j).reached → s.number ≡ t.number
+      → AreSame s t × (standing_digest s ≡ standing_digest t)
+  pub comes : (i : ℕ) (s : Standing) → faulty i ≡ false → IsIn s (w i).reached → ComesOfBatches clients faulty w s.number s.files s.table
+
+-- over every list of calls of nodes and deliveries of bytes
+abbrev pub NodesAgree : Type 0
+NodesAgree = (f clients : ℕ) (secret : List ℕ) (faulty : ℕ → Bool) (steps : List NodeTurn)
+    → FewAreFaulty f faulty
+    → AreAuthentic faulty (new_replicas f clients secret) steps
+    → BatchesDontCollide faulty (after_turns (new_replicas f clients secret) steps)
+    → StatesDontCollide faulty (after_turns (new_replicas f clients secret) steps)
+    → Agree clients faulty (after_turns (new_replicas f clients secret) steps)

@@ -1,4 +1,5 @@
 -- What the contracts of bfs_node_agreement cite.
 pub mod Steps
 pub mod Replicas
+pub mod Premises
 pub mod Laws

@@ -1,9 +1,26 @@
 -- Nodes by what they do, and what of it has been sent and executed (OSDI 1999 sections 4.2 to 4.4).
-use Rattle.std.specs.Prelude.{ℕ, ◌==◌, List, [], ◌∷◌, ◌++◌, map, if◌then◌else◌}
+use Rattle.std.specs.Prelude.{ℕ, ◌==◌, List, [], ◌∷◌, ◌++◌, map, Option, Some, None, if◌then◌else◌}
+use Rattle.bfs_model.specs.Server.Tree.{FileSystem}
 use Rattle.bfs_log.specs.Logs.{Log}
+use Rattle.bfs_replies.specs.Tables.{Table}
 use Rattle.bfs_view_agreement.specs.Replicas.{Deed, Turn}
 use Rattle.bfs_node.specs.Nodes.{Node, new_node}
 use Rattle.bfs_node_agreement.specs.Steps.{NodeStep, outcome, executed_by, deeds_of}
+
+-- the file system and the last replies after a number
+pub record Standing : Type 0 where
+  pub number : ℕ
+  pub files : FileSystem
+  pub table : Table
+
+-- a file system that has failed has no state
+abbrev pub standing_with : Node → Option FileSystem → List Standing
+standing_with node None = []
+standing_with node (Some files) = record { number = node.order.last; files = files; table = node.table } ∷ []
+
+-- after the number last executed
+abbrev pub standing_of : Node → List Standing
+standing_of node = standing_with node node.files
 
 pub record Replica : Type 0 where
   pub node : Node
@@ -11,12 +28,15 @@ pub record Replica : Type 0 where
   pub sent : Log
   -- PRE-PREPAREs of the batches that it has executed
   pub executed : Log
+  -- each state that it has been in
+  pub reached : List Standing
 
 abbrev pub after_step : Replica → NodeStep → Replica
 after_step r step = record {
   node = (outcome r.node step).now;
   sent = (outcome r.node step).sent ++ r.sent;
   executed = executed_by r.node step ++ r.executed;
+  reached = standing_of (outcome r.node step).now ++ r.reached;
 }
 
 -- each by its number
@@ -24,7 +44,7 @@ abbrev pub Replicas : Type 0
 Replicas = ℕ → Replica
 
 abbrev pub new_replicas : (f clients : ℕ) → (secret : List ℕ) → Replicas
-new_replicas f clients secret = λ k. record { node = new_node f clients secret k; sent = []; executed = [] }
+new_replicas f clients secret = λ k. record { node = new_node f clients secret k; sent = []; executed = []; reached = standing_of (new_node f clients secret k) }
 
 -- a step of one replica
 pub record NodeTurn : Type 0 where

@@ -22,7 +22,7 @@ use Rattle.bfs_view_agreement.specs.Replicas.{Deed}
 use Rattle.bfs_node.specs.Adopting.{adopted, may_adopt}
 use Rattle.bfs_node.specs.Changing.{change_in, change_refusal, leads, may_begin, next_view, own_change, own_new_view, timed_out, timeout_refusal, view_refusal}
 use Rattle.bfs_node.specs.Checkpoints.{checkpoint, checkpoint_refusal}
-use Rattle.bfs_node.specs.Delivering.{bytes_delivered, bytes_refusal}
+use Rattle.bfs_node.specs.Delivering.{bytes_delivered, bytes_refusal, delivered, delivery_refusal}
 use Rattle.bfs_node.specs.Executing.{execution, is_ready}
 use Rattle.bfs_node.specs.Nodes.{Node, Outcome}
 use Rattle.bfs_node.specs.Proposing.{pending_batch, proposal_refusal, proposed}
@@ -30,9 +30,13 @@ use Rattle.bfs_node.specs.declared.error.NodeError.{NodeError}
 
 -- a call of a node
 pub data NodeStep : Type 0 where
+  -- a message comes as bytes, or as it was read from them
   Delivers : (bytes : List ℕ) → NodeStep
+  Takes : Signed Message → NodeStep
   Proposes : Time → NodeStep
   Executes : NodeStep
+  -- memory runs out while a batch is executed
+  Fails : NodeStep
   Checkpoints : NodeStep
   TimesOut : NodeStep
   -- with the file system and the table that a text spells
@@ -59,8 +63,10 @@ after_execution node (Some next) = or_still node next
 
 abbrev pub outcome : Node → NodeStep → Outcome
 outcome node (Delivers bytes) = unless (bytes_refusal node (message_of bytes)) node (bytes_delivered node (message_of bytes))
+outcome node (Takes signed) = unless (delivery_refusal node signed) node (delivered node signed)
 outcome node (Proposes time) = unless (proposal_refusal node) node (proposed node time)
 outcome node Executes = after_execution node (execution node)
+outcome node Fails = still (record node { files = None })
 outcome node Checkpoints = unless (checkpoint_refusal node) node (or_still node (checkpoint node))
 outcome node TimesOut = unless (timeout_refusal node) node (timed_out node)
 outcome node (Adopts certificate files table) =
@@ -69,8 +75,10 @@ outcome node (Adopts certificate files table) =
 -- the PRE-PREPARE of the batch that it executes
 abbrev pub executed_by : Node → NodeStep → Log
 executed_by node (Delivers bytes) = []
+executed_by node (Takes signed) = []
 executed_by node (Proposes time) = []
 executed_by node Executes = if is_ready node then message_in (next_order node.order) else []
+executed_by node Fails = []
 executed_by node Checkpoints = []
 executed_by node TimesOut = []
 executed_by node (Adopts certificate files table) = []
@@ -116,8 +124,10 @@ timeout_deeds node =
 
 abbrev pub deeds_of : Node → NodeStep → List Deed
 deeds_of node (Delivers bytes) = bytes_deeds node (message_of bytes)
+deeds_of node (Takes signed) = message_deeds node signed signed.message
 deeds_of node (Proposes time) = turns.Orders (order.Proposes node.keys (pending_batch node time)) ∷ []
 deeds_of node Executes = if is_ready node then turns.Orders order.Executes ∷ [] else []
+deeds_of node Fails = []
 deeds_of node Checkpoints = where_taken (checkpoint_refusal node) (checkpoint_deeds node node.files)
 deeds_of node TimesOut = where_taken (timeout_refusal node) (timeout_deeds node)
 deeds_of node (Adopts certificate files table) =

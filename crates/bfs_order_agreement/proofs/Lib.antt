@@ -7,3 +7,6 @@ mod Taking
 mod Deeds
 mod Entering
 mod Worlds
+mod Lists
+mod Logs
+pub mod Public

@@ -29,11 +29,11 @@ Result faulty w r now votes offers changes executed = (moves : List Move) × Are
 
 -- Refusals ----------------------------------------------------------------------------------------------------------------
 
-pub passed : (b : Bool) (e : OrderError) (o : Option OrderError) → cond (not b) (Some e) o ≡ None → (b ≡ true) × (o ≡ None)
+pub passed : {E : Type 0} (b : Bool) (e : E) (o : Option E) → cond (not b) (Some e) o ≡ None → (b ≡ true) × (o ≡ None)
 passed true e o h = (refl, h)
 passed false e o h = absurd cc
 
-pub not_hit : (b : Bool) (e : OrderError) (o : Option OrderError) → cond b (Some e) o ≡ None → (b ≡ false) × (o ≡ None)
+pub not_hit : {E : Type 0} (b : Bool) (e : E) (o : Option E) → cond b (Some e) o ≡ None → (b ≡ false) × (o ≡ None)
 not_hit true e o h = absurd cc
 not_hit false e o h = (refl, h)
 

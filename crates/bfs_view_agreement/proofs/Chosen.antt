@@ -1,43 +1,29 @@
--- What is chosen from VIEW-CHANGEs that are found right makes a valid NEW-VIEW.
-use Rattle.std.proofs.Common.{◌≡◌, ℕ, zero, suc, ◌+◌, ◌*◌, ◌<◌, ◌≤◌, ◌==◌, Bool, true, false, cond, ◌&&◌, ◌||◌, not, List, [], ◌∷◌, Option, Some, None, inl, inr, refl, sym, ap, subst, ◌∙◌, arith}
-use Rattle.std.specs.Prelude.{nat_lt, nat_le, map}
-use Rattle.std.specs.List.{list_any, list_all, range_with_len}
-use Rattle.std.proofs.lemmas.Bool.{and_parts, cases_Bool, eqb-true, ltb-true, ltb-false}
+-- What is chosen from VIEW-CHANGEs that are proved and genuine makes a valid NEW-VIEW.
+use Rattle.std.proofs.Common.{◌≡◌, ℕ, zero, suc, ◌+◌, ◌*◌, ◌<◌, ◌≤◌, ◌==◌, Bool, false, ◌&&◌, ◌||◌, List, [], ◌∷◌, inl, inr, refl, sym, ap, subst, ◌∙◌, arith}
+use Rattle.std.specs.Prelude.{map}
+use Rattle.std.specs.List.{list_any, range_with_len}
+use Rattle.std.proofs.lemmas.Bool.{and_parts, cases_Bool, eqb-true}
 use mathlib.Core.Path.{fun_ext}
 use Rattle.sha2.specs.Sha256.{sha256}
-use Rattle.bfs_auth.specs.Keys.{Keys}
-use Rattle.bfs_agreement.specs.Votes.{Header, SlotsDiffer, is_slot, Told, count_below, replicas, primary, is_backed}
+use Rattle.bfs_agreement.specs.Votes.{Header, SlotsDiffer, is_slot, Told, count_below, replicas, primary}
 use Rattle.bfs_log.specs.Headers.{header}
 use Rattle.bfs_log.specs.Logs.{Log, headers}
 use Rattle.bfs_messages.specs.Messages as model
 use Rattle.bfs_messages.specs.Batches.{batch_text}
-use Rattle.bfs_messages.specs.Signing.{is_signed}
 use Rattle.bfs_messages.specs.declared.signed.Signed.{Signed}
-use Rattle.bfs_messages.specs.declared.message.Message.TheVariants.{ViewChange}
-use Rattle.bfs_order.specs.Replica.Installing.{has_sender, senders_differ}
+use Rattle.bfs_order.specs.Replica.Installing.{has_sender}
 use Rattle.bfs_order.specs.Replica.Views.{greatest_number}
 use Rattle.bfs_consensus.specs.Histories as told
 use Rattle.bfs_consensus.specs.Histories.{IsIn, World, WasSent, IsChoice, IsValidCertificate, IsValidNewView}
-use Rattle.bfs_consensus.proofs.Public.{Is, in_told}
+use Rattle.bfs_consensus.proofs.Public.{in_told}
 use Rattle.bfs_order_agreement.specs.Replicas.{new_view}
-use Rattle.bfs_view.specs.declared.error.ViewError.TheVariants.{BadCertificate, TooFew}
-use Rattle.bfs_view.specs.Changes.Certificates.{faults, number_in, view_in, vote_in, is_proved, certifies, has_stable}
+use Rattle.bfs_view.specs.Changes.Certificates.{number_in, view_in}
 use Rattle.bfs_view.specs.Changes.Choice.{Chosen, choice, latest_stable}
-use Rattle.bfs_view.specs.Changes.NewViews.{senders, do_agree}
-use Rattle.bfs_view.specs.Changes.Parts.{as_message, as_changes, messages_in, messages_of}
-use Rattle.bfs_view.specs.Changes.ViewChanges.{is_due, are_in_order, valid_view_change}
+use Rattle.bfs_view.specs.Changes.Parts.{as_changes, messages_in, messages_of}
 use Rattle.bfs_view.specs.Laws.Choices.{StableIsPassed, NumbersAreChosenOnce, PreparedIsChosen}
-use Rattle.bfs_view_agreement.specs.Changes.{told_certificate, told_change, proposal_of, IsGenuine}
+use Rattle.bfs_view_agreement.specs.Changes.{told_certificate, told_change, proposal_of, HasProofs, IsGenuine}
 use Rattle.bfs_view_agreement.specs.Laws.{RightNewViewsAreValid}
-use Rattle.bfs_view_agreement.proofs.Lists.{is_in, contains, in_map, out_of_map, in_range, told_in, passes_at}
-
-passed : {E : Type 0} (b : Bool) (e : E) (o : Option E) → cond (not b) (Some e) o ≡ None → (b ≡ true) × (o ≡ None)
-passed true e o h = (refl, h)
-passed false e o h = absurd cc
-
-not_hit : {E : Type 0} (b : Bool) (e : E) (o : Option E) → cond b (Some e) o ≡ None → b ≡ false
-not_hit true e o h = absurd cc
-not_hit false e o h = refl
+use Rattle.bfs_view_agreement.proofs.Lists.{as_it_is, is_in, contains, in_map, out_of_map, in_range, told_in, passes_at}
 
 -- Numbers -----------------------------------------------------------------------------------------------------------------
 
@@ -174,46 +160,26 @@ same_senders : (changes : List (Signed model.ViewChange)) (k : ℕ) → has_send
 same_senders [] k = refl
 same_senders (s ∷ changes) k = ap (λ (b : Bool). (s.message.sender == k) || b) (same_senders changes k)
 
-sent_as : (faulty : ℕ → Bool) (w : World) (h : Header) (t k v n : ℕ) (d : List ℕ) → Is h t k v n d → WasSent faulty w h.tag h.sender h.view h.number h.digest → WasSent faulty w t k v n d
-sent_as faulty w h t k v n d is x =
-    subst (λ (s : List ℕ). WasSent faulty w t k v n s) is.digest (subst (λ (s : ℕ). WasSent faulty w t k v s h.digest) is.number (subst (λ (s : ℕ). WasSent faulty w t k s h.number h.digest) is.view
-    (subst (λ (s : ℕ). WasSent faulty w t s h.view h.number h.digest) is.sender (subst (λ (s : ℕ). WasSent faulty w s h.sender h.view h.number h.digest) is.tag x))))
-
-valid_certificate : (faulty : ℕ → Bool) (w : World) (f : ℕ) (keys : Keys) (view : ℕ) (s : Signed model.ViewChange) (c : model.Certificate) → faults keys ≡ f → s.message.view ≡ view
-    → valid_view_change keys s ≡ true → IsGenuine faulty w s.message → IsIn c s.message.certificates → IsValidCertificate f faulty w view (told_certificate c)
-valid_certificate faulty w f keys view s c fit of_view valid genuine i =
-    let change = s.message in
-    let a = and_parts (are_in_order change) (is_signed keys (as_message ViewChange s) && (has_stable keys change && list_all (certifies keys) change.certificates)) valid in
-    let b = and_parts (is_signed keys (as_message ViewChange s)) (has_stable keys change && list_all (certifies keys) change.certificates) a.1 in
-    let g = and_parts (has_stable keys change) (list_all (certifies keys) change.certificates) b.1 in
-    let due = passes_at (is_due change) change.certificates c (and_parts _ (list_all (is_due change) change.certificates) a.0).1 i in
-    let earlier = ltb-true (view_in c) change.view (and_parts (nat_le (number_in c) _) (nat_lt (view_in c) change.view) due).1 in
-    let certified = passes_at (certifies keys) change.certificates c g.1 i in
-    let p = and_parts _ (senders_differ (messages_in c) && (is_proved (faults keys) c && _)) certified in
-    let q = and_parts (senders_differ (messages_in c)) (is_proved (faults keys) c && _) p.1 in
-    let backed = and_parts (is_proved (faults keys) c) _ q.1 in
-    record {
-      earlier = subst (λ (x : ℕ). view_in c < x) of_view earlier;
-      backed = subst (λ (x : ℕ). is_backed x (headers (messages_in c)) (view_in c) (number_in c) (vote_in c).digest ≡ true) fit backed.0;
-      authentic = λ t k v n d x.
-          let got = told_in (headers (messages_in c)) t k v n d x in
-          let from = out_of_map header (messages_in c) got.0 got.1 in
-          let sent = genuine.certificates c from.0 i from.1 in
-          sent_as faulty w got.0 t k v n d got.2 (subst (λ (h : Header). WasSent faulty w h.tag h.sender h.view h.number h.digest) (sym from.2) sent);
-    }
+valid_certificate : (faulty : ℕ → Bool) (w : World) (f view : ℕ) (change : model.ViewChange) (c : model.Certificate) → HasProofs f view change → IsGenuine faulty w change
+    → IsIn c change.certificates → IsValidCertificate f faulty w view (told_certificate c)
+valid_certificate faulty w f view change c proofs genuine i = record {
+  earlier = proofs.earlier c i;
+  backed = proofs.proved c i;
+  authentic = λ t k v n d x.
+      let got = told_in (headers (messages_in c)) t k v n d x in
+      let from = out_of_map header (messages_in c) got.0 got.1 in
+      let sent = genuine.certificates c from.0 i from.1 in
+      as_it_is (λ t k v n d. WasSent faulty w t k v n d) got.0 t k v n d got.2 (subst (λ (h : Header). WasSent faulty w h.tag h.sender h.view h.number h.digest) (sym from.2) sent);
+}
 
 pub right_valid : StableIsPassed → NumbersAreChosenOnce → PreparedIsChosen → RightNewViewsAreValid
-right_valid stable numbers prepared faulty w s keys view changes handed right =
+right_valid stable numbers prepared faulty w s view changes handed right =
     let chs = messages_of changes in
-    let a = passed (do_agree changes && list_all (valid_view_change keys) changes) BadCertificate _ right.right in
-    let valid = (and_parts (do_agree changes) (list_all (valid_view_change keys) changes) a.0).1 in
-    let enough : 2 * faults keys + 1 ≤ senders (faults keys) changes = ltb-false (senders (faults keys) changes) (2 * faults keys + 1) (not_hit (nat_lt (senders (faults keys) changes) (2 * faults keys + 1)) TooFew None a.1) in
-    let at_f : 2 * s.f + 1 ≤ senders s.f changes = subst (λ (f : ℕ). 2 * f + 1 ≤ senders f changes) right.keys_fit enough in
     let whole = λ (change : model.ViewChange) (c : model.Certificate) (i : IsIn change chs) (j : IsIn c change.certificates). (right.genuine change i).whole c j in
     let differ : SlotsDiffer (headers handed) = subst (λ (l : List Header). SlotsDiffer l) (sym right.proposals) (slots_differ s.f view (choice chs).chosen _ _ (numbers chs)) in (
       differ,
       record {
-        senders = subst (λ (p : ℕ → Bool). 2 * s.f + 1 ≤ count_below p (replicas s.f)) (fun_ext (same_senders changes)) at_f;
+        senders = subst (λ (p : ℕ → Bool). 2 * s.f + 1 ≤ count_below p (replicas s.f)) (fun_ext (same_senders changes)) right.enough;
         views = λ m i.
             let change = out_of_map told_change chs m i in
             let signed = out_of_map (λ (x : Signed model.ViewChange). x.message) changes change.0 change.1 in
@@ -224,13 +190,9 @@ right_valid stable numbers prepared faulty w s keys view changes handed right =
             subst (λ (x : told.ViewChange). faulty x.sender ≡ false → IsIn x (w x.sender).changes) (sym change.2) (right.genuine change.0 change.1).sent;
         valid = λ m c i k.
             let change = out_of_map told_change chs m i in
-            let signed = out_of_map (λ (x : Signed model.ViewChange). x.message) changes change.0 change.1 in
             let cert = out_of_map told_certificate change.0.certificates c (subst (λ (x : told.ViewChange). IsIn c x.certificates) change.2 k) in
-            let same = eqb-true signed.0.message.view view (passes_at (λ (x : Signed model.ViewChange). x.message.view == view) changes signed.0 right.of_view signed.1) in
-            let genuine = subst (λ (x : model.ViewChange). IsGenuine faulty w x) signed.2 (right.genuine change.0 change.1) in
-            let here = subst (λ (x : model.ViewChange). IsIn cert.0 x.certificates) signed.2 cert.1 in
             subst (λ (x : told.Certificate). IsValidCertificate s.f faulty w view x) (sym cert.2)
-            (valid_certificate faulty w s.f keys view signed.0 cert.0 right.keys_fit same (passes_at (valid_view_change keys) changes signed.0 valid signed.1) genuine here);
+            (valid_certificate faulty w s.f view change.0 cert.0 (right.proved change.0 change.1) (right.genuine change.0 change.1) cert.1);
         choice = is_choice stable numbers prepared s.f view chs handed right.proposals whole;
       },
     )

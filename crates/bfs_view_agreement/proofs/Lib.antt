@@ -3,3 +3,6 @@ mod Lists
 mod Made
 mod Chosen
 mod Worlds
+mod Proved
+mod OfLog
+pub mod Public

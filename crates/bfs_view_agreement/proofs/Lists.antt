@@ -50,3 +50,9 @@ passes_at p [] x e i = absurd i
 passes_at p (y ∷ ys) x e i =
     let a = and_parts (p y) (list_all p ys) e in
     elim i [ inl s ↦ subst (λ z. p z ≡ true) (sym s) a.0 | inr j ↦ passes_at p ys x a.1 j ]
+
+-- by what a header is
+pub as_it_is : (P : (t k v n : ℕ) → List ℕ → Type 0) (h : Header) (t k v n : ℕ) (d : List ℕ) → Is h t k v n d → P h.tag h.sender h.view h.number h.digest → P t k v n d
+as_it_is P h t k v n d is x =
+    subst (λ (e : List ℕ). P t k v n e) is.digest (subst (λ (m : ℕ). P t k v m h.digest) is.number (subst (λ (u : ℕ). P t k u h.number h.digest) is.view
+    (subst (λ (j : ℕ). P t j h.view h.number h.digest) is.sender (subst (λ (s : ℕ). P s h.sender h.view h.number h.digest) is.tag x))))

@@ -13,7 +13,7 @@ use Rattle.bfs_view_agreement.specs.Replicas.{Deed, Orders, TimesOut, ChangesVie
 may_do : (faulty : ℕ → Bool) → MadeTellsWhatIsPrepared → RightNewViewsAreValid → (w : World) (s : State) (deed : Deed) → IsWindowed s → MayDoSo faulty w s deed → MayDo faulty w s (ordered_deed s deed)
 may_do faulty made valid w s (Orders call) windowed may = may
 may_do faulty made valid w s (TimesOut view) windowed may = made s view windowed
-may_do faulty made valid w s (ChangesView keys view changes handed) windowed may = valid faulty w s keys view changes handed may
+may_do faulty made valid w s (ChangesView keys view changes handed) windowed may = valid faulty w s view changes handed may
 
 abbrev AreWindowed : Replicas → Type 0
 AreWindowed w = (i : ℕ) → IsWindowed (w i).state

@@ -1,5 +1,5 @@
 -- VIEW-CHANGEs and NEW-VIEWs by the headers of what they hold (OSDI 1999 section 4.4).
-use Rattle.std.specs.Prelude.{◌≡◌, ℕ, Bool, false, map}
+use Rattle.std.specs.Prelude.{◌≡◌, ℕ, ◌<◌, Bool, true, false, map}
 use Rattle.sha2.specs.Sha256.{sha256}
 use Rattle.bfs_agreement.specs.Votes.{Header, primary}
 use Rattle.bfs_log.specs.Headers.{header}
@@ -10,6 +10,7 @@ use Rattle.bfs_messages.specs.declared.signed.Signed.{Signed}
 use Rattle.bfs_messages.specs.declared.message.Message.{Message}
 use Rattle.bfs_messages.specs.declared.message.Message.TheVariants.{PrePrepare}
 use Rattle.bfs_consensus.specs.Histories.{IsIn, Certificate, ViewChange, World, WasSent}
+use Rattle.bfs_view.specs.Changes.Certificates.{is_proved, view_in}
 use Rattle.bfs_view.specs.Changes.Choice.{Chosen}
 use Rattle.bfs_view.specs.Changes.Parts.{as_message, messages_in, prepares_in}
 
@@ -34,3 +35,8 @@ pub record IsGenuine (faulty : ℕ → Bool) (w : World) (change : model.ViewCha
   pub certificates : (c : model.Certificate) (m : Signed Message) → IsIn c change.certificates → IsIn m (messages_in c)
       → WasSent faulty w (header m).tag (header m).sender (header m).view (header m).number (header m).digest
   pub whole : (c : model.Certificate) → IsIn c change.certificates → IsWhole c
+
+-- each of its certificates is of a view before the one that is asked for, and has PREPAREs of 2f different backups
+pub record HasProofs (f view : ℕ) (change : model.ViewChange) : Type 0 where
+  pub earlier : (c : model.Certificate) → IsIn c change.certificates → view_in c < view
+  pub proved : (c : model.Certificate) → IsIn c change.certificates → is_proved f c ≡ true

@@ -1,6 +1,5 @@
 -- The statements that are proved of the definitions: contracts of functions of src/laws.rt, which do nothing.
 use Rattle.std.specs.Prelude.{◌≡◌, ℕ, Bool, List, map}
-use Rattle.bfs_auth.specs.Keys.{Keys}
 use Rattle.bfs_agreement.specs.Votes.{SlotsDiffer}
 use Rattle.bfs_log.specs.Headers.{header}
 use Rattle.bfs_log.specs.Logs.{Log, headers}
@@ -21,10 +20,10 @@ use Rattle.bfs_view_agreement.specs.Replicas.{IsRightNewView, Turn, after_turns,
 abbrev pub MadeTellsWhatIsPrepared : Type 0
 MadeTellsWhatIsPrepared = (s : State) (view : ℕ) → IsWindowed s → TellsWhatIsPrepared s (told_change (change_of s view))
 
--- what is chosen from VIEW-CHANGEs that are found right makes a valid NEW-VIEW, with one PRE-PREPARE for a number
+-- what is chosen from VIEW-CHANGEs that are proved and genuine makes a valid NEW-VIEW, with one PRE-PREPARE for a number
 abbrev pub RightNewViewsAreValid : Type 0
-RightNewViewsAreValid = (faulty : ℕ → Bool) (w : World) (s : State) (keys : Keys) (view : ℕ) (changes : List (Signed model.ViewChange)) (handed : Log)
-    → IsRightNewView faulty w s keys view changes handed
+RightNewViewsAreValid = (faulty : ℕ → Bool) (w : World) (s : State) (view : ℕ) (changes : List (Signed model.ViewChange)) (handed : Log)
+    → IsRightNewView faulty w s view changes handed
     → SlotsDiffer (headers handed)
     × IsValidNewView s.f faulty w (new_view view (choice (messages_of changes)).min_s handed (map told_change (messages_of changes)))
 

@@ -12,7 +12,7 @@ pub fn made_tells_what_is_prepared()
     made_has_prepared();
 }
 
-/// What is chosen from VIEW-CHANGEs that are found right makes a NEW-VIEW of which agreement is proved.
+/// What is chosen from VIEW-CHANGEs that are proved and genuine makes a NEW-VIEW of which agreement is proved.
 pub fn right_new_views_are_valid()
     ensures { RightNewViewsAreValid }
 {
