@@ -7,10 +7,14 @@ mod checkpoints;
 #[cfg(test)]
 mod normal;
 #[cfg(test)]
+mod parts;
+#[cfg(test)]
 mod pending;
 #[cfg(test)]
 mod refusals;
 #[cfg(test)]
 mod replica;
+#[cfg(test)]
+mod script;
 #[cfg(test)]
 mod views;

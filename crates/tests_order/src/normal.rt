@@ -1,150 +1,144 @@
 //! Batches are proposed, prepared, committed and executed in one view.
-ghost use Rattle.std.specs.Prelude.{◌<◌, ◌≤◌, ◌+◌, ◌*◌};
-
-use crate::replica::{Replica, Said, null_proposal, other_vote, refusal_of, vote};
-use bfs_messages::{Message, OrderedBatch};
-use bfs_order::OrderError;
-use bfs_testing::{holds, same};
-use bfs_types::Memory;
-use std::alloc::Global;
-use std::sync::Arc;
+use crate::parts::Told::{Commit, OtherCommit, OtherPrepare, Prepare, Proposal};
+use crate::replica::Answer::{
+    Answered, Done, Executed, Itself, Kept, Marks, Number, Proposed, Refused, Sent,
+};
+use crate::script::{Event, Script, Step};
 use std::test::Fail;
-use std::thread::Threads;
 
-fn null(alloc: Global) -> Result<Arc<OrderedBatch>, Memory> {
-    Ok(Arc::new(alloc, OrderedBatch::null())?)
-}
+static A_NUMBER: Script = Script {
+    faults: 1,
+    me: 1,
+    steps: &[
+        Step(Event::Itself, Itself(1, 1)),
+        Step(Event::MayPropose, Refused(28)),
+        Step(Event::Propose, Refused(28)),
+        Step(Event::Take(0, Proposal(0, 0, 1)), Sent(1)),
+        Step(Event::Take(0, Proposal(0, 0, 1)), Refused(29)),
+        Step(Event::Take(2, Prepare(2, 0, 1)), Sent(1)),
+        Step(Event::Take(0, Commit(0, 0, 1)), Sent(0)),
+        Step(Event::Next, Number(0)),
+        Step(Event::Take(2, Commit(2, 0, 1)), Sent(0)),
+        Step(Event::Next, Number(1)),
+        // the PRE-PREPARE, two PREPAREs and three COMMITs
+        Step(Event::Kept, Kept(6)),
+    ],
+};
 
 #[test]
 fn a_number_is_ordered(rt: HostRuntime) -> Result<(), Fail> {
-    let alloc = rt.alloc();
-    let mut replica = Replica::new(alloc, 1, 1)?;
-    same!(rt; (replica.order.f(), replica.order.me()), (1, 1));
-    same!(rt; replica.order.proposal_refusal(), Some(OrderError::NotPrimary));
-    same!(rt; refusal_of(replica.order.propose(&replica.keys, null(alloc)?)), 28);
-    same!(rt; replica.takes(&rt, alloc, 0, null_proposal(alloc, 0, 0, 1)?)?, Said::Sent(1));
-    same!(rt; replica.takes(&rt, alloc, 0, null_proposal(alloc, 0, 0, 1)?)?, Said::Refused(29));
-    same!(rt; replica.takes(&rt, alloc, 2, Message::Prepare(vote(2, 0, 1)))?, Said::Sent(1));
-    same!(rt; replica.takes(&rt, alloc, 0, Message::Commit(vote(0, 0, 1)))?, Said::Sent(0));
-    same!(rt; replica.next(), 0);
-    same!(rt; replica.takes(&rt, alloc, 2, Message::Commit(vote(2, 0, 1)))?, Said::Sent(0));
-    same!(rt; replica.next(), 1);
-    // the PRE-PREPARE, two PREPAREs and three COMMITs
-    same!(rt; replica.order.log().len(), 6);
-    Ok(())
+    A_NUMBER.plays(&rt, rt.alloc())
 }
 
-// how many of the votes are answered, and which is the first that is
-fn answered(
-    rt: &(impl Threads + Sync),
-    alloc: Global,
-    replica: &mut Replica,
-    senders: u32,
-) -> Result<(u32, u32), Memory> {
-    let mut answers = 0u32;
-    let mut first = 0u32;
-    for sender in 2..senders {
-        match replica.takes(rt, alloc, sender, Message::Prepare(vote(sender, 0, 1)))? {
-            Said::Sent(0) => {}
-            Said::Sent(_) if first == 0 => {
-                first = sender;
-                answers = answers.wrapping_add(1);
-            }
-            _ => answers = answers.wrapping_add(1),
-        }
-    }
-    Ok((answers, first))
-}
+static AMONG_31: Script = Script {
+    faults: 10,
+    me: 1,
+    steps: &[
+        Step(Event::Take(0, Proposal(0, 0, 1)), Sent(1)),
+        // with its own PREPARE, that of replica 20 is the twentieth
+        Step(Event::TakePrepares(2, 31), Answered(1, 20)),
+        Step(Event::TakeCommits(2, 21), Number(0)),
+        // with its own COMMIT, this one is the twenty-first
+        Step(Event::Take(0, Commit(0, 0, 1)), Sent(0)),
+        Step(Event::Next, Number(1)),
+    ],
+};
 
 #[test]
 fn two_thirds_of_31_replicas_are_needed(rt: HostRuntime) -> Result<(), Fail> {
-    let alloc = rt.alloc();
-    let mut replica = Replica::new(alloc, 10, 1)?;
-    same!(rt; replica.takes(&rt, alloc, 0, null_proposal(alloc, 0, 0, 1)?)?, Said::Sent(1));
-    // with its own PREPARE, that of replica 20 is the twentieth
-    same!(rt; answered(&rt, alloc, &mut replica, 31)?, (1, 20));
-    for sender in 2..21u32 {
-        replica.takes(&rt, alloc, sender, Message::Commit(vote(sender, 0, 1)))?;
-        same!(rt; replica.next(), 0);
-    }
-    // with its own COMMIT, this one is the twenty-first
-    replica.takes(&rt, alloc, 0, Message::Commit(vote(0, 0, 1)))?;
-    same!(rt; replica.next(), 1);
-    Ok(())
+    AMONG_31.plays(&rt, rt.alloc())
 }
+
+static ALONE: Script = Script {
+    faults: 0,
+    me: 0,
+    steps: &[
+        Step(Event::Next, Number(0)),
+        Step(Event::MayPropose, Done),
+        Step(Event::Propose, Proposed(0, 1)),
+        Step(Event::Next, Number(1)),
+        Step(Event::Kept, Kept(2)),
+    ],
+};
 
 #[test]
 fn a_replica_alone_orders_what_it_proposes(rt: HostRuntime) -> Result<(), Fail> {
-    let alloc = rt.alloc();
-    let mut replica = Replica::new(alloc, 0, 0)?;
-    same!(rt; replica.next(), 0);
-    same!(rt; replica.order.proposal_refusal(), None);
-    same!(rt; refusal_of(replica.order.propose(&replica.keys, null(alloc)?)), 0);
-    same!(rt; replica.next(), 1);
-    same!(rt; replica.order.log().len(), 2);
-    Ok(())
+    ALONE.plays(&rt, rt.alloc())
 }
+
+static VOTES_FIRST: Script = Script {
+    faults: 1,
+    me: 1,
+    steps: &[
+        Step(Event::Take(2, Prepare(2, 0, 1)), Sent(0)),
+        Step(Event::Take(0, Commit(0, 0, 1)), Sent(0)),
+        Step(Event::Take(2, Commit(2, 0, 1)), Sent(0)),
+        Step(Event::Next, Number(0)),
+        // it answers by a PREPARE and a COMMIT
+        Step(Event::Take(0, Proposal(0, 0, 1)), Sent(2)),
+        Step(Event::Next, Number(1)),
+    ],
+};
 
 #[test]
 fn votes_may_come_before_the_proposal(rt: HostRuntime) -> Result<(), Fail> {
-    let alloc = rt.alloc();
-    let mut replica = Replica::new(alloc, 1, 1)?;
-    same!(rt; replica.takes(&rt, alloc, 2, Message::Prepare(vote(2, 0, 1)))?, Said::Sent(0));
-    same!(rt; replica.takes(&rt, alloc, 0, Message::Commit(vote(0, 0, 1)))?, Said::Sent(0));
-    same!(rt; replica.takes(&rt, alloc, 2, Message::Commit(vote(2, 0, 1)))?, Said::Sent(0));
-    same!(rt; replica.next(), 0);
-    // it answers by a PREPARE and a COMMIT
-    same!(rt; replica.takes(&rt, alloc, 0, null_proposal(alloc, 0, 0, 1)?)?, Said::Sent(2));
-    same!(rt; replica.next(), 1);
-    Ok(())
+    VOTES_FIRST.plays(&rt, rt.alloc())
 }
+
+static OTHER_DIGESTS: Script = Script {
+    faults: 1,
+    me: 1,
+    steps: &[
+        Step(Event::Take(0, Proposal(0, 0, 1)), Sent(1)),
+        Step(Event::Take(2, OtherPrepare(2, 0, 1)), Sent(0)),
+        Step(Event::Take(3, Prepare(3, 0, 1)), Sent(1)),
+        Step(Event::Take(0, OtherCommit(0, 0, 1)), Sent(0)),
+        Step(Event::Take(2, Commit(2, 0, 1)), Sent(0)),
+        Step(Event::Next, Number(0)),
+        Step(Event::Take(3, Commit(3, 0, 1)), Sent(0)),
+        Step(Event::Next, Number(1)),
+    ],
+};
 
 #[test]
 fn votes_on_another_digest_do_not_count(rt: HostRuntime) -> Result<(), Fail> {
-    let alloc = rt.alloc();
-    let mut replica = Replica::new(alloc, 1, 1)?;
-    same!(rt; replica.takes(&rt, alloc, 0, null_proposal(alloc, 0, 0, 1)?)?, Said::Sent(1));
-    same!(rt; replica.takes(&rt, alloc, 2, Message::Prepare(other_vote(2, 0, 1)))?, Said::Sent(0));
-    same!(rt; replica.takes(&rt, alloc, 3, Message::Prepare(vote(3, 0, 1)))?, Said::Sent(1));
-    same!(rt; replica.takes(&rt, alloc, 0, Message::Commit(other_vote(0, 0, 1)))?, Said::Sent(0));
-    same!(rt; replica.takes(&rt, alloc, 2, Message::Commit(vote(2, 0, 1)))?, Said::Sent(0));
-    same!(rt; replica.next(), 0);
-    same!(rt; replica.takes(&rt, alloc, 3, Message::Commit(vote(3, 0, 1)))?, Said::Sent(0));
-    same!(rt; replica.next(), 1);
-    Ok(())
+    OTHER_DIGESTS.plays(&rt, rt.alloc())
 }
+
+static UP_TO_THE_HIGH_MARK: Script = Script {
+    faults: 1,
+    me: 0,
+    steps: &[
+        Step(Event::ProposeMany(32), Number(32)),
+        Step(Event::Propose, Refused(26)),
+        Step(Event::Marks, Marks(0, 32)),
+        // replicas 1 and 2 make number 2 committed here, which waits for number 1
+        Step(Event::Take(1, Prepare(1, 0, 2)), Sent(0)),
+        Step(Event::Take(2, Prepare(2, 0, 2)), Sent(1)),
+        Step(Event::Take(1, Commit(1, 0, 2)), Sent(0)),
+        Step(Event::Take(2, Commit(2, 0, 2)), Sent(0)),
+        Step(Event::Next, Number(0)),
+    ],
+};
 
 #[test]
 fn a_primary_proposes_up_to_the_high_mark(rt: HostRuntime) -> Result<(), Fail> {
-    let alloc = rt.alloc();
-    let mut replica = Replica::new(alloc, 1, 0)?;
-    for _ in 0..32u32 {
-        same!(rt; refusal_of(replica.order.propose(&replica.keys, null(alloc)?)), 0);
-    }
-    same!(rt; refusal_of(replica.order.propose(&replica.keys, null(alloc)?)), 26);
-    same!(rt; replica.order.high(), 32);
-    // replicas 1 and 2 make number 2 committed here, which waits for number 1
-    same!(rt; replica.takes(&rt, alloc, 1, Message::Prepare(vote(1, 0, 2)))?, Said::Sent(0));
-    same!(rt; replica.takes(&rt, alloc, 2, Message::Prepare(vote(2, 0, 2)))?, Said::Sent(1));
-    same!(rt; replica.takes(&rt, alloc, 1, Message::Commit(vote(1, 0, 2)))?, Said::Sent(0));
-    same!(rt; replica.takes(&rt, alloc, 2, Message::Commit(vote(2, 0, 2)))?, Said::Sent(0));
-    same!(rt; replica.next(), 0);
-    Ok(())
+    UP_TO_THE_HIGH_MARK.plays(&rt, rt.alloc())
 }
+
+static TWO_NUMBERS: Script = Script {
+    faults: 0,
+    me: 0,
+    steps: &[
+        Step(Event::Propose, Proposed(0, 1)),
+        Step(Event::Propose, Proposed(0, 2)),
+        Step(Event::Execute, Executed(1, 0)),
+        Step(Event::LastExecuted, Number(1)),
+        Step(Event::Next, Number(2)),
+    ],
+};
 
 #[test]
 fn what_is_executed_is_not_given_again(rt: HostRuntime) -> Result<(), Fail> {
-    let alloc = rt.alloc();
-    let mut replica = Replica::new(alloc, 0, 0)?;
-    same!(rt; refusal_of(replica.order.propose(&replica.keys, null(alloc)?)), 0);
-    same!(rt; refusal_of(replica.order.propose(&replica.keys, null(alloc)?)), 0);
-    let Some(first) = replica.order.next_committed() else {
-        return Err(Memory.into());
-    };
-    let number = first.number();
-    holds!(rt; first.batch().requests().is_empty());
-    replica.order.executed(number);
-    same!(rt; replica.order.last_executed(), 1);
-    same!(rt; replica.next(), 2);
-    Ok(())
+    TWO_NUMBERS.plays(&rt, rt.alloc())
 }

@@ -1,110 +1,143 @@
 //! Each refusal of a message, with the ones before and behind it: a message with two faults gets the first.
-ghost use Rattle.std.specs.Prelude.{◌<◌, ◌≤◌, ◌+◌, ◌*◌};
-
-use crate::replica::{Replica, Said, batch_signed_by, checkpoint, null_proposal, other_vote, vote};
-use bfs_messages::{Message, PrePrepare, Request};
-use bfs_testing::{holds, same};
-use bfs_types::Memory;
+use crate::parts::Told::{Batch, Checkpoint, Commit, OtherCommit, Prepare, Proposal, Request};
+use crate::replica::Answer::{Done, Kept, Number, Refused, Sent};
+use crate::script::{Event, Script, Step};
 use std::test::Fail;
+
+static A_REQUEST: Script = Script {
+    faults: 1,
+    me: 1,
+    steps: &[Step(Event::TakeUnsigned(Request), Refused(36))],
+};
 
 #[test]
 fn a_request_is_no_message_of_the_order(rt: HostRuntime) -> Result<(), Fail> {
-    let alloc = rt.alloc();
-    let mut replica = Replica::new(alloc, 1, 1)?;
-    let request = Message::Request(Request::new(alloc, 3, 5, b"a call")?);
-    same!(rt; replica.takes_unsigned(&rt, alloc, request), Said::Refused(36));
-    Ok(())
+    A_REQUEST.plays(&rt, rt.alloc())
 }
+
+// in a later view: without entries, by another one, and by one that is no replica
+static NOT_SIGNED: Script = Script {
+    faults: 1,
+    me: 1,
+    steps: &[
+        Step(Event::TakeUnsigned(Proposal(0, 1, 1)), Refused(24)),
+        Step(Event::Take(2, Prepare(3, 1, 1)), Refused(24)),
+        Step(Event::Take(4, Prepare(4, 1, 1)), Refused(24)),
+        Step(Event::Kept, Kept(0)),
+    ],
+};
 
 #[test]
 fn who_signed_is_looked_at_before_the_view(rt: HostRuntime) -> Result<(), Fail> {
-    let alloc = rt.alloc();
-    let mut replica = Replica::new(alloc, 1, 1)?;
-    // without entries, by another one, and by one that is no replica
-    let unsigned = null_proposal(alloc, 0, 1, 1)?;
-    same!(rt; replica.takes_unsigned(&rt, alloc, unsigned), Said::Refused(24));
-    same!(rt; replica.takes(&rt, alloc, 2, Message::Prepare(vote(3, 1, 1)))?, Said::Refused(24));
-    same!(rt; replica.takes(&rt, alloc, 4, Message::Prepare(vote(4, 1, 1)))?, Said::Refused(24));
-    same!(rt; replica.order.log().len(), 0);
-    Ok(())
+    NOT_SIGNED.plays(&rt, rt.alloc())
 }
+
+static REQUESTS_OF_CLIENTS: Script = Script {
+    faults: 1,
+    me: 1,
+    steps: &[
+        Step(Event::Take(0, Batch(0, 1, 1, 2)), Refused(24)),
+        Step(Event::Take(0, Batch(0, 0, 1, 3)), Sent(1)),
+    ],
+};
 
 #[test]
 fn each_request_of_a_batch_is_its_clients(rt: HostRuntime) -> Result<(), Fail> {
-    let alloc = rt.alloc();
-    let mut replica = Replica::new(alloc, 1, 1)?;
-    let forged = PrePrepare::new(0, 1, 1, batch_signed_by(alloc, 1, 2)?);
-    same!(rt; replica.takes(&rt, alloc, 0, Message::PrePrepare(forged))?, Said::Refused(24));
-    let right = PrePrepare::new(0, 0, 1, batch_signed_by(alloc, 1, 3)?);
-    same!(rt; replica.takes(&rt, alloc, 0, Message::PrePrepare(right))?, Said::Sent(1));
-    Ok(())
+    REQUESTS_OF_CLIENTS.plays(&rt, rt.alloc())
 }
+
+static OTHER_VIEWS: Script = Script {
+    faults: 1,
+    me: 1,
+    steps: &[
+        Step(Event::Take(2, Prepare(2, 1, 33)), Refused(25)),
+        Step(Event::Take(2, Commit(2, 1, 0)), Refused(25)),
+    ],
+};
 
 #[test]
 fn the_view_is_looked_at_before_the_number(rt: HostRuntime) -> Result<(), Fail> {
-    let alloc = rt.alloc();
-    let mut replica = Replica::new(alloc, 1, 1)?;
-    same!(rt; replica.takes(&rt, alloc, 2, Message::Prepare(vote(2, 1, 33)))?, Said::Refused(25));
-    same!(rt; replica.takes(&rt, alloc, 2, Message::Commit(vote(2, 1, 0)))?, Said::Refused(25));
-    Ok(())
+    OTHER_VIEWS.plays(&rt, rt.alloc())
 }
+
+static OTHER_NUMBERS: Script = Script {
+    faults: 1,
+    me: 1,
+    steps: &[
+        Step(Event::Take(2, Proposal(2, 0, 33)), Refused(26)),
+        Step(Event::Take(2, Proposal(2, 0, 0)), Refused(26)),
+        Step(Event::Take(2, Proposal(2, 0, 32)), Refused(28)),
+        Step(Event::Take(0, Prepare(0, 0, 33)), Refused(26)),
+        Step(Event::Take(0, Proposal(0, 0, 32)), Sent(1)),
+    ],
+};
 
 #[test]
 fn the_number_is_looked_at_before_the_primary(rt: HostRuntime) -> Result<(), Fail> {
-    let alloc = rt.alloc();
-    let mut replica = Replica::new(alloc, 1, 1)?;
-    same!(rt; replica.takes(&rt, alloc, 2, null_proposal(alloc, 2, 0, 33)?)?, Said::Refused(26));
-    same!(rt; replica.takes(&rt, alloc, 2, null_proposal(alloc, 2, 0, 0)?)?, Said::Refused(26));
-    same!(rt; replica.takes(&rt, alloc, 2, null_proposal(alloc, 2, 0, 32)?)?, Said::Refused(28));
-    same!(rt; replica.takes(&rt, alloc, 0, Message::Prepare(vote(0, 0, 33)))?, Said::Refused(26));
-    same!(rt; replica.takes(&rt, alloc, 0, null_proposal(alloc, 0, 0, 32)?)?, Said::Sent(1));
-    Ok(())
+    OTHER_NUMBERS.plays(&rt, rt.alloc())
 }
+
+static OF_THE_PRIMARY: Script = Script {
+    faults: 10,
+    me: 30,
+    steps: &[Step(Event::Take(0, Prepare(0, 0, 1)), Refused(27))],
+};
 
 #[test]
 fn a_primary_sends_no_prepare(rt: HostRuntime) -> Result<(), Fail> {
-    let alloc = rt.alloc();
-    let mut replica = Replica::new(alloc, 10, 30)?;
-    same!(rt; replica.takes(&rt, alloc, 0, Message::Prepare(vote(0, 0, 1)))?, Said::Refused(27));
-    Ok(())
+    OF_THE_PRIMARY.plays(&rt, rt.alloc())
 }
+
+static ANOTHER_DIGEST: Script = Script {
+    faults: 1,
+    me: 1,
+    steps: &[
+        Step(Event::Take(0, Proposal(0, 0, 1)), Sent(1)),
+        Step(Event::Take(0, Batch(0, 0, 1, 3)), Refused(27)),
+        Step(Event::Take(2, Commit(2, 0, 1)), Sent(0)),
+        Step(Event::Take(2, OtherCommit(2, 0, 1)), Refused(27)),
+        Step(Event::Take(2, Commit(2, 0, 1)), Refused(29)),
+        Step(Event::Kept, Kept(3)),
+    ],
+};
 
 #[test]
 fn another_digest_for_a_place_conflicts(rt: HostRuntime) -> Result<(), Fail> {
-    let alloc = rt.alloc();
-    let mut replica = Replica::new(alloc, 1, 1)?;
-    same!(rt; replica.takes(&rt, alloc, 0, null_proposal(alloc, 0, 0, 1)?)?, Said::Sent(1));
-    let other = PrePrepare::new(0, 0, 1, batch_signed_by(alloc, 1, 3)?);
-    same!(rt; replica.takes(&rt, alloc, 0, Message::PrePrepare(other))?, Said::Refused(27));
-    same!(rt; replica.takes(&rt, alloc, 2, Message::Commit(vote(2, 0, 1)))?, Said::Sent(0));
-    same!(rt; replica.takes(&rt, alloc, 2, Message::Commit(other_vote(2, 0, 1)))?, Said::Refused(27));
-    same!(rt; replica.takes(&rt, alloc, 2, Message::Commit(vote(2, 0, 1)))?, Said::Refused(29));
-    same!(rt; replica.order.log().len(), 3);
-    Ok(())
+    ANOTHER_DIGEST.plays(&rt, rt.alloc())
 }
+
+static CHECKPOINTS: Script = Script {
+    faults: 1,
+    me: 1,
+    steps: &[
+        Step(Event::Leave(1), Done),
+        Step(Event::Take(2, Checkpoint(2, 15, 1)), Refused(26)),
+        Step(Event::Take(2, Checkpoint(2, 48, 1)), Refused(26)),
+        Step(Event::Take(2, Checkpoint(2, 0, 1)), Refused(26)),
+        Step(Event::Take(2, Checkpoint(2, 16, 1)), Sent(0)),
+        Step(Event::Take(2, Checkpoint(2, 16, 2)), Refused(27)),
+        Step(Event::Take(2, Checkpoint(2, 16, 1)), Refused(29)),
+        Step(Event::Take(2, Checkpoint(2, 32, 1)), Sent(0)),
+    ],
+};
 
 #[test]
 fn checkpoints_have_no_view_and_rare_numbers(rt: HostRuntime) -> Result<(), Fail> {
-    let alloc = rt.alloc();
-    let mut replica = Replica::new(alloc, 1, 1)?;
-    holds!(rt; replica.order.leave_view(1).is_ok());
-    same!(rt; replica.takes(&rt, alloc, 2, checkpoint(2, 15, 1))?, Said::Refused(26));
-    same!(rt; replica.takes(&rt, alloc, 2, checkpoint(2, 48, 1))?, Said::Refused(26));
-    same!(rt; replica.takes(&rt, alloc, 2, checkpoint(2, 0, 1))?, Said::Refused(26));
-    same!(rt; replica.takes(&rt, alloc, 2, checkpoint(2, 16, 1))?, Said::Sent(0));
-    same!(rt; replica.takes(&rt, alloc, 2, checkpoint(2, 16, 2))?, Said::Refused(27));
-    same!(rt; replica.takes(&rt, alloc, 2, checkpoint(2, 16, 1))?, Said::Refused(29));
-    same!(rt; replica.takes(&rt, alloc, 2, checkpoint(2, 32, 1))?, Said::Sent(0));
-    Ok(())
+    CHECKPOINTS.plays(&rt, rt.alloc())
 }
+
+static ALONE: Script = Script {
+    faults: 0,
+    me: 0,
+    steps: &[
+        Step(Event::Take(1, Commit(1, 0, 1)), Refused(24)),
+        Step(Event::Take(0, Proposal(0, 0, 33)), Refused(26)),
+        Step(Event::Take(0, Proposal(0, 0, 1)), Sent(1)),
+        Step(Event::Next, Number(1)),
+    ],
+};
 
 #[test]
 fn a_replica_alone_refuses_all_others(rt: HostRuntime) -> Result<(), Fail> {
-    let alloc = rt.alloc();
-    let mut replica = Replica::new(alloc, 0, 0)?;
-    same!(rt; replica.takes(&rt, alloc, 1, Message::Commit(vote(1, 0, 1)))?, Said::Refused(24));
-    same!(rt; replica.takes(&rt, alloc, 0, null_proposal(alloc, 0, 0, 33)?)?, Said::Refused(26));
-    same!(rt; replica.takes(&rt, alloc, 0, null_proposal(alloc, 0, 0, 1)?)?, Said::Sent(1));
-    same!(rt; replica.next(), 1);
-    Ok(())
+    ALONE.plays(&rt, rt.alloc())
 }

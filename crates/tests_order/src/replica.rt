@@ -1,162 +1,173 @@
-//! A replica with its keys, and what others send to it.
-ghost use Rattle.std.specs.Prelude.{◌<◌, ◌≤◌, ◌+◌, ◌*◌, ◌^◌};
-
-use bfs_auth::{Authenticator, Keys, Principal};
-use bfs_messages::{Checkpoint, Message, OrderedBatch, PrePrepare, Request, Signed, Vote, sign};
+//! A replica among 3f + 1, with its keys. What is done to it comes to an answer, and to nothing that a contract says.
+use crate::parts::{Told, keys_of, null};
+use bfs_auth::{Keys, Principal};
+use bfs_messages::{Message, Signed};
 use bfs_order::{Order, OrderError};
-use bfs_types::{Memory, Time};
+use bfs_types::Memory;
 use std::alloc::Global;
-use std::sync::Arc;
 use std::thread::Threads;
 
-const SECRET: &[u8] = &[0; 32];
-
-const CLIENTS: u32 = 16;
-
-/// What a call came to: how many messages are sent, or the number of the refusal.
+/// What comes of an event.
 #[derive(Clone, Copy, Debug, PartialEq, Eq)]
-pub enum Said {
+pub enum Answer {
+    /// It is done, or may be done.
+    Done,
+    /// It is done, and so many messages are sent.
     Sent(usize),
+    /// The number of the refusal.
     Refused(u32),
+    /// A view and a number.
+    Proposed(u64, u64),
+    /// A number and how many requests its batch has.
+    Executed(u64, usize),
+    /// How many of several are answered by a message, and which is the first.
+    Answered(u32, u32),
+    /// The low mark and the high one.
+    Marks(u64, u64),
+    /// How many replicas may be faulty, and its own number.
+    Itself(u32, u32),
+    /// So many messages are in its log.
+    Kept(usize),
+    /// A number, 0 where there is none.
+    Number(u64),
 }
 
-pub fn what_came_of(given: Result<Vec<Signed<Message>>, OrderError>) -> Said {
+fn done<T: Drop>(given: Result<T, OrderError>) -> Answer {
     match given {
-        Ok(sent) => Said::Sent(sent.len()),
-        Err(error) => Said::Refused(error.code()),
+        Ok(_) => Answer::Done,
+        Err(error) => Answer::Refused(error.code()),
     }
 }
 
-/// The number of a refusal, 0 where there is none.
-pub fn refusal_of<T: Drop>(given: Result<T, OrderError>) -> u32 {
+fn may(refusal: Option<OrderError>) -> Answer {
+    match refusal {
+        None => Answer::Done,
+        Some(error) => Answer::Refused(error.code()),
+    }
+}
+
+fn sent(given: Result<Vec<Signed<Message>>, OrderError>) -> Answer {
     match given {
-        Ok(_) => 0,
-        Err(error) => error.code(),
+        Ok(sent) => Answer::Sent(sent.len()),
+        Err(error) => Answer::Refused(error.code()),
     }
 }
 
-// among 3f + 1 replicas
-fn keys_of(alloc: Global, faults: u32, holder: Principal) -> Result<Keys, Memory> {
-    let (Principal::Replica(number) | Principal::Client(number)) = holder;
-    if faults > 10 || number > 1_000 {
-        return Err(Memory);
+fn proposed(given: Result<Signed<Message>, OrderError>) -> Answer {
+    match given {
+        Err(error) => Answer::Refused(error.code()),
+        Ok(signed) => match &signed.message {
+            Message::PrePrepare(proposal) => {
+                Answer::Proposed(proposal.vote().view(), proposal.vote().number())
+            }
+            _ => Answer::Done,
+        },
     }
-    Keys::derive(alloc, SECRET, holder, 3 * faults + 1, CLIENTS)
-}
-
-/// What a replica among 3f + 1 signs.
-pub fn signed_by(
-    alloc: Global,
-    faults: u32,
-    sender: u32,
-    message: Message,
-) -> Result<Signed<Message>, Memory> {
-    sign(
-        alloc,
-        &keys_of(alloc, faults, Principal::Replica(sender))?,
-        message,
-    )
-}
-
-// the REQUEST that a message is
-fn request_in(signed: Signed<Message>) -> Result<Signed<Request>, Memory> {
-    let Signed { message, auth } = signed;
-    match message {
-        Message::Request(message) => Ok(Signed { message, auth }),
-        _ => Err(Memory),
-    }
-}
-
-/// A batch of one request of client 3 at 1.000000, signed by a client among those of 3f + 1 replicas.
-pub fn batch_signed_by(
-    alloc: Global,
-    faults: u32,
-    client: u32,
-) -> Result<Arc<OrderedBatch>, Memory> {
-    let keys = keys_of(alloc, faults, Principal::Client(client))?;
-    let request = Message::Request(Request::new(alloc, 3, 5, b"a call")?);
-    let mut requests = Vec::new(alloc);
-    requests.push(request_in(sign(alloc, &keys, request)?)?)?;
-    let time = Time::new(1, 0).ok_or(Memory)?;
-    Ok(Arc::new(alloc, OrderedBatch::new(time, requests))?)
-}
-
-/// A PRE-PREPARE of the null request.
-pub fn null_proposal(alloc: Global, sender: u32, view: u64, number: u64) -> Result<Message, Memory>
-    requires view { view < 2 ^ 63 }
-    requires number { number < 2 ^ 63 }
-{
-    let batch = Arc::new(alloc, OrderedBatch::null())?;
-    Ok(Message::PrePrepare(PrePrepare::new(sender, view, number, batch)))
-}
-
-/// A vote on the null request.
-pub fn vote(sender: u32, view: u64, number: u64) -> Vote
-    requires view { view < 2 ^ 63 }
-    requires number { number < 2 ^ 63 }
-{
-    Vote::new(sender, view, number, OrderedBatch::null().digest())
-}
-
-/// A vote on what is no batch.
-pub fn other_vote(sender: u32, view: u64, number: u64) -> Vote
-    requires view { view < 2 ^ 63 }
-    requires number { number < 2 ^ 63 }
-{
-    Vote::new(sender, view, number, [7; 32])
-}
-
-/// A CHECKPOINT with a digest of that byte.
-pub fn checkpoint(sender: u32, number: u64, byte: u8) -> Message
-    requires { number < 2 ^ 63 }
-{
-    Message::Checkpoint(Checkpoint::new(sender, number, [byte; 32]))
 }
 
 /// A replica among 3f + 1, with its keys.
 #[derive(Drop)]
 pub struct Replica {
+    alloc: Global,
     faults: u32,
-    pub keys: Keys,
-    pub order: Order,
+    keys: Keys,
+    order: Order,
 }
 
 impl Replica {
-    pub fn new(alloc: Global, faults: u32, me: u32) -> Result<Replica, Memory>
-        requires faults { faults ≤ 10 }
-        requires me { me < 3 * faults + 1 }
-    {
+    pub fn new(alloc: Global, faults: u32, me: u32) -> Result<Replica, Memory> {
+        if faults > 10 || me > 3 * faults {
+            return Err(Memory);
+        }
         Ok(Replica {
+            alloc,
             faults,
             keys: keys_of(alloc, faults, Principal::Replica(me))?,
             order: Order::new(alloc, faults, me),
         })
     }
 
+    fn take_signed<R: Threads + Sync>(&mut self, rt: &R, signed: Signed<Message>) -> Answer {
+        sent(self.order.on_message(rt, &self.keys, signed))
+    }
+
     /// It takes what that one signs, whoever the message says that it is of.
-    pub fn takes(
+    pub fn take<R: Threads + Sync>(
         &mut self,
-        rt: &(impl Threads + Sync),
-        alloc: Global,
+        rt: &R,
         signer: u32,
-        message: Message,
-    ) -> Result<Said, Memory> {
-        let signed = signed_by(alloc, self.faults, signer, message)?;
-        Ok(what_came_of(self.order.on_message(rt, &self.keys, signed)))
+        told: Told,
+    ) -> Result<Answer, Memory> {
+        let signed = told.signed_by(self.alloc, self.faults, signer)?;
+        Ok(self.take_signed(rt, signed))
     }
 
     /// It takes a message without entries.
-    pub fn takes_unsigned(
+    pub fn take_unsigned<R: Threads + Sync>(
         &mut self,
-        rt: &(impl Threads + Sync),
-        alloc: Global,
-        message: Message,
-    ) -> Said {
-        let auth = Authenticator::new(alloc);
-        what_came_of(
-            self.order
-                .on_message(rt, &self.keys, Signed { message, auth }),
-        )
+        rt: &R,
+        told: Told,
+    ) -> Result<Answer, Memory> {
+        let signed = told.unsigned(self.alloc, self.faults)?;
+        Ok(self.take_signed(rt, signed))
+    }
+
+    /// Which of these replicas' PREPAREs for number 1 of view 0 it answers, one after another.
+    pub fn take_prepares<R: Threads + Sync>(
+        &mut self,
+        rt: &R,
+        from: u32,
+        to: u32,
+    ) -> Result<Answer, Memory> {
+        let mut answers = 0u32;
+        let mut first = 0u32;
+        for sender in from..to {
+            if self.take(rt, sender, Told::Prepare(sender, 0, 1))? != Answer::Sent(0) {
+                answers = answers.wrapping_add(1);
+                if answers == 1 {
+                    first = sender;
+                }
+            }
+        }
+        Ok(Answer::Answered(answers, first))
+    }
+
+    /// What it may execute after one of these replicas' COMMITs for number 1 of view 0.
+    pub fn take_commits<R: Threads + Sync>(
+        &mut self,
+        rt: &R,
+        from: u32,
+        to: u32,
+    ) -> Result<Answer, Memory> {
+        for sender in from..to {
+            self.take(rt, sender, Told::Commit(sender, 0, 1))?;
+            if self.next() != 0 {
+                break;
+            }
+        }
+        Ok(Answer::Number(self.next()))
+    }
+
+    /// Whether it may propose.
+    pub fn may_propose(&self) -> Answer {
+        may(self.order.proposal_refusal())
+    }
+
+    /// It proposes the null request.
+    pub fn propose(&mut self) -> Result<Answer, Memory> {
+        let batch = null(self.alloc)?;
+        Ok(proposed(self.order.propose(&self.keys, batch)))
+    }
+
+    /// How many null requests it proposes, of so many.
+    pub fn propose_many(&mut self, count: u32) -> Result<Answer, Memory> {
+        let mut accepted = 0u64;
+        for _ in 0..count {
+            if let Answer::Proposed(_, _) = self.propose()? {
+                accepted = accepted.wrapping_add(1);
+            }
+        }
+        Ok(Answer::Number(accepted))
     }
 
     /// The number that it may execute next, 0 where there is none.
@@ -165,5 +176,90 @@ impl Replica {
             Some(committed) => committed.number(),
             None => 0,
         }
+    }
+
+    /// It executes what is next.
+    pub fn execute(&mut self) -> Answer {
+        let Some(committed) = self.order.next_committed() else {
+            return Answer::Number(0);
+        };
+        let number = committed.number();
+        let requests = committed.batch().requests().len();
+        self.order.executed(number);
+        Answer::Executed(number, requests)
+    }
+
+    /// Whether it may tell a checkpoint of that number.
+    pub fn may_tell(&self, number: u64) -> Answer {
+        may(self.order.checkpoint_refusal(number))
+    }
+
+    /// It tells a checkpoint of that number, with a digest of that byte.
+    pub fn tell(&mut self, number: u64, byte: u8) -> Answer {
+        done(self.order.on_checkpoint(&self.keys, number, [byte; 32]))
+    }
+
+    // CHECKPOINTs of number 16, each of a sender and with a digest of one byte
+    fn certificate(&self, told: &[(u32, u8)]) -> Result<Vec<Signed<Message>>, Memory> {
+        let mut all = Vec::new(self.alloc);
+        for (sender, byte) in told {
+            let checkpoint = Told::Checkpoint(*sender, 16, *byte);
+            all.push(checkpoint.signed_by(self.alloc, self.faults, *sender)?)?;
+        }
+        Ok(all)
+    }
+
+    /// It installs a certificate: CHECKPOINTs of number 16, each of a sender and with a digest of one byte.
+    pub fn install(&mut self, told: &[(u32, u8)]) -> Result<Answer, Memory> {
+        let certificate = self.certificate(told)?;
+        Ok(done(self.order.install(&self.keys, &certificate)))
+    }
+
+    /// It leaves its view for that one.
+    pub fn leave(&mut self, view: u64) -> Answer {
+        done(self.order.leave_view(view))
+    }
+
+    // PRE-PREPAREs of the null request, each of a sender for a number of view 1
+    fn handed(&self, chosen: &[(u32, u64)]) -> Result<Vec<Signed<Message>>, Memory> {
+        let mut all = Vec::new(self.alloc);
+        for (sender, number) in chosen {
+            let proposal = Told::Proposal(*sender, 1, *number);
+            all.push(proposal.signed_by(self.alloc, self.faults, *sender)?)?;
+        }
+        Ok(all)
+    }
+
+    /// It enters a view behind min-s, with PRE-PREPAREs of the null request, each of a sender for a number of view 1.
+    pub fn enter(
+        &mut self,
+        view: u64,
+        min_s: u64,
+        chosen: &[(u32, u64)],
+    ) -> Result<Answer, Memory> {
+        let handed = self.handed(chosen)?;
+        Ok(sent(self.order.enter_view(&self.keys, view, min_s, handed)))
+    }
+
+    /// How many replicas may be faulty, and its own number.
+    pub fn itself(&self) -> Answer {
+        Answer::Itself(self.order.f(), self.order.me())
+    }
+
+    pub fn marks(&self) -> Answer {
+        Answer::Marks(self.order.low(), self.order.high())
+    }
+
+    pub fn view(&self) -> u64 {
+        self.order.view()
+    }
+
+    pub fn last_executed(&self) -> u64 {
+        self.order.last_executed()
+    }
+
+    /// How many messages its log has.
+    pub fn kept(&self) -> usize {
+        self.order.log().len()
     }
 }

@@ -1,93 +1,90 @@
 //! Views are left and entered.
-ghost use Rattle.std.specs.Prelude.{◌<◌, ◌≤◌, ◌+◌, ◌*◌};
-
-use crate::replica::{Replica, Said, null_proposal, refusal_of, signed_by, vote, what_came_of};
-use bfs_messages::{Message, OrderedBatch, Signed};
-use bfs_testing::{holds, same};
-use bfs_types::Memory;
-use std::alloc::Global;
-use std::sync::Arc;
+use crate::parts::Told::Prepare;
+use crate::replica::Answer::{Done, Kept, Number, Proposed, Refused, Sent};
+use crate::script::{Event, Script, Step};
 use std::test::Fail;
 
-// PRE-PREPAREs of the null request, each of a sender for a number of view 1
-fn handed(alloc: Global, chosen: &[(u32, u64)]) -> Result<Vec<Signed<Message>>, Memory> {
-    let mut all = Vec::new(alloc);
-    for (sender, number) in chosen {
-        let number = *number % 1_000;
-        all.push(signed_by(alloc, 1, *sender, null_proposal(alloc, *sender, 1, number)?)?)?;
-    }
-    Ok(all)
-}
+static LEFT: Script = Script {
+    faults: 1,
+    me: 0,
+    steps: &[
+        Step(Event::Leave(0), Refused(25)),
+        Step(Event::Leave(1 << 63), Refused(25)),
+        Step(Event::Leave(2), Done),
+        Step(Event::Leave(2), Refused(25)),
+        Step(Event::View, Number(0)),
+        Step(Event::Propose, Refused(28)),
+        Step(Event::Take(2, Prepare(2, 0, 1)), Refused(25)),
+    ],
+};
 
 #[test]
 fn a_view_is_left_for_a_later_one(rt: HostRuntime) -> Result<(), Fail> {
-    let alloc = rt.alloc();
-    let mut replica = Replica::new(alloc, 1, 0)?;
-    same!(rt; refusal_of(replica.order.leave_view(0)), 25);
-    same!(rt; refusal_of(replica.order.leave_view(1 << 63)), 25);
-    same!(rt; refusal_of(replica.order.leave_view(2)), 0);
-    same!(rt; refusal_of(replica.order.leave_view(2)), 25);
-    same!(rt; replica.order.view(), 0);
-    let batch = Arc::new(alloc, OrderedBatch::null())?;
-    same!(rt; refusal_of(replica.order.propose(&replica.keys, batch)), 28);
-    same!(rt; replica.takes(&rt, alloc, 2, Message::Prepare(vote(2, 0, 1)))?, Said::Refused(25));
-    Ok(())
+    LEFT.plays(&rt, rt.alloc())
 }
+
+static NOT_ENTERED: Script = Script {
+    faults: 1,
+    me: 2,
+    steps: &[
+        Step(Event::Enter(0, 0, &[]), Refused(25)),
+        Step(Event::Leave(3), Done),
+        Step(Event::Enter(2, 0, &[]), Refused(25)),
+        Step(Event::Enter(1 << 63, 0, &[]), Refused(25)),
+        Step(Event::Enter(3, 0, &[]), Sent(0)),
+        Step(Event::View, Number(3)),
+    ],
+};
 
 #[test]
 fn a_view_below_the_one_asked_for_is_not_entered(rt: HostRuntime) -> Result<(), Fail> {
-    let alloc = rt.alloc();
-    let mut replica = Replica::new(alloc, 1, 2)?;
-    let none = Vec::new(alloc);
-    same!(rt; what_came_of(replica.order.enter_view(&replica.keys, 0, 0, none)), Said::Refused(25));
-    holds!(rt; replica.order.leave_view(3).is_ok());
-    let none = Vec::new(alloc);
-    same!(rt; what_came_of(replica.order.enter_view(&replica.keys, 2, 0, none)), Said::Refused(25));
-    let none = Vec::new(alloc);
-    same!(rt; what_came_of(replica.order.enter_view(&replica.keys, 1 << 63, 0, none)), Said::Refused(25));
-    let none = Vec::new(alloc);
-    same!(rt; what_came_of(replica.order.enter_view(&replica.keys, 3, 0, none)), Said::Sent(0));
-    same!(rt; replica.order.view(), 3);
-    Ok(())
+    NOT_ENTERED.plays(&rt, rt.alloc())
 }
+
+static HANDED_OVER: Script = Script {
+    faults: 1,
+    me: 2,
+    steps: &[
+        // up to min-s, twice, of another sender, and above the high mark
+        Step(
+            Event::Enter(1, 4, &[(1, 4), (1, 5), (1, 5), (2, 6), (1, 40)]),
+            Sent(1),
+        ),
+        Step(Event::Kept, Kept(2)),
+        Step(Event::Take(3, Prepare(3, 1, 4)), Refused(26)),
+        Step(Event::Take(3, Prepare(3, 1, 5)), Sent(1)),
+    ],
+};
 
 #[test]
 fn what_is_handed_over_is_taken_or_passed_over(rt: HostRuntime) -> Result<(), Fail> {
-    let alloc = rt.alloc();
-    let mut replica = Replica::new(alloc, 1, 2)?;
-    // up to min-s, twice, of another sender, and above the high mark
-    let chosen = handed(alloc, &[(1, 4), (1, 5), (1, 5), (2, 6), (1, 40)])?;
-    same!(rt; what_came_of(replica.order.enter_view(&replica.keys, 1, 4, chosen)), Said::Sent(1));
-    same!(rt; replica.order.log().len(), 2);
-    same!(rt; replica.takes(&rt, alloc, 3, Message::Prepare(vote(3, 1, 4)))?, Said::Refused(26));
-    same!(rt; replica.takes(&rt, alloc, 3, Message::Prepare(vote(3, 1, 5)))?, Said::Sent(1));
-    Ok(())
+    HANDED_OVER.plays(&rt, rt.alloc())
 }
+
+static ABOVE_WHAT_WAS_HANDED_OVER: Script = Script {
+    faults: 1,
+    me: 1,
+    steps: &[
+        Step(Event::Enter(1, 4, &[(1, 5), (1, 7)]), Sent(0)),
+        Step(Event::Propose, Proposed(1, 8)),
+    ],
+};
 
 #[test]
 fn a_primary_proposes_above_what_was_handed_over(rt: HostRuntime) -> Result<(), Fail> {
-    let alloc = rt.alloc();
-    let mut replica = Replica::new(alloc, 1, 1)?;
-    let chosen = handed(alloc, &[(1, 5), (1, 7)])?;
-    same!(rt; what_came_of(replica.order.enter_view(&replica.keys, 1, 4, chosen)), Said::Sent(0));
-    let batch = Arc::new(alloc, OrderedBatch::null())?;
-    let Ok(signed) = replica.order.propose(&replica.keys, batch) else {
-        return Err(Memory.into());
-    };
-    let Message::PrePrepare(proposal) = &signed.message else {
-        return Err(Memory.into());
-    };
-    same!(rt; (proposal.vote().view(), proposal.vote().number()), (1, 8));
-    Ok(())
+    ABOVE_WHAT_WAS_HANDED_OVER.plays(&rt, rt.alloc())
 }
+
+static ALONE: Script = Script {
+    faults: 0,
+    me: 0,
+    steps: &[
+        Step(Event::Enter(1, 0, &[(0, 1)]), Sent(1)),
+        Step(Event::Next, Number(1)),
+    ],
+};
 
 #[test]
 fn a_replica_alone_commits_what_is_handed_over(rt: HostRuntime) -> Result<(), Fail> {
-    let alloc = rt.alloc();
-    let mut replica = Replica::new(alloc, 0, 0)?;
-    let mut chosen = Vec::new(alloc);
-    chosen.push(signed_by(alloc, 0, 0, null_proposal(alloc, 0, 1, 1)?)?)?;
-    same!(rt; what_came_of(replica.order.enter_view(&replica.keys, 1, 0, chosen)), Said::Sent(1));
-    same!(rt; replica.next(), 1);
-    Ok(())
+    ALONE.plays(&rt, rt.alloc())
 }
