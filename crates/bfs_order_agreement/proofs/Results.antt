@@ -6,7 +6,6 @@ use Rattle.bfs_log.specs.Headers.{header}
 use Rattle.bfs_log.specs.Logs.{Log, headers, kept_after}
 use Rattle.bfs_messages.specs.declared.signed.Signed.{Signed}
 use Rattle.bfs_messages.specs.declared.message.Message.{Message}
-use Rattle.bfs_order.specs.declared.error.OrderError.{OrderError}
 use Rattle.bfs_order.specs.Replica.Accepting.{makes_stable, settled}
 use Rattle.bfs_order.specs.Replica.States as order
 use Rattle.bfs_order.specs.Replica.States.{known, with_more, with_message}

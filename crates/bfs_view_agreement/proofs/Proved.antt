@@ -1,5 +1,5 @@
 -- Certificates that are found right are proved.
-use Rattle.std.proofs.Common.{◌≡◌, ℕ, ◌+◌, ◌*◌, ◌<◌, ◌≤◌, Bool, true, false, cond, ◌&&◌, not, List, Option, Some, None, refl, subst}
+use Rattle.std.proofs.Common.{◌≡◌, ℕ, ◌+◌, ◌*◌, ◌<◌, ◌≤◌, true, ◌&&◌, List, None, subst}
 use Rattle.std.specs.Prelude.{nat_lt, nat_le}
 use Rattle.std.specs.List.{list_all}
 use Rattle.std.proofs.lemmas.Bool.{and_parts, ltb-true, ltb-false}
@@ -14,7 +14,6 @@ use Rattle.bfs_view.specs.Changes.Certificates.{faults, number_in, view_in, is_p
 use Rattle.bfs_view.specs.Changes.NewViews.{choice_refusal, do_agree, senders}
 use Rattle.bfs_view.specs.Changes.Parts.{as_message, messages_in}
 use Rattle.bfs_view.specs.Changes.ViewChanges.{is_due, are_in_order, valid_view_change}
-use Rattle.bfs_view.specs.declared.error.ViewError.{ViewError}
 use Rattle.bfs_view.specs.declared.error.ViewError.TheVariants.{BadCertificate, TooFew}
 use Rattle.bfs_view_agreement.specs.Changes.{HasProofs}
 use Rattle.bfs_view_agreement.proofs.Lists.{passes_at}
