@@ -1,7 +1,8 @@
 #!/usr/bin/env python3
-"""`measure.py PROGRAM decode|check|hold|vote ..` prints, by the program of main.txt: what decoding a PRE-PREPARE of 1,024 requests of 8,192 bytes takes
+"""`measure.py PROGRAM decode|check|hold|vote|change ..` prints, by the program of main.txt: what decoding a PRE-PREPARE of 1,024 requests of 8,192 bytes takes
 beside the SHA-256 of its bytes; what checking its requests takes on one processor and on all; how many bytes of memory each byte of it takes once it is
-decoded; and what a vote takes beside its own keyed hashes, among 4 and 31 replicas, in a log of one number and of 32. Medians of ROUNDS runs.
+decoded; and what a vote takes beside its own keyed hashes, among 4 and 31 replicas, in a log of one number and of 32; and what
+a view change takes beside the hashes that its rules ask for. Medians of ROUNDS runs.
 """
 import os
 import statistics
@@ -48,6 +49,19 @@ def vote(program):
             print(f"vote, {3 * faults + 1} replicas, {numbers} numbers: {took} ns, its hashes {hashes} ns: {took / hashes:.2f}")
 
 
+def change(program):
+    requests, numbers, replicas = 1024, 32, 4
+    *took, new, change, request, vote = medians(program, "change", str(requests))
+    # what the keyed hashes within a VIEW-CHANGE take: those of the requests, and of each number's PRE-PREPARE and three PREPAREs
+    within = numbers * (requests * request + 4 * vote) / 1000
+    proposals = numbers * vote / 1000
+    check = change + within
+    due = [replicas * change, check, 3 * check, replicas * (new + proposals), new + proposals + 3 * check]
+    names = ["making a VIEW-CHANGE", "checking it", "choosing from three", "choosing, and making the NEW-VIEW", "checking that"]
+    for name, it, hashes in zip(names, took, due):
+        print(f"change, {name}: {it / 1000:.1f} ms, its hashes {hashes / 1000:.1f} ms: {it / hashes:.2f}")
+
+
 if __name__ == "__main__":
     for subject in sys.argv[2:]:
-        {"decode": decode, "check": check, "hold": hold, "vote": vote}[subject](sys.argv[1])
+        {"decode": decode, "check": check, "hold": hold, "vote": vote, "change": change}[subject](sys.argv[1])
