@@ -5,7 +5,6 @@ use Rattle.std.specs.List.{AllByRecursion, AllZip}
 use Rattle.std.proofs.lemmas.List.Elements.{All-append, All-from_recursion, recursion_from_All}
 use Rattle.std.proofs.lemmas.List.Sorted.{All-permutation, IsPermutation-refl}
 use Rattle.std.specs.List.Sorted.{IsPermutation}
-use Rattle.bfs_model.specs.Server.Tree.{Time}
 use Rattle.bfs_model.specs.Server.Conflicts.{among}
 use Rattle.bfs_tree.specs.Slots.{Slots}
 use Rattle.bfs_handover.specs.Jobs.{IsDone}
@@ -15,7 +14,8 @@ use Rattle.bfs_handover.specs.Merging.{AreOut, IsOut}
 use Rattle.bfs_handover.specs.declared.job.Job.{Job}
 use Rattle.bfs_handover.specs.declared.job.Done.{Done}
 use Rattle.bfs_handover.proofs.Public.{results_are_out}
-use Rattle.tests_jobs.specs.Both.{AreSplit, whole_batch}
+use Rattle.bfs_workers.specs.Results.{EachOnce, Gives}
+use Rattle.tests_jobs.specs.Split.{AreSplit}
 
 none_is_out : (tree : Slots) (number_of : ℕ → ℕ) (done : Done) → done.inodes ≡ [] → IsOut tree number_of done
 none_is_out tree number_of done none = record {
@@ -42,7 +42,17 @@ out_without_last tree all dones done is out =
 pub out_permuted : (tree : Slots) (dones turned : List Done) → IsPermutation dones turned → AreOut tree dones → AreOut tree turned
 out_permuted tree dones turned permuted out = (out.0, All-permutation (IsOut tree out.0) dones turned permuted out.1)
 
--- those of jobs that were split off, in their order
-pub results_out : (old new : Slots) (ordinal : ℕ) (time : Time) (requests : List (List ℕ)) (jobs : List Job) (dones : List Done) → AreSplit old new ordinal time requests jobs → AllZip (IsDone new) jobs dones → AreOut new dones
-results_out old new ordinal time requests jobs dones split done =
-    results_are_out old new (whole_batch old ordinal time requests) (0 ∷ 1 ∷ []) jobs jobs dones split.apart split.split (IsPermutation-refl jobs) done
+all_done : (ran : ℕ → List ℕ → Type 0) (tree : Slots) (jobs : List Job) (dones : List Done) → AllZip (Gives ran tree) jobs dones → AllZip (IsDone tree) jobs dones
+all_done ran tree [] [] all = tt
+all_done ran tree [] (done ∷ dones) all = absurd all
+all_done ran tree (job ∷ jobs) [] all = absurd all
+all_done ran tree (job ∷ jobs) (done ∷ dones) all = (all.0.result, all_done ran tree jobs dones all.1)
+
+-- those of jobs that were split off, run once each
+pub results_out : (ran : ℕ → List ℕ → Type 0) (old new : Slots) (numbers : List ℕ) (jobs : List Job) (dones : List Done) → AreSplit old new numbers jobs → EachOnce ran new jobs dones → AreOut new dones
+results_out ran old new numbers jobs dones are once =
+    results_are_out old new are.part numbers jobs once.order dones are.apart are.split once.permuted (all_done ran new once.order dones once.given)
+
+-- in their order
+pub in_order : (ran : ℕ → List ℕ → Type 0) (tree : Slots) (jobs : List Job) (dones : List Done) → AllZip (Gives ran tree) jobs dones → EachOnce ran tree jobs dones
+in_order ran tree jobs dones given = record { order = jobs; permuted = IsPermutation-refl jobs; given = given }

@@ -1,82 +1,97 @@
--- Two requests, of which none conflicts with the other, may be split off.
-use Rattle.std.proofs.Common.{◌≡◌, ℕ, false, List, [], ◌∷◌, Some, length, take, refl, ap, sym, subst, ◌∙◌, arith, unwrap_or}
-use Rattle.std.specs.Prelude.{All, slice_get}
-use Rattle.std.proofs.lemmas.List.Elements.{All-from_recursion}
+-- The requests of a run may be split off, all of them.
+use Rattle.std.proofs.Common.{◌≡◌, ℕ, zero, suc, ◌+◌, ◌-◌, ◌<◌, ◌≤◌, Bool, true, false, ◌||◌, true≢false, List, [], ◌∷◌, length, map, get_or, refl, ap, sym, subst, ◌∙◌, arith}
+use Rattle.std.specs.Prelude.{All}
+use Rattle.std.specs.List.{list_any, range_with_len}
+use Rattle.std.specs.List.Sorted.{IsStrictlyIncreasing}
+use Rattle.std.proofs.lemmas.List.{length-map}
+use Rattle.std.proofs.lemmas.List.Elements.{All-from_get_or}
+use Rattle.std.proofs.lemmas.List.FromFn.{fill_by_all, length-range_with_len, get_or-range_with_len}
 use Rattle.bfs_model.specs.Server.Tree.{Time}
 use Rattle.bfs_model.specs.Server.Serial.{ordinal_after}
-use Rattle.bfs_model.specs.Server.Footprints.{Footprint, footprint_of}
-use Rattle.bfs_model.specs.Server.Conflicts.{is_whole, conflict}
-use Rattle.bfs_model.specs.Server.Groups.{AreDisjoint, footprints_at}
+use Rattle.bfs_model.specs.Server.Footprints.{Footprint, known}
+use Rattle.bfs_model.specs.Server.Conflicts.{is_whole}
+use Rattle.bfs_model.specs.Server.Groups.{AreDisjoint}
 use Rattle.bfs_model.specs.Server.WellFormed.{IsWellFormed}
+use Rattle.bfs_model.specs.Laws.Overtaking.{footprint_at}
 use Rattle.bfs_model.proofs.Public.{fresh_where_numbered, numbered_older}
 use Rattle.bfs_serial.specs.Parts.{file_system_of}
 use Rattle.bfs_tree.specs.Slots.{Slots}
 use Rattle.bfs_tree.specs.Tree.{at_home}
-use Rattle.bfs_handover.specs.Splitting.{CanBeSplit, IsFoundOn, IsSplit, footprints_for, part_of}
+use Rattle.bfs_footprint.specs.Seen.{footprint_seen}
+use Rattle.bfs_footprint.specs.declared.footprints.Footprint as declared
+use Rattle.bfs_levels.specs.Planning.{run_length}
+use Rattle.bfs_levels.proofs.Public.{runs_are_longest}
+use Rattle.bfs_handover.specs.Splitting.{CanBeSplit, IsFoundOn, IsSplit, PlannedPart, footprint_for, footprints_for, part_of}
 use Rattle.bfs_handover.specs.declared.job.Job.{Job}
 use Rattle.bfs_handover.proofs.Public.{found}
-use Rattle.tests_jobs.specs.Both.{AreSplit}
+use Rattle.tests_jobs.specs.Split.{AreSplit, IsRun}
 
-two_requests : (requests : List (List ℕ)) (one two : List ℕ) → length requests ≡ 2 → slice_get requests 0 ≡ Some one → slice_get requests 1 ≡ Some two → requests ≡ one ∷ two ∷ []
-two_requests [] one two count first second = absurd (omega arith)
-two_requests (x ∷ []) one two count first second = absurd (omega arith)
-two_requests (x ∷ y ∷ []) one two count first second = ap (λ o. unwrap_or o x ∷ y ∷ []) first ∙ ap (λ o. one ∷ unwrap_or o y ∷ []) second
-two_requests (x ∷ y ∷ z ∷ rest) one two count first second = absurd (omega arith)
+-- Numbers from 0 on ----------------------------------------------------------------------------------------------------------
 
-all_taken : (requests : List (List ℕ)) → length requests ≡ 2 → take 2 requests ≡ requests
-all_taken [] count = absurd (omega arith)
-all_taken (x ∷ []) count = absurd (omega arith)
-all_taken (x ∷ y ∷ []) count = refl
-all_taken (x ∷ y ∷ z ∷ rest) count = absurd (omega arith)
+each_number : (P : ℕ → Type 0) (n : ℕ) → ((k : ℕ) → k < n → P k) → All P (range_with_len 0 n)
+each_number P n each =
+    All-from_get_or P (range_with_len 0 n) 0 (λ k less.
+    let below : k < n = subst (λ l. k < l) (length-range_with_len 0 n) less in
+    subst P (let same : k ≡ 0 + k = omega arith in same ∙ sym (get_or-range_with_len 0 n k 0 below)) (each k below))
 
--- the footprints of two requests, each found under its ordinal
-pub footprints_found : (tree : Slots) (ordinal next : ℕ) (time : Time) (requests : List (List ℕ)) (one two : List ℕ) (first second : Footprint) → length requests ≡ 2 → slice_get requests 0 ≡ Some one
-    → slice_get requests 1 ≡ Some two → next ≡ ordinal_after ordinal 1 → first ≡ footprint_of (at_home tree) ordinal time one → second ≡ footprint_of (at_home tree) next time two
-    → footprints_at (at_home tree) ordinal time requests ≡ first ∷ second ∷ []
-footprints_found tree ordinal next time requests one two first second count at_0 at_1 next_is first_is second_is =
-    rw (two_requests requests one two count at_0 at_1, first_is, second_is, next_is) refl
+numbers_rise : (n : ℕ) → IsStrictlyIncreasing (range_with_len 0 n)
+numbers_rise n k less =
+    let long = length-range_with_len 0 n in
+    let here = get_or-range_with_len 0 n k 0 (omega arith) in
+    let next = get_or-range_with_len 0 n (k + 1) 0 (omega arith) in omega arith
 
-module _ (tree : Slots) (ordinal : ℕ) (time : Time) (requests : List (List ℕ)) (first second : Footprint) (formed : IsWellFormed (file_system_of tree ordinal time)) (first_known : is_whole first ≡ false) (second_known : is_whole second ≡ false)
-    (none : conflict first second ≡ false) where
-  abbrev both : List Footprint
-  both = first ∷ second ∷ []
+place_is : (footprints : List Footprint) (k : ℕ) → get_or footprints k (known [] []) ≡ footprint_at footprints k
+place_is [] k = refl
+place_is (footprint ∷ footprints) zero = refl
+place_is (footprint ∷ footprints) (suc k) = place_is footprints k
 
-  pub can_be_split : All (CanBeSplit (at_home tree) (part_of 0 ordinal time requests both)) (0 ∷ 1 ∷ [])
-  can_be_split =
-      let most = formed.ordinal.1 in
-      All-from_recursion (CanBeSplit (at_home tree) (part_of 0 ordinal time requests both)) (0 ∷ 1 ∷ []) (
-        record {
+known_at : (items : List declared.Footprint) → list_any (λ item. is_whole (footprint_seen item)) items ≡ false → (k : ℕ) → is_whole (footprint_at (map footprint_seen items) k) ≡ false
+known_at [] none k = refl
+known_at (item ∷ items) none k = by_test (is_whole (footprint_seen item)) refl none (known_at items) k
+  where
+    by_test : (b : Bool) → is_whole (footprint_seen item) ≡ b → (b || list_any (λ item. is_whole (footprint_seen item)) items) ≡ false
+        → (list_any (λ item. is_whole (footprint_seen item)) items ≡ false → (k : ℕ) → is_whole (footprint_at (map footprint_seen items) k) ≡ false) → (k : ℕ) → is_whole (footprint_at (map footprint_seen (item ∷ items)) k) ≡ false
+    by_test true is none later k = absurd (true≢false none)
+    by_test false is none later zero = is
+    by_test false is none later (suc k) = later none k
+
+-- A run ----------------------------------------------------------------------------------------------------------------------
+
+module _ (tree : Slots) (ordinal : ℕ) (time : Time) (requests : List (List ℕ)) (items : List declared.Footprint) (run : IsRun (at_home tree) ordinal time requests items) where
+  abbrev footprints : List Footprint
+  footprints = map footprint_seen items
+
+  abbrev part : PlannedPart
+  part = part_of 0 ordinal time requests footprints
+
+  abbrev numbers : List ℕ
+  numbers = range_with_len 0 (length items)
+
+  long : length footprints ≡ length items
+  long = length-map items footprint_seen
+
+  pub apart : AreDisjoint (footprints_for part numbers)
+  apart =
+      let longest = run_length (at_home tree) ordinal time requests in
+      let within : longest ≤ length requests = omega (arith, run.count, run.all) in
+      let each = fill_by_all (footprint_for part) footprints (length items) (known [] []) long (λ k less.
+      place_is footprints k ∙ ap (footprint_at footprints) (let same : k ≡ k - 0 = omega arith in same)) in
+      subst AreDisjoint (sym run.longest ∙ each) ((runs_are_longest (at_home tree) ordinal time requests longest within).1 (omega arith))
+
+  module _ (formed : IsWellFormed (file_system_of tree ordinal time)) where
+    pub can_be_split : All (CanBeSplit (at_home tree) part) numbers
+    can_be_split = each_number (CanBeSplit (at_home tree) part) (length items) (λ k less.
+        let most = formed.ordinal.1 in record {
           from = omega arith;
-          within = omega arith;
-          known = first_known;
-          fresh = fresh_where_numbered (at_home tree) (ordinal_after ordinal 0) first (numbered_older (at_home tree) ordinal (ordinal_after ordinal 0) (omega (arith, most)) formed.numbered);
-        },
-        (
-          record {
-            from = omega arith;
-            within = omega arith;
-            known = second_known;
-            fresh = fresh_where_numbered (at_home tree) (ordinal_after ordinal 1) second (numbered_older (at_home tree) ordinal (ordinal_after ordinal 1) (omega (arith, most)) formed.numbered);
-          },
-          tt,
-        ),
-      )
+          within = omega (arith, long, less);
+          known = known_at items run.certain (k - 0);
+          fresh = fresh_where_numbered (at_home tree) (ordinal_after ordinal (k - 0)) (footprint_for part k) (numbered_older (at_home tree) ordinal (ordinal_after ordinal (k - 0)) (omega (arith, most)) formed.numbered);
+        })
 
-  pub are_found : length requests ≡ 2 → footprints_at (at_home tree) ordinal time requests ≡ both → All (IsFoundOn (at_home tree) (part_of 0 ordinal time requests both)) (0 ∷ 1 ∷ [])
-  are_found count all =
-      let on : both ≡ footprints_at (at_home tree) ordinal time (take 2 requests) = sym all ∙ ap (footprints_at (at_home tree) ordinal time) (sym (all_taken requests count)) in
-      All-from_recursion (IsFoundOn (at_home tree) (part_of 0 ordinal time requests both)) (0 ∷ 1 ∷ []) (
-        found (at_home tree) time 0 ordinal 2 0 requests both formed.ordinal.1 on (omega arith) (omega arith),
-        (found (at_home tree) time 0 ordinal 2 1 requests both formed.ordinal.1 on (omega arith) (omega arith), tt),
-      )
+    pub are_found : All (IsFoundOn (at_home tree) part) numbers
+    are_found = each_number (IsFoundOn (at_home tree) part) (length items) (λ k less.
+        found (at_home tree) time 0 ordinal (run_length (at_home tree) ordinal time requests) k requests footprints formed.ordinal.1 run.longest (omega arith) (omega (arith, long, less)))
 
-  apart : AreDisjoint (footprints_for (part_of 0 ordinal time requests both) (0 ∷ 1 ∷ []))
-  apart = ((none, tt), (tt, tt))
-
-  -- and where they are all requests, their jobs are those of the whole batch
-  pub are_split : (new : Slots) (jobs : List Job) → footprints_at (at_home tree) ordinal time requests ≡ both → IsSplit tree new (part_of 0 ordinal time requests both) (0 ∷ 1 ∷ []) jobs
-      → AreSplit tree new ordinal time requests jobs
-  are_split new jobs all split = record {
-    apart = subst (λ fps. AreDisjoint (footprints_for (part_of 0 ordinal time requests fps) (0 ∷ 1 ∷ []))) (sym all) apart;
-    split = subst (λ fps. IsSplit tree new (part_of 0 ordinal time requests fps) (0 ∷ 1 ∷ []) jobs) (sym all) split;
-  }
+  pub are_split : (new : Slots) (given : List ℕ) (jobs : List Job) → given ≡ numbers → IsSplit tree new part given jobs → AreSplit tree new given jobs
+  are_split new given jobs is split =
+      record { part = part; rising = subst IsStrictlyIncreasing (sym is) (numbers_rise (length items)); apart = subst (λ ns. AreDisjoint (footprints_for part ns)) (sym is) apart; split = split }

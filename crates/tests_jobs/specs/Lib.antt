@@ -1,2 +1,1 @@
--- What the contracts of tests cite.
-pub mod Both
+pub mod Split

@@ -3,7 +3,7 @@ ghost use Rattle.std.specs.Prelude.{◌≡◌, IfOk, OnErr, OnOk};
 ghost use Rattle.bfs_tree.specs.Slots.{Slots};
 ghost use Rattle.bfs_handover.specs.Merging.{AreOut};
 
-use crate::splits::{WRITTEN, at_home, batch_of, both_run, made};
+use crate::splits::{WRITTEN, all_run, at_home, batch_of, made};
 use bfs_handover::{Done, Loans, MergeError, NumberedReply, merge};
 use bfs_testing::words::same_bytes;
 use bfs_testing::{holds, same};
@@ -76,7 +76,7 @@ fn splits_and_merges_or_stays(rt: HostRuntime) -> Result<(), Fail> {
     let alloc = rt.alloc();
     let batch = batch_of(alloc, WRITTEN)?;
     let (mut tree, ordinal, time) = made(alloc)?;
-    let dones = turned(both_run(&rt, alloc, &mut tree, &batch, ordinal, time)?);
+    let dones = turned(all_run(alloc, &mut tree, &batch, ordinal, time)?);
     same!(rt; dones.first().map(|done| done.number), Some(1));
     match both_merged(alloc, &mut tree, dones) {
         Ok(replies) => {
@@ -121,7 +121,7 @@ fn refuses_results_that_are_not_those_of_the_jobs(rt: HostRuntime) -> Result<(),
     for (taken, others, refused) in REFUSED {
         let batch = batch_of(alloc, WRITTEN)?;
         let (mut tree, ordinal, time) = made(alloc)?;
-        let dones = both_run(&rt, alloc, &mut tree, &batch, ordinal, time)?;
+        let dones = all_run(alloc, &mut tree, &batch, ordinal, time)?;
         let dones = altered(alloc, dones, *taken, others)?;
         let merged = both_merged(alloc, &mut tree, dones);
         same!(rt; merged.err().map(|refusal| refusal.code()), Some(*refused));
