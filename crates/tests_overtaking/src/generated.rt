@@ -1,13 +1,14 @@
 //! Generated groups under generated lists of events, with the outcome of the calls one after another.
-use crate::groups::{compare, core_of, count_of, played, with_files};
+use crate::groups::{compare_first, compare_played, count_of, first_core, happens, with_files};
 use bfs_overtaking::{Core, Event};
 use bfs_serial::Batch;
+use bfs_testing::asserts::compared;
 use bfs_testing::generated::Generator;
+use bfs_testing::holds;
 use bfs_testing::numbers::{
     CREATE, GETATTR, LINK, MKDIR, READ, READDIR, REMOVE, RENAME, SETATTR, WRITE,
 };
-use bfs_testing::{holds, same};
-use bfs_types::Time;
+use bfs_types::{Memory, Time};
 use std::alloc::Global;
 use std::test::Fail;
 
@@ -36,29 +37,29 @@ fn batch(alloc: Global, generator: &mut Generator) -> Result<Batch, Fail> {
     Ok(batch)
 }
 
+fn tried_event(generator: &mut Generator, count: u32) -> Event {
+    let number = generator.next() % count.max(1);
+    if generator.next() % 2 == 0 {
+        Event::Take(number)
+    } else {
+        Event::Finish(number)
+    }
+}
+
 // events tried at random until all calls are finished: those that happened
 fn tried(
     alloc: Global,
     generator: &mut Generator,
     core: &mut Core,
     count: u32,
-) -> Result<Vec<Event>, Fail> {
+) -> Result<Vec<Event>, Memory> {
     let mut events = Vec::new(alloc);
     for _ in 0..10_000 {
         if core.finished() {
-            return Ok(events);
+            break;
         }
-        let number = generator.next() % count.max(1);
-        let event = if generator.next() % 2 == 0 {
-            Event::Take(number)
-        } else {
-            Event::Finish(number)
-        };
-        let outcome = match event {
-            Event::Take(number) => core.take(number),
-            Event::Finish(number) => core.finish(number),
-        };
-        if outcome.is_ok() {
+        let event = tried_event(generator, count);
+        if happens(core, event) == 0 {
             events.push(event)?;
         }
     }
@@ -79,28 +80,38 @@ fn overtakes(events: &[Event]) -> bool {
     false
 }
 
-#[test]
-fn generated_events_give_the_replies_of_the_batch_in_order(rt: HostRuntime) -> Result<(), Fail> {
-    let alloc = rt.alloc();
+// how many calls a group has that is made at random, and whether one of them is finished after a later one
+fn compare_generated(alloc: Global, generator: &mut Generator) -> Result<(u32, bool), Fail> {
+    let batch = batch(alloc, generator)?;
+    let count = count_of(alloc, &mut with_files(alloc)?, &batch)?;
+    let mut core = first_core(alloc, &batch)?;
+    let events = tried(alloc, generator, &mut core, count)?;
+    compared(events.len(), (count as usize).saturating_mul(2))?;
+    compare_first(alloc, &core, &batch, count)?;
+    compare_played(alloc, &batch, &events, count)?;
+    Ok((count, overtakes(&events)))
+}
+
+// of so many: how many have calls that overtake others, and how many have six calls and more
+fn compare_all(alloc: Global, groups: u32) -> Result<(u32, u32), Fail> {
     let mut generator = generator();
     let mut overtaken = 0u32;
     let mut long = 0u32;
-    for _ in 0..300 {
-        let batch = batch(alloc, &mut generator)?;
-        let count = count_of(alloc, &mut with_files(alloc)?, &batch)?;
-        let mut core = core_of(alloc, &mut with_files(alloc)?, &batch, 0)?;
-        let events = tried(alloc, &mut generator, &mut core, count)?;
-        same!(rt; events.len(), (count as usize).saturating_mul(2));
-        compare(alloc, &core, &mut with_files(alloc)?, &batch, 0, count)?;
-        let again = played(alloc, &mut with_files(alloc)?, &batch, 0, events.as_slice())?;
-        compare(alloc, &again, &mut with_files(alloc)?, &batch, 0, count)?;
-        if overtakes(events.as_slice()) {
+    for _ in 0..groups {
+        let (count, overtakes) = compare_generated(alloc, &mut generator)?;
+        if overtakes {
             overtaken = overtaken.saturating_add(1);
         }
         if count >= 6 {
             long = long.saturating_add(1);
         }
     }
+    Ok((overtaken, long))
+}
+
+#[test]
+fn generated_events_give_the_replies_of_the_batch_in_order(rt: HostRuntime) -> Result<(), Fail> {
+    let (overtaken, long) = compare_all(rt.alloc(), 300)?;
     holds!(rt; overtaken >= 200);
     holds!(rt; long >= 100);
     Ok(())

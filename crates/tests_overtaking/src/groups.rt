@@ -1,7 +1,7 @@
 //! Groups of a batch on the machine, and what is compared.
 use bfs_levels::plan_group;
 use bfs_overtaking::{Core, CoreError, Event};
-use bfs_serial::{Batch, FileSystem, execute_serial};
+use bfs_serial::{Batch, FileSystem, Replies, execute_serial};
 use bfs_testing::asserts::compared;
 use bfs_testing::numbers::CREATE;
 use bfs_testing::words::{A, B, C, ROOT, UNSET, call, put_parts};
@@ -86,6 +86,25 @@ pub(crate) fn count_of(alloc: Global, files: &mut FileSystem, batch: &Batch) -> 
     Ok(u32::try_from(group.len())?)
 }
 
+// whether a machine has these replies to the requests from that one on
+fn has_replies(core: &Core, first: u32, replies: &Replies) -> bool {
+    let mut number = first;
+    for place in 0..replies.len() {
+        if core.reply(number) != Some(replies.get(place)) {
+            return false;
+        }
+        number = number.saturating_add(1);
+    }
+    true
+}
+
+fn compare_trees(alloc: Global, core: &Core, files: &FileSystem) -> Result<(), Fail> {
+    let tree = format!(in alloc; "{:?}", core.tree())?;
+    let wanted = format!(in alloc; "{:?}", files.tree())?;
+    compared(tree.as_str(), wanted.as_str())?;
+    Ok(())
+}
+
 /// Compares a machine, whose calls are so many and all finished, with a file system on which they are executed one after another.
 pub(crate) fn compare(
     alloc: Global,
@@ -98,14 +117,45 @@ pub(crate) fn compare(
     let part = part_of(alloc, batch, first, first.saturating_add(count))?;
     let replies = execute_serial(alloc, files, &part)?;
     compared(replies.len(), count as usize)?;
-    let mut number = first;
-    for place in 0..replies.len() {
-        compared(core.reply(number) == Some(replies.get(place)), true)?;
-        number = number.saturating_add(1);
-    }
+    compared(has_replies(core, first, &replies), true)?;
     compared(core.finished(), true)?;
-    let tree = format!(in alloc; "{:?}", core.tree())?;
-    let wanted = format!(in alloc; "{:?}", files.tree())?;
-    compared(tree.as_str(), wanted.as_str())?;
-    Ok(())
+    compare_trees(alloc, core, files)
+}
+
+/// The machine of a batch's first group, on a file system with the files.
+pub(crate) fn first_core(alloc: Global, batch: &Batch) -> Result<Core<'_>, Fail> {
+    Ok(core_of(alloc, &mut with_files(alloc)?, batch, 0)?)
+}
+
+/// Compares the machine of a batch's first group, of so many calls, which began on a file system with the files.
+pub(crate) fn compare_first(
+    alloc: Global,
+    core: &Core,
+    batch: &Batch,
+    count: u32,
+) -> Result<(), Fail> {
+    compare(alloc, core, &mut with_files(alloc)?, batch, 0, count)
+}
+
+/// Compares the same as these events make it.
+pub(crate) fn compare_played(
+    alloc: Global,
+    batch: &Batch,
+    events: &[Event],
+    count: u32,
+) -> Result<(), Fail> {
+    let core = played(alloc, &mut with_files(alloc)?, batch, 0, events)?;
+    compare_first(alloc, &core, batch, count)
+}
+
+/// An event happens, or the number of its refusal is given, which is 0 where there is none.
+pub(crate) fn happens(core: &mut Core, event: Event) -> u32 {
+    let outcome = match event {
+        Event::Take(number) => core.take(number),
+        Event::Finish(number) => core.finish(number),
+    };
+    match outcome {
+        Ok(()) => 0,
+        Err(refused) => refused.code(),
+    }
 }

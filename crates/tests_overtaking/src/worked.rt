@@ -1,11 +1,16 @@
 //! Worked groups: each refusal, and calls that are finished after later ones.
-use crate::groups::{Asked, batch_of, compare, core_of, part_of, played, with_files};
-use bfs_overtaking::{Core, CoreError, Event};
-use bfs_serial::execute_serial;
+use crate::groups::{
+    Asked, batch_of, compare, compare_first, compare_played, core_of, first_core, happens, part_of,
+    played, with_files,
+};
+use bfs_overtaking::{Core, Event};
+use bfs_serial::{Batch, FileSystem, execute_serial};
+use bfs_testing::asserts::compared;
 use bfs_testing::numbers::{CREATE, LOOKUP, READ, REMOVE, RENAME, STATFS, WRITE};
+use bfs_testing::same;
 use bfs_testing::words::{A, B, D, FOURTH, ROOT, THIRD, UNSET};
-use bfs_testing::{holds, same};
-use std::process::Abort;
+use bfs_types::Memory;
+use std::alloc::Global;
 use std::test::Fail;
 
 const BYTE: &[u32] = &[0, 0, 0, 1, 0x61000000];
@@ -17,22 +22,6 @@ static WRITES: &[Asked] = &[
     Asked(WRITE, &[FOURTH, BYTE]),
     Asked(WRITE, &[THIRD, BYTE]),
 ];
-
-// the number of the refusal of an event, or 0
-fn number_of(outcome: Result<(), CoreError>) -> u32 {
-    match outcome {
-        Ok(()) => 0,
-        Err(refused) => refused.code(),
-    }
-}
-
-fn happens(rt: &impl Abort, core: &mut Core, event: Event, wanted: u32) {
-    let outcome = match event {
-        Event::Take(number) => core.take(number),
-        Event::Finish(number) => core.finish(number),
-    };
-    same!(rt; number_of(outcome), wanted);
-}
 
 static EVENTS: &[(Event, u32)] = &[
     (Event::Take(9), 17),
@@ -51,55 +40,74 @@ static EVENTS: &[(Event, u32)] = &[
     (Event::Finish(2), 0),
 ];
 
+// the place of the first that comes to something else, or before which all is finished
+fn first_wrong(core: &mut Core, events: &[(Event, u32)]) -> Option<usize> {
+    for (place, (event, wanted)) in events.iter().enumerate() {
+        if core.finished() || happens(core, *event) != *wanted {
+            return Some(place);
+        }
+    }
+    None
+}
+
+// those that are not refused
+fn accepted(alloc: Global, events: &[(Event, u32)]) -> Result<Vec<Event>, Memory> {
+    let mut accepted = Vec::new(alloc);
+    for (event, refusal) in events {
+        if *refusal == 0 {
+            accepted.push(*event)?;
+        }
+    }
+    Ok(accepted)
+}
+
 #[test]
 fn refuses_events_out_of_turn(rt: HostRuntime) -> Result<(), Fail> {
     let alloc = rt.alloc();
     let batch = batch_of(alloc, 2, WRITES)?;
-    let mut core = core_of(alloc, &mut with_files(alloc)?, &batch, 0)?;
-    let mut accepted = Vec::new(alloc);
-    for (event, wanted) in EVENTS {
-        holds!(rt; !core.finished());
-        happens(&rt, &mut core, *event, *wanted);
-        if *wanted == 0 {
-            accepted.push(*event)?;
-        }
-    }
-    compare(alloc, &core, &mut with_files(alloc)?, &batch, 0, 3)?;
-    let again = played(
-        alloc,
-        &mut with_files(alloc)?,
-        &batch,
-        0,
-        accepted.as_slice(),
-    )?;
-    compare(alloc, &again, &mut with_files(alloc)?, &batch, 0, 3)?;
-    Ok(())
+    let mut core = first_core(alloc, &batch)?;
+    same!(rt; first_wrong(&mut core, EVENTS), None);
+    compare_first(alloc, &core, &batch, 3)?;
+    compare_played(alloc, &batch, &accepted(alloc, EVENTS)?, 3)
+}
+
+// to which of the requests 0, 1 and 9 there is a reply
+fn replied(core: &Core) -> (bool, bool, bool) {
+    (
+        core.reply(0).is_some(),
+        core.reply(1).is_some(),
+        core.reply(9).is_some(),
+    )
 }
 
 #[test]
 fn replies_once_a_call_is_finished(rt: HostRuntime) -> Result<(), Fail> {
-    let alloc = rt.alloc();
-    let batch = batch_of(alloc, 2, WRITES)?;
-    let mut core = core_of(alloc, &mut with_files(alloc)?, &batch, 0)?;
-    holds!(rt; core.reply(1).is_none());
-    core.take(1)?;
-    holds!(rt; core.reply(1).is_none());
-    core.finish(1)?;
-    holds!(rt; core.reply(1).is_some());
-    holds!(rt; core.reply(0).is_none());
-    holds!(rt; core.reply(9).is_none());
+    let batch = batch_of(rt.alloc(), 2, WRITES)?;
+    let mut core = first_core(rt.alloc(), &batch)?;
+    same!(rt; replied(&core), (false, false, false));
+    same!(rt; happens(&mut core, Event::Take(1)), 0);
+    same!(rt; replied(&core), (false, false, false));
+    same!(rt; happens(&mut core, Event::Finish(1)), 0);
+    same!(rt; replied(&core), (false, true, false));
     Ok(())
 }
+
+// the number of the refusal with which it ends, and whether all is finished where there is none
+fn play(alloc: Global, batch: &Batch, events: &[Event]) -> Result<(u32, bool), Fail> {
+    match played(alloc, &mut with_files(alloc)?, batch, 0, events) {
+        Ok(core) => Ok((0, core.finished())),
+        Err(refused) => Ok((refused.code(), false)),
+    }
+}
+
+static REFUSED_SECOND: &[Event] = &[Event::Take(1), Event::Take(2), Event::Finish(9)];
 
 #[test]
 fn play_ends_with_the_first_refusal(rt: HostRuntime) -> Result<(), Fail> {
     let alloc = rt.alloc();
     let batch = batch_of(alloc, 2, WRITES)?;
-    let events = [Event::Take(1), Event::Take(2), Event::Finish(9)];
-    let refused = played(alloc, &mut with_files(alloc)?, &batch, 0, &events);
-    holds!(rt; refused.err() == Some(CoreError::NotReady));
-    let none = played(alloc, &mut with_files(alloc)?, &batch, 0, &[])?;
-    holds!(rt; !none.finished());
+    same!(rt; play(alloc, &batch, REFUSED_SECOND)?, (14, false));
+    same!(rt; play(alloc, &batch, &[])?, (0, false));
     Ok(())
 }
 
@@ -111,26 +119,24 @@ static READS_BETWEEN: &[Asked] = &[
     Asked(WRITE, &[THIRD, BYTE]),
 ];
 
+static OVERTAKING: &[Event] = &[
+    Event::Take(0),
+    Event::Take(2),
+    Event::Finish(2),
+    Event::Finish(0),
+    Event::Take(3),
+    Event::Take(1),
+    Event::Finish(3),
+    Event::Finish(1),
+    Event::Take(4),
+    Event::Finish(4),
+];
+
 #[test]
 fn reads_overtake_each_other(rt: HostRuntime) -> Result<(), Fail> {
     let alloc = rt.alloc();
     let batch = batch_of(alloc, 2, READS_BETWEEN)?;
-    let events = [
-        Event::Take(0),
-        Event::Take(2),
-        Event::Finish(2),
-        Event::Finish(0),
-        Event::Take(3),
-        Event::Take(1),
-        Event::Finish(3),
-        Event::Finish(1),
-        Event::Take(4),
-        Event::Finish(4),
-    ];
-    let core = played(alloc, &mut with_files(alloc)?, &batch, 0, &events)?;
-    compare(alloc, &core, &mut with_files(alloc)?, &batch, 0, 5)?;
-    holds!(rt; core.finished());
-    Ok(())
+    compare_played(alloc, &batch, OVERTAKING, 5)
 }
 
 static REPLACING: &[Asked] = &[
@@ -141,25 +147,49 @@ static REPLACING: &[Asked] = &[
     Asked(RENAME, &[ROOT, B, ROOT, D]),
 ];
 
-// each group of the batch, on a file system on which those before it were executed
+// a file system on which the requests before that one were executed
+fn before(alloc: Global, batch: &Batch, first: u32) -> Result<FileSystem, Fail> {
+    let mut files = with_files(alloc)?;
+    execute_serial(alloc, &mut files, &part_of(alloc, batch, 0, first)?)?;
+    Ok(files)
+}
+
+// the number of the first refusal, 0 where each call is taken and finished
+fn finish_each(core: &mut Core, first: u32, end: u32) -> u32 {
+    for number in first..end {
+        for event in [Event::Take(number), Event::Finish(number)] {
+            let refusal = happens(core, event);
+            if refusal != 0 {
+                return refusal;
+            }
+        }
+    }
+    0
+}
+
+// a group of so many calls that begins with that one. The call behind it is of no call of it
+fn goes(alloc: Global, batch: &Batch, first: u32, count: u32) -> Result<(), Fail> {
+    let mut files = before(alloc, batch, first)?;
+    let mut core = core_of(alloc, &mut files, batch, first)?;
+    let end = first.saturating_add(count);
+    compared(finish_each(&mut core, first, end), 0)?;
+    compared(happens(&mut core, Event::Take(end)), 17)?;
+    compare(
+        alloc,
+        &core,
+        &mut before(alloc, batch, first)?,
+        batch,
+        first,
+        count,
+    )
+}
+
 #[test]
 fn goes_group_after_group(rt: HostRuntime) -> Result<(), Fail> {
     let alloc = rt.alloc();
     let batch = batch_of(alloc, 2, REPLACING)?;
     for (first, count) in [(0u32, 2u32), (2, 1), (3, 1), (4, 1)] {
-        let mut files = with_files(alloc)?;
-        let mut others = with_files(alloc)?;
-        let before = part_of(alloc, &batch, 0, first)?;
-        execute_serial(alloc, &mut files, &before)?;
-        execute_serial(alloc, &mut others, &before)?;
-        let mut core = core_of(alloc, &mut files, &batch, first)?;
-        let end = first.saturating_add(count);
-        for number in first..end {
-            happens(&rt, &mut core, Event::Take(number), 0);
-            happens(&rt, &mut core, Event::Finish(number), 0);
-        }
-        happens(&rt, &mut core, Event::Take(end), 17);
-        compare(alloc, &core, &mut others, &batch, first, count)?;
+        goes(alloc, &batch, first, count)?;
     }
     Ok(())
 }
