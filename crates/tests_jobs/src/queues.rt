@@ -37,8 +37,8 @@ fn run_and_merge<R: Threads + Wait + Sync>(
     let replies = merge(alloc, &mut tree, numbers.as_slice(), dones)?;
     are_written(alloc, replies)?;
     compared(tree.is_whole(), true)?;
-    // one for the root, and one for each file
-    Ok(compared(tree.used_blocks(), 1025)?)
+    // nine for the root, of 32 bytes for each entry, `.` and `..`, and one for each file
+    Ok(compared(tree.used_blocks(), 1033)?)
 }
 
 // each of these numbers stands once among the results
