@@ -99,3 +99,18 @@ lying_primary k = k == 0
 -- only the primary is faulty, but what comes under the name of replica 3 was not sent by it
 abbrev pub NeedsAuthenticity : Type 0
 NeedsAuthenticity = FewAreFaulty 1 lying_primary × ExecutesTwoDigests
+
+-- a hash that gives all texts one digest
+abbrev pub one_for_all : (text : List ℕ) → List ℕ
+one_for_all text = digest
+
+abbrev pub text : List ℕ
+text = 1 ∷ []
+
+abbrev pub other_text : List ℕ
+other_text = 2 ∷ []
+
+-- replicas of which the other premises hold execute the digest of two texts
+abbrev pub NeedsDistinctDigests : Type 0
+NeedsDistinctDigests = IsARun
+    × ((saying 2 0 0).digest ≡ one_for_all text) × ((saying 2 1 1).digest ≡ one_for_all other_text) × (text ≡ other_text → ⊥)

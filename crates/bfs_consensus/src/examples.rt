@@ -1,5 +1,5 @@
 // The laws speak of something. The bodies do nothing: what is said is the contracts.
-ghost use Rattle.bfs_consensus.specs.Examples.{IsARun, NeedsAuthenticity, NeedsFewFaulty, RunsAgree};
+ghost use Rattle.bfs_consensus.specs.Examples.{IsARun, NeedsAuthenticity, NeedsDistinctDigests, NeedsFewFaulty, RunsAgree};
 
 use crate::agreement::calls_agree;
 
@@ -25,3 +25,10 @@ pub fn agreement_needs_few_faulty()
 pub fn agreement_needs_authenticity()
     ensures { NeedsAuthenticity }
 {}
+
+/// And where two texts have one digest, replicas that execute that digest may have executed two texts.
+pub fn agreement_needs_distinct_digests()
+    ensures { NeedsDistinctDigests }
+{
+    there_is_a_run();
+}

@@ -1,5 +1,5 @@
 //! Batches are proposed, prepared, committed and executed in one view.
-use crate::parts::Told::{Commit, OtherCommit, OtherPrepare, Prepare, Proposal};
+use crate::parts::Told::{Batch, Commit, OtherCommit, OtherPrepare, Prepare, Proposal};
 use crate::replica::Answer::{
     Answered, Done, Executed, Itself, Kept, Marks, Number, Proposed, Refused, Sent,
 };
@@ -103,6 +103,41 @@ static OTHER_DIGESTS: Script = Script {
 #[test]
 fn votes_on_another_digest_do_not_count(rt: HostRuntime) -> Result<(), Fail> {
     OTHER_DIGESTS.plays(&rt, rt.alloc())
+}
+
+// the primary proposes a batch to replica 1, and the null request to the others
+static TOLD_ONE_BATCH: Script = Script {
+    faults: 1,
+    me: 1,
+    steps: &[
+        Step(Event::Take(0, Batch(0, 0, 1, 3)), Sent(1)),
+        Step(Event::Take(2, Prepare(2, 0, 1)), Sent(0)),
+        Step(Event::Take(3, Prepare(3, 0, 1)), Sent(0)),
+        Step(Event::Take(0, Commit(0, 0, 1)), Sent(0)),
+        Step(Event::Take(2, Commit(2, 0, 1)), Sent(0)),
+        Step(Event::Take(3, Commit(3, 0, 1)), Sent(0)),
+        Step(Event::Next, Number(0)),
+    ],
+};
+
+static TOLD_ANOTHER: Script = Script {
+    faults: 1,
+    me: 2,
+    steps: &[
+        Step(Event::Take(0, Proposal(0, 0, 1)), Sent(1)),
+        Step(Event::Take(1, OtherPrepare(1, 0, 1)), Sent(0)),
+        Step(Event::Take(3, Prepare(3, 0, 1)), Sent(1)),
+        Step(Event::Take(0, Commit(0, 0, 1)), Sent(0)),
+        Step(Event::Take(3, Commit(3, 0, 1)), Sent(0)),
+        Step(Event::Next, Number(1)),
+        Step(Event::Take(0, Batch(0, 0, 1, 3)), Refused(27)),
+    ],
+};
+
+#[test]
+fn of_two_batches_for_a_number_one_is_committed(rt: HostRuntime) -> Result<(), Fail> {
+    TOLD_ONE_BATCH.plays(&rt, rt.alloc())?;
+    TOLD_ANOTHER.plays(&rt, rt.alloc())
 }
 
 static UP_TO_THE_HIGH_MARK: Script = Script {
