@@ -1,57 +1,62 @@
 //! A replica that is alone orders what comes at once.
-use crate::replica::{
-    Said, checkpoint, deliver, digest, execute, is_ready, propose, replica, request_signed_by,
-    stable, standing, take,
-};
-use bfs_messages::encode;
-use bfs_testing::{holds, same};
+use crate::parts::Asked;
+use crate::replica::{Said, Standing};
+use crate::script::{Step, first_wrong};
+use bfs_testing::same;
 use std::test::Fail;
+
+const REQUEST: Asked = Asked {
+    signer: 3,
+    client: 3,
+    timestamp: 1,
+};
+
+static A_REQUEST: [Step; 9] = [
+    Step::TakeBytesOf(REQUEST, Said::Sent(0)),
+    Step::Stands(Standing(1, 0, 0)),
+    Step::Execute(Said::Nothing),
+    Step::Propose(Said::Sent(1)),
+    Step::Stands(Standing(1, 0, 0)),
+    Step::IsReady(true),
+    Step::Execute(Said::Sent(1)),
+    Step::Stands(Standing(0, 1, 0)),
+    Step::IsReady(false),
+];
 
 #[test]
 fn a_request_is_ordered_executed_and_answered(rt: HostRuntime) -> Result<(), Fail> {
-    let alloc = rt.alloc();
-    let mut node = replica(alloc, 0, 0)?;
-    let bytes = encode(alloc, &request_signed_by(alloc, 3, 3, 1)?)?;
-    same!(rt; deliver(&rt, &mut node, &bytes), Said::Sent(0));
-    same!(rt; standing(&node), (1, 0, 0));
-    same!(rt; execute(&rt, &mut node), None);
-    same!(rt; propose(&mut node), 0);
-    same!(rt; standing(&node), (1, 0, 0));
-    holds!(rt; is_ready(&node));
-    same!(rt; execute(&rt, &mut node), Some(1));
-    same!(rt; standing(&node), (0, 1, 0));
-    holds!(rt; !is_ready(&node));
+    same!(rt; first_wrong(&rt, rt.alloc(), 0, 0, &A_REQUEST)?, None);
     Ok(())
 }
+
+static A_REQUEST_TWICE: [Step; 8] = [
+    Step::Take(REQUEST, Said::Sent(0)),
+    Step::Propose(Said::Sent(1)),
+    Step::Execute(Said::Sent(1)),
+    Step::Take(REQUEST, Said::Sent(0)),
+    Step::Propose(Said::Sent(1)),
+    Step::Execute(Said::Sent(1)),
+    Step::Stands(Standing(0, 2, 0)),
+    Step::HasDigest,
+];
 
 #[test]
 fn a_repeated_request_is_answered_again(rt: HostRuntime) -> Result<(), Fail> {
-    let alloc = rt.alloc();
-    let mut node = replica(alloc, 0, 0)?;
-    for _ in 0u32..2 {
-        same!(rt; take(&rt, &mut node, request_signed_by(alloc, 3, 3, 1)?), Said::Sent(0));
-        same!(rt; propose(&mut node), 0);
-        same!(rt; execute(&rt, &mut node), Some(1));
-    }
-    same!(rt; standing(&node), (0, 2, 0));
-    holds!(rt; digest(&rt, &node).is_some());
+    same!(rt; first_wrong(&rt, rt.alloc(), 0, 0, &A_REQUEST_TWICE)?, None);
     Ok(())
 }
 
+static A_CHECKPOINT: [Step; 5] = [
+    Step::Batches(16),
+    Step::HasNoneStable,
+    Step::Checkpoint(Said::Sent(1)),
+    Step::Checkpoint(Said::Refused(26)),
+    // behind 16 clients without a reply a file system
+    Step::HasStable(1, 4 + 16 * 4),
+];
+
 #[test]
 fn a_checkpoint_is_stable_at_once(rt: HostRuntime) -> Result<(), Fail> {
-    let mut node = replica(rt.alloc(), 0, 0)?;
-    for _ in 0u32..16 {
-        same!(rt; checkpoint(&rt, &mut node), 26);
-        same!(rt; propose(&mut node), 0);
-        same!(rt; execute(&rt, &mut node), Some(0));
-    }
-    same!(rt; stable(&node), (0, 0));
-    same!(rt; checkpoint(&rt, &mut node), 0);
-    same!(rt; checkpoint(&rt, &mut node), 26);
-    // its certificate, and behind 16 clients without a reply a file system
-    let (certificate, text) = stable(&node);
-    same!(rt; certificate, 1);
-    holds!(rt; text > 4 + 16 * 4);
+    same!(rt; first_wrong(&rt, rt.alloc(), 0, 0, &A_CHECKPOINT)?, None);
     Ok(())
 }

@@ -6,6 +6,12 @@ mod adoption;
 #[cfg(test)]
 mod alone;
 #[cfg(test)]
+mod behind;
+#[cfg(test)]
+mod parts;
+#[cfg(test)]
 mod refusals;
 #[cfg(test)]
 mod replica;
+#[cfg(test)]
+mod script;

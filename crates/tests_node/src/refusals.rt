@@ -1,49 +1,67 @@
 //! What a replica refuses.
-use crate::replica::{Said, deliver, propose, replica, request_signed_by, standing, take};
-use bfs_auth::Authenticator;
-use bfs_messages::{Message, Reply, Signed};
+use crate::parts::Asked;
+use crate::replica::{Said, Standing};
+use crate::script::{Step, first_wrong};
 use bfs_testing::same;
 use std::test::Fail;
 
+static NO_MESSAGE: [Step; 2] = [
+    Step::Deliver(&[0, 0, 0, 1], Said::Refused(23)),
+    Step::TakeReply(Said::Refused(36)),
+];
+
 #[test]
 fn what_is_no_message_is_refused(rt: HostRuntime) -> Result<(), Fail> {
-    let alloc = rt.alloc();
-    let mut node = replica(alloc, 0, 0)?;
-    same!(rt; deliver(&rt, &mut node, &[0, 0, 0, 1]), Said::Refused(23));
-    let reply = Message::Reply(Reply::new(alloc, 0, 0, 3, 1, &[])?);
-    let signed = Signed {
-        message: reply,
-        auth: Authenticator::new(alloc),
-    };
-    same!(rt; take(&rt, &mut node, signed), Said::Refused(36));
+    same!(rt; first_wrong(&rt, rt.alloc(), 0, 0, &NO_MESSAGE)?, None);
     Ok(())
 }
+
+const BY_ANOTHER: Asked = Asked {
+    signer: 4,
+    client: 3,
+    timestamp: 1,
+};
+
+const FOR_NO_CLIENT: Asked = Asked {
+    signer: 3,
+    client: 99,
+    timestamp: 1,
+};
+
+static NOT_THE_CLIENTS: [Step; 3] = [
+    Step::Take(BY_ANOTHER, Said::Refused(24)),
+    Step::Take(FOR_NO_CLIENT, Said::Refused(24)),
+    Step::Stands(Standing(0, 0, 0)),
+];
 
 #[test]
 fn a_request_is_its_clients(rt: HostRuntime) -> Result<(), Fail> {
-    let alloc = rt.alloc();
-    let mut node = replica(alloc, 0, 0)?;
-    same!(rt; take(&rt, &mut node, request_signed_by(alloc, 4, 3, 1)?), Said::Refused(24));
-    same!(rt; take(&rt, &mut node, request_signed_by(alloc, 3, 99, 1)?), Said::Refused(24));
-    same!(rt; standing(&node), (0, 0, 0));
+    same!(rt; first_wrong(&rt, rt.alloc(), 0, 0, &NOT_THE_CLIENTS)?, None);
     Ok(())
 }
+
+const ONE_TOO_MANY: Asked = Asked {
+    signer: 3,
+    client: 3,
+    timestamp: 1_024,
+};
+
+static FULL: [Step; 3] = [
+    Step::Fill(1_024),
+    Step::Take(ONE_TOO_MANY, Said::Refused(13)),
+    Step::Stands(Standing(1_024, 0, 0)),
+];
 
 #[test]
 fn as_many_wait_as_a_batch_can_have(rt: HostRuntime) -> Result<(), Fail> {
-    let alloc = rt.alloc();
-    let mut node = replica(alloc, 0, 0)?;
-    for timestamp in 0u32..1_024 {
-        same!(rt; take(&rt, &mut node, request_signed_by(alloc, 3, 3, timestamp)?), Said::Sent(0));
-    }
-    same!(rt; take(&rt, &mut node, request_signed_by(alloc, 3, 3, 1_024)?), Said::Refused(13));
-    same!(rt; standing(&node), (1_024, 0, 0));
+    same!(rt; first_wrong(&rt, rt.alloc(), 0, 0, &FULL)?, None);
     Ok(())
 }
 
+static A_BACKUP: [Step; 1] = [Step::Propose(Said::Refused(28))];
+
 #[test]
 fn a_backup_proposes_nothing(rt: HostRuntime) -> Result<(), Fail> {
-    let mut node = replica(rt.alloc(), 1, 1)?;
-    same!(rt; propose(&mut node), 28);
+    same!(rt; first_wrong(&rt, rt.alloc(), 1, 1, &A_BACKUP)?, None);
     Ok(())
 }

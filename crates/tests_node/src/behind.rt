@@ -1,0 +1,142 @@
+//! A replica that is behind, and the stable snapshot of another one, as tables of steps.
+use crate::parts::{Told, checkpoints};
+use crate::replica::{
+    Said, Standing, adopt, checkpoint, digest_of, execute, propose, replica, stable_of,
+    stable_text, standing_of,
+};
+use bfs_node::Node;
+use bfs_types::Memory;
+use std::alloc::Global;
+use std::sync::Wait;
+use std::thread::Threads;
+
+/// What is to be adopted.
+#[derive(Clone, Copy)]
+pub enum Text {
+    /// The snapshot's text.
+    Right,
+    /// The snapshot's text with another owner of the root.
+    AnotherOwner,
+    /// The word 1.
+    Word,
+}
+
+/// What happens to the replica that is behind and what comes of it, or what is to hold then.
+#[derive(Clone, Copy)]
+pub enum Step {
+    /// It adopts a text by CHECKPOINTs that tell the snapshot's digest.
+    Adopt(Text, &'static [Told], Said),
+    /// It stands so.
+    Stands(Standing),
+    /// It has the snapshot's digest and, by three CHECKPOINTs, its text.
+    HasAdopted,
+    /// It has the digest that it began with, and no stable snapshot.
+    IsAsBefore,
+}
+
+/// The text of the stable snapshot, and its digest.
+#[derive(Drop)]
+struct Snapshot {
+    text: Vec<u8>,
+    digest: [u8; 32],
+}
+
+// of a replica that has executed 16 batches without requests
+fn sixteen_batches<R: Threads + Wait + Sync>(rt: &R, alloc: Global) -> Result<Snapshot, Memory> {
+    let mut node = replica(alloc, 0, 0)?;
+    for _ in 0u32..16 {
+        propose(&mut node);
+        execute(rt, &mut node);
+    }
+    checkpoint(rt, &mut node);
+    let text = stable_text(alloc, &node)?;
+    let digest = digest_of(rt, &node).ok_or(Memory)?;
+    Ok(Snapshot { text, digest })
+}
+
+fn with_another_owner(alloc: Global, text: &[u8]) -> Result<Vec<u8>, Memory> {
+    let mut changed = text.to_vec(alloc)?;
+    // behind 16 clients without a reply, the header, and four words of the root's record
+    let owner = 4 + 16 * 4 + 28 + 4 * 4;
+    if let Some(last) = changed.get_mut(owner + 3) {
+        *last = 1;
+    }
+    Ok(changed)
+}
+
+/// Replica 3 of four, which has done nothing, and the snapshot.
+#[derive(Drop)]
+struct Behind {
+    alloc: Global,
+    node: Node,
+    before: Option<[u8; 32]>,
+    snapshot: Snapshot,
+}
+
+impl Behind {
+    fn new<R: Threads + Wait + Sync>(rt: &R, alloc: Global) -> Result<Behind, Memory> {
+        let snapshot = sixteen_batches(rt, alloc)?;
+        let node = replica(alloc, 1, 3)?;
+        let before = digest_of(rt, &node);
+        Ok(Behind {
+            alloc,
+            node,
+            before,
+            snapshot,
+        })
+    }
+
+    fn adopt<R: Threads + Sync>(
+        &mut self,
+        rt: &R,
+        text: Text,
+        told: &[Told],
+    ) -> Result<Said, Memory> {
+        let certificate = checkpoints(self.alloc, told, self.snapshot.digest)?;
+        let right = &self.snapshot.text;
+        Ok(match text {
+            Text::Right => adopt(rt, &mut self.node, right, &certificate),
+            Text::AnotherOwner => {
+                let changed = with_another_owner(self.alloc, right)?;
+                adopt(rt, &mut self.node, &changed, &certificate)
+            }
+            Text::Word => adopt(rt, &mut self.node, &[0, 0, 0, 1], &certificate),
+        })
+    }
+
+    fn has_adopted<R: Threads + Sync>(&self, rt: &R) -> bool {
+        digest_of(rt, &self.node) == Some(self.snapshot.digest)
+            && stable_of(&self.node) == Some((3, self.snapshot.text.len()))
+    }
+
+    fn is_as_before<R: Threads + Sync>(&self, rt: &R) -> bool {
+        self.before.is_some()
+            && digest_of(rt, &self.node) == self.before
+            && stable_of(&self.node).is_none()
+    }
+
+    // whether it comes as it is told
+    fn happens<R: Threads + Sync>(&mut self, rt: &R, step: Step) -> Result<bool, Memory> {
+        Ok(match step {
+            Step::Adopt(text, told, wanted) => self.adopt(rt, text, told)? == wanted,
+            Step::Stands(wanted) => standing_of(&self.node) == wanted,
+            Step::HasAdopted => self.has_adopted(rt),
+            Step::IsAsBefore => self.is_as_before(rt),
+        })
+    }
+}
+
+/// The place of the first step that does not come as it is told, at the replica that is behind.
+pub fn first_wrong<R: Threads + Wait + Sync>(
+    rt: &R,
+    alloc: Global,
+    steps: &[Step],
+) -> Result<Option<usize>, Memory> {
+    let mut behind = Behind::new(rt, alloc)?;
+    for (place, step) in steps.iter().enumerate() {
+        if !behind.happens(rt, *step)? {
+            return Ok(Some(place));
+        }
+    }
+    Ok(None)
+}
