@@ -1,4 +1,3 @@
 -- What contracts inside this crate speak of.
-pub mod Signing
 pub mod Rows
 pub mod Places

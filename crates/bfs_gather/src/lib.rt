@@ -13,8 +13,7 @@ pub fn gather<T: Drop>(
     alloc: Global,
     each: Vec<Result<Option<T>, Memory>>,
 ) -> Result<Vec<T>, Memory>
-    ensures none_failed { IfOk result (λ all. list_all is_ok each.items ≡ true) }
-    ensures value { IfOk result (λ all. all.items ≡ filter_map gathered_from each.items) }
+    ensures { IfOk result (λ all. (list_all is_ok each.items ≡ true) × (all.items ≡ filter_map gathered_from each.items)) }
 {
     let mut all = Vec::new(alloc);
     for one in each {
