@@ -1,3 +1,4 @@
 -- What contracts inside this crate speak of.
+pub mod Checking
 pub mod Rows
 pub mod Places
