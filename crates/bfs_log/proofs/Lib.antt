@@ -2,7 +2,7 @@
 mod Counts
 mod Slots
 mod Indexes
-mod Copied
+mod Copies
 mod Maps
 mod Keeping
 mod Greatest
