@@ -2,7 +2,7 @@
 mod Counts
 mod Slots
 mod Indexes
-mod Found
+mod Copies
 mod Maps
 mod Keeping
 mod Greatest

@@ -1,6 +1,6 @@
 use Rattle.std.proofs.Common.{◌∙◌, arith}
-use Rattle.bfs_order.proofs.Copies.{free_in_copy}
-use Rattle.bfs_order.proofs.installing.copy_of.Goals as goal
+use Rattle.bfs_log.proofs.Copies.{free_in_copy}
+use Rattle.bfs_log.proofs.copies.copy_of.Goals as goal
 
 pub push-requires-clause-free : goal.push-requires-clause-free
 push-requires-clause-free c =
