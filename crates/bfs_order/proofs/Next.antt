@@ -1,6 +1,6 @@
 -- The batch that is next is what its PRE-PREPARE says, once that is committed.
 use Rattle.std.proofs.Common.{◌≡◌, ◌+◌, Bool, true, false, cond, refl, ap, ◌∙◌}
-use Rattle.std.specs.Prelude.{Option, Some, None}
+use Rattle.std.specs.Prelude.{Option, Some, None, unwrap_or}
 use Rattle.std.specs.Option.{option_map}
 use Rattle.bfs_agreement.specs.Votes.{committed, primary}
 use Rattle.bfs_log.specs.Batches.{Said}
@@ -29,7 +29,7 @@ some_by : (s : State) (found : Option (Signed Message)) (said : Said) → said_b
     → batch_of (where_committed s found) ≡ cond (committed s.f s.me (known s) s.view (s.last + 1) said.digest) said.batch None
 some_by s None said e = absurd cc
 some_by s (Some m) said e =
-    let is : said_in m.message ≡ said = cc in
+    let is : said_in m.message ≡ said = ap (λ (o : Option Said). unwrap_or o (said_in m.message)) e in
     batch_where (committed s.f s.me (known s) s.view (s.last + 1) (header m).digest) m
     ∙ ap (λ (d : Said). cond (committed s.f s.me (known s) s.view (s.last + 1) d.digest) d.batch None) is
 

@@ -1,7 +1,8 @@
 // The next batch to be executed.
-ghost use Rattle.std.specs.Prelude.{◌≡◌, None, Some, if◌then◌else◌};
+ghost use Rattle.std.specs.Prelude.{◌≡◌, ◌+◌, None, Some, if◌then◌else◌};
 ghost use Rattle.std.specs.Option.{option_map};
-ghost use Rattle.bfs_agreement.specs.Votes.{committed};
+ghost use Rattle.bfs_agreement.specs.Votes.{committed, primary};
+ghost use Rattle.bfs_log.specs.Logs.{said_of};
 ghost use Rattle.bfs_order.specs.Replica.Executing.{executed, next_committed};
 ghost use Rattle.bfs_order.specs.Replica.States.{known};
 
@@ -9,9 +10,9 @@ use crate::order::Order;
 use bfs_log::{Committed, Said, Slot};
 
 impl Order {
-    /// The batch after the one last executed, once it is committed in the view last entered. It takes no memory.
-    pub fn next_committed(&self) -> Option<&Committed>
-        ensures { option_map (λ committed. committed.now) result ≡ next_committed self.now }
+    // What the PRE-PREPARE for the next number says, in the view last entered.
+    fn next_proposal(&self) -> Option<&Said>
+        ensures { option_map (λ said. said.now) result ≡ said_of self.now.log 2 (primary self.now.f self.now.view) self.now.view (self.now.last + 1) }
     {
         let slot = Slot {
             tag: 2,
@@ -19,15 +20,13 @@ impl Order {
             view: self.view,
             number: self.last + 1,
         };
-        match self.log.find(slot) {
-            Some(proposal) => self.where_committed(slot.number, proposal),
-            None => None,
-        }
+        self.log.find(slot)
     }
 
-    fn where_committed<'a>(&self, number: u64, proposal: &'a Said) -> Option<&'a Committed>
-        ensures { option_map (λ committed. committed.now) result ≡ (if committed self.now.f self.now.me (known self.now) self.now.view number proposal.now.digest then proposal.now.batch else None) }
+    fn where_committed<'a>(&self, proposal: &'a Said) -> Option<&'a Committed>
+        ensures { option_map (λ committed. committed.now) result ≡ (if committed self.now.f self.now.me (known self.now) self.now.view (self.now.last + 1) proposal.now.digest then proposal.now.batch else None) }
     {
+        let number = self.last + 1;
         let digest = proposal.digest();
         if !self
             .log
@@ -36,6 +35,16 @@ impl Order {
             return None;
         }
         proposal.batch()
+    }
+
+    /// The batch after the one last executed, once it is committed in the view last entered. It takes no memory.
+    pub fn next_committed(&self) -> Option<&Committed>
+        ensures { option_map (λ committed. committed.now) result ≡ next_committed self.now }
+    {
+        match self.next_proposal() {
+            Some(proposal) => self.where_committed(proposal),
+            None => None,
+        }
     }
 
     /// Notes that the next committed batch was executed, which has that number.

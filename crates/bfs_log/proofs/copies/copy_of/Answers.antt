@@ -1,5 +1,5 @@
 use Rattle.std.proofs.Common.{◌∙◌, arith}
-use Rattle.bfs_log.proofs.Copies.{free_in_copy}
+use Rattle.bfs_log.proofs.FreeSlots.{free_in_copy}
 use Rattle.bfs_log.proofs.copies.copy_of.Goals as goal
 
 pub push-requires-clause-free : goal.push-requires-clause-free
