@@ -109,9 +109,9 @@ impl Tallies {
         ensures ok { OnOk result ((client timestamp : ℕ) → tally_at self.new client timestamp ≡ option_map (λ tally. fold (tallied_by clients.now) tally messages.now) (tally_at self.old client timestamp)) }
         ensures f { self.new.f ≡ self.old.f }
     {
-        let are_signed = clients.are_signed(rt, messages)?;
+        let passes = clients.are_signed(rt, messages)?;
         for number in 0..messages.len() {
-            self.add_checked(clients, &messages[number], are_signed[number])?;
+            self.add_checked(clients, &messages[number], passes[number])?;
         }
         Ok(())
     }

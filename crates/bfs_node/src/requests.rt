@@ -22,9 +22,9 @@ impl Node {
     ) -> Result<(), Memory>
         ensures { OnOk result (self.new ≡ after_requests self.old messages.now) }
     {
-        let are_signed = are_signed(rt, self.alloc, &self.keys, messages)?;
+        let passes = are_signed(rt, self.alloc, &self.keys, messages)?;
         for number in 0..messages.len() {
-            self.take_checked(are_signed[number], &messages[number])?;
+            self.take_checked(passes[number], &messages[number])?;
         }
         Ok(())
     }
