@@ -17,3 +17,5 @@ mod settings;
 mod traces;
 #[cfg(test)]
 mod verbs;
+#[cfg(test)]
+mod writers;
