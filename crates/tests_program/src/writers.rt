@@ -34,10 +34,12 @@ impl Write for Failing {
     }
 }
 
-static EXECUTOR: Executor = Executor {
-    workers: Workers::one(),
-    engine: None,
-};
+fn executor() -> Executor {
+    Executor {
+        workers: Workers::one(),
+        engine: None,
+    }
+}
 
 // the run before a writer that takes so many writes: whether it ends well. What was written is the beginning of the output, all of it where it
 // ends well
@@ -52,7 +54,7 @@ fn run<R: AllocGlobal + Threads + Wait + Sync>(
         writes,
         taken: Vec::new(rt.alloc()),
     };
-    match run_trace(rt, settings, trace, EXECUTOR, &mut writer) {
+    match run_trace(rt, settings, trace, executor(), &mut writer) {
         Ok(_) => {
             compared(writer.taken.as_slice(), wanted)?;
             Ok(true)

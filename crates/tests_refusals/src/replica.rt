@@ -70,6 +70,17 @@ fn node(alloc: Global, me: u32) -> Result<Node, Memory> {
     }
 }
 
+// a list with room for it
+fn one_in(
+    mut room: Vec<Signed<Message>>,
+    given: Result<Signed<Message>, NodeError>,
+) -> Result<Vec<Signed<Message>>, NodeError> {
+    match room.push(given?) {
+        Ok(()) => Ok(room),
+        Err(_) => Err(NodeError::Memory),
+    }
+}
+
 impl Replica {
     /// The replica of that number among four, which has done nothing.
     pub fn new<R: Threads + Sync>(rt: &R, alloc: Global, me: u32) -> Result<Replica, Memory> {
@@ -111,7 +122,7 @@ impl Replica {
         }
     }
 
-    // the list for a message that is given alone is made before it
+    // the list for a message that is given alone is made before the call
     fn once<R: Threads + Wait + Sync>(
         &mut self,
         rt: &R,
@@ -121,14 +132,12 @@ impl Replica {
             Call::Deliver(bytes) => self.node.deliver(rt, bytes),
             Call::TimeOut => self.node.timeout(),
             Call::Propose => {
-                let mut sent = Vec::with_capacity(self.alloc, 1)?;
-                sent.push(self.node.propose(Time::new(1, 0).unwrap_or(Time::epoch()))?)?;
-                Ok(sent)
+                let room = Vec::with_capacity(self.alloc, 1)?;
+                one_in(room, self.node.propose(Time::new(1, 0).unwrap_or(Time::epoch())))
             }
             Call::Checkpoint => {
-                let mut sent = Vec::with_capacity(self.alloc, 1)?;
-                sent.push(self.node.checkpoint(rt)?)?;
-                Ok(sent)
+                let room = Vec::with_capacity(self.alloc, 1)?;
+                one_in(room, self.node.checkpoint(rt))
             }
             Call::Execute => self.execute(rt),
         }

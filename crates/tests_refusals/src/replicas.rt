@@ -100,8 +100,7 @@ impl Replicas {
         Ok(())
     }
 
-    /// Asks a replica, and what it sends is on its way. It gives whether the replica is as it must be: a refusal is passed over, and so is
-    /// that it has failed.
+    /// Asks a replica, and what it sends is on its way. It gives whether the replica is as it must be; a refusal is passed over.
     pub fn ask<R: Threads + Wait + Sync>(
         &mut self,
         rt: &R,
@@ -177,7 +176,12 @@ impl Replicas {
     }
 
     // it executes what is next, and makes a checkpoint where one is due
-    fn goes_on<R: Threads + Wait + Sync>(&mut self, rt: &R, number: usize) -> Result<bool, Memory> {
+    fn goes_on<R: Threads + Wait + Sync>(
+        &mut self,
+        rt: &R,
+        number: usize,
+        may_fail: bool,
+    ) -> Result<bool, Memory> {
         let Some(replica) = self.all.get_mut(number) else {
             return Ok(false);
         };
@@ -186,18 +190,21 @@ impl Replicas {
                 self.send(number, sent)?;
                 self.ask(rt, number, Call::Checkpoint)
             }
+            Err(Silence::HasFailed) if may_fail => Ok(true),
+            Err(Silence::HasFailed) => Err(Memory),
             Err(silence) => Ok(silence != Silence::IsWrong),
         }
     }
 
-    /// Those that are heard execute what is next.
+    /// Those that are heard execute what is next. Where one fails for want of memory, that is passed over if it may, and else ends the run.
     pub fn execute<R: Threads + Wait + Sync>(
         &mut self,
         rt: &R,
         heard: &[usize],
+        may_fail: bool,
     ) -> Result<bool, Memory> {
         for number in heard {
-            if !self.goes_on(rt, *number)? {
+            if !self.goes_on(rt, *number, may_fail)? {
                 return Ok(false);
             }
         }
@@ -211,7 +218,7 @@ impl Replicas {
         heard: &[usize],
     ) -> Result<bool, Memory> {
         for _ in 0u32..5 {
-            if !self.hand_over(rt, heard)? || !self.execute(rt, heard)? {
+            if !self.hand_over(rt, heard)? || !self.execute(rt, heard, false)? {
                 return Ok(false);
             }
         }
@@ -227,7 +234,7 @@ impl Replicas {
         for number in numbers {
             let other = (*number + 1) % 4;
             let has_failed = self.digest(rt, *number).is_none();
-            if has_failed && !(self.adopt(rt, *number, other)? && self.goes_on(rt, *number)?) {
+            if has_failed && !(self.adopt(rt, *number, other)? && self.goes_on(rt, *number, false)?) {
                 return Ok(false);
             }
         }

@@ -24,7 +24,7 @@ pub enum Event {
     HandOver(&'static [usize]),
     /// What is on its way is lost.
     Lose,
-    /// These execute what is next, and make a checkpoint where one is due.
+    /// These execute what is next, and make a checkpoint where one is due. One may fail.
     Execute(&'static [usize]),
     /// Messages come to these until none is on its way, and they execute what is next.
     Settle(&'static [usize]),
@@ -73,7 +73,7 @@ fn happens<R: Threads + Wait + Sync>(
         Event::TimeOut(numbers) => all.ask_each(rt, numbers, Call::TimeOut),
         Event::HandOver(numbers) => all.hand_over(rt, numbers),
         Event::Lose => Ok(lose(all)),
-        Event::Execute(numbers) => all.execute(rt, numbers),
+        Event::Execute(numbers) => all.execute(rt, numbers, true),
         Event::Settle(numbers) => all.settle(rt, numbers),
         Event::Batches(numbers, count) => batches(rt, all, numbers, count),
         Event::Mend(numbers) => all.mend(rt, numbers),

@@ -39,7 +39,7 @@ static GOOD: [Good; 18] = [
 // how many bytes the header of a call without a credential has
 const HEADER: usize = 40;
 
-fn good(alloc: Global, Good(procedure, arguments): &Good) -> Result<Vec<u8>, Fail> {
+fn request_of(alloc: Global, Good(procedure, arguments): &Good) -> Result<Vec<u8>, Fail> {
     let mut bytes = call(alloc, 1, *procedure)?;
     put_parts(&mut bytes, arguments)?;
     Ok(bytes)
@@ -65,7 +65,7 @@ fn are_refused(alloc: Global, replies: &Replies) -> Result<(), Fail> {
 }
 
 fn is_refused_where_it_is_cut(alloc: Global, whole: &Good) -> Result<(), Fail> {
-    let bytes = good(alloc, whole)?;
+    let bytes = request_of(alloc, whole)?;
     let mut files = FileSystem::new(alloc)?;
     let replies = execute_serial(alloc, &mut files, &cuts(alloc, bytes.as_slice())?)?;
     compared(replies.len(), bytes.len())?;
