@@ -17,7 +17,7 @@ static A_CHECKPOINT: [Event; 5] = [
     Event::Batches(ALL, 15),
     Event::Batches(ALL, 1),
     Event::Stand(ALL, Standing(0, 16, 0)),
-    Event::HaveStable(ALL, 4),
+    Event::HaveStable(ALL, 3),
     Event::Agree(ALL),
 ];
 

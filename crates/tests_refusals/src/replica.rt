@@ -122,7 +122,6 @@ impl Replica {
         }
     }
 
-    // the list for a message that is given alone is made before the call
     fn once<R: Threads + Wait + Sync>(
         &mut self,
         rt: &R,
@@ -131,16 +130,22 @@ impl Replica {
         match call {
             Call::Deliver(bytes) => self.node.deliver(rt, bytes),
             Call::TimeOut => self.node.timeout(),
-            Call::Propose => {
-                let room = Vec::with_capacity(self.alloc, 1)?;
-                one_in(room, self.node.propose(Time::new(1, 0).unwrap_or(Time::epoch())))
-            }
-            Call::Checkpoint => {
-                let room = Vec::with_capacity(self.alloc, 1)?;
-                one_in(room, self.node.checkpoint(rt))
-            }
+            Call::Propose => self.propose(),
+            Call::Checkpoint => self.checkpoint(rt),
             Call::Execute => self.execute(rt),
         }
+    }
+
+    // the list for a message that is given alone is made before the call
+    fn propose(&mut self) -> Result<Vec<Signed<Message>>, NodeError> {
+        let room = Vec::with_capacity(self.alloc, 1)?;
+        let time = Time::new(1, 0).unwrap_or(Time::epoch());
+        one_in(room, self.node.propose(time))
+    }
+
+    fn checkpoint<R: Threads + Sync>(&mut self, rt: &R) -> Result<Vec<Signed<Message>>, NodeError> {
+        let room = Vec::with_capacity(self.alloc, 1)?;
+        one_in(room, self.node.checkpoint(rt))
     }
 
     fn execute<R: Threads + Wait + Sync>(
@@ -178,13 +183,10 @@ impl Replica {
         call: Call<'_>,
         before: Shown,
     ) -> Result<Vec<Signed<Message>>, Silence> {
-        if self.shown() != before {
-            return Err(Silence::IsWrong);
-        }
         if matches!(call, Call::Execute) {
-            return Err(self.failure(rt));
+            return Err(self.failure(rt, before));
         }
-        if self.digest(rt) != self.digest {
+        if !self.is_as(rt, before, true) {
             return Err(Silence::IsWrong);
         }
         match self.once(rt, call) {
@@ -194,11 +196,10 @@ impl Replica {
     }
 
     // whether nothing but its file system has failed
-    fn failure<R: Threads + Wait + Sync>(&mut self, rt: &R) -> Silence {
-        let before = self.shown();
+    fn failure<R: Threads + Wait + Sync>(&mut self, rt: &R, before: Shown) -> Silence {
+        let failed = self.is_as(rt, before, false) && self.digest(rt).is_none();
         let again = self.execute(rt).err();
-        let has_failed = !self.node.is_live() && !self.node.is_ready() && self.digest(rt).is_none();
-        if has_failed && again == Some(NodeError::Failed) && self.shown() == before {
+        if failed && again == Some(NodeError::Failed) && self.is_as(rt, before, false) {
             Silence::HasFailed
         } else {
             Silence::IsWrong
@@ -243,15 +244,19 @@ impl Replica {
     /// that is so.
     pub fn adopts<R: Threads + Sync>(&mut self, rt: &R, snapshot: &Snapshot) -> bool {
         let (before, live) = (self.shown(), self.node.is_live());
-        let mut given = self.adopts_once(rt, snapshot);
-        if given == Err(NodeError::Memory) {
-            let is_as_it_was = self.shown() == before && self.node.is_live() == live;
-            if !is_as_it_was || (live && self.digest(rt) != self.digest) {
-                return false;
+        let took = match self.adopts_once(rt, snapshot) {
+            Err(NodeError::Memory) => {
+                self.is_as(rt, before, live) && self.adopts_once(rt, snapshot).is_ok()
             }
-            given = self.adopts_once(rt, snapshot);
-        }
+            given => given.is_ok(),
+        };
         self.digest = self.digest(rt);
-        given == Ok(()) && self.digest.is_some()
+        took && self.digest.is_some()
+    }
+
+    fn is_as<R: Threads + Sync>(&self, rt: &R, before: Shown, live: bool) -> bool {
+        self.shown() == before
+            && self.node.is_live() == live
+            && (!live || self.digest(rt) == self.digest)
     }
 }

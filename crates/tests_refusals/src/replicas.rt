@@ -1,6 +1,6 @@
 //! Four replicas, of which one may be faulty, and bytes on their way between them.
 use crate::replica::{Call, Replica, Silence, Standing};
-use crate::requests::request;
+use crate::requests::{large_request, request};
 use bfs_messages::{Message, Signed, encode};
 use bfs_types::Memory;
 use std::alloc::Global;
@@ -142,6 +142,17 @@ impl Replicas {
         timestamp: u32,
     ) -> Result<bool, Memory> {
         let bytes = request(self.alloc, timestamp)?;
+        self.ask_each(rt, numbers, Call::Deliver(bytes.as_slice()))
+    }
+
+    /// A large request of that timestamp comes to these.
+    pub fn large_request<R: Threads + Wait + Sync>(
+        &mut self,
+        rt: &R,
+        numbers: &[usize],
+        timestamp: u32,
+    ) -> Result<bool, Memory> {
+        let bytes = large_request(self.alloc, timestamp)?;
         self.ask_each(rt, numbers, Call::Deliver(bytes.as_slice()))
     }
 

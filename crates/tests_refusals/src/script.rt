@@ -16,6 +16,8 @@ pub const BACKUPS: &[usize] = &[1, 2, 3];
 pub enum Event {
     /// The client's request of that timestamp comes to these.
     Ask(&'static [usize], u32),
+    /// A large request of that timestamp comes to these.
+    AskMuch(&'static [usize], u32),
     /// A replica proposes what waits.
     Propose(usize),
     /// Time runs out at each of these.
@@ -69,6 +71,7 @@ fn happens<R: Threads + Wait + Sync>(
 ) -> Result<bool, Memory> {
     match event {
         Event::Ask(numbers, timestamp) => all.request(rt, numbers, timestamp),
+        Event::AskMuch(numbers, timestamp) => all.large_request(rt, numbers, timestamp),
         Event::Propose(number) => all.ask(rt, number, Call::Propose),
         Event::TimeOut(numbers) => all.ask_each(rt, numbers, Call::TimeOut),
         Event::HandOver(numbers) => all.hand_over(rt, numbers),

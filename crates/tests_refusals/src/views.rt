@@ -42,3 +42,20 @@ fn what_was_prepared_is_executed(rt: HostRuntime) -> Result<(), Fail> {
     same!(rt; wrong_in_both(&rt, rt.alloc(), &PREPARED)?, (None, true));
     Ok(())
 }
+
+// so many bytes that threads check whose they are
+static MUCH: [Event; 7] = [
+    Event::AskMuch(ALL, 7),
+    Event::AskMuch(ALL, 8),
+    Event::AskMuch(ALL, 9),
+    Event::Propose(0),
+    Event::Settle(ALL),
+    Event::Stand(ALL, Standing(0, 1, 0)),
+    Event::Agree(ALL),
+];
+
+#[test]
+fn much_is_ordered(rt: HostRuntime) -> Result<(), Fail> {
+    same!(rt; wrong_in_both(&rt, rt.alloc(), &MUCH)?, (None, true));
+    Ok(())
+}
