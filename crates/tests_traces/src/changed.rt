@@ -49,14 +49,20 @@ fn is_hex(word: &[u8]) -> bool {
     !word.is_empty() && word.len() % 2 == 0 && word.iter().all(|byte| byte.is_ascii_hexdigit())
 }
 
+fn is_one_of(word: &[u8], others: &[&str]) -> bool {
+    for other in others {
+        if word == other.as_bytes() {
+            return true;
+        }
+    }
+    false
+}
+
 fn is_call(words: &[&[u8]]) -> bool {
     match words {
-        [verb] => *verb == b"null" || *verb == b"root" || *verb == b"writecache",
-        [verb, word] => {
-            (*verb == b"raw" && is_hex(word))
-                || ((*verb == b"getattr" || *verb == b"statfs" || *verb == b"readlink")
-                    && is_handle(word))
-        }
+        [verb] => is_one_of(verb, &["null", "root", "writecache"]),
+        [verb, word] if is_one_of(verb, &["raw"]) => is_hex(word),
+        [verb, word] => is_one_of(verb, &["getattr", "statfs", "readlink"]) && is_handle(word),
         _ => false,
     }
 }
@@ -85,9 +91,9 @@ enum Line {
 
 fn line_of(words: &[&[u8]]) -> Line {
     match words {
-        [word] if *word == b"timeout" => Line::Event,
-        [word, time] if *word == b"batch" && is_time(time) => Line::Batch,
-        [word, replica] if *word == b"silent" || *word == b"heard" => match number(replica, 3) {
+        [word] if is_one_of(word, &["timeout"]) => Line::Event,
+        [word, time] if is_one_of(word, &["batch"]) && is_time(time) => Line::Batch,
+        [word, replica] if is_one_of(word, &["silent", "heard"]) => match number(replica, 3) {
             Some(_) => Line::Event,
             None => Line::Fault,
         },
