@@ -40,7 +40,11 @@ impl<'a> Cursor<'a> {
 
     /// A word that is just that.
     pub fn just(&mut self, wanted: u32) -> Option<()> {
-        if self.word()? == wanted { Some(()) } else { None }
+        if self.word()? == wanted {
+            Some(())
+        } else {
+            None
+        }
     }
 
     /// Two words, as one number.

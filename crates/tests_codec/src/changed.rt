@@ -87,17 +87,25 @@ fn is_taken(alloc: Global, replica: u32, bytes: &[u8]) -> Result<bool, Memory> {
 // behind the body and the count of entries
 const FIRST_ENTRY: usize = 60;
 
+fn with_change(alloc: Global, bytes: &[u8], place: usize) -> Result<Vec<u8>, Memory> {
+    let mut changed = bytes.to_vec(alloc)?;
+    if let Some(byte) = changed.get_mut(place) {
+        *byte ^= 1;
+    }
+    Ok(changed)
+}
+
+// the bytes of the first entry
 #[test]
 fn a_changed_keyed_hash_is_read_and_fails_at_its_replica(rt: HostRuntime) -> Result<(), Fail> {
     let alloc = rt.alloc();
-    let mut bytes = hex::decode(alloc, PREPARE)?;
+    let bytes = hex::decode(alloc, PREPARE)?;
     same!(rt; bytes.len(), FIRST_ENTRY + 4 * 32);
-    for place in 0..32 {
-        bytes.as_mut_slice()[FIRST_ENTRY + place] ^= 1;
-        holds!(rt; !is_taken(alloc, 0, bytes.as_slice())?);
-        holds!(rt; is_taken(alloc, 1, bytes.as_slice())?);
-        bytes.as_mut_slice()[FIRST_ENTRY + place] ^= 1;
-    }
     holds!(rt; is_taken(alloc, 0, bytes.as_slice())?);
+    for place in FIRST_ENTRY..FIRST_ENTRY + 32 {
+        let changed = with_change(alloc, bytes.as_slice(), place)?;
+        holds!(rt; !is_taken(alloc, 0, changed.as_slice())?);
+        holds!(rt; is_taken(alloc, 1, changed.as_slice())?);
+    }
     Ok(())
 }

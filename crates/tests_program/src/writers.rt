@@ -1,7 +1,7 @@
 //! Where the run of a trace stops, whichever write of its output is refused.
 use bfs_replay::{
-    Executor, ReplayError, Settings, Trace, Workers, default_settings, parse_settings,
-    parse_trace, population_of, run_trace,
+    Executor, ReplayError, Settings, Trace, Workers, default_settings, parse_settings, parse_trace,
+    population_of, run_trace,
 };
 use bfs_testing::asserts::compared;
 use bfs_testing::holds;

@@ -95,7 +95,11 @@ impl Replica {
 
     /// How it stands.
     pub fn standing(&self) -> Standing {
-        Standing(self.node.view(), self.node.last_executed(), self.node.pending())
+        Standing(
+            self.node.view(),
+            self.node.last_executed(),
+            self.node.pending(),
+        )
     }
 
     fn shown(&self) -> Shown {
@@ -236,8 +240,11 @@ impl Replica {
         rt: &R,
         snapshot: &Snapshot,
     ) -> Result<(), NodeError> {
-        self.node
-            .adopt(rt, snapshot.text.as_slice(), snapshot.certificate.as_slice())
+        self.node.adopt(
+            rt,
+            snapshot.text.as_slice(),
+            snapshot.certificate.as_slice(),
+        )
     }
 
     /// It adopts the stable snapshot of another replica. Where memory runs out, it is to be as it was, and is asked again. It gives whether all

@@ -245,7 +245,9 @@ impl Replicas {
         for number in numbers {
             let other = (*number + 1) % 4;
             let has_failed = self.digest(rt, *number).is_none();
-            if has_failed && !(self.adopt(rt, *number, other)? && self.goes_on(rt, *number, false)?) {
+            if has_failed
+                && !(self.adopt(rt, *number, other)? && self.goes_on(rt, *number, false)?)
+            {
                 return Ok(false);
             }
         }

@@ -27,6 +27,6 @@ pub fn request(alloc: Global, timestamp: u32) -> Result<Vec<u8>, Memory> {
 pub fn large_request(alloc: Global, timestamp: u32) -> Result<Vec<u8>, Memory> {
     let mut bytes = call(alloc, timestamp, 8)?;
     put_parts(&mut bytes, &[ROOT, &[0, 0, 0, 8_192]])?;
-    bytes.extend_from_slice(&[7; 8_192])?;
+    bytes.extend_from_slice(Vec::from_elem(alloc, 7u8, 8_192)?.as_slice())?;
     signed(alloc, timestamp, &bytes)
 }

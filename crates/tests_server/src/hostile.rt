@@ -58,7 +58,11 @@ fn cuts(alloc: Global, bytes: &[u8]) -> Result<Batch, Fail> {
 fn are_refused(alloc: Global, replies: &Replies) -> Result<(), Fail> {
     let garbage = spelled(alloc, &[&[1, 1, 0, 0, 0, 4]])?;
     for length in 0..replies.len() {
-        let wanted = if length < HEADER { &[] } else { garbage.as_slice() };
+        let wanted = if length < HEADER {
+            &[]
+        } else {
+            garbage.as_slice()
+        };
         same_bytes(alloc, replies.get(length), wanted)?;
     }
     Ok(())
@@ -107,14 +111,30 @@ static LONG: [Long; 8] = [
     Long(&[HEAD, &[0, 401]], 404 + 8 + 32, NOTHING),
     Long(&[HEAD, &[0, 0xffffffff]], 8 + 32, NOTHING),
     // 17 gids, and a byte behind none
-    Long(&[HEAD, &[1, 28 + 68], SOMEBODY, &[17]], 68 + 8 + 32, BAD_CREDENTIAL),
-    Long(&[HEAD, &[1, 28 + 1], SOMEBODY, &[0]], 4 + 8 + 32, BAD_CREDENTIAL),
+    Long(
+        &[HEAD, &[1, 28 + 68], SOMEBODY, &[17]],
+        68 + 8 + 32,
+        BAD_CREDENTIAL,
+    ),
+    Long(
+        &[HEAD, &[1, 28 + 1], SOMEBODY, &[0]],
+        4 + 8 + 32,
+        BAD_CREDENTIAL,
+    ),
     // a name, a path and data of a byte more than is taken
     Long(&[LOOKUP_HEAD, ROOT, &[256]], 256, GARBAGE),
-    Long(&[SYMLINK_HEAD, ROOT, NO_NAME, &[1_025]], 1_028 + 32, GARBAGE),
+    Long(
+        &[SYMLINK_HEAD, ROOT, NO_NAME, &[1_025]],
+        1_028 + 32,
+        GARBAGE,
+    ),
     Long(&[WRITE_HEAD, THIRD, &[0, 0, 0, 8_193]], 8_196, GARBAGE),
     // and of the most bytes: the file is not there
-    Long(&[WRITE_HEAD, THIRD, &[0, 0, 0, 8_192]], 8_192, &[9, 1, 0, 0, 0, 0, 70]),
+    Long(
+        &[WRITE_HEAD, THIRD, &[0, 0, 0, 8_192]],
+        8_192,
+        &[9, 1, 0, 0, 0, 0, 70],
+    ),
 ];
 
 fn long_request(alloc: Global, words: &[&[u32]], zeros: usize) -> Result<Vec<u8>, Fail> {

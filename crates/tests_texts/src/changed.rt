@@ -62,7 +62,11 @@ fn file_system(cursor: &mut Cursor<'_>) -> Option<()> {
         fileid = rising(cursor, fileid)?;
         inode(cursor)?;
     }
-    if cursor.left().is_empty() { Some(()) } else { None }
+    if cursor.left().is_empty() {
+        Some(())
+    } else {
+        None
+    }
 }
 
 // the number by which a text is refused that is malformed or of another version

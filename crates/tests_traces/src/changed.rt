@@ -22,7 +22,11 @@ fn number(word: &[u8], most: u64) -> Option<u64> {
         }
         value = value.checked_mul(10)?.checked_add((*byte - b'0') as u64)?;
     }
-    if word.is_empty() || most < value { None } else { Some(value) }
+    if word.is_empty() || most < value {
+        None
+    } else {
+        Some(value)
+    }
 }
 
 // seconds, and six digits behind a point
@@ -142,7 +146,10 @@ fn told(alloc: Global, text: &[u8]) -> Result<usize, Fail> {
 fn judge(alloc: Global, changes: &mut Changes, text: &[u8], other: &[u8]) -> Result<bool, Fail> {
     let (change, changed): (Change, Vec<u8>) = changes.changed(alloc, text, other)?;
     let line = told(alloc, changed.as_slice())?;
-    compared((change, line), (change, first_fault(alloc, changed.as_slice())?))?;
+    compared(
+        (change, line),
+        (change, first_fault(alloc, changed.as_slice())?),
+    )?;
     Ok(line == 0)
 }
 
