@@ -148,10 +148,14 @@ fn long_request(alloc: Global, words: &[&[u32]], zeros: usize) -> Result<Vec<u8>
 fn answers(alloc: Global, Long(words, zeros, reply): &Long) -> Result<(), Fail> {
     let mut batch = Batch::new(alloc);
     batch.push(long_request(alloc, words, *zeros)?.as_slice())?;
-    let replies = execute_serial(alloc, &mut FileSystem::new(alloc)?, &batch)?;
+    let mut files = FileSystem::new(alloc)?;
+    let replies = execute_serial(alloc, &mut files, &batch)?;
     compared(replies.len(), 1)?;
     let wanted = spelled(alloc, &[*reply])?;
-    same_bytes(alloc, replies.get(0), wanted.as_slice())
+    for index in 0..replies.len() {
+        same_bytes(alloc, replies.get(index), wanted.as_slice())?;
+    }
+    Ok(())
 }
 
 #[test]

@@ -17,10 +17,11 @@ const OTHER: &[u8] = b"batch 2.000001\n3 4 readlink #16\n3 5 null\nsilent 0\nhea
 fn number(word: &[u8], most: u64) -> Option<u64> {
     let mut value: u64 = 0;
     for byte in word {
-        if !byte.is_ascii_digit() {
+        let digit = byte.checked_sub(b'0')?;
+        if 9 < digit {
             return None;
         }
-        value = value.checked_mul(10)?.checked_add((*byte - b'0') as u64)?;
+        value = value.checked_mul(10)?.checked_add(digit as u64)?;
     }
     if word.is_empty() || most < value {
         None
