@@ -7,6 +7,18 @@ use crate::words::{A, B, C, D, DOT, DOT_DOT, E, F, NO_NAME, SIZE_OF_ONE, UNSET, 
 use bfs_types::Memory;
 use std::alloc::Global;
 
+/// The state behind another one, from which numbers are drawn.
+pub(crate) fn following(state: u64) -> u64 {
+    state
+        .wrapping_mul(6_364_136_223_846_793_005)
+        .wrapping_add(1_442_695_040_888_963_407)
+}
+
+/// The number that is drawn, below 2^24.
+pub(crate) fn drawn(state: u64) -> u32 {
+    (state >> 40) as u32
+}
+
 /// What draws the numbers, and what requests are made of.
 #[derive(Drop)]
 pub struct Generator {
@@ -25,11 +37,8 @@ pub struct Generator {
 impl Generator {
     /// The next number, below 2^24.
     pub fn next(&mut self) -> u32 {
-        self.state = self
-            .state
-            .wrapping_mul(6_364_136_223_846_793_005)
-            .wrapping_add(1_442_695_040_888_963_407);
-        (self.state >> 40) as u32
+        self.state = following(self.state);
+        drawn(self.state)
     }
 
     /// A request with xid 1 and no credential, of one of the procedures. Of a number that is none, or of a procedure without arguments, it

@@ -2,9 +2,13 @@
 #![tactic(auto)]
 
 #[cfg(test)]
+mod changed;
+#[cfg(test)]
 mod kinds;
 #[cfg(test)]
 mod malformed;
+#[cfg(test)]
+mod readings;
 #[cfg(test)]
 mod sharing;
 #[cfg(test)]

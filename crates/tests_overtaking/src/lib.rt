@@ -6,4 +6,6 @@ mod generated;
 #[cfg(test)]
 mod groups;
 #[cfg(test)]
+mod refusals;
+#[cfg(test)]
 mod worked;

@@ -111,7 +111,7 @@ fn play_ends_with_the_first_refusal(rt: HostRuntime) -> Result<(), Fail> {
     Ok(())
 }
 
-static READS_BETWEEN: &[Asked] = &[
+pub(crate) static READS_BETWEEN: &[Asked] = &[
     Asked(WRITE, &[THIRD, BYTE]),
     Asked(READ, &[THIRD, PLACE]),
     Asked(WRITE, &[FOURTH, BYTE]),
@@ -119,7 +119,7 @@ static READS_BETWEEN: &[Asked] = &[
     Asked(WRITE, &[THIRD, BYTE]),
 ];
 
-static OVERTAKING: &[Event] = &[
+pub(crate) static OVERTAKING: &[Event] = &[
     Event::Take(0),
     Event::Take(2),
     Event::Finish(2),

@@ -2,7 +2,7 @@
 //!
 //! What is printed was put together by hand, from the layouts of RFC 5531 section 9 and RFC 1094 section 2.3, and from what each call does;
 //! the digests are SHA-256 of another implementation's digest of the file system, followed by the text of the table of replies.
-use crate::populations::parse_alone;
+use crate::output::parse_alone;
 use bfs_replay::{Engine, Executor, Workers, default_settings, run_trace};
 use std::sync::Wait;
 use std::test::Fail;

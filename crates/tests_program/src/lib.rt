@@ -1,4 +1,4 @@
-//! The command line, traces and their verbs, and runs of traces, as tests whose expected values come from outside.
+//! The command line and runs of traces, as tests whose expected values come from outside.
 #![tactic(auto)]
 
 #[cfg(test)]
@@ -10,10 +10,6 @@ mod input;
 #[cfg(test)]
 mod output;
 #[cfg(test)]
-mod populations;
-#[cfg(test)]
 mod settings;
 #[cfg(test)]
-mod traces;
-#[cfg(test)]
-mod verbs;
+mod writers;

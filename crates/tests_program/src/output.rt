@@ -1,8 +1,7 @@
 //! What the run of a trace writes, and where it stops.
-use crate::populations::parse_alone;
 use bfs_replay::{
-    Engine, Executor, Failure, Outcome, ReplayError, TraceError, Workers, default_settings,
-    parse_settings, parse_trace, population_of, run_trace,
+    Engine, Executor, Failure, Outcome, Population, ReplayError, Trace, TraceError, Workers,
+    default_settings, parse_settings, parse_trace, population_of, run_trace,
 };
 use bfs_testing::{holds, same};
 use std::alloc::Global;
@@ -11,6 +10,14 @@ use std::io::{ErrorKind, Write};
 use std::sync::Wait;
 use std::test::Fail;
 use std::thread::Threads;
+
+/// Reads a trace of 16 clients and one replica.
+pub(crate) fn parse_alone(alloc: Global, text: &[u8]) -> Result<Trace, TraceError> {
+    match Population::new(16, 1) {
+        Some(population) => parse_trace(alloc, text, population),
+        None => unreachable!(),
+    }
+}
 
 /// One worker, and that engine.
 fn alone(engine: Option<Engine>) -> Executor {

@@ -9,6 +9,8 @@ mod batches;
 #[cfg(test)]
 mod fresh;
 #[cfg(test)]
+mod hostile;
+#[cfg(test)]
 mod limits;
 #[cfg(test)]
 mod parts;

@@ -1,7 +1,8 @@
-//! A batch of many kinds of calls by each engine, whose replies are right, or memory has run out and the file system has failed. Nothing
-//! is refused in the gate's run of the tests: `.ci/refusals` runs this one with each growth of memory, and each start of a thread,
+//! A batch of many kinds of calls by each engine, whose replies are right, or memory has run out and the file system has failed: then what
+//! its text spelled before is restored, and the replies to the batch are right. Nothing is refused in the gate's run of the tests: `.ci/refusals` runs this one with each growth of memory, and each start of a thread,
 //! refused in turn.
 use crate::engines::{ENGINES, batch_of, compare, executor};
+use bfs_digest::{digest_parallel, digest_serial, refresh, restore, snapshot};
 use bfs_executor::Executor;
 use bfs_serial::{Batch, ExecError, FileSystem, execute_serial};
 use bfs_testing::numbers::{
@@ -80,7 +81,7 @@ const A_RENAMED: &[u32] = attributes!(file 4, links 1, size 1, blocks 1, times 1
 #[test]
 fn replies_rightly_or_has_failed(rt: HostRuntime) -> Result<(), Fail> {
     for engine in ENGINES {
-        for count in [1, 2, 4] {
+        for count in [1, 2, 7] {
             let executor = executor(*engine, count).ok_or("workers")?;
             replies_or_fails(&rt, executor)?;
         }
@@ -95,11 +96,14 @@ fn replies_or_fails<R: Threads + Wait + AllocGlobal + Abort + Sync>(
     let alloc = rt.alloc();
     let mut files = FileSystem::new(alloc)?;
     execute_serial(alloc, &mut files, &batch_of(alloc, 1, MADE)?)?;
+    let text = snapshot(alloc, &files)?;
     let batch = batch_of(alloc, 2, ASKED)?;
     match executor.execute(rt, alloc, &mut files, &batch, &AsksForThreads) {
         Ok(replies) => compare(alloc, &replies, ASKED),
         Err(error) => {
             has_failed(rt, executor, &mut files, &batch);
+            tells_nothing(rt, &mut files);
+            is_executed(rt, executor, restore(alloc, text.as_slice())?, &batch)?;
             Err(error.into())
         }
     }
@@ -119,4 +123,26 @@ fn has_failed<R: Threads + Wait + AllocGlobal + Abort + Sync>(
     holds!(rt; execute_serial(alloc, files, batch).err() == Some(ExecError::Failed));
     holds!(rt; executor.execute(rt, alloc, files, batch, &AsksForThreads).err() == Some(ExecError::Failed));
     holds!(rt; !files.is_live());
+}
+
+// whether it has no text and no digest any more
+fn tells_nothing<R: Threads + AllocGlobal + Abort + Sync>(rt: &R, files: &mut FileSystem) {
+    let alloc = rt.alloc();
+    holds!(rt; snapshot(alloc, files).err() == Some(ExecError::Failed));
+    holds!(rt; digest_serial(files).err() == Some(ExecError::Failed));
+    holds!(rt; digest_parallel(rt, alloc, files).err() == Some(ExecError::Failed));
+    holds!(rt; refresh(rt, alloc, files).err() == Some(ExecError::Failed));
+    holds!(rt; !files.is_live());
+}
+
+// executes the batch, and compares its replies
+fn is_executed<R: Threads + Wait + AllocGlobal + Sync>(
+    rt: &R,
+    executor: Executor,
+    mut files: FileSystem,
+    batch: &Batch,
+) -> Result<(), Fail> {
+    let alloc = rt.alloc();
+    let replies = executor.execute(rt, alloc, &mut files, batch, &AsksForThreads)?;
+    compare(alloc, &replies, ASKED)
 }

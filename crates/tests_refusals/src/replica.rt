@@ -1,0 +1,269 @@
+//! One replica, which is looked at where memory runs out, and then asked again.
+use bfs_messages::{Message, Signed};
+use bfs_node::{Executor, NoGate, Node, NodeError, Workers};
+use bfs_settings::Settings;
+use bfs_types::{Memory, Time};
+use std::alloc::Global;
+use std::sync::Wait;
+use std::thread::Threads;
+
+pub const SECRET: &[u8] = &[0; 32];
+
+pub const CLIENTS: u32 = 2;
+
+/// What is asked of a replica.
+#[derive(Clone, Copy)]
+pub enum Call<'a> {
+    /// To take the bytes of a message.
+    Deliver(&'a [u8]),
+    /// To propose what waits.
+    Propose,
+    /// To leave its view.
+    TimeOut,
+    /// To execute the next batch.
+    Execute,
+    /// To make a checkpoint.
+    Checkpoint,
+}
+
+/// Why nothing is sent.
+#[derive(Clone, Copy, Debug, PartialEq, Eq)]
+pub enum Silence {
+    /// The call is refused, by that number.
+    Refused(u32),
+    /// Memory ran out while a batch was executed, and the replica is as it must be then.
+    HasFailed,
+    /// Memory ran out, and the replica is not as it must be then.
+    IsWrong,
+}
+
+/// How a replica stands: its view, the number last executed, and how many requests wait.
+#[derive(Clone, Copy, Debug, PartialEq, Eq)]
+pub struct Standing(pub u64, pub u64, pub u32);
+
+// what shows of it: besides, how many CHECKPOINTs and bytes its stable snapshot has
+type Shown = (Standing, Option<(usize, usize)>);
+
+/// A replica, with the digest that it has.
+#[derive(Drop)]
+pub struct Replica {
+    alloc: Global,
+    node: Node,
+    digest: Option<[u8; 32]>,
+}
+
+/// A stable snapshot, and the CHECKPOINTs that tell its digest.
+#[derive(Drop)]
+pub struct Snapshot {
+    text: Vec<u8>,
+    certificate: Vec<Signed<Message>>,
+}
+
+fn node(alloc: Global, me: u32) -> Result<Node, Memory> {
+    let Ok(settings) = Settings::new(alloc, 1, CLIENTS, SECRET) else {
+        return Err(Memory);
+    };
+    if me < settings.replicas() {
+        Node::new(alloc, &settings, me)
+    } else {
+        Err(Memory)
+    }
+}
+
+// a list with room for it
+fn one_in(
+    mut room: Vec<Signed<Message>>,
+    given: Result<Signed<Message>, NodeError>,
+) -> Result<Vec<Signed<Message>>, NodeError> {
+    match room.push(given?) {
+        Ok(()) => Ok(room),
+        Err(_) => Err(NodeError::Memory),
+    }
+}
+
+impl Replica {
+    /// The replica of that number among four, which has done nothing.
+    pub fn new<R: Threads + Sync>(rt: &R, alloc: Global, me: u32) -> Result<Replica, Memory> {
+        let mut replica = Replica {
+            alloc,
+            node: node(alloc, me)?,
+            digest: None,
+        };
+        replica.digest = Some(replica.digest(rt).ok_or(Memory)?);
+        Ok(replica)
+    }
+
+    /// How it stands.
+    pub fn standing(&self) -> Standing {
+        Standing(
+            self.node.view(),
+            self.node.last_executed(),
+            self.node.pending(),
+        )
+    }
+
+    fn shown(&self) -> Shown {
+        let stable = match self.node.stable() {
+            Some((text, certificate)) => Some((certificate.len(), text.len())),
+            None => None,
+        };
+        (self.standing(), stable)
+    }
+
+    /// Its digest, if it has not failed. Where memory runs out, it is asked again.
+    pub fn digest<R: Threads + Sync>(&self, rt: &R) -> Option<[u8; 32]> {
+        match self.node.digest(rt) {
+            Err(NodeError::Memory) => self.node.digest(rt).ok(),
+            given => given.ok(),
+        }
+    }
+
+    /// Whether it has a stable snapshot that so many CHECKPOINTs tell.
+    pub fn has_stable(&self, checkpoints: usize) -> bool {
+        match self.node.stable() {
+            Some((_, certificate)) => certificate.len() == checkpoints,
+            None => false,
+        }
+    }
+
+    fn once<R: Threads + Wait + Sync>(
+        &mut self,
+        rt: &R,
+        call: Call<'_>,
+    ) -> Result<Vec<Signed<Message>>, NodeError> {
+        match call {
+            Call::Deliver(bytes) => self.node.deliver(rt, bytes),
+            Call::TimeOut => self.node.timeout(),
+            Call::Propose => self.propose(),
+            Call::Checkpoint => self.checkpoint(rt),
+            Call::Execute => self.execute(rt),
+        }
+    }
+
+    // the list for a message that is given alone is made before the call
+    fn propose(&mut self) -> Result<Vec<Signed<Message>>, NodeError> {
+        let room = Vec::with_capacity(self.alloc, 1)?;
+        let time = Time::new(1, 0).unwrap_or(Time::epoch());
+        one_in(room, self.node.propose(time))
+    }
+
+    fn checkpoint<R: Threads + Sync>(&mut self, rt: &R) -> Result<Vec<Signed<Message>>, NodeError> {
+        let room = Vec::with_capacity(self.alloc, 1)?;
+        one_in(room, self.node.checkpoint(rt))
+    }
+
+    fn execute<R: Threads + Wait + Sync>(
+        &mut self,
+        rt: &R,
+    ) -> Result<Vec<Signed<Message>>, NodeError> {
+        let executor = Executor {
+            workers: Workers::one(),
+            engine: None,
+        };
+        match self.node.execute_ready(rt, executor, &NoGate)? {
+            Some(replies) => Ok(replies),
+            None => Ok(Vec::new(self.alloc)),
+        }
+    }
+
+    /// Does what it is asked, and gives what it sends. Where memory runs out, it is to be as it was, and to do the same when it is asked again;
+    /// but where it executes a batch, its file system has failed, and it executes nothing when it is asked again.
+    pub fn does<R: Threads + Wait + Sync>(
+        &mut self,
+        rt: &R,
+        call: Call<'_>,
+    ) -> Result<Vec<Signed<Message>>, Silence> {
+        let before = self.shown();
+        match self.once(rt, call) {
+            Ok(sent) => Ok(sent),
+            Err(NodeError::Memory) => self.does_again(rt, call, before),
+            Err(error) => Err(Silence::Refused(error.code())),
+        }
+    }
+
+    fn does_again<R: Threads + Wait + Sync>(
+        &mut self,
+        rt: &R,
+        call: Call<'_>,
+        before: Shown,
+    ) -> Result<Vec<Signed<Message>>, Silence> {
+        if matches!(call, Call::Execute) {
+            return Err(self.failure(rt, before));
+        }
+        if !self.is_as(rt, before, true) {
+            return Err(Silence::IsWrong);
+        }
+        match self.once(rt, call) {
+            Ok(sent) => Ok(sent),
+            Err(error) => Err(Silence::Refused(error.code())),
+        }
+    }
+
+    // whether nothing but its file system has failed
+    fn failure<R: Threads + Wait + Sync>(&mut self, rt: &R, before: Shown) -> Silence {
+        let failed = self.is_as(rt, before, false) && self.digest(rt).is_none();
+        let again = self.execute(rt).err();
+        if failed && again == Some(NodeError::Failed) && self.is_as(rt, before, false) {
+            Silence::HasFailed
+        } else {
+            Silence::IsWrong
+        }
+    }
+
+    /// It executes the next batch, and gives what it sends. Its digest is noted.
+    pub fn goes_on<R: Threads + Wait + Sync>(
+        &mut self,
+        rt: &R,
+    ) -> Result<Vec<Signed<Message>>, Silence> {
+        let sent = self.does(rt, Call::Execute)?;
+        self.digest = self.digest(rt);
+        Ok(sent)
+    }
+
+    /// A copy of its stable snapshot, if it has one.
+    pub fn snapshot(&self) -> Result<Option<Snapshot>, Memory> {
+        let Some((text, certificate)) = self.node.stable() else {
+            return Ok(None);
+        };
+        let mut copies = Vec::new(self.alloc);
+        for signed in certificate {
+            copies.push(signed.try_clone(self.alloc)?)?;
+        }
+        Ok(Some(Snapshot {
+            text: text.to_vec(self.alloc)?,
+            certificate: copies,
+        }))
+    }
+
+    fn adopts_once<R: Threads + Sync>(
+        &mut self,
+        rt: &R,
+        snapshot: &Snapshot,
+    ) -> Result<(), NodeError> {
+        self.node.adopt(
+            rt,
+            snapshot.text.as_slice(),
+            snapshot.certificate.as_slice(),
+        )
+    }
+
+    /// It adopts the stable snapshot of another replica. Where memory runs out, it is to be as it was, and is asked again. It gives whether all
+    /// that is so.
+    pub fn adopts<R: Threads + Sync>(&mut self, rt: &R, snapshot: &Snapshot) -> bool {
+        let (before, live) = (self.shown(), self.node.is_live());
+        let took = match self.adopts_once(rt, snapshot) {
+            Err(NodeError::Memory) => {
+                self.is_as(rt, before, live) && self.adopts_once(rt, snapshot).is_ok()
+            }
+            given => given.is_ok(),
+        };
+        self.digest = self.digest(rt);
+        took && self.digest.is_some()
+    }
+
+    fn is_as<R: Threads + Sync>(&self, rt: &R, before: Shown, live: bool) -> bool {
+        self.shown() == before
+            && self.node.is_live() == live
+            && (!live || self.digest(rt) == self.digest)
+    }
+}

@@ -1,0 +1,129 @@
+//! What happens to four replicas, one event after another, as tables. The proof of a test that tells them by calls takes many times as long.
+use crate::replica::{Call, Standing};
+use crate::replicas::Replicas;
+use bfs_types::Memory;
+use std::alloc::Global;
+use std::sync::Wait;
+use std::thread::Threads;
+
+pub const ALL: &[usize] = &[0, 1, 2, 3];
+
+/// All but the primary of view 0.
+pub const BACKUPS: &[usize] = &[1, 2, 3];
+
+/// What happens, or what is to hold then.
+#[derive(Clone, Copy)]
+pub enum Event {
+    /// The client's request of that timestamp comes to these.
+    Ask(&'static [usize], u32),
+    /// A large request of that timestamp comes to these.
+    AskMuch(&'static [usize], u32),
+    /// A replica proposes what waits.
+    Propose(usize),
+    /// Time runs out at each of these.
+    TimeOut(&'static [usize]),
+    /// What is on its way comes to these, and what they send then is on its way.
+    HandOver(&'static [usize]),
+    /// What is on its way is lost.
+    Lose,
+    /// These execute what is next, and make a checkpoint where one is due. One may fail.
+    Execute(&'static [usize]),
+    /// Messages come to these until none is on its way, and they execute what is next.
+    Settle(&'static [usize]),
+    /// So many batches without requests are proposed by replica 0, and executed by these.
+    Batches(&'static [usize], u32),
+    /// Those of these that have failed adopt another one's stable snapshot, and execute what is next.
+    Mend(&'static [usize]),
+    /// A replica adopts the stable snapshot of another one.
+    Adopt(usize, usize),
+    /// Each of these stands so.
+    Stand(&'static [usize], Standing),
+    /// Each of these has a stable snapshot that so many CHECKPOINTs tell.
+    HaveStable(&'static [usize], usize),
+    /// These have the same digest.
+    Agree(&'static [usize]),
+}
+
+fn batches<R: Threads + Wait + Sync>(
+    rt: &R,
+    all: &mut Replicas,
+    heard: &[usize],
+    count: u32,
+) -> Result<bool, Memory> {
+    for _ in 0..count {
+        if !all.ask(rt, 0, Call::Propose)? || !all.settle(rt, heard)? {
+            return Ok(false);
+        }
+    }
+    Ok(true)
+}
+
+fn lose(all: &mut Replicas) -> bool {
+    all.lose();
+    true
+}
+
+// whether it comes as it is told
+fn happens<R: Threads + Wait + Sync>(
+    rt: &R,
+    all: &mut Replicas,
+    event: Event,
+) -> Result<bool, Memory> {
+    match event {
+        Event::Ask(numbers, timestamp) => all.request(rt, numbers, timestamp),
+        Event::AskMuch(numbers, timestamp) => all.large_request(rt, numbers, timestamp),
+        Event::Propose(number) => all.ask(rt, number, Call::Propose),
+        Event::TimeOut(numbers) => all.ask_each(rt, numbers, Call::TimeOut),
+        Event::HandOver(numbers) => all.hand_over(rt, numbers),
+        Event::Lose => Ok(lose(all)),
+        Event::Execute(numbers) => all.execute(rt, numbers, true),
+        Event::Settle(numbers) => all.settle(rt, numbers),
+        Event::Batches(numbers, count) => batches(rt, all, numbers, count),
+        Event::Mend(numbers) => all.mend(rt, numbers),
+        Event::Adopt(number, from) => all.adopt(rt, number, from),
+        Event::Stand(numbers, wanted) => Ok(all.stand(numbers, wanted)),
+        Event::HaveStable(numbers, count) => Ok(all.have_stable(numbers, count)),
+        Event::Agree(numbers) => Ok(all.agree(rt, numbers)),
+    }
+}
+
+// the place of the first event that does not come as it is told
+fn first_wrong<R: Threads + Wait + Sync>(
+    rt: &R,
+    all: &mut Replicas,
+    events: &[Event],
+) -> Result<Option<usize>, Memory> {
+    for (place, event) in events.iter().enumerate() {
+        if !happens(rt, all, *event)? {
+            return Ok(Some(place));
+        }
+    }
+    Ok(None)
+}
+
+/// The place of the first event that does not come as it is told, at four replicas that have done nothing.
+pub fn wrong_in<R: Threads + Wait + Sync>(
+    rt: &R,
+    alloc: Global,
+    events: &[Event],
+) -> Result<Option<usize>, Memory> {
+    let mut all = Replicas::new(rt, alloc)?;
+    first_wrong(rt, &mut all, events)
+}
+
+/// The same at four replicas and at four others, whether memory ran out at one of them or not, and whether both then have sent the same.
+pub fn wrong_in_both<R: Threads + Wait + Sync>(
+    rt: &R,
+    alloc: Global,
+    events: &[Event],
+) -> Result<(Option<usize>, bool), Memory> {
+    let mut all = Replicas::new(rt, alloc)?;
+    let mut others = Replicas::new(rt, alloc)?;
+    match first_wrong(rt, &mut all, events)? {
+        None => {
+            let wrong = first_wrong(rt, &mut others, events)?;
+            Ok((wrong, all.said() == others.said()))
+        }
+        wrong => Ok((wrong, false)),
+    }
+}

@@ -1,0 +1,154 @@
+//! Texts of file systems that were cut, changed, mixed and lengthened at random. A reading of the format that shares nothing with the code decides
+//! which of them are malformed (20) and which are of another version (22). It does not look whether the others are well formed: of these each
+//! is refused for that (21), or read and written again to the same bytes.
+use crate::texts::{bytes_of, refusal};
+use bfs_digest::{restore, snapshot};
+use bfs_testing::asserts::compared;
+use bfs_testing::changes::{Change, Changes};
+use bfs_testing::cursors::Cursor;
+use bfs_testing::holds;
+use bfs_testing::texts::{NEARLY_SPENT, NEW, SOME};
+use std::alloc::Global;
+use std::test::Fail;
+
+fn time(cursor: &mut Cursor<'_>) -> Option<()> {
+    cursor.word()?;
+    cursor.word_up_to(999_999)?;
+    Some(())
+}
+
+// a number above the last one
+fn rising(cursor: &mut Cursor<'_>, last: u32) -> Option<u32> {
+    let number = cursor.word()?;
+    if last < number { Some(number) } else { None }
+}
+
+fn directory(cursor: &mut Cursor<'_>) -> Option<()> {
+    cursor.word()?;
+    let mut cookie = 2;
+    for _entry in 0..cursor.word_up_to(65_536)? {
+        cookie = rising(cursor, cookie)?;
+        cursor.opaque(255)?;
+        cursor.word()?;
+    }
+    Some(())
+}
+
+// what stands behind the fileid of an inode
+fn inode(cursor: &mut Cursor<'_>) -> Option<()> {
+    let kind = cursor.word()?;
+    cursor.word_up_to(4_095)?;
+    cursor.take(12)?;
+    for _time in 0u32..3 {
+        time(cursor)?;
+    }
+    match kind {
+        1 => cursor.opaque(1_048_576).map(|_| ()),
+        2 => directory(cursor),
+        5 => cursor.opaque(1_024).map(|_| ()),
+        _ => None,
+    }
+}
+
+// what stands behind the version
+fn file_system(cursor: &mut Cursor<'_>) -> Option<()> {
+    let next = cursor.double()?;
+    if next < 3 || 4_294_967_296 < next {
+        return None;
+    }
+    time(cursor)?;
+    let mut fileid = 1;
+    for _inode in 0..cursor.word()? {
+        fileid = rising(cursor, fileid)?;
+        inode(cursor)?;
+    }
+    if cursor.left().is_empty() {
+        Some(())
+    } else {
+        None
+    }
+}
+
+// the number by which a text is refused that is malformed or of another version
+fn wanted(text: &[u8]) -> Option<u32> {
+    let mut cursor = Cursor::new(text);
+    if cursor.take(4) != Some(b"BFSS".as_slice()) {
+        return Some(20);
+    }
+    match cursor.word() {
+        None => Some(20),
+        Some(1) if file_system(&mut cursor).is_some() => None,
+        Some(1) => Some(20),
+        Some(_) => Some(22),
+    }
+}
+
+// whether it has the text that it was restored from
+fn is_told_again(alloc: Global, text: &[u8]) -> Result<bool, Fail> {
+    Ok(snapshot(alloc, &restore(alloc, text)?)?.as_slice() == text)
+}
+
+// the number by which a text is refused, which is as it is to be
+fn judged(alloc: Global, change: Change, text: &[u8]) -> Result<u32, Fail> {
+    let given = refusal(alloc, text);
+    match wanted(text) {
+        Some(refused) => compared((change, given), (change, refused))?,
+        None if given == 0 => compared((change, is_told_again(alloc, text)?), (change, true))?,
+        None => compared((change, given), (change, 21))?,
+    }
+    if change == Change::Lengthen {
+        compared(given == 20 || given == 22, true)?;
+    }
+    Ok(given)
+}
+
+/// How many were restored, and refused by 20, 21 and 22.
+#[derive(Clone, Copy)]
+struct Counts {
+    restored: u32,
+    malformed: u32,
+    not_formed: u32,
+    others: u32,
+}
+
+impl Counts {
+    fn count(&mut self, refusal: u32) {
+        match refusal {
+            0 => self.restored = self.restored.wrapping_add(1),
+            20 => self.malformed = self.malformed.wrapping_add(1),
+            21 => self.not_formed = self.not_formed.wrapping_add(1),
+            _ => self.others = self.others.wrapping_add(1),
+        }
+    }
+
+    // each came often
+    fn are_many(self) -> bool {
+        100 < self.restored && 100 < self.malformed && 100 < self.not_formed && 10 < self.others
+    }
+}
+
+fn judge_all(alloc: Global, text: &[u8], others: &[u8], counts: &mut Counts) -> Result<(), Fail> {
+    let mut changes = Changes { state: 35 };
+    for _ in 0u32..1_000 {
+        let (change, changed) = changes.changed(alloc, text, others)?;
+        counts.count(judged(alloc, change, changed.as_slice())?);
+    }
+    Ok(())
+}
+
+#[test]
+fn changed_texts_are_read_as_the_format_tells(rt: HostRuntime) -> Result<(), Fail> {
+    let alloc = rt.alloc();
+    let mut counts = Counts {
+        restored: 0,
+        malformed: 0,
+        not_formed: 0,
+        others: 0,
+    };
+    for (text, other) in [(NEW, SOME), (SOME, SOME), (SOME, NEW), (NEW, NEARLY_SPENT)] {
+        let (bytes, others) = (bytes_of(alloc, text)?, bytes_of(alloc, other)?);
+        judge_all(alloc, bytes.as_slice(), others.as_slice(), &mut counts)?;
+    }
+    holds!(rt; counts.are_many());
+    Ok(())
+}
