@@ -145,6 +145,18 @@ fn equivocate(world: &mut World, draws: &mut Generator, lying: &Lying) -> Result
     propose(world, draws, lying, liar, (view, number), to.others())
 }
 
+// what a liar proposed last, or another one of those that were proposed
+fn to_certify(world: &World, draws: &mut Generator, liar: &Liar) -> Option<Vote> {
+    if happens(draws, 60) {
+        for vote in world.proposed.iter().rev() {
+            if vote.sender() == liar.number {
+                return Some(*vote);
+            }
+        }
+    }
+    proposed(world, draws)
+}
+
 // what a liar says in a view change
 fn change(
     world: &World,
@@ -157,7 +169,7 @@ fn change(
         4 => liar.change_behind(world, view, 16),
         _ => {
             let is_forged = happens(draws, 30);
-            let Some(on) = proposed(world, draws) else {
+            let Some(on) = to_certify(world, draws, liar) else {
                 return liar.bare_change(view);
             };
             match liar.certificate(world, &on, is_forged)? {

@@ -56,9 +56,10 @@ fn liars_among(draws: &mut Generator, f: u32) -> Set {
     } else {
         below(draws, count)
     };
-    let apart = below(draws, 3) % 3 + 1;
+    let apart = below(draws, 3).saturating_add(1);
     for which in 0..f % 11 {
-        liars = liars.with(((first % 32 + which * apart) % count) as usize);
+        let behind = first.wrapping_add(which.wrapping_mul(apart));
+        liars = liars.with((behind % count) as usize);
     }
     liars
 }
@@ -269,6 +270,19 @@ pub fn play<R: Threads + Wait + Sync>(
     }
 }
 
+// CHECKPOINTs that are old come again, and two numbers are ordered in the next view
+fn hear_old_checkpoints<R: Threads + Wait + Sync>(
+    rt: &R,
+    world: &mut World,
+    draws: &mut Generator,
+) -> Result<(), Memory> {
+    repeat_kind(world, 5, 16, Set::ALL)?;
+    exchange(rt, world, draws, Set::ALL, 0)?;
+    end(rt, world, draws)?;
+    propose(world, draws)?;
+    exchange(rt, world, draws, Set::ALL, 0)
+}
+
 // now and then behind so many numbers that checkpoints become stable, of which one replica hears the first alone
 fn begin<R: Threads + Wait + Sync>(
     rt: &R,
@@ -279,7 +293,8 @@ fn begin<R: Threads + Wait + Sync>(
     match below(draws, 16) {
         0 => {
             run_up(rt, world, draws, Set::ALL, 17)?;
-            run_up(rt, world, draws, hear, 16)
+            run_up(rt, world, draws, hear, 16)?;
+            hear_old_checkpoints(rt, world, draws)
         }
         1 => run_up(rt, world, draws, hear, 17),
         _ => Ok(()),
