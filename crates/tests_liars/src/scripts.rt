@@ -170,7 +170,7 @@ fn two_adoptions<R: Threads + Wait + Sync>(
 ) -> Result<(u32, u64, u32, u64), Memory> {
     let mut draws = draws_of(1);
     let mut world = World::new(alloc, 1, Set(0))?;
-    run_up(rt, &mut world, &mut draws, Set(0b0111), 16)?;
+    run_up(rt, &mut world, &mut draws, Set(0b0111), 17)?;
     let first = adopted(rt, &mut world, Set(0b1000))?;
     let before = world.standing(3).last;
     let second = adopted(rt, &mut world, Set(0b0111))?;
