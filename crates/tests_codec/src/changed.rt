@@ -3,7 +3,8 @@
 use crate::readings::spell_a_message;
 use crate::spelled::{EACH, MALFORMED, PREPARE};
 use bfs_auth::{Keys, Principal};
-use bfs_messages::{DecodeError, decode, encode, is_signed};
+use bfs_codec::{DecodeError, decode, encode};
+use bfs_messages::is_signed;
 use bfs_testing::asserts::compared;
 use bfs_testing::changes::{Change, Changes};
 use bfs_testing::{holds, same};

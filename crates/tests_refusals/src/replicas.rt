@@ -1,7 +1,8 @@
 //! Four replicas, of which one may be faulty, and bytes on their way between them.
 use crate::replica::{Call, Replica, Silence, Standing};
 use crate::requests::{large_request, request};
-use bfs_messages::{Message, Signed, encode};
+use bfs_codec::encode;
+use bfs_messages::{Message, Signed};
 use bfs_types::Memory;
 use std::alloc::Global;
 use std::sync::Wait;

@@ -1,7 +1,8 @@
 //! The requests that tests make in the name of a client.
 use crate::replica::{CLIENTS, SECRET};
 use bfs_auth::{Keys, Principal};
-use bfs_messages::{Message, Request, encode, sign};
+use bfs_codec::encode;
+use bfs_messages::{Message, Request, sign};
 use bfs_testing::words::{A, ROOT, UNSET, call, put_parts};
 use bfs_types::Memory;
 use std::alloc::Global;

@@ -1,0 +1,167 @@
+//! What is checked: that replicas that don't lie come to one digest behind each number, over all views, and give a request one result.
+use bfs_messages::Reply;
+use bfs_types::Memory;
+use std::alloc::Global;
+
+/// Replicas, as bits.
+#[derive(Clone, Copy, Debug, PartialEq, Eq)]
+pub struct Set(pub u32);
+
+impl Set {
+    pub const ALL: Set = Set(0xffffffff);
+
+    pub fn of(number: usize) -> Set {
+        Set(1 << (number % 32))
+    }
+
+    pub fn has(self, number: usize) -> bool {
+        self.0 & Set::of(number).0 != 0
+    }
+
+    pub fn with(self, number: usize) -> Set {
+        Set(self.0 | Set::of(number).0)
+    }
+
+    pub fn others(self) -> Set {
+        Set(self.0 ^ Set::ALL.0)
+    }
+}
+
+/// What came about, that a schedule without events does not pass for a good one.
+#[derive(Clone, Copy, Debug, PartialEq, Eq)]
+pub struct Seen {
+    /// Numbers that two or more replicas that don't lie have executed.
+    pub numbers: u32,
+    /// How often such a replica entered a view.
+    pub views: u32,
+    /// How often such a replica adopted a snapshot.
+    pub adoptions: u32,
+    /// How many messages of liars such a replica took.
+    pub lies: u32,
+}
+
+impl Seen {
+    pub const NOTHING: Seen = Seen {
+        numbers: 0,
+        views: 0,
+        adoptions: 0,
+        lies: 0,
+    };
+
+    /// That of both.
+    pub fn and(self, more: Seen) -> Seen {
+        Seen {
+            numbers: self.numbers.saturating_add(more.numbers),
+            views: self.views.saturating_add(more.views),
+            adoptions: self.adoptions.saturating_add(more.adoptions),
+            lies: self.lies.saturating_add(more.lies),
+        }
+    }
+
+    /// Whether none is below.
+    pub fn reaches(self, least: Seen) -> bool {
+        least.numbers <= self.numbers
+            && least.views <= self.views
+            && least.adoptions <= self.adoptions
+            && least.lies <= self.lies
+    }
+}
+
+// A number, the digest behind it, and who came to it.
+#[derive(Clone, Copy)]
+struct Behind {
+    number: u64,
+    digest: [u8; 32],
+    by: Set,
+}
+
+// A result of a client's request.
+#[derive(Drop)]
+struct Answer {
+    client: u32,
+    timestamp: u64,
+    result: Vec<u8>,
+}
+
+/// What replicas that don't lie have come to.
+#[derive(Drop)]
+pub struct Record {
+    alloc: Global,
+    behind: Vec<Behind>,
+    answers: Vec<Answer>,
+    seen: Seen,
+    is_wrong: bool,
+}
+
+impl Record {
+    pub fn new(alloc: Global) -> Record {
+        Record {
+            alloc,
+            behind: Vec::new(alloc),
+            answers: Vec::new(alloc),
+            seen: Seen::NOTHING,
+            is_wrong: false,
+        }
+    }
+
+    /// Whether two have come to different things.
+    pub fn is_wrong(&self) -> bool {
+        self.is_wrong
+    }
+
+    /// What came about.
+    pub fn seen(&self) -> Seen {
+        let mut numbers = 0u32;
+        for behind in &self.behind {
+            if behind.by.0.count_ones() >= 2 {
+                numbers = numbers.saturating_add(1);
+            }
+        }
+        Seen {
+            numbers,
+            ..self.seen
+        }
+    }
+
+    pub fn note_view(&mut self) {
+        self.seen.views = self.seen.views.saturating_add(1);
+    }
+
+    pub fn note_adoption(&mut self) {
+        self.seen.adoptions = self.seen.adoptions.saturating_add(1);
+    }
+
+    pub fn note_lie(&mut self) {
+        self.seen.lies = self.seen.lies.saturating_add(1);
+    }
+
+    /// A replica has that digest behind a number.
+    pub fn note(&mut self, replica: usize, number: u64, digest: [u8; 32]) -> Result<(), Memory> {
+        for behind in self.behind.iter_mut() {
+            if behind.number == number {
+                behind.by = behind.by.with(replica);
+                self.is_wrong = self.is_wrong || behind.digest != digest;
+                return Ok(());
+            }
+        }
+        let by = Set::of(replica);
+        self.behind.push(Behind { number, digest, by })?;
+        Ok(())
+    }
+
+    /// A replica gives a result.
+    pub fn note_reply(&mut self, reply: &Reply) -> Result<(), Memory> {
+        for answer in &self.answers {
+            if answer.client == reply.client() && answer.timestamp == reply.timestamp() {
+                self.is_wrong = self.is_wrong || answer.result.as_slice() != reply.result();
+                return Ok(());
+            }
+        }
+        self.answers.push(Answer {
+            client: reply.client(),
+            timestamp: reply.timestamp(),
+            result: reply.result().to_vec(self.alloc)?,
+        })?;
+        Ok(())
+    }
+}
