@@ -1,157 +1,254 @@
 //! What is chosen from VIEW-CHANGEs.
-use crate::parts::{Asked, Prepared, batch_at, keys_of};
+use crate::parts::{Asked, Batch, Prepared, Told, changes, keys_of};
 use bfs_messages::{Signed, ViewChange};
-use bfs_testing::same;
+use bfs_testing::asserts::compared;
 use bfs_types::Memory;
-use bfs_view::{Choice, ViewError, choice_of, choose};
+use bfs_view::{Choice, Chosen, ViewError, choice_of, choose};
 use std::alloc::Global;
 use std::test::Fail;
 
-/// Of replicas 1, 2 and 3 for view 1, or of as many of them; replica 2 has a certificate for number 2, by these backups
-pub fn changes(
-    alloc: Global,
-    count: usize,
-    backups: &[u32],
-) -> Result<Vec<Signed<ViewChange>>, Memory> {
-    let prepared = Prepared {
-        view: 0,
-        number: 2,
-        primary: 0,
-        backups,
-    };
-    let mut all = Vec::new(alloc);
-    all.push(Asked::first(1).change(alloc, &[])?)?;
-    all.push(Asked::first(2).change(alloc, &[prepared])?)?;
-    all.push(Asked::first(3).change(alloc, &[])?)?;
-    all.truncate(count);
-    Ok(all)
+/// The VIEW-CHANGEs of replicas 1, 2 and 3 for view 1; replica 2 has a certificate for number 2.
+pub const OF_ONE: Asked<'static> = Asked {
+    sender: 1,
+    view: 1,
+    stable: 0,
+    told: &[],
+    held: &[],
+};
+
+pub const OF_TWO: Asked<'static> = Asked {
+    sender: 2,
+    view: 1,
+    stable: 0,
+    told: &[],
+    held: &[Prepared(0, 2, 0, &[1, 2], Batch::At(5))],
+};
+
+pub const OF_THREE: Asked<'static> = Asked {
+    sender: 3,
+    view: 1,
+    stable: 0,
+    told: &[],
+    held: &[],
+};
+
+/// That of replica 2 with a PREPARE less than its certificate wants.
+pub const A_PREPARE_LESS: Asked<'static> = Asked {
+    sender: 2,
+    view: 1,
+    stable: 0,
+    told: &[],
+    held: &[Prepared(0, 2, 0, &[1], Batch::At(5))],
+};
+
+/// One for view 2.
+pub const FOR_ANOTHER_VIEW: Asked<'static> = Asked {
+    sender: 0,
+    view: 2,
+    stable: 0,
+    told: &[],
+    held: &[],
+};
+
+/// What comes of VIEW-CHANGEs.
+#[derive(Clone, Copy)]
+pub enum Outcome {
+    /// The number of the refusal.
+    Refused(u32),
+    /// Min-s, and of what is chosen above it the numbers and the seconds at which the batches are, 0 for the null request.
+    Chosen(u64, &'static [(u64, u32)]),
 }
 
-/// The number of a refusal, 0 where there is none.
-pub fn refusal_of(given: Result<Choice, ViewError>) -> u32 {
-    match given {
-        Ok(_) => 0,
-        Err(error) => error.code(),
-    }
-}
-
-// the number at a place of the choice
-fn number_at(choice: &Choice, at: usize) -> u64 {
-    match choice.chosen().get(at) {
+fn second_of(chosen: &Chosen) -> u32 {
+    match chosen.batch().time() {
         None => 0,
-        Some(chosen) => chosen.number(),
+        Some(time) => time.seconds(),
     }
 }
 
-// the second at which the batch is that stands at a place of the choice; 0 for the null request
-fn second_at(choice: &Choice, at: usize) -> u32 {
-    match choice.chosen().get(at) {
-        None => 1_000,
-        Some(chosen) => match chosen.batch().time() {
-            None => 0,
-            Some(time) => time.seconds(),
-        },
+fn is_as_told(chosen: &Chosen, wanted: (u64, u32)) -> bool {
+    chosen.number() == wanted.0 && second_of(chosen) == wanted.1
+}
+
+fn is_told_at(chosen: &[Chosen], place: usize, wanted: (u64, u32)) -> bool {
+    match chosen.get(place) {
+        Some(one) => is_as_told(one, wanted),
+        None => false,
     }
 }
 
+fn are_as_told(chosen: &[Chosen], wanted: &[(u64, u32)]) -> bool {
+    for (place, one) in wanted.iter().enumerate() {
+        if !is_told_at(chosen, place, *one) {
+            return false;
+        }
+    }
+    chosen.len() == wanted.len()
+}
+
+/// Whether that came of VIEW-CHANGEs.
+pub fn comes_to(given: Result<Choice, ViewError>, wanted: Outcome) -> bool {
+    match (given, wanted) {
+        (Ok(choice), Outcome::Chosen(min_s, chosen)) => {
+            choice.min_s() == min_s && are_as_told(choice.chosen(), chosen)
+        }
+        (Err(error), Outcome::Refused(number)) => error.code() == number,
+        _ => false,
+    }
+}
+
+/// What is particular about VIEW-CHANGEs, these, and what comes of them.
+struct Case(&'static str, &'static [Asked<'static>], Outcome);
+
+// for replica 0
+fn chooses(alloc: Global, asked: &[Asked<'_>], wanted: Outcome) -> Result<bool, Memory> {
+    let changes = changes(alloc, asked)?;
+    Ok(comes_to(choose(alloc, &keys_of(alloc, 0)?, &changes), wanted))
+}
+
+// what is particular about the first of which something else comes
+fn first_wrong(alloc: Global, cases: &[Case]) -> Result<Option<&'static str>, Memory> {
+    for Case(name, asked, wanted) in cases {
+        if !chooses(alloc, *asked, *wanted)? {
+            return Ok(Some(*name));
+        }
+    }
+    Ok(None)
+}
+
+static CASES: [Case; 10] = [
+    Case(
+        "what one has prepared",
+        &[OF_ONE, OF_TWO, OF_THREE],
+        Outcome::Chosen(0, &[(1, 0), (2, 5)]),
+    ),
+    Case("two", &[OF_ONE, OF_TWO], Outcome::Refused(30)),
+    Case(
+        "three, but of two senders",
+        &[OF_ONE, OF_TWO, OF_ONE],
+        Outcome::Refused(30),
+    ),
+    Case("none", &[], Outcome::Refused(30)),
+    Case(
+        "one that is not valid",
+        &[OF_ONE, A_PREPARE_LESS, OF_THREE],
+        Outcome::Refused(31),
+    ),
+    Case(
+        "two, and one is not valid",
+        &[OF_ONE, A_PREPARE_LESS],
+        Outcome::Refused(31),
+    ),
+    Case(
+        "one for another view",
+        &[OF_ONE, OF_TWO, OF_THREE, FOR_ANOTHER_VIEW],
+        Outcome::Refused(31),
+    ),
+    Case(
+        "two, for different views",
+        &[OF_ONE, FOR_ANOTHER_VIEW],
+        Outcome::Refused(31),
+    ),
+    Case(
+        "all for view 2",
+        &[
+            FOR_ANOTHER_VIEW,
+            Asked {
+                sender: 1,
+                view: 2,
+                stable: 0,
+                told: &[],
+                held: &[],
+            },
+            Asked {
+                sender: 3,
+                view: 2,
+                stable: 0,
+                told: &[],
+                held: &[],
+            },
+        ],
+        Outcome::Chosen(0, &[]),
+    ),
+    Case(
+        "numbers up to the latest stable one",
+        &[
+            Asked {
+                sender: 1,
+                view: 1,
+                stable: 0,
+                told: &[],
+                held: &[Prepared(0, 7, 0, &[1, 2], Batch::At(5))],
+            },
+            Asked {
+                sender: 2,
+                view: 1,
+                stable: 16,
+                told: &[Told(0, 16), Told(1, 16), Told(3, 16)],
+                held: &[Prepared(0, 18, 0, &[1, 2], Batch::At(5))],
+            },
+            OF_THREE,
+        ],
+        Outcome::Chosen(16, &[(17, 0), (18, 5)]),
+    ),
+];
+
 #[test]
-fn what_one_has_prepared_is_chosen(rt: HostRuntime) -> Result<(), Fail> {
-    let alloc = rt.alloc();
-    let keys = keys_of(alloc, 0)?;
-    let choice = choose(alloc, &keys, &changes(alloc, 3, &[1, 2])?)?;
-    same!(rt; choice.min_s(), 0);
-    same!(rt; choice.chosen().len(), 2);
-    same!(rt; second_at(&choice, 0), 0);
-    same!(rt; second_at(&choice, 1), 5);
-    same!(rt; number_at(&choice, 1), 2);
+fn a_view_begins_with_what_was_prepared(rt: HostRuntime) -> Result<(), Fail> {
+    compared(first_wrong(rt.alloc(), &CASES)?, None)?;
     Ok(())
 }
 
-#[test]
-fn what_cannot_be_chosen_from_is_refused(rt: HostRuntime) -> Result<(), Fail> {
-    let alloc = rt.alloc();
-    let keys = keys_of(alloc, 0)?;
-    same!(rt; refusal_of(choose(alloc, &keys, &changes(alloc, 2, &[1, 2])?)), 30);
-    same!(rt; refusal_of(choose(alloc, &keys, &changes(alloc, 3, &[1])?)), 31);
-    // three, but of two senders
-    let mut twice = changes(alloc, 2, &[1, 2])?;
-    twice.push(Asked::first(1).change(alloc, &[])?)?;
-    same!(rt; refusal_of(choose(alloc, &keys, &twice)), 30);
-    // for different views
-    let mut other = changes(alloc, 3, &[1, 2])?;
-    let asked = Asked {
-        sender: 0,
-        view: 2,
-        stable: 0,
-    };
-    other.push(asked.change(alloc, &[])?)?;
-    same!(rt; refusal_of(choose(alloc, &keys, &other)), 31);
-    same!(rt; refusal_of(choose(alloc, &keys, &[])), 30);
-    Ok(())
-}
+/// What is particular about two certificates for number 1, these by the senders that show them, their views and the seconds of their batches,
+/// and the second of the batch that is chosen.
+struct Rivalry(&'static str, [(u32, u64, u32); 2], u32);
 
-// a VIEW-CHANGE of a sender for view 9, with a batch at that second for number 1 of a view
-fn holding(
-    alloc: Global,
-    sender: u32,
-    view: u64,
-    seconds: u32,
-) -> Result<Signed<ViewChange>, Memory> {
-    let prepared = Prepared {
-        view,
-        number: 1,
-        primary: 0,
-        backups: &[],
-    };
-    let mut held = Vec::new(alloc);
-    held.push(prepared.certificate(alloc, batch_at(alloc, seconds)?)?)?;
+static RIVALS: [Rivalry; 4] = [
+    Rivalry("the higher view", [(1, 3, 7), (2, 4, 8)], 8),
+    Rivalry("the lower sender", [(3, 4, 7), (2, 4, 8)], 8),
+    Rivalry("the lower text", [(2, 4, 8), (2, 4, 7)], 7),
+    Rivalry("the lower text first", [(2, 4, 7), (2, 4, 8)], 7),
+];
+
+// a VIEW-CHANGE for view 9 with a certificate
+fn rival(alloc: Global, sender: u32, view: u64, second: u32) -> Result<Signed<ViewChange>, Memory> {
     let asked = Asked {
         sender,
         view: 9,
         stable: 0,
+        told: &[],
+        held: &[Prepared(view, 1, 0, &[], Batch::At(second))],
     };
-    asked.with(alloc, Vec::new(alloc), held)
+    asked.change(alloc)
 }
 
-// what is chosen for number 1 from two
-fn chosen_of(
-    alloc: Global,
-    first: Signed<ViewChange>,
-    second: Signed<ViewChange>,
-) -> Result<u32, Memory> {
+// which of them is chosen, where nothing is checked
+fn chosen_second(alloc: Global, changes: &[Signed<ViewChange>]) -> Result<u32, Memory> {
+    match choice_of(alloc, changes)?.chosen() {
+        [only] => Ok(second_of(only)),
+        _ => Ok(0),
+    }
+}
+
+fn winner(alloc: Global, rivals: &[(u32, u64, u32)]) -> Result<u32, Memory> {
     let mut changes = Vec::new(alloc);
-    changes.push(first)?;
-    changes.push(second)?;
-    Ok(second_at(&choice_of(alloc, &changes)?, 0))
+    for (sender, view, second) in rivals {
+        changes.push(rival(alloc, *sender, *view, *second)?)?;
+    }
+    chosen_second(alloc, &changes)
+}
+
+fn first_wrong_winner(alloc: Global) -> Result<Option<&'static str>, Memory> {
+    for Rivalry(name, rivals, wanted) in &RIVALS {
+        if winner(alloc, rivals)? != *wanted {
+            return Ok(Some(*name));
+        }
+    }
+    Ok(None)
 }
 
 #[test]
 fn the_higher_view_the_lower_sender_the_first_text(rt: HostRuntime) -> Result<(), Fail> {
-    let alloc = rt.alloc();
-    same!(rt; chosen_of(alloc, holding(alloc, 1, 3, 7)?, holding(alloc, 2, 4, 8)?)?, 8);
-    same!(rt; chosen_of(alloc, holding(alloc, 3, 4, 7)?, holding(alloc, 2, 4, 8)?)?, 8);
-    same!(rt; chosen_of(alloc, holding(alloc, 2, 4, 8)?, holding(alloc, 2, 4, 7)?)?, 7);
-    same!(rt; chosen_of(alloc, holding(alloc, 2, 4, 7)?, holding(alloc, 2, 4, 8)?)?, 7);
-    Ok(())
-}
-
-#[test]
-fn numbers_up_to_the_latest_stable_one_are_passed(rt: HostRuntime) -> Result<(), Fail> {
-    let alloc = rt.alloc();
-    let stable = Asked {
-        sender: 2,
-        view: 1,
-        stable: 16,
-    };
-    let mut changes = Vec::new(alloc);
-    changes.push(Asked::first(1).change(alloc, &[Prepared::first(7)])?)?;
-    changes.push(stable.change(alloc, &[Prepared::first(18)])?)?;
-    changes.push(Asked::first(3).change(alloc, &[])?)?;
-    let choice = choose(alloc, &keys_of(alloc, 0)?, &changes)?;
-    same!(rt; choice.min_s(), 16);
-    same!(rt; choice.chosen().len(), 2);
-    same!(rt; number_at(&choice, 0), 17);
-    same!(rt; second_at(&choice, 0), 0);
-    same!(rt; second_at(&choice, 1), 5);
+    compared(first_wrong_winner(rt.alloc())?, None)?;
     Ok(())
 }

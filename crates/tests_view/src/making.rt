@@ -1,49 +1,103 @@
 //! What a replica makes of its log.
 ghost use Rattle.std.specs.Prelude.{◌<◌, ◌^◌};
 
-use crate::parts::{batch_at, keys_of};
-use bfs_messages::{Checkpoint, Message, PrePrepare, Signed, ViewChange, Vote, sign};
+use crate::parts::{Batch, Told, keys_of, proposal};
+use bfs_messages::{Message, Signed, ViewChange, Vote, sign};
 use bfs_order::Order;
-use bfs_testing::{holds, same};
+use bfs_testing::asserts::compared;
 use bfs_types::Memory;
 use bfs_view::{make_view_change, valid_view_change};
 use std::alloc::Global;
 use std::test::Fail;
 use std::thread::Threads;
 
-// replica 1 takes what a sender signs; whether it takes it
-fn takes(
-    rt: &(impl Threads + Sync),
+/// What comes to replica 1.
+#[derive(Clone, Copy)]
+enum Event {
+    /// The primary's PRE-PREPARE for a number of view 0.
+    Proposed(u64),
+    /// The PREPARE of replica 2 for it.
+    Prepared(u64),
+    /// A CHECKPOINT.
+    Told(Told),
+}
+
+fn proposal_for(alloc: Global, number: u64) -> Result<Signed<Message>, Memory> {
+    let Signed { message, auth } = proposal(alloc, 0, 0, number, Batch::At(5))?;
+    Ok(Signed {
+        message: Message::PrePrepare(message),
+        auth,
+    })
+}
+
+fn prepare_for(alloc: Global, number: u64) -> Result<Signed<Message>, Memory> {
+    let proposal = proposal(alloc, 0, 0, number, Batch::At(5))?;
+    let digest = *proposal.message.vote().digest();
+    let vote = Vote::new(2, 0, number % (1 << 63), digest);
+    sign(alloc, &keys_of(alloc, 2)?, Message::Prepare(vote))
+}
+
+fn checkpoint(alloc: Global, told: Told) -> Result<Signed<Message>, Memory> {
+    let Signed { message, auth } = told.checkpoint(alloc)?;
+    Ok(Signed {
+        message: Message::Checkpoint(message),
+        auth,
+    })
+}
+
+impl Event {
+    fn message(self, alloc: Global) -> Result<Signed<Message>, Memory> {
+        match self {
+            Event::Proposed(number) => proposal_for(alloc, number),
+            Event::Prepared(number) => prepare_for(alloc, number),
+            Event::Told(one) => checkpoint(alloc, one),
+        }
+    }
+}
+
+fn takes<R: Threads + Sync>(
+    rt: &R,
     alloc: Global,
     order: &mut Order,
-    sender: u32,
-    message: Message,
+    event: Event,
 ) -> Result<bool, Memory> {
-    let signed = sign(alloc, &keys_of(alloc, sender)?, message)?;
+    let signed = event.message(alloc)?;
     Ok(order.on_message(rt, &keys_of(alloc, 1)?, signed).is_ok())
 }
 
-// the primary's PRE-PREPARE for a number of view 0, and then, if asked for, the PREPARE of replica 2
-fn takes_batch(
-    rt: &(impl Threads + Sync),
+fn takes_all<R: Threads + Sync>(
+    rt: &R,
     alloc: Global,
     order: &mut Order,
-    number: u64,
-    prepared: bool,
+    events: &[Event],
 ) -> Result<bool, Memory> {
-    let number = number % (1 << 63);
-    let proposal = PrePrepare::new(0, 0, number, batch_at(alloc, 5)?);
-    let vote = Vote::new(2, 0, number, *proposal.vote().digest());
-    let first = takes(rt, alloc, order, 0, Message::PrePrepare(proposal))?;
-    if !prepared {
-        return Ok(first);
+    for event in events {
+        if !takes(rt, alloc, order, *event)? {
+            return Ok(false);
+        }
     }
-    Ok(takes(rt, alloc, order, 2, Message::Prepare(vote))? && first)
+    Ok(true)
 }
 
-// the number of a certificate, and how many PREPAREs it has
-fn certificate_at(change: &Signed<ViewChange>, at: usize) -> (u64, usize) {
-    match change.message.certificates().get(at) {
+// the VIEW-CHANGE for view 1 that it makes then, if it takes them all
+fn made<R: Threads + Sync>(
+    rt: &R,
+    alloc: Global,
+    events: &[Event],
+) -> Result<Option<Signed<ViewChange>>, Memory> {
+    let mut order = Order::new(alloc, 1, 1);
+    if !takes_all(rt, alloc, &mut order, events)? {
+        return Ok(None);
+    }
+    Ok(Some(make_view_change(alloc, &order, &keys_of(alloc, 1)?, 1)?))
+}
+
+/// What a VIEW-CHANGE of replica 1 for view 1 says: its stable number, how many CHECKPOINTs it has, and of its certificates the numbers and
+/// how many PREPAREs they have.
+struct Says(u64, usize, &'static [(u64, usize)]);
+
+fn certificate_at(change: &ViewChange, place: usize) -> (u64, usize) {
+    match change.certificates().get(place) {
         None => (0, 0),
         Some(certificate) => (
             certificate.proposal().message.vote().number(),
@@ -52,49 +106,79 @@ fn certificate_at(change: &Signed<ViewChange>, at: usize) -> (u64, usize) {
     }
 }
 
+fn has_certificates(change: &ViewChange, wanted: &[(u64, usize)]) -> bool {
+    for (place, one) in wanted.iter().enumerate() {
+        if certificate_at(change, place) != *one {
+            return false;
+        }
+    }
+    change.certificates().len() == wanted.len()
+}
+
+fn does_say(change: &ViewChange, wanted: &Says) -> bool {
+    let Says(stable, checkpoints, certificates) = wanted;
+    change.sender() == 1
+        && change.view() == 1
+        && change.stable() == *stable
+        && change.checkpoints().len() == *checkpoints
+        && has_certificates(change, *certificates)
+}
+
+fn is_valid_for(alloc: Global, replica: u32, change: &Signed<ViewChange>) -> Result<bool, Memory> {
+    Ok(valid_view_change(&keys_of(alloc, replica)?, change))
+}
+
+// whether it says that, and is valid for this replica and for another one
+fn is_right(alloc: Global, change: &Signed<ViewChange>, wanted: &Says) -> Result<bool, Memory> {
+    Ok(
+        does_say(&change.message, wanted)
+            && is_valid_for(alloc, 1, change)?
+            && is_valid_for(alloc, 3, change)?,
+    )
+}
+
+fn makes<R: Threads + Sync>(
+    rt: &R,
+    alloc: Global,
+    events: &[Event],
+    wanted: &Says,
+) -> Result<bool, Memory> {
+    match made(rt, alloc, events)? {
+        Some(change) => is_right(alloc, &change, wanted),
+        None => Ok(false),
+    }
+}
+
+static PREPARED: [Event; 5] = [
+    Event::Proposed(3),
+    Event::Prepared(3),
+    Event::Proposed(2),
+    Event::Proposed(1),
+    Event::Prepared(1),
+];
+
+static OF_PREPARED: Says = Says(0, 0, &[(1, 2), (3, 2)]);
+
 #[test]
 fn what_is_prepared_is_taken_into_the_view(rt: HostRuntime) -> Result<(), Fail> {
-    let alloc = rt.alloc();
-    let mut order = Order::new(alloc, 1, 1);
-    same!(rt; takes_batch(&rt, alloc, &mut order, 3, true)?, true);
-    same!(rt; takes_batch(&rt, alloc, &mut order, 2, false)?, true);
-    same!(rt; takes_batch(&rt, alloc, &mut order, 1, true)?, true);
-    let change = make_view_change(alloc, &order, &keys_of(alloc, 1)?, 1)?;
-    same!(rt; change.message.sender(), 1);
-    same!(rt; change.message.view(), 1);
-    same!(rt; change.message.stable(), 0);
-    same!(rt; change.message.certificates().len(), 2);
-    same!(rt; certificate_at(&change, 0), (1, 2));
-    same!(rt; certificate_at(&change, 1), (3, 2));
-    same!(rt; valid_view_change(&keys_of(alloc, 1)?, &change), true);
-    same!(rt; valid_view_change(&keys_of(alloc, 3)?, &change), true);
+    compared(makes(&rt, rt.alloc(), &PREPARED, &OF_PREPARED)?, true)?;
     Ok(())
 }
 
+static STABLE: [Event; 7] = [
+    Event::Proposed(16),
+    Event::Prepared(16),
+    Event::Proposed(17),
+    Event::Prepared(17),
+    Event::Told(Told(0, 16)),
+    Event::Told(Told(2, 16)),
+    Event::Told(Told(3, 16)),
+];
+
+static OF_STABLE: Says = Says(16, 3, &[(17, 2)]);
+
 #[test]
 fn the_stable_number_comes_with_its_checkpoints(rt: HostRuntime) -> Result<(), Fail> {
-    let alloc = rt.alloc();
-    let mut order = Order::new(alloc, 1, 1);
-    same!(rt; takes_batch(&rt, alloc, &mut order, 16, true)?, true);
-    same!(rt; takes_batch(&rt, alloc, &mut order, 17, true)?, true);
-    let mut taken = true;
-    for sender in 0..4 {
-        if sender != 1 {
-            let checkpoint = Checkpoint::new(sender, 16, [1; 32]);
-            taken = takes(
-                &rt,
-                alloc,
-                &mut order,
-                sender,
-                Message::Checkpoint(checkpoint),
-            )? && taken;
-        }
-    }
-    holds!(rt; taken);
-    let change = make_view_change(alloc, &order, &keys_of(alloc, 1)?, 1)?;
-    same!(rt; change.message.stable(), 16);
-    same!(rt; change.message.checkpoints().len(), 3);
-    same!(rt; change.message.certificates().len(), 1);
-    same!(rt; valid_view_change(&keys_of(alloc, 3)?, &change), true);
+    compared(makes(&rt, rt.alloc(), &STABLE, &OF_STABLE)?, true)?;
     Ok(())
 }

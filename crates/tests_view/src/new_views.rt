@@ -1,124 +1,188 @@
-//! Which NEW-VIEWs are right.
-use crate::choices::{changes, refusal_of};
-use crate::parts::{batch_at, keys_of};
-use bfs_codec::{decode, encode};
-use bfs_messages::{
-    Message, NewView, OrderedBatch, PrePrepare, Signed, ViewChange, sign, sign_proposal,
+//! Which NEW-VIEWs are right: each refusal with the ones before and behind it.
+use crate::choices::{
+    A_PREPARE_LESS, FOR_ANOTHER_VIEW, OF_ONE, OF_THREE, OF_TWO, Outcome, comes_to,
 };
-use bfs_testing::{holds, same};
+use crate::parts::{Asked, Batch, Begun, changes, keys_of, proposal};
+use bfs_codec::{decode, encode};
+use bfs_messages::{Message, Signed};
+use bfs_testing::asserts::compared;
 use bfs_types::Memory;
 use bfs_view::{check_new_view, choice_of, handed_in, make_new_view};
 use std::alloc::Global;
-use std::sync::Arc;
 use std::test::Fail;
 
-// a PRE-PREPARE of a sender in view 1, of the null request, or of a batch at that second
-fn proposal(
-    alloc: Global,
-    sender: u32,
-    number: u64,
-    seconds: u32,
-) -> Result<Signed<PrePrepare>, Memory> {
-    let batch = match seconds {
-        0 => Arc::new(alloc, OrderedBatch::null())?,
-        _ => batch_at(alloc, seconds)?,
-    };
-    let proposal = PrePrepare::new(sender, 1, number % (1 << 63), batch);
-    sign_proposal(alloc, &keys_of(alloc, sender)?, proposal)
+// whether that comes of a NEW-VIEW for replica 3
+fn comes_of(alloc: Global, signed: &Signed<Message>, wanted: Outcome) -> Result<bool, Memory> {
+    Ok(comes_to(check_new_view(alloc, &keys_of(alloc, 3)?, signed), wanted))
 }
 
-// a NEW-VIEW of a sender from these VIEW-CHANGEs, which proposes batches at these seconds for these numbers
-fn new_view(
-    alloc: Global,
-    sender: u32,
-    changes: Vec<Signed<ViewChange>>,
-    proposed: &[(u64, u32)],
-) -> Result<Signed<Message>, Memory> {
-    let mut proposals = Vec::new(alloc);
-    for (number, seconds) in proposed {
-        proposals.push(proposal(alloc, sender, *number, *seconds)?)?;
+/// What is particular about a NEW-VIEW, what it says, and what comes of it.
+struct Case(&'static str, Begun, Outcome);
+
+fn is_as_told(alloc: Global, begun: Begun, wanted: Outcome) -> Result<bool, Memory> {
+    comes_of(alloc, &begun.message(alloc)?, wanted)
+}
+
+// what is particular about the first of which something else comes
+fn first_wrong(alloc: Global, cases: &[Case]) -> Result<Option<&'static str>, Memory> {
+    for Case(name, begun, wanted) in cases {
+        if !is_as_told(alloc, *begun, *wanted)? {
+            return Ok(Some(*name));
+        }
     }
-    if changes.len() > 31 || proposals.len() > 32 {
-        return Err(Memory);
-    }
-    let new = NewView::new(sender, 1, changes, proposals);
-    sign(alloc, &keys_of(alloc, sender)?, Message::NewView(new))
+    Ok(None)
 }
 
-// the number of its refusal by replica 3, 0 where there is none
-fn refusal(alloc: Global, signed: &Signed<Message>) -> Result<u32, Memory> {
-    Ok(refusal_of(check_new_view(alloc, &keys_of(alloc, 3)?, signed)))
-}
+const CHANGES: &[Asked<'static>] = &[OF_ONE, OF_TWO, OF_THREE];
 
-fn refusal_from(
-    alloc: Global,
-    sender: u32,
-    count: usize,
-    proposed: &[(u64, u32)],
-) -> Result<u32, Memory> {
-    let changes = changes(alloc, count, &[1, 2])?;
-    refusal(alloc, &new_view(alloc, sender, changes, proposed)?)
-}
+const NULL: (u64, Batch) = (1, Batch::Null);
 
-#[test]
-fn the_right_new_view_is_taken(rt: HostRuntime) -> Result<(), Fail> {
-    let alloc = rt.alloc();
-    let signed = new_view(alloc, 1, changes(alloc, 3, &[1, 2])?, &[(1, 0), (2, 5)])?;
-    let choice = check_new_view(alloc, &keys_of(alloc, 3)?, &signed)?;
-    same!(rt; choice.min_s(), 0);
-    same!(rt; choice.chosen().len(), 2);
-    // also as it is read again
-    let bytes = encode(alloc, &signed)?;
-    same!(rt; refusal(alloc, &decode(alloc, &bytes)?)?, 0);
-    Ok(())
-}
+const PREPARED: (u64, Batch) = (2, Batch::At(5));
+
+const RIGHT: Begun = Begun(1, CHANGES, &[NULL, PREPARED]);
+
+const CHOSEN: Outcome = Outcome::Chosen(0, &[(1, 0), (2, 5)]);
+
+static CASES: [Case; 15] = [
+    Case("the right one", RIGHT, CHOSEN),
+    Case(
+        "of a backup",
+        Begun(2, CHANGES, &[NULL, PREPARED]),
+        Outcome::Refused(24),
+    ),
+    Case(
+        "of a backup, from too few",
+        Begun(2, &[OF_ONE], &[]),
+        Outcome::Refused(24),
+    ),
+    Case(
+        "from one that is not valid",
+        Begun(1, &[OF_ONE, A_PREPARE_LESS, OF_THREE], &[NULL, PREPARED]),
+        Outcome::Refused(31),
+    ),
+    Case(
+        "from too few, of which one is not valid",
+        Begun(1, &[OF_ONE, A_PREPARE_LESS], &[NULL, PREPARED]),
+        Outcome::Refused(31),
+    ),
+    Case(
+        "from one for another view",
+        Begun(
+            1,
+            &[OF_ONE, OF_TWO, OF_THREE, FOR_ANOTHER_VIEW],
+            &[NULL, PREPARED],
+        ),
+        Outcome::Refused(31),
+    ),
+    Case(
+        "from too few",
+        Begun(1, &[OF_ONE, OF_TWO], &[NULL, PREPARED]),
+        Outcome::Refused(30),
+    ),
+    Case(
+        "from too few, proposing less",
+        Begun(1, &[OF_ONE, OF_TWO], &[]),
+        Outcome::Refused(30),
+    ),
+    Case(
+        "without the null request",
+        Begun(1, CHANGES, &[PREPARED]),
+        Outcome::Refused(32),
+    ),
+    Case(
+        "another batch",
+        Begun(1, CHANGES, &[NULL, (2, Batch::At(6))]),
+        Outcome::Refused(32),
+    ),
+    Case(
+        "the null request twice",
+        Begun(1, CHANGES, &[NULL, (2, Batch::Null)]),
+        Outcome::Refused(32),
+    ),
+    Case(
+        "out of order",
+        Begun(1, CHANGES, &[PREPARED, NULL]),
+        Outcome::Refused(32),
+    ),
+    Case(
+        "one more",
+        Begun(1, CHANGES, &[NULL, PREPARED, (3, Batch::Null)]),
+        Outcome::Refused(32),
+    ),
+    Case("one less", Begun(1, CHANGES, &[NULL]), Outcome::Refused(32)),
+    Case("nothing", Begun(1, CHANGES, &[]), Outcome::Refused(32)),
+];
 
 #[test]
 fn what_is_proposed_is_the_choice(rt: HostRuntime) -> Result<(), Fail> {
-    let alloc = rt.alloc();
-    same!(rt; refusal_from(alloc, 1, 3, &[(2, 5)])?, 32);
-    same!(rt; refusal_from(alloc, 1, 3, &[(1, 0), (2, 6)])?, 32);
-    same!(rt; refusal_from(alloc, 1, 3, &[(1, 0), (2, 0)])?, 32);
-    same!(rt; refusal_from(alloc, 1, 3, &[(2, 5), (1, 0)])?, 32);
-    same!(rt; refusal_from(alloc, 1, 3, &[(1, 0), (2, 5), (3, 0)])?, 32);
-    same!(rt; refusal_from(alloc, 1, 3, &[])?, 32);
+    compared(first_wrong(rt.alloc(), &CASES)?, None)?;
     Ok(())
 }
 
+// as it is read again
+fn is_taken_as_it_is_read(alloc: Global) -> Result<bool, Memory> {
+    let bytes = encode(alloc, &RIGHT.message(alloc)?)?;
+    match decode(alloc, &bytes) {
+        Ok(signed) => comes_of(alloc, &signed, CHOSEN),
+        Err(_) => Ok(false),
+    }
+}
+
 #[test]
-fn a_wrong_new_view_is_refused(rt: HostRuntime) -> Result<(), Fail> {
-    let alloc = rt.alloc();
-    same!(rt; refusal_from(alloc, 2, 3, &[(1, 0), (2, 5)])?, 24);
-    same!(rt; refusal_from(alloc, 1, 2, &[(1, 0), (2, 5)])?, 30);
-    let few = changes(alloc, 3, &[1])?;
-    same!(rt; refusal(alloc, &new_view(alloc, 1, few, &[(1, 0), (2, 5)])?)?, 31);
-    // its own entry, of another NEW-VIEW
-    let mut signed = new_view(alloc, 1, changes(alloc, 3, &[1, 2])?, &[(1, 0), (2, 5)])?;
-    signed.auth = new_view(alloc, 1, changes(alloc, 2, &[1, 2])?, &[])?.auth;
-    same!(rt; refusal(alloc, &signed)?, 24);
-    // another kind
-    let vote = proposal(alloc, 1, 1, 0)?;
-    let other = Signed {
-        message: Message::Prepare(*vote.message.vote()),
-        auth: vote.auth,
-    };
-    same!(rt; refusal(alloc, &other)?, 36);
+fn it_is_taken_as_it_is_read(rt: HostRuntime) -> Result<(), Fail> {
+    compared(is_taken_as_it_is_read(rt.alloc())?, true)?;
     Ok(())
+}
+
+// with the entries of another NEW-VIEW
+fn comes_with_other_entries(alloc: Global, wanted: Outcome) -> Result<bool, Memory> {
+    let mut signed = RIGHT.message(alloc)?;
+    signed.auth = Begun(1, &[OF_ONE, OF_TWO], &[]).message(alloc)?.auth;
+    comes_of(alloc, &signed, wanted)
+}
+
+// a PREPARE with the entries of a PRE-PREPARE
+fn comes_of_a_vote(alloc: Global, wanted: Outcome) -> Result<bool, Memory> {
+    let Signed { message, auth } = proposal(alloc, 1, 1, 1, Batch::Null)?;
+    let vote = Signed {
+        message: Message::Prepare(*message.vote()),
+        auth,
+    };
+    comes_of(alloc, &vote, wanted)
+}
+
+#[test]
+fn the_kind_is_looked_at_and_then_who_signed(rt: HostRuntime) -> Result<(), Fail> {
+    compared(comes_of_a_vote(rt.alloc(), Outcome::Refused(36))?, true)?;
+    compared(
+        comes_with_other_entries(rt.alloc(), Outcome::Refused(24))?,
+        true,
+    )?;
+    Ok(())
+}
+
+// the NEW-VIEW that replica 1 makes
+fn made(alloc: Global) -> Result<Signed<Message>, Memory> {
+    let changes = changes(alloc, CHANGES)?;
+    let choice = choice_of(alloc, &changes)?;
+    if changes.len() > 31 || choice.chosen().len() > 32 {
+        return Err(Memory);
+    }
+    make_new_view(alloc, &keys_of(alloc, 1)?, 1, 1, &changes, &choice)
+}
+
+// how many PRE-PREPAREs are handed over by a NEW-VIEW
+fn handed(alloc: Global, signed: &Signed<Message>) -> Result<usize, Memory> {
+    match &signed.message {
+        Message::NewView(new) => Ok(handed_in(alloc, new)?.len()),
+        _ => Ok(0),
+    }
 }
 
 #[test]
 fn what_a_primary_makes_is_right(rt: HostRuntime) -> Result<(), Fail> {
-    let alloc = rt.alloc();
-    let changes = changes(alloc, 3, &[1, 2])?;
-    let choice = choice_of(alloc, &changes)?;
-    holds!(rt; changes.len() == 3 && choice.chosen().len() == 2);
-    if changes.len() > 31 || choice.chosen().len() > 32 {
-        return Ok(());
-    }
-    let signed = make_new_view(alloc, &keys_of(alloc, 1)?, 1, 1, &changes, &choice)?;
-    same!(rt; refusal(alloc, &signed)?, 0);
-    if let Message::NewView(new) = &signed.message {
-        same!(rt; handed_in(alloc, new)?.len(), 2);
-    }
+    let signed = made(rt.alloc())?;
+    compared(comes_of(rt.alloc(), &signed, CHOSEN)?, true)?;
+    compared(handed(rt.alloc(), &signed)?, 2)?;
     Ok(())
 }

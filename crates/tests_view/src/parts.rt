@@ -1,10 +1,10 @@
-//! The messages of four replicas, and what of them makes VIEW-CHANGEs.
+//! The messages of four replicas, told by what they say. A test that makes them by calls takes many times as long to prove.
 ghost use Rattle.std.specs.Prelude.{◌<◌, ◌≤◌, ◌^◌};
 
 use bfs_auth::{Keys, Principal};
 use bfs_messages::{
-    Certificate, Checkpoint, Message, OrderedBatch, PrePrepare, Request, Signed, ViewChange, Vote,
-    sign, sign_checkpoint, sign_prepare, sign_proposal, sign_view_change,
+    Certificate, Checkpoint, Message, NewView, OrderedBatch, PrePrepare, Request, Signed,
+    ViewChange, Vote, sign, sign_checkpoint, sign_prepare, sign_proposal, sign_view_change,
 };
 use bfs_types::{Memory, Time};
 use std::alloc::Global;
@@ -15,59 +15,92 @@ pub fn keys_of(alloc: Global, replica: u32) -> Result<Keys, Memory> {
     Keys::derive(alloc, &[7; 32], Principal::Replica(replica % 1_000), 4, 2)
 }
 
-/// A batch of no requests, at a time in seconds.
-pub fn batch_at(alloc: Global, seconds: u32) -> Result<Arc<OrderedBatch>, Memory> {
-    let time = Time::new(seconds, 0).ok_or(Memory)?;
-    Ok(Arc::new(alloc, OrderedBatch::new(time, Vec::new(alloc)))?)
+/// What a batch is.
+#[derive(Clone, Copy)]
+pub enum Batch {
+    /// The null request.
+    Null,
+    /// No requests, at a time in seconds.
+    At(u32),
+    /// A request of client 1 at second 1, signed by a client.
+    SignedBy(u32),
 }
 
-/// A batch of one request of client 1, signed by a client.
-pub fn batch_signed_by(alloc: Global, client: u32) -> Result<Arc<OrderedBatch>, Memory> {
+// a request of client 1, signed by a client
+fn request(alloc: Global, client: u32) -> Result<Signed<Request>, Memory> {
     let keys = Keys::derive(alloc, &[7; 32], Principal::Client(client % 1_000), 4, 2)?;
     let request = Message::Request(Request::new(alloc, 1, 5, b"a call")?);
     let Signed { message, auth } = sign(alloc, &keys, request)?;
+    match message {
+        Message::Request(message) => Ok(Signed { message, auth }),
+        _ => Err(Memory),
+    }
+}
+
+fn batch_at(
+    alloc: Global,
+    second: u32,
+    requests: Vec<Signed<Request>>,
+) -> Result<OrderedBatch, Memory> {
+    if requests.len() > 1 {
+        return Err(Memory);
+    }
+    Ok(OrderedBatch::new(Time::new(second, 0).ok_or(Memory)?, requests))
+}
+
+fn batch_signed_by(alloc: Global, client: u32) -> Result<OrderedBatch, Memory> {
     let mut requests = Vec::new(alloc);
-    if let Message::Request(message) = message {
-        requests.push(Signed { message, auth })?;
-    }
-    let time = Time::new(1, 0).ok_or(Memory)?;
-    Ok(Arc::new(alloc, OrderedBatch::new(time, requests))?)
+    requests.push(request(alloc, client)?)?;
+    batch_at(alloc, 1, requests)
 }
 
-/// For what there is a certificate: by a PRE-PREPARE of `primary`, and PREPAREs of `backups`.
+impl Batch {
+    /// The batch, to be shared.
+    pub fn made(self, alloc: Global) -> Result<Arc<OrderedBatch>, Memory> {
+        let batch = match self {
+            Batch::Null => OrderedBatch::null(),
+            Batch::At(second) => batch_at(alloc, second, Vec::new(alloc))?,
+            Batch::SignedBy(client) => batch_signed_by(alloc, client)?,
+        };
+        Ok(Arc::new(alloc, batch)?)
+    }
+}
+
+/// The PRE-PREPARE of a sender for a number of a view, signed by that sender.
+pub fn proposal(
+    alloc: Global,
+    sender: u32,
+    view: u64,
+    number: u64,
+    batch: Batch,
+) -> Result<Signed<PrePrepare>, Memory> {
+    let batch = batch.made(alloc)?;
+    let proposal = PrePrepare::new(sender, view % (1 << 63), number % (1 << 63), batch);
+    sign_proposal(alloc, &keys_of(alloc, sender)?, proposal)
+}
+
+// the PREPARE of a sender that matches what is voted
+fn prepare(alloc: Global, sender: u32, proposed: &Vote) -> Result<Signed<Vote>, Memory> {
+    let vote = Vote::new(
+        sender,
+        proposed.view(),
+        proposed.number(),
+        *proposed.digest(),
+    );
+    sign_prepare(alloc, &keys_of(alloc, sender)?, vote)
+}
+
+/// A certificate: its view and number, who sends its PRE-PREPARE, and whose PREPAREs there are; and its batch.
 #[derive(Clone, Copy)]
-pub struct Prepared<'a> {
-    pub view: u64,
-    pub number: u64,
-    pub primary: u32,
-    pub backups: &'a [u32],
-}
+pub struct Prepared(pub u64, pub u64, pub u32, pub &'static [u32], pub Batch);
 
-impl<'a> Prepared<'a> {
-    /// In view 0, by all whom it takes.
-    pub fn first(number: u64) -> Prepared<'static> {
-        Prepared {
-            view: 0,
-            number,
-            primary: 0,
-            backups: &[1, 2],
-        }
-    }
-
-    /// Its certificate, with that batch.
-    pub fn certificate(
-        self,
-        alloc: Global,
-        batch: Arc<OrderedBatch>,
-    ) -> Result<Certificate, Memory> {
-        let (view, number) = (self.view % (1 << 63), self.number % (1 << 63));
-        let proposal = PrePrepare::new(self.primary, view, number, batch);
-        let digest = *proposal.vote().digest();
-        let proposal = sign_proposal(alloc, &keys_of(alloc, self.primary)?, proposal)?;
+impl Prepared {
+    fn certificate(self, alloc: Global) -> Result<Certificate, Memory> {
+        let Prepared(view, number, primary, backups, batch) = self;
+        let proposal = proposal(alloc, primary, view, number, batch)?;
         let mut prepares = Vec::new(alloc);
-        for backup in self.backups {
-            let vote = Vote::new(*backup, view, number, digest);
-            prepares.push(sign_prepare(alloc, &keys_of(alloc, *backup)?, vote)?)?;
+        for backup in backups {
+            prepares.push(prepare(alloc, *backup, proposal.message.vote())?)?;
         }
         if prepares.len() > 31 {
             return Err(Memory);
@@ -76,45 +109,50 @@ impl<'a> Prepared<'a> {
     }
 }
 
-/// The CHECKPOINTs of senders with one number and digest.
-pub fn checkpoints(
-    alloc: Global,
-    number: u64,
-    senders: &[u32],
-) -> Result<Vec<Signed<Checkpoint>>, Memory> {
+/// A CHECKPOINT: its sender and number. All have one digest.
+#[derive(Clone, Copy)]
+pub struct Told(pub u32, pub u64);
+
+impl Told {
+    /// The CHECKPOINT, signed by its sender.
+    pub fn checkpoint(self, alloc: Global) -> Result<Signed<Checkpoint>, Memory> {
+        let Told(sender, number) = self;
+        let checkpoint = Checkpoint::new(sender, number % (1 << 63), [1; 32]);
+        sign_checkpoint(alloc, &keys_of(alloc, sender)?, checkpoint)
+    }
+}
+
+/// A VIEW-CHANGE.
+#[derive(Clone, Copy)]
+pub struct Asked<'a> {
+    pub sender: u32,
+    pub view: u64,
+    pub stable: u64,
+    pub told: &'a [Told],
+    pub held: &'a [Prepared],
+}
+
+fn checkpoints(alloc: Global, told: &[Told]) -> Result<Vec<Signed<Checkpoint>>, Memory> {
     let mut all = Vec::new(alloc);
-    for sender in senders {
-        let checkpoint = Checkpoint::new(*sender, number % (1 << 63), [1; 32]);
-        all.push(sign_checkpoint(alloc, &keys_of(alloc, *sender)?, checkpoint)?)?;
+    for one in told {
+        all.push(one.checkpoint(alloc)?)?;
     }
     Ok(all)
 }
 
-/// What a VIEW-CHANGE says, but for its certificates.
-#[derive(Clone, Copy)]
-pub struct Asked {
-    pub sender: u32,
-    pub view: u64,
-    pub stable: u64,
+fn certificates(alloc: Global, held: &[Prepared]) -> Result<Vec<Certificate>, Memory> {
+    let mut all = Vec::new(alloc);
+    for one in held {
+        all.push(one.certificate(alloc)?)?;
+    }
+    Ok(all)
 }
 
-impl Asked {
-    /// For view 1, with stable number 0.
-    pub fn first(sender: u32) -> Asked {
-        Asked {
-            sender,
-            view: 1,
-            stable: 0,
-        }
-    }
-
-    /// Its VIEW-CHANGE, with these parts.
-    pub fn with(
-        self,
-        alloc: Global,
-        checkpoints: Vec<Signed<Checkpoint>>,
-        certificates: Vec<Certificate>,
-    ) -> Result<Signed<ViewChange>, Memory> {
+impl<'a> Asked<'a> {
+    /// The VIEW-CHANGE, signed by its sender.
+    pub fn change(self, alloc: Global) -> Result<Signed<ViewChange>, Memory> {
+        let checkpoints = checkpoints(alloc, self.told)?;
+        let certificates = certificates(alloc, self.held)?;
         if checkpoints.len() > 31 || certificates.len() > 32 {
             return Err(Memory);
         }
@@ -122,22 +160,47 @@ impl Asked {
         let change = ViewChange::new(self.sender, view, stable, checkpoints, certificates);
         sign_view_change(alloc, &keys_of(alloc, self.sender)?, change)
     }
+}
 
-    /// One that has the certificates of what was prepared, with a batch at second 5 for each, and as many CHECKPOINTs as its number takes.
-    pub fn change(
-        self,
-        alloc: Global,
-        held: &[Prepared<'_>],
-    ) -> Result<Signed<ViewChange>, Memory> {
-        let mut certificates = Vec::new(alloc);
-        for prepared in held {
-            certificates.push(prepared.certificate(alloc, batch_at(alloc, 5)?)?)?;
+/// VIEW-CHANGEs, each signed by its sender.
+pub fn changes(alloc: Global, asked: &[Asked<'_>]) -> Result<Vec<Signed<ViewChange>>, Memory> {
+    let mut all = Vec::new(alloc);
+    for one in asked {
+        all.push(one.change(alloc)?)?;
+    }
+    Ok(all)
+}
+
+/// A NEW-VIEW for view 1: its sender, its VIEW-CHANGEs, and the numbers and batches of its PRE-PREPAREs.
+#[derive(Clone, Copy)]
+pub struct Begun(
+    pub u32,
+    pub &'static [Asked<'static>],
+    pub &'static [(u64, Batch)],
+);
+
+fn proposals(
+    alloc: Global,
+    sender: u32,
+    proposed: &[(u64, Batch)],
+) -> Result<Vec<Signed<PrePrepare>>, Memory> {
+    let mut all = Vec::new(alloc);
+    for (number, batch) in proposed {
+        all.push(proposal(alloc, sender, 1, *number, *batch)?)?;
+    }
+    Ok(all)
+}
+
+impl Begun {
+    /// The NEW-VIEW, signed by its sender.
+    pub fn message(self, alloc: Global) -> Result<Signed<Message>, Memory> {
+        let Begun(sender, asked, proposed) = self;
+        let changes = changes(alloc, asked)?;
+        let proposals = proposals(alloc, sender, proposed)?;
+        if changes.len() > 31 || proposals.len() > 32 {
+            return Err(Memory);
         }
-        let senders: &[u32] = if self.stable == 0 { &[] } else { &[0, 1, 3] };
-        self.with(
-            alloc,
-            checkpoints(alloc, self.stable, senders)?,
-            certificates,
-        )
+        let new = NewView::new(sender, 1, changes, proposals);
+        sign(alloc, &keys_of(alloc, sender)?, Message::NewView(new))
     }
 }
