@@ -1,5 +1,4 @@
 mod Adding
-mod Blocks
 mod Maps
 mod Naming
 mod Numbered

@@ -1,4 +1,4 @@
 -- What contracts inside this crate speak of.
-pub mod Signing
+pub mod Checking
 pub mod Rows
 pub mod Places

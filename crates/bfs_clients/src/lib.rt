@@ -1,6 +1,7 @@
 //! The clients of a run of replicas: the keys that they sign their requests with, and what they make of the replies.
 #![tactic(auto)]
 
+mod checking;
 mod clients;
 mod named_tallies;
 mod names;

@@ -1,11 +1,11 @@
 // The requests of a block, signed by their clients.
-ghost use Rattle.std.specs.Prelude.{◌≡◌, true, is_ok, IfOk};
-ghost use Rattle.std.specs.List.{AllZip, filter_map, list_all};
+ghost use Rattle.std.specs.Prelude.{◌≡◌, IfOk};
+ghost use Rattle.std.specs.List.{AllZip, filter_map};
 ghost use Rattle.bfs_clients.specs.Clients.{signed_request};
-ghost use Rattle.bfs_clients.specs.Inside.Signing.{signed_in};
 
 use crate::clients::Clients;
 use bfs_auth::least_texts;
+use bfs_gather::gather;
 use bfs_messages::{Message, Request, Signed};
 use bfs_types::Memory;
 use rayon::prelude::*;
@@ -26,7 +26,7 @@ impl Clients {
         ensures { IfOk result (λ all. all.items ≡ filter_map (signed_request self.now) requests.now) }
     {
         let each = self.sign_each(rt, requests)?;
-        all_in(self.alloc, each)
+        gather(self.alloc, each)
     }
 
     fn sign_each(
@@ -70,17 +70,4 @@ impl Clients {
             count => (bytes / count).saturating_mul(replicas),
         }
     }
-}
-
-// unless memory ran out at one
-fn all_in(alloc: Global, each: Vec<MaybeSigned>) -> Result<Vec<Signed<Message>>, Memory>
-    ensures { IfOk result (λ all. (list_all is_ok each.items ≡ true) × (all.items ≡ filter_map signed_in each.items)) }
-{
-    let mut all = Vec::new(alloc);
-    for signed in each {
-        if let Some(signed) = signed? {
-            all.push(signed)?;
-        }
-    }
-    Ok(all)
 }

@@ -1,6 +1,8 @@
 ghost use Rattle.std.specs.Prelude.{◌≡◌, ℕ, [], fold, IfOk, OnOk, OnErr, if◌then◌else◌};
 ghost use Rattle.std.specs.Option.{option_and_then, option_map};
+ghost use Rattle.bfs_messages.specs.Signing.{is_signed};
 ghost use Rattle.bfs_tally.specs.Tallies.{agreed, tallied};
+ghost use Rattle.bfs_clients.specs.Inside.Checking.{is_signed_reply};
 ghost use Rattle.bfs_clients.specs.Names.{found, same_name};
 ghost use Rattle.bfs_clients.specs.Tallies.{begun, tallied_by, tally_at};
 ghost use Rattle.bfs_clients.specs.declared.names.Name as declared;
@@ -14,6 +16,7 @@ use bfs_types::Memory;
 use std::alloc::Global;
 use std::collections::BTreeMap;
 use std::marker::Model;
+use std::thread::Threads;
 
 /// What clients make of the replies to the requests that they sent: a tally for each request, found by its client and timestamp.
 #[derive(Drop)]
@@ -67,6 +70,20 @@ impl Tallies {
         ensures err { OnErr result (self.new ≡ self.old) }
         ensures f { self.new.f ≡ self.old.f }
     {
+        self.add_checked(clients, signed, clients.is_signed(signed))
+    }
+
+    fn add_checked(
+        &mut self,
+        clients: &Clients,
+        signed: &Signed<Message>,
+        passes: bool,
+    ) -> Result<(), Memory>
+        requires { passes ≡ is_signed_reply clients.now signed.now }
+        ensures ok { OnOk result ((client timestamp : ℕ) → tally_at self.new client timestamp ≡ option_map (λ tally. tallied_by clients.now tally signed.now) (tally_at self.old client timestamp)) }
+        ensures err { OnErr result (self.new ≡ self.old) }
+        ensures f { self.new.f ≡ self.old.f }
+    {
         let Message::Reply(reply) = &signed.message else {
             return Ok(());
         };
@@ -77,17 +94,24 @@ impl Tallies {
             client: reply.client(),
             timestamp: reply.timestamp(),
         };
-        count(&mut self.tallies, name, keys, signed)
+        count(&mut self.tallies, name, keys, signed, passes)
     }
 
-    /// Counts messages one after another, each as `add` does. `Memory` if memory runs out; then those before one of them are counted.
+    /// Counts messages one after another, each as `add` does. Their keyed hashes are checked by as many threads as there are processors,
+    /// unless there is too little to hash for them. `Memory` if memory runs out; then those before one of them are counted.
     #[tactic(auto, using(crate::proofs::Adding::one_more, crate::proofs::Adding::none_yet, crate::proofs::Adding::all))]
-    pub fn add_all(&mut self, clients: &Clients, messages: &[Signed<Message>]) -> Result<(), Memory>
+    pub fn add_all(
+        &mut self,
+        rt: &(impl Threads + Sync),
+        clients: &Clients,
+        messages: &[Signed<Message>],
+    ) -> Result<(), Memory>
         ensures ok { OnOk result ((client timestamp : ℕ) → tally_at self.new client timestamp ≡ option_map (λ tally. fold (tallied_by clients.now) tally messages.now) (tally_at self.old client timestamp)) }
         ensures f { self.new.f ≡ self.old.f }
     {
-        for signed in messages {
-            self.add(clients, signed)?;
+        let passes = clients.are_signed(rt, messages)?;
+        for number in 0..messages.len() {
+            self.add_checked(clients, &messages[number], passes[number])?;
         }
         Ok(())
     }
@@ -117,12 +141,14 @@ fn count(
     name: Name,
     keys: &Keys,
     signed: &Signed<Message>,
+    passes: bool,
 ) -> Result<(), Memory>
+    requires { passes ≡ is_signed keys.now signed.now }
     ensures ok { OnOk result ((other : declared.Name) → found tallies.new.entries other ≡ if same_name name other then option_map (λ tally. tallied keys.now tally signed.now) (found tallies.old.entries other) else found tallies.old.entries other) }
     ensures err { OnErr result (tallies.new.entries ≡ tallies.old.entries) }
 {
     match tallies.get_mut(&name) {
-        Some(tally) => tally.add(keys, signed),
+        Some(tally) => tally.add_checked(keys, signed, passes),
         None => Ok(()),
     }
 }

@@ -15,7 +15,7 @@ use Rattle.bfs_node.specs.declared.receivers.Receivers.TheVariants.{Replicas, Cl
 use Rattle.bfs_cluster.proofs.Each.{one_more}
 use Rattle.bfs_cluster.specs.Inside.Acts.{Acts, doing, posted_if}
 use Rattle.bfs_cluster.specs.Steps.{executing, turning, turn_taken}
-use Rattle.bfs_cluster.specs.World.{Replica, World, done_if, node_at, node_if_heard, posted, posted_to}
+use Rattle.bfs_cluster.specs.World.{Replica, World, done_if, node_at, node_if_heard, noted, posted, posted_to}
 
 -- the world with a replica as a call left it
 abbrev pub with_replica : World → (number : ℕ) → Replica → World
@@ -73,7 +73,7 @@ turn_passes world number old new given within is gives did =
 posted_keeps : (sender : ℕ) (world : World) (signed : Signed Message) → (posted sender world signed).replicas ≡ world.replicas
 posted_keeps sender world signed = go (receivers_of signed.message)
   where
-    go : (receivers : Receivers) → (posted_to sender world signed receivers).replicas ≡ world.replicas
+    go : (receivers : Receivers) → (posted_to sender (noted sender world signed) signed receivers).replicas ≡ world.replicas
     go Replicas = refl
     go (Client client) = refl
 

@@ -2,5 +2,6 @@ pub mod Acting
 pub mod Catching
 pub mod Each
 pub mod Once
+pub mod Requesting
 pub mod Settling
 pub mod Turns

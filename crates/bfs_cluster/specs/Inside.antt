@@ -1,3 +1,4 @@
 -- What contracts of private functions cite.
 pub mod Acts
+pub mod Requests
 pub mod Trying

@@ -1,6 +1,7 @@
 -- Replicas in one process, the messages between them, and what becomes of what one of them does.
 use Rattle.std.specs.Prelude.{ℕ, Bool, true, List, [], ◌∷◌, ◌++◌, map, slice_get, slice_set, Option, Some, None, if◌then◌else◌}
 use Rattle.std.specs.List.{fold, range_with_len}
+use Rattle.std.specs.Option.{option_map, unwrap_or}
 use Rattle.bfs_log.specs.Logs.{Log}
 use Rattle.bfs_messages.specs.declared.message.Message.{Message}
 use Rattle.bfs_messages.specs.declared.signed.Signed.{Signed}
@@ -21,6 +22,11 @@ pub record Broadcast : Type 0 where
   pub next : ℕ
   pub signed : Signed Message
 
+-- a message that a replica sent
+pub record Sent : Type 0 where
+  pub sender : ℕ
+  pub signed : Signed Message
+
 pub record World : Type 0 where
   -- by their numbers
   pub replicas : List Replica
@@ -30,6 +36,8 @@ pub record World : Type 0 where
   pub replies : Log
   -- whose turn it is to execute; none while messages are delivered
   pub turn : Option ℕ
+  -- what replicas sent since it was asked for last, in that order; none as long as nobody watches
+  pub watched : Option (List Sent)
 
 -- all are heard, and have done nothing
 abbrev pub new_replica : Settings → (number : ℕ) → Replica
@@ -41,7 +49,21 @@ new_world settings = record {
   queue = [];
   replies = [];
   turn = None;
+  watched = None;
 }
+
+-- Who watches ------------------------------------------------------------------------------------------------------------
+
+-- what was sent since it was asked for last, as far as it was watched
+abbrev pub sent_in : World → List Sent
+sent_in world = unwrap_or world.watched []
+
+-- from now on; what is kept stays
+abbrev pub watching : World → World
+watching world = record world { watched = Some (sent_in world) }
+
+abbrev pub sent_taken : World → World
+sent_taken world = record world { watched = option_map (λ sent. []) world.watched }
 
 -- Who is heard -----------------------------------------------------------------------------------------------------------
 
@@ -67,9 +89,13 @@ abbrev pub posted_to : (sender : ℕ) → World → Signed Message → Receivers
 posted_to sender world signed Replicas = record world { queue = world.queue ++ record { sender = sender; next = 0; signed = signed } ∷ [] }
 posted_to sender world signed (Client client) = record world { replies = world.replies ++ signed ∷ [] }
 
+-- a message is kept for whoever watches
+abbrev pub noted : (sender : ℕ) → World → Signed Message → World
+noted sender world signed = record world { watched = option_map (λ sent. sent ++ record { sender = sender; signed = signed } ∷ []) world.watched }
+
 -- a message is sent
 abbrev pub posted : (sender : ℕ) → World → Signed Message → World
-posted sender world signed = posted_to sender world signed (receivers_of signed.message)
+posted sender world signed = posted_to sender (noted sender world signed) signed (receivers_of signed.message)
 
 abbrev pub with_node : World → (number : ℕ) → Node → World
 with_node world number node = record world { replicas = slice_set world.replicas number (record { heard = true; node = node }) }

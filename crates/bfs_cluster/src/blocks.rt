@@ -1,5 +1,7 @@
-ghost use Rattle.std.specs.Prelude.{◌≡◌, OnOk};
+ghost use Rattle.std.specs.Prelude.{◌≡◌, ◌<◌, true, fold, length, OnOk};
+ghost use Rattle.std.specs.List.{list_all};
 ghost use Rattle.bfs_cluster.specs.Blocks.{requested, with_block};
+ghost use Rattle.bfs_cluster.specs.Inside.Requests.{changing, is_request, with_requests};
 
 use crate::acts::Act;
 use crate::cluster::Cluster;
@@ -18,10 +20,63 @@ impl Cluster {
     ) -> Result<(), Memory>
         ensures { OnOk result (self.new ≡ with_block self.old time requests.now) }
     {
-        for signed in requests {
+        self.request_all(rt, requests)?;
+        self.act(&Act::Propose(time))
+    }
+
+    fn request_all<R: Threads + Sync>(
+        &mut self,
+        rt: &R,
+        messages: &[Signed<Message>],
+    ) -> Result<(), Memory>
+        ensures { OnOk result (self.new ≡ fold requested self.old messages.now) }
+    {
+        if are_requests(messages) {
+            self.take_requests(rt, messages)
+        } else {
+            self.request_each(rt, messages)
+        }
+    }
+
+    // All of them come to one replica, which checks them side by side, and then to the next one: none makes a replica send anything.
+    #[tactic(auto, using(crate::proofs::Requesting::come_to_each))]
+    fn take_requests<R: Threads + Sync>(
+        &mut self,
+        rt: &R,
+        messages: &[Signed<Message>],
+    ) -> Result<(), Memory>
+        requires { list_all is_request messages.now ≡ true }
+        ensures { OnOk result (self.new ≡ fold requested self.old messages.now) }
+    {
+        for number in 0..self.replicas.len() {
+            self.take_requests_at(rt, messages, number)?;
+        }
+        Ok(())
+    }
+
+    fn take_requests_at<R: Threads + Sync>(
+        &mut self,
+        rt: &R,
+        messages: &[Signed<Message>],
+        number: usize,
+    ) -> Result<(), Memory>
+        requires { number < length self.old.replicas }
+        ensures { OnOk result (self.new ≡ changing (with_requests messages.now) self.old number) }
+    {
+        self.replicas[number].take_requests(rt, messages)
+    }
+
+    fn request_each<R: Threads + Sync>(
+        &mut self,
+        rt: &R,
+        messages: &[Signed<Message>],
+    ) -> Result<(), Memory>
+        ensures { OnOk result (self.new ≡ fold requested self.old messages.now) }
+    {
+        for signed in messages {
             self.request(rt, signed)?;
         }
-        self.act(&Act::Propose(time))
+        Ok(())
     }
 
     fn request<R: Threads + Sync>(&mut self, rt: &R, signed: &Signed<Message>) -> Result<(), Memory>
@@ -33,4 +88,14 @@ impl Cluster {
         }
         Ok(())
     }
+}
+
+fn are_requests(messages: &[Signed<Message>]) -> bool
+    ensures { result ≡ list_all is_request messages.now }
+{
+    messages.iter().all(
+        |signed: &Signed<Message>| -> bool
+            ensures { result ≡ is_request signed.now }
+        { matches!(signed.message, Message::Request(_)) },
+    )
 }

@@ -37,20 +37,21 @@ pub struct Cluster {
     pub(crate) replies: Vec<Signed<Message>>,
     // whose turn it is to execute, while no messages are delivered
     pub(crate) turn: Option<usize>,
-    pub(crate) is_watched: bool,
-    pub(crate) watched: Vec<Sent>,
+    // what was sent since it was asked for last, once somebody watches
+    pub(crate) watched: Option<Vec<Sent>>,
 }
 
 impl Model for Cluster {
     ghost use Rattle.bfs_cluster.specs.World as model;
     ghost use Rattle.std.specs.Coded.{codes};
+    ghost use Rattle.std.specs.Option.{option_map};
     ghost use Rattle.bfs_serial.specs.Codes.{inodes_code};
 
     ghost Value = { model.World };
 
     ghost coded = { Prim.hlevel (codes, inodes_code) };
 
-    ghost view = { λ cluster. record { replicas = cluster.replicas.items; queue = cluster.queue.items; replies = cluster.replies.items; turn = cluster.turn } };
+    ghost view = { λ cluster. record { replicas = cluster.replicas.items; queue = cluster.queue.items; replies = cluster.replies.items; turn = cluster.turn; watched = option_map (λ sent. sent.items) cluster.watched } };
 }
 
 impl Cluster {
@@ -74,8 +75,7 @@ impl Cluster {
             queue: VecDeque::new(alloc),
             replies: Vec::new(alloc),
             turn: None,
-            is_watched: false,
-            watched: Vec::new(alloc),
+            watched: None,
         })
     }
 

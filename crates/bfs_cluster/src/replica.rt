@@ -3,6 +3,7 @@ ghost use Rattle.std.specs.Option.{option_map};
 ghost use Rattle.bfs_cluster.specs.Blocks.{proposal};
 ghost use Rattle.bfs_cluster.specs.CatchingUp.{Offer, offered};
 ghost use Rattle.bfs_cluster.specs.Inside.Acts.{Acts, CheckpointsAfter, deed, doing};
+ghost use Rattle.bfs_cluster.specs.Inside.Requests.{with_requests};
 ghost use Rattle.bfs_cluster.specs.Inside.Trying.{Tries};
 ghost use Rattle.bfs_cluster.specs.Standings.{is_in};
 ghost use Rattle.bfs_cluster.specs.Steps.{delivery, executing};
@@ -56,6 +57,20 @@ impl Replica {
             Ok(sent) => Ok(Some(sent)),
             Err(error) => lost(error),
         }
+    }
+
+    /// The REQUESTs among messages come, one after another; it sends nothing then.
+    pub fn take_requests<R: Threads + Sync>(
+        &mut self,
+        rt: &R,
+        messages: &[Signed<Message>],
+    ) -> Result<(), Memory>
+        ensures { OnOk result (self.new ≡ with_requests messages.now self.old) }
+    {
+        if self.heard {
+            self.node.take_requests(rt, messages)?;
+        }
+        Ok(())
     }
 
     /// What it sends to do that; `None` where it refuses to.

@@ -1,9 +1,11 @@
 // What replicas send, kept for whoever watches.
 ghost use Rattle.std.specs.Prelude.{◌≡◌, OnOk};
+ghost use Rattle.bfs_cluster.specs.World.{noted, sent_in, sent_taken, watching};
 
 use crate::cluster::Cluster;
 use bfs_messages::{Message, Signed};
 use bfs_types::Memory;
+use std::marker::Model;
 
 /// A message that a replica sent, to all other replicas or to a client.
 #[derive(Drop)]
@@ -12,27 +14,41 @@ pub struct Sent {
     pub signed: Signed<Message>,
 }
 
+impl Model for Sent {
+    ghost use Rattle.bfs_cluster.specs.World as model;
+
+    ghost Value = { model.Sent };
+
+    ghost view = { λ sent. record { sender = sent.sender; signed = sent.signed } };
+}
+
 impl Cluster {
-    /// From now on a copy of each message that a replica sends is kept, for `take_sent`. Nothing else changes.
+    /// From now on a copy of each message that a replica sends is kept, for `take_sent`.
     pub fn watch(&mut self)
-        ensures { self.new ≡ self.old }
+        ensures { self.new ≡ watching self.old }
     {
-        self.is_watched = true;
+        if self.watched.is_none() {
+            self.watched = Some(Vec::new(self.alloc));
+        }
     }
 
     /// What replicas sent since this was asked for last, in the order in which they sent it, as long as they are watched.
     pub fn take_sent(&mut self) -> Vec<Sent>
-        ensures { self.new ≡ self.old }
+        ensures sent { result.items ≡ sent_in self.old }
+        ensures taken { self.new ≡ sent_taken self.old }
     {
-        std::mem::replace(&mut self.watched, Vec::new(self.alloc))
+        match &mut self.watched {
+            None => Vec::new(self.alloc),
+            Some(sent) => std::mem::replace(sent, Vec::new(self.alloc)),
+        }
     }
 
     pub(crate) fn note(&mut self, sender: usize, signed: &Signed<Message>) -> Result<(), Memory>
-        ensures { OnOk result (self.new ≡ self.old) }
+        ensures { OnOk result (self.new ≡ noted sender self.old signed.now) }
     {
-        if self.is_watched {
+        if let Some(sent) = &mut self.watched {
             let signed = signed.try_clone(self.alloc)?;
-            self.watched.push(Sent { sender, signed })?;
+            sent.push(Sent { sender, signed })?;
         }
         Ok(())
     }

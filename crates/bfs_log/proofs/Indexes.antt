@@ -1,15 +1,16 @@
 -- What is asked of a log is asked of what is said at one place.
 use Rattle.std.proofs.Common.{◌≡◌, ℕ, Bool, true, false, ◌&&◌, ◌||◌, not, cond, List, [], ◌∷◌, refl, ap, sym, subst, ◌∙◌, nat_lt}
-use Rattle.std.specs.Prelude.{◌==◌, bytes_eq, map, filter, find, count_by, Option, Some, option_and_then}
+use Rattle.std.specs.Prelude.{◌==◌, bytes_eq, map, filter, find, count_by, Option, Some}
 use Rattle.std.specs.List.{list_any}
+use Rattle.std.specs.Option.{option_map}
 use Rattle.std.proofs.Math.Bool.{and_comm, and_assoc}
 use Rattle.std.proofs.lemmas.Bool.{and_parts, eqb-true}
 use Rattle.bfs_messages.specs.declared.signed.Signed.{Signed}
 use Rattle.bfs_messages.specs.declared.message.Message.{Message}
 use Rattle.bfs_agreement.specs.Votes.{Header, SlotsDiffer, is_slot, has_slot, is_taken, says, told, tellers, backups, primary, replicas}
-use Rattle.bfs_log.specs.Batches.{Committed, Said}
+use Rattle.bfs_log.specs.Batches.{Said}
 use Rattle.bfs_log.specs.Headers.{header}
-use Rattle.bfs_log.specs.Logs.{Log, headers, said_in, batch_in, proposal_in}
+use Rattle.bfs_log.specs.Logs.{Log, headers, said_in, said_of}
 use Rattle.bfs_log.specs.Places.{is_at, said_at, same_place, place_of}
 use Rattle.bfs_log.specs.Rows.{SendersDiffer, is_from, tells}
 use Rattle.bfs_log.specs.declared.places.Place.{Place}
@@ -60,27 +61,23 @@ told_at log tag sender view number digest =
     (λ m. ap (λ b. b && bytes_eq (header m).digest digest) (in_slot tag sender view number (header m)) ∙ and_assoc (is_at (slot_place tag view number) (header m)) ((header m).sender == sender) (bytes_eq (header m).digest digest))
     log
 
-abbrev batch_at : Option (Signed Message) → Option Committed
-batch_at found = option_and_then (λ m. batch_in m.message) found
+abbrev said_by : Option (Signed Message) → Option Said
+said_by found = option_map (λ m. said_in m.message) found
 
-abbrev batch_said : Option Said → Option Committed
-batch_said found = option_and_then (λ said. said.batch) found
-
-found_step : (s : Bool) (m : Signed Message) (rest : Option (Signed Message)) (found : Option Said) → batch_at rest ≡ batch_said found
-    → batch_at (cond s (Some m) rest) ≡ batch_said (cond s (Some (said_in m.message)) found)
+found_step : (s : Bool) (m : Signed Message) (rest : Option (Signed Message)) (found : Option Said) → said_by rest ≡ found → said_by (cond s (Some m) rest) ≡ cond s (Some (said_in m.message)) found
 found_step true m rest found h = refl
 found_step false m rest found h = h
 
 find_step : (a t : Bool) (sender : ℕ) (m : Signed Message) (kept : Log) (rest : Option (Signed Message)) → t ≡ (a && ((header m).sender == sender))
-    → batch_at rest ≡ batch_said (find (is_from sender) (rows_of kept)) → batch_at (cond t (Some m) rest) ≡ batch_said (find (is_from sender) (rows_of (cond a (m ∷ kept) kept)))
+    → said_by rest ≡ find (is_from sender) (rows_of kept) → said_by (cond t (Some m) rest) ≡ find (is_from sender) (rows_of (cond a (m ∷ kept) kept))
 find_step true t sender m kept rest e h = rw e (found_step ((header m).sender == sender) m rest (find (is_from sender) (rows_of kept)) h)
 find_step false t sender m kept rest e h = rw e h
 
-pub proposal_at : (log : Log) (sender view number : ℕ) → proposal_in log sender view number ≡ batch_said (find (is_from sender) (said_at (slot_place 2 view number) log))
-proposal_at [] sender view number = refl
-proposal_at (m ∷ log) sender view number =
-    find_step (is_at (slot_place 2 view number) (header m)) (is_slot 2 sender view number (header m)) sender m (filter (λ m. is_at (slot_place 2 view number) (header m)) log)
-    (find (λ m. is_slot 2 sender view number (header m)) log) (in_slot 2 sender view number (header m)) (proposal_at log sender view number)
+pub found_at : (log : Log) (tag sender view number : ℕ) → said_of log tag sender view number ≡ find (is_from sender) (said_at (slot_place tag view number) log)
+found_at [] tag sender view number = refl
+found_at (m ∷ log) tag sender view number =
+    find_step (is_at (slot_place tag view number) (header m)) (is_slot tag sender view number (header m)) sender m (filter (λ m. is_at (slot_place tag view number) (header m)) log)
+    (find (λ m. is_slot tag sender view number (header m)) log) (in_slot tag sender view number (header m)) (found_at log tag sender view number)
 
 senders_step : (place : Place) (m : Signed Message) (log : Log) (a : Bool) → is_at place (header m) ≡ a → is_taken (headers log) (header m) ≡ false
     → SendersDiffer (said_at place log) → SendersDiffer (rows_of (cond a (m ∷ filter (λ m. is_at place (header m)) log) (filter (λ m. is_at place (header m)) log)))

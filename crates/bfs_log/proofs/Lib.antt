@@ -2,7 +2,7 @@
 mod Counts
 mod Slots
 mod Indexes
-mod Found
+mod FreeSlots
 mod Maps
 mod Keeping
 mod Greatest

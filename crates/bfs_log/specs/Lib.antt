@@ -1,6 +1,5 @@
 -- What the contracts of bfs_log and of the crates above it cite.
 pub mod Batches
-pub mod Digests
 pub mod Headers
 pub mod Logs
 pub mod Places

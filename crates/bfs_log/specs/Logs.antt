@@ -1,5 +1,6 @@
 -- Logs of messages: what is found in them, and what of them is dropped (OSDI 1999 sections 4.2 and 4.3).
-use Rattle.std.specs.Prelude.{ℕ, ◌==◌, Bool, ◌&&◌, ◌||◌, max, List, [], ◌∷◌, map, filter, find, Option, Some, None, option_and_then, nat_lt, bytes_eq, if◌then◌else◌}
+use Rattle.std.specs.Prelude.{ℕ, ◌==◌, Bool, ◌&&◌, ◌||◌, max, List, [], ◌∷◌, map, filter, find, Option, Some, None, nat_lt, bytes_eq, if◌then◌else◌}
+use Rattle.std.specs.Option.{option_map}
 use Rattle.bfs_messages.specs.declared.signed.Signed.{Signed}
 use Rattle.bfs_messages.specs.declared.message.Message.{Message}
 use Rattle.bfs_messages.specs.declared.message.Message.TheVariants.{Request, PrePrepare, Prepare, Commit, Checkpoint, ViewChange, NewView, Reply}
@@ -29,9 +30,9 @@ batch_in (Reply reply) = None
 abbrev pub said_in : Message → Said
 said_in m = record { sender = (message_header m).sender; digest = (message_header m).digest; batch = batch_in m }
 
--- the batch of the first PRE-PREPARE of a sender for a number of a view
-abbrev pub proposal_in : Log → (sender view number : ℕ) → Option Committed
-proposal_in log sender view number = option_and_then (λ m. batch_in m.message) (find (λ m. is_slot 2 sender view number (header m)) log)
+-- what the first message of a kind, sender, view and number says
+abbrev pub said_of : Log → (tag sender view number : ℕ) → Option Said
+said_of log tag sender view number = option_map (λ m. said_in m.message) (find (λ m. is_slot tag sender view number (header m)) log)
 
 -- the greatest number of a PRE-PREPARE of a view, 0 where there is none
 abbrev pub greatest_proposed : (view : ℕ) → List Header → ℕ

@@ -2,13 +2,12 @@
 ghost use Rattle.std.specs.Prelude.{◌≡◌};
 ghost use Rattle.std.specs.Option.{option_map};
 ghost use Rattle.bfs_agreement.specs.Votes.{has_slot, told};
-ghost use Rattle.bfs_log.specs.Logs.{headers, proposal_in};
+ghost use Rattle.bfs_log.specs.Logs.{headers, said_of};
 
-use crate::committed::Committed;
 use crate::headers::Slot;
 use crate::logs::Log;
-use crate::places::Place;
 use crate::rows::{does_tell, find_from, has_from};
+use crate::said::Said;
 
 impl Log {
     /// Whether there is a message of that kind, sender, view and number.
@@ -25,18 +24,10 @@ impl Log {
         does_tell(self.row(slot.place()), digest, slot.sender)
     }
 
-    /// The number and the batch of the sender's PRE-PREPARE for a number of a view.
-    pub fn proposal_in(&self, sender: u32, view: u64, number: u64) -> Option<&Committed>
-        ensures { option_map (λ committed. committed.now) result ≡ proposal_in self.now sender view number }
+    /// What the message of that kind, sender, view and number says.
+    pub fn find(&self, slot: Slot) -> Option<&Said>
+        ensures { option_map (λ said. said.now) result ≡ said_of self.now slot.tag slot.sender slot.view slot.number }
     {
-        let place = Place {
-            number,
-            view,
-            tag: 2,
-        };
-        match find_from(self.row(place), sender) {
-            Some(said) => said.batch(),
-            None => None,
-        }
+        find_from(self.row(slot.place()), slot.sender)
     }
 }

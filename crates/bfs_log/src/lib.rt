@@ -3,8 +3,8 @@
 
 mod asking;
 mod committed;
+mod copies;
 mod counting;
-mod digests;
 mod headers;
 mod logs;
 mod places;
@@ -15,3 +15,4 @@ pub use committed::Committed;
 pub use counting::primary_of;
 pub use headers::{Header, Slot, header_of};
 pub use logs::Log;
+pub use said::Said;

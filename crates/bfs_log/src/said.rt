@@ -10,9 +10,9 @@ use bfs_messages::Message;
 use bfs_types::Memory;
 use std::marker::Model;
 
-/// Who says it, the digest that it tells, if it tells one, and the batch of a PRE-PREPARE.
+/// What a message says of its number: who says it, the digest that it tells, if it tells one, and the batch of a PRE-PREPARE.
 #[derive(Drop)]
-pub(crate) struct Said {
+pub struct Said {
     sender: u32,
     digest: Option<[u8; 32]>,
     batch: Option<Committed>,
@@ -66,7 +66,8 @@ impl Said {
         self.sender
     }
 
-    pub(crate) fn digest(&self) -> &[u8]
+    /// The digest that it tells, or no bytes.
+    pub fn digest(&self) -> &[u8]
         ensures { result.now ≡ self.now.digest }
     {
         match &self.digest {
@@ -75,7 +76,8 @@ impl Said {
         }
     }
 
-    pub(crate) fn batch(&self) -> Option<&Committed>
+    /// The number and the batch of a PRE-PREPARE.
+    pub fn batch(&self) -> Option<&Committed>
         ensures { option_map (λ batch. batch.now) result ≡ self.now.batch }
     {
         self.batch.as_ref()

@@ -3,18 +3,15 @@ ghost use Rattle.std.specs.Option.{option_map};
 ghost use Rattle.sha2.specs.Sha256.{sha256};
 ghost use Rattle.bfs_model.specs.Server.Limits.{most_requests};
 ghost use Rattle.bfs_messages.specs.Batches.{batch_text, requests_text};
-ghost use Rattle.bfs_messages.specs.Codes.{Reads, Takes};
+ghost use Rattle.bfs_messages.specs.Sinks.{Takes};
 ghost use Rattle.bfs_messages.specs.Limits.{FitsBatch, FitsRequests};
-ghost use Rattle.bfs_messages.specs.Parts.{batch_from, requests_from};
 ghost use Rattle.bfs_messages.specs.Messages.{requests_of};
 
-use crate::error::DecodeError;
 use crate::parts::put_list;
-use crate::reader::MessageReader;
 use crate::requests::Request;
 use crate::signed::Signed;
 use crate::sinks::Sink;
-use bfs_types::{MOST_REQUESTS, Time};
+use bfs_types::Time;
 use sha2::{Digest, Sha256};
 use std::marker::Model;
 
@@ -100,28 +97,6 @@ impl OrderedBatch {
             Err(never) => match never {},
         }
     }
-}
-
-#[tactic(auto, unfolding(crate::specs::Parts::batch_from, crate::specs::Parts::some_requests_from))]
-pub(crate) fn read_batch(reader: &mut MessageReader<'_>) -> Result<OrderedBatch, DecodeError>
-    ensures { Reads (λ batch. batch) result (batch_from reader.old) reader.new }
-{
-    match reader.u32()? {
-        0 => Ok(OrderedBatch::null()),
-        1 => Ok(OrderedBatch {
-            requests: Some(read_requests(reader)?),
-        }),
-        _ => Err(DecodeError::Malformed),
-    }
-}
-
-#[tactic(auto, unfolding(crate::specs::Parts::requests_from))]
-fn read_requests(reader: &mut MessageReader<'_>) -> Result<Requests, DecodeError>
-    ensures { Reads (λ batch. batch) result (requests_from reader.old) reader.new }
-{
-    let time = reader.time()?;
-    let requests = reader.list(MOST_REQUESTS as u32)?;
-    Ok(Requests { time, requests })
 }
 
 #[tactic(auto, unfolding(crate::specs::Batches::batch_text))]

@@ -4,18 +4,13 @@ ghost use Rattle.sha2.specs.Sha256.{sha256};
 ghost use Rattle.bfs_model.specs.Server.Limits.{most_number};
 ghost use Rattle.bfs_messages.specs.Batches.{batch_text};
 ghost use Rattle.bfs_messages.specs.Changes.{proposal_text};
-ghost use Rattle.bfs_messages.specs.ChangeReading.{behind_proposal_from, proposal_from};
-ghost use Rattle.bfs_messages.specs.Codes.{Reads};
 ghost use Rattle.bfs_messages.specs.Limits.{FitsPrePrepare, FitsSigned};
 
 use crate::batches::{OrderedBatch, put_batch};
-use crate::error::DecodeError;
 use crate::parts::Part;
-use crate::reader::MessageReader;
 use crate::signed::Signed;
 use crate::sinks::Sink;
 use crate::votes::Vote;
-use bfs_auth::Authenticator;
 use bfs_types::Memory;
 use std::alloc::Global;
 use std::marker::Model;
@@ -57,6 +52,14 @@ impl PrePrepare {
         }
     }
 
+    /// What a primary says of a batch by its digest.
+    pub fn from_vote(vote: Vote, batch: Arc<OrderedBatch>) -> PrePrepare
+        requires { vote.digest ≡ sha256 (batch_text (arc_value batch)) }
+        ensures { result ≡ record { vote = vote; batch = arc_value batch } }
+    {
+        PrePrepare { vote, batch }
+    }
+
     /// What it says of the number.
     pub fn vote(&self) -> &Vote
         ensures value { result.now ≡ self.now.vote }
@@ -84,16 +87,9 @@ impl PrePrepare {
 }
 
 impl Part for Signed<PrePrepare> {
-    ghost from = { proposal_from };
-
     ghost text = { proposal_text };
 
     ghost fits = { FitsSigned FitsPrePrepare };
-
-    fn read(reader: &mut MessageReader<'_>) -> Result<Signed<PrePrepare>, DecodeError> {
-        reader.tag(2)?;
-        read_behind_proposal(reader)
-    }
 
     fn put<S: Sink>(&self, out: &mut S) -> Result<(), S::Error> {
         out.u32(2)?;
@@ -108,20 +104,4 @@ impl Part for Signed<PrePrepare> {
             auth: self.auth.copy(alloc)?,
         })
     }
-}
-
-/// Reads what stands behind the tag of a PRE-PREPARE, with its keyed hashes and its batch.
-#[tactic(auto, unfolding(crate::specs::ChangeReading::behind_proposal_from))]
-pub(crate) fn read_behind_proposal(
-    reader: &mut MessageReader<'_>,
-) -> Result<Signed<PrePrepare>, DecodeError>
-    ensures { Reads (λ signed. signed) result (behind_proposal_from reader.old) reader.new }
-{
-    let vote = Vote::read(reader)?;
-    let auth = Authenticator::read(reader)?;
-    let batch = reader.batch_of(vote.digest())?;
-    Ok(Signed {
-        message: PrePrepare { vote, batch },
-        auth,
-    })
 }

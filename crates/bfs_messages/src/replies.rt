@@ -2,11 +2,8 @@ ghost use Rattle.std.specs.Prelude.{◌≡◌, ◌≤◌, length, IfOk};
 ghost use Rattle.bfs_model.specs.Server.Limits.{most_number, most_reply_bytes};
 ghost use Rattle.bfs_messages.specs.Batches.{reply_text};
 ghost use Rattle.bfs_messages.specs.Limits.{FitsReply};
-ghost use Rattle.bfs_messages.specs.Parts.{reply_from};
 
-use crate::error::DecodeError;
 use crate::parts::Part;
-use crate::reader::MessageReader;
 use crate::sinks::Sink;
 use bfs_types::{Bytes, MOST_REPLY_BYTES, Memory};
 use std::alloc::Global;
@@ -97,21 +94,9 @@ impl Reply {
 }
 
 impl Part for Reply {
-    ghost from = { reply_from };
-
     ghost text = { reply_text };
 
     ghost fits = { FitsReply };
-
-    #[tactic(auto, unfolding(crate::specs::Parts::reply_from))]
-    fn read(reader: &mut MessageReader<'_>) -> Result<Reply, DecodeError> {
-        let sender = reader.u32()?;
-        let view = reader.number()?;
-        let client = reader.u32()?;
-        let timestamp = reader.u64()?;
-        let bytes = reader.bytes(MOST_REPLY_BYTES as u32)?;
-        Ok(Reply::new(reader.alloc(), sender, view, client, timestamp, bytes)?)
-    }
 
     fn put<S: Sink>(&self, out: &mut S) -> Result<(), S::Error> {
         out.u32(self.sender)?;

@@ -3,11 +3,8 @@ ghost use Rattle.std.specs.Arc.{arc_value};
 ghost use Rattle.bfs_model.specs.Server.Limits.{most_request_bytes};
 ghost use Rattle.bfs_messages.specs.Batches.{request_text};
 ghost use Rattle.bfs_messages.specs.Limits.{FitsRequest};
-ghost use Rattle.bfs_messages.specs.Parts.{request_from};
 
-use crate::error::DecodeError;
 use crate::parts::{Kind, Part};
-use crate::reader::MessageReader;
 use crate::signed::Signed;
 use crate::sinks::Sink;
 use bfs_types::{Bytes, MOST_REQUEST_BYTES, Memory};
@@ -70,19 +67,9 @@ impl Request {
 }
 
 impl Part for Request {
-    ghost from = { request_from };
-
     ghost text = { request_text };
 
     ghost fits = { FitsRequest };
-
-    #[tactic(auto, unfolding(crate::specs::Parts::request_from))]
-    fn read(reader: &mut MessageReader<'_>) -> Result<Request, DecodeError> {
-        let client = reader.u32()?;
-        let timestamp = reader.u64()?;
-        let call = reader.bytes(MOST_REQUEST_BYTES as u32)?;
-        Ok(Request::new(reader.alloc(), client, timestamp, call)?)
-    }
 
     fn put<S: Sink>(&self, out: &mut S) -> Result<(), S::Error> {
         out.u32(self.client)?;

@@ -2,7 +2,7 @@
 ghost use Rattle.std.specs.Prelude.{◌≡◌, ◌<◌, ◌^◌, ℕ, List, length, OnOk};
 ghost use Rattle.sha2.specs.Hashers.{Holds256};
 ghost use Rattle.bfs_model.specs.Bytes.Items.{counted, fixed, hyper, word};
-ghost use Rattle.bfs_messages.specs.Codes.{Takes};
+ghost use Rattle.bfs_messages.specs.Sinks.{Takes};
 
 use bfs_types::Memory;
 use bfs_xdr::{

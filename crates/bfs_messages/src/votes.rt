@@ -2,11 +2,8 @@ ghost use Rattle.std.specs.Prelude.{◌≡◌, ◌≤◌, IfOk};
 ghost use Rattle.bfs_model.specs.Server.Limits.{most_number};
 ghost use Rattle.bfs_messages.specs.Batches.{checkpoint_text, vote_text};
 ghost use Rattle.bfs_messages.specs.Limits.{FitsCheckpoint, FitsVote};
-ghost use Rattle.bfs_messages.specs.Parts.{checkpoint_from, vote_from};
 
-use crate::error::DecodeError;
 use crate::parts::{Kind, Part};
-use crate::reader::MessageReader;
 use crate::sinks::Sink;
 use bfs_types::Memory;
 use std::alloc::Global;
@@ -83,20 +80,9 @@ impl Vote {
 }
 
 impl Part for Vote {
-    ghost from = { vote_from };
-
     ghost text = { vote_text };
 
     ghost fits = { FitsVote };
-
-    #[tactic(auto, unfolding(crate::specs::Parts::vote_from))]
-    fn read(reader: &mut MessageReader<'_>) -> Result<Vote, DecodeError> {
-        let sender = reader.u32()?;
-        let view = reader.number()?;
-        let number = reader.number()?;
-        let digest = reader.digest()?;
-        Ok(Vote::new(sender, view, number, digest))
-    }
 
     fn put<S: Sink>(&self, out: &mut S) -> Result<(), S::Error> {
         out.u32(self.sender)?;
@@ -175,19 +161,9 @@ impl Checkpoint {
 }
 
 impl Part for Checkpoint {
-    ghost from = { checkpoint_from };
-
     ghost text = { checkpoint_text };
 
     ghost fits = { FitsCheckpoint };
-
-    #[tactic(auto, unfolding(crate::specs::Parts::checkpoint_from))]
-    fn read(reader: &mut MessageReader<'_>) -> Result<Checkpoint, DecodeError> {
-        let sender = reader.u32()?;
-        let number = reader.number()?;
-        let digest = reader.digest()?;
-        Ok(Checkpoint::new(sender, number, digest))
-    }
 
     fn put<S: Sink>(&self, out: &mut S) -> Result<(), S::Error> {
         out.u32(self.sender)?;

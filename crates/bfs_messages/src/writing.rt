@@ -1,11 +1,10 @@
 // The texts of messages.
-ghost use Rattle.std.specs.Prelude.{◌≡◌, ◌++◌, IfOk, OnOk, Some};
+ghost use Rattle.std.specs.Prelude.{◌≡◌, ◌++◌, IfOk, OnOk};
 ghost use Rattle.bfs_model.specs.Bytes.Items.{word};
 ghost use Rattle.bfs_messages.specs.Batches.{batch_text};
-ghost use Rattle.bfs_messages.specs.Codes.{Takes};
+ghost use Rattle.bfs_messages.specs.Sinks.{Takes};
 ghost use Rattle.bfs_messages.specs.Fits.{FieldsFit, FitsMessage};
 ghost use Rattle.bfs_messages.specs.Limits.{FitsSigned};
-ghost use Rattle.bfs_messages.specs.Reading.{message_of};
 ghost use Rattle.bfs_messages.specs.Spelling.{attached_text, body_text, signed_text};
 
 use crate::batches::{OrderedBatch, put_batch};
@@ -16,14 +15,12 @@ use crate::sinks::Sink;
 use bfs_types::Memory;
 use std::alloc::Global;
 
-/// The bytes of a message and its keyed hashes. `Memory` if memory runs out.
-pub fn encode(alloc: Global, signed: &Signed<Message>) -> Result<Vec<u8>, Memory>
-    ensures text { IfOk result (λ bytes. bytes.items ≡ signed_text signed.now) }
-    ensures again { IfOk result (λ bytes. message_of bytes.items ≡ Some signed.now) }
+/// Writes a message and its keyed hashes behind the bytes that are there. `Memory` if memory runs out.
+pub fn put_message(bytes: &mut Vec<u8>, signed: &Signed<Message>) -> Result<(), Memory>
+    ensures text { OnOk result (bytes.new.items ≡ bytes.old.items ++ signed_text signed.now) }
+    ensures fits { OnOk result (FitsSigned FitsMessage signed.now) }
 {
-    let mut bytes = Vec::new(alloc);
-    put_signed(signed, &mut bytes)?;
-    Ok(bytes)
+    put_signed(signed, bytes)
 }
 
 /// The bytes of a batch. `Memory` if memory runs out.

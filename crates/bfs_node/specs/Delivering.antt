@@ -1,11 +1,13 @@
 -- A message comes: each kind goes to its part, and what the part gives is sent (OSDI 1999 sections 4.1 to 4.4).
 use Rattle.std.specs.Prelude.{not, [], ◌∷◌, ◌++◌, length, Option, Some, None, nat_le, if◌then◌else◌}
+use Rattle.std.specs.List.{fold}
 use Rattle.std.specs.Option.{option_map}
 use Rattle.bfs_model.specs.Server.Limits.{most_requests}
 use Rattle.bfs_agreement.specs.Votes.{Header}
 use Rattle.bfs_checkpoints.specs.Certificates.{checkpoints}
 use Rattle.bfs_checkpoints.specs.Keeping.{Keeping, settled}
 use Rattle.bfs_log.specs.Headers.{header}
+use Rattle.bfs_log.specs.Logs.{Log}
 use Rattle.bfs_messages.specs.Messages as model
 use Rattle.bfs_messages.specs.declared.signed.Signed.{Signed}
 use Rattle.bfs_messages.specs.declared.message.Message.{Message}
@@ -34,6 +36,21 @@ request_refusal node request =
 -- it goes to the end of the list of those that wait; nothing is sent
 abbrev pub with_request : Node → Signed model.Request → Outcome
 with_request node request = record { now = record node { pending = node.pending ++ request ∷ [] }; sent = [] }
+
+-- Many requests -----------------------------------------------------------------------------------------------------------
+
+abbrev pub if_taken : Option NodeError → (taken node : Node) → Node
+if_taken None taken node = taken
+if_taken (Some refused) taken node = node
+
+-- a REQUEST that is refused is lost, and any other message is passed over
+abbrev pub after_request : Node → Signed Message → Message → Node
+after_request node signed (Request request) = if_taken (request_refusal node (request_in signed request)) (with_request node (request_in signed request)).now node
+after_request node signed _ = node
+
+-- the REQUESTs among messages come, one after another
+abbrev pub after_requests : Node → Log → Node
+after_requests node messages = fold (λ node signed. after_request node signed signed.message) node messages
 
 -- Messages of the order ----------------------------------------------------------------------------------------------------
 

@@ -2,8 +2,8 @@
 use Rattle.std.specs.Prelude.{ℕ}
 use Rattle.bfs_checkpoints.specs.declared.adoption.AdoptError.{AdoptError}
 use Rattle.bfs_checkpoints.specs.declared.adoption.AdoptError.TheVariants as adopting
-use Rattle.bfs_messages.specs.declared.error.DecodeError.{DecodeError}
-use Rattle.bfs_messages.specs.declared.error.DecodeError.TheVariants as decoding
+use Rattle.bfs_codec.specs.declared.error.DecodeError.{DecodeError}
+use Rattle.bfs_codec.specs.declared.error.DecodeError.TheVariants as decoding
 use Rattle.bfs_order.specs.declared.error.OrderError.{OrderError}
 use Rattle.bfs_order.specs.declared.error.OrderError.TheVariants as order
 use Rattle.bfs_serial.specs.declared.executor.ExecError.{ExecError}

@@ -2,7 +2,7 @@
 ghost use Rattle.std.specs.Prelude.{◌≡◌, ◌≢◌, ◌==◌, [], true, false, None, Some, IfOk, IfErr, OnOk, OnErr};
 ghost use Rattle.bfs_checkpoints.specs.Certificates.{IsCertificate};
 ghost use Rattle.bfs_log.specs.Headers.{header};
-ghost use Rattle.bfs_messages.specs.Reading.{message_of};
+ghost use Rattle.bfs_codec.specs.Reading.{message_of};
 ghost use Rattle.bfs_node.specs.Delivering.{bytes_delivered, bytes_refusal, delivered, delivery_refusal, order_refusal, ordered, request_refusal, with_request};
 ghost use Rattle.bfs_node.specs.Inside.Settling.{settled_at};
 ghost use Rattle.bfs_node.specs.declared.error.NodeError.TheVariants as error;
@@ -10,8 +10,9 @@ ghost use Rattle.bfs_node.specs.declared.error.NodeError.TheVariants as error;
 use crate::error::NodeError;
 use crate::node::Node;
 use bfs_checkpoints::certificate_with;
+use bfs_codec::decode;
 use bfs_log::header_of;
-use bfs_messages::{Message, Request, Signed, decode, is_request_signed};
+use bfs_messages::{Message, Request, Signed, is_request_signed};
 use std::thread::Threads;
 
 impl Node {

@@ -2,7 +2,7 @@ ghost use Rattle.std.specs.Prelude.{◌≡◌};
 ghost use Rattle.bfs_node.specs.Errors.{code_of, of_adopting, of_decoding, of_executing, of_order, of_view};
 
 use bfs_checkpoints::AdoptError;
-use bfs_messages::DecodeError;
+use bfs_codec::DecodeError;
 use bfs_order::OrderError;
 use bfs_serial::ExecError;
 use bfs_types::Memory;

@@ -105,7 +105,7 @@ impl Node {
                 },
             ) => Ok(Finished {
                 to_record,
-                replies: self.replies_to(&to_answer)?,
+                replies: self.replies_to(rt, &to_answer)?,
                 names,
             }),
             Err(ExecError::Memory) => Err(Memory),

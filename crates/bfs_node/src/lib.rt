@@ -12,6 +12,7 @@ mod node;
 mod proposing;
 mod receivers;
 mod replying;
+mod requests;
 
 pub use bfs_outcome::{Engine, Executor, Gate, MOST_WORKERS, NoGate, Workers};
 pub use error::NodeError;

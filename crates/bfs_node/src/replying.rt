@@ -1,41 +1,86 @@
 // What clients are told.
-ghost use Rattle.std.specs.Prelude.{◌≡◌, ◌<◌, ◌≤◌, ◌∷◌, All, Some, length, IfOk};
-ghost use Rattle.bfs_messages.specs.Spelling.{body_text};
-ghost use Rattle.bfs_node.specs.Executing.{replies_to, reply_to, told};
+ghost use Rattle.std.specs.Prelude.{◌≡◌, IfOk};
+ghost use Rattle.std.specs.List.{AllZip};
+ghost use Rattle.bfs_node.specs.Executing.{replies_to, told};
+ghost use Rattle.bfs_node.specs.Inside.Telling.{told_from};
 
 use crate::node::Node;
-use bfs_auth::sign_text_for_client;
+use bfs_auth::{Keys, least_texts, sign_text_for_client};
+use bfs_gather::gather;
 use bfs_messages::{Message, Reply, Signed};
 use bfs_replies::Answer;
 use bfs_types::Memory;
+use rayon::prelude::*;
+use std::alloc::{AllocError, Global};
+use std::thread::Threads;
+
+/// A REPLY, where there is its client.
+type MaybeTold = Result<Option<Signed<Message>>, Memory>;
 
 impl Node {
-    /// A REPLY for each answer, in their order, which is signed for its client. `Memory` if memory runs out.
-    pub(crate) fn replies_to(&self, answers: &[Answer]) -> Result<Vec<Signed<Message>>, Memory>
-        requires { All (λ answer. answer.client < length self.now.table) answers.now }
+    /// A REPLY for each answer, in their order, which is signed for its client. They are signed by as many threads as there are processors,
+    /// unless there is too little to hash for them. `Memory` if memory runs out.
+    pub(crate) fn replies_to(
+        &self,
+        rt: &(impl Threads + Sync),
+        answers: &[Answer],
+    ) -> Result<Vec<Signed<Message>>, Memory>
         ensures { IfOk result (λ replies. replies.items ≡ replies_to self.now.keys self.now.order answers.now) }
     {
-        let mut replies = Vec::with_capacity(self.alloc, answers.len())?;
-        for answer in answers {
-            replies.push(self.reply_to(answer)?)?;
-        }
-        Ok(replies)
+        let (me, view) = (self.order.me(), self.order.view());
+        let each = tell_each(rt, self.alloc, &self.keys, me, view, answers)?;
+        gather(self.alloc, each)
     }
+}
 
-    fn reply_to(&self, answer: &Answer) -> Result<Signed<Message>, Memory>
-        requires { answer.now.client < length self.now.table }
-        ensures { IfOk result (λ signed. told self.now.keys (reply_to self.now.order answer.now) ≡ Some signed) }
-    {
-        let client = answer.client();
-        let message = Message::Reply(Reply::new(
-            self.alloc,
-            self.order.me(),
-            self.order.view(),
-            client,
-            answer.timestamp(),
-            answer.reply(),
-        )?);
-        let auth = sign_text_for_client(self.alloc, &self.keys, client, &message)?;
-        Ok(Signed { message, auth })
+fn tell_each(
+    rt: &(impl Threads + Sync),
+    alloc: Global,
+    keys: &Keys,
+    me: u32,
+    view: u64,
+    answers: &[Answer],
+) -> Result<Vec<MaybeTold>, AllocError>
+    ensures { IfOk result (λ each. AllZip (λ answer one. IfOk one (λ signed. signed ≡ told_from keys.now me view answer)) answers.now each.items) }
+{
+    answers
+        .par_iter()
+        .with_min_len(least_texts(mean_length(answers)))
+        .map(
+            |answer: &Answer| -> MaybeTold
+                ensures { IfOk result (λ signed. signed ≡ told_from keys.entry.now me view answer.now) }
+            { tell(alloc, keys, me, view, answer) },
+        )
+        .collect(rt, alloc)
+}
+
+fn tell(alloc: Global, keys: &Keys, me: u32, view: u64, answer: &Answer) -> MaybeTold
+    ensures { IfOk result (λ signed. signed ≡ told_from keys.now me view answer.now) }
+{
+    let client = answer.client();
+    if client as usize >= keys.clients() {
+        return Ok(None);
+    }
+    let message = Message::Reply(Reply::new(
+        alloc,
+        me,
+        view,
+        client,
+        answer.timestamp(),
+        answer.reply(),
+    )?);
+    let auth = sign_text_for_client(alloc, keys, client, &message)?;
+    Ok(Some(Signed { message, auth }))
+}
+
+// of the replies
+fn mean_length(answers: &[Answer]) -> usize {
+    let mut bytes = 0usize;
+    for answer in answers {
+        bytes = bytes.saturating_add(answer.reply().len());
+    }
+    match answers.len() {
+        0 => 0,
+        count => bytes / count,
     }
 }

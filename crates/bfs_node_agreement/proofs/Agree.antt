@@ -3,7 +3,7 @@ use Rattle.std.proofs.Common.{◌≡◌, ℕ, Bool, false, List, [], ◌∷◌, 
 use Rattle.bfs_agreement.specs.Laws.{QuorumsMeet}
 use Rattle.bfs_checkpoints.specs.Texts.{node_digest}
 use Rattle.bfs_log.specs.Logs.{Log}
-use Rattle.bfs_messages.specs.Laws.{MessageWasWritten}
+use Rattle.bfs_codec.specs.Laws.{MessageWasWritten}
 use Rattle.bfs_messages.specs.Messages as model
 use Rattle.bfs_order.specs.Laws.Calls.{CallsKeepTheReplica, IsKept}
 use Rattle.bfs_order.specs.Laws.Certificates.{CertificatesMakeStable}

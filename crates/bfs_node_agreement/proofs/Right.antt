@@ -15,10 +15,10 @@ use Rattle.bfs_log.specs.Batches.{Committed}
 use Rattle.bfs_log.specs.Headers.{header, message_header}
 use Rattle.bfs_log.specs.Logs.{Log, headers}
 use Rattle.bfs_messages.specs.Fits.{FitsMessage}
-use Rattle.bfs_messages.specs.Laws.{MessageWasWritten}
+use Rattle.bfs_codec.specs.Laws.{MessageWasWritten}
 use Rattle.bfs_messages.specs.Messages as model
 use Rattle.bfs_messages.specs.Limits.{FitsViewChange}
-use Rattle.bfs_messages.specs.Reading.{message_of, signed_from}
+use Rattle.bfs_codec.specs.Reading.{message_of, signed_from}
 use Rattle.bfs_messages.specs.Signing.{carried_are_signed, is_signed}
 use Rattle.bfs_messages.specs.Spelling.{body_text}
 use Rattle.bfs_messages.specs.declared.signed.Signed.{Signed}

@@ -7,7 +7,7 @@ use Rattle.bfs_auth.specs.declared.principals.Principal.TheVariants as principal
 use Rattle.bfs_agreement.specs.Votes.{Told, replicas}
 use Rattle.bfs_log.specs.Headers.{header}
 use Rattle.bfs_log.specs.Logs.{Log, headers}
-use Rattle.bfs_messages.specs.Laws.{MessageWasWritten}
+use Rattle.bfs_codec.specs.Laws.{MessageWasWritten}
 use Rattle.bfs_messages.specs.declared.signed.Signed.{Signed}
 use Rattle.bfs_messages.specs.declared.message.Message.{Message}
 use Rattle.bfs_order.specs.Laws.Calls.{CallsKeepTheReplica, IsKept}

@@ -5,7 +5,7 @@ use Rattle.bfs_checkpoints.specs.Snapshots.{snapshot_of}
 use Rattle.bfs_checkpoints.specs.Texts.{node_digest}
 use Rattle.bfs_log.specs.Logs.{Log}
 use Rattle.bfs_messages.specs.Messages as model
-use Rattle.bfs_messages.specs.Reading.{message_of}
+use Rattle.bfs_codec.specs.Reading.{message_of}
 use Rattle.bfs_messages.specs.declared.signed.Signed.{Signed}
 use Rattle.bfs_messages.specs.declared.message.Message.{Message}
 use Rattle.bfs_messages.specs.declared.message.Message.TheVariants.{Request, PrePrepare, Prepare, Commit, Checkpoint, ViewChange, NewView, Reply}

@@ -2,7 +2,7 @@
 ghost use Rattle.bfs_node_agreement.specs.Laws.{NodesAgree, StepsAreTurns, TurnsMayBeTaken};
 
 use bfs_agreement::quorums::quorums_meet;
-use bfs_messages::message_was_written;
+use bfs_codec::message_was_written;
 use bfs_order::{a_replica_stays_itself, certificates_make_checkpoints_stable, views_are_entered};
 use bfs_view_agreement::laws::replicas_agree;
 

@@ -4,7 +4,6 @@ mod Moving
 mod Certifying
 mod KeptLogs
 mod Certificates
-mod Copies
 mod Entering
 mod Executed
 mod Fronts

@@ -1,10 +1,7 @@
 // The certificate of a checkpoint is installed.
-ghost use Rattle.std.specs.Prelude.{◌≡◌, ◌≢◌, ◌<◌, ◌≤◌, ◌+◌, ◌==◌, ◌^◌, ◌&&◌, not, true, length, drop, All, None, Some, IfNone, IfSome, IfOk, IfErr, OnOk, OnErr};
+ghost use Rattle.std.specs.Prelude.{◌≡◌, ◌≢◌, ◌<◌, ◌≤◌, ◌+◌, ◌==◌, ◌^◌, ◌&&◌, not, true, length, drop, None, Some, IfNone, IfSome, IfOk, IfErr, OnOk, OnErr};
 ghost use Rattle.std.specs.List.{list_all};
-ghost use Rattle.bfs_model.specs.Server.Limits.{most_replicas};
-ghost use Rattle.bfs_agreement.specs.Votes.{SlotsDiffer};
 ghost use Rattle.bfs_log.specs.Headers.{header, message_header};
-ghost use Rattle.bfs_log.specs.Logs.{headers};
 ghost use Rattle.bfs_order.specs.Inside.Senders.{are_from_few, is_from_few};
 ghost use Rattle.bfs_order.specs.Replica.Installing.{certified, digest_of, has_sender, install_refusal, installed, is_certificate, number_of, senders_differ, vouches, with_each, with_new};
 ghost use Rattle.bfs_order.specs.declared.error.OrderError.TheVariants as error;
@@ -126,19 +123,6 @@ fn digest_in(certificate: &[Signed<Message>]) -> &[u8]
     }
 }
 
-// A log of copies of messages, whose senders and slots are those of a log.
-fn copy_of(alloc: Global, messages: &[Signed<Message>]) -> Result<Log, Memory>
-    requires differ { SlotsDiffer (headers messages.now) }
-    requires senders { All (λ m. (header m).sender < most_replicas) messages.now }
-    ensures { IfOk result (λ copy. copy ≡ messages.now) }
-{
-    let mut copy = Log::new(alloc);
-    for signed in messages {
-        copy.push(signed.try_clone(alloc)?)?;
-    }
-    Ok(copy)
-}
-
 fn add_new(alloc: Global, log: &mut Log, signed: &Signed<Message>) -> Result<(), Memory>
     requires { is_from_few signed.now ≡ true }
     ensures { OnOk result (log.new ≡ with_new log.old signed.now) }
@@ -154,8 +138,7 @@ fn certified(alloc: Global, log: &Log, certificate: &[Signed<Message>]) -> Resul
     requires { are_from_few certificate.now ≡ true }
     ensures { IfOk result (λ made. made ≡ certified log.now certificate.now) }
 {
-    log.messages_differ();
-    let mut copy = copy_of(alloc, log.messages())?;
+    let mut copy = log.try_clone(alloc)?;
     copy.drop_up_to(number_in(certificate), digest_in(certificate));
     for signed in certificate {
         add_new(alloc, &mut copy, signed)?;

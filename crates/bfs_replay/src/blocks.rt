@@ -29,7 +29,7 @@ pub(crate) fn run_block<R: Threads + Wait + Sync, W: Write>(
     ensures { OnOk result ((output : List ℕ) × BlockRuns clients.now block.now run.old run.new output × Appends (W.contents writer.old) (W.contents writer.new) output) }
 {
     let replies = settle_block(rt, alloc, clients, &mut run.cluster, block)?;
-    let tallies = tallies_of(alloc, clients, block.requests(), &replies)?;
+    let tallies = tallies_of(rt, alloc, clients, block.requests(), &replies)?;
     run.waiting.add_all(clients, &replies)?;
     keep_waiting(&mut run.waiting, block.requests(), &tallies)?;
     run.time = block.time();

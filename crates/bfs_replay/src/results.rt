@@ -17,9 +17,11 @@ use bfs_types::Memory;
 use std::alloc::Global;
 use std::io;
 use std::io::{ErrorKind, Write};
+use std::thread::Threads;
 
 /// What the clients of requests make of replies to them.
 pub(crate) fn tallies_of(
+    rt: &(impl Threads + Sync),
     alloc: Global,
     clients: &Clients,
     requests: &[Request],
@@ -31,7 +33,7 @@ pub(crate) fn tallies_of(
     for request in requests {
         tallies.begin(request.client(), request.timestamp())?;
     }
-    tallies.add_all(clients, replies)?;
+    tallies.add_all(rt, clients, replies)?;
     Ok(tallies)
 }
 

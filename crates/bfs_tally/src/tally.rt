@@ -1,6 +1,7 @@
 ghost use Rattle.std.specs.Prelude.{◌≡◌, ◌≤◌, ◌==◌, ◌<◌, [], false, length, IfOk, OnOk, OnErr, IfSome};
 ghost use Rattle.std.specs.Option.{option_map};
 ghost use Rattle.bfs_model.specs.Server.Limits.{most_replicas, most_reply_bytes};
+ghost use Rattle.bfs_messages.specs.Signing.{is_signed};
 ghost use Rattle.bfs_tally.specs.Tallies.{agreed, has_counted, is_agreed, is_wanted, senders_of, tallied, with_reply};
 
 use bfs_auth::Keys;
@@ -102,9 +103,23 @@ impl Tally {
         ensures ok { OnOk result (self.new ≡ tallied keys.now self.old signed.now) }
         ensures err { OnErr result (self.new ≡ self.old) }
     {
+        self.add_checked(keys, signed, is_signed(keys, signed))
+    }
+
+    /// What `add` does, where it is known whether the client finds the message signed.
+    pub fn add_checked(
+        &mut self,
+        keys: &Keys,
+        signed: &Signed<Message>,
+        passes: bool,
+    ) -> Result<(), Memory>
+        requires { passes ≡ is_signed keys.now signed.now }
+        ensures ok { OnOk result (self.new ≡ tallied keys.now self.old signed.now) }
+        ensures err { OnErr result (self.new ≡ self.old) }
+    {
         match &signed.message {
             Message::Reply(reply) => {
-                if self.is_wanted(reply) && is_signed(keys, signed) {
+                if self.is_wanted(reply) && passes {
                     // one of them sent it, since its hash passes
                     keys.replicas();
                     self.count(reply)?;

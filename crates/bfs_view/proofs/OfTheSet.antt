@@ -9,7 +9,7 @@ use Rattle.bfs_log.specs.Headers.{header}
 use Rattle.bfs_messages.specs.Messages.{Batch, Certificate}
 use Rattle.bfs_messages.specs.Messages as model
 use Rattle.bfs_messages.specs.Limits.{FitsBatch, FitsCertificate, FitsViewChange}
-use Rattle.bfs_messages.specs.Laws.{OneBatch}
+use Rattle.bfs_codec.specs.Laws.{OneBatch}
 use Rattle.bfs_messages.specs.declared.signed.Signed.{Signed}
 use Rattle.bfs_messages.specs.declared.message.Message.TheVariants.{ViewChange}
 use Rattle.bfs_order.specs.Replica.Installing.{has_sender}

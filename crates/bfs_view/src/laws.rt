@@ -3,7 +3,7 @@ ghost use Rattle.bfs_view.specs.Laws.Choices.{ChoiceIsOfTheSet, NumbersAreChosen
 ghost use Rattle.bfs_view.specs.Laws.Made.{MadeHasPrepared, MadeIsValid, MadeIsValidAfterCalls, NewViewIsRight};
 
 use bfs_auth::what_is_signed_passes;
-use bfs_messages::batches_with_one_text;
+use bfs_codec::batches_with_one_text;
 use bfs_order::{
     a_replica_stays_itself, logs_are_clean, slots_differ,
     the_stable_checkpoint_has_its_certificate, views_are_entered,

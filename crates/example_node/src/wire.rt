@@ -1,5 +1,6 @@
 //! What stands for a network.
-use bfs_messages::{Message, Signed, encode};
+use bfs_codec::encode;
+use bfs_messages::{Message, Signed};
 use bfs_node::{Receivers, receivers_of};
 use bfs_types::Memory;
 use std::alloc::Global;

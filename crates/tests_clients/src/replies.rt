@@ -6,6 +6,7 @@ use bfs_testing::holds;
 use bfs_types::Memory;
 use std::alloc::Global;
 use std::test::Fail;
+use std::thread::Threads;
 
 // adds a message: no test needs what the contract says of it
 fn add(tallies: &mut Tallies, clients: &Clients, signed: &Signed<Message>) -> Result<(), Memory> {
@@ -13,11 +14,12 @@ fn add(tallies: &mut Tallies, clients: &Clients, signed: &Signed<Message>) -> Re
 }
 
 fn add_all(
+    rt: &(impl Threads + Sync),
     tallies: &mut Tallies,
     clients: &Clients,
     messages: &[Signed<Message>],
 ) -> Result<(), Memory> {
-    tallies.add_all(clients, messages)
+    tallies.add_all(rt, clients, messages)
 }
 
 // tallies of four requests, one of them of a client that there isn't
@@ -111,7 +113,7 @@ fn many_replies_are_counted_one_after_another(rt: HostRuntime) -> Result<(), Fai
     replies.push(reply(alloc, 3, (0, 8), 0, RIGHT)?)?;
     replies.push(reply(alloc, 3, (0, 7), 0, RIGHT)?)?;
     replies.push(reply(alloc, 1, (0, 8), 0, RIGHT)?)?;
-    add_all(&mut tallies, &clients, &replies)?;
+    add_all(&rt, &mut tallies, &clients, &replies)?;
     holds!(rt; has(&tallies, 0, 8, Some(RIGHT)));
     holds!(rt; has(&tallies, 0, 7, None));
     Ok(())

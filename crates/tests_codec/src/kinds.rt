@@ -5,9 +5,9 @@ use crate::spelled::{
     CHECKPOINT, COMMIT, EACH, NULL_PRE_PREPARE, PRE_PREPARE, PREPARE, REPLY, REQUEST,
 };
 use bfs_auth::{Authenticator, Keys, Principal};
+use bfs_codec::{decode, encode};
 use bfs_messages::{
-    Checkpoint, Message, OrderedBatch, PrePrepare, Reply, Request, Signed, Vote, decode, encode,
-    sign,
+    Checkpoint, Message, OrderedBatch, PrePrepare, Reply, Request, Signed, Vote, sign,
 };
 use bfs_testing::words::spells;
 use bfs_testing::{holds, same};

@@ -1,6 +1,7 @@
 //! What spells no message, and what is read of a message that was changed on the way.
 use crate::spelled::{EACH, MALFORMED, NEW_VIEW, PREPARE};
-use bfs_messages::{DecodeError, Message, Signed, decode, encode};
+use bfs_codec::{DecodeError, decode, encode};
+use bfs_messages::{Message, Signed};
 use bfs_testing::{holds, same};
 use bfs_types::Memory;
 use bfs_xdr::put_u32;

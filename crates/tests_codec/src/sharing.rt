@@ -1,6 +1,7 @@
 //! Batches that stand in a message more than once are one value.
 use crate::spelled::NEW_VIEW;
-use bfs_messages::{Message, decode};
+use bfs_codec::decode;
+use bfs_messages::Message;
 use bfs_testing::{holds, same};
 use bfs_types::Memory;
 use std::sync::Arc;

@@ -1,7 +1,8 @@
 //! The messages that tests make in the name of clients and replicas.
 use crate::replica::{CLIENTS, SECRET};
 use bfs_auth::{Authenticator, Keys, Principal};
-use bfs_messages::{Checkpoint, Message, Reply, Request, Signed, encode, sign};
+use bfs_codec::encode;
+use bfs_messages::{Checkpoint, Message, Reply, Request, Signed, sign};
 use bfs_testing::words::call;
 use bfs_types::Memory;
 use std::alloc::Global;

@@ -54,6 +54,8 @@ static ALONE: Script = Script {
         Step(Event::Tell(16, 1), Done),
         Step(Event::Marks, Marks(16, 48)),
         Step(Event::Kept, Kept(1)),
+        // it was told, and lies below the marks
+        Step(Event::Tell(16, 1), Refused(26)),
     ],
 };
 
@@ -78,6 +80,7 @@ static CERTIFICATES: Script = Script {
         Step(Event::Marks, Marks(16, 48)),
         Step(Event::LastExecuted, Number(16)),
         Step(Event::Kept, Kept(3)),
+        Step(Event::Install(&[(0, 1), (2, 1)]), Refused(34)),
         Step(Event::Install(&[(0, 1), (2, 1), (3, 1)]), Refused(26)),
     ],
 };

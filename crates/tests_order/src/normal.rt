@@ -1,5 +1,5 @@
 //! Batches are proposed, prepared, committed and executed in one view.
-use crate::parts::Told::{Batch, Commit, OtherCommit, OtherPrepare, Prepare, Proposal};
+use crate::parts::Told::{Batch, Commit, OtherCommit, OtherPrepare, Prepare, Proposal, Request};
 use crate::replica::Answer::{
     Answered, Done, Executed, Itself, Kept, Marks, Number, Proposed, Refused, Sent,
 };
@@ -15,6 +15,12 @@ static A_NUMBER: Script = Script {
         Step(Event::Propose, Refused(28)),
         Step(Event::Take(0, Proposal(0, 0, 1)), Sent(1)),
         Step(Event::Take(0, Proposal(0, 0, 1)), Refused(29)),
+        Step(Event::Take(0, Batch(0, 0, 1, 3)), Refused(27)),
+        Step(Event::Take(0, Proposal(0, 1, 1)), Refused(25)),
+        Step(Event::Take(0, Proposal(0, 0, 33)), Refused(26)),
+        Step(Event::Take(2, Proposal(2, 0, 1)), Refused(28)),
+        Step(Event::TakeUnsigned(Proposal(0, 0, 1)), Refused(24)),
+        Step(Event::TakeUnsigned(Request), Refused(36)),
         Step(Event::Take(2, Prepare(2, 0, 1)), Sent(1)),
         Step(Event::Take(0, Commit(0, 0, 1)), Sent(0)),
         Step(Event::Next, Number(0)),

@@ -1,5 +1,7 @@
 //! Each refusal of a message, with the ones before and behind it: a message with two faults gets the first.
-use crate::parts::Told::{Batch, Checkpoint, Commit, OtherCommit, Prepare, Proposal, Request};
+use crate::parts::Told::{
+    Batch, Checkpoint, Commit, OtherCommit, OtherPrepare, Prepare, Proposal, Request,
+};
 use crate::replica::Answer::{Done, Kept, Number, Refused, Sent};
 use crate::script::{Event, Script, Step};
 use std::test::Fail;
@@ -69,6 +71,8 @@ static OTHER_NUMBERS: Script = Script {
         Step(Event::Take(2, Proposal(2, 0, 32)), Refused(28)),
         Step(Event::Take(0, Prepare(0, 0, 33)), Refused(26)),
         Step(Event::Take(0, Proposal(0, 0, 32)), Sent(1)),
+        // it would be number 33
+        Step(Event::Propose, Refused(28)),
     ],
 };
 
@@ -78,14 +82,35 @@ fn the_number_is_looked_at_before_the_primary(rt: HostRuntime) -> Result<(), Fai
 }
 
 static OF_THE_PRIMARY: Script = Script {
-    faults: 10,
-    me: 30,
+    faults: 1,
+    me: 1,
     steps: &[Step(Event::Take(0, Prepare(0, 0, 1)), Refused(27))],
 };
 
 #[test]
 fn a_primary_sends_no_prepare(rt: HostRuntime) -> Result<(), Fail> {
     OF_THE_PRIMARY.plays(&rt, rt.alloc())
+}
+
+static AMONG_31: Script = Script {
+    faults: 10,
+    me: 30,
+    steps: &[
+        Step(Event::TakeUnsigned(Request), Refused(36)),
+        Step(Event::Take(31, Prepare(31, 1, 1)), Refused(24)),
+        Step(Event::Take(29, Prepare(29, 1, 33)), Refused(25)),
+        Step(Event::Take(29, Proposal(29, 0, 33)), Refused(26)),
+        Step(Event::Take(29, Proposal(29, 0, 1)), Refused(28)),
+        Step(Event::Take(0, Prepare(0, 0, 1)), Refused(27)),
+        Step(Event::Take(29, Prepare(29, 0, 1)), Sent(0)),
+        Step(Event::Take(29, OtherPrepare(29, 0, 1)), Refused(27)),
+        Step(Event::Take(29, Prepare(29, 0, 1)), Refused(29)),
+    ],
+};
+
+#[test]
+fn each_refusal_among_31_replicas(rt: HostRuntime) -> Result<(), Fail> {
+    AMONG_31.plays(&rt, rt.alloc())
 }
 
 static ANOTHER_DIGEST: Script = Script {
@@ -130,9 +155,14 @@ static ALONE: Script = Script {
     faults: 0,
     me: 0,
     steps: &[
-        Step(Event::Take(1, Commit(1, 0, 1)), Refused(24)),
+        Step(Event::TakeUnsigned(Request), Refused(36)),
+        Step(Event::Take(1, Commit(1, 1, 1)), Refused(24)),
+        Step(Event::Take(0, Proposal(0, 1, 33)), Refused(25)),
         Step(Event::Take(0, Proposal(0, 0, 33)), Refused(26)),
+        Step(Event::Take(0, Prepare(0, 0, 1)), Refused(27)),
         Step(Event::Take(0, Proposal(0, 0, 1)), Sent(1)),
+        Step(Event::Take(0, Batch(0, 0, 1, 3)), Refused(27)),
+        Step(Event::Take(0, Proposal(0, 0, 1)), Refused(29)),
         Step(Event::Next, Number(1)),
     ],
 };

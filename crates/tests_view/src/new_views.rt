@@ -1,9 +1,9 @@
 //! Which NEW-VIEWs are right.
 use crate::choices::{changes, refusal_of};
 use crate::parts::{batch_at, keys_of};
+use bfs_codec::{decode, encode};
 use bfs_messages::{
-    Message, NewView, OrderedBatch, PrePrepare, Signed, ViewChange, decode, encode, sign,
-    sign_proposal,
+    Message, NewView, OrderedBatch, PrePrepare, Signed, ViewChange, sign, sign_proposal,
 };
 use bfs_testing::{holds, same};
 use bfs_types::Memory;

@@ -12,13 +12,13 @@ use Rattle.bfs_clients.proofs.tallies.count.Goals as goal
 pub returns-in-Some-clause-ok : goal.returns-in-Some-clause-ok
 returns-in-Some-clause-ok c =
     let was : found c.args.tallies.now.entries c.args.name ≡ Some c.in-Some.tally.now = sym c.get_mut.ensures.value ∙ ap option_copied_mut c.in-Some.is in
-    on_ok_weaker c.add.result
-    (λ counted. one_changed c.args.tallies.now (c.get_mut.follows.lender c.add.new.self) c.args.name c.in-Some.tally.now c.add.new.self (λ tally. tallied c.args.keys.now tally c.args.signed.now) was counted (c.get_mut.follows.holds c.add.new.self))
-    c.add.ensures.ok
+    on_ok_weaker c.add_checked.result
+    (λ counted. one_changed c.args.tallies.now (c.get_mut.follows.lender c.add_checked.new.self) c.args.name c.in-Some.tally.now c.add_checked.new.self (λ tally. tallied c.args.keys.now tally c.args.signed.now) was counted (c.get_mut.follows.holds c.add_checked.new.self))
+    c.add_checked.ensures.ok
 
 pub returns-in-Some-clause-err : goal.returns-in-Some-clause-err
 returns-in-Some-clause-err c =
     let was : found c.args.tallies.now.entries c.args.name ≡ Some c.in-Some.tally.now = sym c.get_mut.ensures.value ∙ ap option_copied_mut c.in-Some.is in
-    on_err_weaker c.add.result
-    (λ same. (c.get_mut.follows.holds c.add.new.self).0 ∙ set_value_same (is_at (name_cmp c.args.name)) c.args.tallies.now.entries c.add.new.self (was ∙ ap Some (sym same)))
-    c.add.ensures.err
+    on_err_weaker c.add_checked.result
+    (λ same. (c.get_mut.follows.holds c.add_checked.new.self).0 ∙ set_value_same (is_at (name_cmp c.args.name)) c.args.tallies.now.entries c.add_checked.new.self (was ∙ ap Some (sym same)))
+    c.add_checked.ensures.err

@@ -5,7 +5,7 @@ use Rattle.bfs_replay.proofs.Beginning.{Begins, one_more_begun, one_more_new}
 use Rattle.bfs_replay.proofs.results.tallies_of.Goals as goal
 
 pub loop-request-preserved : goal.loop-request-preserved
-loop-request-preserved c =
+loop-request-preserved g c =
     let f : ℕ = c.args.clients.now.f in
     let old : Tallies = c.loop-request.tallies in
     let new : Tallies = c.begin.new.self in

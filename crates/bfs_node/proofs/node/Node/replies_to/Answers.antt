@@ -1,7 +1,12 @@
-use Rattle.bfs_node.proofs.Telling.{one_told}
+use Rattle.std.proofs.Common.{◌∙◌}
+use Rattle.std.specs.Prelude.{IfOk}
+use Rattle.rayon.proofs.ListFacts.{IfOk-then}
+use Rattle.bfs_gather.proofs.Public.{all_given}
+use Rattle.bfs_node.specs.Executing.{reply_to, told}
 use Rattle.bfs_node.proofs.node.Node.replies_to.Goals as goal
 
-pub loop-answer-preserved : goal.loop-answer-preserved
-loop-answer-preserved c =
-    one_told c.args.self.now.keys c.args.self.now.order c.args.answers.now c.loop-answer.answer-index c.answer-item.result c.in_ok-reply_to.field-0 c.loop-answer.replies.items c.push.new.self.items
-    c.loop-answer-test.true c.answer-item.is c.in_ok-reply_to.ensures c.loop-answer.invariant c.in_ok-push.ensures.items
+pub returns : goal.returns
+returns g c =
+    let each = rw (c.me.ensures, c.view.ensures) at c.in_ok-each.ensures in
+    IfOk-then c.gather.result _ _ c.gather.ensures (λ all h.
+    h.1 ∙ all_given (λ answer. told c.args.self.now.keys (reply_to c.args.self.now.order answer)) c.args.answers.now c.in_ok-each.each.items each h.0)

@@ -1,0 +1,16 @@
+-- Loops that read so many things, and items whose length is known.
+use Rattle.std.proofs.Common.{◌≡◌, ℕ, suc, true, List, length, Ok}
+use Rattle.bfs_model.specs.Bytes.Formats.{Reading, items_from}
+use Rattle.bfs_model.specs.Bytes.Items.{fixed_at}
+use Rattle.bfs_model.proofs.Public.{fixed_written, turn_none, with_front}
+use Rattle.bfs_codec.specs.Codes.{Fails}
+use Rattle.bfs_codec.specs.declared.error.DecodeError.{DecodeError}
+use Rattle.bfs_codec.specs.declared.error.DecodeError.TheVariants.{Malformed, Memory}
+
+pub fails : {A : Type 0} (from : List ℕ → Reading A) (e : DecodeError) (n m : ℕ) (bytes : List ℕ) (front : List A) (all : Reading (List A)) → n ≡ suc m → Fails e (from bytes)
+    → with_front front (items_from from n bytes) ≡ all → Fails e all
+fails from Malformed n m bytes front all is none so_far = turn_none from n m bytes front all is none so_far
+fails from Memory n m bytes front all is none so_far = tt
+
+pub fixed_long : (count : ℕ) (bytes item rest : List ℕ) → fixed_at true count bytes ≡ Ok (item, rest) → length item ≡ count
+fixed_long count bytes item rest e = (fixed_written count bytes item rest e).1

@@ -1,0 +1,34 @@
+-- How messages are read, strictly.
+use Rattle.std.specs.Prelude.{ℕ, ◌==◌, List, Option, None, if◌then◌else◌}
+use Rattle.bfs_model.specs.Bytes.Call.{◌>>=◌}
+use Rattle.bfs_model.specs.Bytes.Formats.{Reading, word_from, as_from, whole_from}
+use Rattle.bfs_codec.specs.Parts.{behind_from, request_from, vote_from, checkpoint_from, reply_from}
+use Rattle.bfs_codec.specs.ChangeReading.{behind_proposal_from, view_change_from, new_view_from}
+use Rattle.bfs_messages.specs.declared.signed.Signed.{Signed}
+use Rattle.bfs_messages.specs.declared.message.Message.{Message}
+use Rattle.bfs_messages.specs.declared.message.Message.TheVariants.{Request, PrePrepare, Prepare, Commit, Checkpoint, ViewChange, NewView, Reply}
+
+-- a message of some kind
+abbrev pub message_from : {A : Type 0} → (A → Message) → (List ℕ → Reading (Signed A)) → List ℕ → Reading (Signed Message)
+message_from to from bytes = as_from (λ signed. record { message = to signed.message; auth = signed.auth }) from bytes
+
+-- what stands behind each tag
+unfoldable pub behind_tag_from : (tag : ℕ) → List ℕ → Reading (Signed Message)
+behind_tag_from tag bytes =
+    if tag == 1 then message_from Request (behind_from request_from) bytes else
+    (if tag == 2 then message_from PrePrepare behind_proposal_from bytes else
+    (if tag == 3 then message_from Prepare (behind_from vote_from) bytes else
+    (if tag == 4 then message_from Commit (behind_from vote_from) bytes else
+    (if tag == 5 then message_from Checkpoint (behind_from checkpoint_from) bytes else
+    (if tag == 6 then message_from ViewChange (behind_from view_change_from) bytes else
+    (if tag == 7 then message_from NewView (behind_from new_view_from) bytes else
+    (if tag == 8 then message_from Reply (behind_from reply_from) bytes else None)))))))
+
+unfoldable pub signed_from : List ℕ → Reading (Signed Message)
+signed_from bytes = do
+  tag ← word_from bytes
+  behind_tag_from tag.0 tag.1
+
+-- the message that the bytes spell, all of them
+unfoldable pub message_of : List ℕ → Option (Signed Message)
+message_of bytes = whole_from signed_from bytes

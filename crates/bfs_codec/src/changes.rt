@@ -1,0 +1,46 @@
+// What replicas say of a change of the view (OSDI 1999 section 4.4).
+ghost use Rattle.bfs_codec.specs.ChangeReading.{certificate_from, new_view_from, view_change_from};
+
+use crate::error::DecodeError;
+use crate::parts::Read;
+use crate::reader::MessageReader;
+use bfs_messages::{Certificate, NewView, PrePrepare, Signed, ViewChange};
+use bfs_types::{LOG_SIZE, MOST_REPLICAS};
+
+impl Read for Certificate {
+    ghost from = { certificate_from };
+
+    #[tactic(auto, unfolding(crate::specs::ChangeReading::certificate_from))]
+    fn read(reader: &mut MessageReader<'_>) -> Result<Certificate, DecodeError> {
+        let proposal = Signed::<PrePrepare>::read(reader)?;
+        let prepares = reader.list(MOST_REPLICAS as u32)?;
+        Ok(Certificate::new(proposal, prepares))
+    }
+}
+
+impl Read for ViewChange {
+    ghost from = { view_change_from };
+
+    #[tactic(auto, unfolding(crate::specs::ChangeReading::view_change_from))]
+    fn read(reader: &mut MessageReader<'_>) -> Result<ViewChange, DecodeError> {
+        let sender = reader.u32()?;
+        let view = reader.number()?;
+        let stable = reader.number()?;
+        let checkpoints = reader.list(MOST_REPLICAS as u32)?;
+        let certificates = reader.list(LOG_SIZE as u32)?;
+        Ok(ViewChange::new(sender, view, stable, checkpoints, certificates))
+    }
+}
+
+impl Read for NewView {
+    ghost from = { new_view_from };
+
+    #[tactic(auto, unfolding(crate::specs::ChangeReading::new_view_from))]
+    fn read(reader: &mut MessageReader<'_>) -> Result<NewView, DecodeError> {
+        let sender = reader.u32()?;
+        let view = reader.number()?;
+        let changes = reader.list(MOST_REPLICAS as u32)?;
+        let proposals = reader.list(LOG_SIZE as u32)?;
+        Ok(NewView::new(sender, view, changes, proposals))
+    }
+}

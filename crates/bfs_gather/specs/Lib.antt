@@ -1,0 +1,2 @@
+-- What is gathered.
+pub mod Gathered
