@@ -13,7 +13,7 @@ use Rattle.bfs_consensus.proofs.Told.{Is, told_cases, told_more}
 use Rattle.bfs_consensus.proofs.Logs.{handed_taken, prepared_told}
 use Rattle.bfs_consensus.proofs.Said.{says_itself}
 use Rattle.bfs_consensus.proofs.Choice.{choice_is_by_its_rule, best_is}
-use Rattle.bfs_consensus.proofs.Worlds.{Sound, start_sound, run_sound, same_executed}
+use Rattle.bfs_consensus.proofs.Worlds.{Sound, start_sound, run_sound, same_executed, one_digest}
 use Rattle.bfs_consensus.specs.Laws.{CallsAgree, BatchesAgree, SaysOneDigest, ExecutesCommitted, AgreesInView}
 
 -- Saying --------------------------------------------------------------------------------------------------------------
@@ -326,7 +326,7 @@ batches_agree agree f null faulty turns few all hash i j x y text text' left rig
 -- In one view ----------------------------------------------------------------------------------------------------------
 
 pub says_one_digest : SaysOneDigest
-says_one_digest f null faulty turns all k t u v n d e correct x y = ((always_sound f null faulty turns all).kept k correct).one t u k k v n d e x y
+says_one_digest f null faulty turns all = one_digest f faulty (after_turns f null new_world turns) (always_sound f null faulty turns all)
 
 pub executes_committed : ExecutesCommitted
 executes_committed f null faulty turns all k x h =

@@ -11,7 +11,7 @@ use Rattle.bfs_consensus.proofs.Logs.{kept_told, taken_told, join_right}
 use Rattle.bfs_consensus.proofs.Kept.{Kept, fresh_kept, accept_kept, drop_kept, leave_kept, enter_kept}
 use Rattle.bfs_consensus.proofs.Said.{moved, says_itself, say_kept}
 use Rattle.bfs_consensus.proofs.Carried.{Facts, carried, same_digest}
-use Rattle.bfs_consensus.specs.Laws.{HasQuorum, MovesAgree, QuorumsAreCarried}
+use Rattle.bfs_consensus.specs.Laws.{HasQuorum, MovesAgree, QuorumsAreCarried, TellsOneDigest}
 
 -- histories only grow
 pub record Grows (p q : History) : Type 0 where
@@ -216,3 +216,10 @@ pub quorums_are_carried : QuorumsMeet → QuorumsAreCarried
 quorums_are_carried meet f faulty steps view number later digest few all quorum =
     let w = after_steps f new_world steps in
     carried f faulty w (facts_of f faulty w (run_sound f faulty new_world steps (start_sound f faulty) all)) (quorums_share meet f faulty few) view number digest quorum later
+
+-- what a correct replica has sent for a number in a view
+pub one_digest : (f : ℕ) (faulty : ℕ → Bool) (w : World) → Sound f faulty w → TellsOneDigest faulty w
+one_digest f faulty w sound k t u v n d e correct (inl x) (inl y) = (sound.kept k correct).one t u k k v n d e x y
+one_digest f faulty w sound k t u v n d e correct (inl x) (inr y) = sym ((sound.kept k correct).offered_one t k k v n e d y.1 x)
+one_digest f faulty w sound k t u v n d e correct (inr x) (inl y) = (sound.kept k correct).offered_one u k k v n d e x.1 y
+one_digest f faulty w sound k t u v n d e correct (inr x) (inr y) = (sound.kept k correct).offers_once k v n d e x.1 y.1

@@ -1,10 +1,11 @@
 -- A run with a view change, in which the premises of the laws hold: of four replicas, without replica 3, replica 1 executes number 1 in
 -- view 0, and after a view change replica 2 executes it in view 1. And one where a premise does not hold: two replicas execute two digests.
-use Rattle.std.specs.Prelude.{◌≡◌, ℕ, Bool, List, [], ◌∷◌, ◌++◌, ◌==◌, ◌||◌}
+use Rattle.std.specs.Prelude.{◌≡◌, ℕ, ◌+◌, ◌*◌, ◌≤◌, Bool, List, [], ◌∷◌, ◌++◌, map, ◌==◌, ◌||◌}
 use Rattle.bfs_agreement.specs.Votes.{Header, count_below, replicas}
-use Rattle.bfs_consensus.specs.Histories.{ViewChange, Executed, FewAreFaulty}
+use Rattle.bfs_consensus.specs.Histories.{IsIn, ViewChange, Executed, FewAreFaulty}
 use Rattle.bfs_consensus.specs.Moves.{new_world}
 use Rattle.bfs_consensus.specs.Calls.{vote, Call, Receives, Orders, TimesOut, ChangesView, Runs, Turn, after_turns, AreAuthentic}
+use Rattle.bfs_consensus.specs.Nodes.{has_checkpoint, Service, Snapshot, Nodes, NodeCall, Calls, Continues, Reports, Adopts, after_node_call, NodeTurn, with_node, after_node_turns, MayTakeTurns, new_nodes}
 
 abbrev pub silent : ℕ → Bool
 silent k = k == 3
@@ -114,3 +115,37 @@ other_text = 2 ∷ []
 abbrev pub NeedsDistinctDigests : Type 0
 NeedsDistinctDigests = IsARun
     × ((saying 2 0 0).digest ≡ one_for_all text) × ((saying 2 1 1).digest ≡ one_for_all other_text) × (text ≡ other_text → ⊥)
+
+-- a service of which all states have one digest
+abbrev pub all_alike : Service
+all_alike = record { first = []; next = λ state batch. text; hash = one_for_all }
+
+abbrev pub by : ℕ → NodeCall → NodeTurn
+by i call = record { who = i; call = call }
+
+abbrev pub called : Turn → NodeTurn
+called turn = by turn.who (Calls turn.call)
+
+-- replicas 1 and 2 execute number 1, and tell what they are then
+abbrev pub up_to_checkpoints : List NodeTurn
+up_to_checkpoints =
+    map called in_view_0
+    ++ by 1 (Continues (saying 2 0 0)) ∷ by 1 Reports
+    ∷ by 2 (Calls (Receives (saying 4 0 0))) ∷ by 2 (Calls (Receives (saying 4 1 0)))
+    ∷ by 2 (Continues (saying 2 0 0)) ∷ by 2 Reports
+    ∷ []
+
+abbrev pub at_checkpoints : Nodes
+at_checkpoints = after_node_turns all_alike 1 [] (new_nodes all_alike) up_to_checkpoints
+
+abbrev pub other_state : Snapshot
+other_state = record { number = 1; state = other_text }
+
+abbrev pub after_adoption : Nodes
+after_adoption = with_node at_checkpoints 0 (after_node_call all_alike 1 [] 0 (at_checkpoints 0) (Adopts other_state))
+
+-- replica 0 adopts another state than theirs, by CHECKPOINTs of their digest
+abbrev pub NeedsDistinctStates : Type 0
+NeedsDistinctStates = FewAreFaulty 1 silent × MayTakeTurns all_alike 1 [] silent (new_nodes all_alike) up_to_checkpoints
+    × (2 * 1 + 1 ≤ count_below (λ k. silent k || has_checkpoint (at_checkpoints k).checkpoints 1 (one_for_all other_text)) (replicas 1))
+    × IsIn (record { number = 1; state = text }) (after_adoption 1).reached × IsIn other_state (after_adoption 0).reached × (text ≡ other_text → ⊥)

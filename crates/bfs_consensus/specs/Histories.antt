@@ -75,10 +75,14 @@ Executed history proposal = (log : List Header) × IsIn (record { proposal = pro
 abbrev pub FewAreFaulty : (f : ℕ) (faulty : ℕ → Bool) → Type 0
 FewAreFaulty f faulty = count_below faulty (replicas f) ≤ f
 
--- a correct sender has sent it, by itself or inside a NEW-VIEW (OSDI 1999 section 2: authenticators aren't forged)
+-- a replica has sent it, by itself or inside a NEW-VIEW
+abbrev pub HasSaid : History → (tag sender view number : ℕ) → List ℕ → Type 0
+HasSaid history tag sender view number digest =
+    Told history.sent tag sender view number digest ⊎ ((tag ≡ 2) × Told history.offers 2 sender view number digest)
+
+-- a correct sender has (OSDI 1999 section 2: authenticators aren't forged)
 abbrev pub WasSent : (faulty : ℕ → Bool) → World → (tag sender view number : ℕ) → List ℕ → Type 0
-WasSent faulty w tag sender view number digest =
-    faulty sender ≡ false → Told (w sender).sent tag sender view number digest ⊎ ((tag ≡ 2) × Told (w sender).offers 2 sender view number digest)
+WasSent faulty w tag sender view number digest = faulty sender ≡ false → HasSaid (w sender) tag sender view number digest
 
 -- a certificate, as who takes a VIEW-CHANGE for a view finds it (OSDI 1999 section 4.4)
 pub record IsValidCertificate (f : ℕ) (faulty : ℕ → Bool) (w : World) (asked : ℕ) (c : Certificate) : Type 0 where

@@ -1,7 +1,7 @@
 -- The statements that are proved of the definitions: contracts of functions of src/laws.rt, which do nothing.
 use Rattle.std.specs.Prelude.{◌≡◌, ℕ, ◌+◌, ◌*◌, ◌<◌, ◌≤◌, Bool, true, false, ◌||◌, List}
 use Rattle.bfs_agreement.specs.Votes.{Header, told, Told, count_below, replicas, primary, tellers, committed}
-use Rattle.bfs_consensus.specs.Histories.{IsIn, ViewChange, NewView, Execution, World, Executed, FewAreFaulty, IsChoice}
+use Rattle.bfs_consensus.specs.Histories.{IsIn, ViewChange, NewView, Execution, World, Executed, FewAreFaulty, HasSaid, IsChoice}
 use Rattle.bfs_consensus.specs.Moves.{Step, after_steps, AreAllowed, new_world}
 use Rattle.bfs_consensus.specs.Choice.{chosen}
 use Rattle.bfs_consensus.specs.Calls.{Turn, after_turns, AreAuthentic}
@@ -55,12 +55,14 @@ StatesAgree = (service : Service) (f : ℕ) (null : List ℕ) (faulty : ℕ → 
 
 -- In one view -----------------------------------------------------------------------------------------------------------
 
--- for each number the PRE-PREPARE, PREPARE and COMMIT that a correct replica sends in a view tell one digest
+-- for each number the PRE-PREPAREs, PREPAREs and COMMITs that a correct replica sends in a view tell one digest
+abbrev pub TellsOneDigest : (faulty : ℕ → Bool) → World → Type 0
+TellsOneDigest faulty w = (k one other view number : ℕ) (digest digest' : List ℕ) → faulty k ≡ false
+    → HasSaid (w k) one k view number digest → HasSaid (w k) other k view number digest' → digest ≡ digest'
+
 abbrev pub SaysOneDigest : Type 0
 SaysOneDigest = (f : ℕ) (null : List ℕ) (faulty : ℕ → Bool) (turns : List Turn) → AreAuthentic f null faulty new_world turns
-    → (k one other view number : ℕ) (digest digest' : List ℕ) → faulty k ≡ false
-    → Told (after_turns f null new_world turns k).sent one k view number digest
-    → Told (after_turns f null new_world turns k).sent other k view number digest' → digest ≡ digest'
+    → TellsOneDigest faulty (after_turns f null new_world turns)
 
 -- a batch is executed where the log has it committed, so with COMMITs of its digest from 2f + 1 replicas
 abbrev pub ExecutesCommitted : Type 0

@@ -1,5 +1,5 @@
 // The laws speak of something. The bodies do nothing: what is said is the contracts.
-ghost use Rattle.bfs_consensus.specs.Examples.{IsARun, NeedsAuthenticity, NeedsDistinctDigests, NeedsFewFaulty, RunsAgree};
+ghost use Rattle.bfs_consensus.specs.Examples.{IsARun, NeedsAuthenticity, NeedsDistinctDigests, NeedsDistinctStates, NeedsFewFaulty, RunsAgree};
 
 use crate::agreement::calls_agree;
 
@@ -32,3 +32,8 @@ pub fn agreement_needs_distinct_digests()
 {
     there_is_a_run();
 }
+
+/// Likewise a replica may adopt another state than the one that others are in, where both have one digest.
+pub fn agreement_needs_distinct_states()
+    ensures { NeedsDistinctStates }
+{}

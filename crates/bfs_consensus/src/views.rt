@@ -3,7 +3,7 @@ ghost use Rattle.bfs_consensus.specs.Laws.{AgreesInView, ExecutesCommitted, Says
 
 use crate::agreement::calls_agree;
 
-/// For each number of a view a correct replica's PRE-PREPARE, PREPARE and COMMIT tell one digest.
+/// For each number of a view the PRE-PREPAREs that a correct replica sends, in its NEW-VIEW too, and its PREPARE and COMMIT tell one digest.
 pub fn a_replica_says_one_digest()
     ensures { SaysOneDigest }
 {}
