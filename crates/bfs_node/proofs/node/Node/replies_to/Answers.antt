@@ -7,6 +7,5 @@ use Rattle.bfs_node.proofs.node.Node.replies_to.Goals as goal
 
 pub returns : goal.returns
 returns g c =
-    let each = rw (c.me.ensures, c.view.ensures) at c.in_ok-each.ensures in
     IfOk-then c.gather.result _ _ c.gather.ensures (λ all h.
-    h.1 ∙ all_given (λ answer. told c.args.self.now.keys (reply_to c.args.self.now.order answer)) c.args.answers.now c.in_ok-each.each.items each h.0)
+    h.1 ∙ all_given (λ answer. told c.args.self.now.keys (reply_to c.args.self.now.order answer)) c.args.answers.now c.in_ok-each.each.items c.in_ok-each.ensures h.0)
