@@ -3,4 +3,3 @@ pub mod Asking
 pub mod Bounds
 pub mod Finishing
 pub mod Settling
-pub mod Telling

@@ -1,13 +1,13 @@
 // What clients are told.
 ghost use Rattle.std.specs.Prelude.{◌≡◌, IfOk};
 ghost use Rattle.std.specs.List.{AllZip};
-ghost use Rattle.bfs_node.specs.Executing.{replies_to, told};
-ghost use Rattle.bfs_node.specs.Inside.Telling.{told_from};
+ghost use Rattle.bfs_node.specs.Executing.{replies_to, reply_to, told};
 
 use crate::node::Node;
 use bfs_auth::{Keys, least_texts, sign_text_for_client};
 use bfs_gather::gather;
 use bfs_messages::{Message, Reply, Signed};
+use bfs_order::Order;
 use bfs_replies::Answer;
 use bfs_types::Memory;
 use rayon::prelude::*;
@@ -27,8 +27,7 @@ impl Node {
     ) -> Result<Vec<Signed<Message>>, Memory>
         ensures { IfOk result (λ replies. replies.items ≡ replies_to self.now.keys self.now.order answers.now) }
     {
-        let (me, view) = (self.order.me(), self.order.view());
-        let each = tell_each(rt, self.alloc, &self.keys, me, view, answers)?;
+        let each = tell_each(rt, self.alloc, &self.keys, &self.order, answers)?;
         gather(self.alloc, each)
     }
 }
@@ -37,25 +36,24 @@ fn tell_each(
     rt: &(impl Threads + Sync),
     alloc: Global,
     keys: &Keys,
-    me: u32,
-    view: u64,
+    order: &Order,
     answers: &[Answer],
 ) -> Result<Vec<MaybeTold>, AllocError>
-    ensures { IfOk result (λ each. AllZip (λ answer one. IfOk one (λ signed. signed ≡ told_from keys.now me view answer)) answers.now each.items) }
+    ensures { IfOk result (λ each. AllZip (λ answer one. IfOk one (λ signed. signed ≡ told keys.now (reply_to order.now answer))) answers.now each.items) }
 {
     answers
         .par_iter()
         .with_min_len(least_texts(mean_length(answers)))
         .map(
             |answer: &Answer| -> MaybeTold
-                ensures { IfOk result (λ signed. signed ≡ told_from keys.entry.now me view answer.now) }
-            { tell(alloc, keys, me, view, answer) },
+                ensures { IfOk result (λ signed. signed ≡ told keys.entry.now (reply_to order.entry.now answer.now)) }
+            { tell(alloc, keys, order, answer) },
         )
         .collect(rt, alloc)
 }
 
-fn tell(alloc: Global, keys: &Keys, me: u32, view: u64, answer: &Answer) -> MaybeTold
-    ensures { IfOk result (λ signed. signed ≡ told_from keys.now me view answer.now) }
+fn tell(alloc: Global, keys: &Keys, order: &Order, answer: &Answer) -> MaybeTold
+    ensures { IfOk result (λ signed. signed ≡ told keys.now (reply_to order.now answer.now)) }
 {
     let client = answer.client();
     if client as usize >= keys.clients() {
@@ -63,8 +61,8 @@ fn tell(alloc: Global, keys: &Keys, me: u32, view: u64, answer: &Answer) -> Mayb
     }
     let message = Message::Reply(Reply::new(
         alloc,
-        me,
-        view,
+        order.me(),
+        order.view(),
         client,
         answer.timestamp(),
         answer.reply(),

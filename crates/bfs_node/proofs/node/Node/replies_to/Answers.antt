@@ -1,5 +1,4 @@
 use Rattle.std.proofs.Common.{◌∙◌}
-use Rattle.std.specs.Prelude.{IfOk}
 use Rattle.rayon.proofs.ListFacts.{IfOk-then}
 use Rattle.bfs_gather.proofs.Public.{all_given}
 use Rattle.bfs_node.specs.Executing.{reply_to, told}
@@ -7,6 +6,6 @@ use Rattle.bfs_node.proofs.node.Node.replies_to.Goals as goal
 
 pub returns : goal.returns
 returns g c =
-    let each = rw (c.me.ensures, c.view.ensures) at c.in_ok-each.ensures in
-    IfOk-then c.gather.result _ _ c.gather.ensures (λ all h.
-    h.1 ∙ all_given (λ answer. told c.args.self.now.keys (reply_to c.args.self.now.order answer)) c.args.answers.now c.in_ok-each.each.items each h.0)
+    rw (← c.self.view_is)
+    (IfOk-then c.gather.result _ _ c.gather.ensures (λ all h.
+    h.1 ∙ all_given (λ answer. told c.self.inside.keys (reply_to c.self.inside.order answer)) c.args.answers.now c.in_ok-each.each.items c.in_ok-each.ensures h.0))
