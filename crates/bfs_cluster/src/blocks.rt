@@ -1,6 +1,6 @@
 ghost use Rattle.std.specs.Prelude.{◌≡◌, ◌<◌, true, fold, length, OnOk};
 ghost use Rattle.std.specs.List.{list_all};
-ghost use Rattle.bfs_cluster.specs.Blocks.{requested, with_block};
+ghost use Rattle.bfs_cluster.specs.Blocks.{requested, to_each, with_block};
 ghost use Rattle.bfs_cluster.specs.Inside.Requests.{changing, is_request, with_requests};
 
 use crate::acts::Act;
@@ -39,7 +39,6 @@ impl Cluster {
     }
 
     // All of them come to one replica, which checks them side by side, and then to the next one: none makes a replica send anything.
-    #[tactic(auto, using(crate::proofs::Requesting::come_to_each))]
     fn take_requests<R: Threads + Sync>(
         &mut self,
         rt: &R,
@@ -47,6 +46,16 @@ impl Cluster {
     ) -> Result<(), Memory>
         requires { list_all is_request messages.now ≡ true }
         ensures { OnOk result (self.new ≡ fold requested self.old messages.now) }
+    {
+        self.take_requests_each(rt, messages)
+    }
+
+    fn take_requests_each<R: Threads + Sync>(
+        &mut self,
+        rt: &R,
+        messages: &[Signed<Message>],
+    ) -> Result<(), Memory>
+        ensures { OnOk result (self.new ≡ to_each (changing (with_requests messages.now)) self.old) }
     {
         for number in 0..self.replicas.len() {
             self.take_requests_at(rt, messages, number)?;

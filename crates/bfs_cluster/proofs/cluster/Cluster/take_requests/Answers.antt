@@ -1,7 +1,10 @@
-use Rattle.bfs_cluster.specs.Inside.Requests.{with_requests}
-use Rattle.bfs_cluster.proofs.Requesting.{goes_on}
+use Rattle.std.proofs.Common.{◌∙◌}
+use Rattle.std.proofs.lemmas.Result.{on_ok_weaker}
+use Rattle.bfs_cluster.proofs.Requesting.{come_to_each}
 use Rattle.bfs_cluster.proofs.cluster.Cluster.take_requests.Goals as goal
 
-pub loop-number-preserved : goal.loop-number-preserved
-loop-number-preserved g c =
-    goes_on (with_requests c.args.messages.now) c.args.self.now c.loop-number.self c.take_requests_at.new.self c.loop-number.number c.in_ok-take_requests_at.ensures c.loop-number.invariant
+pub returns : goal.returns
+returns g c =
+    on_ok_weaker c.take_requests_each.result
+    (λ is. is ∙ come_to_each c.args.messages.now c.requires c.args.self.now)
+    c.take_requests_each.ensures
