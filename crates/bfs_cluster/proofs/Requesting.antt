@@ -24,7 +24,7 @@ use Rattle.bfs_cluster.specs.World.{Replica, World, done_if, node_if_heard}
 
 module _ (change : Replica → Replica) where
   -- those of the first numbers have changed
-  first_with : ℕ → List Replica → List Replica
+  abbrev first_with : ℕ → List Replica → List Replica
   first_with zero replicas = replicas
   first_with (suc n) [] = []
   first_with (suc n) (replica ∷ rest) = change replica ∷ first_with n rest
@@ -74,7 +74,7 @@ module _ (change : Replica → Replica) where
 -- A request comes to a replica ---------------------------------------------------------------------------------------------
 
 module _ (world : World) (number : ℕ) (signed : Signed Message) where
-  placed : Replica → World
+  abbrev placed : Replica → World
   placed replica = record world { replicas = slice_set world.replicas number replica }
 
   -- it waits, or is lost
