@@ -1,6 +1,6 @@
 //! A batch of many kinds of calls by each engine, whose replies are right, or memory has run out and the file system has failed: then what
-//! its text spelled before is restored, and the replies to the batch are right. Nothing is refused in the gate's run of the tests: `.ci/refusals` runs this one with each growth of memory, and each start of a thread,
-//! refused in turn.
+//! its text spelled before is restored, and the replies to the batch are right. Nothing is refused in the gate's run of the tests:
+//! `.ci/refusals` runs this one with each growth of memory, and each start of a thread, refused in turn.
 use crate::engines::{ENGINES, batch_of, compare, executor};
 use bfs_digest::{digest_parallel, digest_serial, refresh, restore, snapshot};
 use bfs_executor::Executor;
