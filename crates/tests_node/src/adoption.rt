@@ -1,8 +1,7 @@
 //! A replica that is behind adopts the stable snapshot of another one.
-use crate::behind::{Step, Text, first_wrong};
+use crate::behind::{ANOTHER_LINK, ANOTHER_OWNER, ANOTHER_VERSION, Step, Text, plays};
 use crate::parts::Told;
 use crate::replica::{Said, Standing};
-use bfs_testing::same;
 use std::test::Fail;
 
 const OF_THREE: &[Told] = &[Told(0, 0), Told(1, 1), Told(2, 2)];
@@ -17,8 +16,7 @@ static A_CERTIFICATE: [Step; 4] = [
 
 #[test]
 fn a_new_replica_catches_up(rt: HostRuntime) -> Result<(), Fail> {
-    same!(rt; first_wrong(&rt, rt.alloc(), &A_CERTIFICATE)?, None);
-    Ok(())
+    plays(&rt, rt.alloc(), &A_CERTIFICATE)
 }
 
 const OF_TWO: &[Told] = &[Told(0, 0), Told(1, 1)];
@@ -36,19 +34,20 @@ static NO_CERTIFICATE: [Step; 4] = [
 
 #[test]
 fn a_checkpoint_without_a_certificate_is_not_adopted(rt: HostRuntime) -> Result<(), Fail> {
-    same!(rt; first_wrong(&rt, rt.alloc(), &NO_CERTIFICATE)?, None);
-    Ok(())
+    plays(&rt, rt.alloc(), &NO_CERTIFICATE)
 }
 
-static ANOTHER_TEXT: [Step; 4] = [
+static ANOTHER_TEXT: [Step; 7] = [
+    Step::Adopt(Text::Word, OF_TWO, Said::Refused(34)),
     Step::Adopt(Text::Word, OF_THREE, Said::Refused(20)),
-    Step::Adopt(Text::AnotherOwner, OF_THREE, Said::Refused(35)),
+    Step::Adopt(ANOTHER_VERSION, OF_THREE, Said::Refused(22)),
+    Step::Adopt(ANOTHER_LINK, OF_THREE, Said::Refused(21)),
+    Step::Adopt(ANOTHER_OWNER, OF_THREE, Said::Refused(35)),
     Step::Stands(Standing(0, 0, 0)),
     Step::IsAsBefore,
 ];
 
 #[test]
 fn another_text_is_not_adopted(rt: HostRuntime) -> Result<(), Fail> {
-    same!(rt; first_wrong(&rt, rt.alloc(), &ANOTHER_TEXT)?, None);
-    Ok(())
+    plays(&rt, rt.alloc(), &ANOTHER_TEXT)
 }

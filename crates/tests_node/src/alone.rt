@@ -1,8 +1,7 @@
 //! A replica that is alone orders what comes at once.
 use crate::parts::Asked;
 use crate::replica::{Said, Standing};
-use crate::script::{Step, first_wrong};
-use bfs_testing::same;
+use crate::script::{Step, plays};
 use std::test::Fail;
 
 const REQUEST: Asked = Asked {
@@ -25,8 +24,7 @@ static A_REQUEST: [Step; 9] = [
 
 #[test]
 fn a_request_is_ordered_executed_and_answered(rt: HostRuntime) -> Result<(), Fail> {
-    same!(rt; first_wrong(&rt, rt.alloc(), 0, 0, &A_REQUEST)?, None);
-    Ok(())
+    plays(&rt, rt.alloc(), 0, 0, &A_REQUEST)
 }
 
 static A_REQUEST_TWICE: [Step; 8] = [
@@ -42,8 +40,7 @@ static A_REQUEST_TWICE: [Step; 8] = [
 
 #[test]
 fn a_repeated_request_is_answered_again(rt: HostRuntime) -> Result<(), Fail> {
-    same!(rt; first_wrong(&rt, rt.alloc(), 0, 0, &A_REQUEST_TWICE)?, None);
-    Ok(())
+    plays(&rt, rt.alloc(), 0, 0, &A_REQUEST_TWICE)
 }
 
 static A_CHECKPOINT: [Step; 5] = [
@@ -57,6 +54,5 @@ static A_CHECKPOINT: [Step; 5] = [
 
 #[test]
 fn a_checkpoint_is_stable_at_once(rt: HostRuntime) -> Result<(), Fail> {
-    same!(rt; first_wrong(&rt, rt.alloc(), 0, 0, &A_CHECKPOINT)?, None);
-    Ok(())
+    plays(&rt, rt.alloc(), 0, 0, &A_CHECKPOINT)
 }

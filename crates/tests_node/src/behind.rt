@@ -5,9 +5,11 @@ use crate::replica::{
     stable_text, standing_of,
 };
 use bfs_node::Node;
+use bfs_testing::asserts::compared;
 use bfs_types::Memory;
 use std::alloc::Global;
 use std::sync::Wait;
+use std::test::Fail;
 use std::thread::Threads;
 
 /// What is to be adopted.
@@ -15,11 +17,26 @@ use std::thread::Threads;
 pub enum Text {
     /// The snapshot's text.
     Right,
-    /// The snapshot's text with another owner of the root.
-    AnotherOwner,
+    /// The snapshot's text with another byte at a place.
+    But(usize, u8),
     /// The word 1.
     Word,
 }
+
+// behind 16 clients without a reply
+const FILES: usize = 4 + 16 * 4;
+
+// behind the header of the file system
+const ROOT: usize = FILES + 28;
+
+/// The last byte of the second word.
+pub const ANOTHER_VERSION: Text = Text::But(FILES + 7, 2);
+
+/// The last byte of the root's fourth word.
+pub const ANOTHER_LINK: Text = Text::But(ROOT + 15, 3);
+
+/// The last byte of the root's fifth word.
+pub const ANOTHER_OWNER: Text = Text::But(ROOT + 19, 1);
 
 /// What happens to the replica that is behind and what comes of it, or what is to hold then.
 #[derive(Clone, Copy)]
@@ -41,25 +58,32 @@ struct Snapshot {
     digest: [u8; 32],
 }
 
+fn execute_sixteen<R: Threads + Wait + Sync>(rt: &R, node: &mut Node) {
+    for _ in 0u32..16 {
+        propose(node);
+        execute(rt, node);
+    }
+}
+
 // of a replica that has executed 16 batches without requests
 fn sixteen_batches<R: Threads + Wait + Sync>(rt: &R, alloc: Global) -> Result<Snapshot, Memory> {
     let mut node = replica(alloc, 0, 0)?;
-    for _ in 0u32..16 {
-        propose(&mut node);
-        execute(rt, &mut node);
-    }
+    execute_sixteen(rt, &mut node);
     checkpoint(rt, &mut node);
     let text = stable_text(alloc, &node)?;
     let digest = digest_of(rt, &node).ok_or(Memory)?;
     Ok(Snapshot { text, digest })
 }
 
-fn with_another_owner(alloc: Global, text: &[u8]) -> Result<Vec<u8>, Memory> {
+fn with_another_byte(
+    alloc: Global,
+    text: &[u8],
+    place: usize,
+    byte: u8,
+) -> Result<Vec<u8>, Memory> {
     let mut changed = text.to_vec(alloc)?;
-    // behind 16 clients without a reply, the header, and four words of the root's record
-    let owner = 4 + 16 * 4 + 28 + 4 * 4;
-    if let Some(last) = changed.get_mut(owner + 3) {
-        *last = 1;
+    if let Some(one) = changed.get_mut(place) {
+        *one = byte;
     }
     Ok(changed)
 }
@@ -96,8 +120,8 @@ impl Behind {
         let right = &self.snapshot.text;
         Ok(match text {
             Text::Right => adopt(rt, &mut self.node, right, &certificate),
-            Text::AnotherOwner => {
-                let changed = with_another_owner(self.alloc, right)?;
+            Text::But(place, byte) => {
+                let changed = with_another_byte(self.alloc, right, place, byte)?;
                 adopt(rt, &mut self.node, &changed, &certificate)
             }
             Text::Word => adopt(rt, &mut self.node, &[0, 0, 0, 1], &certificate),
@@ -126,17 +150,23 @@ impl Behind {
     }
 }
 
-/// The place of the first step that does not come as it is told, at the replica that is behind.
-pub fn first_wrong<R: Threads + Wait + Sync>(
+// the place of the first step that does not come as it is told
+fn first_wrong<R: Threads + Sync>(
     rt: &R,
-    alloc: Global,
+    behind: &mut Behind,
     steps: &[Step],
 ) -> Result<Option<usize>, Memory> {
-    let mut behind = Behind::new(rt, alloc)?;
     for (place, step) in steps.iter().enumerate() {
         if !behind.happens(rt, *step)? {
             return Ok(Some(place));
         }
     }
     Ok(None)
+}
+
+/// It all comes as it is told, at the replica that is behind.
+pub fn plays<R: Threads + Wait + Sync>(rt: &R, alloc: Global, steps: &[Step]) -> Result<(), Fail> {
+    let mut behind = Behind::new(rt, alloc)?;
+    compared(first_wrong(rt, &mut behind, steps)?, None)?;
+    Ok(())
 }

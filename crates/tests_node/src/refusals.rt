@@ -1,8 +1,7 @@
 //! What a replica refuses.
 use crate::parts::Asked;
 use crate::replica::{Said, Standing};
-use crate::script::{Step, first_wrong};
-use bfs_testing::same;
+use crate::script::{Step, plays};
 use std::test::Fail;
 
 static NO_MESSAGE: [Step; 2] = [
@@ -12,8 +11,7 @@ static NO_MESSAGE: [Step; 2] = [
 
 #[test]
 fn what_is_no_message_is_refused(rt: HostRuntime) -> Result<(), Fail> {
-    same!(rt; first_wrong(&rt, rt.alloc(), 0, 0, &NO_MESSAGE)?, None);
-    Ok(())
+    plays(&rt, rt.alloc(), 0, 0, &NO_MESSAGE)
 }
 
 const BY_ANOTHER: Asked = Asked {
@@ -36,8 +34,7 @@ static NOT_THE_CLIENTS: [Step; 3] = [
 
 #[test]
 fn a_request_is_its_clients(rt: HostRuntime) -> Result<(), Fail> {
-    same!(rt; first_wrong(&rt, rt.alloc(), 0, 0, &NOT_THE_CLIENTS)?, None);
-    Ok(())
+    plays(&rt, rt.alloc(), 0, 0, &NOT_THE_CLIENTS)
 }
 
 const ONE_TOO_MANY: Asked = Asked {
@@ -54,14 +51,12 @@ static FULL: [Step; 3] = [
 
 #[test]
 fn as_many_wait_as_a_batch_can_have(rt: HostRuntime) -> Result<(), Fail> {
-    same!(rt; first_wrong(&rt, rt.alloc(), 0, 0, &FULL)?, None);
-    Ok(())
+    plays(&rt, rt.alloc(), 0, 0, &FULL)
 }
 
 static A_BACKUP: [Step; 1] = [Step::Propose(Said::Refused(28))];
 
 #[test]
 fn a_backup_proposes_nothing(rt: HostRuntime) -> Result<(), Fail> {
-    same!(rt; first_wrong(&rt, rt.alloc(), 1, 1, &A_BACKUP)?, None);
-    Ok(())
+    plays(&rt, rt.alloc(), 1, 1, &A_BACKUP)
 }

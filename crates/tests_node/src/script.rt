@@ -5,9 +5,11 @@ use crate::replica::{
     standing_of, take,
 };
 use bfs_node::Node;
+use bfs_testing::asserts::compared;
 use bfs_types::Memory;
 use std::alloc::Global;
 use std::sync::Wait;
+use std::test::Fail;
 use std::thread::Threads;
 
 /// What happens to the replica and what comes of it, or what is to hold then.
@@ -109,19 +111,30 @@ fn happens<R: Threads + Wait + Sync>(
     })
 }
 
-/// The place of the first step that does not come as it is told, at the replica of that number among 3f + 1, which has done nothing.
-pub fn first_wrong<R: Threads + Wait + Sync>(
+// the place of the first step that does not come as it is told
+fn first_wrong<R: Threads + Wait + Sync>(
+    rt: &R,
+    alloc: Global,
+    node: &mut Node,
+    steps: &[Step],
+) -> Result<Option<usize>, Memory> {
+    for (place, step) in steps.iter().enumerate() {
+        if !happens(rt, alloc, node, *step)? {
+            return Ok(Some(place));
+        }
+    }
+    Ok(None)
+}
+
+/// It all comes as it is told, at the replica of that number among 3f + 1, which has done nothing.
+pub fn plays<R: Threads + Wait + Sync>(
     rt: &R,
     alloc: Global,
     f: u32,
     me: u32,
     steps: &[Step],
-) -> Result<Option<usize>, Memory> {
+) -> Result<(), Fail> {
     let mut node = replica(alloc, f, me)?;
-    for (place, step) in steps.iter().enumerate() {
-        if !happens(rt, alloc, &mut node, *step)? {
-            return Ok(Some(place));
-        }
-    }
-    Ok(None)
+    compared(first_wrong(rt, alloc, &mut node, steps)?, None)?;
+    Ok(())
 }

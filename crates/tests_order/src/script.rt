@@ -88,26 +88,26 @@ fn happens<R: Threads + Sync>(
     }
 }
 
-impl Script {
-    // the place of the first step of which something else comes, and what does
-    fn first_wrong<R: Threads + Sync>(
-        &self,
-        rt: &R,
-        alloc: Global,
-    ) -> Result<Option<(usize, Answer)>, Memory> {
-        let mut replica = Replica::new(alloc, self.faults, self.me)?;
-        for (place, Step(event, wanted)) in self.steps.iter().enumerate() {
-            let answer = happens(rt, &mut replica, *event)?;
-            if answer != *wanted {
-                return Ok(Some((place, answer)));
-            }
+// the place of the first step of which something else comes, and what does
+fn first_wrong<R: Threads + Sync>(
+    rt: &R,
+    replica: &mut Replica,
+    steps: &[Step],
+) -> Result<Option<(usize, Answer)>, Memory> {
+    for (place, Step(event, wanted)) in steps.iter().enumerate() {
+        let answer = happens(rt, replica, *event)?;
+        if answer != *wanted {
+            return Ok(Some((place, answer)));
         }
-        Ok(None)
     }
+    Ok(None)
+}
 
+impl Script {
     /// It all comes as it is told.
     pub fn plays<R: Threads + Sync>(&self, rt: &R, alloc: Global) -> Result<(), Fail> {
-        compared(self.first_wrong(rt, alloc)?, None)?;
+        let mut replica = Replica::new(alloc, self.faults, self.me)?;
+        compared(first_wrong(rt, &mut replica, self.steps)?, None)?;
         Ok(())
     }
 }

@@ -1,5 +1,5 @@
 //! Views are left and entered.
-use crate::parts::Told::Prepare;
+use crate::parts::Told::{Prepare, Proposal};
 use crate::replica::Answer::{Done, Kept, Number, Proposed, Refused, Sent};
 use crate::script::{Event, Script, Step};
 use std::test::Fail;
@@ -73,6 +73,32 @@ static ABOVE_WHAT_WAS_HANDED_OVER: Script = Script {
 #[test]
 fn a_primary_proposes_above_what_was_handed_over(rt: HostRuntime) -> Result<(), Fail> {
     ABOVE_WHAT_WAS_HANDED_OVER.plays(&rt, rt.alloc())
+}
+
+// a view that begins behind a checkpoint, without batches: at its primary, and at another one
+static BEHIND_MIN_S_AT_THE_PRIMARY: Script = Script {
+    faults: 1,
+    me: 1,
+    steps: &[
+        Step(Event::Enter(1, 16, &[]), Sent(0)),
+        Step(Event::Propose, Proposed(1, 17)),
+    ],
+};
+
+static BEHIND_MIN_S: Script = Script {
+    faults: 1,
+    me: 2,
+    steps: &[
+        Step(Event::Enter(1, 16, &[]), Sent(0)),
+        Step(Event::Take(1, Proposal(1, 1, 16)), Refused(26)),
+        Step(Event::Take(1, Proposal(1, 1, 17)), Sent(1)),
+    ],
+};
+
+#[test]
+fn numbers_up_to_min_s_are_not_given(rt: HostRuntime) -> Result<(), Fail> {
+    BEHIND_MIN_S_AT_THE_PRIMARY.plays(&rt, rt.alloc())?;
+    BEHIND_MIN_S.plays(&rt, rt.alloc())
 }
 
 static ALONE: Script = Script {

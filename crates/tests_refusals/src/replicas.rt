@@ -244,7 +244,7 @@ impl Replicas {
         numbers: &[usize],
     ) -> Result<bool, Memory> {
         for number in numbers {
-            let other = (*number + 1) % 4;
+            let other = number.wrapping_add(1) % 4;
             let has_failed = self.digest(rt, *number).is_none();
             if has_failed
                 && !(self.adopt(rt, *number, other)? && self.goes_on(rt, *number, false)?)

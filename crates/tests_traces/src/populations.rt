@@ -1,4 +1,5 @@
 //! Populations: which clients and replicas a trace may name.
+use bfs_testing::asserts::compared;
 use bfs_testing::{holds, same};
 use bfs_trace::{Population, Request, Trace, TraceError, TraceEvent, parse_trace};
 use std::alloc::Global;
@@ -20,16 +21,39 @@ pub(crate) fn only_requests(events: &[TraceEvent]) -> &[Request] {
     }
 }
 
+// how many clients and replicas, and whether there may be so many
+static NUMBERS: [(u32, u32, bool); 6] = [
+    (1, 1, true),
+    (1_024, 31, true),
+    (0, 1, false),
+    (1, 0, false),
+    (1_025, 31, false),
+    (1_024, 32, false),
+];
+
+// how many there are of a population of so many
+fn counts_of(clients: u32, replicas: u32) -> Option<(u32, u32)> {
+    let population = Population::new(clients, replicas)?;
+    Some((population.clients(), population.replicas()))
+}
+
+fn first_wrong_numbers() -> Option<(u32, u32)> {
+    for (clients, replicas, may_be) in &NUMBERS {
+        let wanted = if *may_be {
+            Some((*clients, *replicas))
+        } else {
+            None
+        };
+        if counts_of(*clients, *replicas) != wanted {
+            return Some((*clients, *replicas));
+        }
+    }
+    None
+}
+
 #[test]
 fn has_at_most_1024_clients_and_31_replicas(rt: HostRuntime) -> Result<(), Fail> {
-    for (clients, replicas) in [(1, 1), (1_024, 31)] {
-        let population = Population::new(clients, replicas).ok_or("population")?;
-        same!(rt; population.clients(), clients);
-        same!(rt; population.replicas(), replicas);
-    }
-    for (clients, replicas) in [(0, 1), (1, 0), (1_025, 31), (1_024, 32)] {
-        holds!(rt; Population::new(clients, replicas).is_none());
-    }
+    same!(rt; first_wrong_numbers(), None);
     Ok(())
 }
 
@@ -43,50 +67,59 @@ fn line_at_fault(alloc: Global, clients: u32, replicas: u32, text: &str) -> Resu
     }
 }
 
+/// How many clients and replicas there are, a trace, and its first line at fault, or 0.
+struct Case(u32, u32, &'static str, usize);
+
+fn first_wrong(alloc: Global, cases: &[Case]) -> Result<Option<&'static str>, Fail> {
+    for Case(clients, replicas, text, line) in cases {
+        if line_at_fault(alloc, *clients, *replicas, *text)? != *line {
+            return Ok(Some(*text));
+        }
+    }
+    Ok(None)
+}
+
+static CLIENTS: [Case; 6] = [
+    Case(1, 1, "batch 1.000000\n0 1 null\n", 0),
+    Case(1, 1, "batch 1.000000\n1 1 null\n", 2),
+    Case(16, 1, "batch 1.000000\n15 1 null\n", 0),
+    Case(16, 1, "batch 1.000000\n16 1 null\n", 2),
+    Case(1_024, 1, "batch 1.000000\n1023 1 null\n", 0),
+    Case(1_024, 1, "batch 1.000000\n1024 1 null\n", 2),
+];
+
 #[test]
 fn names_clients_below_their_number(rt: HostRuntime) -> Result<(), Fail> {
-    let cases = [
-        (1, 0, 0),
-        (1, 1, 2),
-        (16, 15, 0),
-        (16, 16, 2),
-        (1_024, 1_023, 0),
-        (1_024, 1_024, 2),
-    ];
-    for (clients, client, line) in cases {
-        let text = format!(in rt.alloc(); "batch 1.000000\n{client} 1 null\n")?;
-        same!(rt; line_at_fault(rt.alloc(), clients, 1, text.as_str())?, line);
-    }
-    Ok(())
+    Ok(compared(first_wrong(rt.alloc(), &CLIENTS)?, None)?)
 }
+
+static REPLICAS: [Case; 20] = [
+    Case(16, 1, "silent 0\n", 0),
+    Case(16, 1, "heard 0\n", 0),
+    Case(16, 1, "silent 1\n", 1),
+    Case(16, 1, "heard 1\n", 1),
+    Case(16, 2, "silent 1\n", 0),
+    Case(16, 2, "heard 1\n", 0),
+    Case(16, 2, "silent 2\n", 1),
+    Case(16, 2, "heard 2\n", 1),
+    Case(16, 31, "silent 30\n", 0),
+    Case(16, 31, "heard 30\n", 0),
+    Case(16, 31, "silent 31\n", 1),
+    Case(16, 31, "heard 31\n", 1),
+    Case(16, 4, "silent\n", 1),
+    Case(16, 4, "silent 0 1\n", 1),
+    Case(16, 4, "heard +1\n", 1),
+    Case(16, 4, "Heard 1\n", 1),
+    Case(16, 4, "timeout 1\n", 1),
+    Case(16, 4, "timeouts\n", 1),
+    // within a block
+    Case(16, 4, "batch 1.000000\nheard 3\n0 1 null\n", 3),
+    Case(16, 4, "batch 1.000000\ntimeout\n0 1 null\n", 3),
+];
 
 #[test]
 fn names_replicas_below_their_number(rt: HostRuntime) -> Result<(), Fail> {
-    let cases = [
-        (1, 0, 0),
-        (1, 1, 1),
-        (2, 1, 0),
-        (2, 2, 1),
-        (31, 30, 0),
-        (31, 31, 1),
-    ];
-    for (replicas, replica, line) in cases {
-        for word in ["silent", "heard"] {
-            let text = format!(in rt.alloc(); "{word} {replica}\n")?;
-            same!(rt; line_at_fault(rt.alloc(), 16, replicas, text.as_str())?, line);
-        }
-    }
-    for text in [
-        "silent\n",
-        "silent 0 1\n",
-        "heard +1\n",
-        "Heard 1\n",
-        "timeout 1\n",
-        "timeouts\n",
-    ] {
-        same!(rt; line_at_fault(rt.alloc(), 16, 4, text)?, 1);
-    }
-    Ok(())
+    Ok(compared(first_wrong(rt.alloc(), &REPLICAS)?, None)?)
 }
 
 #[test]
@@ -104,10 +137,6 @@ fn reads_who_is_silent_between_blocks(rt: HostRuntime) -> Result<(), Fail> {
         ]
     );
     holds!(rt; is_read);
-    for event in ["heard 3", "timeout"] {
-        let text = format!(in rt.alloc(); "batch 1.000000\n{event}\n0 1 null\n")?;
-        same!(rt; line_at_fault(rt.alloc(), 16, 4, text.as_str())?, 3);
-    }
     Ok(())
 }
 

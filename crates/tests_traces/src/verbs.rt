@@ -3,7 +3,7 @@
 //! The bytes of the calls are those of another implementation: `rpcgen` made the encoders of the arguments from the declarations of
 //! RFC 1094 section 2, and libtirpc's `xdr_callmsg` and `xdr_authunix_parms` wrote the header and the credential before them.
 use crate::populations::{only_requests, parse_alone};
-use bfs_testing::same;
+use bfs_testing::asserts::compared;
 use bfs_trace::TraceError;
 use std::alloc::Global;
 use std::test::Fail;
@@ -217,12 +217,18 @@ fn spells(alloc: Global, line: &str, digits: &str) -> Result<bool, Fail> {
     }
 }
 
+fn first_wrong(alloc: Global) -> Result<Option<&'static str>, Fail> {
+    for (line, digits) in &CALLS {
+        if !spells(alloc, *line, *digits)? {
+            return Ok(Some(*line));
+        }
+    }
+    Ok(None)
+}
+
 #[test]
 fn spells_the_call_of_each_verb(rt: HostRuntime) -> Result<(), Fail> {
-    for (line, digits) in CALLS.iter() {
-        assert!(rt; spells(rt.alloc(), line, digits)?, "{line}");
-    }
-    Ok(())
+    Ok(compared(first_wrong(rt.alloc())?, None)?)
 }
 
 /// Whether the second line of a trace is the first at fault.
@@ -231,28 +237,18 @@ fn is_refused(alloc: Global, line: &str) -> Result<bool, Fail> {
     Ok(parse_alone(alloc, text.as_bytes()).err() == Some(TraceError::BadLine(2)))
 }
 
-#[test]
-fn refuses_words_that_spell_no_call(rt: HostRuntime) -> Result<(), Fail> {
-    for line in FAULTS.iter() {
-        assert!(rt; is_refused(rt.alloc(), line)?, "{line}");
+fn first_taken(alloc: Global) -> Result<Option<&'static str>, Fail> {
+    for line in &FAULTS {
+        if !is_refused(alloc, *line)? {
+            return Ok(Some(*line));
+        }
     }
-    Ok(())
+    Ok(None)
 }
 
-/// A trace with one request, whose last word has those bytes so many times, and then `tail`.
-fn trace_of_long_word(
-    alloc: Global,
-    front: &str,
-    piece: &str,
-    count: usize,
-    tail: &str,
-) -> Result<String, Fail> {
-    let mut text = format!(in alloc; "batch 1.000000\n0 1 {front}")?;
-    for _piece in 0..count {
-        text.push_str(piece)?;
-    }
-    text.push_str(tail)?;
-    Ok(text)
+#[test]
+fn refuses_words_that_spell_no_call(rt: HostRuntime) -> Result<(), Fail> {
+    Ok(compared(first_taken(rt.alloc())?, None)?)
 }
 
 /// How many bytes the only call of that trace has, if it is one.
@@ -264,16 +260,26 @@ fn length_of_call(alloc: Global, text: &str) -> Option<usize> {
     }
 }
 
+// the words of a request, the last of which ends with a piece so many times, and how many bytes its call has
+static LONG: [(&str, &str, usize, Option<usize>); 4] = [
+    ("lookup #2 ", "%61", 16_280, Some(16_384)),
+    ("lookup #2 ", "%61", 16_281, None),
+    ("write #3 0 x", "61", 16_268, Some(16_384)),
+    ("write #3 0 x", "61", 16_269, None),
+];
+
+fn first_wrong_length(alloc: Global) -> Result<Option<usize>, Fail> {
+    for (place, (words, piece, count, wanted)) in LONG.iter().enumerate() {
+        let pieces = piece.repeat(alloc, *count)?;
+        let text = format!(in alloc; "batch 1.000000\n0 1 {words}{pieces}\n")?;
+        if length_of_call(alloc, text.as_str()) != *wanted {
+            return Ok(Some(place));
+        }
+    }
+    Ok(None)
+}
+
 #[test]
 fn takes_calls_of_at_most_16384_bytes(rt: HostRuntime) -> Result<(), Fail> {
-    let alloc = rt.alloc();
-    let longest = trace_of_long_word(alloc, "lookup #2 ", "%61", 16_280, "")?;
-    same!(rt; length_of_call(alloc, longest.as_str()), Some(16_384));
-    let longer = trace_of_long_word(alloc, "lookup #2 ", "%61", 16_281, "")?;
-    same!(rt; length_of_call(alloc, longer.as_str()), None);
-    let longest = trace_of_long_word(alloc, "write #3 0 x", "61", 16_268, "")?;
-    same!(rt; length_of_call(alloc, longest.as_str()), Some(16_384));
-    let longer = trace_of_long_word(alloc, "write #3 0 x", "61", 16_269, "")?;
-    same!(rt; length_of_call(alloc, longer.as_str()), None);
-    Ok(())
+    Ok(compared(first_wrong_length(rt.alloc())?, None)?)
 }
