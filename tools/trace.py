@@ -9,6 +9,8 @@ from typing import NamedTuple
 
 PROGRAM, VERSION = 100003, 2  # NFS version 2
 CLIENTS = 16  # the clients of a trace are the numbers below it
+FIRST_UID, GID = 1000, 100  # of client 0, and of all clients, where no line says otherwise
+MOST_GIDS = 16  # of a caller, behind its gid
 MOST_REQUESTS = 1_024  # of a block
 MOST_BYTES = 16_384  # of a call, and of a reply
 NO_REPLY = ("-", "none")  # what stands for a reply of no bytes, and where the replicas gave none
@@ -109,7 +111,15 @@ def is_hexadecimal(word):
     return re.fullmatch(r"[\da-fA-F]+", word) and len(word) % 2 == 0
 
 
-def call_of(client, timestamp, verb, words):
+def caller_in(words):
+    """The uid, the gid and the further gids of a caller, of the words behind the client of `as`; a ValueError says what is wrong with them."""
+    numbers = [int(word) if re.fullmatch(r"[0-9]+", word) else 2**32 for word in words]
+    if not 2 <= len(numbers) <= 2 + MOST_GIDS or max(numbers) >= 2**32:
+        raise ValueError(f"`{' '.join(words)[:40]}` is no uid with a gid and at most {MOST_GIDS} further ones")
+    return numbers
+
+
+def call_of(caller, timestamp, verb, words):
     """The bytes of the call that a verb and the words behind it spell; a ValueError says what is wrong with them."""
     if verb == "raw" and len(words) == 1 and is_hexadecimal(words[0]):
         return bytes.fromhex(words[0])
@@ -118,7 +128,7 @@ def call_of(client, timestamp, verb, words):
         if verb == name and len(words) == len(labels) - labels.count("unused"):
             rest = iter(words)
             arguments = [argument(label, "0" if label == "unused" else next(rest)) for label in labels]
-            credential = pack(0) + opaque(b"replay") + pack(1000 + client, 100, 0)
+            credential = pack(0) + opaque(b"replay") + pack(*caller[:2], len(caller) - 2, *caller[2:])
             header = pack(timestamp % 2**32, 0, 2, PROGRAM, VERSION, procedure, 1) + opaque(credential) + pack(0, 0)
             return header + b"".join(arguments)
     raise ValueError(f"`{verb}` with what stands behind it spells no call")
@@ -133,7 +143,7 @@ def lines(path):
 
 def read_trace(path):
     """The requests of a trace. Its first line that is at fault is a fault."""
-    requests, last, room, timeouts = [], 0, None, 0
+    requests, last, room, timeouts, callers = [], 0, None, 0, {}
     for line, content in lines(path):
         try:
             if batch := re.fullmatch(r"batch (\d+)\.(\d{6})", content):
@@ -147,10 +157,15 @@ def read_trace(path):
                     raise ValueError(f"the client is not below {CLIENTS}, or the timestamp is not below 2^64")
                 if not room:
                     raise ValueError("no batch is above it" if room is None else f"its batch has above {MOST_REQUESTS:,} requests")
-                call, room = call_of(client, timestamp, request[3], request[4].split(" ")[1:]), room - 1
+                caller = callers.get(client, [FIRST_UID + client, GID])
+                call, room = call_of(caller, timestamp, request[3], request[4].split(" ")[1:]), room - 1
                 if len(call) > MOST_BYTES:
                     raise ValueError(f"the call has above {MOST_BYTES:,} bytes")
                 requests.append(Request(line, timeouts, last, client, timestamp, call))
+            elif named := re.fullmatch(r"as (\d+)(( [^ ]+)*)", content):
+                if int(named[1]) >= CLIENTS:
+                    raise ValueError(f"the client is not below {CLIENTS}")
+                callers[int(named[1])], room = caller_in(named[2].split(" ")[1:]), None
             elif re.fullmatch(r"(silent|heard) \d+|timeout", content):
                 room, timeouts = None, timeouts + (content == "timeout")
             elif content and not content.startswith("#"):

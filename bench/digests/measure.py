@@ -1,7 +1,7 @@
 #!/usr/bin/env python3
-"""`measure.py files|inodes|kept PROGRAM FOLDER` prints what digests of 256 MiB in files take beside `openssl dgst -sha256` on as many bytes, what
-reading and writing texts of 25,000, 50,000 and 100,000 inodes takes, or what the digests that 100,000 inodes keep take, anew and behind a batch that
-changes 1,024 of them. FOLDER is for traces and bytes.
+"""`measure.py files|large|inodes|kept PROGRAM FOLDER` prints what digests of 256 MiB in files take beside `openssl dgst -sha256` on as many bytes, what
+those of 16 MiB in one file and in 64 take, and one of them behind a WRITE, what reading and writing texts of 25,000, 50,000 and 100,000 inodes takes, or
+what the digests that 100,000 inodes keep take, anew and behind a batch that changes 1,024 of them. FOLDER is for traces and bytes.
 
 A time of the program is that of the program that does the work so many times, without that of the program that does nothing: the least of five
 rounds, in each of which all are run. Memory is the peak of the process. Of the digests that are kept the program tells its times itself.
@@ -65,6 +65,19 @@ def files(program, folder):
     print(f"snapshot {snapshot:.2f} s; memory {found['snapshot'][1]:.0f} MiB, without it {found['nothing'][1]:.0f} MiB")
 
 
+def large(program, folder):
+    trace, size, times = f"{folder}/trace", 16 * MEBIBYTE, 10
+    for count in (1, 64):
+        made = [f"create #2 f{number} - - - {size // count} - -" for number in range(count)]
+        made += ["null"] * (-len(made) % BATCH)
+        write_trace(trace, [*made, f"write #3 {size // count // 2} x" + "61" * 8_192])
+        found = least({work: (program, work, str(times), trace) for work in ("nothing", "serial", "parallel")})
+        took = {work: (found[work][0] - found["nothing"][0]) / times * 1e3 for work in ("serial", "parallel")}
+        rounds = [subprocess.run((program, "refresh", str(times), trace), check=True, capture_output=True, text=True).stdout for _ in range(ROUNDS)]
+        first, again = (min(int(round.split()[place]) for round in rounds) / 1e3 for place in (0, 1))
+        print(f"16 MiB in {count} files: digest_serial {took['serial']:.1f} ms, digest_parallel {took['parallel']:.1f} ms; refresh {first:.1f} ms, behind a WRITE of 8 KiB {again:.1f} ms")
+
+
 def inodes(program, folder):
     trace = f"{folder}/trace"
     for count in (25_000, 50_000, 100_000):
@@ -94,4 +107,4 @@ def kept(program, folder):
 
 
 subject, program, folder = sys.argv[1:]
-{"files": files, "inodes": inodes, "kept": kept}[subject](program, folder)
+{"files": files, "large": large, "inodes": inodes, "kept": kept}[subject](program, folder)

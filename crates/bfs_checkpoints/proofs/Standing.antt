@@ -5,7 +5,8 @@ use Rattle.bfs_model.specs.Server.Stored.{AreBytes}
 use Rattle.bfs_model.specs.Server.Tree.{FileSystem}
 use Rattle.bfs_model.proofs.Public.{some_is}
 use Rattle.bfs_digest.specs.Outcomes.{HasOtherVersion, IsMalformed, IsRestored, SpellsIllFormed}
-use Rattle.bfs_digest.specs.Text.{Spells, snapshot_text}
+use Rattle.bfs_digest.specs.Text.{Spells, latest_version, snapshot_text}
+use Rattle.bfs_digest.proofs.Public.{spelled_latest, spells_latest}
 use Rattle.bfs_replies.specs.Tables.{Table, IsKept}
 use Rattle.bfs_replies.specs.Texts.{table_text}
 use Rattle.bfs_replies.specs.TextReading.{passed, table_from}
@@ -40,37 +41,39 @@ module _ (clients : ℕ) (bytes : List ℕ) (table : Table) (rest : List ℕ) (t
       let e = some_is {A = Table × List ℕ} (other, behind) (table, rest) (sym (tables_again other behind kept) ∙ ap table_from (sym spelled) ∙ there.table_is) in
       (ap (λ (p : Table × List ℕ). p.0) e, ap (λ (p : Table × List ℕ). p.1) e)
 
-  pub spells_node : (files : FileSystem) → Spells rest files → SpellsNode clients bytes files table
+  pub spells_node : (files : FileSystem) → Spells latest_version rest files → SpellsNode clients bytes files table
   unfolding node_text
-  spells_node files spells = record {
-    clients_are = there.clients_are;
-    kept = there.kept;
-    spellable = spells.spellable;
-    spelled = there.spelled ∙ ap (λ behind. table_text table ++ behind) spells.spelled;
-  }
+  spells_node files spells =
+      let text = spelled_latest rest files spells in
+      record {
+        clients_are = there.clients_are;
+        kept = there.kept;
+        spellable = text.spellable;
+        spelled = there.spelled ∙ ap (λ behind. table_text table ++ behind) text.spelled;
+      }
 
-  pub spells_rest : (files : FileSystem) (other : Table) (number : ℕ) → SpellsNode number bytes files other → Spells rest files × (other ≡ table)
+  pub spells_rest : (files : FileSystem) (other : Table) (number : ℕ) → SpellsNode number bytes files other → Spells latest_version rest files × (other ≡ table)
   unfolding node_text
   spells_rest files other number spells =
       let e = same other (snapshot_text files) spells.kept spells.spelled in
-      (record { spellable = spells.spellable; spelled = sym e.1 }, e.0)
+      (spells_latest rest files (record { spellable = spells.spellable; spelled = sym e.1 }), e.0)
 
-  pub other_node : HasOtherVersion rest → NodeHasOtherVersion clients bytes
+  pub other_node : HasOtherVersion latest_version rest → NodeHasOtherVersion clients bytes
   other_node other = record { table = table; rest = rest; clients_are = there.clients_are; kept = there.kept; spelled = there.spelled; other = other }
 
-  pub other_rest : (number : ℕ) → NodeHasOtherVersion number bytes → HasOtherVersion rest
-  other_rest number node = subst HasOtherVersion (same node.table node.rest node.kept node.spelled).1 node.other
+  pub other_rest : (number : ℕ) → NodeHasOtherVersion number bytes → HasOtherVersion latest_version rest
+  other_rest number node = subst (HasOtherVersion latest_version) (same node.table node.rest node.kept node.spelled).1 node.other
 
-  pub malformed_node : IsMalformed rest → NodeIsMalformed clients bytes
+  pub malformed_node : IsMalformed latest_version rest → NodeIsMalformed clients bytes
   malformed_node malformed = (λ other. malformed.0 (other_rest clients other), λ files read spells. malformed.1 files (spells_rest files read clients spells).0)
 
-  pub malformed_rest : NodeIsMalformed clients bytes → IsMalformed rest
+  pub malformed_rest : NodeIsMalformed clients bytes → IsMalformed latest_version rest
   malformed_rest malformed = (λ other. malformed.0 (other_node other), λ files spells. malformed.1 files table (spells_node files spells))
 
-  pub ill_formed_node : SpellsIllFormed rest → SpellsIllFormedNode clients bytes
+  pub ill_formed_node : SpellsIllFormed latest_version rest → SpellsIllFormedNode clients bytes
   ill_formed_node ill = record { files = ill.files; table = table; spells = spells_node ill.files ill.spells; ill_formed = ill.ill_formed }
 
-  pub is_read : (files : Option FileSystem) (read : Table) (behind : List ℕ) → table_from bytes ≡ Some (read, behind) → IsRestored rest files → IsRead clients bytes files read
+  pub is_read : (files : Option FileSystem) (read : Table) (behind : List ℕ) → table_from bytes ≡ Some (read, behind) → IsRestored latest_version rest files → IsRead clients bytes files read
   is_read None read behind found restored = restored
   is_read (Some files) read behind found restored =
       let e = some_is {A = Table × List ℕ} (table, rest) (read, behind) (sym there.table_is ∙ found) in

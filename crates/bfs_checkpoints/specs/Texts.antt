@@ -3,7 +3,7 @@ use Rattle.std.specs.Prelude.{◌≡◌, ℕ, List, ◌++◌, length}
 use Rattle.sha2.specs.Sha256.{sha256}
 use Rattle.bfs_model.specs.Server.Tree.{FileSystem}
 use Rattle.bfs_digest.specs.Digests.{digest_of}
-use Rattle.bfs_digest.specs.Text.{IsSpellable, snapshot_text}
+use Rattle.bfs_digest.specs.Text.{IsSpellable, latest_version, snapshot_text}
 use Rattle.bfs_replies.specs.Tables.{Table, IsKept}
 use Rattle.bfs_replies.specs.Texts.{table_text}
 
@@ -19,5 +19,5 @@ node_text files table = table_text table ++ snapshot_text files
 pub record SpellsNode (clients : ℕ) (bytes : List ℕ) (files : FileSystem) (table : Table) : Type 0 where
   pub clients_are : length table ≡ clients
   pub kept : IsKept table
-  pub spellable : IsSpellable files
+  pub spellable : IsSpellable latest_version files
   pub spelled : bytes ≡ node_text files table

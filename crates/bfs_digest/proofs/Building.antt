@@ -8,7 +8,8 @@ use Rattle.std.proofs.lemmas.Map.Views.{tells_apart}
 use Rattle.bfs_model.specs.Server.Tree.{Inode, Inodes, root_id}
 use Rattle.bfs_model.specs.Server.WellFormed.{IsLimited}
 use Rattle.bfs_model.specs.Bytes.Formats.{Reading}
-use Rattle.bfs_inode.specs.Records.{record_from}
+use Rattle.bfs_digest.specs.Text.{latest_version}
+use Rattle.bfs_digest.specs.Inside.RecordReading.{record_from}
 use Rattle.bfs_digest.specs.Inside.TextReading.{records_from}
 use Rattle.bfs_digest.proofs.Rising.{ReadsRising, First, first_of, records_rise}
 use Rattle.bfs_model.proofs.Public.{some_is}
@@ -107,47 +108,47 @@ fileid inode = inode.0
 
 pub record TreeLeft (n : ℕ) (bytes : List ℕ) (tree : Inodes) (all : List (ℕ × Inode)) (rest : List ℕ) : Type 0 where
   pub done : List (ℕ × Inode)
-  pub behind : IsLeft records_from fileid n bytes done all rest
+  pub behind : IsLeft (records_from latest_version) fileid n bytes done all rest
   pub is : tree ≡ from_entries done
 
 abbrev pub TreesLeft : (count : ℕ) (records : List ℕ) (n : ℕ) (bytes : List ℕ) (tree : Inodes) → Type 0
-TreesLeft count records n bytes tree = (all : List (ℕ × Inode)) (rest : List ℕ) → records_from count root_id records ≡ Some (all, rest) → TreeLeft n bytes tree all rest
+TreesLeft count records n bytes tree = (all : List (ℕ × Inode)) (rest : List ℕ) → records_from latest_version count root_id records ≡ Some (all, rest) → TreeLeft n bytes tree all rest
 
 pub tree_begins : (count n : ℕ) (records bytes : List ℕ) (tree : Inodes) → n ≡ count → bytes ≡ records → tree ≡ empty → TreesLeft count records n bytes tree
 tree_begins count n records bytes tree is same none all rest read = record {
   done = [];
-  behind = subst (λ k. IsLeft records_from fileid k bytes [] all rest) (sym is) (subst (λ b. IsLeft records_from fileid count b [] all rest) (sym same) (none_built records_from fileid count root_id records all rest read));
+  behind = subst (λ k. IsLeft (records_from latest_version) fileid k bytes [] all rest) (sym is) (subst (λ b. IsLeft (records_from latest_version) fileid count b [] all rest) (sym same) (none_built (records_from latest_version) fileid count root_id records all rest read));
   is = none;
 }
 
-pub tree_more : (count n m : ℕ) (records bytes next : List ℕ) (tree more : Inodes) (x : ℕ × Inode) → n ≡ suc m → ((y : ℕ × Inode) (r : List ℕ) → record_from bytes ≡ Some (y, r) → (x ≡ y) × (next ≡ r)) → more ≡ insert tree x.0 x.1
+pub tree_more : (count n m : ℕ) (records bytes next : List ℕ) (tree more : Inodes) (x : ℕ × Inode) → n ≡ suc m → ((y : ℕ × Inode) (r : List ℕ) → record_from latest_version bytes ≡ Some (y, r) → (x ≡ y) × (next ≡ r)) → more ≡ insert tree x.0 x.1
     → TreesLeft count records n bytes tree → TreesLeft count records m next more
 tree_more count n m records bytes next tree more x is built put so_far all rest read =
     let t = so_far all rest read in
-    let f = next_of records_rise n m bytes t.done all rest is t.behind in
+    let f = next_of (records_rise latest_version) n m bytes t.done all rest is t.behind in
     let b = built f.item f.next f.read in
     let key : x.0 ≡ f.item.0 = ap fileid b.0 in
     let le : t.behind.least ≤ f.item.0 = f.le in
     record {
       done = t.done ++ x ∷ [];
-      behind = left_more records_rise n m bytes next t.done all rest x is built t.behind;
+      behind = left_more (records_rise latest_version) n m bytes next t.done all rest x is built t.behind;
       is = put ∙ put_last tree t.done x.0 x.1 t.behind.least t.is t.behind.low (omega arith);
     }
 
-pub tree_ends : (count n : ℕ) (records bytes : List ℕ) (tree : Inodes) → n ≡ 0 → TreesLeft count records n bytes tree → (all : List (ℕ × Inode)) (rest : List ℕ) → records_from count root_id records ≡ Some (all, rest) → tree ≡ from_entries all
+pub tree_ends : (count n : ℕ) (records bytes : List ℕ) (tree : Inodes) → n ≡ 0 → TreesLeft count records n bytes tree → (all : List (ℕ × Inode)) (rest : List ℕ) → records_from latest_version count root_id records ≡ Some (all, rest) → tree ≡ from_entries all
 tree_ends count n records bytes tree is so_far all rest read =
     let t = so_far all rest read in
-    t.is ∙ ap from_entries (all_left records_rise n bytes t.done all rest is t.behind).0
+    t.is ∙ ap from_entries (all_left (records_rise latest_version) n bytes t.done all rest is t.behind).0
 
 of_all : (P : ℕ × Inode → Type 0) (done others : List (ℕ × Inode)) (x : ℕ × Inode) → AllByRecursion P (done ++ x ∷ others) → P x
 of_all P [] others x all = all.0
 of_all P (y ∷ done) others x all = of_all P done others x all.1
 
-pub tree_refused : (count n m : ℕ) (records bytes : List ℕ) (tree : Inodes) → n ≡ suc m → ((y : ℕ × Inode) (r : List ℕ) → record_from bytes ≡ Some (y, r) → IsLimited y.1 → ⊥) → TreesLeft count records n bytes tree
-    → (all : List (ℕ × Inode)) (rest : List ℕ) → records_from count root_id records ≡ Some (all, rest) → AllByRecursion (λ inode. IsLimited inode.1) all → ⊥
+pub tree_refused : (count n m : ℕ) (records bytes : List ℕ) (tree : Inodes) → n ≡ suc m → ((y : ℕ × Inode) (r : List ℕ) → record_from latest_version bytes ≡ Some (y, r) → IsLimited y.1 → ⊥) → TreesLeft count records n bytes tree
+    → (all : List (ℕ × Inode)) (rest : List ℕ) → records_from latest_version count root_id records ≡ Some (all, rest) → AllByRecursion (λ inode. IsLimited inode.1) all → ⊥
 tree_refused count n m records bytes tree is refused so_far all rest read limited =
     let t = so_far all rest read in
-    let f = next_of records_rise n m bytes t.done all rest is t.behind in
+    let f = next_of (records_rise latest_version) n m bytes t.done all rest is t.behind in
     let whole : t.done ++ f.item ∷ f.others ≡ all = ap (λ items. t.done ++ items) f.whole ∙ t.behind.whole in
     refused f.item f.next f.read (of_all (λ inode. IsLimited inode.1) t.done f.others f.item (subst (AllByRecursion (λ inode. IsLimited inode.1)) (sym whole) limited))
 

@@ -11,7 +11,7 @@ use Rattle.bfs_digest.specs.Inside.Formation.{IsCounted, LeadsToRoot, IsPlaced, 
 use Rattle.bfs_digest.specs.Inside.Names.{Counted, most_counted, counted_at}
 use Rattle.bfs_digest.specs.Inside.Outlines.{note_of, are_noted, outline, is_named, NotesRise}
 use Rattle.bfs_digest.specs.Inside.Taking.{AreRecords}
-use Rattle.bfs_digest.specs.Text.{Header}
+use Rattle.bfs_digest.specs.Text.{Header, latest_version}
 use Rattle.bfs_digest.specs.Inside.TextReading.{files_with, records_from}
 use Rattle.bfs_digest.specs.declared.outlines.InodeNote.{InodeNote}
 use Rattle.bfs_digest.proofs.Forming.{all_counted, all_numbered, all_placed, all_named}
@@ -21,14 +21,14 @@ use Rattle.bfs_digest.proofs.Texts.{AreRising, records_written, rising_sorted, e
 
 -- Notes --------------------------------------------------------------------------------------------------------------------
 
-notes_rise_from : (low least : ℕ) (inodes : List (ℕ × Inode)) → low ≤ least → AreRising least inodes → NotesRise low (map note_of inodes)
+notes_rise_from : (low least : ℕ) (inodes : List (ℕ × Inode)) → low ≤ least → AreRising latest_version least inodes → NotesRise low (map note_of inodes)
 notes_rise_from low least [] le h = tt
 notes_rise_from low least (x ∷ inodes) le h = let first : least ≤ x.0 = h.0 in (omega arith, notes_rise_from (x.0 + 1) (x.0 + 1) inodes (omega arith) h.2)
 
-pub rising_of : (header : Header) (records : List ℕ) → AreRecords header records → (inodes : List (ℕ × Inode)) (rest : List ℕ) → records_from header.count root_id records ≡ Some (inodes, rest) → AreRising root_id inodes
-rising_of header records are inodes rest read = (records_written header.count root_id records inodes rest are.bytes read).2
+pub rising_of : (header : Header) (records : List ℕ) → AreRecords header records → (inodes : List (ℕ × Inode)) (rest : List ℕ) → records_from latest_version header.count root_id records ≡ Some (inodes, rest) → AreRising latest_version root_id inodes
+rising_of header records are inodes rest read = (records_written latest_version header.count root_id records inodes rest are.bytes read).2
 
-pub notes_rise : (header : Header) (records : List ℕ) (are : AreRecords header records) (notes : Vec InodeNote) → AreNotes (Some notes) (records_from header.count root_id records) → NotesRise 0 notes.items
+pub notes_rise : (header : Header) (records : List ℕ) (are : AreRecords header records) (notes : Vec InodeNote) → AreNotes (Some notes) (records_from latest_version header.count root_id records) → NotesRise 0 notes.items
 notes_rise header records are notes noted =
     subst (NotesRise 0) (sym (noted are.inodes [] are.read)) (notes_rise_from 0 root_id are.inodes (omega arith) (rising_of header records are are.inodes [] are.read))
 
@@ -58,15 +58,15 @@ all_lead_back inodes (x ∷ xs) all = (
 
 -- The file system ----------------------------------------------------------------------------------------------------------
 
-module _ (header : Header) (records : List ℕ) (are : AreRecords header records) (inodes : List (ℕ × Inode)) (rest : List ℕ) (read : records_from header.count root_id records ≡ Some (inodes, rest)) where
+module _ (header : Header) (records : List ℕ) (are : AreRecords header records) (inodes : List (ℕ × Inode)) (rest : List ℕ) (read : records_from latest_version header.count root_id records ≡ Some (inodes, rest)) where
   abbrev m : Inodes
   m = from_entries inodes
 
-  rises : AreRising root_id inodes
+  rises : AreRising latest_version root_id inodes
   rises = rising_of header records are inodes rest read
 
   own : entries m ≡ inodes
-  own = entries_from inodes (rising_sorted root_id inodes rises)
+  own = entries_from inodes (rising_sorted latest_version root_id inodes rises)
 
   named_are : (names : Counted) → ((id : ℕ) → counted_at names id ≡ min (sum_by (λ inode. names_in inode id) inodes) most_counted) → (id : ℕ) → counted_at names id ≡ min (named m id) most_counted
   named_are names counts id = counts id ∙ ap (λ xs. min (sum_by (λ inode. names_in inode id) xs) most_counted) (sym own)
@@ -87,7 +87,7 @@ module _ (header : Header) (records : List ℕ) (are : AreRecords header records
       → ((id : ℕ) → counted_at names id ≡ min (sum_by (λ inode. names_in inode id) inodes) most_counted) → list_all (is_named names) (map note_of inodes) ≡ true → All (λ note. LeadsToRoot (outline_of inodes) (are_noted note)) (map note_of inodes)
       → IsWellFormed (files_with header inodes)
   formed_from names root placed counts named_so ways =
-      let counted = all_counted inodes header.next_ordinal names (named_are names counts) inodes (all_recordable root_id inodes rises) placed named_so in
+      let counted = all_counted inodes header.next_ordinal names (named_are names counts) inodes (all_recordable latest_version root_id inodes rises) placed named_so in
       let lead = all_lead_from inodes inodes (all_of_notes (λ note. LeadsToRoot (outline_of inodes) (are_noted note)) inodes ways) in
       let numbered = all_numbered inodes header.next_ordinal inodes placed in
       record {
@@ -104,16 +104,16 @@ module _ (header : Header) (records : List ℕ) (are : AreRecords header records
     pub rootless : is_directory (get (outline notes) root_id) ≡ false → IsWellFormed (files_with header inodes) → ⊥
     rootless none formed = true≢false (sym (root_there formed) ∙ ap (λ (x : List InodeNote). is_directory (get (outline x) root_id)) (sym noted) ∙ none)
 
-    pub misplaced : TakesRecords None (outline notes) header.next_ordinal (records_from header.count root_id records) → IsWellFormed (files_with header inodes) → ⊥
+    pub misplaced : TakesRecords None (outline notes) header.next_ordinal (records_from latest_version header.count root_id records) → IsWellFormed (files_with header inodes) → ⊥
     misplaced refused formed =
         refused inodes rest read (subst (λ (x : List InodeNote). AllByRecursion (IsPlaced (outline x) header.next_ordinal) inodes) (sym noted) (placed_there formed))
 
-    pub misnamed : (names : Counted) → TakesRecords (Some names) (outline notes) header.next_ordinal (records_from header.count root_id records) → list_all (is_named names) notes ≡ false → IsWellFormed (files_with header inodes) → ⊥
+    pub misnamed : (names : Counted) → TakesRecords (Some names) (outline notes) header.next_ordinal (records_from latest_version header.count root_id records) → list_all (is_named names) notes ≡ false → IsWellFormed (files_with header inodes) → ⊥
     misnamed names taken fails formed =
         let named_so = all_named inodes header.next_ordinal names (named_are names (taken inodes rest read).1) inodes (counted_there formed) in
         true≢false (sym named_so ∙ ap (list_all (is_named names)) (sym noted) ∙ fails)
 
-    pub told_by_ways : (names : Counted) (lead : Bool) → is_directory (get (outline notes) root_id) ≡ true → TakesRecords (Some names) (outline notes) header.next_ordinal (records_from header.count root_id records) → list_all (is_named names) notes ≡ true
+    pub told_by_ways : (names : Counted) (lead : Bool) → is_directory (get (outline notes) root_id) ≡ true → TakesRecords (Some names) (outline notes) header.next_ordinal (records_from latest_version header.count root_id records) → list_all (is_named names) notes ≡ true
         → (IsTrue lead ↔ All (λ note. LeadsToRoot (outline notes) (are_noted note)) notes) → IsTrue lead ↔ IsWellFormed (files_with header inodes)
     told_by_ways names lead root taken named_so ways =
         let taken_all = taken inodes rest read in

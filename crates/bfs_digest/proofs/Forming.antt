@@ -8,7 +8,8 @@ use Rattle.bfs_model.specs.Server.Directories.{is_bad_name}
 use Rattle.bfs_model.specs.Server.Limits.{most_links}
 use Rattle.bfs_model.specs.Server.Tree.{Entry, Body, file, directory, link, Inode, Inodes, root_id, first_ordinal, spent_ordinal, entries_in, parent_in}
 use Rattle.bfs_model.specs.Server.WellFormed.{named, directories_among, IsRising, HasNames, NamesDiffer, BodyIsLimited, IsLimited, IsNumbered}
-use Rattle.bfs_inode.specs.Records.{EntryIsRecordable, BodyIsRecordable}
+use Rattle.bfs_digest.specs.Text.{latest_version}
+use Rattle.bfs_digest.specs.Records.{EntryIsRecordable, BodyIsRecordable}
 use Rattle.bfs_tree.specs.Inside.WellFormed.{is_child}
 use Rattle.bfs_digest.specs.Inside.Formation.{is_counted, IsCounted, may_stand, BodyIsPlaced, IsPlaced}
 use Rattle.bfs_digest.specs.Inside.Names.{Counted, most_counted, counted_at}
@@ -70,7 +71,7 @@ module _ (inodes : List (ℕ × Inode)) (ordinal : ℕ) where
   o = outline_of inodes
 
   -- from what was looked at
-  limited_body : (id links : ℕ) (body : Body) → BodyIsRecordable body → BodyIsPlaced o ordinal id links body → BodyIsLimited links body
+  limited_body : (id links : ℕ) (body : Body) → BodyIsRecordable latest_version body → BodyIsPlaced o ordinal id links body → BodyIsLimited links body
   limited_body id links (file bytes) recordable placed = (placed.0, recordable.1)
   limited_body id links (directory listing) recordable placed =
       (recordable.1, rising_from_none listing.entries spent_ordinal recordable.2, names_of o ordinal id listing.entries placed.entries placed.differ recordable.3)
@@ -100,7 +101,7 @@ module _ (inodes : List (ℕ × Inode)) (ordinal : ℕ) where
       (once_named id count (id == root_id) is named_so)
   counted_body id links count (link path) few placed is named_so = let same : links ≡ count = eqb-true links count named_so in eq-eqb links (named m id) (omega arith)
 
-  pub all_counted : (names : Counted) → ((id : ℕ) → counted_at names id ≡ min (named (from_entries inodes) id) most_counted) → (xs : List (ℕ × Inode)) → AllByRecursion Recordable xs → AllByRecursion (IsPlaced o ordinal) xs → list_all (is_named names) (map note_of xs) ≡ true → AllByRecursion (IsCounted m) xs
+  pub all_counted : (names : Counted) → ((id : ℕ) → counted_at names id ≡ min (named (from_entries inodes) id) most_counted) → (xs : List (ℕ × Inode)) → AllByRecursion (Recordable latest_version) xs → AllByRecursion (IsPlaced o ordinal) xs → list_all (is_named names) (map note_of xs) ≡ true → AllByRecursion (IsCounted m) xs
   all_counted names counts [] recordable placed named_so = tt
   all_counted names counts (x ∷ xs) recordable placed named_so =
       let parts = and_parts (is_named names (note_of x)) (list_all (is_named names) (map note_of xs)) named_so in

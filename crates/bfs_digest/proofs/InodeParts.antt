@@ -5,7 +5,8 @@ use Rattle.bfs_model.specs.Server.Tree.{Entry, Listing, Body, directory, Inode, 
 use Rattle.bfs_model.specs.Server.WellFormed.{BodyIsLimited, IsLimited, HasNames, NamesDiffer}
 use Rattle.bfs_inode.specs.Directories.{AreEntries}
 use Rattle.bfs_model.specs.Bytes.Formats.{word_from}
-use Rattle.bfs_inode.specs.Records.{Head, entries_from, listing_from, directory_from, body_from, head_from, with_body, record_from}
+use Rattle.bfs_digest.specs.Text.{latest_version}
+use Rattle.bfs_digest.specs.Inside.RecordReading.{Head, entries_from, listing_from, directory_from, body_from, head_from, with_body, record_from}
 use Rattle.bfs_digest.specs.Inside.Taking.{BodyMayBe}
 use Rattle.bfs_model.proofs.Public.{some_is, chosen}
 use Rattle.bfs_digest.proofs.Tests.{refused_not}
@@ -14,15 +15,15 @@ use Rattle.bfs_digest.proofs.Tests.{refused_not}
 
 pub record InodeRead (head : Head) (next : List ℕ) (inode : ℕ × Inode) (rest : List ℕ) : Type 0 where
   pub body : Body
-  pub read : body_from head.kind next ≡ Some (body, rest)
+  pub read : body_from latest_version head.kind next ≡ Some (body, rest)
   pub is : (head.fileid, with_body head body) ≡ inode
 
-pub inode_read : (bytes next : List ℕ) (head : Head) (inode : ℕ × Inode) (rest : List ℕ) → head_from bytes ≡ Some (head, next) → record_from bytes ≡ Some (inode, rest) → InodeRead head next inode rest
+pub inode_read : (bytes next : List ℕ) (head : Head) (inode : ℕ × Inode) (rest : List ℕ) → head_from bytes ≡ Some (head, next) → record_from latest_version bytes ≡ Some (inode, rest) → InodeRead head next inode rest
 unfolding record_from
 inode_read bytes next head inode rest begun e =
     chosen (head_from bytes) _ (inode, rest) e (λ first read e1.
     let same = some_is first (head, next) (sym read ∙ begun) in
-    chosen (body_from first.0.kind first.1) _ (inode, rest) e1 (λ body inner e2.
+    chosen (body_from latest_version first.0.kind first.1) _ (inode, rest) e1 (λ body inner e2.
     let pair = some_is ((first.0.fileid, with_body first.0 body.0), body.1) (inode, rest) e2 in
     subst (λ (p : Head × List ℕ). InodeRead p.0 p.1 inode rest) same (record {
       body = body.0;
@@ -30,22 +31,22 @@ inode_read bytes next head inode rest begun e =
       is = ap (λ p. p.0) pair;
     })))
 
-pub inode_built : (bytes next new : List ℕ) (head : Head) (seen : Body) → head_from bytes ≡ Some (head, next) → ((y : Body) (r : List ℕ) → body_from head.kind next ≡ Some (y, r) → (seen ≡ y) × (new ≡ r))
-    → (inode : ℕ × Inode) (rest : List ℕ) → record_from bytes ≡ Some (inode, rest) → ((head.fileid, with_body head seen) ≡ inode) × (new ≡ rest)
+pub inode_built : (bytes next new : List ℕ) (head : Head) (seen : Body) → head_from bytes ≡ Some (head, next) → ((y : Body) (r : List ℕ) → body_from latest_version head.kind next ≡ Some (y, r) → (seen ≡ y) × (new ≡ r))
+    → (inode : ℕ × Inode) (rest : List ℕ) → record_from latest_version bytes ≡ Some (inode, rest) → ((head.fileid, with_body head seen) ≡ inode) × (new ≡ rest)
 inode_built bytes next new head seen begun built inode rest read =
     let h = inode_read bytes next head inode rest begun read in
     let b = built h.body rest h.read in
     (ap (λ (body : Body). (head.fileid, with_body head body)) b.0 ∙ h.is, b.1)
 
-pub inode_refused : (bytes next : List ℕ) (head : Head) → head_from bytes ≡ Some (head, next) → ((y : Body) (r : List ℕ) → body_from head.kind next ≡ Some (y, r) → BodyMayBe y → ⊥)
-    → (inode : ℕ × Inode) (rest : List ℕ) → record_from bytes ≡ Some (inode, rest) → IsLimited inode.1 → ⊥
+pub inode_refused : (bytes next : List ℕ) (head : Head) → head_from bytes ≡ Some (head, next) → ((y : Body) (r : List ℕ) → body_from latest_version head.kind next ≡ Some (y, r) → BodyMayBe y → ⊥)
+    → (inode : ℕ × Inode) (rest : List ℕ) → record_from latest_version bytes ≡ Some (inode, rest) → IsLimited inode.1 → ⊥
 inode_refused bytes next head begun refused inode rest read limited =
     let h = inode_read bytes next head inode rest begun read in
     let held = subst (λ (x : ℕ × Inode). IsLimited x.1) (sym h.is) limited in
     refused h.body rest h.read (head.links, held.body)
 
 pub many_links : (bytes next : List ℕ) (head : Head) → head_from bytes ≡ Some (head, next) → most_links < head.links
-    → (inode : ℕ × Inode) (rest : List ℕ) → record_from bytes ≡ Some (inode, rest) → IsLimited inode.1 → ⊥
+    → (inode : ℕ × Inode) (rest : List ℕ) → record_from latest_version bytes ≡ Some (inode, rest) → IsLimited inode.1 → ⊥
 many_links bytes next head begun many inode rest read limited =
     let h = inode_read bytes next head inode rest begun read in
     let held = subst (λ (x : ℕ × Inode). IsLimited x.1) (sym h.is) limited in

@@ -8,6 +8,7 @@ pub mod Hashed
 pub mod Parts
 pub mod Rising
 pub mod Skipping
+pub mod BlockDigests
 pub mod Building
 pub mod InodeParts
 pub mod Restoring

@@ -7,7 +7,9 @@ use Rattle.bfs_model.specs.Server.Limits.{most_links, most_path_bytes}
 use Rattle.bfs_model.specs.Server.Tree.{Entry, Listing, Body, file, directory, link, Inode, Inodes, root_id, first_ordinal, parent_in}
 use Rattle.bfs_model.specs.Server.WellFormed.{directories_among, NamesDiffer}
 use Rattle.bfs_model.specs.Bytes.Formats.{bytes_from, word_from}
-use Rattle.bfs_inode.specs.Records.{Head, most_recorded_bytes, entries_from, listing_from, directory_from, file_from, link_from, body_from, head_from, with_body, record_from}
+use Rattle.bfs_digest.specs.Text.{latest_version}
+use Rattle.bfs_digest.specs.Records.{most_bytes_in}
+use Rattle.bfs_digest.specs.Inside.RecordReading.{Head, entries_from, listing_from, directory_from, file_from, link_from, body_from, head_from, with_body, record_from}
 use Rattle.bfs_digest.specs.Inside.Formation.{may_stand, ListingIsPlaced, BodyIsPlaced, IsPlaced, Takes, TakesEntries, TellsNames, names_in, names_in_body, names_in_listing}
 use Rattle.bfs_digest.specs.Inside.Names.{Counted, most_counted, counted_at, AreWithin, Adds}
 use Rattle.bfs_model.proofs.Public.{some_is, chosen}
@@ -48,12 +50,12 @@ module _ (o : Inodes) (ordinal id links : ℕ) (bytes second next : List ℕ) (p
 
 -- Bodies -------------------------------------------------------------------------------------------------------------------
 
-body_of_directory : (kind : ℕ) (bytes : List ℕ) → kind ≡ 2 → body_from kind bytes ≡ directory_from bytes
+body_of_directory : (kind : ℕ) (bytes : List ℕ) → kind ≡ 2 → body_from latest_version kind bytes ≡ directory_from bytes
 unfolding body_from
 body_of_directory kind bytes is = rw is refl
 
 pub body_taken : (o : Inodes) (ordinal id links kind : ℕ) (bytes left : List ℕ) (old new : Counted) (b : Bool) → kind ≡ 2 → Takes (ListingIsPlaced o ordinal id links) names_in_listing b old new (listing_from bytes) left
-    → Takes (BodyIsPlaced o ordinal id links) names_in_body b old new (body_from kind bytes) left
+    → Takes (BodyIsPlaced o ordinal id links) names_in_body b old new (body_from latest_version kind bytes) left
 body_taken o ordinal id links kind bytes left old new true is taken = λ body rest read.
     let d = listing_in_directory bytes body rest (sym (body_of_directory kind bytes is) ∙ read) in
     let t = taken d.listing rest d.read in
@@ -68,21 +70,21 @@ Plain (file bytes) = Unit {0}
 Plain (directory listing) = ⊥
 Plain (link path) = Unit {0}
 
-plain_file : (bytes : List ℕ) (body : Body) (rest : List ℕ) → file_from bytes ≡ Some (body, rest) → Plain body
+plain_file : (bytes : List ℕ) (body : Body) (rest : List ℕ) → file_from latest_version bytes ≡ Some (body, rest) → Plain body
 unfolding file_from
-plain_file bytes body rest e = chosen (bytes_from most_recorded_bytes bytes) _ (body, rest) e (λ contents inner e0. subst Plain (ap (λ (p : Body × List ℕ). p.0) (some_is (file contents.0, contents.1) (body, rest) e0)) tt)
+plain_file bytes body rest e = chosen (bytes_from (most_bytes_in latest_version) bytes) _ (body, rest) e (λ contents inner e0. subst Plain (ap (λ (p : Body × List ℕ). p.0) (some_is (file contents.0, contents.1) (body, rest) e0)) tt)
 
 plain_link : (bytes : List ℕ) (body : Body) (rest : List ℕ) → link_from bytes ≡ Some (body, rest) → Plain body
 unfolding link_from
 plain_link bytes body rest e = chosen (bytes_from most_path_bytes bytes) _ (body, rest) e (λ path inner e0. subst Plain (ap (λ (p : Body × List ℕ). p.0) (some_is (link path.0, path.1) (body, rest) e0)) tt)
 
-plain_by : (one two five : Bool) (bytes : List ℕ) (body : Body) (rest : List ℕ) → two ≡ false → cond one (file_from bytes) (cond two (directory_from bytes) (cond five (link_from bytes) None)) ≡ Some (body, rest) → Plain body
+plain_by : (one two five : Bool) (bytes : List ℕ) (body : Body) (rest : List ℕ) → two ≡ false → cond one (file_from latest_version bytes) (cond two (directory_from bytes) (cond five (link_from bytes) None)) ≡ Some (body, rest) → Plain body
 plain_by true two five bytes body rest apart e = plain_file bytes body rest e
 plain_by false true five bytes body rest apart e = absurd (true≢false apart)
 plain_by false false true bytes body rest apart e = plain_link bytes body rest e
 plain_by false false false bytes body rest apart e = absurd cc
 
-plain_body : (kind : ℕ) (bytes : List ℕ) (body : Body) (rest : List ℕ) → (kind ≡ 2 → ⊥) → body_from kind bytes ≡ Some (body, rest) → Plain body
+plain_body : (kind : ℕ) (bytes : List ℕ) (body : Body) (rest : List ℕ) → (kind ≡ 2 → ⊥) → body_from latest_version kind bytes ≡ Some (body, rest) → Plain body
 unfolding body_from
 plain_body kind bytes body rest apart e = plain_by (eqb kind 1) (eqb kind 2) (eqb kind 5) bytes body rest (ne_eqb kind 2 apart) e
 
@@ -101,18 +103,18 @@ plain_names old (file bytes) plain within id = let le : counted_at old id ≤ mo
 plain_names old (directory listing) plain within id = absurd plain
 plain_names old (link path) plain within id = let le : counted_at old id ≤ most_counted = within id in omega arith
 
-pub plain_taken : (o : Inodes) (ordinal id links kind : ℕ) (bytes left : List ℕ) (old : Counted) (parent : Option ℕ) (b : Bool) → (kind ≡ 2 → ⊥) → AreWithin old → option_map {U = Option ℕ × List ℕ} (λ read. (parent_in read.0, read.1)) (body_from kind bytes) ≡ Some (parent, left)
-    → (IsTrue b ↔ ((1 ≤ links) × (id ≡ root_id → ⊥))) → Takes (BodyIsPlaced o ordinal id links) names_in_body b old old (body_from kind bytes) left
+pub plain_taken : (o : Inodes) (ordinal id links kind : ℕ) (bytes left : List ℕ) (old : Counted) (parent : Option ℕ) (b : Bool) → (kind ≡ 2 → ⊥) → AreWithin old → option_map {U = Option ℕ × List ℕ} (λ read. (parent_in read.0, read.1)) (body_from latest_version kind bytes) ≡ Some (parent, left)
+    → (IsTrue b ↔ ((1 ≤ links) × (id ≡ root_id → ⊥))) → Takes (BodyIsPlaced o ordinal id links) names_in_body b old old (body_from latest_version kind bytes) left
 plain_taken o ordinal id links kind bytes left old parent true apart within seen test = λ body rest read.
     let plain = plain_body kind bytes body rest apart read in
-    (placed_plain o ordinal id links body plain (test.0 refl), plain_names old body plain within, (seen_by parent_in (body_from kind bytes) parent left seen body rest read).1)
+    (placed_plain o ordinal id links body plain (test.0 refl), plain_names old body plain within, (seen_by parent_in (body_from latest_version kind bytes) parent left seen body rest read).1)
 plain_taken o ordinal id links kind bytes left old parent false apart within seen test = λ body rest read placed.
     true≢false (sym (test.1 (plain_placed o ordinal id links body (plain_body kind bytes body rest apart read) placed)))
 
 -- Records ------------------------------------------------------------------------------------------------------------------
 
 pub record_taken : (o : Inodes) (ordinal : ℕ) (bytes next left : List ℕ) (head : Head) (old new : Counted) (b : Bool) → head_from bytes ≡ Some (head, next) → (root_id ≤ head.fileid) × (head.fileid < ordinal) → head.links ≤ most_links
-    → Takes (BodyIsPlaced o ordinal head.fileid head.links) names_in_body b old new (body_from head.kind next) left → Takes (IsPlaced o ordinal) names_in b old new (record_from bytes) left
+    → Takes (BodyIsPlaced o ordinal head.fileid head.links) names_in_body b old new (body_from latest_version head.kind next) left → Takes (IsPlaced o ordinal) names_in b old new (record_from latest_version bytes) left
 record_taken o ordinal bytes next left head old new true begun fileid links taken = λ inode rest read.
     let h = inode_read bytes next head inode rest begun read in
     let t = taken h.body rest h.read in

@@ -1,5 +1,5 @@
 -- The record of an inode: what is written is read again, and what is read was written so.
-use Rattle.std.proofs.Common.{◌≡◌, ℕ, zero, suc, ◌+◌, ◌<◌, ◌≤◌, Bool, true, false, cond, ◌||◌, eqb, ltb, List, [], ◌∷◌, ◌++◌, length, Some, None, refl, sym, ap, subst, ◌∙◌, append_assoc, arith}
+use Rattle.std.proofs.Common.{◌≡◌, ℕ, zero, suc, ◌+◌, ◌<◌, ◌≤◌, ◌^◌, Bool, true, false, cond, ◌||◌, eqb, ltb, List, [], ◌∷◌, ◌++◌, length, Some, None, refl, sym, ap, subst, ◌∙◌, append_assoc, arith}
 use Rattle.std.specs.List.{AllByRecursion}
 use Rattle.std.proofs.lemmas.Bool.{ltb-false, ltb-true, le-ltb, lt-ltb, eqb-true}
 use Rattle.bfs_model.specs.Bytes.Items.{word, counted}
@@ -11,7 +11,10 @@ use Rattle.bfs_model.specs.Bytes.Attributes.{type_of}
 use Rattle.bfs_model.specs.Bytes.Replies.{type_number}
 use Rattle.bfs_model.specs.Server.WellFormed.{IsRising}
 use Rattle.bfs_model.specs.Bytes.Formats.{Reading, bytes_from}
-use Rattle.bfs_inode.specs.Records.{Head, most_recorded_bytes, entry_text, entries_text, body_text, record_text, EntryIsRecordable, BodyIsRecordable, IsRecordable, time_from, entry_from, entries_from, listing_from, file_from, directory_from, link_from, body_from, head_from, with_body, record_from}
+use Rattle.bfs_inode.specs.Records.{entry_text, entries_text, listing_text}
+use Rattle.bfs_digest.specs.Text.{latest_version}
+use Rattle.bfs_digest.specs.Records.{most_bytes_in, body_text, record_text, EntryIsRecordable, BodyIsRecordable, IsRecordable}
+use Rattle.bfs_digest.specs.Inside.RecordReading.{Head, time_from, entry_from, entries_from, listing_from, file_from, directory_from, link_from, body_from, head_from, with_body, record_from}
 use Rattle.bfs_model.proofs.Public.{some_is, IsExact, word_exact, AreFew, bytes_exact, go_on, went_on, chosen}
 use Rattle.bfs_digest.proofs.Tests.{passed, refused_not, unrefused, or_parts}
 
@@ -98,10 +101,7 @@ entries_written (suc count) least bytes entries rest fits e =
 -- Bodies -----------------------------------------------------------------------------------------------------------
 
 abbrev ListingIsRecordable : Listing → Type 0
-ListingIsRecordable listing = BodyIsRecordable (directory listing)
-
-abbrev listing_text : Listing → List ℕ
-listing_text listing = body_text (directory listing)
+ListingIsRecordable listing = BodyIsRecordable latest_version (directory listing)
 
 listing_again : (listing : Listing) (rest : List ℕ) → ListingIsRecordable listing → listing_from (listing_text listing ++ rest) ≡ Some (listing, rest)
 unfolding listing_from
@@ -128,51 +128,55 @@ listing_written bytes listing rest fits e =
 listing_exact : IsExact listing_text ListingIsRecordable listing_from
 listing_exact = record { again = listing_again; written = listing_written }
 
-data_exact : IsExact counted (AreFew most_recorded_bytes) (bytes_from most_recorded_bytes)
-data_exact = bytes_exact most_recorded_bytes (omega arith)
+most_by : (first : Bool) → cond first 1048576 16777216 < 2 ^ 32
+most_by true = omega arith
+most_by false = omega arith
+
+data_exact : (version : ℕ) → IsExact counted (AreFew (most_bytes_in version)) (bytes_from (most_bytes_in version))
+data_exact version = bytes_exact (most_bytes_in version) (most_by (eqb version 1))
 
 path_exact : IsExact counted (AreFew most_path_bytes) (bytes_from most_path_bytes)
 path_exact = bytes_exact most_path_bytes (omega arith)
 
-body_again : (body : Body) (rest : List ℕ) → BodyIsRecordable body → body_from (type_number (type_of body)) (body_text body ++ rest) ≡ Some (body, rest)
+body_again : (version : ℕ) (body : Body) (rest : List ℕ) → BodyIsRecordable version body → body_from version (type_number (type_of body)) (body_text body ++ rest) ≡ Some (body, rest)
 unfolding body_from file_from directory_from link_from
-body_again (file bytes) rest h = go_on data_exact _ bytes rest h
-body_again (directory listing) rest h = go_on listing_exact _ listing rest h
-body_again (link path) rest h = go_on path_exact _ path rest h
+body_again version (file bytes) rest h = go_on (data_exact version) _ bytes rest h
+body_again version (directory listing) rest h = go_on listing_exact _ listing rest h
+body_again version (link path) rest h = go_on path_exact _ path rest h
 
-abbrev BodyWritten : (kind : ℕ) → List ℕ → Body → List ℕ → Type 0
-BodyWritten kind bytes body rest = (kind ≡ type_number (type_of body)) × (bytes ≡ body_text body ++ rest) × BodyIsRecordable body × AreBytes rest
+abbrev BodyWritten : (version kind : ℕ) → List ℕ → Body → List ℕ → Type 0
+BodyWritten version kind bytes body rest = (kind ≡ type_number (type_of body)) × (bytes ≡ body_text body ++ rest) × BodyIsRecordable version body × AreBytes rest
 
-file_written : (bytes : List ℕ) (body : Body) (rest : List ℕ) → AreBytes bytes → file_from bytes ≡ Some (body, rest) → BodyWritten 1 bytes body rest
+file_written : (version : ℕ) (bytes : List ℕ) (body : Body) (rest : List ℕ) → AreBytes bytes → file_from version bytes ≡ Some (body, rest) → BodyWritten version 1 bytes body rest
 unfolding file_from
-file_written bytes body rest fits e =
-    went_on data_exact _ (body, rest) bytes fits e (λ item r1 e1 f1 b1 n1.
-    subst (λ (p : Body × List ℕ). BodyWritten 1 bytes p.0 p.1) (some_is (file item, r1) (body, rest) n1) (refl, e1, f1, b1))
+file_written version bytes body rest fits e =
+    went_on (data_exact version) _ (body, rest) bytes fits e (λ item r1 e1 f1 b1 n1.
+    subst (λ (p : Body × List ℕ). BodyWritten version 1 bytes p.0 p.1) (some_is (file item, r1) (body, rest) n1) (refl, e1, f1, b1))
 
-directory_written : (bytes : List ℕ) (body : Body) (rest : List ℕ) → AreBytes bytes → directory_from bytes ≡ Some (body, rest) → BodyWritten 2 bytes body rest
+directory_written : (version : ℕ) (bytes : List ℕ) (body : Body) (rest : List ℕ) → AreBytes bytes → directory_from bytes ≡ Some (body, rest) → BodyWritten version 2 bytes body rest
 unfolding directory_from
-directory_written bytes body rest fits e =
+directory_written version bytes body rest fits e =
     went_on listing_exact _ (body, rest) bytes fits e (λ listing r1 e1 f1 b1 n1.
-    subst (λ (p : Body × List ℕ). BodyWritten 2 bytes p.0 p.1) (some_is (directory listing, r1) (body, rest) n1) (refl, e1, f1, b1))
+    subst (λ (p : Body × List ℕ). BodyWritten version 2 bytes p.0 p.1) (some_is (directory listing, r1) (body, rest) n1) (refl, e1, f1, b1))
 
-link_written : (bytes : List ℕ) (body : Body) (rest : List ℕ) → AreBytes bytes → link_from bytes ≡ Some (body, rest) → BodyWritten 5 bytes body rest
+link_written : (version : ℕ) (bytes : List ℕ) (body : Body) (rest : List ℕ) → AreBytes bytes → link_from bytes ≡ Some (body, rest) → BodyWritten version 5 bytes body rest
 unfolding link_from
-link_written bytes body rest fits e =
+link_written version bytes body rest fits e =
     went_on path_exact _ (body, rest) bytes fits e (λ item r1 e1 f1 b1 n1.
-    subst (λ (p : Body × List ℕ). BodyWritten 5 bytes p.0 p.1) (some_is (link item, r1) (body, rest) n1) (refl, e1, f1, b1))
+    subst (λ (p : Body × List ℕ). BodyWritten version 5 bytes p.0 p.1) (some_is (link item, r1) (body, rest) n1) (refl, e1, f1, b1))
 
-body_written : (kind : ℕ) (bytes : List ℕ) (body : Body) (rest : List ℕ) → AreBytes bytes → body_from kind bytes ≡ Some (body, rest) → BodyWritten kind bytes body rest
+body_written : (version kind : ℕ) (bytes : List ℕ) (body : Body) (rest : List ℕ) → AreBytes bytes → body_from version kind bytes ≡ Some (body, rest) → BodyWritten version kind bytes body rest
 unfolding body_from
-body_written kind bytes body rest fits e = go (eqb kind 1) (eqb kind 2) (eqb kind 5) refl refl refl e
+body_written version kind bytes body rest fits e = go (eqb kind 1) (eqb kind 2) (eqb kind 5) refl refl refl e
   where
-    at : (n : ℕ) → eqb kind n ≡ true → BodyWritten n bytes body rest → BodyWritten kind bytes body rest
+    at : (n : ℕ) → eqb kind n ≡ true → BodyWritten version n bytes body rest → BodyWritten version kind bytes body rest
     at n is h = rw (eqb-true kind n is) h
 
     go : (one two five : Bool) → eqb kind 1 ≡ one → eqb kind 2 ≡ two → eqb kind 5 ≡ five
-        → cond one (file_from bytes) (cond two (directory_from bytes) (cond five (link_from bytes) None)) ≡ Some (body, rest) → BodyWritten kind bytes body rest
-    go true two five a b c is = at 1 a (file_written bytes body rest fits is)
-    go false true five a b c is = at 2 b (directory_written bytes body rest fits is)
-    go false false true a b c is = at 5 c (link_written bytes body rest fits is)
+        → cond one (file_from version bytes) (cond two (directory_from bytes) (cond five (link_from bytes) None)) ≡ Some (body, rest) → BodyWritten version kind bytes body rest
+    go true two five a b c is = at 1 a (file_written version bytes body rest fits is)
+    go false true five a b c is = at 2 b (directory_written version bytes body rest fits is)
+    go false false true a b c is = at 5 c (link_written version bytes body rest fits is)
     go false false false a b c is = absurd cc
 
 -- Heads ------------------------------------------------------------------------------------------------------------
@@ -267,9 +271,9 @@ record_spelled : (id : ℕ) (inode : Inode) (rest : List ℕ) → record_text id
 unfolding record_text
 record_spelled id inode rest = simp append_assoc
 
-record_again : (id : ℕ) (inode : Inode) (rest : List ℕ) → IsRecordable id inode → record_from (record_text id inode ++ rest) ≡ Some ((id, inode), rest)
+record_again : (version id : ℕ) (inode : Inode) (rest : List ℕ) → IsRecordable version id inode → record_from version (record_text id inode ++ rest) ≡ Some ((id, inode), rest)
 unfolding record_from
-record_again id inode rest h =
+record_again version id inode rest h =
     let head : HeadIsRecordable (head_of id inode) = record {
       fileid = h.fileid;
       kind = type_is_word inode.body;
@@ -281,21 +285,21 @@ record_again id inode rest h =
       mtime = h.mtime;
       ctime = h.ctime;
     } in
-    ap record_from (record_spelled id inode rest)
+    ap (record_from version) (record_spelled id inode rest)
     ∙ go_on head_exact _ (head_of id inode) (body_text inode.body ++ rest) head
-    ∙ ap (λ (o : Reading Body). o >>= (λ (body : Body × List ℕ). Some ((id, with_body (head_of id inode) body.0), body.1))) (body_again inode.body rest h.body)
+    ∙ ap (λ (o : Reading Body). o >>= (λ (body : Body × List ℕ). Some ((id, with_body (head_of id inode) body.0), body.1))) (body_again version inode.body rest h.body)
 
-record_written : (bytes : List ℕ) (id : ℕ) (inode : Inode) (rest : List ℕ) → AreBytes bytes → record_from bytes ≡ Some ((id, inode), rest) → (bytes ≡ record_text id inode ++ rest) × IsRecordable id inode × AreBytes rest
+record_written : (version : ℕ) (bytes : List ℕ) (id : ℕ) (inode : Inode) (rest : List ℕ) → AreBytes bytes → record_from version bytes ≡ Some ((id, inode), rest) → (bytes ≡ record_text id inode ++ rest) × IsRecordable version id inode × AreBytes rest
 unfolding record_from
-record_written bytes id inode rest fits e =
+record_written version bytes id inode rest fits e =
     let y : (ℕ × Inode) × List ℕ = ((id, inode), rest) in
     went_on head_exact _ y bytes fits e (λ head r1 e1 f1 b1 n1.
-    chosen (body_from head.kind r1) _ y n1 (λ body is n2.
-    let h = body_written head.kind r1 body.0 body.1 b1 is in
+    chosen (body_from version head.kind r1) _ y n1 (λ body is n2.
+    let h = body_written version head.kind r1 body.0 body.1 b1 is in
     let read : Inode = with_body head body.0 in
     let same : head ≡ head_of head.fileid read = ap (λ (k : ℕ). record head { kind = k }) h.0 in
     let whole : bytes ≡ record_text head.fileid read ++ body.1 = e1 ∙ ap (λ r. head_text head ++ r) h.1 ∙ ap (λ (x : Head). head_text x ++ (body_text body.0 ++ body.1)) same ∙ sym (record_spelled head.fileid read body.1) in
-    let held : IsRecordable head.fileid read = record {
+    let held : IsRecordable version head.fileid read = record {
       fileid = f1.fileid;
       permissions = f1.permissions;
       links = f1.links;
@@ -306,13 +310,37 @@ record_written bytes id inode rest fits e =
       ctime = f1.ctime;
       body = h.2;
     } in
-    subst (λ (p : (ℕ × Inode) × List ℕ). (bytes ≡ record_text p.0.0 p.0.1 ++ p.1) × IsRecordable p.0.0 p.0.1 × AreBytes p.1) (some_is ((head.fileid, read), body.1) y n2) (whole, held, h.3)))
+    subst (λ (p : (ℕ × Inode) × List ℕ). (bytes ≡ record_text p.0.0 p.0.1 ++ p.1) × IsRecordable version p.0.0 p.0.1 × AreBytes p.1) (some_is ((head.fileid, read), body.1) y n2) (whole, held, h.3)))
 
 abbrev pub record_of : ℕ × Inode → List ℕ
 record_of inode = record_text inode.0 inode.1
 
-abbrev pub Recordable : ℕ × Inode → Type 0
-Recordable inode = IsRecordable inode.0 inode.1
+abbrev pub Recordable : (version : ℕ) → ℕ × Inode → Type 0
+Recordable version inode = IsRecordable version inode.0 inode.1
 
-pub record_exact : IsExact record_of Recordable record_from
-record_exact = record { again = λ inode rest h. record_again inode.0 inode.1 rest h; written = λ bytes inode rest fits e. record_written bytes inode.0 inode.1 rest fits e }
+pub record_exact : (version : ℕ) → IsExact record_of (Recordable version) (record_from version)
+record_exact version = record { again = λ inode rest h. record_again version inode.0 inode.1 rest h; written = λ bytes inode rest fits e. record_written version bytes inode.0 inode.1 rest fits e }
+
+-- What an older version spells, the latest spells too ----------------------------------------------------------------
+
+few_by : (first : Bool) (n : ℕ) → n ≤ cond first 1048576 16777216 → n ≤ 16777216
+few_by true n le = omega arith
+few_by false n le = le
+
+later_body : (version : ℕ) (body : Body) → BodyIsRecordable version body → BodyIsRecordable latest_version body
+later_body version (file bytes) h = (h.0, few_by (eqb version 1) (length bytes) h.1)
+later_body version (directory listing) h = h
+later_body version (link path) h = h
+
+pub later_recordable : (version id : ℕ) (inode : Inode) → IsRecordable version id inode → IsRecordable latest_version id inode
+later_recordable version id inode h = record {
+  fileid = h.fileid;
+  permissions = h.permissions;
+  links = h.links;
+  uid = h.uid;
+  gid = h.gid;
+  atime = h.atime;
+  mtime = h.mtime;
+  ctime = h.ctime;
+  body = later_body version inode.body h.body;
+}

@@ -4,7 +4,7 @@ use Rattle.std.specs.Option.{option_map}
 use Rattle.std.proofs.lemmas.Bool.{ltb-false, le-ltb, lt-ltb}
 use Rattle.bfs_model.specs.Bytes.Call.{◌>>=◌}
 use Rattle.bfs_model.specs.Bytes.Formats.{Reading}
-use Rattle.bfs_inode.specs.Records.{entry_from, entries_from, record_from}
+use Rattle.bfs_digest.specs.Inside.RecordReading.{entry_from, entries_from, record_from}
 use Rattle.bfs_digest.specs.Inside.TextReading.{records_from}
 use Rattle.bfs_model.proofs.Public.{some_is, chosen}
 use Rattle.bfs_digest.proofs.Tests.{refused_not}
@@ -18,9 +18,9 @@ pub entries_rise : ReadsRising entry_from (λ entry. entry.cookie) entries_from
 unfolding entries_from
 entries_rise = record { none = λ least bytes. refl; more = λ n least bytes. refl }
 
-pub records_rise : ReadsRising record_from (λ inode. inode.0) records_from
+pub records_rise : (version : ℕ) → ReadsRising (record_from version) (λ inode. inode.0) (records_from version)
 unfolding records_from
-records_rise = record { none = λ least bytes. refl; more = λ n least bytes. refl }
+records_rise version = record { none = λ least bytes. refl; more = λ n least bytes. refl }
 
 -- what is left behind what is read
 abbrev pub left : {A : Type 0} → Reading A → Option (List ℕ)

@@ -13,7 +13,7 @@ use Rattle.bfs_model.specs.Bytes.Items.{word, hyper}
 use Rattle.bfs_model.specs.Server.Stored.{IsWord, AreBytes, IsTime}
 use Rattle.bfs_model.specs.Server.Tree.{Inode, Inodes, FileSystem, root_id, first_ordinal, spent_ordinal}
 use Rattle.bfs_tree.proofs.Public.{each_of_all, all_of_each}
-use Rattle.bfs_inode.specs.Records.{IsRecordable}
+use Rattle.bfs_digest.specs.Records.{IsRecordable}
 use Rattle.bfs_digest.specs.Text.{Header, header_of, numbers_text, records_text, IsSpellable}
 use Rattle.bfs_model.specs.Bytes.Formats.{hyper_from}
 use Rattle.bfs_digest.specs.Inside.TextReading.{records_from, numbers_from, is_nothing, files_from}
@@ -24,9 +24,9 @@ use Rattle.bfs_digest.proofs.Records.{time_text, time_exact, record_of, Recordab
 -- Inodes by rising fileids -------------------------------------------------------------------------------------------
 
 -- from the least on
-abbrev pub AreRising : (least : ℕ) → List (ℕ × Inode) → Type 0
-AreRising least [] = Unit {0}
-AreRising least (inode ∷ inodes) = (least ≤ inode.0) × Recordable inode × AreRising (inode.0 + 1) inodes
+abbrev pub AreRising : (version least : ℕ) → List (ℕ × Inode) → Type 0
+AreRising version least [] = Unit {0}
+AreRising version least (inode ∷ inodes) = (least ≤ inode.0) × Recordable version inode × AreRising version (inode.0 + 1) inodes
 
 split : (a b : Bool) → T (a && b) → T a × T b
 split true b h = (tt, h)
@@ -47,15 +47,15 @@ lt_of x y h = ranked x y Less (sym (less (nat_cmp x y) h))
 pub of_lt : (x y : ℕ) → x < y → T (is_lt (nat_cmp x y))
 of_lt x y lt = subst (λ r. T (is_lt r)) (nat_cmp_is x y Less lt) tt
 
-below : (k least : ℕ) (inodes : List (ℕ × Inode)) → k < least → AreRising least inodes → T (below_all nat_cmp k inodes)
-below k least [] lt h = tt
-below k least (inode ∷ inodes) lt h =
+below : (version k least : ℕ) (inodes : List (ℕ × Inode)) → k < least → AreRising version least inodes → T (below_all nat_cmp k inodes)
+below version k least [] lt h = tt
+below version k least (inode ∷ inodes) lt h =
     let le : least ≤ inode.0 = h.0 in
-    both _ _ (of_lt k inode.0 (omega arith)) (below k (inode.0 + 1) inodes (omega arith) h.2)
+    both _ _ (of_lt k inode.0 (omega arith)) (below version k (inode.0 + 1) inodes (omega arith) h.2)
 
-pub rising_sorted : (least : ℕ) (inodes : List (ℕ × Inode)) → AreRising least inodes → T (is_sorted nat_cmp inodes)
-rising_sorted least [] h = tt
-rising_sorted least (inode ∷ inodes) h = both _ _ (below inode.0 (inode.0 + 1) inodes (omega arith) h.2) (rising_sorted (inode.0 + 1) inodes h.2)
+pub rising_sorted : (version least : ℕ) (inodes : List (ℕ × Inode)) → AreRising version least inodes → T (is_sorted nat_cmp inodes)
+rising_sorted version least [] h = tt
+rising_sorted version least (inode ∷ inodes) h = both _ _ (below version inode.0 (inode.0 + 1) inodes (omega arith) h.2) (rising_sorted version (inode.0 + 1) inodes h.2)
 
 above : (k : ℕ) (inodes : List (ℕ × Inode)) → T (below_all nat_cmp k inodes) → AllByRecursion (λ (inode : ℕ × Inode). k + 1 ≤ inode.0) inodes
 above k [] h = tt
@@ -64,32 +64,32 @@ above k (inode ∷ inodes) h =
     let lt : k < inode.0 = lt_of k inode.0 parts.0 in
     (omega arith, above k inodes parts.1)
 
-rising : (least : ℕ) (inodes : List (ℕ × Inode)) → T (is_sorted nat_cmp inodes) → AllByRecursion (λ (inode : ℕ × Inode). least ≤ inode.0) inodes → AllByRecursion Recordable inodes → AreRising least inodes
-rising least [] sorted least_is all = tt
-rising least (inode ∷ inodes) sorted least_is all =
+rising : (version least : ℕ) (inodes : List (ℕ × Inode)) → T (is_sorted nat_cmp inodes) → AllByRecursion (λ (inode : ℕ × Inode). least ≤ inode.0) inodes → AllByRecursion (Recordable version) inodes → AreRising version least inodes
+rising version least [] sorted least_is all = tt
+rising version least (inode ∷ inodes) sorted least_is all =
     let parts = split (below_all nat_cmp inode.0 inodes) (is_sorted nat_cmp inodes) sorted in
-    (least_is.0, all.0, rising (inode.0 + 1) inodes parts.1 (above inode.0 inodes parts.0) all.1)
+    (least_is.0, all.0, rising version (inode.0 + 1) inodes parts.1 (above inode.0 inodes parts.0) all.1)
 
-from_root : (inodes : List (ℕ × Inode)) → AllByRecursion Recordable inodes → AllByRecursion (λ (inode : ℕ × Inode). root_id ≤ inode.0) inodes
-from_root [] all = tt
-from_root (inode ∷ inodes) all = (all.0.fileid.0, from_root inodes all.1)
+from_root : (version : ℕ) (inodes : List (ℕ × Inode)) → AllByRecursion (Recordable version) inodes → AllByRecursion (λ (inode : ℕ × Inode). root_id ≤ inode.0) inodes
+from_root version [] all = tt
+from_root version (inode ∷ inodes) all = (all.0.fileid.0, from_root version inodes all.1)
 
-pub all_recordable : (least : ℕ) (inodes : List (ℕ × Inode)) → AreRising least inodes → AllByRecursion Recordable inodes
-all_recordable least [] h = tt
-all_recordable least (inode ∷ inodes) h = (h.1, all_recordable (inode.0 + 1) inodes h.2)
+pub all_recordable : (version least : ℕ) (inodes : List (ℕ × Inode)) → AreRising version least inodes → AllByRecursion (Recordable version) inodes
+all_recordable version least [] h = tt
+all_recordable version least (inode ∷ inodes) h = (h.1, all_recordable version (inode.0 + 1) inodes h.2)
 
-pub tree_rises : (m : Inodes) → ((id : ℕ) (inode : Inode) → get m id ≡ Some inode → IsRecordable id inode) → AreRising root_id (entries m)
-tree_rises m each =
-    let all = all_of_each Recordable m each in
-    rising root_id (entries m) (entries_sorted m) (from_root (entries m) all) all
+pub tree_rises : (version : ℕ) (m : Inodes) → ((id : ℕ) (inode : Inode) → get m id ≡ Some inode → IsRecordable version id inode) → AreRising version root_id (entries m)
+tree_rises version m each =
+    let all = all_of_each (Recordable version) m each in
+    rising version root_id (entries m) (entries_sorted m) (from_root version (entries m) all) all
 
 -- there are fewer than fileids
-pub few : (least : ℕ) (inodes : List (ℕ × Inode)) → least ≤ 2 ^ 32 → AreRising least inodes → least + length inodes ≤ 2 ^ 32
-few least [] le h = omega arith
-few least (inode ∷ inodes) le h =
+pub few : (version least : ℕ) (inodes : List (ℕ × Inode)) → least ≤ 2 ^ 32 → AreRising version least inodes → least + length inodes ≤ 2 ^ 32
+few version least [] le h = omega arith
+few version least (inode ∷ inodes) le h =
     let first : least ≤ inode.0 = h.0 in
     let small : inode.0 < 2 ^ 32 = h.1.fileid.1 in
-    let more = few (inode.0 + 1) inodes (omega arith) h.2 in
+    let more = few version (inode.0 + 1) inodes (omega arith) h.2 in
     omega arith
 
 -- The map of inodes that rise has them as its entries, and a map is that of its entries
@@ -103,28 +103,28 @@ from_own_entries m = same_entries_map (from_entries (entries m)) m (entries_from
 
 -- Records ------------------------------------------------------------------------------------------------------------
 
-pub records_again : (least : ℕ) (inodes : List (ℕ × Inode)) (rest : List ℕ) → AreRising least inodes → records_from (length inodes) least (records_text inodes ++ rest) ≡ Some (inodes, rest)
+pub records_again : (version least : ℕ) (inodes : List (ℕ × Inode)) (rest : List ℕ) → AreRising version least inodes → records_from version (length inodes) least (records_text inodes ++ rest) ≡ Some (inodes, rest)
 unfolding records_from
-records_again least [] rest h = refl
-records_again least (inode ∷ inodes) rest h =
+records_again version least [] rest h = refl
+records_again version least (inode ∷ inodes) rest h =
     rw (append_assoc (record_of inode) (records_text inodes) rest)
-    (go_on record_exact _ inode (records_text inodes ++ rest) h.1
-    ∙ rw (le-ltb inode.0 least h.0, records_again (inode.0 + 1) inodes rest h.2) refl)
+    (go_on (record_exact version) _ inode (records_text inodes ++ rest) h.1
+    ∙ rw (le-ltb inode.0 least h.0, records_again version (inode.0 + 1) inodes rest h.2) refl)
 
-abbrev pub RecordsWritten : (count least : ℕ) → List ℕ → List (ℕ × Inode) → List ℕ → Type 0
-RecordsWritten count least bytes inodes rest = (bytes ≡ records_text inodes ++ rest) × (length inodes ≡ count) × AreRising least inodes × AreBytes rest
+abbrev pub RecordsWritten : (version count least : ℕ) → List ℕ → List (ℕ × Inode) → List ℕ → Type 0
+RecordsWritten version count least bytes inodes rest = (bytes ≡ records_text inodes ++ rest) × (length inodes ≡ count) × AreRising version least inodes × AreBytes rest
 
-pub records_written : (count least : ℕ) (bytes : List ℕ) (inodes : List (ℕ × Inode)) (rest : List ℕ) → AreBytes bytes → records_from count least bytes ≡ Some (inodes, rest) → RecordsWritten count least bytes inodes rest
+pub records_written : (version count least : ℕ) (bytes : List ℕ) (inodes : List (ℕ × Inode)) (rest : List ℕ) → AreBytes bytes → records_from version count least bytes ≡ Some (inodes, rest) → RecordsWritten version count least bytes inodes rest
 unfolding records_from
-records_written zero least bytes inodes rest fits e =
-    subst (λ (p : List (ℕ × Inode) × List ℕ). RecordsWritten zero least bytes p.0 p.1) (some_is ([], bytes) (inodes, rest) e) (refl, refl, tt, fits)
-records_written (suc count) least bytes inodes rest fits e =
-    went_on record_exact _ (inodes, rest) bytes fits e (λ inode r1 e1 f1 b1 n1.
+records_written version zero least bytes inodes rest fits e =
+    subst (λ (p : List (ℕ × Inode) × List ℕ). RecordsWritten version zero least bytes p.0 p.1) (some_is ([], bytes) (inodes, rest) e) (refl, refl, tt, fits)
+records_written version (suc count) least bytes inodes rest fits e =
+    went_on (record_exact version) _ (inodes, rest) bytes fits e (λ inode r1 e1 f1 b1 n1.
     chosen _ _ (inodes, rest) n1 (λ more is n2.
-    let g = refused_not (ltb inode.0 least) (records_from count (inode.0 + 1) r1) more is in
-    let h = records_written count (inode.0 + 1) r1 more.0 more.1 b1 g.1 in
+    let g = refused_not (ltb inode.0 least) (records_from version count (inode.0 + 1) r1) more is in
+    let h = records_written version count (inode.0 + 1) r1 more.0 more.1 b1 g.1 in
     let whole : bytes ≡ (record_of inode ++ records_text more.0) ++ more.1 = e1 ∙ ap (λ r. record_of inode ++ r) h.0 ∙ sym (append_assoc (record_of inode) (records_text more.0) more.1) in
-    subst (λ (p : List (ℕ × Inode) × List ℕ). RecordsWritten (suc count) least bytes p.0 p.1) (some_is (inode ∷ more.0, more.1) (inodes, rest) n2)
+    subst (λ (p : List (ℕ × Inode) × List ℕ). RecordsWritten version (suc count) least bytes p.0 p.1) (some_is (inode ∷ more.0, more.1) (inodes, rest) n2)
     (whole, ap suc h.1, (ltb-false inode.0 least g.0, f1, h.2), h.3)))
 
 -- Numbers ------------------------------------------------------------------------------------------------------------
@@ -171,40 +171,40 @@ numbers_exact = record { again = numbers_again; written = numbers_written }
 abbrev pub behind_version : FileSystem → List ℕ
 behind_version files = numbers_text (header_of files) ++ records_text (entries files.tree)
 
-numbers_are : (files : FileSystem) → IsSpellable files → AreNumbers (header_of files)
-numbers_are files h =
-    let count = few root_id (entries files.tree) (omega arith) (tree_rises files.tree h.inodes) in
+numbers_are : (version : ℕ) (files : FileSystem) → IsSpellable version files → AreNumbers (header_of files)
+numbers_are version files h =
+    let count = few version root_id (entries files.tree) (omega arith) (tree_rises version files.tree h.inodes) in
     record { ordinal = h.ordinal; last_time = h.last_time; count = omega (arith, len-entries files.tree) }
 
 pub nothing : (bytes : List ℕ) → is_nothing bytes ≡ true → bytes ≡ []
 nothing [] e = refl
 nothing (byte ∷ bytes) e = let none = eqb-true (length (byte ∷ bytes)) 0 e in absurd (omega arith)
 
-pub files_again : (files : FileSystem) → IsSpellable files → files_from (behind_version files) ≡ Some files
+pub files_again : (version : ℕ) (files : FileSystem) → IsSpellable version files → files_from version (behind_version files) ≡ Some files
 unfolding files_from
-files_again files h =
+files_again version files h =
     let inodes = records_text (entries files.tree) in
-    let read : records_from (len files.tree) root_id inodes ≡ Some (entries files.tree, []) =
-    ap (λ n. records_from n root_id inodes) (len-entries files.tree) ∙ ap (records_from (length (entries files.tree)) root_id) (sym (append-nil inodes)) ∙ records_again root_id (entries files.tree) [] (tree_rises files.tree h.inodes) in
-    go_on numbers_exact _ (header_of files) inodes (numbers_are files h)
+    let read : records_from version (len files.tree) root_id inodes ≡ Some (entries files.tree, []) =
+    ap (λ n. records_from version n root_id inodes) (len-entries files.tree) ∙ ap (records_from version (length (entries files.tree)) root_id) (sym (append-nil inodes)) ∙ records_again version root_id (entries files.tree) [] (tree_rises version files.tree h.inodes) in
+    go_on numbers_exact _ (header_of files) inodes (numbers_are version files h)
     ∙ rw read (ap (λ m. Some (record files { tree = m })) (from_own_entries files.tree))
 
-pub record WasWritten (bytes : List ℕ) (files : FileSystem) : Type 0 where
+pub record WasWritten (version : ℕ) (bytes : List ℕ) (files : FileSystem) : Type 0 where
   pub spelled : bytes ≡ behind_version files
-  pub spellable : IsSpellable files
+  pub spellable : IsSpellable version files
 
-pub files_written : (bytes : List ℕ) (files : FileSystem) → AreBytes bytes → files_from bytes ≡ Some files → WasWritten bytes files
+pub files_written : (version : ℕ) (bytes : List ℕ) (files : FileSystem) → AreBytes bytes → files_from version bytes ≡ Some files → WasWritten version bytes files
 unfolding files_from
-files_written bytes files fits e =
+files_written version bytes files fits e =
     went_on numbers_exact _ files bytes fits e (λ numbers r1 e1 f1 b1 n1.
-    chosen (records_from numbers.count root_id r1) _ files n1 (λ inodes is n2.
-    let h = records_written numbers.count root_id r1 inodes.0 inodes.1 b1 is in
+    chosen (records_from version numbers.count root_id r1) _ files n1 (λ inodes is n2.
+    let h = records_written version numbers.count root_id r1 inodes.0 inodes.1 b1 is in
     let read : FileSystem = record { tree = from_entries inodes.0; next_ordinal = numbers.next_ordinal; last_time = numbers.last_time } in
     let g = passed (is_nothing inodes.1) read files n2 in
-    let own : entries read.tree ≡ inodes.0 = entries_from inodes.0 (rising_sorted root_id inodes.0 h.2) in
+    let own : entries read.tree ≡ inodes.0 = entries_from inodes.0 (rising_sorted version root_id inodes.0 h.2) in
     let count : numbers.count ≡ len read.tree = sym h.1 ∙ ap length (sym own) ∙ sym (len-entries read.tree) in
-    let all : AllByRecursion Recordable (entries read.tree) = subst (AllByRecursion Recordable) (sym own) (all_recordable root_id inodes.0 h.2) in
+    let all : AllByRecursion (Recordable version) (entries read.tree) = subst (AllByRecursion (Recordable version)) (sym own) (all_recordable version root_id inodes.0 h.2) in
     let end : r1 ≡ records_text (entries read.tree) = h.0 ∙ ap (λ r. records_text inodes.0 ++ r) (nothing inodes.1 g.0) ∙ append-nil (records_text inodes.0) ∙ ap records_text (sym own) in
     let whole : bytes ≡ behind_version read = e1 ∙ ap (λ r. numbers_text numbers ++ r) end ∙ ap (λ n. numbers_text (record numbers { count = n }) ++ records_text (entries read.tree)) count in
-    let held : IsSpellable read = record { inodes = each_of_all Recordable read.tree all; ordinal = f1.ordinal; last_time = f1.last_time } in
-    subst (WasWritten bytes) g.1 (record { spelled = whole; spellable = held })))
+    let held : IsSpellable version read = record { inodes = each_of_all (Recordable version) read.tree all; ordinal = f1.ordinal; last_time = f1.last_time } in
+    subst (WasWritten version bytes) g.1 (record { spelled = whole; spellable = held })))

@@ -1,4 +1,5 @@
 -- What contracts of private functions cite.
+pub mod RecordReading
 pub mod TextReading
 pub mod Taking
 pub mod Formation

@@ -1,3 +1,4 @@
+pub mod Records
 pub mod Text
 pub mod Digests
 pub mod Outcomes

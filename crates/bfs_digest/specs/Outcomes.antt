@@ -1,10 +1,10 @@
--- What `restore` makes of bytes.
-use Rattle.std.specs.Prelude.{◌≡◌, ℕ, List, ◌++◌, Option, Some, None}
+-- What is made of bytes by who takes texts of the versions from the oldest on.
+use Rattle.std.specs.Prelude.{◌≡◌, ℕ, false, List, ◌++◌, Option, Some, None}
 use Rattle.bfs_model.specs.Bytes.Items.{word}
 use Rattle.bfs_model.specs.Server.Stored.{IsWord, IsLive}
 use Rattle.bfs_model.specs.Server.Tree.{FileSystem}
 use Rattle.bfs_model.specs.Server.WellFormed.{IsWellFormed}
-use Rattle.bfs_digest.specs.Text.{magic, version, Spells}
+use Rattle.bfs_digest.specs.Text.{magic, is_taken, Spells}
 use Rattle.bfs_digest.specs.declared.errors.RestoreError.{RestoreError}
 use Rattle.bfs_digest.specs.declared.errors.RestoreError.TheVariants as error
 
@@ -15,23 +15,23 @@ code_of error.WrongVersion = 22
 code_of error.Memory = 40
 
 -- a live file system, whose text the bytes are
-abbrev pub IsRestored : List ℕ → Option FileSystem → Type 0
-IsRestored bytes None = ⊥
-IsRestored bytes (Some files) = Spells bytes files × IsLive files
+abbrev pub IsRestored : (oldest : ℕ) → List ℕ → Option FileSystem → Type 0
+IsRestored oldest bytes None = ⊥
+IsRestored oldest bytes (Some files) = Spells oldest bytes files × IsLive files
 
--- they begin as a text of another version
-pub record HasOtherVersion (bytes : List ℕ) : Type 0 where
+-- they begin as a text of a version that is not taken
+pub record HasOtherVersion (oldest : ℕ) (bytes : List ℕ) : Type 0 where
   pub number : ℕ
   pub rest : List ℕ
   pub spelled : bytes ≡ word magic ++ (word number ++ rest)
   pub small : IsWord number
-  pub other : number ≡ version → ⊥
+  pub other : is_taken oldest number ≡ false
 
--- they begin as a text of another version, or are the text of a file system, well formed or not
-abbrev pub IsMalformed : List ℕ → Type 0
-IsMalformed bytes = (HasOtherVersion bytes → ⊥) × ((files : FileSystem) → Spells bytes files → ⊥)
+-- they neither begin so, nor are the text of a file system, well formed or not
+abbrev pub IsMalformed : (oldest : ℕ) → List ℕ → Type 0
+IsMalformed oldest bytes = (HasOtherVersion oldest bytes → ⊥) × ((files : FileSystem) → Spells oldest bytes files → ⊥)
 
-pub record SpellsIllFormed (bytes : List ℕ) : Type 0 where
+pub record SpellsIllFormed (oldest : ℕ) (bytes : List ℕ) : Type 0 where
   pub files : FileSystem
-  pub spells : Spells bytes files
+  pub spells : Spells oldest bytes files
   pub ill_formed : IsWellFormed files → ⊥

@@ -6,12 +6,13 @@ ghost use Rattle.sha2.specs.Hashers.{Holds256};
 ghost use Rattle.bfs_inode.specs.Records.{record_digest};
 ghost use Rattle.bfs_model.specs.Bytes.Items.{hyper, word};
 ghost use Rattle.bfs_tree.specs.Tree.{at_home};
-ghost use Rattle.bfs_digest.specs.Text.{header_text};
+ghost use Rattle.bfs_digest.specs.Text.{header_text, latest_version};
 ghost use Rattle.bfs_digest.specs.Digests as model;
 ghost use Rattle.bfs_digest.specs.Inside.Hashed.{hashed_at, hashed_text};
 
 use crate::hashes::record_digest;
-use crate::headers::{Header, MAGIC, VERSION, parts_of};
+use crate::headers::{Header, MAGIC, parts_of};
+use crate::versions::LATEST_VERSION;
 use bfs_inode::{FileId, Inode, RecordDigest};
 use bfs_serial::{ExecError, FileSystem};
 use bfs_tree::Tree;
@@ -98,7 +99,7 @@ fn digest_at(tree: &Tree, id: FileId) -> RecordDigest
 }
 
 fn digest_with(header: &Header, digests: &[RecordDigest]) -> [u8; 32]
-    ensures { result ≡ sha256 (header_text header.now ++ flat_map hashed_text digests.now) }
+    ensures { result ≡ sha256 (header_text latest_version header.now ++ flat_map hashed_text digests.now) }
 {
     let mut hasher = Sha256::new();
     hash_header(&mut hasher, header);
@@ -125,10 +126,10 @@ fn hash_digest(hasher: &mut Sha256, id: FileId, inode: &Inode)
 }
 
 fn hash_header(hasher: &mut Sha256, header: &Header)
-    ensures { (m : List ℕ) → Holds256 hasher.old m → Holds256 hasher.new (m ++ header_text header.now) }
+    ensures { (m : List ℕ) → Holds256 hasher.old m → Holds256 hasher.new (m ++ header_text latest_version header.now) }
 {
     hash_u32(hasher, MAGIC);
-    hash_u32(hasher, VERSION);
+    hash_u32(hasher, LATEST_VERSION);
     hash_double(hasher, header.next_ordinal);
     hash_u32(hasher, header.last_time.seconds());
     hash_u32(hasher, header.last_time.useconds());

@@ -8,7 +8,7 @@ use thiserror::Error;
 /// Why bytes were not made a file system.
 #[derive(Clone, Copy, Debug, PartialEq, Eq, Error)]
 pub enum RestoreError {
-    /// They are no text of version 1: they don't begin as a text does, end too early or too late, have padding other than zeros, or
+    /// They are no text: they don't begin as a text does, end too early or too late, have padding other than zeros, or
     /// a number that is out of its range or its order.
     #[error("the bytes spell no file system")]
     Malformed,

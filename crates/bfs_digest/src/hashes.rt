@@ -1,10 +1,12 @@
-// The record of an inode fed to a hasher, piece by piece: no byte of a file is copied.
-ghost use Rattle.std.specs.Prelude.{◌≡◌, ◌++◌, List, ℕ, length};
+// The record of an inode that is hashed, fed to a hasher piece by piece: no byte of a file is copied.
+ghost use Rattle.std.specs.Prelude.{◌≡◌, ◌≤◌, ◌++◌, List, ℕ, length};
 ghost use Rattle.sha2.specs.Hashers.{Holds256};
 ghost use Rattle.bfs_model.specs.Bytes.Items.{word};
 ghost use Rattle.bfs_inode.specs.Inodes.{body_seen};
-ghost use Rattle.bfs_inode.specs.Records.{body_text, entries_text, entry_text, record_digest};
+ghost use Rattle.bfs_inode.specs.Records.{blocks_text, entries_text, entry_text, hashed_body, listing_text, record_digest};
+ghost use Rattle.bfs_model.specs.Server.Limits.{most_file_bytes};
 
+use crate::blocks::hash_blocks;
 use crate::words::head_words;
 use bfs_inode::{Body, Directory, Entry, FileId, Inode};
 use bfs_xdr::{hash_opaque, hash_u32, hash_words};
@@ -20,7 +22,7 @@ pub(crate) fn record_digest(id: FileId, inode: &Inode) -> [u8; 32]
     }
 }
 
-#[tactic(auto, unfolding(bfs_inode::specs::Records::record_text))]
+#[tactic(auto, unfolding(bfs_inode::specs::Records::hashed_record))]
 fn hash_record(id: FileId, inode: &Inode) -> [u8; 32]
     ensures { result ≡ record_digest id inode.now }
 {
@@ -31,17 +33,25 @@ fn hash_record(id: FileId, inode: &Inode) -> [u8; 32]
 }
 
 fn hash_body(hasher: &mut Sha256, body: &Body)
-    ensures { (m : List ℕ) → Holds256 hasher.old m → Holds256 hasher.new (m ++ body_text (body_seen body.now)) }
+    ensures { (m : List ℕ) → Holds256 hasher.old m → Holds256 hasher.new (m ++ hashed_body (body_seen body.now)) }
 {
     match body {
-        Body::File(data) => hash_opaque(hasher, data.as_slice()),
+        Body::File(data) => hash_file(hasher, data.as_slice()),
         Body::Directory(directory) => hash_directory(hasher, directory),
         Body::Link(path) => hash_opaque(hasher, path.as_slice()),
     }
 }
 
+fn hash_file(hasher: &mut Sha256, bytes: &[u8])
+    requires { length bytes.now ≤ most_file_bytes }
+    ensures { (m : List ℕ) → Holds256 hasher.old m → Holds256 hasher.new (m ++ (word (length bytes.now) ++ blocks_text bytes.now)) }
+{
+    hash_u32(hasher, bytes.len() as u32);
+    hash_blocks(hasher, bytes);
+}
+
 fn hash_directory(hasher: &mut Sha256, directory: &Directory)
-    ensures { (m : List ℕ) → Holds256 hasher.old m → Holds256 hasher.new (m ++ (word directory.now.parent ++ word (length directory.now.entries) ++ entries_text directory.now.entries)) }
+    ensures { (m : List ℕ) → Holds256 hasher.old m → Holds256 hasher.new (m ++ listing_text directory.now) }
 {
     hash_u32(hasher, directory.parent().number());
     hash_u32(hasher, directory.len() as u32);

@@ -12,9 +12,6 @@ use std::marker::Model;
 /// The word in front of every text, whose bytes are `BFSS`.
 pub(crate) const MAGIC: u32 = 0x4246_5353;
 
-/// The version that is written and read.
-pub(crate) const VERSION: u32 = 1;
-
 /// The next ordinal, the last time, and the number of inodes.
 #[derive(Debug, Drop)]
 pub(crate) struct Header {

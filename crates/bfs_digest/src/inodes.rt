@@ -5,19 +5,21 @@ ghost use Rattle.bfs_tree.specs.Tree.{at_home, reach_of};
 ghost use Rattle.bfs_inode.specs.Inodes.{body_seen};
 ghost use Rattle.bfs_model.specs.Server.Tree.{first_ordinal, root_id};
 ghost use Rattle.bfs_model.specs.Server.WellFormed.{IsLimited};
-ghost use Rattle.bfs_inode.specs.Records.{body_from, directory_from, entries_from, record_from};
+ghost use Rattle.bfs_digest.specs.Inside.RecordReading.{body_from, directory_from, entries_from, record_from};
+ghost use Rattle.bfs_digest.specs.Text.{latest_version};
 ghost use Rattle.bfs_digest.specs.Inside.TextReading.{records_from};
 ghost use Rattle.bfs_digest.specs.Inside.Taking.{BodyMayBe, Builds, BuildsTree};
 
-use crate::readers::{MOST_RECORDED_BYTES, TextReader};
+use crate::readers::TextReader;
+use crate::versions::{LATEST_VERSION, most_bytes_in};
 use bfs_inode::{Body, Directory, Entry, FileData, FileId, Inode};
 use bfs_tree::{Store, Tree};
 use bfs_types::{LinkPath, MOST_LINKS, MOST_PATH_BYTES, Memory, Name};
 use std::alloc::Global;
 
-/// The inodes of so many records, or `None` if one of them is not within the limits of an inode. `Memory` if memory runs out.
+/// The inodes of so many records of the latest version, or `None` if one of them is not within the limits of an inode. `Memory` if memory runs out.
 pub(crate) fn tree_of(alloc: Global, records: &[u8], count: u32) -> Result<Option<Tree>, Memory>
-    ensures { IfOk result (λ tree. BuildsTree tree (records_from count root_id records.now)) }
+    ensures { IfOk result (λ tree. BuildsTree tree (records_from latest_version count root_id records.now)) }
 {
     let mut reader = TextReader::new(records);
     let mut tree = Tree::empty(alloc);
@@ -42,9 +44,9 @@ fn put(tree: &mut Tree, numbered: (FileId, Inode)) -> Result<(), Memory>
     }
 }
 
-#[tactic(auto, unfolding(bfs_inode::specs::Records::record_from))]
+#[tactic(auto, unfolding(crate::specs::Inside::RecordReading::record_from))]
 fn inode_of(alloc: Global, reader: &mut TextReader) -> Result<Option<(FileId, Inode)>, Memory>
-    ensures { IfOk result (λ inode. Builds (λ x. x) (λ read. IsLimited read.1) inode (record_from reader.old) reader.new) }
+    ensures { IfOk result (λ inode. Builds (λ x. x) (λ read. IsLimited read.1) inode (record_from latest_version reader.old) reader.new) }
 {
     let Ok(head) = reader.head() else {
         return Ok(None);
@@ -58,12 +60,12 @@ fn inode_of(alloc: Global, reader: &mut TextReader) -> Result<Option<(FileId, In
     }
 }
 
-#[tactic(auto, unfolding(bfs_inode::specs::Records::body_from, bfs_inode::specs::Records::file_from, bfs_inode::specs::Records::link_from))]
+#[tactic(auto, unfolding(crate::specs::Inside::RecordReading::body_from, crate::specs::Inside::RecordReading::file_from, crate::specs::Inside::RecordReading::link_from))]
 fn body_of(alloc: Global, reader: &mut TextReader, kind: u32) -> Result<Option<Body>, Memory>
-    ensures { IfOk result (λ body. Builds body_seen BodyMayBe body (body_from kind reader.old) reader.new) }
+    ensures { IfOk result (λ body. Builds body_seen BodyMayBe body (body_from latest_version kind reader.old) reader.new) }
 {
     match kind {
-        1 => match reader.bytes(MOST_RECORDED_BYTES) {
+        1 => match reader.bytes(most_bytes_in(LATEST_VERSION)) {
             Ok(bytes) => Ok(Some(Body::File(FileData::new(alloc, bytes)?))),
             Err(_) => Ok(None),
         },
@@ -76,7 +78,7 @@ fn body_of(alloc: Global, reader: &mut TextReader, kind: u32) -> Result<Option<B
     }
 }
 
-#[tactic(auto, unfolding(bfs_inode::specs::Records::directory_from, bfs_inode::specs::Records::listing_from))]
+#[tactic(auto, unfolding(crate::specs::Inside::RecordReading::directory_from, crate::specs::Inside::RecordReading::listing_from))]
 fn directory_of(alloc: Global, reader: &mut TextReader) -> Result<Option<Body>, Memory>
     ensures { IfOk result (λ body. Builds body_seen BodyMayBe body (directory_from reader.old) reader.new) }
 {

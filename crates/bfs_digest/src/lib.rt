@@ -1,6 +1,7 @@
 //! The text of a file system, read and written, and its digest (FIPS 180-4, SHA-256).
 #![tactic(auto)]
 
+mod blocks;
 mod digests;
 mod errors;
 mod formation;
@@ -18,6 +19,7 @@ mod restoration;
 mod snapshots;
 mod spelling;
 mod taking;
+mod versions;
 mod words;
 mod writers;
 
@@ -25,7 +27,8 @@ pub use digests::{digest_parallel, digest_serial};
 pub use errors::RestoreError;
 pub use laws::{
     a_file_system_has_one_text, a_text_spells_one_file_system, live_files_are_spellable,
+    older_texts_are_spellable,
 };
 pub use refreshing::refresh;
-pub use restoration::restore;
+pub use restoration::{restore, restore_latest};
 pub use snapshots::{put_snapshot, snapshot};

@@ -1,7 +1,7 @@
 // A strict reader of a text, and what is read of it without memory.
 ghost use Rattle.std.specs.Prelude.{◌≡◌, ◌≤◌, length, IfOk};
 ghost use Rattle.bfs_model.specs.Bytes.Formats.{bytes_from, word_from, hyper_from};
-ghost use Rattle.bfs_inode.specs.Records.{entry_from, head_from, time_from};
+ghost use Rattle.bfs_digest.specs.Inside.RecordReading.{entry_from, head_from, time_from};
 ghost use Rattle.bfs_digest.specs.Inside.TextReading.{is_nothing, numbers_from, version_from};
 ghost use Rattle.bfs_digest.specs.Inside.Taking.{Reads, entry_seen, head_seen};
 ghost use Rattle.bfs_types.specs.declared.limits.TheConstants.{MOST_PERMISSIONS};
@@ -13,9 +13,6 @@ use bfs_inode::{FileId, Metadata, Time};
 use bfs_types::{MOST_NAME_BYTES, MOST_PERMISSIONS, Ordinal};
 use bfs_xdr::Reader;
 use std::marker::Model;
-
-/// The bytes of a file in a record of version 1, at most.
-pub(crate) const MOST_RECORDED_BYTES: u32 = 1_048_576;
 
 /// Reads a text from its front on.
 #[derive(Drop)]
@@ -92,7 +89,7 @@ impl<'a> TextReader<'a> {
         Ok(self.reader.opaque(most)?)
     }
 
-    #[tactic(auto, unfolding(bfs_inode::specs::Records::time_from))]
+    #[tactic(auto, unfolding(crate::specs::Inside::RecordReading::time_from))]
     pub(crate) fn time(&mut self) -> Result<Time, Malformed>
         ensures { Reads (λ x. x) result (time_from self.old) self.new }
     {
@@ -104,7 +101,7 @@ impl<'a> TextReader<'a> {
         }
     }
 
-    #[tactic(auto, unfolding(bfs_inode::specs::Records::entry_from))]
+    #[tactic(auto, unfolding(crate::specs::Inside::RecordReading::entry_from))]
     pub(crate) fn entry(&mut self) -> Result<EntryText<'a>, Malformed>
         ensures value { Reads entry_seen result (entry_from self.old) self.new }
         ensures within { IfOk result (λ entry. length entry.name.now ≤ most_name_bytes) }
@@ -119,7 +116,7 @@ impl<'a> TextReader<'a> {
         })
     }
 
-    #[tactic(auto, unfolding(bfs_inode::specs::Records::head_from))]
+    #[tactic(auto, unfolding(crate::specs::Inside::RecordReading::head_from))]
     pub(crate) fn head(&mut self) -> Result<HeadText, Malformed>
         ensures value { Reads head_seen result (head_from self.old) self.new }
         ensures within { IfOk result (λ head. head.metadata.permissions ≤ MOST_PERMISSIONS) }

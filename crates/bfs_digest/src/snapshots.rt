@@ -2,7 +2,7 @@ ghost use Rattle.std.specs.FinMap.{entries};
 ghost use Rattle.std.specs.Prelude.{◌≡◌, ◌++◌, ◌↔◌, Some, None, IfOk, OnOk, OnErr, IsErrOf};
 ghost use Rattle.std.specs.Option.{option_map};
 ghost use Rattle.bfs_tree.specs.Tree.{at_home};
-ghost use Rattle.bfs_digest.specs.Text.{header_text, records_text, snapshot_text};
+ghost use Rattle.bfs_digest.specs.Text.{header_text, latest_version, records_text, snapshot_text};
 ghost use Rattle.bfs_digest.specs.Inside.Putting.{BeginsWith};
 
 use crate::headers::{Header, parts_of};
@@ -13,7 +13,7 @@ use bfs_tree::Tree;
 use bfs_types::Memory;
 use std::alloc::Global;
 
-/// The text of a file system, in bytes: all of it, in version 1. Each byte is written once. `Failed` if it has failed, `Memory` if memory
+/// The text of a file system, in bytes: all of it, in version 2. Each byte is written once. `Failed` if it has failed, `Memory` if memory
 /// runs out.
 #[tactic(auto, using(crate::proofs::Parts::behind_nothing))]
 pub fn snapshot(alloc: Global, files: &FileSystem) -> Result<Vec<u8>, ExecError>
@@ -42,7 +42,7 @@ pub fn put_snapshot(out: &mut Vec<u8>, files: &FileSystem) -> Result<(), ExecErr
 }
 
 fn put_text(out: &mut Vec<u8>, header: &Header, tree: &Tree) -> Result<(), Memory>
-    ensures ok { OnOk result (out.new.items ≡ out.old.items ++ (header_text header.now ++ records_text (entries (at_home tree.now)))) }
+    ensures ok { OnOk result (out.new.items ≡ out.old.items ++ (header_text latest_version header.now ++ records_text (entries (at_home tree.now)))) }
     ensures err { OnErr result (out.new.items ≡ out.old.items) }
 {
     let before = out.len();
@@ -55,7 +55,7 @@ fn put_text(out: &mut Vec<u8>, header: &Header, tree: &Tree) -> Result<(), Memor
 }
 
 fn put_parts(out: &mut Vec<u8>, header: &Header, tree: &Tree) -> Result<(), Memory>
-    ensures ok { OnOk result (out.new.items ≡ out.old.items ++ (header_text header.now ++ records_text (entries (at_home tree.now)))) }
+    ensures ok { OnOk result (out.new.items ≡ out.old.items ++ (header_text latest_version header.now ++ records_text (entries (at_home tree.now)))) }
     ensures err { OnErr result (BeginsWith out.old.items out.new.items) }
 {
     put_header(out, header)?;

@@ -2,8 +2,9 @@
 ghost use Rattle.std.specs.Prelude.{◌≡◌, None, IfOk, OnErr};
 ghost use Rattle.std.specs.Option.{option_map};
 ghost use Rattle.bfs_model.specs.Server.Tree.{first_ordinal, parent_in, root_id};
-ghost use Rattle.bfs_inode.specs.Records.{body_from, entries_from, listing_from, record_from};
+ghost use Rattle.bfs_digest.specs.Inside.RecordReading.{body_from, entries_from, listing_from, record_from};
 ghost use Rattle.bfs_digest.specs.Inside.Formation.{AreNotes};
+ghost use Rattle.bfs_digest.specs.Text.{latest_version};
 ghost use Rattle.bfs_digest.specs.Inside.Outlines.{note_of};
 ghost use Rattle.bfs_digest.specs.Inside.TextReading.{files_from, records_from};
 ghost use Rattle.bfs_digest.specs.Inside.Taking.{AreSpelled, Reads, Skips};
@@ -11,20 +12,24 @@ ghost use Rattle.bfs_digest.specs.Inside.Taking.{AreSpelled, Reads, Skips};
 use crate::errors::Malformed;
 use crate::headers::Header;
 use crate::outlines::InodeNote;
-use crate::readers::{MOST_RECORDED_BYTES, TextReader};
+use crate::readers::TextReader;
+use crate::versions::{LATEST_VERSION, most_bytes_in};
 use bfs_inode::FileId;
 use bfs_types::{MOST_ENTRIES, MOST_PATH_BYTES, Memory};
 use std::alloc::Global;
 
-/// The header of a text of which the version was read, and the bytes of its records, which end where the text does.
+/// The header of a text of that version, which was read, and the bytes of its records, which end where the text does.
 #[tactic(auto, unfolding(crate::specs::Inside::TextReading::files_from))]
-pub(crate) fn spelled<'a>(reader: &mut TextReader<'a>) -> Result<(Header, &'a [u8]), Malformed>
-    ensures ok { IfOk result (λ text. AreSpelled reader.old text.0 text.1.now) }
-    ensures err { OnErr result (files_from reader.old ≡ None) }
+pub(crate) fn spelled<'a>(
+    reader: &mut TextReader<'a>,
+    version: u32,
+) -> Result<(Header, &'a [u8]), Malformed>
+    ensures ok { IfOk result (λ text. AreSpelled version reader.old text.0 text.1.now) }
+    ensures err { OnErr result (files_from version reader.old ≡ None) }
 {
     let header = reader.numbers()?;
     let records = reader.rest();
-    skip_records(reader, header.count)?;
+    skip_records(reader, version, header.count)?;
     if !reader.is_at_end() {
         return Err(Malformed);
     }
@@ -32,12 +37,12 @@ pub(crate) fn spelled<'a>(reader: &mut TextReader<'a>) -> Result<(Header, &'a [u
 }
 
 // so many records, by rising fileid
-fn skip_records(reader: &mut TextReader, count: u32) -> Result<(), Malformed>
-    ensures { Skips result (records_from count root_id reader.old) reader.new }
+fn skip_records(reader: &mut TextReader, version: u32, count: u32) -> Result<(), Malformed>
+    ensures { Skips result (records_from version count root_id reader.old) reader.new }
 {
     let mut least = FileId::root().number() as u64;
     for _record in 0..count {
-        let Ok(note) = skip_record(reader) else {
+        let Ok(note) = skip_record(reader, version) else {
             return Err(Malformed);
         };
         let id = note.fileid.number() as u64;
@@ -49,18 +54,18 @@ fn skip_records(reader: &mut TextReader, count: u32) -> Result<(), Malformed>
     Ok(())
 }
 
-/// The notes of so many records, or `None` if the text spells no such ones. `Memory` if memory runs out.
+/// The notes of so many records of the latest version, or `None` if the text spells no such ones. `Memory` if memory runs out.
 pub(crate) fn notes_of(
     alloc: Global,
     records: &[u8],
     count: u32,
 ) -> Result<Option<Vec<InodeNote>>, Memory>
-    ensures { IfOk result (λ notes. AreNotes notes (records_from count root_id records.now)) }
+    ensures { IfOk result (λ notes. AreNotes notes (records_from latest_version count root_id records.now)) }
 {
     let mut reader = TextReader::new(records);
     let mut notes = Vec::with_capacity(alloc, count as usize)?;
     for _record in 0..count {
-        let Ok(note) = skip_record(&mut reader) else {
+        let Ok(note) = skip_record(&mut reader, LATEST_VERSION) else {
             return Ok(None);
         };
         let fileid = note.fileid;
@@ -69,13 +74,13 @@ pub(crate) fn notes_of(
     Ok(Some(notes))
 }
 
-// the note of an inode
-#[tactic(auto, unfolding(bfs_inode::specs::Records::record_from))]
-fn skip_record(reader: &mut TextReader) -> Result<InodeNote, Malformed>
-    ensures { Reads (λ x. x) result (option_map (λ read. (note_of read.0, read.1)) (record_from reader.old)) reader.new }
+// the note of an inode of a text of that version
+#[tactic(auto, unfolding(crate::specs::Inside::RecordReading::record_from))]
+fn skip_record(reader: &mut TextReader, version: u32) -> Result<InodeNote, Malformed>
+    ensures { Reads (λ x. x) result (option_map (λ read. (note_of read.0, read.1)) (record_from version reader.old)) reader.new }
 {
     let head = reader.head()?;
-    let parent = skip_body(reader, head.kind)?;
+    let parent = skip_body(reader, version, head.kind)?;
     Ok(InodeNote {
         fileid: head.fileid,
         links: head.metadata.links,
@@ -84,13 +89,17 @@ fn skip_record(reader: &mut TextReader) -> Result<InodeNote, Malformed>
 }
 
 /// The directory above, where the inode is one.
-#[tactic(auto, unfolding(bfs_inode::specs::Records::body_from, bfs_inode::specs::Records::file_from, bfs_inode::specs::Records::directory_from, bfs_inode::specs::Records::link_from))]
-pub(crate) fn skip_body(reader: &mut TextReader, kind: u32) -> Result<Option<FileId>, Malformed>
-    ensures { Reads (λ x. x) result (option_map (λ read. (parent_in read.0, read.1)) (body_from kind reader.old)) reader.new }
+#[tactic(auto, unfolding(crate::specs::Inside::RecordReading::body_from, crate::specs::Inside::RecordReading::file_from, crate::specs::Inside::RecordReading::directory_from, crate::specs::Inside::RecordReading::link_from))]
+pub(crate) fn skip_body(
+    reader: &mut TextReader,
+    version: u32,
+    kind: u32,
+) -> Result<Option<FileId>, Malformed>
+    ensures { Reads (λ x. x) result (option_map (λ read. (parent_in read.0, read.1)) (body_from version kind reader.old)) reader.new }
 {
     match kind {
         1 => {
-            reader.bytes(MOST_RECORDED_BYTES)?;
+            reader.bytes(most_bytes_in(version))?;
             Ok(None)
         }
         2 => Ok(Some(skip_listing(reader)?)),
@@ -103,7 +112,7 @@ pub(crate) fn skip_body(reader: &mut TextReader, kind: u32) -> Result<Option<Fil
 }
 
 // gives the directory above
-#[tactic(auto, unfolding(bfs_inode::specs::Records::listing_from))]
+#[tactic(auto, unfolding(crate::specs::Inside::RecordReading::listing_from))]
 fn skip_listing(reader: &mut TextReader) -> Result<FileId, Malformed>
     ensures { Reads (λ x. x) result (option_map (λ read. (read.0.parent, read.1)) (listing_from reader.old)) reader.new }
 {

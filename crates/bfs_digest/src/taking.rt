@@ -3,17 +3,19 @@
 ghost use Rattle.std.specs.Prelude.{◌≡◌, ◌≤◌, ◌<◌, ◌↔◌, IfOk, IsTrue, bytes_eq, map};
 ghost use Rattle.std.specs.List.{IsDistinct};
 ghost use Rattle.bfs_model.specs.Server.Tree.{first_ordinal, root_id};
-ghost use Rattle.bfs_inode.specs.Records.{body_from, entries_from, listing_from, record_from};
+ghost use Rattle.bfs_digest.specs.Inside.RecordReading.{body_from, entries_from, listing_from, record_from};
 ghost use Rattle.bfs_digest.specs.Inside.Formation.{AreNames, BodyIsPlaced, IsPlaced, ListingIsPlaced, Takes, TakesEntries, TakesRecords, TellsNames, may_stand, names_in, names_in_body, names_in_listing};
 ghost use Rattle.bfs_digest.specs.Inside.Names.{AreWithin};
 ghost use Rattle.bfs_digest.specs.Inside.Outlines.{NotesRise, outline};
 ghost use Rattle.bfs_digest.specs.Inside.Taking.{entry_seen};
 ghost use Rattle.bfs_digest.specs.Inside.TextReading.{records_from};
+ghost use Rattle.bfs_digest.specs.Text.{latest_version};
 
 use crate::names::Names;
 use crate::outlines::{InodeNote, is_child, is_directory};
 use crate::readers::{EntryText, HeadText, TextReader};
 use crate::spelling::skip_body;
+use crate::versions::LATEST_VERSION;
 use bfs_inode::is_bad_name;
 use bfs_types::{FileId, MOST_LINKS, Memory};
 use std::alloc::Global;
@@ -28,7 +30,7 @@ pub(crate) fn take_records(
     ordinal: u64,
 ) -> Result<Option<Names>, Memory>
     requires { NotesRise 0 notes.now }
-    ensures { IfOk result (λ names. TakesRecords names (outline notes.now) ordinal (records_from count root_id records.now)) }
+    ensures { IfOk result (λ names. TakesRecords names (outline notes.now) ordinal (records_from latest_version count root_id records.now)) }
 {
     let mut reader = TextReader::new(records);
     let mut names = Names::new(alloc);
@@ -40,7 +42,7 @@ pub(crate) fn take_records(
     Ok(Some(names))
 }
 
-#[tactic(auto, unfolding(bfs_inode::specs::Records::record_from))]
+#[tactic(auto, unfolding(crate::specs::Inside::RecordReading::record_from))]
 fn take_record(
     alloc: Global,
     notes: &[InodeNote],
@@ -50,7 +52,7 @@ fn take_record(
 ) -> Result<bool, Memory>
     requires rising { NotesRise 0 notes.now }
     requires within { AreWithin names.old }
-    ensures takes { IfOk result (λ placed. Takes (IsPlaced (outline notes.now) ordinal) names_in placed names.old names.new (record_from reader.old) reader.new) }
+    ensures takes { IfOk result (λ placed. Takes (IsPlaced (outline notes.now) ordinal) names_in placed names.old names.new (record_from latest_version reader.old) reader.new) }
     ensures within { IfOk result (λ taken. AreWithin names.new) }
 {
     let Ok(head) = reader.head() else {
@@ -72,7 +74,7 @@ fn take_body(
 ) -> Result<bool, Memory>
     requires rising { NotesRise 0 notes.now }
     requires within { AreWithin names.old }
-    ensures takes { IfOk result (λ placed. Takes (BodyIsPlaced (outline notes.now) ordinal head.fileid head.metadata.links) names_in_body placed names.old names.new (body_from head.kind reader.old) reader.new) }
+    ensures takes { IfOk result (λ placed. Takes (BodyIsPlaced (outline notes.now) ordinal head.fileid head.metadata.links) names_in_body placed names.old names.new (body_from latest_version head.kind reader.old) reader.new) }
     ensures within { IfOk result (λ taken. AreWithin names.new) }
 {
     if head.kind == 2 {
@@ -86,7 +88,7 @@ fn take_body(
             ordinal,
         );
     }
-    let Ok(_) = skip_body(reader, head.kind) else {
+    let Ok(_) = skip_body(reader, LATEST_VERSION, head.kind) else {
         return Ok(false);
     };
     Ok(may_be_plain(head.fileid, head.metadata.links))
@@ -99,7 +101,7 @@ fn may_be_plain(id: FileId, links: u32) -> bool
     links >= 1 && id != FileId::root()
 }
 
-#[tactic(auto, unfolding(bfs_inode::specs::Records::listing_from))]
+#[tactic(auto, unfolding(crate::specs::Inside::RecordReading::listing_from))]
 fn take_listing(
     alloc: Global,
     notes: &[InodeNote],

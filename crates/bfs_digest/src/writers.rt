@@ -3,12 +3,14 @@ ghost use Rattle.std.specs.Prelude.{◌≡◌, ◌++◌, length, OnOk, OnErr};
 ghost use Rattle.std.specs.FinMap.{entries};
 ghost use Rattle.bfs_model.specs.Bytes.Items.{word};
 ghost use Rattle.bfs_inode.specs.Inodes.{body_seen};
-ghost use Rattle.bfs_inode.specs.Records.{body_text, entries_text, entry_text, record_text};
+ghost use Rattle.bfs_inode.specs.Records.{entries_text, entry_text, listing_text};
+ghost use Rattle.bfs_digest.specs.Records.{body_text, record_text};
 ghost use Rattle.bfs_tree.specs.Tree.{at_home};
-ghost use Rattle.bfs_digest.specs.Text.{header_text, records_text};
+ghost use Rattle.bfs_digest.specs.Text.{header_text, latest_version, records_text};
 ghost use Rattle.bfs_digest.specs.Inside.Putting.{BeginsWith};
 
-use crate::headers::{Header, MAGIC, VERSION};
+use crate::headers::{Header, MAGIC};
+use crate::versions::LATEST_VERSION;
 use crate::words::head_words;
 use bfs_inode::{Body, Directory, Entry, FileId, Inode};
 use bfs_tree::Tree;
@@ -17,11 +19,11 @@ use bfs_xdr::{put_opaque, put_u32, put_u64, put_words};
 
 #[tactic(auto, using(std::proofs::lemmas::List::append_assoc))]
 pub(crate) fn put_header(out: &mut Vec<u8>, header: &Header) -> Result<(), Memory>
-    ensures ok { OnOk result (out.new.items ≡ out.old.items ++ header_text header.now) }
+    ensures ok { OnOk result (out.new.items ≡ out.old.items ++ header_text latest_version header.now) }
     ensures err { OnErr result (BeginsWith out.old.items out.new.items) }
 {
     put_u32(out, MAGIC)?;
-    put_u32(out, VERSION)?;
+    put_u32(out, LATEST_VERSION)?;
     put_u64(out, header.next_ordinal)?;
     put_u32(out, header.last_time.seconds())?;
     put_u32(out, header.last_time.useconds())?;
@@ -39,7 +41,7 @@ pub(crate) fn put_records(out: &mut Vec<u8>, tree: &Tree) -> Result<(), Memory>
     Ok(())
 }
 
-#[tactic(auto, using(std::proofs::lemmas::List::append_assoc), unfolding(bfs_inode::specs::Records::record_text))]
+#[tactic(auto, using(std::proofs::lemmas::List::append_assoc), unfolding(crate::specs::Records::record_text))]
 fn put_record(out: &mut Vec<u8>, id: FileId, inode: &Inode) -> Result<(), Memory>
     ensures ok { OnOk result (out.new.items ≡ out.old.items ++ record_text id inode.now) }
     ensures err { OnErr result (BeginsWith out.old.items out.new.items) }
@@ -61,7 +63,7 @@ fn put_body(out: &mut Vec<u8>, body: &Body) -> Result<(), Memory>
 
 #[tactic(auto, using(std::proofs::lemmas::List::append_assoc))]
 fn put_directory(out: &mut Vec<u8>, directory: &Directory) -> Result<(), Memory>
-    ensures ok { OnOk result (out.new.items ≡ out.old.items ++ (word directory.now.parent ++ word (length directory.now.entries) ++ entries_text directory.now.entries)) }
+    ensures ok { OnOk result (out.new.items ≡ out.old.items ++ listing_text directory.now) }
     ensures err { OnErr result (BeginsWith out.old.items out.new.items) }
 {
     put_u32(out, directory.parent().number())?;

@@ -1,7 +1,7 @@
-ghost use Rattle.std.specs.Prelude.{◌≡◌, ◌++◌, IsTrue};
+ghost use Rattle.std.specs.Prelude.{◌≡◌, ◌++◌, Some, IsTrue};
 ghost use Rattle.std.specs.Option.{option_copied};
 ghost use Rattle.std.specs.FinMap.{get};
-ghost use Rattle.bfs_model.specs.Bytes.Arguments.{rename};
+ghost use Rattle.bfs_model.specs.Bytes.Arguments.{look_up, rename};
 ghost use Rattle.bfs_model.specs.Server.Footprints as model;
 ghost use Rattle.bfs_model.specs.Server.Footprints.{ids_in};
 ghost use Rattle.bfs_model.specs.Server.Tree.{listing_at};
@@ -9,6 +9,7 @@ ghost use Rattle.bfs_wire.specs.Calls.{call_seen};
 ghost use Rattle.bfs_tree.specs.Tree.{at_home, reach_of};
 ghost use Rattle.bfs_footprint.specs.Seen.{footprint_seen};
 
+use crate::access::{kept_out, lets_change, lets_search};
 use crate::file_ids::FileIds;
 use crate::footprints::Footprint;
 use bfs_inode::Directory;
@@ -29,18 +30,14 @@ pub fn footprint(tree: &Tree, context: &Context, call: &NfsCall) -> Footprint
         NfsCall::SetAttr { file, .. } | NfsCall::Write { file, .. } => {
             Footprint::of_writes(FileIds::of(file, None))
         }
-        NfsCall::LookUp { dir, name } => {
-            let directory = dir;
-            Footprint::of_reads(FileIds::of(directory, id_found(tree, dir, name)))
-        }
+        NfsCall::LookUp { dir, name } => of_look_up(tree, context, dir, name),
         NfsCall::Create { dir, .. }
         | NfsCall::SymbolicLink { dir, .. }
         | NfsCall::MakeDirectory { dir, .. } => {
             Footprint::of_writes(FileIds::of(dir, context.ordinal.file_id()))
         }
         NfsCall::Remove { dir, name } | NfsCall::RemoveDirectory { dir, name } => {
-            let directory = dir;
-            Footprint::of_writes(FileIds::of(directory, child_at(tree, dir, name)))
+            of_removing(tree, context, dir, name)
         }
         NfsCall::Rename {
             from,
@@ -54,6 +51,34 @@ pub fn footprint(tree: &Tree, context: &Context, call: &NfsCall) -> Footprint
     }
 }
 
+fn of_look_up(tree: &Tree, context: &Context, dir: Option<FileId>, name: &[u8]) -> Footprint
+    requires whole { IsTrue ((reach_of tree.now).whole) }
+    ensures { footprint_seen result ≡ model.footprint (at_home tree.now) context.now (look_up dir name.now) }
+{
+    let Some(dir) = dir else {
+        return Footprint::none();
+    };
+    let directory = FileIds::none().and(dir);
+    if !lets_search(tree, &context.caller, dir) {
+        return Footprint::of_reads(directory);
+    }
+    Footprint::of_reads(directory.with(id_found(tree, dir, name)))
+}
+
+fn of_removing(tree: &Tree, context: &Context, dir: Option<FileId>, name: &[u8]) -> Footprint
+    requires whole { IsTrue ((reach_of tree.now).whole) }
+    ensures { footprint_seen result ≡ model.footprint_of_removing (at_home tree.now) context.now dir name.now }
+{
+    let Some(dir) = dir else {
+        return Footprint::none();
+    };
+    let directory = FileIds::none().and(dir);
+    if !lets_change(tree, &context.caller, dir) {
+        return Footprint::of_reads(directory);
+    }
+    Footprint::of_writes(directory.with(child_at(tree, Some(dir), name)))
+}
+
 fn of_rename(
     tree: &Tree,
     context: &Context,
@@ -65,6 +90,10 @@ fn of_rename(
     requires whole { IsTrue ((reach_of tree.now).whole) }
     ensures { footprint_seen result ≡ model.footprint (at_home tree.now) context.now (rename from from_name.now to to_name.now) }
 {
+    let (first, second) = (from, to);
+    if let Some(directories) = kept_out(tree, &context.caller, first, second) {
+        return Footprint::of_reads(directories);
+    }
     let (source, target) = (from, to);
     if moves_a_directory(tree, source, from_name, target) {
         return Footprint::Whole;
@@ -107,11 +136,10 @@ fn child_at(tree: &Tree, dir: Option<FileId>, name: &[u8]) -> Option<FileId>
 }
 
 // what LOOKUP finds
-fn id_found(tree: &Tree, dir: Option<FileId>, name: &[u8]) -> Option<FileId>
+fn id_found(tree: &Tree, dir: FileId, name: &[u8]) -> Option<FileId>
     requires whole { IsTrue ((reach_of tree.now).whole) }
-    ensures { result ≡ model.id_found (at_home tree.now) dir name.now }
+    ensures { result ≡ model.id_found (at_home tree.now) (Some dir) name.now }
 {
-    let dir = dir?;
     directory_at(tree, dir)?.child_named(dir, name)
 }
 

@@ -1,6 +1,7 @@
 //! The fileids that a call reads and writes, found on the inodes before it, and whether two calls conflict.
 #![tactic(auto)]
 
+mod access;
 mod calls;
 mod file_ids;
 mod footprints;

@@ -4,3 +4,4 @@ pub mod Directories
 pub mod Pages
 pub mod Records
 pub mod Rest
+pub mod Access

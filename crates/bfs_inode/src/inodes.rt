@@ -8,6 +8,7 @@ ghost use Rattle.bfs_model.specs.Server.Procedures.Making.{new_file, new_directo
 ghost use Rattle.bfs_model.specs.Server.WellFormed.{IsRising, NamesDiffer};
 ghost use Rattle.bfs_inode.specs.Inodes.{body_seen, file_in, path_in, most_blocks};
 
+mod access;
 mod changes;
 mod kept;
 
@@ -90,12 +91,12 @@ impl Inode {
         }
     }
 
-    /// The root of a new file system: mode 040755, owner 0:0, its own parent, no entries, and all times 0.
+    /// The root of a new file system: mode 040777, owner 0:0, its own parent, no entries, and all times 0.
     pub fn root(alloc: Global) -> Inode
         ensures { result ≡ new_root }
     {
         Inode {
-            permissions: 0o755,
+            permissions: 0o777,
             links: 2,
             uid: 0,
             gid: 0,
@@ -192,6 +193,20 @@ impl Inode {
         ensures within { result ≤ most_links }
     {
         self.links
+    }
+
+    /// The number of the user who owns it.
+    pub fn uid(&self) -> u32
+        ensures { result ≡ self.now.uid }
+    {
+        self.uid
+    }
+
+    /// The number of the group that owns it.
+    pub fn gid(&self) -> u32
+        ensures { result ≡ self.now.gid }
+    {
+        self.gid
     }
 
     /// How many blocks it takes, of `BLOCK_SIZE` bytes each.

@@ -4,6 +4,7 @@ use Rattle.std.specs.FinMap.{get, insert}
 use Rattle.bfs_model.specs.Server.Limits.{most_file_bytes}
 use Rattle.bfs_model.specs.Server.Tree.{Inode, Inodes}
 use Rattle.bfs_model.specs.Server.Context.{Context}
+use Rattle.bfs_model.specs.Server.Access.{owner_refusals}
 use Rattle.bfs_model.specs.Bytes.Attributes.{type_of}
 use Rattle.bfs_model.specs.Bytes.Arguments.{Call, set_attributes, write, create, remove, rename, make_link, make_symbolic_link, make_directory, remove_directory}
 use Rattle.bfs_model.specs.Bytes.Replies.{fbig, nospc}
@@ -67,16 +68,16 @@ module _ (m : Inodes) (c : Context) where
   call_adds (set_attributes handle settings) = λ x allowed found passed. adds_none _ _ (insert_follows m x.id x.inode _ (inode_at m handle x found).there (type_with_settings c.time settings x.inode))
   call_adds (write handle offset written) = λ x small found passed. adds_none _ _ (insert_follows m x.id x.inode _ (file_at m handle x found).there (type_with_bytes c.time offset written x.inode))
   call_adds (create handle name settings) = λ dir allowed found passed.
-      makes _ handle dir _ _ found (type_with_entry c.time (entry_made c name c.ordinal) dir.inode) (λ fresh. made_is_none m c handle dir.listing name ((nat_lt most_file_bytes (unwrap_or settings.size 0), fbig) ∷ []) allowed fresh passed)
+      makes _ handle dir _ _ found (type_with_entry c.time (entry_made c name c.ordinal) dir.inode) (λ fresh. made_is_none m c handle dir name (owner_refusals c.caller settings) ((nat_lt most_file_bytes (unwrap_or settings.size 0), fbig) ∷ []) allowed fresh passed)
   call_adds (remove handle name) = λ dir entry child plain at passed.
       adds_none _ _ (follows_then m _ _ (insert_follows m dir.id dir.inode _ at.in_it.there (type_without_entry c.time name dir.inode)) (link_lost_follows _ c.time child.id))
   call_adds (rename from from_name to to_name) = λ a b entry moved at replaced allowed onto passed. adds_none _ _ (renamed_follows m c from_name to_name (renaming_of a b moved replaced))
   call_adds (make_link handle in_directory name) = λ x plain dir allowed found no_directory dir_is passed.
       adds_none _ _ (follows_then m _ _ (insert_follows m dir.id dir.inode _ (directory_at m in_directory dir dir_is).there (type_with_entry c.time (entry_made c name x.id) dir.inode)) (changed_follows _ x.id (with_link c.time) (λ inode. refl)))
   call_adds (make_symbolic_link handle name target settings) = λ dir allowed found passed.
-      makes _ handle dir _ _ found (type_with_entry c.time (entry_made c name c.ordinal) dir.inode) (λ fresh. made_is_none m c handle dir.listing name [] allowed fresh passed)
+      makes _ handle dir _ _ found (type_with_entry c.time (entry_made c name c.ordinal) dir.inode) (λ fresh. made_is_none m c handle dir name (owner_refusals c.caller settings) [] allowed fresh passed)
   call_adds (make_directory handle name settings) = λ dir allowed found passed.
-      makes _ handle dir _ _ found (type_with_entry c.time (entry_made c name c.ordinal) dir.inode) (λ fresh. made_is_none m c handle dir.listing name ((has_most_links dir.inode.links, nospc) ∷ []) allowed fresh passed)
+      makes _ handle dir _ _ found (type_with_entry c.time (entry_made c name c.ordinal) dir.inode) (λ fresh. made_is_none m c handle dir name (owner_refusals c.caller settings) ((has_most_links dir.inode.links, nospc) ∷ []) allowed fresh passed)
   call_adds (remove_directory handle name) = λ dir entry child empty at passed.
       adds_none _ _ (follows_then m _ _ (insert_follows m dir.id dir.inode _ at.in_it.there (type_without_entry c.time name dir.inode))
       (follows_then _ _ _ (remove_follows _ child.id) (changed_follows _ dir.id (with_link_less c.time) (λ inode. refl))))

@@ -1,16 +1,18 @@
 -- What it says that tests are passed, and that an inode, a directory or a file was found.
-use Rattle.std.proofs.Common.{◌≡◌, ℕ, Bool, true, false, List, [], ◌∷◌, Option, Some, None, Result, Ok, Err, ◌⊎◌, inl, inr, ◌==◌, eq-eqb, if◌then◌else◌, refl, sym, ap, subst, ◌∙◌}
+use Rattle.std.proofs.Common.{◌≡◌, ℕ, Bool, true, false, not, List, [], ◌∷◌, Option, Some, None, Result, Ok, Err, ◌⊎◌, inl, inr, ◌==◌, eq-eqb, if◌then◌else◌, refl, sym, ap, subst, ◌∙◌}
 use Rattle.std.specs.Bool.{⊤}
 use Rattle.std.proofs.lemmas.Option.{same_Some}
+use Rattle.std.proofs.lemmas.Bool.{not-false}
 use Rattle.std.specs.Option.{ok_or, option_map_or}
 use Rattle.std.specs.FinMap.{get}
 use Rattle.bfs_model.specs.Bytes.Items.{◌>>=◌}
 use Rattle.bfs_model.specs.Server.Context.{Context}
+use Rattle.bfs_model.specs.Server.Access.{may_change_entries}
 use Rattle.bfs_model.specs.Server.Tree.{Entry, Listing, Body, file, directory, link, Inode, Inodes, listing_in, is_directory_body}
-use Rattle.bfs_model.specs.Bytes.Replies.{Status, perm, noent, notdir, stale}
+use Rattle.bfs_model.specs.Bytes.Replies.{Status, perm, noent, acces, notdir, stale}
 use Rattle.bfs_model.specs.Server.Directories.{is_bad_name, entry_named}
 use Rattle.bfs_model.specs.Server.Procedures.Removing.{child_found, has_entries}
-use Rattle.bfs_model.specs.Server.Procedures.Renaming.{Renaming, Replaced, renaming_refusals, replaced_by, renaming_of, renaming_found, if_allowed, renaming_planned}
+use Rattle.bfs_model.specs.Server.Procedures.Renaming.{Renaming, Replaced, name_refusals, renaming_refusals, replaced_by, renaming_of, renaming_found, if_allowed, renaming_planned}
 use Rattle.bfs_model.specs.Server.Refusals.{FoundInode, FoundDirectory, FoundFile, checked, inode_found, directory_found, bytes_in, file_found}
 
 -- Tests by their name ------------------------------------------------------------------------------------------------
@@ -65,7 +67,7 @@ inode_at m handle x is =
     let inode = then_was (ok_or (get m id.0) stale) _ x id.2 in
     subst (IsInodeAt m handle) (the_same _ x inode.2) (record { led = was_there handle stale id.0 id.1; there = was_there (get m id.0) stale inode.0 inode.1 })
 
-listing_is : (body : Body) (listing : Listing) → listing_in body ≡ Some listing → body ≡ directory listing
+pub listing_is : (body : Body) (listing : Listing) → listing_in body ≡ Some listing → body ≡ directory listing
 listing_is (file bytes) listing is = absurd cc
 listing_is (directory held) listing is = let same : held ≡ listing = cc in ap directory same
 listing_is (link target) listing is = absurd cc
@@ -92,36 +94,41 @@ file_at m handle x is =
 
 -- Names ----------------------------------------------------------------------------------------------------------------
 
--- a good name, what it leads to, and the directory that has it
-pub record IsChildAt (m : Inodes) (handle : Option ℕ) (name : List ℕ) (dir : FoundDirectory) (entry : Entry) (child : FoundInode) : Type 0 where
+-- a good name, what it leads to, and the directory that has it, which the caller may change
+pub record IsChildAt (m : Inodes) (c : Context) (handle : Option ℕ) (name : List ℕ) (dir : FoundDirectory) (entry : Entry) (child : FoundInode) : Type 0 where
   pub in_it : IsDirectoryAt m handle dir
+  pub changes : may_change_entries c.caller dir.inode ≡ true
   pub good : is_bad_name name ≡ false
   pub named : entry_named name dir.listing.entries ≡ Some entry
   pub is : child.id ≡ entry.child
   pub there : get m child.id ≡ Some child.inode
 
-pub child_at : (m : Inodes) (handle : Option ℕ) (name : List ℕ) (dir : FoundDirectory) (child : FoundInode) → child_found m handle name ≡ Ok (dir, child) → (entry : Entry) × IsChildAt m handle name dir entry child
-child_at m handle name dir child is =
+pub child_at : (m : Inodes) (c : Context) (handle : Option ℕ) (name : List ℕ) (dir : FoundDirectory) (child : FoundInode) → child_found m c handle name ≡ Ok (dir, child) → (entry : Entry) × IsChildAt m c handle name dir entry child
+child_at m c handle name dir child is =
+    let rows : FoundDirectory → List (Bool × Status) = λ found. (not (may_change_entries c.caller found.inode), acces) ∷ (is_bad_name name, perm) ∷ [] in
     let at = then_was (directory_found m handle) _ (dir, child) is in
-    let good = then_was (checked ((is_bad_name name, perm) ∷ [])) _ (dir, child) at.2 in
+    let good = then_was (checked (rows at.0)) _ (dir, child) at.2 in
     let named = then_was (ok_or (entry_named name at.0.listing.entries) noent) _ (dir, child) good.2 in
     let held = then_was (inode_found m (Some named.0.child)) _ (dir, child) named.2 in
     let there = inode_at m (Some named.0.child) held.0 held.1 in
     let both = the_same (at.0, held.0) (dir, child) held.2 in (
       named.0,
-      subst (λ (found : FoundDirectory × FoundInode). IsChildAt m handle name found.0 named.0 found.1) both (record {
+      subst (λ (found : FoundDirectory × FoundInode). IsChildAt m c handle name found.0 named.0 found.1) both (record {
         in_it = directory_at m handle at.0 at.1;
-        good = fails (is_bad_name name) ((is_bad_name name, perm) ∷ []) good.0 good.1 (search (inl, inr) depth 9);
+        changes = not-false (may_change_entries c.caller at.0.inode) (fails (not (may_change_entries c.caller at.0.inode)) (rows at.0) good.0 good.1 (inl refl));
+        good = fails (is_bad_name name) (rows at.0) good.0 good.1 (inr (inl refl));
         named = was_there (entry_named name at.0.listing.entries) noent named.0 named.1;
         is = sym (same_Some named.0.child held.0.id there.led);
         there = there.there;
       }),
     )
 
--- what RENAME moves, and the directories from which and to which
-pub record IsRenamed (m : Inodes) (from : Option ℕ) (from_name : List ℕ) (to : Option ℕ) (to_name : List ℕ) (a b : FoundDirectory) (entry : Entry) (moved : FoundInode) : Type 0 where
+-- what RENAME moves, and the directories from which and to which, both of which the caller may change
+pub record IsRenamed (m : Inodes) (c : Context) (from : Option ℕ) (from_name : List ℕ) (to : Option ℕ) (to_name : List ℕ) (a b : FoundDirectory) (entry : Entry) (moved : FoundInode) : Type 0 where
   pub from_at : IsDirectoryAt m from a
   pub to_at : IsDirectoryAt m to b
+  pub from_changes : may_change_entries c.caller a.inode ≡ true
+  pub to_changes : may_change_entries c.caller b.inode ≡ true
   pub from_good : is_bad_name from_name ≡ false
   pub to_good : is_bad_name to_name ≡ false
   pub named : entry_named from_name a.listing.entries ≡ Some entry
@@ -201,29 +208,29 @@ module _ (m : Inodes) (a b : FoundDirectory) (moved : FoundInode) (to_name : Lis
   onto_was (Some old) held existing is = onto_entry_was old (old.child == moved.id) held refl existing is
 
 -- what RENAME found: the directories, what is moved, and that which is known of them
-pub record IsFoundBy (m : Inodes) (from : Option ℕ) (from_name : List ℕ) (to : Option ℕ) (to_name : List ℕ) (IsKnown : FoundDirectory → FoundDirectory → FoundInode → Type 0) : Type 0 where
+pub record IsFoundBy (m : Inodes) (c : Context) (from : Option ℕ) (from_name : List ℕ) (to : Option ℕ) (to_name : List ℕ) (IsKnown : FoundDirectory → FoundDirectory → FoundInode → Type 0) : Type 0 where
   pub a : FoundDirectory
   pub b : FoundDirectory
   pub entry : Entry
   pub moved : FoundInode
   pub to_is : directory_found m to ≡ Ok b
-  pub renamed_it : IsRenamed m from from_name to to_name a b entry moved
+  pub renamed_it : IsRenamed m c from from_name to to_name a b entry moved
   pub planned : IsKnown a b moved
 
 -- .. before its refusals
-abbrev pub IsHeld : Inodes → Option ℕ → List ℕ → Option ℕ → List ℕ → Option Renaming → Type 0
-IsHeld m from from_name to to_name held = IsFoundBy m from from_name to to_name (λ a b moved. IsFound m to_name a b moved held)
+abbrev pub IsHeld : Inodes → Context → Option ℕ → List ℕ → Option ℕ → List ℕ → Option Renaming → Type 0
+IsHeld m c from from_name to to_name held = IsFoundBy m c from from_name to to_name (λ a b moved. IsFound m to_name a b moved held)
 
 -- .. and once they are passed
 abbrev pub IsPlanned : Inodes → Context → Option ℕ → List ℕ → Option ℕ → List ℕ → Option Renaming → Type 0
-IsPlanned m c from from_name to to_name plan = IsFoundBy m from from_name to to_name (λ a b moved. IsPlan m c to_name a b moved plan)
+IsPlanned m c from from_name to to_name plan = IsFoundBy m c from from_name to to_name (λ a b moved. IsPlan m c to_name a b moved plan)
 
-pub found_was : (m : Inodes) (from : Option ℕ) (from_name : List ℕ) (to : Option ℕ) (to_name : List ℕ) (held : Option Renaming)
-    → renaming_found m from from_name to to_name ≡ Ok held → IsHeld m from from_name to to_name held
-found_was m from from_name to to_name held is =
-    let rows : List (Bool × Status) = (is_bad_name from_name, perm) ∷ (is_bad_name to_name, perm) ∷ [] in
+pub found_was : (m : Inodes) (c : Context) (from : Option ℕ) (from_name : List ℕ) (to : Option ℕ) (to_name : List ℕ) (held : Option Renaming)
+    → renaming_found m c from from_name to to_name ≡ Ok held → IsHeld m c from from_name to to_name held
+found_was m c from from_name to to_name held is =
     let a = then_was (directory_found m from) _ held is in
     let b = then_was (directory_found m to) _ held a.2 in
+    let rows = name_refusals c a.0 b.0 from_name to_name in
     let good = then_was (checked rows) _ held b.2 in
     let entry = then_was (ok_or (entry_named from_name a.0.listing.entries) noent) _ held good.2 in
     let moved = then_was (inode_found m (Some entry.0.child)) _ held entry.2 in
@@ -237,8 +244,10 @@ found_was m from from_name to to_name held is =
       renamed_it = record {
         from_at = directory_at m from a.0 a.1;
         to_at = directory_at m to b.0 b.1;
-        from_good = fails (is_bad_name from_name) rows good.0 good.1 (search (inl, inr) depth 9);
-        to_good = fails (is_bad_name to_name) rows good.0 good.1 (search (inl, inr) depth 9);
+        from_changes = not-false (may_change_entries c.caller a.0.inode) (fails (not (may_change_entries c.caller a.0.inode)) rows good.0 good.1 (inl refl));
+        to_changes = not-false (may_change_entries c.caller b.0.inode) (fails (not (may_change_entries c.caller b.0.inode)) rows good.0 good.1 (inr (inl refl)));
+        from_good = fails (is_bad_name from_name) rows good.0 good.1 (inr (inr (inl refl)));
+        to_good = fails (is_bad_name to_name) rows good.0 good.1 (inr (inr (inr (inl refl))));
         named = was_there (entry_named from_name a.0.listing.entries) noent entry.0 entry.1;
         is = sym (same_Some entry.0.child moved.0.id there.led);
         there = there.there;
@@ -249,6 +258,6 @@ found_was m from from_name to to_name held is =
 pub planned_was : (m : Inodes) (c : Context) (from : Option ℕ) (from_name : List ℕ) (to : Option ℕ) (to_name : List ℕ) (plan : Option Renaming)
     → renaming_planned m c from from_name to to_name ≡ Ok plan → IsPlanned m c from from_name to to_name plan
 planned_was m c from from_name to to_name plan is =
-    let held = then_was (renaming_found m from from_name to to_name) _ plan is in
-    let at = found_was m from from_name to to_name held.0 held.1 in
+    let held = then_was (renaming_found m c from from_name to to_name) _ plan is in
+    let at = found_was m c from from_name to to_name held.0 held.1 in
     record { a = at.a; b = at.b; entry = at.entry; moved = at.moved; to_is = at.to_is; renamed_it = at.renamed_it; planned = allowed_was m c to_name at.a at.b at.moved held.0 plan at.planned held.2 }

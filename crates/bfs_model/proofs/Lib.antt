@@ -12,9 +12,11 @@ pub mod ServerListings
 pub mod ServerLimits
 pub mod ServerMoves
 pub mod ServerSettings
+pub mod ServerAccess
 pub mod ServerRefusals
 pub mod ServerPlaces
 pub mod Found
+pub mod Granted
 pub mod Attempts
 pub mod Fresh
 pub mod Unchanged

@@ -1,5 +1,5 @@
 -- READDIR's pages follow each other.
-use Rattle.std.proofs.Common.{◌≡◌, ◌↔◌, ℕ, suc, ◌+◌, ◌-◌, ◌<◌, ◌≤◌, Bool, true, false, cond, ltb, leb, eqb, min, List, [], ◌∷◌, ◌++◌, length, drop, All, Option, Some, None, refl, sym, ap, subst, ◌∙◌, append_assoc, append-nil, arith}
+use Rattle.std.proofs.Common.{◌≡◌, ◌↔◌, ℕ, suc, ◌+◌, ◌-◌, ◌<◌, ◌≤◌, Bool, true, false, cond, ltb, leb, eqb, min, List, [], ◌∷◌, ◌++◌, length, drop, All, Option, Some, None, refl, sym, ap, subst, ◌∙◌, append_assoc, append-nil, arith, IsTrue}
 use Rattle.std.proofs.lemmas.Bool.{ltb-true, ltb-false, lt-ltb, le-ltb, le-leb, eqb-true, eq-eqb}
 use Rattle.std.proofs.lemmas.List.{length-append, nil_from_length}
 use Rattle.std.proofs.lemmas.List.Elements.{All-filter, All-head, All-tail}
@@ -10,6 +10,9 @@ use Rattle.bfs_model.specs.Server.Directories.{all_listed, listed_behind, listed
 use Rattle.bfs_model.specs.Server.Limits.{most_data_bytes}
 use Rattle.bfs_model.specs.Bytes.Replies.{Reply, listed}
 use Rattle.bfs_model.specs.Server.Refusals.{Outcome}
+use Rattle.bfs_model.specs.Server.Access.{may_read}
+use Rattle.bfs_model.specs.Server.Footprints.{lets}
+use Rattle.bfs_model.proofs.Found.{listing_is}
 use Rattle.bfs_model.specs.Server.Context.{Context}
 use Rattle.bfs_model.specs.Bytes.Arguments.{read_directory}
 use Rattle.bfs_model.specs.Server.Procedures.{procedure}
@@ -102,16 +105,18 @@ page_then whole least ordinal cookie count rising =
 
 -- The reply ------------------------------------------------------------------------------------------------------------
 
-outcome_told : (inodes : Inodes) (context : Context) (dir : ℕ) (listing : Listing) (cookie count : ℕ) → IsListed inodes dir listing
+outcome_told : (inodes : Inodes) (context : Context) (dir : ℕ) (listing : Listing) (cookie count : ℕ) → IsListed inodes context dir listing
     → procedure inodes context (read_directory (Some dir) cookie count) ≡ (inodes, page_listed count (listed_behind cookie (all_listed dir listing)))
-outcome_told inodes context dir listing cookie count h = there_told (get inodes dir) refl h.there
+outcome_told inodes context dir listing cookie count h = there_told (get inodes dir) refl h.there h.granted
   where
-    there_told : (there : Option Inode) → get inodes dir ≡ there → listing_at there ≡ Some listing
+    there_told : (there : Option Inode) → get inodes dir ≡ there → listing_at there ≡ Some listing → IsTrue (lets may_read context.caller there)
         → procedure inodes context (read_directory (Some dir) cookie count) ≡ (inodes, page_listed count (listed_behind cookie (all_listed dir listing)))
-    there_told None at is = absurd cc
-    there_told (Some inode) at is = rw (at, is) refl
+    there_told None at is granted = absurd cc
+    there_told (Some inode) at is granted =
+        let may : may_read context.caller inode ≡ true = rw (listing_is inode.body listing is) at granted in
+        rw (at, is, may) refl
 
-page_told : (inodes : Inodes) (context : Context) (dir : ℕ) (listing : Listing) (cookie count : ℕ) → IsListed inodes dir listing → page_read inodes context dir cookie count ≡ page_listed count (listed_behind cookie (all_listed dir listing))
+page_told : (inodes : Inodes) (context : Context) (dir : ℕ) (listing : Listing) (cookie count : ℕ) → IsListed inodes context dir listing → page_read inodes context dir cookie count ≡ page_listed count (listed_behind cookie (all_listed dir listing))
 page_told inodes context dir listing cookie count h = ap (λ (outcome : Outcome). outcome.1) (outcome_told inodes context dir listing cookie count h)
 
 pub page_is_told : PageIsTold
@@ -119,7 +124,7 @@ page_is_told inodes context dir listing cookie count h =
     outcome_told inodes context dir listing cookie count h
     ∙ ap (λ (reply : Reply). (inodes, listed (entries_told reply) (end_told reply))) (sym (page_told inodes context dir listing cookie count h))
 
-all_rises : (inodes : Inodes) (context : Context) (dir : ℕ) (listing : Listing) (h : IsListed inodes dir listing) → IsRising 1 (all_listed dir listing) (h.ordinal + 3)
+all_rises : (inodes : Inodes) (context : Context) (dir : ℕ) (listing : Listing) (h : IsListed inodes context dir listing) → IsRising 1 (all_listed dir listing) (h.ordinal + 3)
 all_rises inodes context dir listing h = (omega arith, omega arith, (omega arith, omega arith, rising_too 3 3 listing.entries h.ordinal (h.ordinal + 3) (omega arith) (omega arith) h.rising))
 
 -- cookies that rise, and are ordinals from the first on, below the next
@@ -142,7 +147,7 @@ rising_at files dir None listing h is there = absurd cc
 rising_at files dir (Some inode) listing h is there = rising_in files.next_ordinal inode.links inode.body listing there (h.tree.limited dir inode is).body (h.numbered dir inode is).cookies
 
 pub directories_are_listed : DirectoriesAreListed
-directories_are_listed files dir listing h there = record { there = there; ordinal = files.next_ordinal; rising = rising_at files dir (get files.tree dir) listing h refl there }
+directories_are_listed files context dir listing h there granted = record { there = there; granted = granted; ordinal = files.next_ordinal; rising = rising_at files dir (get files.tree dir) listing h refl there }
 
 -- Pages one after another ----------------------------------------------------------------------------------------------
 
@@ -151,7 +156,7 @@ cookie_after_both cookie [] pages = refl
 cookie_after_both cookie (entry ∷ page) pages = cookie_after_both entry.cookie page pages
 
 -- from any cookie on, a page and what is left
-one_then : (inodes : Inodes) (context : Context) (dir : ℕ) (listing : Listing) (cookie count : ℕ) → IsListed inodes dir listing
+one_then : (inodes : Inodes) (context : Context) (dir : ℕ) (listing : Listing) (cookie count : ℕ) → IsListed inodes context dir listing
     → entries_told (page_read inodes context dir cookie count) ++ listed_behind (cookie_after cookie (entries_told (page_read inodes context dir cookie count))) (all_listed dir listing)
     ≡ listed_behind cookie (all_listed dir listing)
 one_then inodes context dir listing cookie count h =
@@ -160,7 +165,7 @@ one_then inodes context dir listing cookie count h =
     (page_then (all_listed dir listing) 1 (h.ordinal + 3) cookie count (all_rises inodes context dir listing h))
 
 -- from any cookie on, pages and what is left
-pub pages_then : (inodes : Inodes) (context : Context) (dir : ℕ) (listing : Listing) (cookie : ℕ) (counts : List ℕ) → IsListed inodes dir listing
+pub pages_then : (inodes : Inodes) (context : Context) (dir : ℕ) (listing : Listing) (cookie : ℕ) (counts : List ℕ) → IsListed inodes context dir listing
     → pages_read inodes context dir cookie counts ++ listed_behind (cookie_after cookie (pages_read inodes context dir cookie counts)) (all_listed dir listing) ≡ listed_behind cookie (all_listed dir listing)
 pages_then inodes context dir listing cookie [] h = refl
 pages_then inodes context dir listing cookie (count ∷ counts) h =
@@ -171,7 +176,7 @@ pages_then inodes context dir listing cookie (count ∷ counts) h =
     ∙ ap (λ es. page ++ es) (pages_then inodes context dir listing (cookie_after cookie page) counts h)
     ∙ one_then inodes context dir listing cookie count h
 
-all_from_zero : (inodes : Inodes) (context : Context) (dir : ℕ) (listing : Listing) → IsListed inodes dir listing → listed_behind 0 (all_listed dir listing) ≡ all_listed dir listing
+all_from_zero : (inodes : Inodes) (context : Context) (dir : ℕ) (listing : Listing) → IsListed inodes context dir listing → listed_behind 0 (all_listed dir listing) ≡ all_listed dir listing
 all_from_zero inodes context dir listing h = all_behind 0 1 (all_listed dir listing) (h.ordinal + 3) (omega arith) (all_rises inodes context dir listing h)
 
 pub follow_each_other : PagesFollowEachOther
@@ -248,7 +253,7 @@ leaves_fewer count (next ∷ others) rest n room parts most =
     let counted = ap length (rw (begins count next others (All-head (HasRoom count) next others room)) at parts) in
     omega (arith, length-append held rest)
 
-enough : (inodes : Inodes) (context : Context) (dir : ℕ) (listing : Listing) (cookie : ℕ) (counts : List ℕ) → IsListed inodes dir listing
+enough : (inodes : Inodes) (context : Context) (dir : ℕ) (listing : Listing) (cookie : ℕ) (counts : List ℕ) → IsListed inodes context dir listing
     → length (listed_behind cookie (all_listed dir listing)) ≤ length counts → All (λ count. All (HasRoom count) (all_listed dir listing)) counts
     → pages_read inodes context dir cookie counts ≡ listed_behind cookie (all_listed dir listing)
 enough inodes context dir listing cookie [] h most room = sym (nil_from_length (listed_behind cookie (all_listed dir listing)) (omega (arith, most)))

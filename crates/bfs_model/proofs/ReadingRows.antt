@@ -50,7 +50,7 @@ message_with_verifier = refl
 -- Results ------------------------------------------------------------------------------------------------------------
 
 abbrev root_attributes : Attributes
-root_attributes = record { file_type = directory_type; permissions = 0o755; links = 2; uid = 0; gid = 0; size = 64; fileid = 2; atime = epoch; mtime = epoch; ctime = epoch }
+root_attributes = record { file_type = directory_type; permissions = 0o777; links = 2; uid = 0; gid = 0; size = 64; fileid = 2; atime = epoch; mtime = epoch; ctime = epoch }
 
 root_results : results_of 1 (drop 24 root_reply) ≡ Ok (attributes root_attributes)
 unfolding results_of by_status attributes_arm attributes_told_at time_told_at after_number at_end word_at word
@@ -86,7 +86,7 @@ other_blocks : results_of 1 (words (0 ∷ 2 ∷ 0x41ed ∷ 2 ∷ 0 ∷ 0 ∷ 64 
 unfolding results_of by_status attributes_arm attributes_told_at time_told_at after_number at_end word_at word
 other_blocks = refl
 
-root_found : results_of 4 (words (0 ∷ 0x42465332 ∷ 1 ∷ 2 ∷ 0 ∷ 0 ∷ 0 ∷ 0 ∷ 0 ∷ 2 ∷ 0x41ed ∷ 2 ∷ 0 ∷ 0 ∷ 64 ∷ 4096 ∷ 0 ∷ 1 ∷ 1 ∷ 2 ∷ 0 ∷ 0 ∷ 0 ∷ 0 ∷ 0 ∷ 0 ∷ [])) ≡ Ok (found 2 root_attributes)
+root_found : results_of 4 (words (0 ∷ 0x42465332 ∷ 1 ∷ 2 ∷ 0 ∷ 0 ∷ 0 ∷ 0 ∷ 0 ∷ 2 ∷ 0x41ff ∷ 2 ∷ 0 ∷ 0 ∷ 64 ∷ 4096 ∷ 0 ∷ 1 ∷ 1 ∷ 2 ∷ 0 ∷ 0 ∷ 0 ∷ 0 ∷ 0 ∷ 0 ∷ [])) ≡ Ok (found 2 root_attributes)
 unfolding results_of by_status found_arm handle_told_at handle_id handle attributes_told_at time_told_at after_number at_end fixed_at bytes_at word_at word
 root_found = refl
 

@@ -1,14 +1,15 @@
 -- A request that bytes spell is storable, and so is the xid of one that is refused.
-use Rattle.std.proofs.Common.{◌≡◌, ℕ, Bool, true, false, List, length, Option, Some, None, Result, Ok, Err, refl, subst, arith}
-use Rattle.std.specs.Prelude.{◌==◌, nat_lt, IfSome, if◌then◌else◌}
+use Rattle.std.proofs.Common.{◌≡◌, ℕ, zero, suc, Bool, true, false, List, [], ◌∷◌, length, Option, Some, None, Result, Ok, Err, refl, subst, arith}
+use Rattle.std.specs.Prelude.{◌==◌, nat_lt, All, IfSome, if◌then◌else◌}
 use Rattle.std.specs.Option.{ok_or}
+use Rattle.std.proofs.lemmas.List.Elements.{All-nil, All-cons}
 use Rattle.std.specs.Result.{result_ok}
 use Rattle.bfs_model.specs.Bytes.Items.{word_at}
-use Rattle.bfs_model.specs.Bytes.Call.{Credential, Request, Refusal, silent, rpc_mismatch, bad_credential, program_unavailable, program_mismatch, procedure_unavailable, Header, nobody, after_words, system_credential_of, credential_of, opaque_auth_at, header_of, ◌>>◌, only_if, is_procedure, call_of}
+use Rattle.bfs_model.specs.Bytes.Call.{Credential, Request, Refusal, silent, rpc_mismatch, bad_credential, program_unavailable, program_mismatch, procedure_unavailable, Header, nobody, words_at, system_credential_of, credential_of, opaque_auth_at, header_of, ◌>>◌, only_if, is_procedure, call_of}
 use Rattle.bfs_model.specs.Bytes.ReplyReading.{refusal_told}
 use Rattle.bfs_model.specs.Server.Stored.{IsWord, AreBytes, CallerIsStorable, RequestIsStorable}
 use Rattle.bfs_model.specs.Laws.Stored.{RequestsAreStorable}
-use Rattle.bfs_model.proofs.Readings.{Gives, gives, gives_none, then_gives, after, chosen, IsWordRead, word_given, next_word, next_item}
+use Rattle.bfs_model.proofs.Readings.{Gives, gives, gives_none, then_gives, chosen, IsWordRead, word_given, next_word, next_item}
 
 -- F says that the request is bytes
 module _ (F : Type 0) where
@@ -17,6 +18,18 @@ module _ (F : Type 0) where
   abbrev CallerIsGood : Credential → Type 0
   CallerIsGood caller = F → CallerIsStorable caller
 
+  -- so many words
+  abbrev WordsAreGood : List ℕ × List ℕ → Type 0
+  WordsAreGood read = F → All IsWord read.0
+
+  words_given : (count : ℕ) (bytes : List ℕ) → (F → AreBytes bytes) → Gives WordsAreGood (words_at count bytes)
+  unfolding words_at
+  words_given zero bytes are = gives WordsAreGood ([], bytes) (λ f. All-nil IsWord)
+  words_given (suc count) bytes are =
+      next_word F WordsAreGood bytes _ are (λ first is_first.
+      then_gives WordsAreGood WordsAreGood (words_at count first.1) _ (words_given count first.1 is_first.left) (λ more are_more.
+      gives WordsAreGood (first.0 ∷ more.0, more.1) (λ f. All-cons IsWord first.0 more.0 (is_first.word f) (are_more f))))
+
   system_caller : (body : List ℕ) → (F → AreBytes body) → Gives CallerIsGood (system_credential_of body)
   unfolding system_credential_of
   system_caller body are =
@@ -24,14 +37,16 @@ module _ (F : Type 0) where
       next_item F CallerIsGood 255 stamp.1 _ is_stamp.left (λ machine is_machine.
       next_word F CallerIsGood machine.1 _ is_machine.left (λ uid is_uid.
       next_word F CallerIsGood uid.1 _ is_uid.left (λ gid is_gid.
-      after CallerIsGood (result_ok (word_at gid.1)) _ (λ count.
-      after CallerIsGood (if nat_lt 16 count.0 then None else after_words count.0 count.1) _ (λ rest.
-      chosen CallerIsGood (length rest == 0) (Some (record { uid = uid.0; gid = gid.0 })) None (gives CallerIsGood (record { uid = uid.0; gid = gid.0 }) (λ f. record { uid = is_uid.word f; gid = is_gid.word f })) (gives_none CallerIsGood)))))))
+      next_word F CallerIsGood gid.1 _ is_gid.left (λ count is_count.
+      then_gives WordsAreGood CallerIsGood (if nat_lt 16 count.0 then None else words_at count.0 count.1) _
+      (chosen WordsAreGood (nat_lt 16 count.0) None (words_at count.0 count.1) (gives_none WordsAreGood) (words_given count.0 count.1 is_count.left)) (λ gids are_words.
+      chosen CallerIsGood (length gids.1 == 0) (Some (record { uid = uid.0; gid = gid.0; gids = gids.0 })) None
+      (gives CallerIsGood (record { uid = uid.0; gid = gid.0; gids = gids.0 }) (λ f. record { uid = is_uid.word f; gid = is_gid.word f; gids = are_words f })) (gives_none CallerIsGood)))))))
 
   caller_given : (flavor : ℕ) (body : List ℕ) → (F → AreBytes body) → Gives CallerIsGood (credential_of flavor body)
   unfolding credential_of
   caller_given flavor body are =
-      chosen CallerIsGood (flavor == 0) (Some nobody) _ (gives CallerIsGood nobody (λ f. record { uid = omega arith; gid = omega arith })) (
+      chosen CallerIsGood (flavor == 0) (Some nobody) _ (gives CallerIsGood nobody (λ f. record { uid = omega arith; gid = omega arith; gids = All-nil IsWord })) (
       chosen CallerIsGood (flavor == 1) (system_credential_of body) None (system_caller body are) (gives_none CallerIsGood))
 
   -- Headers ----------------------------------------------------------------------------------------------------------------------

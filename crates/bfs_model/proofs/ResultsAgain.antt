@@ -7,7 +7,7 @@ use Rattle.bfs_model.specs.Server.Limits.{most_name_bytes, most_path_bytes, most
 use Rattle.bfs_model.specs.Server.Tree.{Time, Entry}
 use Rattle.bfs_model.specs.Bytes.Attributes.{FileType, regular, directory_type, symbolic_link, Attributes, block_size, blocks_of, transfer_size, total_blocks}
 use Rattle.bfs_model.specs.Bytes.Arguments.{handle}
-use Rattle.bfs_model.specs.Bytes.Replies.{Status, perm, noent, exist, notdir, isdir, fbig, nospc, notempty, stale, status_number, Reply, void, refused, done, attributes, found, path, contents, listed, free_blocks, type_number, type_bits, attribute_words, entry_item, results}
+use Rattle.bfs_model.specs.Bytes.Replies.{Status, perm, noent, acces, exist, notdir, isdir, fbig, nospc, notempty, stale, status_number, Reply, void, refused, done, attributes, found, path, contents, listed, free_blocks, type_number, type_bits, attribute_words, entry_item, results}
 use Rattle.bfs_model.specs.Server.Stored.{IsWord, TimeIsSpellable}
 use Rattle.bfs_model.specs.Laws.ReplyReading.{ResultsAreReadBack}
 use Rattle.bfs_model.specs.Bytes.ReplyReading.{Reading, status_of, handle_told_at, time_told_at, type_told, permissions_told, attributes_told_at, ResultsForm, void_form, status_form, attributes_form, found_form, path_form, contents_form, listed_form, blocks_form, by_status, attributes_arm, found_arm, path_arm, contents_arm, entry_told_at, chain_at, listed_arm, blocks_arm, results_at, results_of, AttributesAreSpellable, EntryIsSpellable, FitsItems, HasForm}
@@ -107,6 +107,7 @@ attributes_again a rest h = rw (attributes_are_spelled a rest) (attributes_item_
 status_again : (status : Status) → status_of (status_number status) ≡ Some status
 status_again perm = refl
 status_again noent = refl
+status_again acces = refl
 status_again exist = refl
 status_again notdir = refl
 status_again isdir = refl
@@ -118,6 +119,7 @@ status_again stale = refl
 status_is_word : (status : Status) → IsWord (status_number status)
 status_is_word perm = omega arith
 status_is_word noent = omega arith
+status_is_word acces = omega arith
 status_is_word exist = omega arith
 status_is_word notdir = omega arith
 status_is_word isdir = omega arith
@@ -129,6 +131,7 @@ status_is_word stale = omega arith
 not_done : (status : Status) → eqb (status_number status) 0 ≡ false
 not_done perm = refl
 not_done noent = refl
+not_done acces = refl
 not_done exist = refl
 not_done notdir = refl
 not_done isdir = refl

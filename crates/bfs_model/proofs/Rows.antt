@@ -45,7 +45,7 @@ abbrev pub root_request : List ℕ
 root_request = words (1 ∷ 0 ∷ []) ++ root_asked
 
 abbrev pub root_reply : List ℕ
-root_reply = words (1 ∷ 1 ∷ 0 ∷ 0 ∷ 0 ∷ 0 ∷ 0 ∷ 2 ∷ 0x41ed ∷ 2 ∷ 0 ∷ 0 ∷ 0x40 ∷ 0x1000 ∷ 0 ∷ 1 ∷ 1 ∷ 2 ∷ 0 ∷ 0 ∷ 0 ∷ 0 ∷ 0 ∷ 0 ∷ [])
+root_reply = words (1 ∷ 1 ∷ 0 ∷ 0 ∷ 0 ∷ 0 ∷ 0 ∷ 2 ∷ 0x41ff ∷ 2 ∷ 0 ∷ 0 ∷ 0x40 ∷ 0x1000 ∷ 0 ∷ 1 ∷ 1 ∷ 2 ∷ 0 ∷ 0 ∷ 0 ∷ 0 ∷ 0 ∷ 0 ∷ [])
 
 root_found : get new_tree root_id ≡ Some new_root
 root_found = get-insert nat_cmp_total empty root_id new_root root_id

@@ -59,7 +59,7 @@ a_directory links a m c parent entries = record { permissions = 0o755; links = l
 
 -- the root, last changed at so many seconds
 abbrev pub the_root : (links m c : ℕ) (entries : List Entry) → Inode
-the_root links m c entries = record { permissions = 0o755; links = links; uid = 0; gid = 0; atime = at 0; mtime = at m; ctime = at c; body = directory (record { parent = 2; entries = entries }) }
+the_root links m c entries = record { permissions = 0o777; links = links; uid = 0; gid = 0; atime = at 0; mtime = at m; ctime = at c; body = directory (record { parent = 2; entries = entries }) }
 
 abbrev pub entry : (cookie : ℕ) (name : List ℕ) (child : ℕ) → Entry
 entry cookie name child = record { cookie = cookie; name = name; child = child }

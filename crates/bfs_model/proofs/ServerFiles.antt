@@ -3,7 +3,7 @@ use Rattle.std.proofs.Common.{◌≡◌, ℕ, List, [], ◌∷◌, ◌++◌, Som
 use Rattle.std.specs.FinMap.{empty, insert}
 use Rattle.bfs_model.specs.Bytes.Items.{words, word, word_at, bytes_at, fixed_at, opaque_at, fixed, counted}
 use Rattle.bfs_model.specs.Server.Tree.{Inode, Inodes, new_tree, new_file_system}
-use Rattle.bfs_model.specs.Bytes.Call.{Credential, call_of, header_of, opaque_auth_at, credential_of, system_credential_of, after_words}
+use Rattle.bfs_model.specs.Bytes.Call.{Credential, call_of, header_of, opaque_auth_at, credential_of, system_credential_of, words_at}
 use Rattle.bfs_model.specs.Bytes.Arguments.{create, get_attributes, look_up, read, write, remove, handle, handle_id, handle_at, file_at, named_at, read_at, write_at, settings_at, named_with_settings_at, fields_at, arguments_of}
 use Rattle.bfs_model.specs.Bytes.Replies.{found, attributes, contents, done, refused, stale, results, success}
 use Rattle.bfs_model.specs.Bytes.Attributes.{attributes_of}
@@ -135,9 +135,9 @@ removed_and_created_again = executed _ _ (next refl refl a_removed (next refl re
 
 -- A file is its caller's ---------------------------------------------------------------------------------------------------
 
--- uid 1000 and gid 100
+-- uid 1000 and gid 100, and two further groups
 abbrev caller : Credential
-caller = record { uid = 1000; gid = 100 }
+caller = record { uid = 1000; gid = 100; gids = 11 ∷ 12 ∷ [] }
 
 abbrev callers_file : Inode
 callers_file = record (a_file 1 1 1 1 []) { uid = 1000; gid = 100 }
@@ -148,5 +148,5 @@ callers_file_made = simp inode_gets (same (simp inode_entries) refl)
 -- CREATE with a credential of AUTH_SYS: a stamp, a machine of no name, uid, gid, and two further gids
 created_by_a_caller : execute new_file_system (record { time = at 1; requests = words ((5 ∷ 0 ∷ 2 ∷ 100003 ∷ 2 ∷ 9 ∷ 1 ∷ 28 ∷ 77 ∷ 0 ∷ 1000 ∷ 100 ∷ 2 ∷ 11 ∷ 12 ∷ 0 ∷ 0 ∷ []) ++ of_file 2 ++ (1 ∷ 0x61000000 ∷ []) ++ unset_words) ∷ [] })
     ≡ (record { tree = with_a 3 1 callers_file; next_ordinal = 4; last_time = at 1 }, succeeds 5 (0 ∷ of_file 3 ++ told 1 0x81a4 1 1000 100 0 0 3 1 1 1) ∷ [])
-unfolding call_of header_of opaque_auth_at credential_of system_credential_of after_words opaque_at fixed_at bytes_at word_at word handle arguments_of fields_at named_with_settings_at settings_at handle_at handle_id success results
+unfolding call_of header_of opaque_auth_at credential_of system_credential_of words_at opaque_at fixed_at bytes_at word_at word handle arguments_of fields_at named_with_settings_at settings_at handle_at handle_id success results
 created_by_a_caller = executed new_file_system _ (next refl refl callers_file_made (ends _ _ _))

@@ -31,7 +31,7 @@ root_told = simp inode_gets
 ordinals_spent : execute (record new_file_system { next_ordinal = 4294967295 }) (record { time = at 7; requests = names_unset 1 9 2 0x61000000 ∷ names_unset 2 9 2 0x62000000 ∷ calls 3 1 (of_file 2) ∷ [] })
     ≡ (
       record { tree = with_last; next_ordinal = 4294967296; last_time = at 7 },
-      succeeds 1 (0 ∷ of_file 4294967295 ++ told 1 0x81a4 1 65534 65534 0 0 4294967295 7 7 7) ∷ succeeds 2 (28 ∷ []) ∷ succeeds 3 (0 ∷ told 2 0x41ed 2 0 0 96 1 2 0 7 7) ∷ [],
+      succeeds 1 (0 ∷ of_file 4294967295 ++ told 1 0x81a4 1 65534 65534 0 0 4294967295 7 7 7) ∷ succeeds 2 (28 ∷ []) ∷ succeeds 3 (0 ∷ told 2 0x41ff 2 0 0 96 1 2 0 7 7) ∷ [],
     )
 unfolding call_of header_of opaque_auth_at credential_of opaque_at fixed_at bytes_at word_at word handle arguments_of fields_at named_with_settings_at settings_at file_at handle_at handle_id success results
 ordinals_spent = executed _ _ (next refl refl last_made (next refl refl none_made (next refl refl root_told (ends _ _ _))))

@@ -164,7 +164,7 @@ names_there_already : execute (record new_file_system { next_ordinal = 4; last_t
           ∷ succeeds 5 (21 ∷ [])
           ∷ succeeds 6 (20 ∷ [])
           ∷ succeeds 7 (1 ∷ [])
-          ∷ succeeds 8 (0 ∷ of_file 2 ++ told 2 0x41ed 3 0 0 160 1 2 0 2 2)
+          ∷ succeeds 8 (0 ∷ of_file 2 ++ told 2 0x41ff 3 0 0 160 1 2 0 2 2)
           ∷ [],
     )
 unfolding call_of header_of opaque_auth_at credential_of opaque_at fixed_at bytes_at word_at word handle arguments_of fields_at named_with_settings_at settings_at link_at rename_at named_at handle_at handle_id success results

@@ -5,6 +5,7 @@ use Rattle.std.specs.FinMap.{insert}
 use Rattle.bfs_model.specs.Server.Limits.{most_file_bytes}
 use Rattle.bfs_model.specs.Server.Tree.{Inode, Inodes, spent_ordinal}
 use Rattle.bfs_model.specs.Server.Context.{Context}
+use Rattle.bfs_model.specs.Server.Access.{owner_refusals}
 use Rattle.bfs_model.specs.Bytes.Arguments.{Call, set_attributes, write, create, remove as remove_file, rename, make_link, make_symbolic_link, make_directory, remove_directory}
 use Rattle.bfs_model.specs.Bytes.Replies.{fbig, nospc}
 use Rattle.bfs_model.specs.Server.Changes.{without_entry, with_parent, with_link, with_link_less, with_ctime, changed, link_lost}
@@ -69,7 +70,7 @@ module _ (c : Context) (storable : ContextIsStorable c) where
     call_stored (write handle offset written) h = λ x small found passed.
         each_inserted IsStorable m are x.id _ (bytes_stored c.time storable.time x.id x.inode (are x.id x.inode (file_at m handle x found).there) offset written h.2)
     call_stored (create handle name settings) h = λ dir allowed found passed.
-        let is : IsWord c.ordinal = unspent c.ordinal (new_name c dir.listing name ((nat_lt most_file_bytes (unwrap_or settings.size 0), fbig) ∷ []) allowed passed).left in
+        let is : IsWord c.ordinal = unspent c.ordinal (new_name c dir name (owner_refusals c.caller settings) ((nat_lt most_file_bytes (unwrap_or settings.size 0), fbig) ∷ []) allowed passed).left in
         made_stored dir.id _ _ (name_stored name c.ordinal dir.id dir.inode is h.1 is (are dir.id dir.inode (directory_at m handle dir found).there))
         (new_stored c storable c.ordinal is settings h.2 _ 1 _ (mode_stored settings.mode 0o644 (omega arith)) (zeros_are_bytes (unwrap_or settings.size 0)))
     call_stored (remove_file handle name) h = λ dir entry child plain at passed.
@@ -79,15 +80,15 @@ module _ (c : Context) (storable : ContextIsStorable c) where
         let left : is_spent c.ordinal ≡ false = fails (is_spent c.ordinal) (renaming_refusals m c r) allowed passed (search (inl, inr) depth 9) in
         renamed_stored m are from_name to_name r (unspent c.ordinal left) h.3 (are b.id b.inode at.to_at.there).fileid (are moved.id moved.inode at.there).fileid
     call_stored (make_link handle in_directory name) h = λ x plain dir allowed found no_directory dir_is passed.
-        let is : IsWord c.ordinal = unspent c.ordinal (new_name c dir.listing name ((has_most_links x.inode.links, nospc) ∷ []) allowed passed).left in
+        let is : IsWord c.ordinal = unspent c.ordinal (new_name c dir name [] ((has_most_links x.inode.links, nospc) ∷ []) allowed passed).left in
         let linked = are x.id x.inode (inode_at m handle x found).there in
         changed_stored _ (each_inserted IsStorable m are dir.id _ (name_stored name x.id dir.id dir.inode is h.2 linked.fileid (are dir.id dir.inode (directory_at m in_directory dir dir_is).there))) x.id (with_link c.time)
         (λ inode held. linked_stored c.time storable.time x.id inode held _)
     call_stored (make_symbolic_link handle name target settings) h = λ dir allowed found passed.
-        let is : IsWord c.ordinal = unspent c.ordinal (new_name c dir.listing name [] allowed passed).left in
+        let is : IsWord c.ordinal = unspent c.ordinal (new_name c dir name (owner_refusals c.caller settings) [] allowed passed).left in
         made_stored dir.id _ _ (name_stored name c.ordinal dir.id dir.inode is h.1 is (are dir.id dir.inode (directory_at m handle dir found).there)) (new_stored c storable c.ordinal is settings h.3 0o777 1 _ (omega arith) h.2)
     call_stored (make_directory handle name settings) h = λ dir allowed found passed.
-        let is : IsWord c.ordinal = unspent c.ordinal (new_name c dir.listing name ((has_most_links dir.inode.links, nospc) ∷ []) allowed passed).left in
+        let is : IsWord c.ordinal = unspent c.ordinal (new_name c dir name (owner_refusals c.caller settings) ((has_most_links dir.inode.links, nospc) ∷ []) allowed passed).left in
         let held = are dir.id dir.inode (directory_at m handle dir found).there in
         made_stored dir.id _ _ (linked_stored c.time storable.time dir.id _ (name_stored name c.ordinal dir.id dir.inode is h.1 is held) _)
         (new_stored c storable c.ordinal is settings h.2 _ 2 _ (mode_stored settings.mode 0o755 (omega arith)) (held.fileid, tt))

@@ -5,6 +5,7 @@ pub mod Directories
 pub mod FileBytes
 pub mod Changes
 pub mod Context
+pub mod Access
 pub mod Refusals
 pub mod Procedures
 pub mod Serial

@@ -1,12 +1,12 @@
 ghost use Rattle.bfs_model.specs.Laws.Paging.{DirectoriesAreListed, PageIsTold, CookiesRise, PagesFollowEachOther, EndIsToldAtTheEnd, AllIsReadAtTheEnd, PageWithRoomIsNotEmpty, EnoughPagesAreAll};
 
-/// Each directory of a well-formed file system is one that the other functions here speak of.
+/// Each directory of a well-formed file system that its caller may read is one that the other functions here speak of.
 #[tactic(auto, using(crate::proofs::Pages::directories_are_listed))]
 pub fn directories_are_listed()
     ensures { DirectoriesAreListed }
 {}
 
-/// READDIR of a directory is never refused and changes nothing, whatever its cookie and its count are.
+/// READDIR of a directory that its caller may read is never refused and changes nothing, whatever its cookie and its count are.
 #[tactic(auto, using(crate::proofs::Pages::page_is_told))]
 pub fn page_is_told()
     ensures { PageIsTold }

@@ -16,7 +16,7 @@ use bfs_messages::{Message, NewView, Signed, ViewChange, is_view_change_signed};
 use bfs_order::a_replica_stays_itself;
 use bfs_types::Memory;
 use bfs_view::{
-    Begun, begin_view, check_new_view, handed_in, make_view_change, valid_view_change,
+    Begun, begin_view, check_new_view, handed_in, make_view_change, valid_signed_view_change,
     view_change_message,
 };
 use std::alloc::Global;
@@ -69,7 +69,7 @@ impl Node {
         if self.changes.was_asked(change) {
             return Err(NodeError::AlreadyHave);
         }
-        if !valid_view_change(&self.keys, &signed) {
+        if !valid_signed_view_change(&self.keys, &signed) {
             return Err(NodeError::BadCertificate);
         }
         let (asked, first) = (self.order.asked(), Vec::new(self.alloc));

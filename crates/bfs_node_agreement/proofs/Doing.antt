@@ -24,7 +24,7 @@ use Rattle.bfs_view_agreement.specs.Replicas.{Deed, IsRightNewView, MayDoSo, Tur
 use Rattle.bfs_node.specs.Changing.{leads}
 use Rattle.bfs_node.specs.Nodes.{Node, Outcome}
 use Rattle.bfs_node_agreement.specs.Replicas.{turn_of}
-use Rattle.bfs_node_agreement.specs.Steps.{NodeStep, Delivers, Takes, Proposes, Executes, Fails, Checkpoints, TimesOut, Adopts, outcome}
+use Rattle.bfs_node_agreement.specs.Steps.{NodeStep, Delivers, Takes, TakesRequests, Proposes, Executes, Fails, Checkpoints, TimesOut, Adopts, outcome}
 use Rattle.bfs_node_agreement.proofs.Hearing.{Extends, IsHeard, IsSpoken, Spoken, extends_both, extends_deed, grown, spoken_vote}
 use Rattle.bfs_node_agreement.proofs.Keeping.{AreKept, kept_on}
 use Rattle.bfs_node_agreement.proofs.Steps.{after_deeds, called}
@@ -89,6 +89,7 @@ pub record IsStill (node now : Node) : Type 0 where
 abbrev pub StandsBy : Node → NodeStep → Type 0
 StandsBy node (Delivers bytes) = IsStill node (outcome node (Delivers bytes)).now
 StandsBy node (Takes signed) = IsStill node (outcome node (Takes signed)).now
+StandsBy node (TakesRequests messages) = IsStill node (outcome node (TakesRequests messages)).now
 StandsBy node (Proposes time) = IsStill node (outcome node (Proposes time)).now
 StandsBy node Executes = Unit {0}
 StandsBy node Fails = Unit {0}

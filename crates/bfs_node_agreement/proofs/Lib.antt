@@ -6,6 +6,7 @@ mod Doing
 mod Executing
 mod Hearing
 mod Keeping
+mod Requests
 mod Right
 mod States
 mod Steps

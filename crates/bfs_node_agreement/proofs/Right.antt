@@ -56,7 +56,7 @@ use Rattle.bfs_view_agreement.proofs.Public.{in_map, made_holds, made_proves, pa
 use Rattle.bfs_node.specs.Adopting.{adopted, may_adopt}
 use Rattle.bfs_node.specs.Changing.{begun, begun_if_due, change_refusal, leads, may_begin, next_view, own_change, own_new_view, timed_out, timeout_refusal, view_refusal, with_new_view, with_view_change}
 use Rattle.bfs_node.specs.Checkpoints.{checkpoint, checkpointed, checkpoint_refusal}
-use Rattle.bfs_node.specs.Delivering.{bytes_delivered, bytes_refusal, message_delivered, message_refusal, ordered as taken, request_refusal, with_request}
+use Rattle.bfs_node.specs.Delivering.{after_requests, bytes_delivered, bytes_refusal, message_delivered, message_refusal, ordered as taken, request_refusal, with_request}
 use Rattle.bfs_node.specs.Errors.{of_order, of_view}
 use Rattle.bfs_node.specs.Executing.{executed_on, is_next, replies_to, reply_to, signed_reply, told}
 use Rattle.bfs_node.specs.Nodes.{Node, Outcome}
@@ -64,12 +64,13 @@ use Rattle.bfs_node.specs.Proposing.{pending_batch, proposed}
 use Rattle.bfs_node.specs.declared.error.NodeError.{NodeError}
 use Rattle.bfs_node_agreement.specs.Premises.{ArePartsAuthentic, ComesAuthentic, IsAuthentic, IsWhollyAuthentic}
 use Rattle.bfs_node_agreement.specs.Replicas.{Replicas, turn_of}
-use Rattle.bfs_node_agreement.specs.Steps.{NodeStep, Delivers, Takes, Proposes, Executes, Fails, Checkpoints, TimesOut, Adopts, still, unless, or_still, after_execution, outcome, where_taken, begun_deeds, change_deeds, message_deeds, bytes_deeds, checkpoint_deeds, timeout_deeds, deeds_of}
+use Rattle.bfs_node_agreement.specs.Steps.{NodeStep, Delivers, Takes, TakesRequests, Proposes, Executes, Fails, Checkpoints, TimesOut, Adopts, still, unless, or_still, after_execution, outcome, where_taken, begun_deeds, change_deeds, message_deeds, bytes_deeds, checkpoint_deeds, timeout_deeds, deeds_of}
 use Rattle.bfs_node_agreement.proofs.Begun.{begun_right, own_handed}
 use Rattle.bfs_node_agreement.proofs.Bounds.{IsBounded, left_bounded}
 use Rattle.bfs_node_agreement.proofs.Doing.{After, BringAll, Done, IsOther, IsOwnCheckpoint, IsStill, StandsBy, Tells, WereKept, at_who, entry_done, extends_deeds, here_is, nothing_done, offered, order_done}
 use Rattle.bfs_node_agreement.proofs.Hearing.{IsHeard, IsSpoken, genuine_of, grown, heard_on, kinds_in, vote_between, vote_was_sent}
 use Rattle.bfs_node_agreement.proofs.Keeping.{AreKept, IsGood, kept_above, kept_on, kept_with}
+use Rattle.bfs_node_agreement.proofs.Requests.{waits}
 use Rattle.bfs_node_agreement.proofs.Steps.{after_deeds, begins_open, not_refused, not_second}
 use Rattle.bfs_node_agreement.proofs.Taken.{taken_heard, taken_right}
 
@@ -330,6 +331,13 @@ module _ (faulty : ℕ → Bool) (w : Replicas) (v : ordered.Replicas) (who : �
 
   -- Calls -------------------------------------------------------------------------------------------------------------------------
 
+  requests_done : (messages : Log) → DoneBy (deeds_of node (TakesRequests messages)) (outcome node (TakesRequests messages))
+  requests_done messages =
+      let is = (waits node messages).1 in
+      nothing_done faulty v who node know.at (IsStill node (after_requests node messages)) (still (after_requests node messages))
+      (subst (λ (n : Node). AreKept faulty node.order.f (histories v) n.changes) (sym is) know.kept) (ap (λ (n : Node). n.keys) is) refl
+      (record { files = ap (λ (n : Node). n.files) is; table = ap (λ (n : Node). n.table) is; last = ap (λ (n : Node). n.order.last) is })
+
   proposes_done : (time : Time) → DoneBy (deeds_of node (Proposes time)) (outcome node (Proposes time))
   proposes_done time =
       let r = proposing.proposal_refusal node.order in
@@ -475,6 +483,7 @@ module _ (faulty : ℕ → Bool) (w : Replicas) (v : ordered.Replicas) (who : �
   pub step_done : MessageWasWritten → (step : NodeStep) → ComesAuthentic faulty w node.keys step → Done faulty v who node know.at (StandsBy node step) (deeds_of node step) (outcome node step)
   step_done written (Delivers bytes) comes = bytes_done written bytes comes.0 comes.1
   step_done written (Takes signed) comes = message_done signed.message signed.auth comes.1 comes.2 comes.0
+  step_done written (TakesRequests messages) comes = requests_done messages
   step_done written (Proposes time) comes = proposes_done time
   step_done written Executes comes = executes_done
   step_done written Fails comes = nothing_done faulty v who node know.at (Unit {0}) (still (record node { files = None })) know.kept refl refl tt

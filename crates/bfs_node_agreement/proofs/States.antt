@@ -38,7 +38,7 @@ use Rattle.bfs_node.specs.Nodes.{Node, Outcome, new_node}
 use Rattle.bfs_node_agreement.specs.Laws.{ComesOfBatches, Executed}
 use Rattle.bfs_node_agreement.specs.Premises.{AreAuthenticIn, ComesAuthentic, HasSaid, StatesDontCollide, offers_in, standing_digest}
 use Rattle.bfs_node_agreement.specs.Replicas.{Replica, Replicas, Standing, NodeTurn, after_step, after_turn, new_replicas, standing_of, standing_with}
-use Rattle.bfs_node_agreement.specs.Steps.{NodeStep, Delivers, Takes, Proposes, Executes, Fails, Checkpoints, TimesOut, Adopts, after_execution, executed_by, outcome as result, still}
+use Rattle.bfs_node_agreement.specs.Steps.{NodeStep, Delivers, Takes, TakesRequests, Proposes, Executes, Fails, Checkpoints, TimesOut, Adopts, after_execution, executed_by, outcome as result, still}
 use Rattle.bfs_node_agreement.proofs.Doing.{IsOwnCheckpoint, IsStill, StandsBy, Tells}
 use Rattle.bfs_node_agreement.proofs.Executing.{next_follows}
 use Rattle.bfs_node_agreement.proofs.Hearing.{same_header, signed_whole}
@@ -95,6 +95,7 @@ next_in s m e = go (next_proposal s) refl e
 pub executed_in : (node : Node) (step : NodeStep) → AllIn (λ (m : Signed Message). IsIn m node.order.log) (executed_by node step)
 executed_in node (Delivers bytes) m i = absurd i
 executed_in node (Takes signed) m i = absurd i
+executed_in node (TakesRequests messages) m i = absurd i
 executed_in node (Proposes time) m i = absurd i
 executed_in node Executes m i = go (is_ready node) i
   where
@@ -368,6 +369,7 @@ module _ (meet : QuorumsMeet) (stable : CertificatesMakeStable) (clients f : ℕ
         → Comes after (result node step).now.order.last files (result node step).now.table
     new_state (Delivers bytes) is still comes files live = stays (result node (Delivers bytes)).now files still live
     new_state (Takes signed) is still comes files live = stays (result node (Takes signed)).now files still live
+    new_state (TakesRequests messages) is still comes files live = stays (result node (TakesRequests messages)).now files still live
     new_state (Proposes time) is still comes files live = stays (result node (Proposes time)).now files still live
     new_state Executes is still comes files live = executes is files live
     new_state Fails is still comes files live = absurd cc

@@ -1,5 +1,5 @@
 -- Each call of a node is the turns of its order that stand for it.
-use Rattle.std.proofs.Common.{◌≡◌, ℕ, ◌%◌, ◌^◌, ◌==◌, Bool, true, false, cond, ◌&&◌, ◌||◌, not, List, [], ◌∷◌, ◌++◌, Option, Some, None, option_map, refl, sym, ap, ap₂, ◌∙◌, arith}
+use Rattle.std.proofs.Common.{◌≡◌, ℕ, ◌%◌, ◌^◌, ◌==◌, Bool, true, false, cond, ◌&&◌, ◌||◌, not, List, [], ◌∷◌, ◌++◌, Option, Some, None, option_map, refl, sym, ap, ap₂, subst, ◌∙◌, arith}
 use Rattle.std.specs.Prelude.{max, nat_lt, nat_le, bytes_eq}
 use Rattle.std.proofs.lemmas.Bool.{and_parts, or_parts, and_from, ltb-false, le-leb}
 use Rattle.bfs_model.specs.Server.Tree.{FileSystem, Time}
@@ -38,16 +38,17 @@ use Rattle.bfs_view_agreement.specs.Replicas.{Deed, ordered_deed}
 use Rattle.bfs_node.specs.Adopting.{adopted, is_ahead, may_adopt}
 use Rattle.bfs_node.specs.Changing.{begun, begun_if_due, change_refusal, entering_refusal, first_of, leads, may_begin, next_view, own_change, own_new_view, timed_out, timeout_refusal, view_refusal, with_new_view, with_view_change}
 use Rattle.bfs_node.specs.Checkpoints.{checkpoint_refusal, checkpointed, told_refusal}
-use Rattle.bfs_node.specs.Delivering.{bytes_delivered, bytes_refusal, message_delivered, message_refusal, ordered as taken, request_refusal, with_request}
+use Rattle.bfs_node.specs.Delivering.{after_requests, bytes_delivered, bytes_refusal, message_delivered, message_refusal, ordered as taken, request_refusal, with_request}
 use Rattle.bfs_node.specs.Errors.{of_order, of_view}
 use Rattle.bfs_node.specs.Executing.{executed_on, is_next}
 use Rattle.bfs_node.specs.Nodes.{Node, Outcome}
 use Rattle.bfs_node.specs.Proposing.{pending_batch, proposed}
 use Rattle.bfs_node.specs.declared.error.NodeError.{NodeError}
 use Rattle.bfs_node.specs.declared.error.NodeError.TheVariants as error
-use Rattle.bfs_node_agreement.specs.Steps.{NodeStep, Delivers, Takes, Proposes, Executes, Fails, Checkpoints, TimesOut, Adopts, still, unless, or_still, after_execution, outcome, executed_by, where_taken, begun_deeds, change_deeds, message_deeds, bytes_deeds, checkpoint_deeds, timeout_deeds, deeds_of}
+use Rattle.bfs_node_agreement.specs.Steps.{NodeStep, Delivers, Takes, TakesRequests, Proposes, Executes, Fails, Checkpoints, TimesOut, Adopts, still, unless, or_still, after_execution, outcome, executed_by, where_taken, begun_deeds, change_deeds, message_deeds, bytes_deeds, checkpoint_deeds, timeout_deeds, deeds_of}
 use Rattle.bfs_node_agreement.proofs.Bounds.{IsBounded, left_bounded}
 use Rattle.bfs_node_agreement.proofs.Executing.{next_executes}
+use Rattle.bfs_node_agreement.proofs.Requests.{waits}
 
 abbrev pub after_deeds : ordered.Replica → List Deed → ordered.Replica
 after_deeds r [] = r
@@ -169,6 +170,9 @@ bytes_come : (node : Node) (o : Option (Signed Message)) → IsBounded node.orde
 bytes_come node None bounded = nothing node.order
 bytes_come node (Some m) bounded = message_comes node m.message m.auth bounded
 
+requests_come : (node : Node) (messages : Log) → Lead node.order [] (after_requests node messages).order []
+requests_come node messages = subst (λ (s : State). Lead node.order [] s []) (sym (ap (λ (n : Node). n.order) (waits node messages).1)) (nothing node.order)
+
 proposes : (node : Node) (time : Time) → Lead node.order (deeds_of node (Proposes time)) (outcome node (Proposes time)).now.order []
 proposes node time = one node.order (turns.Orders (order.Proposes node.keys (pending_batch node time))) _ (go (proposing.proposal_refusal node.order))
   where
@@ -268,6 +272,7 @@ adopts node certificate files table = go (may_adopt node certificate && right) r
 pub step_leads : (node : Node) (step : NodeStep) → IsBounded node.order → Lead node.order (deeds_of node step) (outcome node step).now.order (executed_by node step)
 step_leads node (Delivers bytes) bounded = bytes_come node (message_of bytes) bounded
 step_leads node (Takes signed) bounded = message_comes node signed.message signed.auth bounded
+step_leads node (TakesRequests messages) bounded = requests_come node messages
 step_leads node (Proposes time) bounded = proposes node time
 step_leads node Executes bounded = executes node
 step_leads node Fails bounded = nothing node.order

@@ -16,7 +16,7 @@ use Rattle.bfs_consensus.specs.Histories.{IsIn}
 use Rattle.bfs_view.specs.Changes.Making.{handed_in}
 use Rattle.bfs_view.specs.Changes.Parts.{as_message, messages_in}
 use Rattle.bfs_node_agreement.specs.Replicas.{Replicas, Standing, NodeTurn, after_turn}
-use Rattle.bfs_node_agreement.specs.Steps.{NodeStep, Delivers, Takes, Proposes, Executes, Fails, Checkpoints, TimesOut, Adopts}
+use Rattle.bfs_node_agreement.specs.Steps.{NodeStep, Delivers, Takes, TakesRequests, Proposes, Executes, Fails, Checkpoints, TimesOut, Adopts}
 
 -- Authenticators ------------------------------------------------------------------------------------------------------------
 
@@ -83,6 +83,7 @@ abbrev pub ComesAuthentic : (faulty : ℕ → Bool) → Replicas → Keys → No
 ComesAuthentic faulty w keys (Delivers bytes) = AreBytes bytes × IsWhollyAuthentic faulty w keys (message_of bytes)
 ComesAuthentic faulty w keys (Takes signed) = FitsMessage signed.message × IsAuthentic faulty w keys signed × ArePartsAuthentic faulty w keys signed.message
 ComesAuthentic faulty w keys (Adopts certificate files table) = AreAuthenticIn faulty w keys certificate
+ComesAuthentic faulty w keys (TakesRequests messages) = Unit {0}
 ComesAuthentic faulty w keys (Proposes time) = Unit {0}
 ComesAuthentic faulty w keys Executes = Unit {0}
 ComesAuthentic faulty w keys Fails = Unit {0}

@@ -22,7 +22,7 @@ use Rattle.bfs_view_agreement.specs.Replicas.{Deed}
 use Rattle.bfs_node.specs.Adopting.{adopted, may_adopt}
 use Rattle.bfs_node.specs.Changing.{change_in, change_refusal, leads, may_begin, next_view, own_change, own_new_view, timed_out, timeout_refusal, view_refusal}
 use Rattle.bfs_node.specs.Checkpoints.{checkpoint, checkpoint_refusal}
-use Rattle.bfs_node.specs.Delivering.{bytes_delivered, bytes_refusal, delivered, delivery_refusal}
+use Rattle.bfs_node.specs.Delivering.{after_requests, bytes_delivered, bytes_refusal, delivered, delivery_refusal}
 use Rattle.bfs_node.specs.Executing.{execution, is_ready}
 use Rattle.bfs_node.specs.Nodes.{Node, Outcome}
 use Rattle.bfs_node.specs.Proposing.{pending_batch, proposal_refusal, proposed}
@@ -33,6 +33,8 @@ pub data NodeStep : Type 0 where
   -- a message comes as bytes, or as it was read from them
   Delivers : (bytes : List ℕ) → NodeStep
   Takes : Signed Message → NodeStep
+  -- the REQUESTs among messages come, one after another
+  TakesRequests : Log → NodeStep
   Proposes : Time → NodeStep
   Executes : NodeStep
   -- memory runs out while a batch is executed
@@ -64,6 +66,7 @@ after_execution node (Some next) = or_still node next
 abbrev pub outcome : Node → NodeStep → Outcome
 outcome node (Delivers bytes) = unless (bytes_refusal node (message_of bytes)) node (bytes_delivered node (message_of bytes))
 outcome node (Takes signed) = unless (delivery_refusal node signed) node (delivered node signed)
+outcome node (TakesRequests messages) = still (after_requests node messages)
 outcome node (Proposes time) = unless (proposal_refusal node) node (proposed node time)
 outcome node Executes = after_execution node (execution node)
 outcome node Fails = still (record node { files = None })
@@ -76,6 +79,7 @@ outcome node (Adopts certificate files table) =
 abbrev pub executed_by : Node → NodeStep → Log
 executed_by node (Delivers bytes) = []
 executed_by node (Takes signed) = []
+executed_by node (TakesRequests messages) = []
 executed_by node (Proposes time) = []
 executed_by node Executes = if is_ready node then message_in (next_order node.order) else []
 executed_by node Fails = []
@@ -125,6 +129,7 @@ timeout_deeds node =
 abbrev pub deeds_of : Node → NodeStep → List Deed
 deeds_of node (Delivers bytes) = bytes_deeds node (message_of bytes)
 deeds_of node (Takes signed) = message_deeds node signed signed.message
+deeds_of node (TakesRequests messages) = []
 deeds_of node (Proposes time) = turns.Orders (order.Proposes node.keys (pending_batch node time)) ∷ []
 deeds_of node Executes = if is_ready node then turns.Orders order.Executes ∷ [] else []
 deeds_of node Fails = []

@@ -8,12 +8,14 @@ use Rattle.bfs_model.specs.Server.Context.{Context}
 use Rattle.bfs_model.specs.Server.Tree.{Entry, Inodes, entries_at, entries_in, spent_ordinal}
 use Rattle.bfs_model.specs.Server.Directories.{entry_named}
 use Rattle.bfs_model.specs.Bytes.Arguments.{rename}
-use Rattle.bfs_model.specs.Server.Footprints.{Footprint, known, whole, ids_in, child_at, moves_a_directory, footprint, IsNewAt, IsNewIn, IsFresh}
+use Rattle.bfs_model.specs.Server.Access.{may_change_entries}
+use Rattle.bfs_model.specs.Server.Footprints.{Footprint, known, whole, ids_in, child_at, lets_rename, moves_a_directory, footprint, IsNewAt, IsNewIn, IsFresh}
 use Rattle.bfs_model.specs.Server.Procedures.Renaming.{Renaming, Replaced, renaming_refusals, renaming_of, renaming_planned}
 use Rattle.bfs_model.specs.Server.Refusals.{FoundInode, FoundDirectory, is_spent, directory_found}
 use Rattle.bfs_model.proofs.Public.{CanRename, IsDirectoryAt, IsOnto, fails, link_free, onto_entry, onto_none, planned_was, room_made}
 use Rattle.bfs_procs.specs.Renaming.{IsWithin, CanCarryOut}
 use Rattle.bfs_procs.proofs.Fresh.{both, led_to, unspent_is_new}
+use Rattle.bfs_procs.proofs.Reached.{let_in, let_in_both}
 use Rattle.bfs_tree.specs.Reach.{Reach, Knows}
 
 -- the fileid of a name
@@ -34,11 +36,12 @@ module _ (m : Inodes) (c : Context) (from : Option ℕ) (from_name : List ℕ) (
       each (x ∷ xs) = (all holds x, each xs)
   written_by P false touched all listed holds = listed holds
 
-  owned : (reach : Reach) → Knows reach (footprint m c (rename from from_name to to_name)) → (reach.whole ≡ true → (id : ℕ) → reach.owned id ≡ true) → AllByRecursion (λ id. IsTrue (reach.owned id)) ids
-  owned reach knows owns = written_by (λ id. IsTrue (reach.owned id)) (moves_a_directory m from from_name to) (Knows reach) owns (λ holds. holds.1) knows
+  owned : (reach : Reach) → lets_rename m c.caller from to ≡ true → Knows reach (footprint m c (rename from from_name to to_name)) → (reach.whole ≡ true → (id : ℕ) → reach.owned id ≡ true) → AllByRecursion (λ id. IsTrue (reach.owned id)) ids
+  owned reach let_in knows owns = written_by (λ id. IsTrue (reach.owned id)) (moves_a_directory m from from_name to) (Knows reach) owns (λ holds. holds.1) (rw let_in at knows)
 
-  new : IsFresh m c (rename from from_name to to_name) → c.ordinal < spent_ordinal → AllByRecursion (IsNewAt m c.ordinal) ids
-  new fresh unspent = written_by (IsNewAt m c.ordinal) (moves_a_directory m from from_name to) (IsNewIn m c.ordinal) (λ holds. holds) (λ holds. holds) (unspent_is_new m c.ordinal (footprint m c (rename from from_name to to_name)) fresh unspent)
+  new : lets_rename m c.caller from to ≡ true → IsFresh m c (rename from from_name to to_name) → c.ordinal < spent_ordinal → AllByRecursion (IsNewAt m c.ordinal) ids
+  new let_in fresh unspent = written_by (IsNewAt m c.ordinal) (moves_a_directory m from from_name to) (IsNewIn m c.ordinal) (λ holds. holds) (λ holds. holds)
+      (rw let_in at (unspent_is_new m c.ordinal (footprint m c (rename from from_name to to_name)) fresh unspent))
 
   module _ (P : ℕ → Type 0) (all : AllByRecursion P ids) where
     abbrev parts : (AllByRecursion P (ids_in from ++ ids_in to ++ ids_in (child_at m from from_name))) × AllByRecursion P (ids_in (child_at m to to_name))
@@ -75,10 +78,12 @@ module _ (m : Inodes) (c : Context) (from : Option ℕ) (from_name : List ℕ) (
       let at = p.renamed_it in
       let seen = renaming_of p.a p.b p.moved q.replaced in
       let unspent : c.ordinal < spent_ordinal = leb-false spent_ordinal c.ordinal (fails (is_spent c.ordinal) (renaming_refusals m c seen) q.allowed q.passed (search (inl, inr) depth 9)) in
-      let mine = owned reach knows owns in
+      let inside : lets_rename m c.caller from to ≡ true =
+      let_in_both m c.caller from to (let_in m c.caller may_change_entries from p.a.id p.a.inode at.from_at.led at.from_at.there at.from_changes) (let_in m c.caller may_change_entries to p.b.id p.b.inode at.to_at.led at.to_at.there at.to_changes) in
+      let mine = owned reach inside knows owns in
       let within = limits p.b p.to_is in
       let below : All (λ entry. entry.cookie < c.ordinal) p.b.listing.entries =
-      subst (λ listed. All (λ (entry : Entry). entry.cookie < c.ordinal) listed) (ap entries_at at.to_at.there ∙ ap entries_in at.to_at.holds) (at_to (IsNewAt m c.ordinal) (new fresh unspent) p.b.id at.to_at.led).1 in
+      subst (λ listed. All (λ (entry : Entry). entry.cookie < c.ordinal) listed) (ap entries_at at.to_at.there ∙ ap entries_in at.to_at.holds) (at_to (IsNewAt m c.ordinal) (new inside fresh unspent) p.b.id at.to_at.led).1 in
       let can : CanRename c.ordinal p.b = record { few = within.few; differ = within.differ; below = below; links = within.links } in
       let moved_is : child_at m from from_name ≡ Some p.moved.id = named_is m from from_name p.a p.entry at.from_at at.named ∙ ap Some (sym at.is) in
       subst (CanCarryOut m reach c from_name to_name) q.is (record {

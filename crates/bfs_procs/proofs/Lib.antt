@@ -1,3 +1,5 @@
 pub mod Fresh
 pub mod Links
+pub mod Checks
+pub mod Reached
 pub mod CarryingOut

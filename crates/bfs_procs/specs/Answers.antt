@@ -1,11 +1,13 @@
 -- What a procedure of the code answers, beside the model's.
-use Rattle.std.specs.Prelude.{◌≡◌, ℕ, List, [], ◌∷◌, Result, Ok, Err}
+use Rattle.std.specs.Prelude.{◌≡◌, ℕ, not, List, [], ◌∷◌, Result, Ok, Err}
 use Rattle.std.specs.Option.{ok_or}
 use Rattle.bfs_model.specs.Bytes.Items.{◌>>=◌}
 use Rattle.bfs_model.specs.Server.Directories.{is_bad_name, entry_named}
-use Rattle.bfs_model.specs.Server.Tree.{Listing, Inodes}
-use Rattle.bfs_model.specs.Bytes.Replies.{Status, perm, noent}
-use Rattle.bfs_model.specs.Server.Refusals.{Outcome, checked}
+use Rattle.bfs_model.specs.Server.Access.{may_change_entries}
+use Rattle.bfs_model.specs.Server.Context.{Context}
+use Rattle.bfs_model.specs.Server.Tree.{Inodes}
+use Rattle.bfs_model.specs.Bytes.Replies.{Status, perm, noent, acces}
+use Rattle.bfs_model.specs.Server.Refusals.{Outcome, FoundDirectory, checked}
 use Rattle.bfs_procs.specs.declared.not_done.NotDone.{NotDone}
 use Rattle.bfs_procs.specs.declared.not_done.NotDone.TheVariants.{Refused, Memory}
 use Rattle.bfs_wire.specs.declared.reply.NfsReply.{NfsReply}
@@ -17,9 +19,9 @@ Answers before after (Ok reply) attempted = attempted ≡ Ok (after, reply_seen 
 Answers before after (Err (Refused status)) attempted = (attempted ≡ Err (status_seen status)) × (after ≡ before)
 Answers before after (Err Memory) attempted = Unit {0}
 
--- the fileid of what a name that may go leads to
-abbrev pub name_leads : Listing → (name : List ℕ) → Result ℕ Status
-name_leads listing name = do
-  good ← checked ((is_bad_name name, perm) ∷ [])
-  entry ← ok_or (entry_named name listing.entries) noent
+-- the fileid of what a name that may go leads to, in a directory
+abbrev pub name_leads : Context → FoundDirectory → (name : List ℕ) → Result ℕ Status
+name_leads context dir name = do
+  allowed ← checked ((not (may_change_entries context.caller dir.inode), acces) ∷ (is_bad_name name, perm) ∷ [])
+  entry ← ok_or (entry_named name dir.listing.entries) noent
   Ok entry.child

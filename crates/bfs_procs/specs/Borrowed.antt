@@ -1,10 +1,15 @@
--- What READ and READDIR give, before it is spelled, as replies of the model.
+-- What borrows from a store, as the model has it: what READ and READDIR give, before it is spelled, and the directory that a handle leads to.
 use Rattle.std.specs.Prelude.{Result, Ok, Err}
 use Rattle.bfs_model.specs.Bytes.Replies as model
+use Rattle.bfs_model.specs.Server.Refusals as refusals
 use Rattle.bfs_inode.specs.Pages.{Page}
 use Rattle.bfs_procs.specs.declared.data.Contents.{Contents}
+use Rattle.bfs_procs.specs.declared.found.FoundDirectory.{FoundDirectory}
 use Rattle.bfs_wire.specs.declared.status.Status.{Status}
 use Rattle.bfs_wire.specs.Replies.{status_seen}
+
+abbrev pub found_seen : FoundDirectory → refusals.FoundDirectory
+found_seen found = record { id = found.id; inode = found.inode.now; listing = found.directory.now }
 
 abbrev pub contents_seen : Contents → model.Reply
 contents_seen contents = model.contents contents.attributes contents.bytes.now

@@ -62,6 +62,9 @@ pub(crate) fn read_contents<'a, S: Store>(
     let id = file.ok_or(Status::Stale)?;
     let inode = store.get(id).ok_or(Status::Stale)?;
     let bytes = bytes_of(inode)?;
+    if !inode.may_read_file(&context.caller) {
+        return Err(Status::Acces);
+    }
     Ok(Contents {
         attributes: inode.attributes(id),
         bytes: bytes_from(bytes, offset, count),
@@ -102,6 +105,9 @@ pub(crate) fn write<S: Store>(
         return Err(NotDone::Refused(Status::Stale));
     };
     bytes_of(inode)?;
+    if !inode.may_write_file(&context.caller) {
+        return Err(NotDone::Refused(Status::Acces));
+    }
     if is_past_limit(offset, bytes) {
         return Err(NotDone::Refused(Status::FBig));
     }

@@ -4,6 +4,7 @@
 mod attributes;
 mod calls;
 mod data;
+mod found;
 mod making;
 mod names;
 mod not_done;

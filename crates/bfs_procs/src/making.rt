@@ -1,25 +1,28 @@
 // CREATE, MKDIR, SYMLINK and LINK, and the new name that each makes.
-ghost use Rattle.std.specs.Prelude.{◌≡◌, ◌<◌, ◌≤◌, ◌∷◌, [], ◌++◌, None, length, nat_lt, unwrap_or, IfOk};
+ghost use Rattle.std.specs.Prelude.{◌≡◌, ◌<◌, ◌≤◌, ◌∷◌, [], ◌++◌, None, not, is_some, length, nat_lt, unwrap_or, IfOk};
 ghost use Rattle.std.specs.Result.{result_map_both};
 ghost use Rattle.bfs_model.specs.Bytes.Arguments as call;
 ghost use Rattle.bfs_model.specs.Bytes.Attributes.{attributes_of};
-ghost use Rattle.bfs_model.specs.Server.Directories.{entry_named};
+ghost use Rattle.bfs_model.specs.Server.Access.{may_change_entries, owner_refusals};
+ghost use Rattle.bfs_model.specs.Server.Directories.{is_bad_name, entry_named};
 ghost use Rattle.bfs_model.specs.Server.Footprints.{footprint, IsFresh};
 ghost use Rattle.bfs_model.specs.Server.Limits.{most_name_bytes, most_path_bytes, most_file_bytes, most_entries, most_links};
-ghost use Rattle.bfs_model.specs.Server.Refusals.{checked, has_most_links};
+ghost use Rattle.bfs_model.specs.Server.Refusals.{checked, is_spent, is_full, has_most_links};
 ghost use Rattle.bfs_model.specs.Bytes.Replies as replies;
-ghost use Rattle.bfs_model.specs.Bytes.Replies.{fbig, nospc};
+ghost use Rattle.bfs_model.specs.Bytes.Replies.{perm, acces, exist, fbig, nospc};
 ghost use Rattle.bfs_model.specs.Server.Tree.{spent_ordinal};
 ghost use Rattle.bfs_model.specs.Server.Procedures.Making.{new_name_refusals, file_created, directory_made, symbolic_link_made, link_made};
 ghost use Rattle.bfs_procs.specs.Answers.{Answers};
+ghost use Rattle.bfs_procs.specs.Borrowed.{found_seen};
 ghost use Rattle.bfs_tree.specs.Reach.{Knows};
 ghost use Rattle.bfs_wire.specs.Replies.{reply_seen, status_seen};
 
+use crate::found::FoundDirectory;
 use crate::not_done::NotDone;
 use crate::steps::{add_entry, add_link, put};
 use bfs_inode::{Directory, FileId, Inode, is_bad_name};
 use bfs_tree::Store;
-use bfs_types::{Context, MOST_ENTRIES, MOST_FILE_BYTES, MOST_LINKS, Settings};
+use bfs_types::{Context, Cred, MOST_ENTRIES, MOST_FILE_BYTES, MOST_LINKS, Settings};
 use bfs_wire::{NfsReply, Status};
 use std::alloc::Global;
 
@@ -42,7 +45,12 @@ pub(crate) fn create<S: Store>(
     let dir = dir.ok_or(Status::Stale)?;
     let inode = store.get(dir).ok_or(Status::Stale)?;
     let directory = inode.directory().ok_or(Status::NotDir)?;
-    let id = new_file_id(context, directory, name, settings.size)?;
+    let found = FoundDirectory {
+        id: dir,
+        inode,
+        directory,
+    };
+    let id = new_file_id(context, &found, name, settings)?;
     let file = Inode::new_file(alloc, context, settings)?;
     let reply = made(id, &file);
     add_entry(store, context, dir, name, id)?;
@@ -69,7 +77,12 @@ pub(crate) fn make_directory<S: Store>(
     let dir = dir.ok_or(Status::Stale)?;
     let inode = store.get(dir).ok_or(Status::Stale)?;
     let directory = inode.directory().ok_or(Status::NotDir)?;
-    let id = new_name_of_links(context, directory, name, inode.links())?;
+    let found = FoundDirectory {
+        id: dir,
+        inode,
+        directory,
+    };
+    let id = new_directory_id(context, &found, name, settings)?;
     let new = Inode::new_directory(alloc, context, settings, dir);
     let reply = made(id, &new);
     add_entry(store, context, dir, name, id)?;
@@ -99,7 +112,12 @@ pub(crate) fn make_symbolic_link<S: Store>(
     let dir = dir.ok_or(Status::Stale)?;
     let inode = store.get(dir).ok_or(Status::Stale)?;
     let directory = inode.directory().ok_or(Status::NotDir)?;
-    let id = new_name(context, directory, name)?;
+    let found = FoundDirectory {
+        id: dir,
+        inode,
+        directory,
+    };
+    let id = new_name(context, &found, name, settings)?;
     let link = Inode::new_symbolic_link(alloc, context, settings, path)?;
     add_entry(store, context, dir, name, id)?;
     put(store, id, link)?;
@@ -129,7 +147,12 @@ pub(crate) fn link<S: Store>(
     let dir = dir.ok_or(Status::Stale)?;
     let inode = store.get(dir).ok_or(Status::Stale)?;
     let directory = inode.directory().ok_or(Status::NotDir)?;
-    new_name_of_links(context, directory, name, linked.links())?;
+    let found = FoundDirectory {
+        id: dir,
+        inode,
+        directory,
+    };
+    takes_link(context, &found, name, linked.links())?;
     add_entry(store, context, dir, name, id)?;
     add_link(store, context.time, id);
     Ok(NfsReply::Done)
@@ -145,20 +168,43 @@ fn made(id: FileId, inode: &Inode) -> NfsReply
     }
 }
 
-// the fileid for a new name in a directory, or why there is none
-fn new_name(context: &Context, directory: &Directory, name: &[u8]) -> Result<FileId, Status>
-    ensures checked { result_map_both (λ _. tt) status_seen result ≡ checked (new_name_refusals context.now directory.now name.now) }
-    ensures value { IfOk result (λ id. id ≡ context.now.ordinal) }
-    ensures unspent { IfOk result (λ id. context.now.ordinal < spent_ordinal) }
-    ensures room { IfOk result (λ id. length directory.now.entries < most_entries) }
-    ensures free { IfOk result (λ id. entry_named name.now directory.now.entries ≡ None) }
+// whether a new name may come to a directory, or why not
+fn takes_name(context: &Context, dir: &FoundDirectory, name: &[u8]) -> Result<(), Status>
+    ensures checked { result_map_both (λ _. tt) status_seen result ≡ checked ((not (may_change_entries context.now.caller dir.now.inode.now), acces) ∷ (is_bad_name name.now, perm) ∷ (is_some (entry_named name.now dir.now.directory.now.entries), exist) ∷ []) }
+    ensures free { IfOk result (λ _. entry_named name.now dir.now.directory.now.entries ≡ None) }
 {
+    if !dir.inode.may_change_entries(&context.caller) {
+        return Err(Status::Acces);
+    }
     if is_bad_name(name) {
         return Err(Status::Perm);
     }
-    if directory.holds(name) {
+    if dir.directory.holds(name) {
         return Err(Status::Exist);
     }
+    Ok(())
+}
+
+// whether the caller may make what belongs to the user and the group that are set, or why not
+fn takes_owner(caller: &Cred, settings: &Settings) -> Result<(), Status>
+    ensures { result_map_both (λ _. tt) status_seen result ≡ checked (owner_refusals caller.now settings.now) }
+{
+    if settings.uid.is_some_and(|uid| !caller.may_make_for(uid)) {
+        return Err(Status::Perm);
+    }
+    if settings.gid.is_some_and(|gid| !caller.may_give_to(gid)) {
+        return Err(Status::Perm);
+    }
+    Ok(())
+}
+
+// the fileid for what comes to a directory, or why there is no room
+fn room(context: &Context, directory: &Directory) -> Result<FileId, Status>
+    ensures checked { result_map_both (λ _. tt) status_seen result ≡ checked ((is_spent context.now.ordinal, nospc) ∷ (is_full (length directory.now.entries), nospc) ∷ []) }
+    ensures value { IfOk result (λ id. id ≡ context.now.ordinal) }
+    ensures unspent { IfOk result (λ id. context.now.ordinal < spent_ordinal) }
+    ensures room { IfOk result (λ id. length directory.now.entries < most_entries) }
+{
     let id = context.ordinal.file_id().ok_or(Status::NoSpc)?;
     if directory.len() >= MOST_ENTRIES {
         return Err(Status::NoSpc);
@@ -166,44 +212,83 @@ fn new_name(context: &Context, directory: &Directory, name: &[u8]) -> Result<Fil
     Ok(id)
 }
 
-// .. of a file of that size
-fn new_file_id(
+// the fileid for what is made under a new name, or why there is none
+fn new_name(
     context: &Context,
-    directory: &Directory,
+    dir: &FoundDirectory,
     name: &[u8],
-    size: Option<u32>,
+    settings: &Settings,
 ) -> Result<FileId, Status>
-    ensures checked { result_map_both (λ _. tt) status_seen result ≡ checked (new_name_refusals context.now directory.now name.now ++ (nat_lt most_file_bytes (unwrap_or size 0), fbig) ∷ []) }
+    ensures checked { result_map_both (λ _. tt) status_seen result ≡ checked (new_name_refusals context.now (found_seen dir.now) name.now (owner_refusals context.now.caller settings.now)) }
     ensures value { IfOk result (λ id. id ≡ context.now.ordinal) }
     ensures unspent { IfOk result (λ id. context.now.ordinal < spent_ordinal) }
-    ensures room { IfOk result (λ id. length directory.now.entries < most_entries) }
-    ensures free { IfOk result (λ id. entry_named name.now directory.now.entries ≡ None) }
-    ensures small { IfOk result (λ id. unwrap_or size 0 ≤ most_file_bytes) }
+    ensures room { IfOk result (λ id. length dir.now.directory.now.entries < most_entries) }
+    ensures free { IfOk result (λ id. entry_named name.now dir.now.directory.now.entries ≡ None) }
 {
-    let id = new_name(context, directory, name)?;
-    if size.unwrap_or(0) as usize > MOST_FILE_BYTES {
+    takes_name(context, dir, name)?;
+    takes_owner(&context.caller, settings)?;
+    room(context, dir.directory)
+}
+
+// .. for a file
+fn new_file_id(
+    context: &Context,
+    dir: &FoundDirectory,
+    name: &[u8],
+    settings: &Settings,
+) -> Result<FileId, Status>
+    ensures checked { result_map_both (λ _. tt) status_seen result ≡ checked (new_name_refusals context.now (found_seen dir.now) name.now (owner_refusals context.now.caller settings.now) ++ (nat_lt most_file_bytes (unwrap_or settings.now.size 0), fbig) ∷ []) }
+    ensures value { IfOk result (λ id. id ≡ context.now.ordinal) }
+    ensures unspent { IfOk result (λ id. context.now.ordinal < spent_ordinal) }
+    ensures room { IfOk result (λ id. length dir.now.directory.now.entries < most_entries) }
+    ensures free { IfOk result (λ id. entry_named name.now dir.now.directory.now.entries ≡ None) }
+    ensures small { IfOk result (λ id. unwrap_or settings.now.size 0 ≤ most_file_bytes) }
+{
+    let id = new_name(context, dir, name, settings)?;
+    if settings.size.unwrap_or(0) as usize > MOST_FILE_BYTES {
         return Err(Status::FBig);
     }
     Ok(id)
 }
 
-// .. which makes one link more of an inode that has so many
-fn new_name_of_links(
+// .. for a directory, which makes one link more of the directory that holds it
+fn new_directory_id(
     context: &Context,
-    directory: &Directory,
+    dir: &FoundDirectory,
     name: &[u8],
-    links: u32,
+    settings: &Settings,
 ) -> Result<FileId, Status>
-    ensures checked { result_map_both (λ _. tt) status_seen result ≡ checked (new_name_refusals context.now directory.now name.now ++ (has_most_links links, nospc) ∷ []) }
+    ensures checked { result_map_both (λ _. tt) status_seen result ≡ checked (new_name_refusals context.now (found_seen dir.now) name.now (owner_refusals context.now.caller settings.now) ++ (has_most_links dir.now.inode.now.links, nospc) ∷ []) }
     ensures value { IfOk result (λ id. id ≡ context.now.ordinal) }
     ensures unspent { IfOk result (λ id. context.now.ordinal < spent_ordinal) }
-    ensures room { IfOk result (λ id. length directory.now.entries < most_entries) }
-    ensures free { IfOk result (λ id. entry_named name.now directory.now.entries ≡ None) }
-    ensures few { IfOk result (λ id. links < most_links) }
+    ensures room { IfOk result (λ id. length dir.now.directory.now.entries < most_entries) }
+    ensures free { IfOk result (λ id. entry_named name.now dir.now.directory.now.entries ≡ None) }
+    ensures few { IfOk result (λ id. dir.now.inode.now.links < most_links) }
 {
-    let id = new_name(context, directory, name)?;
-    if links >= MOST_LINKS {
+    let id = new_name(context, dir, name, settings)?;
+    if dir.inode.links() >= MOST_LINKS {
         return Err(Status::NoSpc);
     }
     Ok(id)
+}
+
+// whether an inode that has so many links may get a new name, or why not
+fn takes_link(
+    context: &Context,
+    dir: &FoundDirectory,
+    name: &[u8],
+    links: u32,
+) -> Result<(), Status>
+    ensures checked { result_map_both (λ _. tt) status_seen result ≡ checked (new_name_refusals context.now (found_seen dir.now) name.now [] ++ (has_most_links links, nospc) ∷ []) }
+    ensures unspent { IfOk result (λ _. context.now.ordinal < spent_ordinal) }
+    ensures room { IfOk result (λ _. length dir.now.directory.now.entries < most_entries) }
+    ensures free { IfOk result (λ _. entry_named name.now dir.now.directory.now.entries ≡ None) }
+    ensures few { IfOk result (λ _. links < most_links) }
+{
+    takes_name(context, dir, name)?;
+    room(context, dir.directory)?;
+    if links >= MOST_LINKS {
+        return Err(Status::NoSpc);
+    }
+    Ok(())
 }

@@ -32,6 +32,9 @@ pub(crate) fn look_up<S: Store>(
     let dir = dir.ok_or(Status::Stale)?;
     let inode = store.get(dir).ok_or(Status::Stale)?;
     let directory = inode.directory().ok_or(Status::NotDir)?;
+    if !inode.may_search(&context.caller) {
+        return Err(NotDone::Refused(Status::Acces));
+    }
     if is_no_name(name) {
         return Err(NotDone::Refused(Status::Perm));
     }
@@ -73,6 +76,9 @@ pub(crate) fn read_page<'a, S: Store>(
     let id = dir.ok_or(Status::Stale)?;
     let inode = store.get(id).ok_or(Status::Stale)?;
     let directory = inode.directory().ok_or(Status::NotDir)?;
+    if !inode.may_read(&context.caller) {
+        return Err(Status::Acces);
+    }
     Ok(directory.page(id, cookie, count))
 }
 

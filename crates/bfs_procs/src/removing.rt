@@ -9,12 +9,14 @@ ghost use Rattle.bfs_model.specs.Bytes.Replies.{notdir, notempty};
 ghost use Rattle.bfs_model.specs.Server.Tree.{is_directory_body};
 ghost use Rattle.bfs_model.specs.Server.Procedures.Removing.{file_removed, directory_removed, has_entries};
 ghost use Rattle.bfs_procs.specs.Answers.{Answers, name_leads};
+ghost use Rattle.bfs_procs.specs.Borrowed.{found_seen};
 ghost use Rattle.bfs_tree.specs.Reach.{Knows};
 ghost use Rattle.bfs_wire.specs.Replies.{status_seen};
 
+use crate::found::FoundDirectory;
 use crate::not_done::NotDone;
 use crate::steps::{drop_entry, lose_link, lose_name};
-use bfs_inode::{Directory, FileId, Inode, is_bad_name};
+use bfs_inode::{FileId, Inode, is_bad_name};
 use bfs_tree::Store;
 use bfs_types::Context;
 use bfs_wire::{NfsReply, Status};
@@ -34,7 +36,12 @@ pub(crate) fn remove<S: Store>(
     let dir = dir.ok_or(Status::Stale)?;
     let inode = store.get(dir).ok_or(Status::Stale)?;
     let directory = inode.directory().ok_or(Status::NotDir)?;
-    let id = child_of(directory, name)?;
+    let found = FoundDirectory {
+        id: dir,
+        inode,
+        directory,
+    };
+    let id = child_of(context, &found, name)?;
     let child = store.get(id).ok_or(Status::Stale)?;
     if child.is_directory() {
         return Err(NotDone::Refused(Status::IsDir));
@@ -59,7 +66,12 @@ pub(crate) fn remove_directory<S: Store>(
     let dir = dir.ok_or(Status::Stale)?;
     let inode = store.get(dir).ok_or(Status::Stale)?;
     let directory = inode.directory().ok_or(Status::NotDir)?;
-    let id = child_of(directory, name)?;
+    let found = FoundDirectory {
+        id: dir,
+        inode,
+        directory,
+    };
+    let id = child_of(context, &found, name)?;
     is_empty_directory(store.get(id).ok_or(Status::Stale)?)?;
     drop_entry(store, context.time, dir, name);
     store.remove(id);
@@ -67,14 +79,17 @@ pub(crate) fn remove_directory<S: Store>(
     Ok(NfsReply::Done)
 }
 
-/// The fileid of what a name that may go leads to. `Perm` if the name is a bad one, and `NoEnt` if no entry has it.
-pub(crate) fn child_of(directory: &Directory, name: &[u8]) -> Result<FileId, Status>
-    ensures { result_map_both (λ id. id) status_seen result ≡ name_leads directory.now name.now }
+// the fileid of what a name that may go leads to
+fn child_of(context: &Context, dir: &FoundDirectory, name: &[u8]) -> Result<FileId, Status>
+    ensures { result_map_both (λ id. id) status_seen result ≡ name_leads context.now (found_seen dir.now) name.now }
 {
+    if !dir.inode.may_change_entries(&context.caller) {
+        return Err(Status::Acces);
+    }
     if is_bad_name(name) {
         return Err(Status::Perm);
     }
-    let entry = directory.entry(name).ok_or(Status::NoEnt)?;
+    let entry = dir.directory.entry(name).ok_or(Status::NoEnt)?;
     Ok(entry.child)
 }
 

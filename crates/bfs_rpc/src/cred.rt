@@ -1,8 +1,8 @@
-ghost use Rattle.std.specs.Prelude.{◌≡◌};
+ghost use Rattle.std.specs.Prelude.{◌≡◌, ◌≤◌};
 ghost use Rattle.std.specs.Option.{option_map};
 ghost use Rattle.bfs_model.specs.Bytes.Call as model;
 
-use bfs_types::Cred;
+use bfs_types::{Cred, Gids, MOST_GIDS};
 use bfs_xdr::Reader;
 
 const AUTH_NONE: u32 = 0;
@@ -11,10 +11,8 @@ const AUTH_SYS: u32 = 1;
 
 const NOBODY: u32 = 65534;
 
-// the most bytes of a machine's name, and the most further gids (RFC 5531 appendix A)
+// the most bytes of a machine's name (RFC 5531 appendix A)
 const MAX_MACHINE_NAME: u32 = 255;
-
-const MAX_GIDS: u32 = 16;
 
 /// The caller that a credential of that flavor and body names (RFC 5531 sections 8.2 and 10.1, appendix A), or `None` where
 /// it is neither AUTH_NONE nor a well-formed AUTH_SYS.
@@ -26,6 +24,7 @@ pub(crate) fn cred_of(flavor: u32, body: &[u8]) -> Option<Cred>
         AUTH_NONE => Some(Cred {
             uid: NOBODY,
             gid: NOBODY,
+            gids: Gids::none(),
         }),
         AUTH_SYS => system_cred_of(body),
         _ => None,
@@ -42,24 +41,25 @@ fn system_cred_of(body: &[u8]) -> Option<Cred>
     let uid = reader.u32().ok()?;
     let gid = reader.u32().ok()?;
     let count = reader.u32().ok()?;
-    if count > MAX_GIDS {
+    if count as usize > MOST_GIDS {
         return None;
     }
-    let rest = after_words(count, reader.rest())?;
-    if rest.is_empty() {
-        Some(Cred { uid, gid })
+    let gids = gids_at(count, &mut reader)?;
+    if reader.rest().is_empty() {
+        Some(Cred { uid, gid, gids })
     } else {
         None
     }
 }
 
-#[tactic(auto, using(crate::proofs::Words::after_words_steps))]
-fn after_words(count: u32, bytes: &[u8]) -> Option<&[u8]>
-    ensures { option_map (λ x. x.now) result ≡ model.after_words count bytes.now }
+// so many further gids, which are read
+fn gids_at(count: u32, reader: &mut Reader) -> Option<Gids>
+    requires { count ≤ MOST_GIDS }
+    ensures { option_map (λ gids. (gids, reader.new.left)) result ≡ model.words_at count reader.old.left }
 {
-    let mut reader = Reader::new(bytes);
+    let mut gids = Gids::none();
     for _counter in 0..count {
-        reader.u32().ok()?;
+        gids.push(reader.u32().ok()?);
     }
-    Some(reader.rest())
+    Some(gids)
 }

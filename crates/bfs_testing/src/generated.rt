@@ -3,7 +3,9 @@ use crate::numbers::{
     CREATE, GETATTR, LINK, LOOKUP, MKDIR, READ, READDIR, READLINK, REMOVE, RENAME, RMDIR, SETATTR,
     STATFS, SYMLINK, WRITE,
 };
-use crate::words::{A, B, C, D, DOT, DOT_DOT, E, F, NO_NAME, SIZE_OF_ONE, UNSET, call, put_parts};
+use crate::words::{
+    A, B, C, D, DOT, DOT_DOT, E, F, NO_NAME, SIZE_OF_ONE, UNSET, call, call_by, put_parts,
+};
 use bfs_types::Memory;
 use std::alloc::Global;
 
@@ -32,7 +34,12 @@ pub struct Generator {
     pub dirs: (u32, u32),
     /// How many names there are in directories: of the letters `a` to `f`, `.`, `..` and the empty name, in this order.
     pub names: u32,
+    /// How many callers there are: uid 0 is the first, 1001 the second and so on. Where there is none, requests have no credential.
+    pub callers: u32,
 }
+
+// what is not set
+const NONE: u32 = 0xffffffff;
 
 impl Generator {
     /// The next number, below 2^24.
@@ -41,24 +48,40 @@ impl Generator {
         drawn(self.state)
     }
 
-    /// A request with xid 1 and no credential, of one of the procedures. Of a number that is none, or of a procedure without arguments, it
-    /// has none.
+    /// A request with xid 1, of one of the procedures. Of a number that is none, or of a procedure without arguments, it has none. Where there
+    /// are callers, SETATTR mostly sets modes and owners of directories.
     pub fn request(&mut self, alloc: Global) -> Result<Vec<u8>, Memory> {
         let place = self.next() as usize % self.procedures.len().max(1);
         let procedure = *self.procedures.get(place).unwrap_or(&GETATTR);
-        let mut bytes = call(alloc, 1, procedure)?;
+        let mut bytes = self.head(alloc, procedure)?;
         self.put_arguments(&mut bytes, procedure)?;
         Ok(bytes)
+    }
+
+    fn head(&mut self, alloc: Global, procedure: u32) -> Result<Vec<u8>, Memory> {
+        if self.callers == 0 {
+            return call(alloc, 1, procedure);
+        }
+        let caller = self.next() % self.callers.max(1);
+        let uid = if caller == 0 {
+            0
+        } else {
+            caller.saturating_add(1_000)
+        };
+        call_by(
+            alloc,
+            1,
+            procedure,
+            (uid, 100 + caller % 2),
+            &[100 + caller % 3; 16],
+        )
     }
 
     fn put_arguments(&mut self, bytes: &mut Vec<u8>, procedure: u32) -> Result<(), Memory> {
         match procedure {
             GETATTR | READLINK => self.put_file(bytes),
             STATFS => self.put_dir(bytes),
-            SETATTR => {
-                self.put_file(bytes)?;
-                put_parts(bytes, &[SIZE_OF_ONE])
-            }
+            SETATTR => self.put_changed(bytes),
             LOOKUP | REMOVE | RMDIR => self.put_named(bytes),
             READ => {
                 self.put_file(bytes)?;
@@ -90,6 +113,21 @@ impl Generator {
                 put_parts(bytes, &[&[0, 512]])
             }
             _ => Ok(()),
+        }
+    }
+
+    fn put_changed(&mut self, bytes: &mut Vec<u8>) -> Result<(), Memory> {
+        if self.callers == 0 || self.next() % 4 == 0 {
+            self.put_file(bytes)?;
+            return put_parts(bytes, &[SIZE_OF_ONE]);
+        }
+        self.put_dir(bytes)?;
+        let mode = self.next() % 0o1000;
+        if self.next() % 4 == 0 {
+            let (uid, gid) = (1_000 + mode % 4, 100 + mode % 3);
+            put_parts(bytes, &[&[NONE, uid, gid, NONE, NONE, NONE, NONE, NONE]])
+        } else {
+            put_parts(bytes, &[&[mode, NONE, NONE, NONE, NONE, NONE, NONE, NONE]])
         }
     }
 

@@ -42,6 +42,8 @@ pub const PERM: &[u32] = &[1];
 
 pub const NOENT: &[u32] = &[2];
 
+pub const ACCES: &[u32] = &[13];
+
 pub const EXIST: &[u32] = &[17];
 
 pub const NOTDIR: &[u32] = &[20];

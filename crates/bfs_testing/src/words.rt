@@ -113,6 +113,28 @@ pub fn call(alloc: Global, xid: u32, procedure: u32) -> Result<Vec<u8>, Memory>
     Ok(bytes)
 }
 
+/// The head of a call of RPC version 2 by a user and its group, who has 16 further groups (RFC 5531 appendix A), with no verifier.
+#[tactic(auto, using(std::proofs::lemmas::List::append_assoc))]
+pub fn call_by(
+    alloc: Global,
+    xid: u32,
+    procedure: u32,
+    user: (u32, u32),
+    gids: &[u32; 16],
+) -> Result<Vec<u8>, Memory>
+    ensures { IfOk result (λ bytes. bytes.items ≡ words (xid ∷ 0 ∷ 2 ∷ 100003 ∷ 2 ∷ procedure ∷ 1 ∷ 84 ∷ 0 ∷ 0 ∷ user.0 ∷ user.1 ∷ 16 ∷ []) ++ words gids.now ++ words (0 ∷ 0 ∷ [])) }
+{
+    let (uid, gid) = user;
+    let mut bytes = Vec::new(alloc);
+    put_words(
+        &mut bytes,
+        &[xid, 0, 2, 100003, 2, procedure, 1, 84, 0, 0, uid, gid, 16],
+    )?;
+    put_words(&mut bytes, gids)?;
+    put_words(&mut bytes, &[0, 0])?;
+    Ok(bytes)
+}
+
 /// Compares bytes.
 pub fn same_bytes(alloc: Global, given: &[u8], wanted: &[u8]) -> Result<(), Fail>
     ensures { OnOk result (given.now ≡ wanted.now) }

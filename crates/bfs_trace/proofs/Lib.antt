@@ -1,8 +1,10 @@
 pub mod Cuts
 pub mod Decoded
 pub mod Digits
+pub mod Gids
 pub mod Headers
 pub mod Rows
 pub mod SentArguments
+pub mod SentCallers
 pub mod SentHeaders
 pub mod SpelledCalls

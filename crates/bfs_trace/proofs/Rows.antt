@@ -4,7 +4,9 @@ use Rattle.std.specs.Prelude.{⊤, replicate, is_ok}
 use Rattle.std.specs.List.{flat_map}
 use Rattle.hex.proofs.OnLiterals.{hex_on_literals}
 use Rattle.bfs_model.specs.Bytes.Arguments.{handle}
+use Rattle.bfs_model.specs.Bytes.Call.{Credential}
 use Rattle.bfs_model.specs.Bytes.Items.{counted, fixed, word}
+use Rattle.bfs_trace.specs.Callers.{first_callers, gids_spelled}
 use Rattle.bfs_trace.specs.Events.{Request}
 use Rattle.bfs_trace.specs.Lines.{call_spelled, line_spelled}
 use Rattle.bfs_trace.specs.Operands.{file_spelled, mode_in, number_setting_in, set_time_spelled, settings_in, time_setting_in, time_spelled}
@@ -12,19 +14,23 @@ use Rattle.bfs_trace.specs.Messages.{arguments, call_header, credential_body, se
 use Rattle.bfs_trace.specs.Trace.{is_passed_over, read_lines, trace_spelled}
 use Rattle.bfs_trace.specs.Population.{Population}
 use Rattle.bfs_trace.specs.Texts.{data_spelled, escape_spelled, text_after, text_spelled}
-use Rattle.bfs_trace.specs.Verbs.{call_in_words, named_with_settings_words, named_words, procedure_named, rename_words, set_attributes_words, symbolic_link_words, write_words}
+use Rattle.bfs_trace.specs.Verbs.{call_in_words, file_words, named_with_settings_words, named_words, procedure_named, rename_words, set_attributes_words, symbolic_link_words, write_words}
 use Rattle.bfs_trace.specs.Words.{digits_spelled, parts}
 use Rattle.bfs_trace.specs.declared.events.TraceEvent.{TraceEvent}
 use Rattle.bfs_trace.specs.declared.events.TraceEvent.TheVariants as event
 
 -- what computes what a text says
 unfoldable pub read_on_literals : ⊤
-unfolding hex_on_literals parts digits_spelled time_spelled procedure_named call_spelled line_spelled is_passed_over read_lines
+unfolding hex_on_literals parts digits_spelled time_spelled procedure_named call_spelled line_spelled is_passed_over read_lines first_callers gids_spelled
 read_on_literals = tt
 
 -- one replica
 abbrev pub sixteen_clients : Population
 sixteen_clients = record { clients = 16; replicas = 1 }
+
+-- whom no line has named
+abbrev pub sixteen_callers : List Credential
+sixteen_callers = first_callers 16
 
 abbrev pub block_at : (seconds useconds : ℕ) → List Request → TraceEvent
 block_at s u requests = event.Block (record { time = record { seconds = s; useconds = u }; requests = requests })
@@ -114,6 +120,46 @@ pub row-request_too_many : trace_spelled sixteen_clients (requests_behind_batch 
 unfolding read_on_literals
 row-request_too_many = refl
 
+-- Callers --------------------------------------------------------------------------------------------------------------
+
+-- 16 groups behind the first, and the ends of what numbers may be
+pub row-most_gids : is_ok (trace_spelled sixteen_clients (codes "as 15 4294967295 0 1 2 3 4 5 6 7 8 9 10 11 12 13 14 15 4294967295")) ≡ true
+unfolding read_on_literals
+row-most_gids = refl
+
+pub row-gid_too_many : trace_spelled sixteen_clients (codes "as 0 1 2 1 2 3 4 5 6 7 8 9 10 11 12 13 14 15 16 17") ≡ Err 1
+unfolding read_on_literals
+row-gid_too_many = refl
+
+pub row-no_gid : trace_spelled sixteen_clients (codes "as 0 1") ≡ Err 1
+unfolding read_on_literals
+row-no_gid = refl
+
+pub row-large_gid : trace_spelled sixteen_clients (codes "as 0 1 2 4294967296") ≡ Err 1
+unfolding read_on_literals
+row-large_gid = refl
+
+pub row-signed_uid : trace_spelled sixteen_clients (codes "as 0 +1 2") ≡ Err 1
+unfolding read_on_literals
+row-signed_uid = refl
+
+pub row-space_behind_gid : trace_spelled sixteen_clients (codes "as 0 1 2 ") ≡ Err 1
+unfolding read_on_literals
+row-space_behind_gid = refl
+
+pub row-other_caller : trace_spelled sixteen_clients (codes "as 16 1 2") ≡ Err 1
+unfolding read_on_literals
+row-other_caller = refl
+
+-- it is no event, and ends a block
+pub row-caller_is_no_event : trace_spelled sixteen_clients (codes "as 0 1 2\nbatch 1.000000\nas 1 2 3\n") ≡ Ok (block_at 1 0 [] ∷ [])
+unfolding read_on_literals
+row-caller_is_no_event = refl
+
+pub row-caller_ends_a_block : trace_spelled sixteen_clients (codes "batch 1.000000\n0 1 raw 00\nas 0 1 2\n0 2 raw 00\n") ≡ Err 4
+unfolding read_on_literals
+row-caller_ends_a_block = refl
+
 -- Verbs, by the bytes that the encoders of `rpcgen` and libtirpc write of their calls ----------------------------------
 
 -- what computes the call that words spell
@@ -122,34 +168,40 @@ unfolding read_on_literals call_in_words digits_spelled file_spelled text_spelle
 calls_on_literals = tt
 
 -- octal digits, and both kinds of time
-pub row-set_attributes : line_spelled sixteen_clients (codes "0 3 setattr #3 644 1001 0 4294967294 now 7.250000")
-    ≡ line_spelled sixteen_clients (codes "0 3 raw 000000030000000000000002000186a30000000200000002000000010000001c00000000000000067265706c61790000000003e8000000640000000000000000000000004246533200000001000000030000000000000000000000000000000000000000000001a4000003e900000000fffffffe00000000000f4240000000070003d090")
+pub row-set_attributes : line_spelled sixteen_clients sixteen_callers (codes "0 3 setattr #3 644 1001 0 4294967294 now 7.250000")
+    ≡ line_spelled sixteen_clients sixteen_callers (codes "0 3 raw 000000030000000000000002000186a30000000200000002000000010000001c00000000000000067265706c61790000000003e8000000640000000000000000000000004246533200000001000000030000000000000000000000000000000000000000000001a4000003e900000000fffffffe00000000000f4240000000070003d090")
 unfolding calls_on_literals
 row-set_attributes = refl
 
 -- a name with bytes by their digits
-pub row-look_up : line_spelled sixteen_clients (codes "0 4 lookup #02 a%20b%25%fF~!")
-    ≡ line_spelled sixteen_clients (codes "0 4 raw 000000040000000000000002000186a30000000200000004000000010000001c00000000000000067265706c61790000000003e80000006400000000000000000000000042465332000000010000000200000000000000000000000000000000000000000000000761206225ff7e2100")
+pub row-look_up : line_spelled sixteen_clients sixteen_callers (codes "0 4 lookup #02 a%20b%25%fF~!")
+    ≡ line_spelled sixteen_clients sixteen_callers (codes "0 4 raw 000000040000000000000002000186a30000000200000004000000010000001c00000000000000067265706c61790000000003e80000006400000000000000000000000042465332000000010000000200000000000000000000000000000000000000000000000761206225ff7e2100")
 unfolding calls_on_literals
 row-look_up = refl
 
 -- bytes of a file, with their padding
-pub row-write : line_spelled sixteen_clients (codes "0 8 write #3 1048576 x00aBCdEF10")
-    ≡ line_spelled sixteen_clients (codes "0 8 raw 000000080000000000000002000186a30000000200000008000000010000001c00000000000000067265706c61790000000003e80000006400000000000000000000000042465332000000010000000300000000000000000000000000000000000000000000000000100000000000000000000500abcdef10000000")
+pub row-write : line_spelled sixteen_clients sixteen_callers (codes "0 8 write #3 1048576 x00aBCdEF10")
+    ≡ line_spelled sixteen_clients sixteen_callers (codes "0 8 raw 000000080000000000000002000186a30000000200000008000000010000001c00000000000000067265706c61790000000003e80000006400000000000000000000000042465332000000010000000300000000000000000000000000000000000000000000000000100000000000000000000500abcdef10000000")
 unfolding calls_on_literals
 row-write = refl
 
 -- two names
-pub row-rename : line_spelled sixteen_clients (codes "0 11 rename #2 f #4 gamma")
-    ≡ line_spelled sixteen_clients (codes "0 11 raw 0000000b0000000000000002000186a3000000020000000b000000010000001c00000000000000067265706c61790000000003e8000000640000000000000000000000004246533200000001000000020000000000000000000000000000000000000000000000016600000042465332000000010000000400000000000000000000000000000000000000000000000567616d6d61000000")
+pub row-rename : line_spelled sixteen_clients sixteen_callers (codes "0 11 rename #2 f #4 gamma")
+    ≡ line_spelled sixteen_clients sixteen_callers (codes "0 11 raw 0000000b0000000000000002000186a3000000020000000b000000010000001c00000000000000067265706c61790000000003e8000000640000000000000000000000004246533200000001000000020000000000000000000000000000000000000000000000016600000042465332000000010000000400000000000000000000000000000000000000000000000567616d6d61000000")
 unfolding calls_on_literals
 row-rename = refl
 
 -- what is not set
-pub row-make_symbolic_link : line_spelled sixteen_clients (codes "0 13 symlink #2 s d/b%20c - - - - 1.000002 -")
-    ≡ line_spelled sixteen_clients (codes "0 13 raw 0000000d0000000000000002000186a3000000020000000d000000010000001c00000000000000067265706c61790000000003e8000000640000000000000000000000004246533200000001000000020000000000000000000000000000000000000000000000017300000000000005642f622063000000ffffffffffffffffffffffffffffffff0000000100000002ffffffffffffffff")
+pub row-make_symbolic_link : line_spelled sixteen_clients sixteen_callers (codes "0 13 symlink #2 s d/b%20c - - - - 1.000002 -")
+    ≡ line_spelled sixteen_clients sixteen_callers (codes "0 13 raw 0000000d0000000000000002000186a3000000020000000d000000010000001c00000000000000067265706c61790000000003e8000000640000000000000000000000004246533200000001000000020000000000000000000000000000000000000000000000017300000000000005642f622063000000ffffffffffffffffffffffffffffffff0000000100000002ffffffffffffffff")
 unfolding calls_on_literals
 row-make_symbolic_link = refl
+
+-- a client's calls are by another from its line on, until another names it; those of other clients stay
+pub row-callers : trace_spelled sixteen_clients (codes "batch 1.000000\n1 1 getattr #2\nas 1 7 8 9 10\nbatch 2.000000\n1 2 getattr #2\n0 3 null\nbatch 3.000000\n1 4 null\nas 1 0 0\nbatch 4.000000\n1 5 null\n")
+    ≡ trace_spelled sixteen_clients (codes "batch 1.000000\n1 1 raw 000000010000000000000002000186a30000000200000001000000010000001c00000000000000067265706c61790000000003e9000000640000000000000000000000004246533200000001000000020000000000000000000000000000000000000000\nbatch 2.000000\n1 2 raw 000000020000000000000002000186a30000000200000001000000010000002400000000000000067265706c61790000000000070000000800000002000000090000000a00000000000000004246533200000001000000020000000000000000000000000000000000000000\n0 3 raw 000000030000000000000002000186a30000000200000000000000010000001c00000000000000067265706c61790000000003e800000064000000000000000000000000\nbatch 3.000000\n1 4 raw 000000040000000000000002000186a30000000200000000000000010000002400000000000000067265706c61790000000000070000000800000002000000090000000a0000000000000000\nbatch 4.000000\n1 5 raw 000000050000000000000002000186a30000000200000000000000010000001c00000000000000067265706c617900000000000000000000000000000000000000000000\n")
+unfolding calls_on_literals file_words
+row-callers = refl
 
 -- Events --------------------------------------------------------------------------------------------------------------
 

@@ -17,7 +17,7 @@ use Rattle.bfs_trace.proofs.SentArguments.{arguments_are_read}
 
 -- What holds of a value, if there is one -----------------------------------------------------------------------------
 
-bound : {A B : Type 0} (P : A → Type 0) (Q : B → Type 0) (o : Option A) (f : A → Option B) → IfSome o P → ((x : A) → P x → IfSome (f x) Q) → IfSome (o >>= f) Q
+pub bound : {A B : Type 0} (P : A → Type 0) (Q : B → Type 0) (o : Option A) (f : A → Option B) → IfSome o P → ((x : A) → P x → IfSome (f x) Q) → IfSome (o >>= f) Q
 bound P Q None f h g = tt
 bound P Q (Some x) f h g = g x h
 
@@ -40,14 +40,14 @@ both_true : (a b : Bool) → (a && b) ≡ true → b ≡ true
 both_true true b is = is
 both_true false b is = absurd cc
 
-digits_fit : (radix max : ℕ) (word : List ℕ) → IfSome (digits_spelled radix max word) (λ n. n ≤ max)
+pub digits_fit : (radix max : ℕ) (word : List ℕ) → IfSome (digits_spelled radix max word) (λ n. n ≤ max)
 unfolding digits_spelled
 digits_fit radix max [] = tt
 digits_fit radix max (byte ∷ bytes) =
     chosen (λ n. n ≤ max) (are_digits radix (byte ∷ bytes) && nat_le (digits_value radix (byte ∷ bytes)) max) (Some (digits_value radix (byte ∷ bytes))) None
     (λ both. leb-true (digits_value radix (byte ∷ bytes)) max (both_true (are_digits radix (byte ∷ bytes)) _ both)) tt
 
-abbrev WordFirst : {A : Type 0} → (ℕ × A) → Type 0
+abbrev pub WordFirst : {A : Type 0} → (ℕ × A) → Type 0
 WordFirst x = IsWord x.0
 
 file_fits : (word : List ℕ) → IfSome (file_spelled word) (λ n. n ≤ most_number)
@@ -60,7 +60,7 @@ file_in_fits words =
     any WordFirst (word_in words) _ (λ word.
     bound (λ n. n ≤ most_number) WordFirst (file_spelled word.0) _ (file_fits word.0) (λ n le. omega (arith, le)))
 
-number_in_fits : (words : List (List ℕ)) → IfSome (number_in words) WordFirst
+pub number_in_fits : (words : List (List ℕ)) → IfSome (number_in words) WordFirst
 number_in_fits words =
     any WordFirst (word_in words) _ (λ word.
     bound (λ n. n ≤ most_number) WordFirst (number_spelled most_number word.0) _ (digits_fit 10 most_number word.0) (λ n le. omega (arith, le)))

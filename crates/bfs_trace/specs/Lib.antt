@@ -5,6 +5,7 @@ pub mod Operands
 pub mod Verbs
 pub mod Messages
 pub mod Population
+pub mod Callers
 pub mod Events
 pub mod Lines
 pub mod Trace

@@ -1,6 +1,7 @@
 -- The bytes of a call: the message of RFC 5531 section 9, and in it the arguments of RFC 1094 section 2.2.
-use Rattle.std.specs.Prelude.{ℕ, ◌+◌, ◌%◌, List, [], ◌∷◌, ◌++◌, Option, Some, None, codes, replicate}
+use Rattle.std.specs.Prelude.{ℕ, ◌%◌, List, [], ◌∷◌, ◌++◌, length, Option, Some, None, codes, replicate}
 use Rattle.bfs_model.specs.Bytes.Arguments.{Call, Settings, all_ones, handle, null, get_attributes, set_attributes, root, look_up, read_link, read, write_cache, write, create, remove, rename, make_link, make_symbolic_link, make_directory, remove_directory, read_directory, file_system_status}
+use Rattle.bfs_model.specs.Bytes.Call.{Credential}
 use Rattle.bfs_model.specs.Bytes.Items.{counted, word, words}
 use Rattle.bfs_model.specs.Server.Tree.{Time}
 
@@ -52,16 +53,16 @@ arguments (file_system_status file) = handle_item file
 
 -- The header -----------------------------------------------------------------------------------------------------------
 
--- the body of AUTH_SYS (RFC 5531 appendix A): stamp 0, the machine's name, uid, gid, and no further gids
-unfoldable pub credential_body : (client : ℕ) → List ℕ
-credential_body client = word 0 ++ counted (codes "replay") ++ words ((1000 + client) ∷ 100 ∷ 0 ∷ [])
+-- the body of AUTH_SYS (RFC 5531 appendix A): stamp 0, the machine's name, uid, gid, and the further gids behind their number
+unfoldable pub credential_body : Credential → List ℕ
+credential_body caller = word 0 ++ counted (codes "replay") ++ words (caller.uid ∷ caller.gid ∷ length caller.gids ∷ caller.gids)
 
 -- a call's xid, CALL, version 2 of RPC, version 2 of program 100003, and the procedure; a credential of AUTH_SYS, which is 1, and
 -- a verifier of AUTH_NONE, which is 0 and has no bytes (RFC 5531 sections 8.2 and 9)
-unfoldable pub call_header : (client timestamp procedure : ℕ) → List ℕ
-call_header client timestamp procedure =
-    words ((timestamp % 4294967296) ∷ 0 ∷ 2 ∷ 100003 ∷ 2 ∷ procedure ∷ 1 ∷ []) ++ counted (credential_body client) ++ words (0 ∷ 0 ∷ [])
+unfoldable pub call_header : Credential → (timestamp procedure : ℕ) → List ℕ
+call_header caller timestamp procedure =
+    words ((timestamp % 4294967296) ∷ 0 ∷ 2 ∷ 100003 ∷ 2 ∷ procedure ∷ 1 ∷ []) ++ counted (credential_body caller) ++ words (0 ∷ 0 ∷ [])
 
--- the whole call of a client under its timestamp
-abbrev pub message : (client timestamp procedure : ℕ) → Call → List ℕ
-message client timestamp procedure call = call_header client timestamp procedure ++ arguments call
+-- the whole call of a caller under a client's timestamp
+abbrev pub message : Credential → (timestamp procedure : ℕ) → Call → List ℕ
+message caller timestamp procedure call = call_header caller timestamp procedure ++ arguments call

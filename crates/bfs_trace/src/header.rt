@@ -1,9 +1,9 @@
-ghost use Rattle.std.specs.Prelude.{◌≡◌, ◌<◌, ◌≤◌, ◌++◌, length, IfOk, OnOk};
-ghost use Rattle.bfs_model.specs.Server.Limits.{most_clients};
+ghost use Rattle.std.specs.Prelude.{◌≡◌, ◌≤◌, ◌++◌, length, IfOk, OnOk};
 ghost use Rattle.bfs_types.specs.Procedures.{number_of};
+ghost use Rattle.bfs_trace.specs.Callers.{most_gids};
 ghost use Rattle.bfs_trace.specs.Messages.{call_header, credential_body};
 
-use bfs_types::{Memory, Procedure};
+use bfs_types::{Cred, Memory, Procedure};
 use bfs_xdr::{put_opaque, put_u32, put_words};
 use std::alloc::Global;
 
@@ -21,21 +21,18 @@ const AUTH_NONE: u32 = 0;
 
 const AUTH_SYS: u32 = 1;
 
-// the numbers of the users: that of client 0, and that of the group of them all
-const FIRST_UID: u32 = 1_000;
-
-const GID: u32 = 100;
-
-/// The body of an AUTH_SYS credential (RFC 5531 appendix A), with a stamp of 0, and no further gids.
+/// The body of an AUTH_SYS credential (RFC 5531 appendix A), with a stamp of 0.
 #[tactic(auto, unfolding(crate::specs::Messages::credential_body), using(std::proofs::lemmas::List::append_assoc))]
-fn write_credential(alloc: Global, client: u32) -> Result<Vec<u8>, Memory>
-    requires { client < most_clients }
-    ensures { IfOk result (λ body. body.items ≡ credential_body client) }
+fn write_credential(alloc: Global, caller: &Cred) -> Result<Vec<u8>, Memory>
+    ensures body { IfOk result (λ body. body.items ≡ credential_body caller.now) }
+    ensures few { length caller.now.gids ≤ most_gids }
 {
+    let gids = caller.gids.as_slice();
     let mut body = Vec::new(alloc);
     put_u32(&mut body, 0)?;
     put_opaque(&mut body, b"replay")?;
-    put_words(&mut body, &[FIRST_UID + client, GID, 0])?;
+    put_words(&mut body, &[caller.uid, caller.gid, gids.len() as u32])?;
+    put_words(&mut body, gids)?;
     Ok(body)
 }
 
@@ -43,15 +40,14 @@ fn write_credential(alloc: Global, client: u32) -> Result<Vec<u8>, Memory>
 #[tactic(auto, unfolding(crate::specs::Messages::call_header), using(std::proofs::lemmas::List::append_assoc, crate::proofs::Headers::credential_is_short))]
 pub(crate) fn put_header(
     alloc: Global,
-    client: u32,
+    caller: &Cred,
     timestamp: u64,
     procedure: Procedure,
     out: &mut Vec<u8>,
 ) -> Result<(), Memory>
-    requires { client < most_clients }
-    ensures { OnOk result (out.new.items ≡ out.old.items ++ call_header client timestamp (number_of procedure)) }
+    ensures { OnOk result (out.new.items ≡ out.old.items ++ call_header caller.now timestamp (number_of procedure)) }
 {
-    let credential = write_credential(alloc, client)?;
+    let credential = write_credential(alloc, caller)?;
     let xid = (timestamp % 4_294_967_296) as u32;
     put_words(
         out,

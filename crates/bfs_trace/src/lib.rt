@@ -1,6 +1,7 @@
 //! Traces: what happens to a new file system, event by event, as lines of text tell it.
 #![tactic(auto)]
 
+mod callers;
 mod events;
 mod fault;
 mod header;
@@ -10,6 +11,7 @@ mod numbers;
 mod operands;
 mod parser;
 mod population;
+mod reading;
 pub mod sent_calls;
 mod texts;
 mod times;

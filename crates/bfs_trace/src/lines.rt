@@ -1,8 +1,9 @@
-ghost use Rattle.std.specs.Prelude.{◌≡◌, ◌<◌, ◌≤◌, length, IfOk};
-ghost use Rattle.bfs_model.specs.Server.Limits.{most_clients, most_request_bytes};
-ghost use Rattle.bfs_trace.specs.Lines.{batch_line, call_by_verb, call_spelled, heard_line, line_spelled, replica_named, raw_call, request_line, silent_line, timeout_line, verb_call};
+ghost use Rattle.std.specs.Prelude.{◌≡◌, ◌≤◌, length, IfOk};
+ghost use Rattle.bfs_model.specs.Server.Limits.{most_request_bytes};
+ghost use Rattle.bfs_trace.specs.Lines.{batch_line, call_by_verb, call_spelled, caller_line, heard_line, line_spelled, replica_named, raw_call, request_line, silent_line, timeout_line, verb_call};
 ghost use Rattle.bfs_trace.specs.Inside.Reading.{Parses};
 
+use crate::callers::{Caller, Callers, parse_caller};
 use crate::events::{Block, Request, TraceEvent};
 use crate::fault::Fault;
 use crate::header::put_header;
@@ -11,7 +12,7 @@ use crate::population::Population;
 use crate::times::parse_time;
 use crate::verbs::{procedure_named, put_arguments};
 use crate::words::Words;
-use bfs_types::MOST_REQUEST_BYTES;
+use bfs_types::{Cred, MOST_REQUEST_BYTES};
 use hex::FromHexError;
 use std::alloc::Global;
 
@@ -20,6 +21,8 @@ use std::alloc::Global;
 pub(crate) enum Line {
     /// Something happens behind what happened before.
     Event(TraceEvent),
+    /// A client's later calls are for another.
+    Caller(Caller),
     /// A request of the block before it.
     Request(Request),
 }
@@ -52,18 +55,17 @@ fn parse_raw(alloc: Global, words: &mut Words<'_>) -> Result<Vec<u8>, Fault>
 /// Writes the call that a verb and the words behind it spell.
 fn parse_call_of_verb(
     alloc: Global,
-    client: u32,
+    caller: &Cred,
     timestamp: u64,
     verb: &[u8],
     words: &mut Words<'_>,
 ) -> Result<Vec<u8>, Fault>
-    requires { client < most_clients }
-    ensures value { Parses (λ bytes. bytes.items) result (verb_call client timestamp verb.now words.old) }
+    ensures value { Parses (λ bytes. bytes.items) result (verb_call caller.now timestamp verb.now words.old) }
     ensures within { IfOk result (λ bytes. length bytes.items ≤ most_request_bytes) }
 {
     let procedure = procedure_named(verb).ok_or(Fault::Bad)?;
     let mut call = Vec::new(alloc);
-    put_header(alloc, client, timestamp, procedure, &mut call)?;
+    put_header(alloc, caller, timestamp, procedure, &mut call)?;
     put_arguments(alloc, procedure, words, &mut call)?;
     if call.len() > MOST_REQUEST_BYTES {
         return Err(Fault::Bad);
@@ -71,22 +73,21 @@ fn parse_call_of_verb(
     Ok(call)
 }
 
-/// Reads a verb and the words behind it, which spell the call of that client under that timestamp.
+/// Reads a verb and the words behind it, which spell the call of that caller under that timestamp.
 fn parse_verb(
     alloc: Global,
-    client: u32,
+    caller: &Cred,
     timestamp: u64,
     words: &mut Words<'_>,
 ) -> Result<Vec<u8>, Fault>
-    requires { client < most_clients }
-    ensures value { Parses (λ bytes. bytes.items) result (call_by_verb client timestamp words.old) }
+    ensures value { Parses (λ bytes. bytes.items) result (call_by_verb caller.now timestamp words.old) }
     ensures within { IfOk result (λ bytes. length bytes.items ≤ most_request_bytes) }
 {
     let verb = words.word()?;
     if verb == b"raw".as_slice() {
         parse_raw(alloc, words)
     } else {
-        parse_call_of_verb(alloc, client, timestamp, verb, words)
+        parse_call_of_verb(alloc, caller, timestamp, verb, words)
     }
 }
 
@@ -132,27 +133,41 @@ fn parse_timeout(words: &mut Words<'_>) -> Result<Line, Fault>
     }
 }
 
+/// Reads what stands behind `as`.
+fn parse_caller_line(population: Population, words: &mut Words<'_>) -> Result<Line, Fault>
+    ensures { Parses (λ line. line) result (caller_line population words.old) }
+{
+    Ok(Line::Caller(parse_caller(population, words)?))
+}
+
 /// Reads `CLIENT T VERB ..`, whose first word is read already.
 fn parse_request(
     alloc: Global,
     population: Population,
+    callers: &Callers,
     client: &[u8],
     words: &mut Words<'_>,
 ) -> Result<Line, Fault>
-    ensures { Parses (λ line. line) result (request_line population client.now words.old) }
+    ensures { Parses (λ line. line) result (request_line population callers.now client.now words.old) }
 {
     let timestamp = words.word()?;
     let most_client = population.clients() as u64 - 1;
     let client = parse_number(most_client, client).ok_or(Fault::Bad)? as u32;
     let timestamp = parse_number(u64::MAX, timestamp).ok_or(Fault::Bad)?;
-    let call = parse_verb(alloc, client, timestamp, words)?;
+    let caller = callers.get(client).ok_or(Fault::Bad)?;
+    let call = parse_verb(alloc, caller, timestamp, words)?;
     Ok(Line::Request(Request::new(client, timestamp, call)))
 }
 
-/// Reads a line that is neither empty nor a comment.
+/// Reads a line that is neither empty nor a comment, where these are the clients' callers.
 #[tactic(auto, unfolding(crate::specs::Lines::line_spelled))]
-pub(crate) fn parse_line(alloc: Global, population: Population, text: &[u8]) -> Result<Line, Fault>
-    ensures { Parses (λ line. line) result (line_spelled population text.now) }
+pub(crate) fn parse_line(
+    alloc: Global,
+    population: Population,
+    callers: &Callers,
+    text: &[u8],
+) -> Result<Line, Fault>
+    ensures { Parses (λ line. line) result (line_spelled population callers.now text.now) }
 {
     let mut words = Words::new(text, b' ');
     let first = words.next_word().ok_or(Fault::Bad)?;
@@ -164,7 +179,9 @@ pub(crate) fn parse_line(alloc: Global, population: Population, text: &[u8]) -> 
         parse_heard(population, &mut words)
     } else if first == b"timeout".as_slice() {
         parse_timeout(&mut words)
+    } else if first == b"as".as_slice() {
+        parse_caller_line(population, &mut words)
     } else {
-        parse_request(alloc, population, first, &mut words)
+        parse_request(alloc, population, callers, first, &mut words)
     }
 }

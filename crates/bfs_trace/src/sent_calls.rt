@@ -1,11 +1,17 @@
 //! What the server reads of the calls that verbs spell.
-ghost use Rattle.bfs_trace.specs.Laws.SentCalls.{ArgumentsAreRead, HeadersAreRead, SpelledCallsAreRead};
+ghost use Rattle.bfs_trace.specs.Laws.SentCalls.{ArgumentsAreRead, CallersFit, HeadersAreRead, SpelledCallsAreRead};
 
-/// The header of a call is read as that of a call of its procedure, by the user of its client, whichever client there may be and whatever
-/// arguments follow.
+/// The header of a call is read as that of a call of its procedure, by its caller, whatever arguments follow, where the caller's numbers are
+/// below 2^32 and it has at most 16 groups behind the first.
 #[tactic(auto, using(crate::proofs::SentHeaders::headers_are_read))]
 pub fn headers_are_read()
     ensures { HeadersAreRead }
+{}
+
+/// Each caller of a trace is such a one: the first of each client, and those that lines name.
+#[tactic(auto, using(crate::proofs::SentCallers::callers_fit))]
+pub fn callers_fit()
+    ensures { CallersFit }
 {}
 
 /// The arguments of a call are read as that call, where its numbers are below 2^32 and its names, path and data no longer than RFC 1094

@@ -1,2 +1,3 @@
 -- Lemmas of bfs_types.
 pub mod BytesLemmas
+pub mod Padding

@@ -7,6 +7,7 @@ mod bytes;
 mod context;
 mod cred;
 mod file_id;
+mod gids;
 mod limits;
 mod memory;
 mod ordinal;
@@ -19,6 +20,7 @@ pub use bytes::{Bytes, LinkPath, Name};
 pub use context::Context;
 pub use cred::Cred;
 pub use file_id::FileId;
+pub use gids::{Gids, MOST_GIDS};
 pub use limits::{
     BLOCK_SIZE, LOG_SIZE, MOST_CLIENTS, MOST_DATA_BYTES, MOST_ENTRIES, MOST_FILE_BYTES, MOST_LINKS,
     MOST_NAME_BYTES, MOST_NUMBER, MOST_PATH_BYTES, MOST_PERMISSIONS, MOST_REPLICAS,

@@ -5,7 +5,7 @@ ghost use Rattle.bfs_model.specs.Server.Changes.{permission_bits};
 ghost use Rattle.bfs_model.specs.Server.Limits.{most_file_bytes, most_data_bytes, most_name_bytes, most_path_bytes, most_entries, most_links, most_request_bytes, most_reply_bytes, most_requests, most_replicas, most_clients, most_number, log_size};
 
 /// The bytes of a file.
-pub const MOST_FILE_BYTES: usize = 1_048_576;
+pub const MOST_FILE_BYTES: usize = 16_777_216;
 
 /// The bytes that one READ or WRITE moves, and those of a page of READDIR (RFC 1094 section 2.3.1, MAXDATA).
 pub const MOST_DATA_BYTES: usize = 8_192;

@@ -23,4 +23,4 @@ pub use laws::{
 pub use making::{make_view_change, view_change_message};
 pub use new_views::{check_new_view, choose};
 pub use proposing::{Begun, begin_view, handed_in, make_new_view};
-pub use view_changes::valid_view_change;
+pub use view_changes::{valid_signed_view_change, valid_view_change};

@@ -1,7 +1,10 @@
 // Which VIEW-CHANGEs are valid.
 ghost use Rattle.std.specs.Prelude.{◌≡◌, ◌≤◌, ◌+◌, ◌&&◌, true, map, nat_le, nat_lt};
 ghost use Rattle.std.specs.List.{list_all};
-ghost use Rattle.bfs_view.specs.Changes.Certificates.{certifies, number_in, view_in};
+ghost use Rattle.bfs_messages.specs.Signing.{is_signed};
+ghost use Rattle.bfs_messages.specs.declared.message.Message.TheVariants as kind;
+ghost use Rattle.bfs_view.specs.Changes.Certificates.{certifies, has_stable, number_in, view_in};
+ghost use Rattle.bfs_view.specs.Changes.Parts.{as_message};
 ghost use Rattle.bfs_view.specs.Inside.Near.{IsNear};
 ghost use Rattle.bfs_view.specs.Changes.ViewChanges.{are_in_order, do_rise, is_due, valid_view_change};
 
@@ -23,10 +26,31 @@ pub fn valid_view_change(keys: &Keys, signed: &Signed<ViewChange>) -> bool
 fn is_valid(keys: &Keys, signed: &Signed<ViewChange>) -> bool
     ensures { result ≡ valid_view_change keys.now signed.now }
 {
-    let change = &signed.message;
-    are_in_order(change)
-        && (is_view_change_signed(keys, signed)
-            && (has_stable(keys, change) && do_certify(keys, change.certificates())))
+    are_in_order(&signed.message)
+        && (is_view_change_signed(keys, signed) && is_founded(keys, &signed.message))
+}
+
+/// Whether a VIEW-CHANGE that was found to be its sender's is valid: its own text, the longest of all, is not hashed again. It takes no memory.
+pub fn valid_signed_view_change(keys: &Keys, signed: &Signed<ViewChange>) -> bool
+    requires { is_signed keys.now (as_message kind.ViewChange signed.now) ≡ true }
+    ensures value { result ≡ valid_view_change keys.now signed.now }
+    ensures near { result ≡ true → IsNear signed.now.message }
+{
+    is_valid_signed(keys, signed)
+}
+
+fn is_valid_signed(keys: &Keys, signed: &Signed<ViewChange>) -> bool
+    requires { is_signed keys.now (as_message kind.ViewChange signed.now) ≡ true }
+    ensures { result ≡ valid_view_change keys.now signed.now }
+{
+    are_in_order(&signed.message) && is_founded(keys, &signed.message)
+}
+
+// It has certificates of its stable number and of each batch.
+fn is_founded(keys: &Keys, change: &ViewChange) -> bool
+    ensures { result ≡ (has_stable keys.now change.now && list_all (certifies keys.now) change.now.certificates) }
+{
+    has_stable(keys, change) && do_certify(keys, change.certificates())
 }
 
 fn are_in_order(change: &ViewChange) -> bool

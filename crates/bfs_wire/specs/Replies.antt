@@ -1,13 +1,14 @@
 -- The statuses and replies of the code as those of the model.
 use Rattle.bfs_model.specs.Bytes.Replies as model
 use Rattle.bfs_wire.specs.declared.status.Status.{Status}
-use Rattle.bfs_wire.specs.declared.status.Status.TheVariants.{Perm, NoEnt, Exist, NotDir, IsDir, FBig, NoSpc, NotEmpty, Stale}
+use Rattle.bfs_wire.specs.declared.status.Status.TheVariants.{Perm, NoEnt, Acces, Exist, NotDir, IsDir, FBig, NoSpc, NotEmpty, Stale}
 use Rattle.bfs_wire.specs.declared.reply.NfsReply.{NfsReply}
 use Rattle.bfs_wire.specs.declared.reply.NfsReply.TheVariants.{Void, Refused, Done, Attributes, Found, Contents, Path, Listed, FreeBlocks}
 
 abbrev pub status_seen : Status → model.Status
 status_seen Perm = model.perm
 status_seen NoEnt = model.noent
+status_seen Acces = model.acces
 status_seen Exist = model.exist
 status_seen NotDir = model.notdir
 status_seen IsDir = model.isdir

@@ -5,10 +5,12 @@ ghost use Rattle.bfs_wire.specs.Replies.{status_seen};
 /// Why a procedure is not done (RFC 1094 section 2.3.1, stat).
 #[derive(Clone, Copy, Debug, PartialEq, Eq)]
 pub enum Status {
-    /// The caller may not do this.
+    /// This may not be done, or only by the owner.
     Perm,
     /// There is no such file or directory.
     NoEnt,
+    /// The permissions don't let the caller do this.
+    Acces,
     /// The name is taken.
     Exist,
     /// A directory is required, and this is none.
@@ -33,6 +35,7 @@ impl Status {
         match self {
             Status::Perm => 1,
             Status::NoEnt => 2,
+            Status::Acces => 13,
             Status::Exist => 17,
             Status::NotDir => 20,
             Status::IsDir => 21,

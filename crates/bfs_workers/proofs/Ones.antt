@@ -1,6 +1,7 @@
 -- A request that is answered alone, on the whole tree or on its share.
 use Rattle.std.proofs.Common.{◌≡◌, ℕ, zero, suc, ◌-◌, ◌<◌, ◌≤◌, false, true, true≢false, List, [], ◌∷◌, Some, is_some, length, map, take, drop, get_or, refl, ap, sym, subst, ◌∙◌, arith, unwrap_or}
 use Rattle.std.specs.List.{All, slice_get}
+use Rattle.std.specs.Prelude.{IsTrue}
 use Rattle.std.proofs.lemmas.List.Elements.{All-from_recursion, All-head}
 use Rattle.std.proofs.lemmas.List.Sorted.{All-permutation, IsPermutation-refl}
 use Rattle.bfs_model.specs.Server.Tree.{Time, Inodes, spent_ordinal}
@@ -14,7 +15,7 @@ use Rattle.bfs_model.proofs.Public.{fresh_where_numbered, numbered_older}
 use Rattle.bfs_footprint.specs.Seen.{footprint_seen}
 use Rattle.bfs_footprint.specs.declared.footprints.Footprint as declared
 use Rattle.bfs_tree.specs.Slots.{Slots}
-use Rattle.bfs_tree.specs.Tree.{at_home}
+use Rattle.bfs_tree.specs.Tree.{at_home, reach_of}
 use Rattle.bfs_handover.specs.Jobs.{CanRun}
 use Rattle.bfs_handover.specs.Splitting.{CanBeSplit, IsFoundOn, IsSplit, PlannedPart, part_of}
 use Rattle.bfs_handover.specs.Merging.{AreOut, IsMerged, numbers_in, reply_in}
@@ -23,6 +24,7 @@ use Rattle.bfs_handover.specs.declared.job.Done.{Done}
 use Rattle.bfs_handover.specs.declared.results.NumberedReply.{NumberedReply}
 use Rattle.bfs_handover.proofs.Public.{found, results_are_out, results_come_home}
 use Rattle.bfs_workers.specs.Answered.{IsAnswered}
+use Rattle.bfs_workers.proofs.Alone.{alone}
 use Rattle.bfs_workers.specs.Results.{Gives}
 
 pub one_there : (xs : List (List ℕ)) (k : ℕ) → k < length xs → take 1 (drop k xs) ≡ get_or xs k [] ∷ []
@@ -61,6 +63,16 @@ module _ (ran : ℕ → List ℕ → Type 0) (old : Slots) (o : ℕ) (t : Time) 
 
   only : footprint_seen f ∷ [] ≡ footprints_at m o t (take 1 (drop place batch))
   only = ap (λ g. g ∷ []) own ∙ ap (footprints_at m o t) (sym here)
+
+  -- On the whole tree --------------------------------------------------------------------------------------------------------
+
+  pub answered_here : (new : Slots) → is_whole (footprint_seen f) ≡ true → IsTrue ((reach_of new).whole) → (reply : List ℕ) → ◌≡◌ {A = Inodes × List ℕ} (at_home new, reply) (answer m o t asked)
+      → IsAnswered ran old new place o t request reply
+  answered_here new every whole reply done = record {
+    done = done ∙ ap (answer m o t) same;
+    whole = whole;
+    gated = λ plain. absurd (true≢false (sym (alone m o t request (ap is_whole (sym own) ∙ every)) ∙ plain));
+  }
 
   -- On its share -------------------------------------------------------------------------------------------------------------
 

@@ -12,9 +12,9 @@ use std::thread::Threads;
 
 // of two clients: none of the first, and `yes` to the second's request of timestamp 5; then a new file system
 const TEXT: &str =
-    "00000002000000000000000100000000000000050000000379657300424653530000000100000000000000030000000000000000000000010000000200000002000001ed0000000200000000000000000000000000000000000000000000000000000000000000000000000200000000";
+    "00000002000000000000000100000000000000050000000379657300424653530000000200000000000000030000000000000000000000010000000200000002000001ff0000000200000000000000000000000000000000000000000000000000000000000000000000000200000000";
 
-const DIGEST: &str = "c1c0ad9bb4d5e5a126d30cbd66c409fd6dfea2625c48c8606f780471099ef145";
+const DIGEST: &str = "5962a8f200af90f4514fe63b1e09283bc4baa8fdf4e918229c4558bd20243043";
 
 /// The table of `TEXT`.
 pub(crate) fn table(alloc: Global) -> Result<ReplyTable, Fail> {
@@ -140,8 +140,8 @@ fn a_text_is_read_strictly(rt: HostRuntime) -> Result<(), Fail> {
 #[test]
 fn a_changed_text_is_refused(rt: HostRuntime) -> Result<(), Fail> {
     let alloc = rt.alloc();
-    // padding of the reply, the version, and the links of the root
-    for (place, byte, code) in [(27, 1, 20), (35, 2, 22), (71, 3, 21)] {
+    // padding of the reply, an older and a later version, and the links of the root
+    for (place, byte, code) in [(27, 1, 20), (35, 1, 22), (35, 3, 22), (71, 3, 21)] {
         same!(rt; refusal(alloc, changed(alloc, TEXT, place, byte)?.as_slice(), 2), code);
     }
     Ok(())
@@ -193,8 +193,8 @@ fn a_text_of_another_digest_is_not_adopted(rt: HostRuntime) -> Result<(), Fail> 
     let text = bytes_of(alloc, TEXT)?;
     same!(rt; adoption_refusal(&rt, alloc, text.as_slice(), "00")?, 35);
     same!(rt; adoption_refusal(&rt, alloc, &text.as_slice()[..text.len() / 2], DIGEST)?, 20);
-    // the version, the links of the root, and the timestamp of the second client
-    for (place, byte, code) in [(35, 2, 22), (71, 3, 21), (19, 6, 35)] {
+    // an older version, whose digest is another one, the links of the root, and the timestamp of the second client
+    for (place, byte, code) in [(35, 1, 22), (71, 3, 21), (19, 6, 35)] {
         let other = changed(alloc, TEXT, place, byte)?;
         same!(rt; adoption_refusal(&rt, alloc, other.as_slice(), DIGEST)?, code);
     }

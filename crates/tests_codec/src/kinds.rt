@@ -45,14 +45,13 @@ fn spelled(alloc: Global, keys: &Keys, message: Message) -> Result<Vec<u8>, Memo
     encode(alloc, &sign(alloc, keys, message)?)
 }
 
+/// `.ci/refusals` runs this one with each growth of memory refused in turn.
 #[test]
 fn each_kind_is_written_as_it_was_read(rt: HostRuntime) -> Result<(), Fail> {
     let alloc = rt.alloc();
     for text in EACH.iter() {
         let bytes = hex::decode(alloc, *text)?;
-        let Ok(signed) = decode(alloc, bytes.as_slice()) else {
-            return Err(Memory.into());
-        };
+        let signed = decode(alloc, bytes.as_slice())?;
         spells(alloc, encode(alloc, &signed)?.as_slice(), *text)?;
     }
     Ok(())

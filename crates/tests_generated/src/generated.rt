@@ -6,8 +6,10 @@ use bfs_testing::numbers::{
     CREATE, GETATTR, LINK, LOOKUP, MKDIR, READ, READDIR, REMOVE, RENAME, RMDIR, SETATTR, WRITE,
 };
 use bfs_types::Time;
-use std::alloc::Global;
+use std::alloc::{AllocGlobal, Global};
+use std::sync::Wait;
 use std::test::Fail;
+use std::thread::Threads;
 
 // WRITE so often that files are written again and again
 static PROCEDURES: &[u32] = &[
@@ -15,13 +17,14 @@ static PROCEDURES: &[u32] = &[
     WRITE, WRITE,
 ];
 
-fn batches_from(alloc: Global, state: u64) -> Result<Vec<Batch>, Fail> {
+fn batches_from(alloc: Global, state: u64, callers: u32) -> Result<Vec<Batch>, Fail> {
     let mut generator = Generator {
         state,
         procedures: PROCEDURES,
         files: (3, 10),
         dirs: (2, 4),
         names: 5,
+        callers,
     };
     let mut batches = Vec::new(alloc);
     for second in 1..9 {
@@ -35,11 +38,25 @@ fn batches_from(alloc: Global, state: u64) -> Result<Vec<Batch>, Fail> {
     Ok(batches)
 }
 
-#[test]
-fn generated_batches(rt: HostRuntime) -> Result<(), Fail> {
-    for state in 0..6 {
-        let batches = batches_from(rt.alloc(), state)?;
-        by_each_engine(&rt, &[1, 2, 64], batches.as_slice())?;
+fn are_alike<R: Threads + Wait + AllocGlobal + Sync>(
+    rt: &R,
+    states: u64,
+    callers: u32,
+) -> Result<(), Fail> {
+    for state in 0..states {
+        let batches = batches_from(rt.alloc(), state, callers)?;
+        by_each_engine(rt, &[1, 2, 64], batches.as_slice())?;
     }
     Ok(())
+}
+
+#[test]
+fn generated_batches(rt: HostRuntime) -> Result<(), Fail> {
+    are_alike(&rt, 6, 0)
+}
+
+// modes and owners of directories change in front of calls that resolve names there
+#[test]
+fn generated_batches_of_callers(rt: HostRuntime) -> Result<(), Fail> {
+    are_alike(&rt, 6, 4)
 }

@@ -1,4 +1,6 @@
-//! What is checked: that replicas that don't lie come to one digest behind each number, over all views, and give a request one result.
+//! What is checked: that replicas that don't lie execute one batch for each number and come to one digest behind it, over all views, and give a
+//! request one result; and that none of them takes two digests of one sender for one place.
+use crate::world::Head;
 use bfs_messages::Reply;
 use bfs_types::Memory;
 use std::alloc::Global;
@@ -75,6 +77,13 @@ struct Behind {
     by: Set,
 }
 
+// A number, and the digest of the batch that is executed for it.
+#[derive(Clone, Copy)]
+struct Executed {
+    number: u64,
+    batch: [u8; 32],
+}
+
 // A result of a client's request.
 #[derive(Drop)]
 struct Answer {
@@ -88,6 +97,9 @@ struct Answer {
 pub struct Record {
     alloc: Global,
     behind: Vec<Behind>,
+    executed: Vec<Executed>,
+    // the messages that tell a digest which each has taken
+    taken: Vec<(usize, Head)>,
     answers: Vec<Answer>,
     seen: Seen,
     is_wrong: bool,
@@ -98,6 +110,8 @@ impl Record {
         Record {
             alloc,
             behind: Vec::new(alloc),
+            executed: Vec::new(alloc),
+            taken: Vec::new(alloc),
             answers: Vec::new(alloc),
             seen: Seen::NOTHING,
             is_wrong: false,
@@ -146,6 +160,30 @@ impl Record {
         }
         let by = Set::of(replica);
         self.behind.push(Behind { number, digest, by })?;
+        Ok(())
+    }
+
+    /// A replica has executed the batch with that digest for a number.
+    pub fn note_batch(&mut self, number: u64, batch: [u8; 32]) -> Result<(), Memory> {
+        for executed in &self.executed {
+            if executed.number == number {
+                self.is_wrong = self.is_wrong || executed.batch != batch;
+                return Ok(());
+            }
+        }
+        self.executed.push(Executed { number, batch })?;
+        Ok(())
+    }
+
+    /// A replica takes a message that tells a digest.
+    pub fn note_taken(&mut self, replica: usize, head: Head) -> Result<(), Memory> {
+        for (other, taken) in &self.taken {
+            if *other == replica && taken.is_at_the_place_of(&head) {
+                self.is_wrong = self.is_wrong || taken.digest != head.digest;
+                return Ok(());
+            }
+        }
+        self.taken.push((replica, head))?;
         Ok(())
     }
 

@@ -141,8 +141,18 @@ fn equivocate(world: &mut World, draws: &mut Generator, lying: &Lying) -> Result
         return support(world, draws, lying);
     };
     let to = some(draws);
+    let others = others_or_any(draws, to);
     propose(world, draws, lying, liar, (view, number), to)?;
-    propose(world, draws, lying, liar, (view, number), to.others())
+    propose(world, draws, lying, liar, (view, number), others)
+}
+
+// the others, or any, so that some hear both of two lies
+fn others_or_any(draws: &mut Generator, to: Set) -> Set {
+    if happens(draws, 50) {
+        to.others()
+    } else {
+        some(draws)
+    }
 }
 
 // what a liar proposed last, or another one of those that were proposed

@@ -42,6 +42,7 @@ pub fn draws_of(seed: u64) -> Generator {
         files: (3, 4),
         dirs: (2, 1),
         names: 3,
+        callers: 0,
     };
     draws.next();
     draws

@@ -23,6 +23,19 @@ pub struct Head {
     pub digest: [u8; 32],
 }
 
+impl Head {
+    /// Whether it is of the kind, sender, view and number of another one.
+    pub fn is_at_the_place_of(&self, other: &Head) -> bool {
+        (self.kind, self.sender, self.view, self.number)
+            == (other.kind, other.sender, other.view, other.number)
+    }
+
+    /// Whether it tells a digest.
+    pub fn has_digest(&self) -> bool {
+        2 <= self.kind && self.kind <= 5
+    }
+}
+
 fn head_without_number(kind: u32, sender: u32, view: u64) -> Head {
     Head {
         kind,
@@ -230,10 +243,22 @@ impl World {
             return Ok(());
         };
         let said = deliver(rt, node, &sent.bytes);
-        if sent.is_lie && said.is_ok() && !self.liars.has(flight.to) {
-            self.record.note_lie();
+        let (head, is_lie) = (sent.head, sent.is_lie);
+        if said.is_ok() && !self.liars.has(flight.to) {
+            self.note_taken(flight.to, head, is_lie)?;
         }
         self.follow(flight.to, before, &said)
+    }
+
+    fn note_taken(&mut self, number: usize, head: Head, is_lie: bool) -> Result<(), Memory> {
+        if is_lie {
+            self.record.note_lie();
+        }
+        if head.has_digest() {
+            self.record.note_taken(number, head)
+        } else {
+            Ok(())
+        }
     }
 
     /// Time runs out at a replica.
@@ -270,6 +295,27 @@ impl World {
         }
     }
 
+    // the digest of the batch that it has committed for that number: it is in the COMMIT that it sent last, since what is committed stays so
+    fn committed(&self, number: usize, executed: u64) -> Option<[u8; 32]> {
+        for sent in self.sent.iter().rev() {
+            let head = &sent.head;
+            let is_own = head.sender as usize == number && !sent.is_lie;
+            if is_own && head.kind == 4 && head.number == executed {
+                return Some(head.digest);
+            }
+        }
+        None
+    }
+
+    // it has executed the batch that the others have
+    fn note_batch(&mut self, number: usize) -> Result<(), Memory> {
+        let last = self.standing(number).last;
+        match self.committed(number, last) {
+            Some(batch) if !self.liars.has(number) => self.record.note_batch(last, batch),
+            _ => Ok(()),
+        }
+    }
+
     // it is as the others are behind the number last executed
     fn compare<R: Threads + Sync>(&mut self, rt: &R, number: usize) -> Result<(), Memory> {
         if self.liars.has(number) {
@@ -297,6 +343,7 @@ impl World {
         if let Some(signed) = checkpoint(rt, node) {
             messages.push(signed)?;
         }
+        self.note_batch(number)?;
         self.compare(rt, number)?;
         self.send(number, &messages)?;
         Ok(true)

@@ -1,11 +1,10 @@
 //! Who can tell from whom a message comes. The hashes were made by Python's hmac, under a secret of 32 zeros.
 ghost use Rattle.std.specs.Prelude.{◌<◌};
 
-use bfs_auth::{
-    Authenticator, Claimed, Keys, MOST_REPLICAS, Principal, check, check_all, sign, sign_for_client,
-};
+use bfs_auth::{Authenticator, Claimed, Keys, Principal, check, check_all, sign, sign_for_client};
 use bfs_testing::words::spells;
 use bfs_testing::{holds, same};
+use bfs_testing_messages::with_changed_entry;
 use bfs_types::Memory;
 use std::alloc::Global;
 use std::test::Fail;
@@ -23,21 +22,6 @@ fn keys_of_client(alloc: Global, number: u32) -> Result<Keys, Memory>
     Keys::derive(alloc, &[0; 32], Principal::Client(number), 4, 16)
 }
 
-// with the first byte of one entry changed
-fn with_change(alloc: Global, auth: &Authenticator, index: usize) -> Result<Authenticator, Memory> {
-    let mut changed = Authenticator::new(alloc);
-    for entry in auth.entries() {
-        let mut entry = *entry;
-        if changed.entries().len() == index {
-            entry[0] ^= 1;
-        }
-        if changed.entries().len() < MOST_REPLICAS {
-            changed.push(entry)?;
-        }
-    }
-    Ok(changed)
-}
-
 fn claim(alloc: Global, auth: Authenticator) -> Result<Claimed, Memory> {
     Ok(Claimed {
         sender: Principal::Replica(0),
@@ -51,7 +35,7 @@ fn three_claims(alloc: Global, index: usize) -> Result<Vec<Claimed>, Memory> {
     let auth = sign(alloc, &keys_of_replica(alloc, 0)?, TEXT)?;
     let mut claims = Vec::new(alloc);
     claims.push(claim(alloc, auth.copy(alloc)?)?)?;
-    claims.push(claim(alloc, with_change(alloc, &auth, index)?)?)?;
+    claims.push(claim(alloc, with_changed_entry(alloc, &auth, index)?)?)?;
     claims.push(claim(alloc, auth)?)?;
     Ok(claims)
 }

@@ -22,6 +22,10 @@ fn requests_are_classified_by_the_last_one(rt: HostRuntime) -> Result<(), Fail> 
     same!(rt; table.record(0, 5, b"again"), Err(RecordError::NotNewer));
     same!(rt; table.record(0, 4, b"earlier"), Err(RecordError::NotNewer));
     table.record(0, 6, b"six")?;
+    same!(rt; table.classify(0, 6), Class::Repeat);
+    same!(rt; table.classify(0, 5), Class::Old);
+    same!(rt; table.classify(0, 7), Class::New);
+    same!(rt; table.record(0, 6, b"again"), Err(RecordError::NotNewer));
     let (timestamp, reply) = table.last(0).ok_or("a reply")?;
     same!(rt; timestamp, 6);
     same_bytes(alloc, reply, b"six")?;

@@ -40,6 +40,7 @@ fn nothing_says_the_default(rt: HostRuntime) -> Result<(), Fail> {
     Ok(())
 }
 
+/// `.ci/refusals` runs this one with each growth of memory refused in turn.
 #[test]
 fn each_key_says_its_setting(rt: HostRuntime) -> Result<(), Fail> {
     let alloc = rt.alloc();

@@ -42,9 +42,72 @@ static TOLD_ONCE: Script = Script {
     ],
 };
 
+// by 21 replicas of 31
+const OF_21: &[(u32, u8)] = &[
+    (0, 1),
+    (1, 1),
+    (2, 1),
+    (3, 1),
+    (4, 1),
+    (5, 1),
+    (6, 1),
+    (7, 1),
+    (8, 1),
+    (9, 1),
+    (10, 1),
+    (11, 1),
+    (12, 1),
+    (13, 1),
+    (14, 1),
+    (15, 1),
+    (16, 1),
+    (17, 1),
+    (18, 1),
+    (19, 1),
+    (20, 1),
+];
+
+const OF_20: &[(u32, u8)] = &[
+    (0, 1),
+    (1, 1),
+    (2, 1),
+    (3, 1),
+    (4, 1),
+    (5, 1),
+    (6, 1),
+    (7, 1),
+    (8, 1),
+    (9, 1),
+    (10, 1),
+    (11, 1),
+    (12, 1),
+    (13, 1),
+    (14, 1),
+    (15, 1),
+    (16, 1),
+    (17, 1),
+    (18, 1),
+    (19, 1),
+];
+
+static TOLD_ONCE_AMONG_31: Script = Script {
+    faults: 10,
+    me: 30,
+    steps: &[
+        Step(Event::Tell(0, 1), Refused(26)),
+        Step(Event::Tell(33, 1), Refused(26)),
+        Step(Event::Tell(16, 1), Done),
+        Step(Event::Tell(16, 1), Refused(29)),
+        Step(Event::Install(OF_21), Done),
+        // it was told, and lies below the marks
+        Step(Event::Tell(16, 1), Refused(26)),
+    ],
+};
+
 #[test]
 fn a_replica_tells_each_checkpoint_once(rt: HostRuntime) -> Result<(), Fail> {
-    TOLD_ONCE.plays(&rt, rt.alloc())
+    TOLD_ONCE.plays(&rt, rt.alloc())?;
+    TOLD_ONCE_AMONG_31.plays(&rt, rt.alloc())
 }
 
 static ALONE: Script = Script {
@@ -85,9 +148,40 @@ static CERTIFICATES: Script = Script {
     ],
 };
 
+static CERTIFICATES_ALONE: Script = Script {
+    faults: 0,
+    me: 0,
+    steps: &[
+        Step(Event::Install(&[]), Refused(34)),
+        Step(Event::Install(&[(1, 1)]), Refused(34)),
+        Step(Event::Install(&[(0, 1), (0, 1)]), Refused(34)),
+        Step(Event::Install(&[(0, 1)]), Done),
+        Step(Event::Marks, Marks(16, 48)),
+        Step(Event::LastExecuted, Number(16)),
+        Step(Event::Install(&[(1, 1)]), Refused(34)),
+        Step(Event::Install(&[(0, 1)]), Refused(26)),
+    ],
+};
+
+static CERTIFICATES_AMONG_31: Script = Script {
+    faults: 10,
+    me: 1,
+    steps: &[
+        Step(Event::Install(OF_20), Refused(34)),
+        Step(Event::Install(OF_21), Done),
+        Step(Event::Marks, Marks(16, 48)),
+        Step(Event::LastExecuted, Number(16)),
+        Step(Event::Kept, Kept(21)),
+        Step(Event::Install(OF_20), Refused(34)),
+        Step(Event::Install(OF_21), Refused(26)),
+    ],
+};
+
 #[test]
 fn a_certificate_is_of_2f_and_one_more(rt: HostRuntime) -> Result<(), Fail> {
-    CERTIFICATES.plays(&rt, rt.alloc())
+    CERTIFICATES.plays(&rt, rt.alloc())?;
+    CERTIFICATES_ALONE.plays(&rt, rt.alloc())?;
+    CERTIFICATES_AMONG_31.plays(&rt, rt.alloc())
 }
 
 static BEHIND: Script = Script {

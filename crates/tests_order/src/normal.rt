@@ -19,7 +19,8 @@ static A_NUMBER: Script = Script {
         Step(Event::Take(0, Proposal(0, 1, 1)), Refused(25)),
         Step(Event::Take(0, Proposal(0, 0, 33)), Refused(26)),
         Step(Event::Take(2, Proposal(2, 0, 1)), Refused(28)),
-        Step(Event::TakeUnsigned(Proposal(0, 0, 1)), Refused(24)),
+        Step(Event::TakeSpoiled((0, 1), Proposal(0, 0, 1)), Refused(24)),
+        Step(Event::TakeSpoiled((0, 2), Proposal(0, 0, 1)), Refused(29)),
         Step(Event::TakeUnsigned(Request), Refused(36)),
         Step(Event::Take(2, Prepare(2, 0, 1)), Sent(1)),
         Step(Event::Take(0, Commit(0, 0, 1)), Sent(0)),
@@ -140,10 +141,25 @@ static TOLD_ANOTHER: Script = Script {
     ],
 };
 
+static TOLD_ANOTHER_TOO: Script = Script {
+    faults: 1,
+    me: 3,
+    steps: &[
+        Step(Event::Take(0, Proposal(0, 0, 1)), Sent(1)),
+        Step(Event::Take(1, OtherPrepare(1, 0, 1)), Sent(0)),
+        Step(Event::Take(2, Prepare(2, 0, 1)), Sent(1)),
+        Step(Event::Take(0, Commit(0, 0, 1)), Sent(0)),
+        Step(Event::Take(2, Commit(2, 0, 1)), Sent(0)),
+        Step(Event::Next, Number(1)),
+        Step(Event::Take(0, Batch(0, 0, 1, 3)), Refused(27)),
+    ],
+};
+
 #[test]
 fn of_two_batches_for_a_number_one_is_committed(rt: HostRuntime) -> Result<(), Fail> {
     TOLD_ONE_BATCH.plays(&rt, rt.alloc())?;
-    TOLD_ANOTHER.plays(&rt, rt.alloc())
+    TOLD_ANOTHER.plays(&rt, rt.alloc())?;
+    TOLD_ANOTHER_TOO.plays(&rt, rt.alloc())
 }
 
 static UP_TO_THE_HIGH_MARK: Script = Script {
@@ -162,9 +178,31 @@ static UP_TO_THE_HIGH_MARK: Script = Script {
     ],
 };
 
+const TO_THE_MARK_AND_AWAY: &[Step] = &[
+    Step(Event::ProposeMany(32), Number(32)),
+    Step(Event::MayPropose, Refused(26)),
+    Step(Event::Propose, Refused(26)),
+    Step(Event::Leave(1), Done),
+    Step(Event::Propose, Refused(28)),
+];
+
+static ALONE_UP_TO_THE_HIGH_MARK: Script = Script {
+    faults: 0,
+    me: 0,
+    steps: TO_THE_MARK_AND_AWAY,
+};
+
+static AMONG_31_UP_TO_THE_HIGH_MARK: Script = Script {
+    faults: 10,
+    me: 0,
+    steps: TO_THE_MARK_AND_AWAY,
+};
+
 #[test]
 fn a_primary_proposes_up_to_the_high_mark(rt: HostRuntime) -> Result<(), Fail> {
-    UP_TO_THE_HIGH_MARK.plays(&rt, rt.alloc())
+    UP_TO_THE_HIGH_MARK.plays(&rt, rt.alloc())?;
+    ALONE_UP_TO_THE_HIGH_MARK.plays(&rt, rt.alloc())?;
+    AMONG_31_UP_TO_THE_HIGH_MARK.plays(&rt, rt.alloc())
 }
 
 static TWO_NUMBERS: Script = Script {

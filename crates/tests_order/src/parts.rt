@@ -1,6 +1,7 @@
 //! The messages that tests make in the name of replicas and of clients.
 use bfs_auth::{Authenticator, Keys, Principal};
 use bfs_messages::{Checkpoint, Message, OrderedBatch, PrePrepare, Request, Signed, Vote, sign};
+use bfs_testing_messages::with_changed_entry;
 use bfs_types::{Memory, Time};
 use std::alloc::Global;
 use std::sync::Arc;
@@ -123,6 +124,19 @@ impl Told {
     ) -> Result<Signed<Message>, Memory> {
         let keys = keys_of(alloc, faults, Principal::Replica(signer))?;
         sign(alloc, &keys, self.message(alloc, faults)?)
+    }
+
+    /// The message as that one signs it, with a changed entry for a receiver.
+    pub fn spoiled_for(
+        self,
+        alloc: Global,
+        faults: u32,
+        signer: u32,
+        receiver: u32,
+    ) -> Result<Signed<Message>, Memory> {
+        let Signed { message, auth } = self.signed_by(alloc, faults, signer)?;
+        let auth = with_changed_entry(alloc, &auth, receiver as usize)?;
+        Ok(Signed { message, auth })
     }
 
     /// The message without entries.

@@ -98,6 +98,8 @@ static AMONG_31: Script = Script {
     steps: &[
         Step(Event::TakeUnsigned(Request), Refused(36)),
         Step(Event::Take(31, Prepare(31, 1, 1)), Refused(24)),
+        Step(Event::TakeSpoiled((0, 30), Proposal(0, 1, 1)), Refused(24)),
+        Step(Event::Take(0, Batch(0, 1, 1, 2)), Refused(24)),
         Step(Event::Take(29, Prepare(29, 1, 33)), Refused(25)),
         Step(Event::Take(29, Proposal(29, 0, 33)), Refused(26)),
         Step(Event::Take(29, Proposal(29, 0, 1)), Refused(28)),
@@ -157,6 +159,8 @@ static ALONE: Script = Script {
     steps: &[
         Step(Event::TakeUnsigned(Request), Refused(36)),
         Step(Event::Take(1, Commit(1, 1, 1)), Refused(24)),
+        Step(Event::TakeSpoiled((0, 0), Proposal(0, 1, 33)), Refused(24)),
+        Step(Event::Take(0, Batch(0, 1, 33, 2)), Refused(24)),
         Step(Event::Take(0, Proposal(0, 1, 33)), Refused(25)),
         Step(Event::Take(0, Proposal(0, 0, 33)), Refused(26)),
         Step(Event::Take(0, Prepare(0, 0, 1)), Refused(27)),

@@ -102,6 +102,17 @@ impl Replica {
         Ok(self.take_signed(rt, signed))
     }
 
+    /// It takes what that one signs, with a changed entry for a receiver.
+    pub fn take_spoiled<R: Threads + Sync>(
+        &mut self,
+        rt: &R,
+        (signer, receiver): (u32, u32),
+        told: Told,
+    ) -> Result<Answer, Memory> {
+        let signed = told.spoiled_for(self.alloc, self.faults, signer, receiver)?;
+        Ok(self.take_signed(rt, signed))
+    }
+
     /// It takes a message without entries.
     pub fn take_unsigned<R: Threads + Sync>(
         &mut self,

@@ -12,6 +12,8 @@ use std::thread::Threads;
 pub enum Event {
     /// It takes what that replica signs, whoever the message says that it is of.
     Take(u32, Told),
+    /// It takes what the first one signs, with a changed entry for the second.
+    TakeSpoiled((u32, u32), Told),
     /// It takes a message without entries.
     TakeUnsigned(Told),
     /// PREPAREs for number 1 come from the first of these replicas up to the second, and not of it.
@@ -67,6 +69,7 @@ fn happens<R: Threads + Sync>(
 ) -> Result<Answer, Memory> {
     match event {
         Event::Take(signer, told) => replica.take(rt, signer, told),
+        Event::TakeSpoiled(of, told) => replica.take_spoiled(rt, of, told),
         Event::TakeUnsigned(told) => replica.take_unsigned(rt, told),
         Event::TakePrepares(from, to) => replica.take_prepares(rt, from, to),
         Event::TakeCommits(from, to) => replica.take_commits(rt, from, to),

@@ -41,6 +41,45 @@ fn a_view_below_the_one_asked_for_is_not_entered(rt: HostRuntime) -> Result<(), 
     NOT_ENTERED.plays(&rt, rt.alloc())
 }
 
+const LAST_VIEW: u64 = (1 << 63) - 1;
+
+const TO_THE_LAST: &[Step] = &[
+    Step(Event::Leave(0), Refused(25)),
+    Step(Event::Leave(1 << 63), Refused(25)),
+    Step(Event::Leave(2), Done),
+    Step(Event::Leave(2), Refused(25)),
+    Step(Event::Leave(1), Refused(25)),
+    Step(Event::Enter(0, 0, &[]), Refused(25)),
+    Step(Event::Enter(1, 0, &[]), Refused(25)),
+    Step(Event::Enter(1 << 63, 0, &[]), Refused(25)),
+    Step(Event::View, Number(0)),
+    Step(Event::Enter(2, 0, &[]), Sent(0)),
+    Step(Event::Enter(2, 0, &[]), Refused(25)),
+    Step(Event::Leave(2), Refused(25)),
+    Step(Event::Leave(LAST_VIEW), Done),
+    Step(Event::Propose, Refused(28)),
+    Step(Event::Enter(LAST_VIEW, 0, &[]), Sent(0)),
+    Step(Event::Leave(1 << 63), Refused(25)),
+];
+
+static TO_THE_LAST_ALONE: Script = Script {
+    faults: 0,
+    me: 0,
+    steps: TO_THE_LAST,
+};
+
+static TO_THE_LAST_AMONG_31: Script = Script {
+    faults: 10,
+    me: 30,
+    steps: TO_THE_LAST,
+};
+
+#[test]
+fn views_go_on_to_the_last(rt: HostRuntime) -> Result<(), Fail> {
+    TO_THE_LAST_ALONE.plays(&rt, rt.alloc())?;
+    TO_THE_LAST_AMONG_31.plays(&rt, rt.alloc())
+}
+
 static HANDED_OVER: Script = Script {
     faults: 1,
     me: 2,

@@ -25,6 +25,7 @@ fn generator() -> Generator {
         files: (3, 4),
         dirs: (2, 1),
         names: 6,
+        callers: 0,
     }
 }
 

@@ -28,6 +28,7 @@ fn generator() -> Generator {
         files: (1, 9),
         dirs: (1, 9),
         names: 9,
+        callers: 4,
     }
 }
 

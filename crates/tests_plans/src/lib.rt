@@ -6,4 +6,6 @@ mod generated;
 #[cfg(test)]
 mod plans;
 #[cfg(test)]
+mod refused;
+#[cfg(test)]
 mod touching;

@@ -4,22 +4,25 @@ use bfs_testing::numbers::{CREATE, LOOKUP};
 use bfs_testing::words::{A, ROOT, UNSET, call, put_parts};
 use bfs_testing::{holds, same};
 use bfs_tree::Tree;
-use bfs_types::{Context, Cred, FileId, Ordinal, Time};
+use bfs_types::{Context, Cred, FileId, Gids, Ordinal, Time};
 use bfs_wire::NfsCall;
 use std::alloc::Global;
 use std::test::Fail;
 
-const NOBODY: Cred = Cred {
-    uid: 65534,
-    gid: 65534,
-};
+fn nobody() -> Cred {
+    Cred {
+        uid: 65534,
+        gid: 65534,
+        gids: Gids::none(),
+    }
+}
 
 fn touched_by(alloc: Global, call: &NfsCall) -> Result<Footprint, Fail> {
     let tree = Tree::new(alloc)?;
     let context = Context {
         ordinal: Ordinal::first(),
         time: Time::epoch(),
-        caller: NOBODY,
+        caller: nobody(),
     };
     Ok(footprint(&tree, &context, call))
 }

@@ -1,5 +1,5 @@
 //! Command lines: what the words ask for, and those that are refused.
-use bfs_replay::{Engine, Failure, UsageError, options};
+use bfs_replay::{Engine, Failure, Options, UsageError, options};
 use bfs_testing::{holds, same};
 use std::alloc::Global;
 use std::test::Fail;
@@ -61,7 +61,8 @@ fn asks_for(alloc: Global, line: &str, workers: u32, engine: Option<Engine>) -> 
     let words: Vec<&str> = line.split(' ').collect(alloc)?;
     let asked = match options(alloc, words.as_slice()) {
         Ok(asked) => asked,
-        Err(_) => return Ok(false),
+        Err(UsageError::Usage) => return Ok(false),
+        Err(UsageError::Memory) => return Err(UsageError::Memory.into()),
     };
     Ok(asked.workers.count() == workers && asked.engine == engine && asked.trace == "a.trace")
 }
@@ -93,11 +94,13 @@ fn asks_for_settings(alloc: Global, line: &str, path: Option<&str>) -> Result<bo
     let words: Vec<&str> = line.split(' ').collect(alloc)?;
     let asked = match options(alloc, words.as_slice()) {
         Ok(asked) => asked,
-        Err(_) => return Ok(false),
+        Err(UsageError::Usage) => return Ok(false),
+        Err(UsageError::Memory) => return Err(UsageError::Memory.into()),
     };
     Ok(asked.config == path)
 }
 
+/// `.ci/refusals` runs this one with each growth of memory refused in turn.
 #[test]
 fn reads_where_the_settings_are(rt: HostRuntime) -> Result<(), Fail> {
     let path = Some("a.toml");

@@ -111,7 +111,23 @@ pub fn wrong_in<R: Threads + Wait + Sync>(
     first_wrong(rt, &mut all, events)
 }
 
-/// The same at four replicas and at four others, whether memory ran out at one of them or not, and whether both then have sent the same.
+// what shows of logs and of kept VIEW-CHANGEs: all say what they have prepared and what is stable, and the next primary passes on what it keeps
+static SAID_AT_THE_END: [Event; 2] = [Event::TimeOut(ALL), Event::HandOver(ALL)];
+
+// the place of the first event that does not come as it is told, those at the end among them
+fn first_wrong_up_to_the_end<R: Threads + Wait + Sync>(
+    rt: &R,
+    all: &mut Replicas,
+    events: &[Event],
+) -> Result<Option<usize>, Memory> {
+    match first_wrong(rt, all, events)? {
+        None => first_wrong(rt, all, &SAID_AT_THE_END),
+        wrong => Ok(wrong),
+    }
+}
+
+/// The same at four replicas and at four others, whether memory ran out at one of them or not, and whether both then have sent the same. At the
+/// end all leave their views, so that what their logs hold is sent too.
 pub fn wrong_in_both<R: Threads + Wait + Sync>(
     rt: &R,
     alloc: Global,
@@ -119,9 +135,9 @@ pub fn wrong_in_both<R: Threads + Wait + Sync>(
 ) -> Result<(Option<usize>, bool), Memory> {
     let mut all = Replicas::new(rt, alloc)?;
     let mut others = Replicas::new(rt, alloc)?;
-    match first_wrong(rt, &mut all, events)? {
+    match first_wrong_up_to_the_end(rt, &mut all, events)? {
         None => {
-            let wrong = first_wrong(rt, &mut others, events)?;
+            let wrong = first_wrong_up_to_the_end(rt, &mut others, events)?;
             Ok((wrong, all.said() == others.said()))
         }
         wrong => Ok((wrong, false)),

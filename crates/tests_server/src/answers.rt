@@ -13,13 +13,13 @@ use bfs_rpc::Cred;
 use bfs_testing::words::ROOT_REQUEST;
 use bfs_testing::{holds, same};
 use bfs_tree::Store;
-use bfs_types::{Attributes, FileType, Memory, Ordinal, Time};
+use bfs_types::{Attributes, FileType, Gids, Memory, Ordinal, Time};
 use bfs_wire::{NfsCall, NfsReply, Status};
 use std::alloc::Global;
 use std::test::Fail;
 
 const ROOT_REPLY: &str =
-    "0000000100000001000000000000000000000000000000000000000000000002000041ed000000020000000000000000000000400000100000000000000000010000000100000002000000000000000000000000000000000000000000000000";
+    "0000000100000001000000000000000000000000000000000000000000000002000041ff000000020000000000000000000000400000100000000000000000010000000100000002000000000000000000000000000000000000000000000000";
 
 // GETATTR of the root with xid 9 and one thing wrong, and all of it
 static REFUSED: &[(&str, &str, &str)] = &[
@@ -93,10 +93,13 @@ fn refuses_calls_in_order(rt: HostRuntime) -> Result<(), Fail> {
     Ok(())
 }
 
-const SOMEBODY: Cred = Cred {
-    uid: 1000,
-    gid: 100,
-};
+fn somebody() -> Cred {
+    Cred {
+        uid: 1000,
+        gid: 100,
+        gids: Gids::none(),
+    }
+}
 
 // of a new tree
 fn reply_to(alloc: Global, call: &NfsCall) -> Result<NfsReply, Memory>
@@ -108,7 +111,7 @@ fn reply_to(alloc: Global, call: &NfsCall) -> Result<NfsReply, Memory>
         &mut tree,
         Ordinal::first(),
         Time::epoch(),
-        &SOMEBODY,
+        &somebody(),
         call,
     )
 }
@@ -146,7 +149,7 @@ fn attributes_of_root(alloc: Global) -> Result<Option<Attributes>, Memory> {
 fn replies_the_attributes_of_the_root(rt: HostRuntime) -> Result<(), Fail> {
     let attributes = attributes_of_root(rt.alloc())?.ok_or("attributes")?;
     same!(rt; attributes.file_type, FileType::Directory);
-    same!(rt; attributes.permissions, 0o755);
+    same!(rt; attributes.permissions, 0o777);
     same!(rt; attributes.size, 64);
     Ok(())
 }

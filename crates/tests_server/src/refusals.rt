@@ -34,7 +34,7 @@ const B_MADE: &[u32] = attributes!(file 6, links 1, size 0, blocks 0, times 1 1 
 
 const F_MADE: &[u32] = attributes!(directory 8, links 2, size 64, times 1 1 1);
 
-const ROOT_FILLED: &[u32] = &[2, 0x41ed, 4, 0, 0, 192, 4096, 0, 1, 1, 2, 0, 0, 1, 0, 1, 0];
+const ROOT_FILLED: &[u32] = &[2, 0x41ff, 4, 0, 0, 192, 4096, 0, 1, 1, 2, 0, 0, 1, 0, 1, 0];
 
 // the path `b`
 const PATH: &[u32] = &[1, 0x62000000];

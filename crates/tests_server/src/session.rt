@@ -132,7 +132,7 @@ const G_AND_F: &[u32] = &[1, 7, 1, 0x67000000, 19, 1, 23, 1, 0x66000000, 23];
 
 const B_AT_A_ALONE: &[u32] = attributes!(file 7, links 1, size 0, blocks 0, times 1 1 3);
 
-const ROOT_EMPTIED: &[u32] = &[2, 0x41ed, 2, 0, 0, 64, 4096, 0, 1, 1, 2, 0, 0, 3, 0, 3, 0];
+const ROOT_EMPTIED: &[u32] = &[2, 0x41ff, 2, 0, 0, 64, 4096, 0, 1, 1, 2, 0, 0, 3, 0, 3, 0];
 
 const ROOM_LESS_ONE: &[u32] = &[8192, 4096, 262144, 262143, 262143];
 

@@ -14,7 +14,7 @@ use bfs_testing::asserts::compared;
 use bfs_testing::steps::Step;
 use bfs_testing::words::{same_bytes, spelled};
 use bfs_tree::{Store, Tree};
-use bfs_types::{Memory, Ordinal, Procedure, Time};
+use bfs_types::{Gids, Memory, Ordinal, Procedure, Time};
 use bfs_wire::{NfsCall, NfsReply, parse_args, write_reply};
 use std::alloc::Global;
 use std::test::Fail;
@@ -85,10 +85,13 @@ pub(crate) fn runs(
     Ok(())
 }
 
-const NOBODY: Cred = Cred {
-    uid: 65534,
-    gid: 65534,
-};
+fn nobody() -> Cred {
+    Cred {
+        uid: 65534,
+        gid: 65534,
+        gids: Gids::none(),
+    }
+}
 
 fn runs_one(alloc: Global, tree: &mut Tree, ordinal: Ordinal, step: &Step) -> Result<(), Fail>
     requires whole { IsTrue ((reach_of tree.old).whole) }
@@ -115,7 +118,7 @@ fn run_words(alloc: Global, tree: &mut Tree, ordinal: Ordinal, step: &Step) -> R
     match parse_args(named, arguments.as_slice()) {
         Ok(call) => {
             let time = Time::new(1, 0).unwrap_or(Time::epoch());
-            let reply = run_whole(alloc, tree, ordinal, time, &NOBODY, &call)?;
+            let reply = run_whole(alloc, tree, ordinal, time, &nobody(), &call)?;
             Ok(write_reply(alloc, &reply)?)
         }
         Err(_) => Err(Fail::new(format_args!("the arguments of procedure {procedure}"))),

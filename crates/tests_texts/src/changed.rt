@@ -1,6 +1,7 @@
 //! Texts of file systems that were cut, changed, mixed and lengthened at random. A reading of the format that shares nothing with the code decides
 //! which of them are malformed (20) and which are of another version (22). It does not look whether the others are well formed: of these each
 //! is refused for that (21), or read and written again to the same bytes.
+use crate::hostile::with_word;
 use crate::texts::{bytes_of, refusal};
 use bfs_digest::{restore, snapshot};
 use bfs_testing::asserts::compared;
@@ -34,8 +35,8 @@ fn directory(cursor: &mut Cursor<'_>) -> Option<()> {
     Some(())
 }
 
-// what stands behind the fileid of an inode
-fn inode(cursor: &mut Cursor<'_>) -> Option<()> {
+// what stands behind the fileid of an inode, where a file has at most so many bytes
+fn inode(cursor: &mut Cursor<'_>, most: u32) -> Option<()> {
     let kind = cursor.word()?;
     cursor.word_up_to(4_095)?;
     cursor.take(12)?;
@@ -43,15 +44,15 @@ fn inode(cursor: &mut Cursor<'_>) -> Option<()> {
         time(cursor)?;
     }
     match kind {
-        1 => cursor.opaque(1_048_576).map(|_| ()),
+        1 => cursor.opaque(most).map(|_| ()),
         2 => directory(cursor),
         5 => cursor.opaque(1_024).map(|_| ()),
         _ => None,
     }
 }
 
-// what stands behind the version
-fn file_system(cursor: &mut Cursor<'_>) -> Option<()> {
+// what stands behind the version, where a file has at most so many bytes
+fn file_system(cursor: &mut Cursor<'_>, most: u32) -> Option<()> {
     let next = cursor.double()?;
     if next < 3 || 4_294_967_296 < next {
         return None;
@@ -60,7 +61,7 @@ fn file_system(cursor: &mut Cursor<'_>) -> Option<()> {
     let mut fileid = 1;
     for _inode in 0..cursor.word()? {
         fileid = rising(cursor, fileid)?;
-        inode(cursor)?;
+        inode(cursor, most)?;
     }
     if cursor.left().is_empty() {
         Some(())
@@ -77,15 +78,18 @@ fn wanted(text: &[u8]) -> Option<u32> {
     }
     match cursor.word() {
         None => Some(20),
-        Some(1) if file_system(&mut cursor).is_some() => None,
-        Some(1) => Some(20),
+        Some(1) if file_system(&mut cursor, 1_048_576).is_some() => None,
+        Some(2) if file_system(&mut cursor, 16_777_216).is_some() => None,
+        Some(1 | 2) => Some(20),
         Some(_) => Some(22),
     }
 }
 
-// whether it has the text that it was restored from
+// whether it has the text that it was restored from, but for the version, which is the latest
 fn is_told_again(alloc: Global, text: &[u8]) -> Result<bool, Fail> {
-    Ok(snapshot(alloc, &restore(alloc, text)?)?.as_slice() == text)
+    let (_, behind) = text.split_at_checked(8).ok_or("a version")?;
+    let told = snapshot(alloc, &restore(alloc, text)?)?;
+    Ok(told.as_slice().strip_prefix(b"BFSS\0\0\0\x02".as_slice()) == Some(behind))
 }
 
 // the number by which a text is refused, which is as it is to be
@@ -145,8 +149,14 @@ fn changed_texts_are_read_as_the_format_tells(rt: HostRuntime) -> Result<(), Fai
         not_formed: 0,
         others: 0,
     };
-    for (text, other) in [(NEW, SOME), (SOME, SOME), (SOME, NEW), (NEW, NEARLY_SPENT)] {
-        let (bytes, others) = (bytes_of(alloc, text)?, bytes_of(alloc, other)?);
+    let pairs = [
+        (NEW, SOME, 2),
+        (SOME, SOME, 1),
+        (SOME, NEW, 2),
+        (NEW, NEARLY_SPENT, 1),
+    ];
+    for (text, other, version) in pairs {
+        let (bytes, others) = (with_word(alloc, text, 4, version)?, bytes_of(alloc, other)?);
         judge_all(alloc, bytes.as_slice(), others.as_slice(), &mut counts)?;
     }
     holds!(rt; counts.are_many());

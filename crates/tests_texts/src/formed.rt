@@ -9,7 +9,7 @@ use std::test::Fail;
 fn begin(alloc: Global, next_ordinal: u32, inodes: u32) -> Result<Vec<u8>, Fail> {
     let mut text = Vec::new(alloc);
     text.extend_from_slice(b"BFSS")?;
-    put_words(&mut text, &[1, 0, next_ordinal, 0, 0, inodes])?;
+    put_words(&mut text, &[2, 0, next_ordinal, 0, 0, inodes])?;
     Ok(text)
 }
 

@@ -6,8 +6,13 @@ use std::alloc::Global;
 use std::process::Abort;
 use std::test::Fail;
 
-// the text with a word in the place of one
-fn with_word(alloc: Global, text: &str, place: usize, word: u32) -> Result<Vec<u8>, Fail> {
+/// The text with a word in the place of one.
+pub(crate) fn with_word(
+    alloc: Global,
+    text: &str,
+    place: usize,
+    word: u32,
+) -> Result<Vec<u8>, Fail> {
     let bytes = bytes_of(alloc, text)?;
     let (front, rest) = bytes.as_slice().split_at_checked(place).ok_or("a place")?;
     let (_, behind) = rest.split_at_checked(4).ok_or("a word")?;
@@ -30,7 +35,9 @@ fn looks_at_the_version_first(rt: HostRuntime) -> Result<(), Fail> {
     same!(rt; refusal(alloc, b"BFSS"), 20);
     same!(rt; refusal(alloc, bytes_of(alloc, "4246535300000003")?.as_slice()), 22);
     same!(rt; refusal(alloc, bytes_of(alloc, "4246535400000003")?.as_slice()), 20);
-    same!(rt; refused(alloc, NEW, 4, 2)?, 22);
+    same!(rt; refused(alloc, NEW, 4, 1)?, 0);
+    same!(rt; refused(alloc, NEW, 4, 2)?, 0);
+    same!(rt; refused(alloc, NEW, 4, 3)?, 22);
     same!(rt; refused(alloc, NEW, 4, 0)?, 22);
     Ok(())
 }

@@ -8,4 +8,6 @@ mod formed;
 #[cfg(test)]
 mod hostile;
 #[cfg(test)]
+mod sizes;
+#[cfg(test)]
 mod texts;

@@ -9,9 +9,9 @@ use std::process::Abort;
 use std::test::Fail;
 use std::thread::Threads;
 
-const NEW_DIGEST: &str = "be27e39566f317750eebee1ffd539c1e05bb6276147755f12c9fc1c293bb36b4";
+const NEW_DIGEST: &str = "f391294b903e1c7a8198517d74220c3e81bfc19fa44e464e2abc695bbf325f9f";
 
-const SOME_DIGEST: &str = "709b67f9148510d579111eefe972e554475c95431df3de76860ec8124f791b06";
+const SOME_DIGEST: &str = "517fbec79076d6c911d40ae0e6f8988d97ec85338b2e533e2bf2dc741ffb67cd";
 
 pub(crate) fn bytes_of(alloc: Global, text: &str) -> Result<Vec<u8>, Fail> {
     Ok(hex::decode(alloc, text)?)

@@ -122,6 +122,7 @@ fn names_replicas_below_their_number(rt: HostRuntime) -> Result<(), Fail> {
     Ok(compared(first_wrong(rt.alloc(), &REPLICAS)?, None)?)
 }
 
+/// `.ci/refusals` runs this one with each growth of memory refused in turn.
 #[test]
 fn reads_who_is_silent_between_blocks(rt: HostRuntime) -> Result<(), Fail> {
     let population = Population::new(16, 4).ok_or("population")?;

@@ -61,6 +61,7 @@ fn is_block(event: &TraceEvent, second: u32, wanted: &[(u32, u64, usize)]) -> bo
         }
 }
 
+/// `.ci/refusals` runs this one with each growth of memory refused in turn.
 #[test]
 fn reads_blocks_with_their_requests(rt: HostRuntime) -> Result<(), Fail> {
     let text = b"batch 4294967295.999999\n0 5 raw 00\n15 6 raw 0102\nbatch 2.000000";

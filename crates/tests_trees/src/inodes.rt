@@ -6,7 +6,7 @@ use crate::growing::{add_link, context, same_ids};
 use bfs_inode::{Directory, Entry, FileData, FileId, Inode};
 use bfs_testing::{holds, same};
 use bfs_tree::{Store, Tree};
-use bfs_types::{Cred, FileType, LinkPath, Memory, Name, SetTime, Settings, Time};
+use bfs_types::{Cred, FileType, Gids, LinkPath, Memory, Name, SetTime, Settings, Time};
 use std::alloc::Global;
 use std::test::Fail;
 
@@ -19,10 +19,13 @@ pub(crate) const UNSET: Settings = Settings {
     mtime: None,
 };
 
-const CALLER: Cred = Cred {
-    uid: 1000,
-    gid: 100,
-};
+fn caller() -> Cred {
+    Cred {
+        uid: 1000,
+        gid: 100,
+        gids: Gids::none(),
+    }
+}
 
 fn first_second() -> Time {
     Time::new(1, 0).unwrap_or(Time::epoch())
@@ -48,7 +51,7 @@ fn makes_the_root(rt: HostRuntime) {
 }
 
 pub(crate) fn file(alloc: Global) -> Result<Inode, Memory> {
-    Inode::new_file(alloc, &context(first_second(), CALLER), &UNSET)
+    Inode::new_file(alloc, &context(first_second(), caller()), &UNSET)
 }
 
 #[test]
@@ -190,7 +193,7 @@ fn parent_of(inode: &Inode) -> Option<FileId> {
 }
 
 fn directory_below(alloc: Global, parent: FileId) -> Inode {
-    Inode::new_directory(alloc, &context(first_second(), CALLER), &UNSET, parent)
+    Inode::new_directory(alloc, &context(first_second(), caller()), &UNSET, parent)
 }
 
 #[test]
@@ -205,7 +208,7 @@ fn makes_directories(rt: HostRuntime) {
 
 #[test]
 fn makes_symbolic_links(rt: HostRuntime) -> Result<(), Fail> {
-    let context = context(first_second(), CALLER);
+    let context = context(first_second(), caller());
     let link = Inode::new_symbolic_link(rt.alloc(), &context, &UNSET, b"a/b")?;
     holds!(rt; link.is_link());
     holds!(rt; link.link() == Some(b"a/b".as_slice()));
@@ -234,7 +237,7 @@ fn put_file(alloc: Global, tree: &mut Tree, id: FileId) -> Result<bool, Memory>
     requires whole { IsTrue ((reach_of tree.old).whole) }
     ensures reach { reach_of tree.new ≡ reach_of tree.old }
 {
-    let file = Inode::new_file(alloc, &context(Time::epoch(), SUPERUSER), &UNSET)?;
+    let file = Inode::new_file(alloc, &context(Time::epoch(), superuser()), &UNSET)?;
     Ok(tree.insert(id, file).is_ok())
 }
 
@@ -251,7 +254,13 @@ fn keeps_inodes_by_their_fileids(rt: HostRuntime) -> Result<(), Fail> {
     Ok(())
 }
 
-const SUPERUSER: Cred = Cred { uid: 0, gid: 0 };
+fn superuser() -> Cred {
+    Cred {
+        uid: 0,
+        gid: 0,
+        gids: Gids::none(),
+    }
+}
 
 // through the trait, of a store that is whole
 fn count_and_used_blocks<S: Store>(store: &S) -> Option<(usize, u64)> {
@@ -280,7 +289,7 @@ fn counts_inodes_and_blocks(rt: HostRuntime) -> Result<(), Fail> {
     let alloc = rt.alloc();
     let mut tree = Tree::new(alloc)?;
     same!(rt; count_and_used_blocks(&tree), Some((1, 1)));
-    let file = Inode::new_file(alloc, &context(Time::epoch(), SUPERUSER), &TWO_BLOCKS)?;
+    let file = Inode::new_file(alloc, &context(Time::epoch(), superuser()), &TWO_BLOCKS)?;
     same!(rt; file.blocks(), 2);
     tree.insert(FileId::new(9), file)?;
     same!(rt; count_and_used_blocks(&tree), Some((2, 3)));

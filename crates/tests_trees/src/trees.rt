@@ -7,7 +7,7 @@ use crate::inodes::UNSET;
 use bfs_inode::{FileId, Inode};
 use bfs_testing::same;
 use bfs_tree::{Store, Tree};
-use bfs_types::{Cred, Memory, Time};
+use bfs_types::{Cred, Gids, Memory, Time};
 use std::alloc::Global;
 use std::process::Abort;
 use std::test::Fail;
@@ -36,10 +36,13 @@ pub(crate) enum Planted<'a> {
     },
 }
 
-const NOBODY: Cred = Cred {
-    uid: 65534,
-    gid: 65534,
-};
+fn nobody() -> Cred {
+    Cred {
+        uid: 65534,
+        gid: 65534,
+        gids: Gids::none(),
+    }
+}
 
 /// A new tree, with what is planted into it. It is whole.
 pub(crate) fn grown(alloc: Global, planted: &[Planted]) -> Result<Tree, Fail>
@@ -79,14 +82,14 @@ fn plant(alloc: Global, tree: &mut Tree, planted: &Planted) -> Result<(), Fail>
 fn directory(alloc: Global, parent: u32) -> Inode {
     Inode::new_directory(
         alloc,
-        &context(Time::epoch(), NOBODY),
+        &context(Time::epoch(), nobody()),
         &UNSET,
         FileId::new(parent),
     )
 }
 
 fn file(alloc: Global) -> Result<Inode, Memory> {
-    Inode::new_file(alloc, &context(Time::epoch(), NOBODY), &UNSET)
+    Inode::new_file(alloc, &context(Time::epoch(), nobody()), &UNSET)
 }
 
 // with that many links more, and those entries

@@ -86,14 +86,15 @@ fn are_as_told(chosen: &[Chosen], wanted: &[(u64, u32)]) -> bool {
     chosen.len() == wanted.len()
 }
 
-/// Whether that came of VIEW-CHANGEs.
-pub fn comes_to(given: Result<Choice, ViewError>, wanted: Outcome) -> bool {
+/// Whether that came of VIEW-CHANGEs. `Memory` where memory ran out.
+pub fn comes_to(given: Result<Choice, ViewError>, wanted: Outcome) -> Result<bool, Memory> {
     match (given, wanted) {
+        (Err(ViewError::Memory), _) => Err(Memory),
         (Ok(choice), Outcome::Chosen(min_s, chosen)) => {
-            choice.min_s() == min_s && are_as_told(choice.chosen(), chosen)
+            Ok(choice.min_s() == min_s && are_as_told(choice.chosen(), chosen))
         }
-        (Err(error), Outcome::Refused(number)) => error.code() == number,
-        _ => false,
+        (Err(error), Outcome::Refused(number)) => Ok(error.code() == number),
+        _ => Ok(false),
     }
 }
 
@@ -103,7 +104,7 @@ struct Case(&'static str, &'static [Asked<'static>], Outcome);
 // for replica 0
 fn chooses(alloc: Global, asked: &[Asked<'_>], wanted: Outcome) -> Result<bool, Memory> {
     let changes = changes(alloc, asked)?;
-    Ok(comes_to(choose(alloc, &keys_of(alloc, 0)?, &changes), wanted))
+    comes_to(choose(alloc, &keys_of(alloc, 0)?, &changes), wanted)
 }
 
 // what is particular about the first of which something else comes
@@ -196,6 +197,17 @@ static CASES: [Case; 10] = [
 #[test]
 fn a_view_begins_with_what_was_prepared(rt: HostRuntime) -> Result<(), Fail> {
     compared(first_wrong(rt.alloc(), &CASES)?, None)?;
+    Ok(())
+}
+
+/// `.ci/refusals` runs this one with each growth of memory refused in turn.
+#[test]
+fn what_one_has_prepared_is_chosen(rt: HostRuntime) -> Result<(), Fail> {
+    let wanted = Outcome::Chosen(0, &[(1, 0), (2, 5)]);
+    compared(
+        chooses(rt.alloc(), &[OF_ONE, OF_TWO, OF_THREE], wanted)?,
+        true,
+    )?;
     Ok(())
 }
 

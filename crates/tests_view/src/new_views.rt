@@ -13,7 +13,7 @@ use std::test::Fail;
 
 // whether that comes of a NEW-VIEW for replica 3
 fn comes_of(alloc: Global, signed: &Signed<Message>, wanted: Outcome) -> Result<bool, Memory> {
-    Ok(comes_to(check_new_view(alloc, &keys_of(alloc, 3)?, signed), wanted))
+    comes_to(check_new_view(alloc, &keys_of(alloc, 3)?, signed), wanted)
 }
 
 /// What is particular about a NEW-VIEW, what it says, and what comes of it.
@@ -43,7 +43,7 @@ const RIGHT: Begun = Begun(1, CHANGES, &[NULL, PREPARED]);
 
 const CHOSEN: Outcome = Outcome::Chosen(0, &[(1, 0), (2, 5)]);
 
-static CASES: [Case; 15] = [
+static CASES: [Case; 19] = [
     Case("the right one", RIGHT, CHOSEN),
     Case(
         "of a backup",
@@ -54,6 +54,26 @@ static CASES: [Case; 15] = [
         "of a backup, from too few",
         Begun(2, &[OF_ONE], &[]),
         Outcome::Refused(24),
+    ),
+    Case(
+        "of a backup, from one that is not valid",
+        Begun(2, &[OF_ONE, A_PREPARE_LESS, OF_THREE], &[NULL, PREPARED]),
+        Outcome::Refused(24),
+    ),
+    Case(
+        "of a backup, proposing less",
+        Begun(2, CHANGES, &[PREPARED]),
+        Outcome::Refused(24),
+    ),
+    Case(
+        "from one that is not valid, proposing less",
+        Begun(1, &[OF_ONE, A_PREPARE_LESS, OF_THREE], &[PREPARED]),
+        Outcome::Refused(31),
+    ),
+    Case(
+        "from two, of which one is for another view",
+        Begun(1, &[OF_ONE, FOR_ANOTHER_VIEW], &[NULL]),
+        Outcome::Refused(31),
     ),
     Case(
         "from one that is not valid",
@@ -179,6 +199,7 @@ fn handed(alloc: Global, signed: &Signed<Message>) -> Result<usize, Memory> {
     }
 }
 
+/// `.ci/refusals` runs this one with each growth of memory refused in turn.
 #[test]
 fn what_a_primary_makes_is_right(rt: HostRuntime) -> Result<(), Fail> {
     let signed = made(rt.alloc())?;

@@ -1,7 +1,9 @@
 //! Which VIEW-CHANGEs are kept, and which are refused.
 use crate::parts::{A_PREPARE_LESS, Asked, FOR_ANOTHER_VIEW, OF_THREE, OF_TWO};
 use crate::replica::{Said, Standing, replica, standing_of, take, time_out};
+use bfs_messages::{Message, Signed};
 use bfs_testing::same;
+use bfs_testing_messages::with_changed_entry;
 use bfs_types::Memory;
 use std::alloc::Global;
 use std::test::Fail;
@@ -65,6 +67,24 @@ fn each_is_refused_for_its_first_fault(rt: HostRuntime) -> Result<(), Fail> {
 #[test]
 fn those_for_anothers_view_are_noted(rt: HostRuntime) -> Result<(), Fail> {
     same!(rt; first_wrong(&rt, rt.alloc(), 0, &AT_ANOTHER)?, None);
+    Ok(())
+}
+
+// that of replica 3, with a changed entry for a receiver
+fn spoiled_for(alloc: Global, receiver: usize) -> Result<Signed<Message>, Memory> {
+    let Signed { message, auth } = OF_THREE.message_by(alloc, 3)?;
+    let auth = with_changed_entry(alloc, &auth, receiver)?;
+    Ok(Signed { message, auth })
+}
+
+#[test]
+fn one_with_a_changed_entry_is_not_taken(rt: HostRuntime) -> Result<(), Fail> {
+    let alloc = rt.alloc();
+    let mut node = replica(alloc, 1, 1)?;
+    same!(rt; take(&rt, &mut node, spoiled_for(alloc, 1)?), Said::Refused(24));
+    // an entry for another one
+    same!(rt; take(&rt, &mut node, spoiled_for(alloc, 0)?), Said::Sent(0));
+    same!(rt; take(&rt, &mut node, OF_THREE.message_by(alloc, 3)?), Said::Refused(29));
     Ok(())
 }
 

@@ -50,7 +50,7 @@ const DIRECTORY: &[u32] = attributes!(directory 4, links 2, size 64, times 2 2 2
 const FILE: &[u32] = attributes!(file 5, links 1, size 0, blocks 0, times 2 2 2);
 
 // the root with a directory and two names of a file
-const ROOT_FILLED: &[u32] = &[2, 0x41ed, 3, 0, 0, 160, 4096, 0, 1, 1, 2, 0, 0, 2, 0, 2, 0];
+const ROOT_FILLED: &[u32] = &[2, 0x41ff, 3, 0, 0, 160, 4096, 0, 1, 1, 2, 0, 0, 2, 0, 2, 0];
 
 static OF_ANOTHER_KIND: &[&[Step]] = &[
     &[Step(STATFS, &[ROOT], &[OK, ROOM])],
@@ -78,9 +78,9 @@ fn replaces_nothing_of_another_kind(rt: HostRuntime) -> Result<(), Fail> {
 
 const THIRD_RENAMED: &[u32] = attributes!(directory 3, links 2, size 64, times 1 1 2);
 
-const ROOT_OF_TWO: &[u32] = &[2, 0x41ed, 4, 0, 0, 128, 4096, 0, 1, 1, 2, 0, 0, 1, 0, 1, 0];
+const ROOT_OF_TWO: &[u32] = &[2, 0x41ff, 4, 0, 0, 128, 4096, 0, 1, 1, 2, 0, 0, 1, 0, 1, 0];
 
-const ROOT_OF_ONE: &[u32] = &[2, 0x41ed, 3, 0, 0, 96, 4096, 0, 1, 1, 2, 0, 0, 2, 0, 2, 0];
+const ROOT_OF_ONE: &[u32] = &[2, 0x41ff, 3, 0, 0, 96, 4096, 0, 1, 1, 2, 0, 0, 2, 0, 2, 0];
 
 static REPLACED: &[&[Step]] = &[
     &[
@@ -125,10 +125,12 @@ fn replaces_an_empty_directory_elsewhere(rt: HostRuntime) -> Result<(), Fail> {
     by_each_engine(&rt, REPLACED_ELSEWHERE)
 }
 
-// mode 0700, uid 7, gid 8, 5 bytes, 9.000002 as the time of the last access and the batch's as that of the last change
-const SETTINGS: &[u32] = &[0o700, 7, 8, 5, 9, 2, 3, 1000000];
+// mode 0700, the caller's own uid and gid, 5 bytes, 9.000002 as the time of the last access and the batch's as that of the last change
+const SETTINGS: &[u32] = &[0o700, 65534, 65534, 5, 9, 2, 3, 1000000];
 
-const SET: &[u32] = &[2, 0o040700, 2, 7, 8, 64, 4096, 0, 1, 1, 3, 9, 2, 1, 0, 1, 0];
+const SET: &[u32] = &[
+    2, 0o040700, 2, 65534, 65534, 64, 4096, 0, 1, 1, 3, 9, 2, 1, 0, 1, 0,
+];
 
 static MADE_WITH_SETTINGS: &[&[Step]] = &[&[
     Step(MKDIR, &[ROOT, D, SETTINGS], &[OK, THIRD, SET]),

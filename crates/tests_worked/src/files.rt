@@ -89,10 +89,10 @@ fn fills_a_file_up_to_its_limit(rt: HostRuntime) -> Result<(), Fail> {
     by_each_engine(&rt, FILLED)
 }
 
-const SETTINGS: &[u32] = &[0x41ff, 7, 0xffffffff, 3, 5, 1000000, 0xffffffff, 0];
+const SETTINGS: &[u32] = &[0x41ff, 65534, 0xffffffff, 3, 5, 1000000, 0xffffffff, 0];
 
 const SET: &[u32] = &[
-    1, 0x81ff, 1, 7, 65534, 3, 4096, 0, 1, 1, 3, 2, 0, 2, 0, 2, 0,
+    1, 0x81ff, 1, 65534, 65534, 3, 4096, 0, 1, 1, 3, 2, 0, 2, 0, 2, 0,
 ];
 
 static LOOKED_UP_AND_SET: &[&[Step]] = &[

@@ -81,13 +81,17 @@ fn holds_a_path_in_a_symbolic_link(rt: HostRuntime) -> Result<(), Fail> {
     Ok(())
 }
 
-// mode 0600, uid 7, gid 8, 5 bytes, and 9.000002 as the time of the last access
-const SETTINGS: &[u32] = &[0o600, 7, 8, 5, 9, 2, 0xffffffff, 0xffffffff];
+// mode 0600, the caller's own uid and gid, 5 bytes, and 9.000002 as the time of the last access
+const SETTINGS: &[u32] = &[0o600, 65534, 65534, 5, 9, 2, 0xffffffff, 0xffffffff];
 
-const SET: &[u32] = &[5, 0o120777, 1, 7, 8, 0, 4096, 0, 0, 1, 3, 9, 2, 1, 0, 1, 0];
+const SET: &[u32] = &[
+    5, 0o120777, 1, 65534, 65534, 0, 4096, 0, 0, 1, 3, 9, 2, 1, 0, 1, 0,
+];
 
 // the mode that is set is 02600
-const MODE_SET: &[u32] = &[5, 0o122600, 1, 7, 8, 0, 4096, 0, 0, 1, 3, 9, 2, 1, 0, 2, 0];
+const MODE_SET: &[u32] = &[
+    5, 0o122600, 1, 65534, 65534, 0, 4096, 0, 0, 1, 3, 9, 2, 1, 0, 2, 0,
+];
 
 const MODE: &[u32] = &[
     0o2600, 0xffffffff, 0xffffffff, 0xffffffff, 0xffffffff, 0xffffffff, 0xffffffff, 0xffffffff,

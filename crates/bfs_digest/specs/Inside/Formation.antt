@@ -11,7 +11,7 @@ use Rattle.bfs_model.specs.Server.WellFormed.{times, named, directories_among, N
 use Rattle.bfs_tree.specs.Inside.WellFormed.{is_child}
 use Rattle.bfs_digest.specs.Inside.Names.{Counted, Adds, counted_at, most_counted}
 use Rattle.bfs_digest.specs.Inside.Outlines.{note_of}
-use Rattle.bfs_digest.specs.Text.{Header}
+use Rattle.bfs_digest.specs.Text.{Header, latest_version}
 use Rattle.bfs_digest.specs.Inside.TextReading.{files_with, records_from}
 use Rattle.bfs_digest.specs.declared.outlines.InodeNote.{InodeNote}
 
@@ -110,4 +110,4 @@ TellsNames differ reading = (entries : List Entry) (rest : List ℕ) → reading
 
 -- whether the file system of the records is well formed
 abbrev pub TellsFormed : Bool → Header → (records : List ℕ) → Type 0
-TellsFormed formed header records = (inodes : List (ℕ × Inode)) (rest : List ℕ) → records_from header.count root_id records ≡ Some (inodes, rest) → IsTrue formed ↔ IsWellFormed (files_with header inodes)
+TellsFormed formed header records = (inodes : List (ℕ × Inode)) (rest : List ℕ) → records_from latest_version header.count root_id records ≡ Some (inodes, rest) → IsTrue formed ↔ IsWellFormed (files_with header inodes)

@@ -1,5 +1,5 @@
 -- How what the code reads from a text answers to a reading of the definitions.
-use Rattle.std.specs.Prelude.{◌≡◌, ℕ, ◌≤◌, IsTrue, List, [], Option, Some, None, Result, Ok, Err}
+use Rattle.std.specs.Prelude.{◌≡◌, ℕ, ◌≤◌, IsTrue, true, List, [], Option, Some, None, Result, Ok, Err}
 use Rattle.std.specs.Option.{option_map}
 use Rattle.std.specs.List.{AllByRecursion}
 use Rattle.std.specs.FinMap.{from_entries}
@@ -10,8 +10,8 @@ use Rattle.bfs_model.specs.Server.WellFormed.{BodyIsLimited, IsLimited, IsWellFo
 use Rattle.bfs_tree.specs.Slots.{Slots}
 use Rattle.bfs_tree.specs.Tree.{at_home, reach_of}
 use Rattle.bfs_model.specs.Bytes.Formats.{Reading}
-use Rattle.bfs_inode.specs.Records.{Head}
-use Rattle.bfs_digest.specs.Text.{Header, version}
+use Rattle.bfs_digest.specs.Inside.RecordReading.{Head}
+use Rattle.bfs_digest.specs.Text.{Header, is_taken, latest_version}
 use Rattle.bfs_digest.specs.Inside.TextReading.{files_with, numbers_from, records_from, version_from}
 use Rattle.bfs_digest.specs.declared.readers.EntryText.{EntryText}
 use Rattle.bfs_digest.specs.declared.readers.HeadText.{HeadText}
@@ -48,28 +48,30 @@ abbrev pub BuildsTree : Option Slots → Reading (List (ℕ × Inode)) → Type 
 BuildsTree (Some tree) reading = (inodes : List (ℕ × Inode)) (rest : List ℕ) → reading ≡ Some (inodes, rest) → (at_home tree ≡ from_entries inodes) × IsTrue ((reach_of tree).whole)
 BuildsTree None reading = (inodes : List (ℕ × Inode)) (rest : List ℕ) → reading ≡ Some (inodes, rest) → AllByRecursion (λ inode. IsLimited inode.1) inodes → ⊥
 
--- the bytes spell these numbers, and behind them these records, to the end
-pub record AreSpelled (bytes : List ℕ) (header : Header) (records : List ℕ) : Type 0 where
+-- the bytes spell these numbers, and behind them these records of that version, to the end
+pub record AreSpelled (version : ℕ) (bytes : List ℕ) (header : Header) (records : List ℕ) : Type 0 where
   pub numbers : numbers_from bytes ≡ Some (header, records)
   pub inodes : List (ℕ × Inode)
-  pub read : records_from header.count root_id records ≡ Some (inodes, [])
+  pub read : records_from version header.count root_id records ≡ Some (inodes, [])
 
--- the bytes are a text of the version that is written
-pub record IsText (bytes : List ℕ) (header : Header) (records : List ℕ) : Type 0 where
+-- the bytes are a text of a version that is taken
+pub record IsText (oldest : ℕ) (bytes : List ℕ) (header : Header) (records : List ℕ) : Type 0 where
+  pub version : ℕ
+  pub taken : is_taken oldest version ≡ true
   pub rest : List ℕ
   pub begun : version_from bytes ≡ Some (version, rest)
-  pub spelled : AreSpelled rest header records
+  pub spelled : AreSpelled version rest header records
 
--- the numbers of a text, and bytes that spell its records, to the end
+-- the numbers of a text, and bytes that spell its records, to the end: what is one of an older version is one of the latest too
 pub record AreRecords (header : Header) (records : List ℕ) : Type 0 where
   pub ordinal : (first_ordinal ≤ header.next_ordinal) × (header.next_ordinal ≤ spent_ordinal)
   pub last_time : IsTime header.last_time
   pub bytes : AreBytes records
   pub inodes : List (ℕ × Inode)
-  pub read : records_from header.count root_id records ≡ Some (inodes, [])
+  pub read : records_from latest_version header.count root_id records ≡ Some (inodes, [])
 
 -- the file system of the records, and it is live; or it is not well formed
 abbrev pub BuildsFiles : Option (Option FileSystem) → Header → (records : List ℕ) → Type 0
 BuildsFiles (Some None) header records = ⊥
-BuildsFiles (Some (Some files)) header records = ((inodes : List (ℕ × Inode)) (rest : List ℕ) → records_from header.count root_id records ≡ Some (inodes, rest) → files ≡ files_with header inodes) × IsLive files
-BuildsFiles None header records = (inodes : List (ℕ × Inode)) (rest : List ℕ) → records_from header.count root_id records ≡ Some (inodes, rest) → IsWellFormed (files_with header inodes) → ⊥
+BuildsFiles (Some (Some files)) header records = ((inodes : List (ℕ × Inode)) (rest : List ℕ) → records_from latest_version header.count root_id records ≡ Some (inodes, rest) → files ≡ files_with header inodes) × IsLive files
+BuildsFiles None header records = (inodes : List (ℕ × Inode)) (rest : List ℕ) → records_from latest_version header.count root_id records ≡ Some (inodes, rest) → IsWellFormed (files_with header inodes) → ⊥

@@ -5,14 +5,14 @@ use Rattle.bfs_model.specs.Bytes.Call.{◌>>=◌}
 use Rattle.bfs_model.specs.Server.Tree.{Inode, FileSystem, root_id, first_ordinal, spent_ordinal}
 use Rattle.bfs_digest.specs.Text.{Header, magic}
 use Rattle.bfs_model.specs.Bytes.Formats.{Reading, word_from, hyper_from}
-use Rattle.bfs_inode.specs.Records.{time_from, record_from}
+use Rattle.bfs_digest.specs.Inside.RecordReading.{time_from, record_from}
 
 -- so many records, whose fileids rise from the least on
-unfoldable pub records_from : (count least : ℕ) → List ℕ → Reading (List (ℕ × Inode))
-records_from zero least bytes = Some ([], bytes)
-records_from (suc count) least bytes = do
-  inode ← record_from bytes
-  inodes ← if nat_lt inode.0.0 least then None else records_from count (inode.0.0 + 1) inode.1
+unfoldable pub records_from : (version count least : ℕ) → List ℕ → Reading (List (ℕ × Inode))
+records_from version zero least bytes = Some ([], bytes)
+records_from version (suc count) least bytes = do
+  inode ← record_from version bytes
+  inodes ← if nat_lt inode.0.0 least then None else records_from version count (inode.0.0 + 1) inode.1
   Some (inode.0 ∷ inodes.0, inodes.1)
 
 -- what stands between the version and the records
@@ -37,9 +37,9 @@ is_nothing bytes = length bytes == 0
 abbrev pub files_with : Header → List (ℕ × Inode) → FileSystem
 files_with header inodes = record { tree = from_entries inodes; next_ordinal = header.next_ordinal; last_time = header.last_time }
 
--- the file system that bytes spell behind the version, to their end
-unfoldable pub files_from : List ℕ → Option FileSystem
-files_from bytes = do
+-- the file system that bytes spell behind that version, to their end
+unfoldable pub files_from : (version : ℕ) → List ℕ → Option FileSystem
+files_from version bytes = do
   numbers ← numbers_from bytes
-  inodes ← records_from numbers.0.count root_id numbers.1
+  inodes ← records_from version numbers.0.count root_id numbers.1
   if is_nothing inodes.1 then Some (files_with numbers.0 inodes.0) else None

@@ -13,7 +13,7 @@ use Rattle.bfs_model.specs.Laws.Footprints.{RequestsKeepToFootprints, RequestFoo
 use Rattle.bfs_model.specs.Laws.Overtaking.{Asked, answered}
 use Rattle.bfs_model.proofs.Footprints.Agreement.{calls_keep_to_footprints}
 use Rattle.bfs_model.proofs.Footprints.Apart as apart
-use Rattle.bfs_model.proofs.Footprints.Own.{footprint_same, footprints_agree, resolved_is_touched}
+use Rattle.bfs_model.proofs.Footprints.Own.{footprints_agree, footprints_follow, resolved_is_touched}
 use Rattle.bfs_model.proofs.Footprints.Stable.{moved_kind}
 use Rattle.bfs_model.proofs.Added.{types_kept}
 use Rattle.bfs_model.proofs.WellFormed.Trees.{tree_kept}
@@ -66,7 +66,7 @@ module _ (m : Inodes) (o : ℕ) (t : Time) (tree : IsTree m) where
   done_keeps request (Some call) fresh = record {
     tree = tree_kept m (under o t request) call fresh tree;
     keeps = λ later other same.
-        footprint_same m (answer_arguments m o t request (Some call)).0 later other same
+        footprints_follow m (answer_arguments m o t request (Some call)).0 later other same
         (moved_kind m (answer_arguments m o t request (Some call)).0 tree (tree_kept m (under o t request) call fresh tree) (types_kept m (under o t request) call fresh) other same);
   }
 

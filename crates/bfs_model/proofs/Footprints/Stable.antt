@@ -19,7 +19,7 @@ use Rattle.bfs_model.proofs.WellFormed.Trees.{tree_kept}
 use Rattle.bfs_model.proofs.WellFormed.Named.{found_named}
 use Rattle.bfs_model.proofs.Footprints.Agreement.{calls_keep_to_footprints}
 use Rattle.bfs_model.proofs.Footprints.Apart as apart
-use Rattle.bfs_model.proofs.Footprints.Own.{among_left, itself_among, IsSameKind, footprint_same, footprints_agree}
+use Rattle.bfs_model.proofs.Footprints.Own.{among_left, itself_among, IsSameKind, footprints_agree, footprints_follow}
 
 -- Calls as they are made ---------------------------------------------------------------------------------------------------
 
@@ -83,7 +83,7 @@ pub footprints_stay : FootprintsStay
 footprints_stay m c call later other tree fresh leaves =
     let n = (procedure m c call).0 in
     let same : (id : ℕ) → among (resolved_in other) id ≡ true → get n id ≡ get m id = λ id is. stays m c call id (leaves id is) in
-    footprint_same m n later other same (moved_kind m n tree (tree_kept m c call fresh tree) (types_kept m c call fresh) other same)
+    footprints_follow m n later other same (moved_kind m n tree (tree_kept m c call fresh tree) (types_kept m c call fresh) other same)
 
 -- Fresh ordinals ------------------------------------------------------------------------------------------------------------
 

@@ -1,5 +1,5 @@
 -- What is kept of each inode, whatever is called under a fresh ordinal: its limits, and what else each change keeps.
-use Rattle.std.proofs.Common.{◌≡◌, ℕ, ◌+◌, ◌<◌, ◌≤◌, Bool, true, false, List, [], ◌∷◌, ◌++◌, length, Option, Some, None, Ok, inl, inr, ◌⊎◌, if◌then◌else◌, IsTrue, IsFalse, refl, sym, ap, subst, ◌∙◌, arith}
+use Rattle.std.proofs.Common.{◌≡◌, ℕ, ◌+◌, ◌<◌, ◌≤◌, Bool, true, false, not, List, [], ◌∷◌, ◌++◌, length, Option, Some, None, Ok, inl, inr, ◌⊎◌, if◌then◌else◌, IsTrue, IsFalse, refl, sym, ap, subst, ◌∙◌, arith}
 use Rattle.std.specs.Bool.{⊤}
 use Rattle.std.specs.Prelude.{nat_lt, unwrap_or}
 use Rattle.std.specs.FinMap.{get, insert, remove as removed}
@@ -9,8 +9,9 @@ use Rattle.std.proofs.lemmas.Option.{same_Some}
 use Rattle.bfs_model.specs.Server.Limits.{most_file_bytes, most_name_bytes, most_links}
 use Rattle.bfs_model.specs.Server.Tree.{Time, Entry, Body, file, directory, link, Inode, Inodes, root_id, is_directory_body, entries_in, parent_in}
 use Rattle.bfs_model.specs.Server.Context.{Context}
+use Rattle.bfs_model.specs.Server.Access.{may_write_file, owner_refusals}
 use Rattle.bfs_model.specs.Bytes.Arguments.{Call, null, get_attributes, set_attributes, root, look_up, read_link, read, write_cache, write, create, remove, rename, make_link, make_symbolic_link, make_directory, remove_directory, read_directory, file_system_status}
-use Rattle.bfs_model.specs.Bytes.Replies.{Status, fbig, nospc}
+use Rattle.bfs_model.specs.Bytes.Replies.{Status, acces, fbig, nospc}
 use Rattle.bfs_model.specs.Server.Directories.{is_bad_name, entry_named}
 use Rattle.bfs_model.specs.Server.Changes.{with_settings, with_size, resized_body, with_bytes, overwritten_body, without_entry, with_parent, with_link, with_link_less, with_ctime, changed}
 use Rattle.bfs_model.specs.Server.Refusals.{FoundInode, FoundDirectory, checked, is_spent, has_most_links}
@@ -21,13 +22,14 @@ use Rattle.bfs_model.specs.Server.Footprints.{known, whole, ids_in, new_ids, chi
 use Rattle.bfs_model.specs.Server.Short.{IsShort}
 use Rattle.bfs_model.specs.Server.WellFormed.{times, named, IsTree, BodyIsLimited, IsLimited}
 use Rattle.bfs_model.proofs.Found.{fails, inode_at, directory_at, file_at, IsDirectoryAt, IsRenamed, IsOnto}
+use Rattle.bfs_model.proofs.Granted.{lets_both}
 use Rattle.bfs_model.proofs.Attempts.{IfChanged, kept}
 use Rattle.bfs_model.proofs.WellFormed.Entries.{names_differ}
 use Rattle.bfs_model.proofs.WellFormed.Steps.{kind_listed, changed_there}
 use Rattle.bfs_model.proofs.WellFormed.Named.{named_in_one, found_named}
 use Rattle.bfs_model.proofs.WellFormed.Each.{Each, at_found, at_inserted, each_inserted, each_removed, each_changed, each_link_lost}
 use Rattle.bfs_model.proofs.WellFormed.RenamingRoom.{HasRoomIn, HasRoomFor, CanRename, room_made, link_free}
-use Rattle.bfs_model.proofs.WellFormed.NewNames.{IsNewName, new_name, front_of, back_of, led_of, new_where_left, cookies_below}
+use Rattle.bfs_model.proofs.WellFormed.NewNames.{IsNewName, new_name, behind, front_of, back_of, led_of, new_where_left, cookies_below}
 use Rattle.bfs_model.proofs.WellFormed.Limits.{AreLimited, settings_limited, bytes_limited, entry_limited, without_limited, parent_limited, link_limited, link_less_limited, ctime_limited}
 
 -- what each change of an inode keeps; a directory that comes below another one is not the root
@@ -171,7 +173,7 @@ module _ (m : Inodes) (c : Context) (P : ℕ → Inode → Type 0) (by : IsKeptB
       omega arith
 
   module _ (tree : IsTree m) (from : Option ℕ) (from_name : List ℕ) (to : Option ℕ) (to_name : List ℕ) (a b : FoundDirectory) (entry : Entry) (moved : FoundInode)
-      (at : IsRenamed m from from_name to to_name a b entry moved) (can : CanRename c.ordinal b) (replaced : Option Replaced) (allowed : ⊤)
+      (at : IsRenamed m c from from_name to to_name a b entry moved) (can : CanRename c.ordinal b) (replaced : Option Replaced) (allowed : ⊤)
       (onto : IsOnto m moved (entry_named to_name b.listing.entries) replaced) (passed : checked (renaming_refusals m c (renaming_of a b moved replaced)) ≡ Ok allowed)
       (short : length to_name ≤ most_name_bytes) where
     abbrev r : Renaming
@@ -220,7 +222,7 @@ module _ (m : Inodes) (c : Context) (P : ℕ → Inode → Type 0) (by : IsKeptB
   kept_where_changed tree (get_attributes handle) fresh short = tt
   kept_where_changed tree (set_attributes handle settings) fresh short = λ x allowed is passed.
       let there = (inode_at m handle x is).there in let new = with_settings c.time settings x.inode in (
-        each_inserted (λ id y. IsLimited y) m limited x.id new (settings_limited c.time settings x.inode allowed passed (limited x.id x.inode there)),
+        each_inserted (λ id y. IsLimited y) m limited x.id new (settings_limited c settings x.inode allowed passed (limited x.id x.inode there)),
         each_inserted P m own x.id new (by.alike x.id x.inode new (same_set c.time settings.size x.inode) (own x.id x.inode there)),
       )
   kept_where_changed tree root fresh short = tt
@@ -230,35 +232,36 @@ module _ (m : Inodes) (c : Context) (P : ℕ → Inode → Type 0) (by : IsKeptB
   kept_where_changed tree write_cache fresh short = tt
   kept_where_changed tree (write handle offset written) fresh short = λ x small is passed.
       let there = (file_at m handle x is).there in let new = with_bytes c.time offset written x.inode in
-      let end = ltb-false most_file_bytes (offset + length written) (fails (nat_lt most_file_bytes (offset + length written)) ((nat_lt most_file_bytes (offset + length written), fbig) ∷ []) small passed (search (inl, inr) depth 9)) in (
+      let end = ltb-false most_file_bytes (offset + length written) (fails (nat_lt most_file_bytes (offset + length written)) ((not (may_write_file c.caller x.inode), acces) ∷ (nat_lt most_file_bytes (offset + length written), fbig) ∷ []) small passed (inr (inl refl))) in (
         each_inserted (λ id y. IsLimited y) m limited x.id new (bytes_limited c.time offset written x.inode end (limited x.id x.inode there)),
         each_inserted P m own x.id new (by.alike x.id x.inode new (same_written offset written x.inode.body) (own x.id x.inode there)),
       )
   kept_where_changed tree (create handle name settings) fresh short = λ dir allowed is passed.
       let at = directory_at m handle dir is in
       let big : List (Bool × Status) = (nat_lt most_file_bytes (unwrap_or settings.size 0), fbig) ∷ [] in
-      let size : unwrap_or settings.size 0 ≤ most_file_bytes = ltb-false most_file_bytes (unwrap_or settings.size 0) (fails (nat_lt most_file_bytes (unwrap_or settings.size 0)) (new_name_refusals c dir.listing name ++ big) allowed passed (search (inl, inr) depth 9)) in
-      made_in handle name dir at (new_dir handle dir name at fresh) short (new_file c settings) (new_name c dir.listing name big allowed passed)
+      let size : unwrap_or settings.size 0 ≤ most_file_bytes = ltb-false most_file_bytes (unwrap_or settings.size 0) (fails (nat_lt most_file_bytes (unwrap_or settings.size 0)) (new_name_refusals c dir name (owner_refusals c.caller settings) ++ big) allowed passed (behind _ (new_name_refusals c dir name (owner_refusals c.caller settings)) big (inl refl))) in
+      made_in handle name dir at (new_dir handle dir name at fresh) short (new_file c settings) (new_name c dir name (owner_refusals c.caller settings) big allowed passed)
       (record { links = omega arith; body = (omega arith, omega (arith, length-replicate {A = ℕ} (unwrap_or settings.size 0) 0)) }) refl
   kept_where_changed tree (remove handle name) fresh short = λ dir entry child plain at passed. name_out handle name dir child.id at.in_it false
   kept_where_changed tree (rename from from_name to to_name) fresh short = λ a b entry moved at replaced allowed onto passed.
       let left = fails (is_spent c.ordinal) (renaming_refusals m c (renaming_of a b moved replaced)) allowed passed (search (inl, inr) depth 9) in
-      let new = renamed_in (moves_a_directory m from from_name to) from to (ids_in (child_at m from from_name)) (ids_in (child_at m to to_name)) b at.to_at (new_where_left m c.ordinal (footprint m c (rename from from_name to to_name)) left fresh) in
+      let new = renamed_in (moves_a_directory m from from_name to) from to (ids_in (child_at m from from_name)) (ids_in (child_at m to to_name)) b at.to_at (
+      rw (lets_both m c.caller from to a b at.from_at at.to_at at.from_changes at.to_changes) at (new_where_left m c.ordinal (footprint m c (rename from from_name to to_name)) left fresh)) in
       all_renamed tree from from_name to to_name a b entry moved at (can_rename to b at.to_at new) replaced allowed onto passed short
   kept_where_changed tree (make_link handle in_directory name) fresh short = λ x plain dir allowed is no_directory dir_is passed.
       let at = directory_at m in_directory dir dir_is in
       let many : List (Bool × Status) = (has_most_links x.inode.links, nospc) ∷ [] in
-      let links : x.inode.links < most_links = leb-false most_links x.inode.links (fails (has_most_links x.inode.links) (new_name_refusals c dir.listing name ++ many) allowed passed (search (inl, inr) depth 9)) in
+      let links : x.inode.links < most_links = leb-false most_links x.inode.links (fails (has_most_links x.inode.links) (new_name_refusals c dir name [] ++ many) allowed passed (behind _ (new_name_refusals c dir name []) many (inl refl))) in
       let few = at_inserted x.id (λ y. y.links < most_links) m (at_found (λ y. y.links < most_links) m x.id x.inode (inode_at m handle x is).there links) dir.id (with_name c name x.id dir.inode) dir.inode at.there (λ lt. lt) in
-      both IsNone _ (linked c P by IsNone _ (named_in in_directory name dir at (linked_in handle in_directory dir name at fresh) short x.id (new_name c dir.listing name many allowed passed)) x.id (λ y here. few x.id y here refl))
+      both IsNone _ (linked c P by IsNone _ (named_in in_directory name dir at (linked_in handle in_directory dir name at fresh) short x.id (new_name c dir name [] many allowed passed)) x.id (λ y here. few x.id y here refl))
   kept_where_changed tree (make_symbolic_link handle name target settings) fresh short = λ dir allowed is passed.
       let at = directory_at m handle dir is in
-      made_in handle name dir at (new_dir handle dir name at fresh) short.0 (new_symbolic_link c settings target) (new_name c dir.listing name [] allowed passed) (record { links = omega arith; body = (omega arith, short.1) }) refl
+      made_in handle name dir at (new_dir handle dir name at fresh) short.0 (new_symbolic_link c settings target) (new_name c dir name (owner_refusals c.caller settings) [] allowed passed) (record { links = omega arith; body = (omega arith, short.1) }) refl
   kept_where_changed tree (make_directory handle name settings) fresh short = λ dir allowed is passed.
       let at = directory_at m handle dir is in
       let many : List (Bool × Status) = (has_most_links dir.inode.links, nospc) ∷ [] in
-      let links : dir.inode.links < most_links = leb-false most_links dir.inode.links (fails (has_most_links dir.inode.links) (new_name_refusals c dir.listing name ++ many) allowed passed (search (inl, inr) depth 9)) in
-      directory_made_in handle name dir at (new_dir handle dir name at fresh) short (new_directory c settings dir.id) (new_name c dir.listing name many allowed passed) links (record { links = omega arith; body = (omega arith, tt, tt) }) refl
+      let links : dir.inode.links < most_links = leb-false most_links dir.inode.links (fails (has_most_links dir.inode.links) (new_name_refusals c dir name (owner_refusals c.caller settings) ++ many) allowed passed (behind _ (new_name_refusals c dir name (owner_refusals c.caller settings)) many (inl refl))) in
+      directory_made_in handle name dir at (new_dir handle dir name at fresh) short (new_directory c settings dir.id) (new_name c dir name (owner_refusals c.caller settings) many allowed passed) links (record { links = omega arith; body = (omega arith, tt, tt) }) refl
   kept_where_changed tree (remove_directory handle name) fresh short = λ dir entry child empty at passed. name_out handle name dir child.id at.in_it true
   kept_where_changed tree (read_directory handle cookie count) fresh short = tt
   kept_where_changed tree (file_system_status handle) fresh short = tt

@@ -8,19 +8,21 @@ use Rattle.std.proofs.lemmas.List.{length-append, length-take, length-drop}
 use Rattle.bfs_model.specs.Server.Limits.{most_file_bytes, most_name_bytes, most_entries, most_links}
 use Rattle.bfs_model.specs.Server.Tree.{Time, Body, file, directory, link, Inode, Inodes, root_id, spent_ordinal, new_root, new_tree, is_directory_body, entries_in}
 use Rattle.bfs_model.specs.Server.Context.{Context}
+use Rattle.bfs_model.specs.Bytes.Call.{Credential}
 use Rattle.bfs_model.specs.Bytes.Arguments.{Settings}
-use Rattle.bfs_model.specs.Bytes.Replies.{fbig}
+use Rattle.bfs_model.specs.Bytes.Replies.{Status}
 use Rattle.bfs_model.specs.Server.FileBytes.{filled_to, resized, overwritten}
 use Rattle.bfs_model.specs.Server.Directories.{is_bad_name, without_name}
 use Rattle.bfs_model.specs.Server.Changes.{with_settings, with_bytes, with_size, resized_body, overwritten_body, with_listing, without_entry, with_parent, with_link, with_link_less, with_ctime}
 use Rattle.bfs_model.specs.Server.Refusals.{checked, is_spent}
-use Rattle.bfs_model.specs.Server.Procedures.Attributes.{size_refusals}
+use Rattle.bfs_model.specs.Server.Procedures.Attributes.{setting_refusals, size_refusals, set_refusals}
 use Rattle.bfs_model.specs.Server.Procedures.Making.{entry_made, with_name}
 use Rattle.bfs_model.specs.Server.WellFormed.{BodyIsLimited, IsLimited}
 use Rattle.bfs_model.proofs.Maps.{got_of_none}
 use Rattle.bfs_model.proofs.Found.{fails}
 use Rattle.bfs_model.proofs.WellFormed.Each.{each_inserted}
 use Rattle.bfs_model.proofs.WellFormed.Entries.{rising_pushed, rising_without, names_pushed, names_without, no_longer}
+use Rattle.bfs_model.proofs.WellFormed.NewNames.{behind}
 use Rattle.bfs_model.proofs.WellFormed.RenamingRoom.{HasRoomIn, HasRoomFor}
 
 -- each inode is
@@ -106,19 +108,23 @@ bytes_body links offset written (link path) end h = h
 pub bytes_limited : (now : Time) (offset : ℕ) (written : List ℕ) (x : Inode) → offset + length written ≤ most_file_bytes → IsLimited x → IsLimited (with_bytes now offset written x)
 bytes_limited now offset written x end h = record { links = h.links; body = bytes_body x.links offset written x.body end h.body }
 
-resized_limited : (links size : ℕ) (body : Body) (allowed : ⊤) → checked (size_refusals body (Some size)) ≡ Ok allowed → BodyIsLimited links body → BodyIsLimited links (resized_body size body)
-resized_limited links size (file bytes) allowed passed h =
-    let most : size ≤ most_file_bytes = ltb-false most_file_bytes size (fails (nat_lt most_file_bytes size) ((nat_lt most_file_bytes size, fbig) ∷ []) allowed passed (search (inl, inr) depth 9)) in
-    (h.0, omega (arith, resized_most size bytes))
-resized_limited links size (directory listing) allowed passed h = h
-resized_limited links size (link path) allowed passed h = h
+module _ (caller : Credential) (before : List (Bool × Status)) (allowed : ⊤) where
+  resized_limited : (x : Inode) (links size : ℕ) (body : Body) → checked (before ++ size_refusals caller x (Some size) body) ≡ Ok allowed → BodyIsLimited links body → BodyIsLimited links (resized_body size body)
+  resized_limited x links size (file bytes) passed h =
+      let rows : List (Bool × Status) = size_refusals caller x (Some size) (file bytes) in
+      let most : size ≤ most_file_bytes = ltb-false most_file_bytes size (fails (nat_lt most_file_bytes size) (before ++ rows) allowed passed (behind (nat_lt most_file_bytes size) before rows (inr (inl refl)))) in
+      (h.0, omega (arith, resized_most size bytes))
+  resized_limited x links size (directory listing) passed h = h
+  resized_limited x links size (link path) passed h = h
 
-sized_limited : (now : Time) (size : Option ℕ) (x : Inode) (allowed : ⊤) → checked (size_refusals x.body size) ≡ Ok allowed → IsLimited x → IsLimited (with_size now size x)
-sized_limited now None x allowed passed h = h
-sized_limited now (Some size) x allowed passed h = record { links = h.links; body = resized_limited x.links size x.body allowed passed h.body }
+  sized_limited : (now : Time) (size : Option ℕ) (x : Inode) → checked (before ++ size_refusals caller x size x.body) ≡ Ok allowed → IsLimited x → IsLimited (with_size now size x)
+  sized_limited now None x passed h = h
+  sized_limited now (Some size) x passed h = record { links = h.links; body = resized_limited x x.links size x.body passed h.body }
 
-pub settings_limited : (now : Time) (settings : Settings) (x : Inode) (allowed : ⊤) → checked (size_refusals x.body settings.size) ≡ Ok allowed → IsLimited x → IsLimited (with_settings now settings x)
-settings_limited now settings x allowed passed h = let sized = sized_limited now settings.size x allowed passed h in record { links = sized.links; body = sized.body }
+pub settings_limited : (c : Context) (settings : Settings) (x : Inode) (allowed : ⊤) → checked (set_refusals c x settings) ≡ Ok allowed → IsLimited x → IsLimited (with_settings c.time settings x)
+settings_limited c settings x allowed passed h =
+    let sized = sized_limited c.caller (setting_refusals c.caller x settings) allowed c.time settings.size x passed h in
+    record { links = sized.links; body = sized.body }
 
 -- A new tree ---------------------------------------------------------------------------------------------------------------
 

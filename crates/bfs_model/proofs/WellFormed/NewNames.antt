@@ -7,12 +7,12 @@ use Rattle.std.proofs.lemmas.Bool.{both_ways, leb-false}
 use Rattle.bfs_model.specs.Server.Limits.{most_entries}
 use Rattle.bfs_model.specs.Server.Tree.{Listing, Body, Inode, Inodes, entries_in, entries_at}
 use Rattle.bfs_model.specs.Server.Context.{Context}
-use Rattle.bfs_model.specs.Bytes.Replies.{Status}
+use Rattle.bfs_model.specs.Bytes.Replies.{Status, nospc}
 use Rattle.bfs_model.specs.Server.Directories.{is_bad_name, entry_named}
 use Rattle.bfs_model.specs.Server.Refusals.{FoundDirectory, checked, is_spent, is_full}
 use Rattle.bfs_model.specs.Server.Procedures.Making.{new_name_refusals}
 use Rattle.bfs_model.specs.Server.Footprints.{Footprint, ids_in, IsNewAt, IsNewIn, IsFreshFor}
-use Rattle.bfs_model.proofs.Found.{fails, IsDirectoryAt}
+use Rattle.bfs_model.proofs.Found.{IsAmong, fails, IsDirectoryAt}
 
 -- What the tests say -------------------------------------------------------------------------------------------------------
 
@@ -27,13 +27,28 @@ pub record IsNewName (c : Context) (listing : Listing) (name : List ℕ) : Type 
   pub left : is_spent c.ordinal ≡ false
   pub fewer : length listing.entries < most_entries
 
-pub new_name : (c : Context) (listing : Listing) (name : List ℕ) (more : List (Bool × Status)) (allowed : ⊤) → checked (new_name_refusals c listing name ++ more) ≡ Ok allowed → IsNewName c listing name
-new_name c listing name more allowed passed = record {
-  good = fails (is_bad_name name) (new_name_refusals c listing name ++ more) allowed passed (search (inl, inr) depth 9);
-  free = none_from (entry_named name listing.entries) (fails (is_some (entry_named name listing.entries)) (new_name_refusals c listing name ++ more) allowed passed (search (inl, inr) depth 9));
-  left = fails (is_spent c.ordinal) (new_name_refusals c listing name ++ more) allowed passed (search (inl, inr) depth 9);
-  fewer = leb-false most_entries (length listing.entries) (fails (is_full (length listing.entries)) (new_name_refusals c listing name ++ more) allowed passed (search (inl, inr) depth 9));
-}
+-- a test of one of two lists is one of both
+ahead : (test : Bool) (rows more : List (Bool × Status)) → IsAmong test rows → IsAmong test (rows ++ more)
+ahead test [] more among = absurd among
+ahead test (row ∷ rows) more (inl here) = inl here
+ahead test (row ∷ rows) more (inr further) = inr (ahead test rows more further)
+
+pub behind : (test : Bool) (rows more : List (Bool × Status)) → IsAmong test more → IsAmong test (rows ++ more)
+behind test [] more among = among
+behind test (row ∷ rows) more among = inr (behind test rows more among)
+
+pub new_name : (c : Context) (dir : FoundDirectory) (name : List ℕ) (of_owners more : List (Bool × Status)) (allowed : ⊤) → checked (new_name_refusals c dir name of_owners ++ more) ≡ Ok allowed → IsNewName c dir.listing name
+new_name c dir name of_owners more allowed passed =
+    let rows : List (Bool × Status) = new_name_refusals c dir name of_owners ++ more in
+    let entries = dir.listing.entries in
+    let last : (test : Bool) → IsAmong test ((is_spent c.ordinal, nospc) ∷ (is_full (length entries), nospc) ∷ []) → IsAmong test rows =
+    λ test among. inr (inr (inr (ahead test (of_owners ++ (is_spent c.ordinal, nospc) ∷ (is_full (length entries), nospc) ∷ []) more (behind test of_owners _ among)))) in
+    record {
+      good = fails (is_bad_name name) rows allowed passed (inr (inl refl));
+      free = none_from (entry_named name entries) (fails (is_some (entry_named name entries)) rows allowed passed (inr (inr (inl refl))));
+      left = fails (is_spent c.ordinal) rows allowed passed (last (is_spent c.ordinal) (inl refl));
+      fewer = leb-false most_entries (length entries) (fails (is_full (length entries)) rows allowed passed (last (is_full (length entries)) (inr (inl refl))));
+    }
 
 -- What a fresh ordinal says ------------------------------------------------------------------------------------------------
 

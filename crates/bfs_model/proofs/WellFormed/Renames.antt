@@ -228,7 +228,7 @@ plain_above x true p up plain = cc
 plain_above x false p up plain = let none : parent_in x.body ≡ None = no_parent x.body plain in cc
 
 module _ (m : Inodes) (w : WellFormed m) (c : Context) (from : Option ℕ) (from_name : List ℕ) (to : Option ℕ) (to_name : List ℕ)
-    (a b : FoundDirectory) (entry : Entry) (moved : FoundInode) (at : IsRenamed m from from_name to to_name a b entry moved) where
+    (a b : FoundDirectory) (entry : Entry) (moved : FoundInode) (at : IsRenamed m c from from_name to to_name a b entry moved) where
   abbrev k : ℕ
   k = moved.id
 

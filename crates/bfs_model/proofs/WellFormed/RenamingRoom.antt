@@ -59,7 +59,7 @@ third_false false q e is = absurd cc
 -- RENAME's steps -----------------------------------------------------------------------------------------------------------
 
 module _ (m : Inodes) (c : Context) (from : Option ℕ) (from_name : List ℕ) (to : Option ℕ) (to_name : List ℕ) (a b : FoundDirectory) (entry : Entry) (moved : FoundInode)
-    (known : IsRenamed m from from_name to to_name a b entry moved) (can : CanRename c.ordinal b) where
+    (known : IsRenamed m c from from_name to to_name a b entry moved) (can : CanRename c.ordinal b) where
   abbrev taken : Inodes
   taken = changed m a.id (without_entry c.time from_name)
 

@@ -4,6 +4,7 @@ use Rattle.std.specs.FinMap.{get, insert, remove as remove_at}
 use Rattle.std.proofs.lemmas.Bool.{not-false}
 use Rattle.bfs_model.specs.Server.Tree.{Time, Entry, Body, file, directory, link, Inode, Inodes, is_directory_body, entries_in, entries_at, parent_in}
 use Rattle.bfs_model.specs.Server.Context.{Context}
+use Rattle.bfs_model.specs.Server.Access.{owner_refusals}
 use Rattle.bfs_model.specs.Server.Limits.{most_file_bytes}
 use Rattle.bfs_model.specs.Bytes.Arguments.{Settings, Call, set_attributes, write, create, remove, rename, make_link, make_symbolic_link, make_directory, remove_directory}
 use Rattle.bfs_model.specs.Bytes.Replies.{Status, isdir, notdir, notempty, fbig, nospc}
@@ -54,7 +55,7 @@ written_alike now offset written x = let body = overwritten_alike offset written
 
 -- REMOVE and RMDIR -------------------------------------------------------------------------------------------------------
 
-module _ (m : Inodes) (w : WellFormed m) (c : Context) (handle : Option ℕ) (name : List ℕ) (dir : FoundDirectory) (entry : Entry) (child : FoundInode) (at : IsChildAt m handle name dir entry child) where
+module _ (m : Inodes) (w : WellFormed m) (c : Context) (handle : Option ℕ) (name : List ℕ) (dir : FoundDirectory) (entry : Entry) (child : FoundInode) (at : IsChildAt m c handle name dir entry child) where
   folder : IsTrue (is_directory_body dir.inode.body)
   folder = ap is_directory_body at.in_it.holds
 
@@ -82,15 +83,15 @@ changes_keep m c w (set_attributes handle settings) fresh = λ x allowed is pass
 changes_keep m c w (write handle offset written) fresh = λ x small is passed. alike_kept w x.id x.inode (with_bytes c.time offset written x.inode) (file_at m handle x is).there (written_alike c.time offset written x.inode)
 changes_keep m c w (create handle name settings) fresh = λ dir allowed is passed.
     let at = directory_at m handle dir is in
-    let new = made_is_none m c handle dir.listing name ((nat_lt most_file_bytes (unwrap_or settings.size 0), fbig) ∷ []) allowed fresh passed in
+    let new = made_is_none m c handle dir name (owner_refusals c.caller settings) ((nat_lt most_file_bytes (unwrap_or settings.size 0), fbig) ∷ []) allowed fresh passed in
     created_keeps m w dir.id dir.inode c.time (entry_made c name c.ordinal) (new_file c settings) at.there (ap is_directory_body at.holds) new refl refl
 changes_keep m c w (make_symbolic_link handle name target settings) fresh = λ dir allowed is passed.
     let at = directory_at m handle dir is in
-    let new = made_is_none m c handle dir.listing name [] allowed fresh passed in
+    let new = made_is_none m c handle dir name (owner_refusals c.caller settings) [] allowed fresh passed in
     created_keeps m w dir.id dir.inode c.time (entry_made c name c.ordinal) (new_symbolic_link c settings target) at.there (ap is_directory_body at.holds) new refl refl
 changes_keep m c w (make_directory handle name settings) fresh = λ dir allowed is passed.
     let at = directory_at m handle dir is in
-    let new = made_is_none m c handle dir.listing name ((has_most_links dir.inode.links, nospc) ∷ []) allowed fresh passed in
+    let new = made_is_none m c handle dir name (owner_refusals c.caller settings) ((has_most_links dir.inode.links, nospc) ∷ []) allowed fresh passed in
     made_directory_keeps m w dir.id dir.inode c.time (entry_made c name c.ordinal) (new_directory c settings dir.id) at.there (ap is_directory_body at.holds) new refl refl refl refl
 changes_keep m c w (make_link handle in_directory name) fresh = λ x plain dir allowed is no_directory dir_is passed.
     let at = directory_at m in_directory dir dir_is in

@@ -1,13 +1,14 @@
 -- The call that bytes spell, or the first reason to refuse it (RFC 5531 sections 9 and 10.1, appendix A). Padding is not looked at.
-use Rattle.std.specs.Prelude.{ℕ, zero, suc, Bool, true, false, List, length, Option, Some, None, option_and_then, Result, Ok, Err, nat_lt, ◌==◌, if◌then◌else◌, nat_le}
+use Rattle.std.specs.Prelude.{ℕ, zero, suc, Bool, true, false, List, [], ◌∷◌, length, Option, Some, None, option_and_then, Result, Ok, Err, nat_lt, ◌==◌, if◌then◌else◌, nat_le}
 use Rattle.std.specs.Option.{ok_or}
 use Rattle.std.specs.Result.{result_ok}
 use Rattle.bfs_model.specs.Bytes.Items.{word_at, opaque_at}
 
--- for whom a call is made (RFC 5531 section 8.2, appendix A)
+-- for whom a call is made (RFC 5531 section 8.2, appendix A): a user, its group, and the further groups that it belongs to
 pub record Credential : Type 0 where
   pub uid : ℕ
   pub gid : ℕ
+  pub gids : List ℕ
 
 -- a call that is not refused: which procedure it wants, and the bytes of its arguments
 pub record Request : Type 0 where
@@ -46,14 +47,15 @@ o >>= f = option_and_then f o
 
 -- the caller that no credential names
 abbrev pub nobody : Credential
-nobody = record { uid = 65534; gid = 65534 }
+nobody = record { uid = 65534; gid = 65534; gids = [] }
 
--- the bytes after so many words
-unfoldable pub after_words : ℕ → List ℕ → Option (List ℕ)
-after_words zero bytes = Some bytes
-after_words (suc n) bytes = do
-  w ← result_ok (word_at bytes)
-  after_words n w.1
+-- so many words, and the bytes after them
+unfoldable pub words_at : ℕ → List ℕ → Option (List ℕ × List ℕ)
+words_at zero bytes = Some ([], bytes)
+words_at (suc n) bytes = do
+  first ← result_ok (word_at bytes)
+  more ← words_at n first.1
+  Some (first.0 ∷ more.0, more.1)
 
 -- the body of AUTH_SYS (RFC 5531 appendix A): a stamp, the machine's name of at most 255 bytes, uid, gid, and at
 -- most 16 further gids, with nothing after them
@@ -64,8 +66,8 @@ system_credential_of body = do
   uid ← result_ok (word_at machine.1)
   gid ← result_ok (word_at uid.1)
   count ← result_ok (word_at gid.1)
-  rest ← (if nat_lt 16 count.0 then None else after_words count.0 count.1)
-  if length rest == 0 then Some (record { uid = uid.0; gid = gid.0 }) else None
+  gids ← (if nat_lt 16 count.0 then None else words_at count.0 count.1)
+  if length gids.1 == 0 then Some (record { uid = uid.0; gid = gid.0; gids = gids.0 }) else None
 
 -- AUTH_NONE, whatever its body, is 0, and AUTH_SYS is 1 (RFC 5531 sections 8.2 and 10.1, appendix A)
 unfoldable pub credential_of : ℕ → List ℕ → Option Credential

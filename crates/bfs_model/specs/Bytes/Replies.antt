@@ -13,6 +13,7 @@ use Rattle.bfs_model.specs.Bytes.Call.{Refusal, silent, rpc_mismatch, bad_creden
 pub data Status : Type 0 where
   perm : Status
   noent : Status
+  acces : Status
   exist : Status
   notdir : Status
   isdir : Status
@@ -24,6 +25,7 @@ pub data Status : Type 0 where
 abbrev pub status_number : Status → ℕ
 status_number perm = 1
 status_number noent = 2
+status_number acces = 13
 status_number exist = 17
 status_number notdir = 20
 status_number isdir = 21

@@ -8,7 +8,7 @@ use Rattle.bfs_model.specs.Server.Tree.{Time, Entry}
 use Rattle.bfs_model.specs.Bytes.Attributes.{FileType, regular, directory_type, symbolic_link, Attributes, block_size, blocks_of, transfer_size, total_blocks}
 use Rattle.bfs_model.specs.Bytes.Arguments.{handle_id}
 use Rattle.bfs_model.specs.Bytes.Call.{Refusal, silent, rpc_mismatch, bad_credential, program_unavailable, program_mismatch, procedure_unavailable}
-use Rattle.bfs_model.specs.Bytes.Replies.{Status, perm, noent, exist, notdir, isdir, fbig, nospc, notempty, stale, Reply, void, refused, done, attributes, found, path, contents, listed, free_blocks, results}
+use Rattle.bfs_model.specs.Bytes.Replies.{Status, perm, noent, acces, exist, notdir, isdir, fbig, nospc, notempty, stale, Reply, void, refused, done, attributes, found, path, contents, listed, free_blocks, results}
 use Rattle.bfs_model.specs.Server.Stored.{IsWord, TimeIsSpellable}
 
 -- why bytes are no reply of this server
@@ -131,13 +131,14 @@ abbrev pub status_of : ℕ → Option Status
 status_of number =
     if number == 1 then Some perm else (
     if number == 2 then Some noent else (
+    if number == 13 then Some acces else (
     if number == 17 then Some exist else (
     if number == 20 then Some notdir else (
     if number == 21 then Some isdir else (
     if number == 27 then Some fbig else (
     if number == 28 then Some nospc else (
     if number == 66 then Some notempty else (
-    if number == 70 then Some stale else None))))))))
+    if number == 70 then Some stale else None)))))))))
 
 -- an fhandle (section 2.3.3) of ours
 unfoldable pub handle_told_at : List ℕ → Reading ℕ

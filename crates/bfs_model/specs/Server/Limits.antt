@@ -4,7 +4,7 @@ use Rattle.std.specs.Prelude.{ℕ}
 
 -- the bytes of a file
 abbrev pub most_file_bytes : ℕ
-most_file_bytes = 1048576
+most_file_bytes = 16777216
 
 -- the bytes that one READ or WRITE moves, and the bytes of a page of READDIR (RFC 1094 section 2.3.1, MAXDATA)
 abbrev pub most_data_bytes : ℕ

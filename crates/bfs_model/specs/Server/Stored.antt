@@ -69,6 +69,7 @@ pub record IsLive (files : FileSystem) : Type 0 where
 pub record CallerIsStorable (caller : Credential) : Type 0 where
   pub uid : IsWord caller.uid
   pub gid : IsWord caller.gid
+  pub gids : All IsWord caller.gids
 
 pub record ContextIsStorable (context : Context) : Type 0 where
   pub time : IsTime context.time

@@ -56,9 +56,9 @@ epoch = record { seconds = 0; useconds = 0 }
 abbrev pub root_id : ℕ
 root_id = 2
 
--- the root of a new file system: mode 040755, owner 0:0, its own parent, and no entries
+-- the root of a new file system: mode 040777, owner 0:0, its own parent, and no entries
 abbrev pub new_root : Inode
-new_root = record { permissions = 0o755; links = 2; uid = 0; gid = 0; atime = epoch; mtime = epoch; ctime = epoch; body = directory (record { parent = root_id; entries = [] }) }
+new_root = record { permissions = 0o777; links = 2; uid = 0; gid = 0; atime = epoch; mtime = epoch; ctime = epoch; body = directory (record { parent = root_id; entries = [] }) }
 
 abbrev pub new_tree : Inodes
 new_tree = insert empty root_id new_root

@@ -1,19 +1,20 @@
 // What RENAME is to do, found on the inodes as they are.
-ghost use Rattle.std.specs.Prelude.{◌≡◌, ◌∷◌, [], IfOk, IsTrue};
+ghost use Rattle.std.specs.Prelude.{◌≡◌, ◌∷◌, [], not, IfOk, IsTrue};
 ghost use Rattle.std.specs.Option.{ForSome, option_map};
 ghost use Rattle.std.specs.Result.{result_map_both};
 ghost use Rattle.bfs_model.specs.Bytes.Arguments as call;
+ghost use Rattle.bfs_model.specs.Server.Access.{may_change_entries};
 ghost use Rattle.bfs_model.specs.Server.Directories.{is_bad_name};
 ghost use Rattle.bfs_model.specs.Server.Footprints.{footprint};
 ghost use Rattle.bfs_model.specs.Server.Refusals.{checked};
-ghost use Rattle.bfs_model.specs.Bytes.Replies.{perm};
+ghost use Rattle.bfs_model.specs.Bytes.Replies.{perm, acces};
 ghost use Rattle.bfs_model.specs.Server.Procedures.Renaming.{moves_directory, renaming_found, renaming_planned};
 ghost use Rattle.bfs_procs.specs.Renaming.{KeepsLimits, replaced_at};
 ghost use Rattle.bfs_tree.specs.Reach.{Knows};
 ghost use Rattle.bfs_wire.specs.Replies.{status_seen};
 
 use crate::renaming::refusals::{Renaming, Replaced};
-use bfs_inode::{FileId, is_bad_name};
+use bfs_inode::{FileId, Inode, is_bad_name};
 use bfs_tree::Store;
 use bfs_types::Context;
 use bfs_wire::Status;
@@ -48,7 +49,7 @@ fn found<S: Store>(
     to_name: &[u8],
 ) -> Result<Option<Renaming>, Status>
     requires { Knows (S.reach store.now) (footprint (S.inodes store.now) context.now (call.rename from from_name.now to to_name.now)) }
-    ensures plan { result_map_both (λ plan. plan) status_seen result ≡ renaming_found (S.inodes store.now) from from_name.now to to_name.now }
+    ensures plan { result_map_both (λ plan. plan) status_seen result ≡ renaming_found (S.inodes store.now) context.now from from_name.now to to_name.now }
     ensures within { KeepsLimits (S.inodes store.now) result to }
     ensures whole { IfOk result (λ plan. ForSome plan (λ renaming. IsTrue (moves_directory renaming) → IsTrue ((S.reach store.now).whole))) }
 {
@@ -58,6 +59,7 @@ fn found<S: Store>(
     let to = to.ok_or(Status::Stale)?;
     let to_inode = store.get(to).ok_or(Status::Stale)?;
     let to_directory = to_inode.directory().ok_or(Status::NotDir)?;
+    may_change_both(context, from_inode, to_inode)?;
     are_good(from_name, to_name)?;
     let moved = from_directory.entry(from_name).ok_or(Status::NoEnt)?.child;
     let moved_inode = store.get(moved).ok_or(Status::Stale)?;
@@ -74,6 +76,18 @@ fn found<S: Store>(
         is_directory: moved_inode.is_directory(),
         replaced: replaced_at(store, existing)?,
     }))
+}
+
+// whether the caller may change the entries of both directories, or why not
+fn may_change_both(context: &Context, from: &Inode, to: &Inode) -> Result<(), Status>
+    ensures { result_map_both (λ _. tt) status_seen result ≡ checked ((not (may_change_entries context.now.caller from.now), acces) ∷ (not (may_change_entries context.now.caller to.now), acces) ∷ []) }
+{
+    let caller = &context.caller;
+    if from.may_change_entries(caller) && to.may_change_entries(caller) {
+        Ok(())
+    } else {
+        Err(Status::Acces)
+    }
 }
 
 // whether both names are ones that a call may take and make

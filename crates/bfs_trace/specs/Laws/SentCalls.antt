@@ -1,20 +1,31 @@
 -- What the server reads of the calls that verbs spell.
-use Rattle.std.specs.Prelude.{◌≡◌, ℕ, ◌+◌, ◌%◌, ◌<◌, ◌≤◌, List, length, ◌++◌, Option, Some, Ok, IfSome}
+use Rattle.std.specs.Prelude.{◌≡◌, ℕ, ◌%◌, ◌<◌, ◌≤◌, List, length, ◌++◌, Option, Some, Ok, IfSome}
 use Rattle.bfs_model.specs.Bytes.Arguments.{Call, Settings, arguments_of, time_set, word_set, null, get_attributes, set_attributes, root, look_up, read_link, read, write_cache, write, create, remove, rename, make_link, make_symbolic_link, make_directory, remove_directory, read_directory, file_system_status}
-use Rattle.bfs_model.specs.Bytes.Call.{call_of}
+use Rattle.bfs_model.specs.Bytes.Call.{Credential, call_of}
 use Rattle.bfs_model.specs.Server.Limits.{most_clients, most_data_bytes, most_name_bytes, most_path_bytes}
-use Rattle.bfs_model.specs.Server.Stored.{IsWord}
+use Rattle.bfs_model.specs.Server.Stored.{CallerIsStorable, IsWord}
 use Rattle.bfs_model.specs.Server.Tree.{Time}
+use Rattle.bfs_trace.specs.Callers.{credential_spelled, first_caller, most_gids}
 use Rattle.bfs_trace.specs.Messages.{arguments, call_header, seconds_word, setting_word, useconds_word}
 use Rattle.bfs_trace.specs.Verbs.{call_in_words}
 
 -- The header -----------------------------------------------------------------------------------------------------------
 
--- a header is read as that of a call of that procedure by the client's user, whatever client there may be and whatever its arguments
+-- numbers below 2^32, and no more groups than a credential has room for
+pub record FitsCredential (caller : Credential) : Type 0 where
+  pub storable : CallerIsStorable caller
+  pub few : length caller.gids ≤ most_gids
+
+-- a header is read as that of a call of that procedure by that caller, whatever its arguments
 abbrev pub HeadersAreRead : Type 0
-HeadersAreRead = (client timestamp procedure : ℕ) (rest : List ℕ) → client < most_clients → procedure ≤ 17
-    → call_of (call_header client timestamp procedure ++ rest)
-    ≡ Ok (record { xid = timestamp % 4294967296; procedure = procedure; credential = record { uid = 1000 + client; gid = 100 }; arguments = rest })
+HeadersAreRead = (caller : Credential) (timestamp procedure : ℕ) (rest : List ℕ) → FitsCredential caller → procedure ≤ 17
+    → call_of (call_header caller timestamp procedure ++ rest)
+    ≡ Ok (record { xid = timestamp % 4294967296; procedure = procedure; credential = caller; arguments = rest })
+
+-- each caller of a trace fits: those that come first, and those that lines name
+pub record CallersFit : Type 0 where
+  pub first : (client : ℕ) → client < most_clients → FitsCredential (first_caller client)
+  pub spelled : (words : List (List ℕ)) (caller : Credential) → credential_spelled words ≡ Some caller → FitsCredential caller
 
 -- Arguments ------------------------------------------------------------------------------------------------------------
 

@@ -1,7 +1,7 @@
 -- Turn by turn one entry is read and put behind the others.
 use Rattle.std.proofs.Common.{◌≡◌, ℕ, ◌+◌, ◌-◌, sym, ap, subst, arith}
 use Rattle.bfs_model.specs.Server.Tree.{Entry, first_ordinal}
-use Rattle.bfs_inode.specs.Records.{entry_from, entries_from}
+use Rattle.bfs_digest.specs.Inside.RecordReading.{entry_from, entries_from}
 use Rattle.bfs_digest.specs.Inside.Taking.{entry_seen}
 use Rattle.bfs_digest.proofs.Rising.{entries_rise}
 use Rattle.bfs_digest.proofs.Building.{AreLeft, begins, built_by, one_built, all_built, none_read}

@@ -3,7 +3,7 @@ use Rattle.std.proofs.Common.{ℕ, [], Option, Some, sym, ap, subst, ◌∙◌}
 use Rattle.bfs_model.specs.Server.Stored.{IsLive}
 use Rattle.bfs_model.specs.Server.Tree.{FileSystem, root_id}
 use Rattle.bfs_serial.specs.Parts.{file_system_of}
-use Rattle.bfs_digest.specs.Text.{Header}
+use Rattle.bfs_digest.specs.Text.{Header, latest_version}
 use Rattle.bfs_digest.specs.Inside.TextReading.{records_from}
 use Rattle.bfs_digest.specs.Inside.Taking.{BuildsTree, BuildsFiles}
 use Rattle.bfs_digest.proofs.Restoring.{ill_limited, built_files, held_is_live}
@@ -11,18 +11,18 @@ use Rattle.bfs_digest.proofs.restoration.files_of.Goals as goal
 
 pub returns-in-None : goal.returns-in-None
 returns-in-None c =
-    let built = subst (λ (h : Header). BuildsTree c.in_ok-tree.field-0 (records_from h.count root_id c.args.records.now)) c.header.view_is c.in_ok-tree.ensures in
+    let built = subst (λ (h : Header). BuildsTree c.in_ok-tree.field-0 (records_from latest_version h.count root_id c.args.records.now)) c.header.view_is c.in_ok-tree.ensures in
     ill_limited c.args.header.now c.args.records.now c.requires (rw c.in-None.is at built)
 
 pub from_parts-requires-clause-whole : goal.from_parts-requires-clause-whole
 from_parts-requires-clause-whole c =
-    let built = subst (λ (h : Header). BuildsTree c.in_ok-tree.field-0 (records_from h.count root_id c.args.records.now)) c.header.view_is c.in_ok-tree.ensures in
+    let built = subst (λ (h : Header). BuildsTree c.in_ok-tree.field-0 (records_from latest_version h.count root_id c.args.records.now)) c.header.view_is c.in_ok-tree.ensures in
     let tree = rw c.in-Some.is at built in
     (tree c.requires.inodes [] c.requires.read).1
 
 pub from_parts-requires-clause-live : goal.from_parts-requires-clause-live
 from_parts-requires-clause-live c =
-    let built = subst (λ (h : Header). BuildsTree c.in_ok-tree.field-0 (records_from h.count root_id c.args.records.now)) c.header.view_is c.in_ok-tree.ensures in
+    let built = subst (λ (h : Header). BuildsTree c.in_ok-tree.field-0 (records_from latest_version h.count root_id c.args.records.now)) c.header.view_is c.in_ok-tree.ensures in
     let tree = rw c.in-Some.is at built in
     let formed = (c.in_ok-is_well_formed.ensures c.requires.inodes [] c.requires.read).0 c.if-not-branch.false in
     let live = held_is_live c.args.header.now c.args.records.now c.requires c.in-Some.tree tree formed in
@@ -30,7 +30,7 @@ from_parts-requires-clause-live c =
 
 pub returns-in-Some : goal.returns-in-Some
 returns-in-Some c =
-    let built = subst (λ (h : Header). BuildsTree c.in_ok-tree.field-0 (records_from h.count root_id c.args.records.now)) c.header.view_is c.in_ok-tree.ensures in
+    let built = subst (λ (h : Header). BuildsTree c.in_ok-tree.field-0 (records_from latest_version h.count root_id c.args.records.now)) c.header.view_is c.in_ok-tree.ensures in
     let tree = rw c.in-Some.is at built in
     let formed = (c.in_ok-is_well_formed.ensures c.requires.inodes [] c.requires.read).0 c.if-not-branch.false in
     let live = held_is_live c.args.header.now c.args.records.now c.requires c.in-Some.tree tree formed in

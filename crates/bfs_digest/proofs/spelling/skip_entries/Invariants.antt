@@ -1,6 +1,6 @@
 use Rattle.std.proofs.Common.{◌≡◌, ◌-◌}
 use Rattle.bfs_model.specs.Server.Tree.{first_ordinal}
-use Rattle.bfs_inode.specs.Records.{entries_from}
+use Rattle.bfs_digest.specs.Inside.RecordReading.{entries_from}
 use Rattle.bfs_digest.proofs.Rising.{left}
 use Rattle.bfs_digest.proofs.spelling.skip_entries.Given as goal
 

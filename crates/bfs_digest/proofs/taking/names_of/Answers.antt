@@ -2,7 +2,7 @@
 use Rattle.std.proofs.Common.{◌≡◌, ℕ, ◌+◌, ◌-◌, ◌++◌, List, map, refl, sym, ap, subst, arith}
 use denote.Ref.{Bor}
 use Rattle.bfs_model.specs.Server.Tree.{first_ordinal}
-use Rattle.bfs_inode.specs.Records.{entry_from, entries_from}
+use Rattle.bfs_digest.specs.Inside.RecordReading.{entry_from, entries_from}
 use Rattle.bfs_digest.specs.Inside.Taking.{entry_seen}
 use Rattle.bfs_digest.proofs.Building.{built_by}
 use Rattle.bfs_digest.proofs.Rising.{entries_rise}

@@ -3,7 +3,7 @@ use Rattle.std.proofs.Common.{◌≡◌, ℕ, ◌+◌, ◌-◌, ◌≤◌, Bool,
 use mir.Val.{bool_byte}
 use Rattle.std.specs.List.{list_all}
 use Rattle.bfs_model.specs.Server.Tree.{Entry, first_ordinal}
-use Rattle.bfs_inode.specs.Records.{entry_from, entries_from}
+use Rattle.bfs_digest.specs.Inside.RecordReading.{entry_from, entries_from}
 use Rattle.bfs_digest.specs.Inside.Formation.{may_stand}
 use Rattle.bfs_digest.specs.Inside.Outlines.{outline}
 use Rattle.bfs_digest.specs.Inside.Taking.{entry_seen}

@@ -1,7 +1,7 @@
 -- A listing is taken with its entries, its links and its names.
 use Rattle.std.proofs.Common.{ℕ, List, sym, subst, ◌∙◌, arith}
 use Rattle.bfs_model.specs.Server.Tree.{first_ordinal}
-use Rattle.bfs_inode.specs.Records.{entries_from}
+use Rattle.bfs_digest.specs.Inside.RecordReading.{entries_from}
 use Rattle.bfs_digest.specs.Inside.Formation.{TellsNames}
 use Rattle.bfs_digest.specs.Inside.Outlines.{outline}
 use Rattle.bfs_digest.proofs.Placing.{follow, listing_not_taken, listing_not_linked, listing_taken}

@@ -5,7 +5,8 @@ use Rattle.std.specs.FinMap.{remove, len}
 use Rattle.bfs_model.specs.Bytes.Items.{◌>>=◌}
 use Rattle.bfs_model.specs.Server.Tree.{Entry, Inodes, is_directory_body, parent_of}
 use Rattle.bfs_model.specs.Server.Context.{Context}
-use Rattle.bfs_model.specs.Bytes.Replies.{Status, perm, noent, notdir, isdir, nospc, notempty, done}
+use Rattle.bfs_model.specs.Server.Access.{may_change_entries}
+use Rattle.bfs_model.specs.Bytes.Replies.{Status, perm, noent, acces, notdir, isdir, nospc, notempty, done}
 use Rattle.bfs_model.specs.Server.Directories.{is_bad_name, entry_named}
 use Rattle.bfs_model.specs.Server.Changes.{without_entry, with_parent, with_link, with_link_less, with_ctime, changed, link_lost}
 use Rattle.bfs_model.specs.Server.Refusals.{Outcome, FoundInode, FoundDirectory, checked, is_spent, is_full, has_most_links, inode_found, directory_found}
@@ -103,12 +104,21 @@ abbrev pub renaming_of : (from to : FoundDirectory) → (moved : FoundInode) →
 renaming_of from to moved replaced =
     record { from = from.id; to = to.id; entries = length to.listing.entries; links = to.inode.links; moved = moved.id; is_directory = is_directory_body moved.inode.body; replaced = replaced }
 
+-- the caller may change both directories, and both names are good
+abbrev pub name_refusals : Context → (from to : FoundDirectory) → (from_name to_name : List ℕ) → List (Bool × Status)
+name_refusals context from to from_name to_name =
+    (not (may_change_entries context.caller from.inode), acces)
+    ∷ (not (may_change_entries context.caller to.inode), acces)
+    ∷ (is_bad_name from_name, perm)
+    ∷ (is_bad_name to_name, perm)
+    ∷ []
+
 -- what is renamed: nothing, where both names lead to the same inode
-abbrev pub renaming_found : Inodes → (from : Option ℕ) → (from_name : List ℕ) → (to : Option ℕ) → (to_name : List ℕ) → Result (Option Renaming) Status
-renaming_found inodes from_handle from_name to_handle to_name = do
+abbrev pub renaming_found : Inodes → Context → (from : Option ℕ) → (from_name : List ℕ) → (to : Option ℕ) → (to_name : List ℕ) → Result (Option Renaming) Status
+renaming_found inodes context from_handle from_name to_handle to_name = do
   from ← directory_found inodes from_handle
   to ← directory_found inodes to_handle
-  good ← checked ((is_bad_name from_name, perm) ∷ (is_bad_name to_name, perm) ∷ [])
+  allowed ← checked (name_refusals context from to from_name to_name)
   entry ← ok_or (entry_named from_name from.listing.entries) noent
   moved ← inode_found inodes (Some entry.child)
   let existing = entry_named to_name to.listing.entries in
@@ -125,7 +135,7 @@ if_allowed inodes context (Some r) = do
 -- what is to be done
 abbrev pub renaming_planned : Inodes → Context → (from : Option ℕ) → (from_name : List ℕ) → (to : Option ℕ) → (to_name : List ℕ) → Result (Option Renaming) Status
 renaming_planned inodes context from from_name to to_name = do
-  found ← renaming_found inodes from from_name to to_name
+  found ← renaming_found inodes context from from_name to to_name
   if_allowed inodes context found
 
 abbrev pub entry_renamed : Inodes → Context → (from : Option ℕ) → (from_name : List ℕ) → (to : Option ℕ) → (to_name : List ℕ) → Result Outcome Status
