@@ -1,5 +1,7 @@
 //! A replica that is behind adopts the stable snapshot of another one.
-use crate::behind::{ANOTHER_LINK, ANOTHER_OWNER, ANOTHER_VERSION, Step, Text, plays};
+use crate::behind::{
+    ANOTHER_LINK, ANOTHER_OWNER, EARLIER_VERSION, LATER_VERSION, Step, Text, plays,
+};
 use crate::parts::Told;
 use crate::replica::{Said, Standing};
 use std::test::Fail;
@@ -37,10 +39,11 @@ fn a_checkpoint_without_a_certificate_is_not_adopted(rt: HostRuntime) -> Result<
     plays(&rt, rt.alloc(), &NO_CERTIFICATE)
 }
 
-static ANOTHER_TEXT: [Step; 7] = [
+static ANOTHER_TEXT: [Step; 8] = [
     Step::Adopt(Text::Word, OF_TWO, Said::Refused(34)),
     Step::Adopt(Text::Word, OF_THREE, Said::Refused(20)),
-    Step::Adopt(ANOTHER_VERSION, OF_THREE, Said::Refused(22)),
+    Step::Adopt(EARLIER_VERSION, OF_THREE, Said::Refused(22)),
+    Step::Adopt(LATER_VERSION, OF_THREE, Said::Refused(22)),
     Step::Adopt(ANOTHER_LINK, OF_THREE, Said::Refused(21)),
     Step::Adopt(ANOTHER_OWNER, OF_THREE, Said::Refused(35)),
     Step::Stands(Standing(0, 0, 0)),

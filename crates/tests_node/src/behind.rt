@@ -29,8 +29,11 @@ const FILES: usize = 4 + 16 * 4;
 // behind the header of the file system
 const ROOT: usize = FILES + 28;
 
-/// The last byte of the second word.
-pub const ANOTHER_VERSION: Text = Text::But(FILES + 7, 2);
+/// The version before, which a replica doesn't adopt: the last byte of the second word.
+pub const EARLIER_VERSION: Text = Text::But(FILES + 7, 1);
+
+/// A version that there is not.
+pub const LATER_VERSION: Text = Text::But(FILES + 7, 3);
 
 /// The last byte of the root's fourth word.
 pub const ANOTHER_LINK: Text = Text::But(ROOT + 15, 3);
