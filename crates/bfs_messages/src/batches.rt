@@ -3,15 +3,15 @@ ghost use Rattle.std.specs.Option.{option_map};
 ghost use Rattle.sha2.specs.Sha256.{sha256};
 ghost use Rattle.bfs_model.specs.Server.Limits.{most_requests};
 ghost use Rattle.bfs_messages.specs.Batches.{batch_text, requests_text};
-ghost use Rattle.bfs_messages.specs.Sinks.{Takes};
+ghost use Rattle.bfs_xdr.specs.Sinks.{Takes};
 ghost use Rattle.bfs_messages.specs.Limits.{FitsBatch, FitsRequests};
 ghost use Rattle.bfs_messages.specs.Messages.{requests_of};
 
 use crate::parts::put_list;
 use crate::requests::Request;
 use crate::signed::Signed;
-use crate::sinks::Sink;
 use bfs_types::Time;
+use bfs_xdr::Sink;
 use sha2::{Digest, Sha256};
 use std::marker::Model;
 

@@ -4,8 +4,8 @@ ghost use Rattle.bfs_messages.specs.Batches.{reply_text};
 ghost use Rattle.bfs_messages.specs.Limits.{FitsReply};
 
 use crate::parts::Part;
-use crate::sinks::Sink;
 use bfs_types::{Bytes, MOST_REPLY_BYTES, Memory};
+use bfs_xdr::Sink;
 use std::alloc::Global;
 use std::marker::Model;
 

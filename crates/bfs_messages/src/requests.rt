@@ -6,8 +6,8 @@ ghost use Rattle.bfs_messages.specs.Limits.{FitsRequest};
 
 use crate::parts::{Kind, Part};
 use crate::signed::Signed;
-use crate::sinks::Sink;
 use bfs_types::{Bytes, MOST_REQUEST_BYTES, Memory};
+use bfs_xdr::Sink;
 use std::alloc::Global;
 use std::marker::Model;
 use std::sync::Arc;

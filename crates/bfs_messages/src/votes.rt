@@ -4,8 +4,8 @@ ghost use Rattle.bfs_messages.specs.Batches.{checkpoint_text, vote_text};
 ghost use Rattle.bfs_messages.specs.Limits.{FitsCheckpoint, FitsVote};
 
 use crate::parts::{Kind, Part};
-use crate::sinks::Sink;
 use bfs_types::Memory;
+use bfs_xdr::Sink;
 use std::alloc::Global;
 use std::marker::Model;
 

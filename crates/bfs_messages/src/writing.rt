@@ -2,7 +2,7 @@
 ghost use Rattle.std.specs.Prelude.{◌≡◌, ◌++◌, IfOk, OnOk};
 ghost use Rattle.bfs_model.specs.Bytes.Items.{word};
 ghost use Rattle.bfs_messages.specs.Batches.{batch_text};
-ghost use Rattle.bfs_messages.specs.Sinks.{Takes};
+ghost use Rattle.bfs_xdr.specs.Sinks.{Takes};
 ghost use Rattle.bfs_messages.specs.Fits.{FieldsFit, FitsMessage};
 ghost use Rattle.bfs_messages.specs.Limits.{FitsSigned};
 ghost use Rattle.bfs_messages.specs.Spelling.{attached_text, body_text, signed_text};
@@ -11,8 +11,8 @@ use crate::batches::{OrderedBatch, put_batch};
 use crate::message::Message;
 use crate::parts::Part;
 use crate::signed::Signed;
-use crate::sinks::Sink;
 use bfs_types::Memory;
+use bfs_xdr::Sink;
 use std::alloc::Global;
 
 /// Writes a message and its keyed hashes behind the bytes that are there. `Memory` if memory runs out.

@@ -1,6 +1,6 @@
 use Rattle.std.proofs.Common.{take, flat_map}
 use Rattle.std.specs.List.{AllByRecursion}
-use Rattle.bfs_messages.specs.Sinks.{Takes}
+use Rattle.bfs_xdr.specs.Sinks.{Takes}
 use Rattle.bfs_messages.proofs.parts.put_all.Given as goal
 
 abbrev pub invariant-loop-part : goal.invariant-loop-part
