@@ -2,7 +2,6 @@
 #![tactic(auto)]
 
 mod answers;
-mod hashing;
 mod laws;
 mod reading;
 mod skipping;

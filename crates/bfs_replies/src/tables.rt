@@ -1,15 +1,12 @@
-ghost use Rattle.std.specs.Prelude.{◌≡◌, ◌≤◌, ◌<◌, ◌++◌, ◌↔◌, ◌≢◌, length, replicate, None, IfOk, IfSome, OnOk, OnErr, IsErrOf};
+ghost use Rattle.std.specs.Prelude.{◌≡◌, ◌≤◌, ◌<◌, ◌↔◌, ◌≢◌, length, replicate, None, IfOk, IfSome, OnOk, OnErr, IsErrOf};
 ghost use Rattle.std.specs.Option.{option_map};
 ghost use Rattle.bfs_model.specs.Server.Limits.{most_clients, most_reply_bytes};
 ghost use Rattle.bfs_replies.specs.Classes.{class_behind, class_of, timestamp_of, timestamps_of};
 ghost use Rattle.bfs_replies.specs.Errors.{record_code_of};
 ghost use Rattle.bfs_replies.specs.Tables.{IsKept, last_of, recorded};
-ghost use Rattle.bfs_replies.specs.Texts.{table_text};
 
-use crate::texts::put_all;
 use crate::timestamps::{Timestamps, timestamps_in};
 use bfs_types::{Bytes, MOST_REPLY_BYTES, Memory};
-use bfs_xdr::put_u32;
 use std::alloc::Global;
 use std::marker::Model;
 use thiserror::Error;
@@ -184,22 +181,6 @@ impl ReplyTable {
             return Err(RecordError::Memory);
         };
         self.clients[client as usize] = Some(last);
-        Ok(())
-    }
-
-    /// Appends the text of the table: the number of clients, and of each whether a request of it was executed, followed by the timestamp of
-    /// its last one and the reply to it. `Memory` if memory runs out; then nothing is appended.
-    #[tactic(auto, using(std::proofs::lemmas::List::append_assoc), unfolding(crate::specs::Texts::table_text))]
-    pub fn put_text(&self, out: &mut Vec<u8>) -> Result<(), Memory>
-        ensures ok { OnOk result (out.new.items ≡ out.old.items ++ table_text self.now) }
-        ensures err { OnErr result (out.new.items ≡ out.old.items) }
-    {
-        let before = out.len();
-        put_u32(out, self.clients())?;
-        if put_all(out, &self.clients).is_err() {
-            out.truncate(before);
-            return Err(Memory);
-        }
         Ok(())
     }
 

@@ -1,8 +1,7 @@
 -- Turn by turn one more is passed over.
-use Rattle.std.proofs.Common.{◌≡◌, ℕ, ◌+◌, ◌-◌, List, [], ◌∷◌, ◌++◌, length, Option, Some, refl, sym, ap, ◌∙◌, arith}
+use Rattle.std.proofs.Common.{◌≡◌, ℕ, ◌+◌, ◌-◌, List, [], ◌∷◌, ◌++◌, length, Option, Some, sym, ap, ◌∙◌, arith}
 use Rattle.std.proofs.lemmas.List.{length_push}
 use Rattle.bfs_model.proofs.Public.{turn, turn_none, turns_done}
-use Rattle.bfs_replies.specs.Tables.{Table}
 use Rattle.bfs_replies.specs.Parsing.{last_seen}
 use Rattle.bfs_replies.specs.TextReading.{last_from, passed}
 use Rattle.bfs_replies.proofs.skipping.skip_lasts.Goals as goal
