@@ -25,19 +25,17 @@ fn main(rt: HostRuntime) -> Result<(), anyhow::Error> {
     let alloc = rt.alloc();
     let settings = parse_settings(alloc, CONFIGURATION)?;
     let clients = Clients::new(alloc, &settings)?;
+    let mut wire = Wire::new(alloc);
     let mut nodes = Vec::new(alloc);
     for number in 0..settings.replicas() {
         nodes.push(Node::new(alloc, &settings, number)?)?;
     }
-    let mut wire = Wire::new(alloc);
-    // client 1 sends a request to each replica, and the primary proposes what waits
-    let request = request(alloc, &clients)?;
-    for (number, node) in nodes.iter_mut().enumerate() {
-        wire.send(number, receive(&rt, alloc, node, request.as_slice())?)?;
-    }
+    // client 1 sends a request to all replicas, and the primary proposes what waits
+    wire.to_replicas.push_back(request(alloc, &clients)?)?;
+    settle(&rt, &mut nodes, &mut wire)?;
     let primary = nodes.first_mut().context("a primary")?;
     let time = Time::new(1, 0).context("a time")?;
-    wire.send_one(0, primary.propose(time)?)?;
+    wire.send(&primary.propose(time)?)?;
     settle(&rt, &mut nodes, &mut wire)?;
     // the client takes what f + 1 replicas answer
     let mut tallies = Tallies::new(alloc, settings.f());
@@ -48,10 +46,8 @@ fn main(rt: HostRuntime) -> Result<(), anyhow::Error> {
     let reply = tallies.result(1, 7).context("a result")?;
     println!(rt; "reply {}", hex::encode(alloc, reply)?)?;
     for (number, node) in nodes.iter().enumerate() {
-        println!(rt;
-            "digest {number} {}",
-            hex::encode(alloc, &node.digest(&rt)?)?
-        )?;
+        let digest = hex::encode(alloc, &node.digest(&rt)?)?;
+        println!(rt; "digest {number} {digest}")?;
     }
     Ok(())
 }
@@ -66,76 +62,52 @@ fn request(alloc: Global, clients: &Clients) -> Result<Vec<u8>, anyhow::Error> {
     Ok(encode(alloc, &signed)?)
 }
 
-/// Until nothing is ready and nothing on its way, replicas execute what is ready, and bytes come to all but their sender.
+/// Brings what is on its way to all replicas, until nothing is.
 fn settle<R: Threads + Wait + Sync>(
     rt: &R,
     nodes: &mut [Node],
     wire: &mut Wire,
 ) -> Result<(), NodeError> {
     for _ in rt.forever() {
-        for (number, node) in nodes.iter_mut().enumerate() {
-            execute(rt, node, number, wire)?;
-        }
-        let Some((sender, bytes)) = wire.to_replicas.pop_front() else {
+        let Some(bytes) = wire.to_replicas.pop_front() else {
             return Ok(());
         };
-        for (number, node) in nodes.iter_mut().enumerate() {
-            if number != sender {
-                wire.send(number, receive(rt, wire.alloc, node, bytes.as_slice())?)?;
+        for node in nodes.iter_mut() {
+            for message in turn(rt, wire.alloc, node, bytes.as_slice())? {
+                wire.send(&message)?;
             }
         }
     }
     unreachable!()
 }
 
-/// What a replica sends when bytes come to it.
-fn receive<R: Threads + Sync>(
+/// What a replica sends when bytes come to it. What is forged, too early or there already, its own messages too, changes nothing.
+fn turn<R: Threads + Wait + Sync>(
     rt: &R,
     alloc: Global,
     node: &mut Node,
     bytes: &[u8],
 ) -> Result<Vec<Signed<Message>>, NodeError> {
-    match node.deliver(rt, bytes) {
-        Ok(sent) => Ok(sent),
-        Err(NodeError::Memory) => Err(NodeError::Memory),
-        // forged, or too early, or too often: nothing has changed
-        Err(_) => Ok(Vec::new(alloc)),
-    }
-}
-
-/// A replica executes all batches that are ready.
-fn execute<R: Threads + Wait + Sync>(
-    rt: &R,
-    node: &mut Node,
-    number: usize,
-    wire: &mut Wire,
-) -> Result<(), NodeError> {
+    let mut sent = match node.deliver(rt, bytes) {
+        Ok(sent) => sent,
+        Err(NodeError::Memory) => return Err(NodeError::Memory),
+        Err(_) => Vec::new(alloc),
+    };
     for _ in rt.forever() {
-        match execute_next(rt, node)? {
-            Some(sent) => wire.send(number, sent)?,
-            None => return Ok(()),
+        let executor = Executor {
+            workers: Workers::one(),
+            engine: None,
+        };
+        let Some(replies) = node.execute_ready(rt, executor, &NoGate)? else {
+            return Ok(sent);
+        };
+        sent.extend(replies).map_err(Memory::from)?;
+        match node.checkpoint(rt) {
+            Ok(checkpoint) => sent.push(checkpoint).map_err(Memory::from)?,
+            Err(NodeError::Memory) => return Err(NodeError::Memory),
+            // none is due at this number
+            Err(_) => (),
         }
     }
     unreachable!()
-}
-
-/// What a replica sends once it has executed a batch: replies, and behind each sixteenth batch what it is then.
-fn execute_next<R: Threads + Wait + Sync>(
-    rt: &R,
-    node: &mut Node,
-) -> Result<Option<Vec<Signed<Message>>>, NodeError> {
-    let executor = Executor {
-        workers: Workers::one(),
-        engine: None,
-    };
-    let Some(mut sent) = node.execute_ready(rt, executor, &NoGate)? else {
-        return Ok(None);
-    };
-    match node.checkpoint(rt) {
-        Ok(checkpoint) => sent.push(checkpoint).map_err(Memory::from)?,
-        Err(NodeError::Memory) => return Err(NodeError::Memory),
-        // none is due at this number
-        Err(_) => (),
-    }
-    Ok(Some(sent))
 }
