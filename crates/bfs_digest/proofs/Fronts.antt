@@ -1,7 +1,8 @@
 -- What was appended to stands in front.
-use Rattle.std.proofs.Common.{◌≡◌, ℕ, List, ◌++◌, length, take, drop, sym, ap, ◌∙◌, append_assoc}
+use Rattle.std.proofs.Common.{◌≡◌, ℕ, List, ◌++◌, length, take, drop, Result, Ok, Err, sym, ap, ◌∙◌, append_assoc}
 use Rattle.std.proofs.Math.Seq.{take-append_seam, take-length}
 use Rattle.std.proofs.lemmas.List.{take-append-drop}
+use Rattle.std.specs.Prelude.{OnErr}
 use Rattle.bfs_digest.specs.Inside.Putting.{BeginsWith}
 
 pub begins : (front more bytes : List ℕ) → bytes ≡ front ++ more → BeginsWith front bytes
@@ -22,3 +23,8 @@ begins_through front middle bytes h k =
 -- something was appended, and then perhaps more
 pub begins_still : (front more middle bytes : List ℕ) → middle ≡ front ++ more → BeginsWith middle bytes → BeginsWith front bytes
 begins_still front more middle bytes is h = begins_through front middle bytes (begins front more middle is) h
+
+-- likewise where that was refused
+pub still_refused : {A E : Type 0} (result : Result A E) (front more middle bytes : List ℕ) → middle ≡ front ++ more → OnErr result (BeginsWith middle bytes) → OnErr result (BeginsWith front bytes)
+still_refused (Ok x) front more middle bytes is refused = tt
+still_refused (Err e) front more middle bytes is refused = begins_still front more middle bytes is refused

@@ -4,15 +4,14 @@ ghost use Rattle.std.specs.FinMap.{entries};
 ghost use Rattle.sha2.specs.Sha256.{sha256};
 ghost use Rattle.sha2.specs.Hashers.{Holds256};
 ghost use Rattle.bfs_inode.specs.Records.{record_digest};
-ghost use Rattle.bfs_model.specs.Bytes.Items.{hyper, word};
+ghost use Rattle.bfs_model.specs.Bytes.Items.{word};
 ghost use Rattle.bfs_tree.specs.Tree.{at_home};
 ghost use Rattle.bfs_digest.specs.Text.{header_text, latest_version};
 ghost use Rattle.bfs_digest.specs.Digests as model;
 ghost use Rattle.bfs_digest.specs.Inside.Hashed.{hashed_at, hashed_text};
 
 use crate::hashes::record_digest;
-use crate::headers::{Header, MAGIC, parts_of};
-use crate::versions::LATEST_VERSION;
+use crate::headers::{Header, parts_of, put_header};
 use bfs_inode::{FileId, Inode, RecordDigest};
 use bfs_serial::{ExecError, FileSystem};
 use bfs_tree::Tree;
@@ -128,17 +127,8 @@ fn hash_digest(hasher: &mut Sha256, id: FileId, inode: &Inode)
 fn hash_header(hasher: &mut Sha256, header: &Header)
     ensures { (m : List ℕ) → Holds256 hasher.old m → Holds256 hasher.new (m ++ header_text latest_version header.now) }
 {
-    hash_u32(hasher, MAGIC);
-    hash_u32(hasher, LATEST_VERSION);
-    hash_double(hasher, header.next_ordinal);
-    hash_u32(hasher, header.last_time.seconds());
-    hash_u32(hasher, header.last_time.useconds());
-    hash_u32(hasher, header.count);
-}
-
-#[tactic(auto, unfolding(bfs_model::specs::Bytes::Items::hyper))]
-fn hash_double(hasher: &mut Sha256, number: u64)
-    ensures { (m : List ℕ) → Holds256 hasher.old m → Holds256 hasher.new (m ++ hyper number) }
-{
-    hasher.update(number.to_be_bytes());
+    match put_header(header, hasher) {
+        Ok(()) => (),
+        Err(never) => match never {},
+    }
 }

@@ -3,12 +3,13 @@ ghost use Rattle.std.specs.Prelude.{◌≡◌, ◌≤◌, ◌++◌, List, ℕ, l
 ghost use Rattle.sha2.specs.Hashers.{Holds256};
 ghost use Rattle.bfs_model.specs.Bytes.Items.{word};
 ghost use Rattle.bfs_inode.specs.Inodes.{body_seen};
-ghost use Rattle.bfs_inode.specs.Records.{blocks_text, entries_text, entry_text, hashed_body, listing_text, record_digest};
+ghost use Rattle.bfs_inode.specs.Records.{blocks_text, hashed_body, listing_text, record_digest};
 ghost use Rattle.bfs_model.specs.Server.Limits.{most_file_bytes};
 
 use crate::blocks::hash_blocks;
+use crate::listings::put_listing;
 use crate::words::head_words;
-use bfs_inode::{Body, Directory, Entry, FileId, Inode};
+use bfs_inode::{Body, Directory, FileId, Inode};
 use bfs_xdr::{hash_opaque, hash_u32, hash_words};
 use sha2::{Digest, Sha256};
 
@@ -53,23 +54,8 @@ fn hash_file(hasher: &mut Sha256, bytes: &[u8])
 fn hash_directory(hasher: &mut Sha256, directory: &Directory)
     ensures { (m : List ℕ) → Holds256 hasher.old m → Holds256 hasher.new (m ++ listing_text directory.now) }
 {
-    hash_u32(hasher, directory.parent().number());
-    hash_u32(hasher, directory.len() as u32);
-    hash_entries(hasher, directory);
-}
-
-fn hash_entries(hasher: &mut Sha256, directory: &Directory)
-    ensures { (m : List ℕ) → Holds256 hasher.old m → Holds256 hasher.new (m ++ entries_text directory.now.entries) }
-{
-    for entry in directory.iter() {
-        hash_entry(hasher, entry);
+    match put_listing(directory, hasher) {
+        Ok(()) => (),
+        Err(never) => match never {},
     }
-}
-
-fn hash_entry(hasher: &mut Sha256, entry: &Entry)
-    ensures { (m : List ℕ) → Holds256 hasher.old m → Holds256 hasher.new (m ++ entry_text entry.now) }
-{
-    hash_u32(hasher, entry.cookie);
-    hash_opaque(hasher, entry.name.as_slice());
-    hash_u32(hasher, entry.child.number());
 }

@@ -10,6 +10,7 @@ mod headers;
 mod inodes;
 mod laws;
 mod lengths;
+mod listings;
 mod names;
 mod outlines;
 mod reach;

@@ -5,9 +5,9 @@ ghost use Rattle.bfs_tree.specs.Tree.{at_home};
 ghost use Rattle.bfs_digest.specs.Text.{header_text, latest_version, records_text, snapshot_text};
 ghost use Rattle.bfs_digest.specs.Inside.Putting.{BeginsWith};
 
-use crate::headers::{Header, parts_of};
+use crate::headers::{Header, parts_of, put_header};
 use crate::lengths::text_length;
-use crate::writers::{put_header, put_records};
+use crate::writers::put_records;
 use bfs_serial::{ExecError, FileSystem};
 use bfs_tree::Tree;
 use bfs_types::Memory;
@@ -58,6 +58,6 @@ fn put_parts(out: &mut Vec<u8>, header: &Header, tree: &Tree) -> Result<(), Memo
     ensures ok { OnOk result (out.new.items ≡ out.old.items ++ (header_text latest_version header.now ++ records_text (entries (at_home tree.now)))) }
     ensures err { OnErr result (BeginsWith out.old.items out.new.items) }
 {
-    put_header(out, header)?;
+    put_header(header, out)?;
     put_records(out, tree)
 }

@@ -1,12 +1,12 @@
 -- The words in front, and then what the inode holds.
 use Rattle.std.proofs.Common.{◌++◌, Result, Ok, Err, ap, ◌∙◌, append_assoc}
-use Rattle.std.specs.Prelude.{OnOk, OnErr}
+use Rattle.std.specs.Prelude.{OnOk}
 use Rattle.bfs_model.specs.Bytes.Items.{words}
 use Rattle.bfs_model.specs.Server.Tree.{Body}
 use Rattle.bfs_inode.specs.Inodes.{body_seen}
 use Rattle.bfs_inode.specs.Records.{head_words}
 use Rattle.bfs_digest.specs.Records.{body_text, record_text}
-use Rattle.bfs_digest.proofs.Fronts.{begins_still}
+use Rattle.bfs_digest.proofs.Fronts.{still_refused}
 use Rattle.bfs_digest.proofs.writers.put_record.Goals as goal
 
 on_ok : {A E : Type 0} {P Q : Type 0} (r : Result A E) → (P → Q) → OnOk r P → OnOk r Q
@@ -24,9 +24,5 @@ returns-clause-ok c =
     ∙ append_assoc out front held
     ∙ ap (λ (body : Body). out ++ (front ++ body_text body)) c.body.ensures) c.put_body.ensures.ok
 
-on_err : {A E : Type 0} {P Q : Type 0} (r : Result A E) → (P → Q) → OnErr r P → OnErr r Q
-on_err (Ok x) follows h = tt
-on_err (Err e) follows h = follows h
-
 pub returns-clause-err : goal.returns-clause-err
-returns-clause-err c = on_err c.put_body.result (begins_still c.args.out.now.items _ _ c.put_body.new.out.items c.in_ok-put_words.ensures.ok) c.put_body.ensures.err
+returns-clause-err c = still_refused c.put_body.result c.args.out.now.items _ _ c.put_body.new.out.items c.in_ok-put_words.ensures.ok c.put_body.ensures.err
