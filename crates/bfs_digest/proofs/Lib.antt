@@ -12,15 +12,8 @@ pub mod BlockDigests
 pub mod Building
 pub mod InodeParts
 pub mod Restoring
-pub mod Walking
-pub mod Outlining
+pub mod Placed
 pub mod Counting
 pub mod Indexed
 pub mod Reached
-pub mod Outlined
-pub mod Taken
-pub mod Distinct
-pub mod Placing
-pub mod Forming
-pub mod Formed
 pub mod Public

@@ -158,10 +158,6 @@ records_spell header records are =
 same_inodes : (header : Header) (records : List ℕ) (are : AreRecords header records) (inodes : List (ℕ × Inode)) (rest : List ℕ) → records_from latest_version header.count root_id records ≡ Some (inodes, rest) → are.inodes ≡ inodes
 same_inodes header records are inodes rest read = ap (λ p. p.0) (some_is (are.inodes, []) (inodes, rest) (sym are.read ∙ read))
 
--- and where that is well formed it is live
-pub formed_is_live : (header : Header) (records : List ℕ) (are : AreRecords header records) → IsWellFormed (files_with header are.inodes) → IsLive (files_with header are.inodes)
-formed_is_live header records are formed = spelled_is_live (files_with header are.inodes) (records_spell header records are) formed
-
 -- what is well formed is within the limits
 pub all_limited : (header : Header) (records : List ℕ) (are : AreRecords header records) → IsWellFormed (files_with header are.inodes) → AllByRecursion (λ inode. IsLimited inode.1) are.inodes
 all_limited header records are formed =
@@ -182,9 +178,15 @@ pub built_files : (header : Header) (records : List ℕ) (tree : Slots) (inodes 
     → file_system_of tree header.next_ordinal header.last_time ≡ files_with header inodes
 built_files header records tree inodes rest built read = ap (λ m. record { tree = m; next_ordinal = header.next_ordinal; last_time = header.last_time }) (built inodes rest read).0
 
-pub held_is_live : (header : Header) (records : List ℕ) (are : AreRecords header records) (tree : Slots) → BuildsTree (Some tree) (records_from latest_version header.count root_id records) → IsWellFormed (files_with header are.inodes)
+pub ill_formed : (header : Header) (records : List ℕ) (tree : Slots) → BuildsTree (Some tree) (records_from latest_version header.count root_id records) → (IsWellFormed (file_system_of tree header.next_ordinal header.last_time) → ⊥) → BuildsFiles None header records
+ill_formed header records tree built fails inodes rest read formed = fails (subst IsWellFormed (sym (built_files header records tree inodes rest built read)) formed)
+
+-- where that is well formed it is live
+pub held_is_live : (header : Header) (records : List ℕ) (are : AreRecords header records) (tree : Slots) → BuildsTree (Some tree) (records_from latest_version header.count root_id records) → IsWellFormed (file_system_of tree header.next_ordinal header.last_time)
     → IsLive (file_system_of tree header.next_ordinal header.last_time)
-held_is_live header records are tree built formed = subst IsLive (sym (built_files header records tree are.inodes [] built are.read)) (formed_is_live header records are formed)
+held_is_live header records are tree built formed =
+    let same = built_files header records tree are.inodes [] built are.read in
+    subst IsLive (sym same) (spelled_is_live (files_with header are.inodes) (records_spell header records are) (subst IsWellFormed same formed))
 
 -- What is told of the bytes ---------------------------------------------------------------------------------------------
 

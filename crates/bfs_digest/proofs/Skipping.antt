@@ -32,12 +32,6 @@ pub turns_done : {A : Type 0} {from : List ℕ → Reading A} {number : A → �
     → n ≡ 0 → all ≡ left (list n least bytes) → all ≡ Some bytes
 turns_done {list = list} R all n least bytes is so_far = so_far ∙ ap (λ k. left (list k least bytes)) is ∙ ap left (R.none least bytes)
 
--- what is seen of what is seen of an item
-pub seen_again : {A B : Type 0} (f : A → B) (number : B → ℕ) (reading : Reading A) (x : B) (next : List ℕ) → option_map {U = B × List ℕ} (λ read. (f read.0, read.1)) reading ≡ Some (x, next)
-    → option_map {U = ℕ × List ℕ} (λ read. (number (f read.0), read.1)) reading ≡ Some (number x, next)
-seen_again f number None x next seen = absurd cc
-seen_again {A} {B} f number (Some read) x next seen = ap (λ (p : B × List ℕ). Some (number p.0, p.1)) (some_is {A = B × List ℕ} (f read.0, read.1) (x, next) seen)
-
 -- nothing is left behind what is read
 pub record ReadsAll {A : Type 0} (reading : Reading A) : Type 0 where
   pub item : A

@@ -3,7 +3,6 @@ pub mod RecordReading
 pub mod TextReading
 pub mod Taking
 pub mod Formation
-pub mod Outlines
 pub mod Names
 pub mod Hashed
 pub mod Putting

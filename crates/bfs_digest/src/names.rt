@@ -1,8 +1,11 @@
 // How often entries name each inode.
 ghost use Rattle.std.specs.Prelude.{◌≡◌, ◌==◌, OnOk, if◌then◌else◌};
 ghost use Rattle.std.specs.FinMap.{empty};
+ghost use Rattle.bfs_model.specs.Server.Tree.{entries_in};
+ghost use Rattle.bfs_model.specs.Server.WellFormed.{times};
 ghost use Rattle.bfs_digest.specs.Inside.Names.{counted_at, Adds, AreWithin};
 
+use bfs_inode::{Directory, Inode};
 use bfs_types::{FileId, Memory};
 use std::alloc::Global;
 use std::collections::BTreeMap;
@@ -48,8 +51,29 @@ impl Names {
         }
     }
 
-    /// One entry more, that names the child. `Memory` if memory runs out.
-    pub(crate) fn count_one(&mut self, child: FileId) -> Result<(), Memory>
+    /// The entries of an inode more, if it is a directory. `Memory` if memory runs out.
+    pub(crate) fn count_all(&mut self, inode: &Inode) -> Result<(), Memory>
+        requires { AreWithin self.old }
+        ensures { OnOk result (Adds self.old (λ id. times id (entries_in inode.now.body)) self.new) }
+    {
+        match inode.directory() {
+            Some(directory) => self.count_entries(directory),
+            None => Ok(()),
+        }
+    }
+
+    fn count_entries(&mut self, directory: &Directory) -> Result<(), Memory>
+        requires { AreWithin self.old }
+        ensures { OnOk result (Adds self.old (λ id. times id directory.now.entries) self.new) }
+    {
+        for entry in directory.iter() {
+            self.count_one(entry.child)?;
+        }
+        Ok(())
+    }
+
+    // one entry more, that names the child
+    fn count_one(&mut self, child: FileId) -> Result<(), Memory>
         requires { AreWithin self.old }
         ensures { OnOk result (Adds self.old (λ id. if child == id then 1 else 0) self.new) }
     {

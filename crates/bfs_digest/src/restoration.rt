@@ -17,8 +17,8 @@ use std::alloc::Global;
 
 /// The live file system of which the bytes are the text, in either version. `Malformed` if they don't begin with `BFSS`, `WrongVersion`
 /// if another version than 1 or 2 follows, `Malformed` if the rest spells no file system, `NotWellFormed` if it spells one that is not
-/// well formed, and `Memory` if memory runs out. Nothing is built but a well-formed file system: what else is spelled is refused after
-/// a look at the bytes, which notes little of them. A text of n bytes takes at most n log n steps.
+/// well formed, and `Memory` if memory runs out. Bytes that spell none are refused without memory. What is spelled is built, and then
+/// looked at, so one that is not well formed takes the memory of one that is. A text of n bytes takes at most n log n steps.
 pub fn restore(alloc: Global, bytes: &[u8]) -> Result<FileSystem, RestoreError>
     ensures ok { IfOk result (λ files. IsRestored oldest_version bytes.now files) }
     ensures malformed { IsErrOf result RestoreError.Malformed ↔ IsMalformed oldest_version bytes.now }
@@ -80,16 +80,14 @@ fn files_of(alloc: Global, header: &Header, records: &[u8]) -> Result<Option<Fil
     requires { AreRecords header.now records.now }
     ensures { IfOk result (λ files. BuildsFiles files header.now records.now) }
 {
-    if !is_well_formed(alloc, header, records)? {
+    let Some(tree) = tree_of(alloc, records, header.count)? else {
+        return Ok(None);
+    };
+    if !is_well_formed(alloc, &tree, header.next_ordinal)? {
         return Ok(None);
     }
-    match tree_of(alloc, records, header.count)? {
-        Some(tree) => {
-            let ordinal = ordinal_of(header.next_ordinal);
-            Ok(Some(FileSystem::from_parts(tree, ordinal, header.last_time)))
-        }
-        None => Ok(None),
-    }
+    let ordinal = ordinal_of(header.next_ordinal);
+    Ok(Some(FileSystem::from_parts(tree, ordinal, header.last_time)))
 }
 
 fn ordinal_of(number: u64) -> Ordinal

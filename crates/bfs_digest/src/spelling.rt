@@ -1,22 +1,17 @@
-// Whether a text spells inodes, without memory: nothing is built of it. And the notes of those that it spells.
+// Whether a text spells inodes, without memory: nothing is built of it.
 ghost use Rattle.std.specs.Prelude.{◌≡◌, None, IfOk, OnErr};
 ghost use Rattle.std.specs.Option.{option_map};
-ghost use Rattle.bfs_model.specs.Server.Tree.{first_ordinal, parent_in, root_id};
+ghost use Rattle.bfs_model.specs.Server.Tree.{first_ordinal, root_id};
 ghost use Rattle.bfs_digest.specs.Inside.RecordReading.{body_from, entries_from, listing_from, record_from};
-ghost use Rattle.bfs_digest.specs.Inside.Formation.{AreNotes};
-ghost use Rattle.bfs_digest.specs.Text.{latest_version};
-ghost use Rattle.bfs_digest.specs.Inside.Outlines.{note_of};
 ghost use Rattle.bfs_digest.specs.Inside.TextReading.{files_from, records_from};
 ghost use Rattle.bfs_digest.specs.Inside.Taking.{AreSpelled, Reads, Skips};
 
 use crate::errors::Malformed;
 use crate::headers::Header;
-use crate::outlines::InodeNote;
 use crate::readers::TextReader;
-use crate::versions::{LATEST_VERSION, most_bytes_in};
+use crate::versions::most_bytes_in;
 use bfs_inode::FileId;
-use bfs_types::{MOST_ENTRIES, MOST_PATH_BYTES, Memory};
-use std::alloc::Global;
+use bfs_types::{MOST_ENTRIES, MOST_PATH_BYTES};
 
 /// The header of a text of that version, which was read, and the bytes of its records, which end where the text does.
 #[tactic(auto, unfolding(crate::specs::Inside::TextReading::files_from))]
@@ -42,10 +37,10 @@ fn skip_records(reader: &mut TextReader, version: u32, count: u32) -> Result<(),
 {
     let mut least = FileId::root().number() as u64;
     for _record in 0..count {
-        let Ok(note) = skip_record(reader, version) else {
+        let Ok(fileid) = skip_record(reader, version) else {
             return Err(Malformed);
         };
-        let id = note.fileid.number() as u64;
+        let id = fileid.number() as u64;
         if id < least {
             return Err(Malformed);
         }
@@ -54,75 +49,44 @@ fn skip_records(reader: &mut TextReader, version: u32, count: u32) -> Result<(),
     Ok(())
 }
 
-/// The notes of so many records of the latest version, or `None` if the text spells no such ones. `Memory` if memory runs out.
-pub(crate) fn notes_of(
-    alloc: Global,
-    records: &[u8],
-    count: u32,
-) -> Result<Option<Vec<InodeNote>>, Memory>
-    ensures { IfOk result (λ notes. AreNotes notes (records_from latest_version count root_id records.now)) }
-{
-    let mut reader = TextReader::new(records);
-    let mut notes = Vec::with_capacity(alloc, count as usize)?;
-    for _record in 0..count {
-        let Ok(note) = skip_record(&mut reader, LATEST_VERSION) else {
-            return Ok(None);
-        };
-        let fileid = note.fileid;
-        notes.push(InodeNote { fileid, ..note })?;
-    }
-    Ok(Some(notes))
-}
-
-// the note of an inode of a text of that version
+// gives its fileid
 #[tactic(auto, unfolding(crate::specs::Inside::RecordReading::record_from))]
-fn skip_record(reader: &mut TextReader, version: u32) -> Result<InodeNote, Malformed>
-    ensures { Reads (λ x. x) result (option_map (λ read. (note_of read.0, read.1)) (record_from version reader.old)) reader.new }
+fn skip_record(reader: &mut TextReader, version: u32) -> Result<FileId, Malformed>
+    ensures { Reads (λ x. x) result (option_map (λ read. (read.0.0, read.1)) (record_from version reader.old)) reader.new }
 {
     let head = reader.head()?;
-    let parent = skip_body(reader, version, head.kind)?;
-    Ok(InodeNote {
-        fileid: head.fileid,
-        links: head.metadata.links,
-        parent,
-    })
+    skip_body(reader, version, head.kind)?;
+    Ok(head.fileid)
 }
 
-/// The directory above, where the inode is one.
 #[tactic(auto, unfolding(crate::specs::Inside::RecordReading::body_from, crate::specs::Inside::RecordReading::file_from, crate::specs::Inside::RecordReading::directory_from, crate::specs::Inside::RecordReading::link_from))]
-pub(crate) fn skip_body(
-    reader: &mut TextReader,
-    version: u32,
-    kind: u32,
-) -> Result<Option<FileId>, Malformed>
-    ensures { Reads (λ x. x) result (option_map (λ read. (parent_in read.0, read.1)) (body_from version kind reader.old)) reader.new }
+fn skip_body(reader: &mut TextReader, version: u32, kind: u32) -> Result<(), Malformed>
+    ensures { Skips result (body_from version kind reader.old) reader.new }
 {
     match kind {
         1 => {
             reader.bytes(most_bytes_in(version))?;
-            Ok(None)
+            Ok(())
         }
-        2 => Ok(Some(skip_listing(reader)?)),
+        2 => skip_listing(reader),
         5 => {
             reader.bytes(MOST_PATH_BYTES as u32)?;
-            Ok(None)
+            Ok(())
         }
         _ => Err(Malformed),
     }
 }
 
-// gives the directory above
 #[tactic(auto, unfolding(crate::specs::Inside::RecordReading::listing_from))]
-fn skip_listing(reader: &mut TextReader) -> Result<FileId, Malformed>
-    ensures { Reads (λ x. x) result (option_map (λ read. (read.0.parent, read.1)) (listing_from reader.old)) reader.new }
+fn skip_listing(reader: &mut TextReader) -> Result<(), Malformed>
+    ensures { Skips result (listing_from reader.old) reader.new }
 {
-    let parent = FileId::new(reader.word()?);
+    let _parent = reader.word()?;
     let count = reader.word()?;
     if count > MOST_ENTRIES as u32 {
         return Err(Malformed);
     }
-    skip_entries(reader, count)?;
-    Ok(parent)
+    skip_entries(reader, count)
 }
 
 // so many entries, by rising cookie
