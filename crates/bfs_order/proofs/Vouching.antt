@@ -1,14 +1,12 @@
 -- The messages of a certificate make its checkpoint stable.
-use Rattle.std.proofs.Common.{◌≡◌, ◌⊎◌, inl, inr, ℕ, ◌+◌, ◌*◌, ◌<◌, Bool, true, false, eqb, ◌||◌, not, List, [], ◌∷◌, refl, sym, ap, ◌∙◌, arith}
+use Rattle.std.proofs.Common.{◌≡◌, ◌⊎◌, inl, inr, ℕ, ◌+◌, ◌*◌, ◌<◌, true, false, eqb, not, List, [], ◌∷◌, arith}
 use Rattle.std.specs.Prelude.{All}
 use Rattle.std.proofs.lemmas.Bool.{and_parts, or_cases, or_left, or_right, eqb-true, eq-eqb, le-leb, not-true, false_from_ne_true}
 use Rattle.std.proofs.lemmas.List.Elements.{All-head, All-tail, All-weaker}
 use Rattle.bfs_auth.specs.Keys.{Keys}
-use Rattle.bfs_agreement.specs.Votes.{Header, SlotsDiffer, has_slot, is_slot, is_taken, replicas, tellers, Told, told, says}
+use Rattle.bfs_agreement.specs.Votes.{SlotsDiffer, has_slot, is_slot, is_taken, replicas, tellers, Told, told, says}
 use Rattle.bfs_log.specs.Headers.{header}
 use Rattle.bfs_log.specs.Logs.{Log, headers}
-use Rattle.bfs_messages.specs.declared.signed.Signed.{Signed}
-use Rattle.bfs_messages.specs.declared.message.Message.{Message}
 use Rattle.bfs_order.proofs.Certifying.{IsVoucher, more, senders_counted, vouched}
 use Rattle.bfs_order.proofs.KeptLogs.{no_view}
 use Rattle.bfs_order.proofs.Telling.{is_said, slot_is}

@@ -2,6 +2,8 @@
 ghost use Rattle.std.specs.Prelude.{◌≡◌, ◌≢◌, ◌<◌, ◌==◌, ◌&&◌, not, true, false, IfNone, IfSome};
 ghost use Rattle.bfs_log.specs.Headers.{header};
 ghost use Rattle.bfs_agreement.specs.Votes.{primary};
+ghost use Rattle.bfs_messages.specs.Signing.{carried_are_signed};
+ghost use Rattle.bfs_pending.specs.Passed.{HavePassed};
 ghost use Rattle.bfs_order.specs.Replica.Refusals.{conflicts, is_authentic, is_between, is_inside, is_of_view, is_ordering, is_there, place_refusal, refusal};
 ghost use Rattle.bfs_order.specs.declared.error.OrderError.TheVariants as error;
 
@@ -9,7 +11,8 @@ use crate::error::OrderError;
 use crate::order::Order;
 use bfs_auth::Keys;
 use bfs_log::{Header, Slot, header_of, primary_of};
-use bfs_messages::{Message, Signed, are_carried_signed, is_signed};
+use bfs_messages::{Message, Signed, is_signed};
+use bfs_pending::PendingRequests;
 use std::thread::Threads;
 
 // How far above the low mark numbers are taken.
@@ -103,23 +106,27 @@ impl Order {
         &self,
         rt: &(impl Threads + Sync),
         keys: &Keys,
+        passed: &PendingRequests,
         signed: &Signed<Message>,
     ) -> bool
+        requires { HavePassed keys.now passed.now }
         ensures value { result ≡ is_authentic keys.now self.now signed.now }
         ensures sender { result ≡ true → (header signed.now).sender < 31 }
     {
         if 3 * self.f + 1 <= header_of(&signed.message).sender {
             return false;
         }
-        is_signed(keys, signed) && are_carried_signed(rt, keys, &signed.message)
+        is_signed(keys, signed) && are_carried_signed(rt, keys, passed, &signed.message)
     }
 
     pub(crate) fn refusal(
         &self,
         rt: &(impl Threads + Sync),
         keys: &Keys,
+        passed: &PendingRequests,
         signed: &Signed<Message>,
     ) -> Option<OrderError>
+        requires { HavePassed keys.now passed.now }
         ensures value { result ≡ refusal keys.now self.now signed.now }
         ensures free { IfNone result (is_there self.now (header signed.now) ≡ false) }
         ensures sender { IfNone result ((header signed.now).sender < 31) }
@@ -129,10 +136,26 @@ impl Order {
         if !is_ordering(&header) {
             return Some(OrderError::WrongKind);
         }
-        if !self.is_authentic(rt, keys, signed) {
+        if !self.is_authentic(rt, keys, passed, signed) {
             return Some(OrderError::BadAuthenticator);
         }
         self.place_refusal(&header)
+    }
+}
+
+// Whether the REQUESTs that a message carries are their clients'. Only a PRE-PREPARE carries any.
+fn are_carried_signed(
+    rt: &(impl Threads + Sync),
+    keys: &Keys,
+    passed: &PendingRequests,
+    message: &Message,
+) -> bool
+    requires { HavePassed keys.now passed.now }
+    ensures { result ≡ carried_are_signed keys.now message.now }
+{
+    match message {
+        Message::PrePrepare(proposal) => passed.are_signed(rt, keys, proposal.batch()),
+        _ => true,
     }
 }
 

@@ -1,3 +1,5 @@
--- Requests that wait: which stand in a batch and which wait on (Requests), and how they are found by their names (Names).
+-- Requests that wait: which stand in a batch and which wait on (Requests), how they are found by their names (Names), and which have passed (Passed).
 pub mod Requests
 pub mod Names
+pub mod Passed
+pub mod Indexes

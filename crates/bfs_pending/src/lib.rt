@@ -1,6 +1,7 @@
 //! The requests of clients that wait to be ordered.
 #![tactic(auto)]
 
+mod checking;
 mod names;
 mod waiting;
 

@@ -46,11 +46,17 @@ impl BatchNames {
     pub fn has(&self, signed: &Signed<Request>) -> bool
         ensures { result ≡ has_name self.now (name_of signed.now) }
     {
-        self.names.contains(&name_of(signed))
+        self.has_name(&name_of(signed))
+    }
+
+    pub(crate) fn has_name(&self, name: &Name) -> bool
+        ensures { result ≡ has_name self.now name.now }
+    {
+        self.names.contains(name)
     }
 }
 
-fn name_of(signed: &Signed<Request>) -> Name
+pub(crate) fn name_of(signed: &Signed<Request>) -> Name
     ensures { result ≡ name_of signed.now }
 {
     Name {

@@ -1,0 +1,90 @@
+// Which requests are signed, where those that wait are.
+ghost use Rattle.std.specs.Prelude.{◌≡◌, true};
+ghost use Rattle.std.specs.List.{list_all};
+ghost use Rattle.std.specs.Option.{option_map};
+ghost use Rattle.bfs_messages.specs.Signing.{request_is_signed, requests_are_signed};
+ghost use Rattle.bfs_pending.specs.Passed.{HavePassed, are_equal, is_alike, waits};
+
+use crate::waiting::PendingRequests;
+use bfs_auth::{Keys, Principal, least_texts};
+use bfs_messages::{OrderedBatch, Request, Signed, is_request_signed};
+use rayon::prelude::*;
+use std::thread::Threads;
+
+/// Whether two requests ask for the same, with the same entry for a receiver.
+pub(crate) fn is_alike(receiver: Principal, one: &Signed<Request>, other: &Signed<Request>) -> bool
+    ensures { result ≡ is_alike receiver one.now other.now }
+{
+    (one.message.client() == other.message.client()
+        && one.message.timestamp() == other.message.timestamp())
+        && (one.message.call() == other.message.call()
+            && are_equal(one.auth.entry_for(receiver), other.auth.entry_for(receiver)))
+}
+
+fn are_equal(one: Option<&[u8; 32]>, other: Option<&[u8; 32]>) -> bool
+    ensures { result ≡ are_equal (option_map (λ entry. entry.now) one.entry) (option_map (λ entry. entry.now) other.entry) }
+{
+    match (one, other) {
+        (Some(one), Some(other)) => one.as_slice() == other.as_slice(),
+        _ => false,
+    }
+}
+
+impl PendingRequests {
+    /// Whether the REQUESTs of a batch are their clients', as the holder of the keys sees it, where those that wait are. One that waits is not
+    /// hashed again. The others are checked by as many threads as there are processors, unless there is too little to hash for them.
+    pub fn are_signed(&self, rt: &(impl Threads + Sync), keys: &Keys, batch: &OrderedBatch) -> bool
+        requires { HavePassed keys.now self.now }
+        ensures { result ≡ requests_are_signed keys.now batch.now }
+    {
+        let requests = batch.requests();
+        self.all_wait(keys.me(), requests) || are_all_signed(rt, keys, self, requests)
+    }
+
+    // No thread is started where there is nothing to hash.
+    fn all_wait(&self, receiver: Principal, requests: &[Signed<Request>]) -> bool
+        ensures { result ≡ list_all (waits receiver self.now) requests.now }
+    {
+        requests.iter().all(|signed| self.waits(receiver, signed))
+    }
+}
+
+fn are_all_signed(
+    rt: &(impl Threads + Sync),
+    keys: &Keys,
+    waiting: &PendingRequests,
+    requests: &[Signed<Request>],
+) -> bool
+    requires { HavePassed keys.now waiting.now }
+    ensures { result ≡ list_all (request_is_signed keys.now) requests.now }
+{
+    requests
+        .par_iter()
+        .with_min_len(least_texts(mean_length(requests)))
+        .all(
+            rt,
+            |signed: &Signed<Request>| -> bool
+                requires { HavePassed keys.now waiting.now }
+                ensures { result ≡ request_is_signed keys.entry.now signed.now }
+            { is_signed(keys, waiting, signed) },
+        )
+}
+
+fn is_signed(keys: &Keys, waiting: &PendingRequests, signed: &Signed<Request>) -> bool
+    requires { HavePassed keys.now waiting.now }
+    ensures { result ≡ request_is_signed keys.now signed.now }
+{
+    waiting.waits(keys.me(), signed) || is_request_signed(keys, signed)
+}
+
+// of the calls
+fn mean_length(requests: &[Signed<Request>]) -> usize {
+    let mut bytes = 0usize;
+    for signed in requests {
+        bytes = bytes.saturating_add(signed.message.call().len());
+    }
+    match requests.len() {
+        0 => 0,
+        count => bytes / count,
+    }
+}
