@@ -15,7 +15,6 @@ use Rattle.bfs_model.specs.Server.Tree.{Inode, Inodes, FileSystem, root_id, firs
 use Rattle.bfs_tree.proofs.Public.{each_of_all, all_of_each}
 use Rattle.bfs_digest.specs.Records.{IsRecordable}
 use Rattle.bfs_digest.specs.Text.{Header, header_of, numbers_text, records_text, IsSpellable}
-use Rattle.bfs_model.specs.Bytes.Formats.{hyper_from}
 use Rattle.bfs_digest.specs.Inside.TextReading.{records_from, numbers_from, is_nothing, files_from}
 use Rattle.bfs_model.proofs.Public.{some_is, IsExact, hyper_exact, word_exact, go_on, went_on, chosen}
 use Rattle.bfs_digest.proofs.Tests.{passed, refused_not, unrefused, or_parts}

@@ -1,5 +1,4 @@
 -- What was put is the header and the records of all inodes.
-use Rattle.std.proofs.Common.{Some, sym, ap, ◌∙◌}
 use Rattle.bfs_tree.specs.Tree.{at_home}
 use Rattle.bfs_digest.proofs.Parts.{appended_is}
 use Rattle.bfs_digest.proofs.snapshots.put_snapshot.Goals as goal
