@@ -1,4 +1,5 @@
 pub mod DirectoryLemmas
 pub mod IndexLemmas
 pub mod OrderLemmas
+pub mod KeptBlocks
 pub mod Public

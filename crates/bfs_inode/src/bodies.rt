@@ -9,10 +9,8 @@ ghost use Rattle.bfs_types.specs.Attributes.{file_type_seen};
 ghost use Rattle.bfs_inode.specs.Inodes.{body_seen, file_in, most_size};
 
 use crate::directories::Directory;
-use bfs_types::{Bytes, FileId, FileType, LinkPath, MOST_FILE_BYTES, Memory};
-
-/// The bytes of a file: at most `MOST_FILE_BYTES`.
-pub type FileData = Bytes<MOST_FILE_BYTES>;
+use crate::files::FileData;
+use bfs_types::{FileId, FileType, LinkPath, Memory};
 
 /// What an inode holds.
 #[derive(Debug, Drop)]

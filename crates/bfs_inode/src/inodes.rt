@@ -12,8 +12,9 @@ mod access;
 mod changes;
 mod kept;
 
-use crate::bodies::{Body, FileData};
+use crate::bodies::Body;
 use crate::directories::Directory;
+use crate::files::FileData;
 use bfs_types::{
     Attributes, BLOCK_SIZE, Context, FileId, LinkPath, MOST_PERMISSIONS, Memory, SetTime, Settings,
     Time,

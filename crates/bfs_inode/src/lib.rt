@@ -3,11 +3,13 @@
 
 mod bodies;
 mod directories;
+mod files;
 mod inodes;
 mod names;
 
 pub use bfs_types::{FileId, Time};
-pub use bodies::{Body, FileData};
+pub use bodies::Body;
 pub use directories::{Directory, Entries, Entry, Listed, Page};
+pub use files::{BLOCK_BYTES, FileData};
 pub use inodes::{Inode, Metadata, RecordDigest};
 pub use names::{is_bad_name, is_no_name};
