@@ -1,5 +1,5 @@
 -- The digests of the blocks of a file, one after another.
-use Rattle.std.proofs.Common.{◌≡◌, ℕ, zero, suc, ◌+◌, List, [], ◌∷◌, ◌++◌, length, min, take, refl, sym, ap, ◌∙◌, append_assoc, append-nil, arith}
+use Rattle.std.proofs.Common.{◌≡◌, ℕ, zero, suc, ◌+◌, List, [], ◌∷◌, ◌++◌, length, sym, ap, ◌∙◌, append_assoc, append-nil, arith}
 use Rattle.std.specs.List.{flat_map, range_with_len}
 use Rattle.sha2.specs.Sha256.{sha256}
 use Rattle.bfs_inode.specs.Records.{block_at, block_count, blocks_text}
@@ -26,15 +26,3 @@ one_more bytes n m is =
 pub all_of_them : (bytes : List ℕ) (n : ℕ) → n ≡ block_count (length bytes) → digests_before bytes n ≡ blocks_text bytes
 unfolding blocks_text
 all_of_them bytes n is = ap (digests_before bytes) is
-
--- no more can be taken than there is
-take_nothing : (n : ℕ) → take {A = ℕ} n [] ≡ []
-take_nothing zero = refl
-take_nothing (suc n) = refl
-
-pub take_least : (n : ℕ) (xs : List ℕ) → take (min n (length xs)) xs ≡ take n xs
-take_least n [] = take_nothing (min n 0) ∙ sym (take_nothing n)
-take_least zero (x ∷ xs) = let none : min 0 (suc (length xs)) ≡ 0 = omega arith in ap (λ k. take k (x ∷ xs)) none
-take_least (suc n) (x ∷ xs) =
-    let one : min (suc n) (suc (length xs)) ≡ suc (min n (length xs)) = omega arith in
-    ap (λ k. take k (x ∷ xs)) one ∙ ap (λ r. x ∷ r) (take_least n xs)

@@ -1,25 +1,26 @@
--- The digests of all inodes of a map, made by fileid.
-use Rattle.std.proofs.Common.{◌≡◌, ℕ, List, [], ◌∷◌, ◌++◌, map, Some, refl, ap, ◌∙◌}
-use Rattle.std.specs.List.{All, AllByRecursion, flat_map}
-use Rattle.std.proofs.lemmas.List.Elements.{All-map}
-use Rattle.std.specs.FinMap.{get, entries, keys}
-use Rattle.bfs_model.specs.Bytes.Items.{word}
+-- The digests of inodes of a map, made by fileid.
+use Rattle.std.proofs.Common.{◌≡◌, ℕ, List, ◌∷◌, Option, Some, sym, ap, subst, ◌∙◌}
+use Rattle.std.specs.List.{All, AllByRecursion}
+use Rattle.std.proofs.lemmas.List.Elements.{All-weaker}
+use Rattle.std.specs.FinMap.{get, entries}
 use Rattle.bfs_model.specs.Server.Tree.{Inode, Inodes}
 use Rattle.bfs_tree.proofs.Public.{all_of_each}
-use Rattle.bfs_digest.specs.Digests.{digests_text}
-use Rattle.bfs_digest.specs.Inside.Hashed.{IsHashed, digest_in, hashed_at, hashed_text}
+use Rattle.bfs_inode.specs.declared.inodes.kept.RecordDigest.{RecordDigest}
+use Rattle.bfs_digest.specs.Inside.Hashed.{IsHashed, IsRecordOf, digest_in}
 
-abbrev IsThere : Inodes → ℕ × Inode → Type 0
+abbrev pub IsThere : Inodes → ℕ × Inode → Type 0
 IsThere m inode = get m inode.0 ≡ Some inode.1
 
-each_hashed : (m : Inodes) (inodes : List (ℕ × Inode)) → AllByRecursion (IsThere m) inodes → flat_map hashed_text (map (λ id. hashed_at m id) (map (λ e. e.0) inodes)) ≡ digests_text inodes
-each_hashed m [] there = refl
-each_hashed m (inode ∷ inodes) there =
-    ap (λ o. (word inode.0 ++ digest_in inode.0 o) ++ flat_map hashed_text (map (λ id. hashed_at m id) (map (λ e. e.0) inodes))) there.0
-    ∙ ap (λ rest. (word inode.0 ++ digest_in inode.0 (Some inode.1)) ++ rest) (each_hashed m inodes there.1)
+pub all_there : (m : Inodes) (rest : List (ℕ × Inode)) → rest ≡ entries m → AllByRecursion (IsThere m) rest
+all_there m rest is = subst (AllByRecursion (IsThere m)) (sym is) (all_of_each (IsThere m) m (λ id x there. there))
 
-pub all_hashed : (m : Inodes) → flat_map hashed_text (map (λ id. hashed_at m id) (keys m)) ≡ digests_text (entries m)
-all_hashed m = each_hashed m (entries m) (all_of_each (IsThere m) m (λ id x is. is))
+pub first_there : (m : Inodes) (xs rest : List (ℕ × Inode)) (x : ℕ × Inode) → xs ≡ x ∷ rest → AllByRecursion (IsThere m) xs → IsThere m x × AllByRecursion (IsThere m) rest
+first_there m xs rest x is all = subst (AllByRecursion (IsThere m)) is all
 
-pub are_hashed : (m : Inodes) (ids : List ℕ) → All (IsHashed m) (map (λ id. hashed_at m id) ids)
-are_hashed m ids = All-map (IsHashed m) (λ id. hashed_at m id) ids (λ k id below. refl)
+of_inode : (m : Inodes) (hashed : RecordDigest) (id : ℕ) (inode : Inode) → get m id ≡ Some inode → IsHashed m hashed → IsRecordOf id inode hashed
+of_inode m hashed id inode there is same =
+    ap (λ (it : RecordDigest). it.digest) is ∙ ap (λ k. digest_in k (get m k)) same ∙ ap (λ (o : Option Inode). digest_in id o) there
+
+-- what is made of the inodes of a map, is of the one that is there
+pub all_of_inode : (m : Inodes) (made : List RecordDigest) (id : ℕ) (inode : Inode) → get m id ≡ Some inode → All (IsHashed m) made → All (IsRecordOf id inode) made
+all_of_inode m made id inode there all = All-weaker (IsHashed m) (IsRecordOf id inode) (λ hashed is. of_inode m hashed id inode there is) made all

@@ -1,13 +1,87 @@
 // The blocks of a file, of which a record that is hashed has the digests.
-ghost use Rattle.std.specs.Prelude.{◌≡◌, ◌<◌, ◌++◌, List, ℕ, length};
+ghost use Rattle.std.specs.Prelude.{◌≡◌, ◌++◌, List, ℕ, length};
+ghost use Rattle.std.specs.List.{All};
 ghost use Rattle.sha2.specs.Hashers.{Holds256};
 ghost use Rattle.sha2.specs.Sha256.{sha256};
 ghost use Rattle.bfs_inode.specs.Records.{block_at, block_count, blocks_text};
+ghost use Rattle.bfs_digest.specs.Inside.Hashed.{IsBlockOf};
 
+use bfs_inode::FileId;
 use sha2::{Digest, Sha256};
+use std::marker::Model;
 
 // of a block, but for a last one that is shorter
 const BLOCK_BYTES: usize = 4_096;
+
+/// A block of the file of that fileid, by its number from 0 on.
+#[derive(Clone, Copy, PartialEq, Eq)]
+pub(crate) struct Block {
+    pub(crate) id: FileId,
+    pub(crate) number: usize,
+}
+
+/// The SHA-256 (FIPS 180-4) of a block.
+#[derive(Clone, Copy)]
+pub(crate) struct BlockDigest {
+    pub(crate) block: Block,
+    pub(crate) digest: [u8; 32],
+}
+
+/// A file, with digests that were made before, of blocks of it and of other files. Those of its own come first, by rising number.
+#[derive(Drop)]
+pub(crate) struct File<'a> {
+    id: FileId,
+    bytes: &'a [u8],
+    made: &'a [BlockDigest],
+}
+
+impl<'a> Model for File<'a> {
+    ghost use Rattle.std.specs.Prelude.{List, ℕ};
+    ghost use Rattle.std.specs.List.{All};
+    ghost use Rattle.bfs_digest.specs.Inside.Hashed.{IsBlockOf};
+
+    ghost Value = { List ℕ };
+
+    ghost view = { λ file. file.bytes.now };
+
+    ghost invariant = { λ file. All (IsBlockOf file.id file.bytes.now) file.made.now };
+}
+
+impl<'a> File<'a> {
+    pub(crate) fn new(id: FileId, bytes: &'a [u8], made: &'a [BlockDigest]) -> File<'a>
+        requires { All (IsBlockOf id bytes.now) made.now }
+        ensures { result ≡ bytes.now }
+    {
+        File { id, bytes, made }
+    }
+
+    /// Feeds the digests of its blocks to a hasher, in order.
+    pub(crate) fn hash_blocks(&self, hasher: &mut Sha256)
+        ensures { (m : List ℕ) → Holds256 hasher.old m → Holds256 hasher.new (m ++ blocks_text self.now) }
+    {
+        let mut place = 0;
+        for number in 0..block_count(self.bytes) {
+            hasher.update(self.digest_at(number, &mut place));
+        }
+    }
+
+    // of a block, where those that were made of blocks before it are passed
+    fn digest_at(&self, number: usize, place: &mut usize) -> [u8; 32]
+        ensures { result ≡ sha256 (block_at self.now number) }
+    {
+        let block = Block {
+            id: self.id,
+            number,
+        };
+        match self.made.get(*place) {
+            Some(made) if made.block == block => {
+                *place += 1;
+                made.digest
+            }
+            _ => hash_block(self.bytes, number),
+        }
+    }
+}
 
 /// How many blocks a file has.
 pub(crate) fn block_count(bytes: &[u8]) -> usize
@@ -16,29 +90,18 @@ pub(crate) fn block_count(bytes: &[u8]) -> usize
     bytes.len().div_ceil(BLOCK_BYTES)
 }
 
-/// A block of a file, by its number from 0 on.
-#[tactic(auto, using(crate::proofs::BlockDigests::take_least), unfolding(bfs_inode::specs::Records::block_at))]
-pub(crate) fn block_at(bytes: &[u8], number: usize) -> &[u8]
-    requires { number < block_count (length bytes.now) }
+/// The digest of a block of a file, by its number from 0 on; behind the last one, that of no bytes.
+pub(crate) fn hash_block(bytes: &[u8], number: usize) -> [u8; 32]
+    ensures { result ≡ sha256 (block_at bytes.now number) }
+{
+    Sha256::digest(block_at(bytes, number))
+}
+
+#[tactic(auto, using(std::proofs::lemmas::List::take_min, std::proofs::lemmas::List::drop_min), unfolding(bfs_inode::specs::Records::block_at))]
+fn block_at(bytes: &[u8], number: usize) -> &[u8]
     ensures { result.now ≡ block_at bytes.now number }
 {
-    let (_, behind) = bytes.split_at(BLOCK_BYTES * number);
+    let (_, behind) = bytes.split_at(BLOCK_BYTES.saturating_mul(number).min(bytes.len()));
     let (block, _) = behind.split_at(BLOCK_BYTES.min(behind.len()));
     block
-}
-
-/// The digests of a file's blocks, in order.
-pub(crate) fn hash_blocks(hasher: &mut Sha256, bytes: &[u8])
-    ensures { (m : List ℕ) → Holds256 hasher.old m → Holds256 hasher.new (m ++ blocks_text bytes.now) }
-{
-    for number in 0..block_count(bytes) {
-        hash_block(hasher, bytes, number);
-    }
-}
-
-fn hash_block(hasher: &mut Sha256, bytes: &[u8], number: usize)
-    requires { number < block_count (length bytes.now) }
-    ensures { (m : List ℕ) → Holds256 hasher.old m → Holds256 hasher.new (m ++ sha256 (block_at bytes.now number)) }
-{
-    hasher.update(Sha256::digest(block_at(bytes, number)));
 }

@@ -6,6 +6,7 @@ mod digests;
 mod errors;
 mod formation;
 mod hashes;
+mod hashing;
 mod headers;
 mod inodes;
 mod laws;

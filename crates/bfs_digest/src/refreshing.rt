@@ -4,16 +4,16 @@ ghost use Rattle.std.specs.List.{All};
 ghost use Rattle.bfs_tree.specs.Tree.{at_home, reach_of};
 ghost use Rattle.bfs_digest.specs.Inside.Hashed.{IsHashed};
 
-use crate::digests::digests_at;
-use bfs_inode::{FileId, RecordDigest};
+use crate::hashing::hash_missing;
+use bfs_inode::RecordDigest;
 use bfs_serial::{ExecError, FileSystem};
 use bfs_tree::{Store, Tree};
 use bfs_types::Memory;
 use std::alloc::Global;
 use std::thread::Threads;
 
-/// Hashes the record of each inode that doesn't keep its digest (`Inode::kept_digest`), by as many threads as there are processors, and
-/// has the inode keep it. So a digest of the file system that is made next hashes none of them again, and one that is made after
+/// Hashes the record of each inode that doesn't keep its digest (`Inode::kept_digest`), and the blocks of the files among them, by as
+/// many threads as there are processors, and has the inode keep it. So a digest of the file system that is made next hashes none of them again, and one that is made after
 /// batches hashes what they changed. The file system stays as it was, with memory or without. That each inode keeps its digest then
 /// is tested, and in no contract: contracts see nothing of what is kept. `Failed` if the file system has failed, `Memory` if memory
 /// runs out; then no more digests are kept than before.
@@ -41,22 +41,9 @@ fn refresh_tree(rt: &(impl Threads + Sync), alloc: Global, tree: &mut Tree) -> R
     ensures inodes { at_home tree.new ≡ at_home tree.old }
     ensures reach { reach_of tree.new ≡ reach_of tree.old }
 {
-    let ids = ids_without_digest(alloc, tree)?;
-    let digests = digests_at(rt, alloc, tree, &ids)?;
-    keep_each(tree, &digests);
+    let hashed = hash_missing(rt, alloc, tree)?;
+    keep_each(tree, &hashed.records);
     Ok(())
-}
-
-// Of the inodes that don't keep their digest. No contract speaks of it: one left out or too many costs hashing, and changes no digest.
-fn ids_without_digest(alloc: Global, tree: &Tree) -> Result<Vec<FileId>, Memory> {
-    let mut ids = Vec::new(alloc);
-    for (number, inode) in tree.iter() {
-        let id = FileId::new(*number);
-        if inode.kept_digest(id).is_none() {
-            ids.push(id)?;
-        }
-    }
-    Ok(ids)
 }
 
 fn keep_each<S: Store>(store: &mut S, digests: &[RecordDigest])

@@ -1,5 +1,5 @@
--- What was hashed is the header and the digests of all inodes.
-use Rattle.std.proofs.Common.{[], Some, sym, ap, ◌∙◌}
+-- The digest is that of the header and the inodes.
+use Rattle.std.proofs.Common.{Some, sym, ap, ◌∙◌}
 use Rattle.std.specs.Option.{ok_or}
 use Rattle.bfs_tree.specs.Tree.{at_home}
 use Rattle.bfs_serial.specs.declared.executor.ExecError.TheVariants as error
@@ -7,6 +7,4 @@ use Rattle.bfs_digest.proofs.Parts.{digest_is}
 use Rattle.bfs_digest.proofs.digests.digest_serial.Goals as goal
 
 pub returns : goal.returns
-returns c =
-    let hashed = c.finalize.ensures _ (c.hash_digests.ensures _ (c.hash_header.ensures [] c.new-hasher.ensures)) in
-    sym (ap (λ o. ok_or o error.Failed) (digest_is c.args.files.now c.in-Some.header (at_home c.in-Some.tree.now) c.in-Some.ensures.header c.in-Some.ensures.tree ∙ ap Some (sym hashed)))
+returns c = sym (ap (λ o. ok_or o error.Failed) (digest_is c.args.files.now c.in-Some.header (at_home c.in-Some.tree.now) c.in-Some.ensures.header c.in-Some.ensures.tree ∙ ap Some (sym c.digest_with.ensures)))
