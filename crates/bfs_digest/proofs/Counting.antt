@@ -1,9 +1,8 @@
 -- How often the entries of all directories name an inode, counted entry by entry.
-use Rattle.std.proofs.Common.{◌≡◌, ℕ, ◌+◌, ◌≤◌, Bool, true, false, cond, eqb, List, [], ◌∷◌, Some, min, sum_by, refl, ap, ◌∙◌, arith, eqb-true}
+use Rattle.std.proofs.Common.{◌≡◌, ℕ, ◌+◌, ◌≤◌, Bool, true, false, cond, eqb, List, Some, min, sum_by, refl, ap, ◌∙◌, arith, eqb-true}
 use Rattle.std.specs.Option.{unwrap_or}
 use Rattle.std.specs.Ordering.{nat_cmp}
 use Rattle.std.specs.FinMap.{get, insert, empty, get-empty}
-use Rattle.std.proofs.lemmas.List.Sums.{sum_by-cons}
 use Rattle.bfs_model.specs.Server.Tree.{Entry, Inode}
 use Rattle.bfs_model.specs.Server.WellFormed.{times}
 use Rattle.bfs_model.proofs.Public.{get-set_at}
@@ -23,34 +22,13 @@ counted_one m n k v is inserted within id = go (eqb k id) refl (ap (λ o. unwrap
     go true same e = e ∙ is ∙ ap (λ q. min (counted_at m q + 1) most_counted) (eqb-true k id same)
     go false apart e = let le : counted_at m id ≤ most_counted = within id in omega (arith, e)
 
--- what is added keeps within what is counted
-pub still_within : (m n : Counted) (more : ℕ → ℕ) → Adds m more n → AreWithin n
-still_within m n more adds id = omega (arith, adds id)
+-- What is still to be counted --------------------------------------------------------------------------------------------
 
--- Entry by entry -------------------------------------------------------------------------------------------------------
-
+-- entry by entry
 abbrev pub EntriesCounted : (first now : Counted) → (rest all : List Entry) → Type 0
 EntriesCounted first now rest all = AreWithin now × ((id : ℕ) → min (counted_at now id + times id rest) most_counted ≡ min (counted_at first id + times id all) most_counted)
 
-pub entries_begin : (first : Counted) (rest all : List Entry) → rest ≡ all → AreWithin first → EntriesCounted first first rest all
-entries_begin first rest all is within = (within, λ id. ap (λ es. min (counted_at first id + times id es) most_counted) is)
-
-pub entries_more : (first now next : Counted) (xs rest all : List Entry) (x : Entry) → xs ≡ x ∷ rest → Adds now (λ id. cond (eqb x.child id) 1 0) next → EntriesCounted first now xs all → EntriesCounted first next rest all
-entries_more first now next xs rest all x is adds so_far = (
-  still_within now next _ adds,
-  λ id.
-      let step : times id xs ≡ cond (eqb x.child id) 1 0 + times id rest = ap (times id) is in
-      omega (arith, adds id, so_far.1 id),
-)
-
-pub entries_end : (first now : Counted) (rest all : List Entry) → rest ≡ [] → EntriesCounted first now rest all → Adds first (λ id. times id all) now
-entries_end first now rest all is so_far id =
-    let none : times id rest ≡ 0 = ap (times id) is in
-    let le : counted_at now id ≤ most_counted = so_far.0 id in
-    omega (arith, so_far.1 id)
-
--- Inode by inode -------------------------------------------------------------------------------------------------------
-
+-- inode by inode
 abbrev pub InodesCounted : (now : Counted) → (rest all : List (ℕ × Inode)) → Type 0
 InodesCounted now rest all = AreWithin now × ((id : ℕ) → min (counted_at now id + sum_by (names_at id) rest) most_counted ≡ min (sum_by (names_at id) all) most_counted)
 
@@ -62,17 +40,3 @@ inodes_begin now rest all none is = (
       let same : sum_by (names_at id) rest ≡ sum_by (names_at id) all = ap (sum_by (names_at id)) is in
       omega arith,
 )
-
-pub inodes_more : (now next : Counted) (xs rest all : List (ℕ × Inode)) (x : ℕ × Inode) → xs ≡ x ∷ rest → Adds now (λ id. names_at id x) next → InodesCounted now xs all → InodesCounted next rest all
-inodes_more now next xs rest all x is adds so_far = (
-  still_within now next _ adds,
-  λ id.
-      let step : sum_by (names_at id) xs ≡ names_at id x + sum_by (names_at id) rest = ap (sum_by (names_at id)) is ∙ sum_by-cons (names_at id) x rest in
-      omega (arith, adds id, so_far.1 id),
-)
-
-pub inodes_end : (now : Counted) (rest all : List (ℕ × Inode)) → rest ≡ [] → InodesCounted now rest all → (id : ℕ) → counted_at now id ≡ min (sum_by (names_at id) all) most_counted
-inodes_end now rest all is so_far id =
-    let none : sum_by (names_at id) rest ≡ 0 = ap (sum_by (names_at id)) is in
-    let le : counted_at now id ≤ most_counted = so_far.0 id in
-    omega (arith, so_far.1 id)
