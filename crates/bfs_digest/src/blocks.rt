@@ -1,17 +1,17 @@
 // The blocks of a file, of which a record that is hashed has the digests.
-ghost use Rattle.std.specs.Prelude.{◌≡◌, ◌++◌, List, ℕ, length};
+ghost use Rattle.std.specs.Prelude.{◌≡◌, ◌++◌, List, ℕ, IfOk, length};
 ghost use Rattle.std.specs.List.{All};
 ghost use Rattle.sha2.specs.Hashers.{Holds256};
 ghost use Rattle.sha2.specs.Sha256.{sha256};
+ghost use Rattle.bfs_inode.specs.Files.{AreBlockDigests};
 ghost use Rattle.bfs_inode.specs.Records.{block_at, block_count, blocks_text};
 ghost use Rattle.bfs_digest.specs.Inside.Hashed.{IsBlockOf};
 
-use bfs_inode::FileId;
+use bfs_inode::{BLOCK_BYTES, FileData, FileId};
+use bfs_types::Memory;
 use sha2::{Digest, Sha256};
+use std::alloc::Global;
 use std::marker::Model;
-
-// of a block, but for a last one that is shorter
-const BLOCK_BYTES: usize = 4_096;
 
 /// A block of the file of that fileid, by its number from 0 on.
 #[derive(Clone, Copy, PartialEq, Eq)]
@@ -31,7 +31,7 @@ pub(crate) struct BlockDigest {
 #[derive(Drop)]
 pub(crate) struct File<'a> {
     id: FileId,
-    bytes: &'a [u8],
+    bytes: &'a FileData,
     made: &'a [BlockDigest],
 }
 
@@ -48,7 +48,7 @@ impl<'a> Model for File<'a> {
 }
 
 impl<'a> File<'a> {
-    pub(crate) fn new(id: FileId, bytes: &'a [u8], made: &'a [BlockDigest]) -> File<'a>
+    pub(crate) fn new(id: FileId, bytes: &'a FileData, made: &'a [BlockDigest]) -> File<'a>
         requires { All (IsBlockOf id bytes.now) made.now }
         ensures { result ≡ bytes.now }
     {
@@ -60,9 +60,23 @@ impl<'a> File<'a> {
         ensures { (m : List ℕ) → Holds256 hasher.old m → Holds256 hasher.new (m ++ blocks_text self.now) }
     {
         let mut place = 0;
-        for number in 0..block_count(self.bytes) {
+        for number in 0..block_count(self.bytes.as_slice()) {
             hasher.update(self.digest_at(number, &mut place));
         }
+    }
+
+    /// Those that the inode may be given to keep: the digests of its blocks, in order. `Memory` if memory runs out.
+    #[tactic(auto, using(crate::proofs::BlockDigests::digest_pushed))]
+    pub(crate) fn digests(&self, alloc: Global) -> Result<Vec<[u8; 32]>, Memory>
+        ensures { IfOk result (λ digests. AreBlockDigests digests.items self.now) }
+    {
+        let count = block_count(self.bytes.as_slice());
+        let mut digests = Vec::with_capacity(alloc, count)?;
+        let mut place = 0;
+        for number in 0..count {
+            digests.push(self.digest_at(number, &mut place))?;
+        }
+        Ok(digests)
     }
 
     // of a block, where those that were made of blocks before it are passed
@@ -78,7 +92,16 @@ impl<'a> File<'a> {
                 *place += 1;
                 made.digest
             }
-            _ => hash_block(self.bytes, number),
+            _ => self.kept_or_hashed(number),
+        }
+    }
+
+    fn kept_or_hashed(&self, number: usize) -> [u8; 32]
+        ensures { result ≡ sha256 (block_at self.now number) }
+    {
+        match self.bytes.kept_block(number) {
+            Some(digest) => digest,
+            None => hash_block(self.bytes.as_slice(), number),
         }
     }
 }
@@ -97,7 +120,6 @@ pub(crate) fn hash_block(bytes: &[u8], number: usize) -> [u8; 32]
     Sha256::digest(block_at(bytes, number))
 }
 
-#[tactic(auto, using(std::proofs::lemmas::List::take_min, std::proofs::lemmas::List::drop_min), unfolding(bfs_inode::specs::Records::block_at))]
 fn block_at(bytes: &[u8], number: usize) -> &[u8]
     ensures { result.now ≡ block_at bytes.now number }
 {

@@ -1,17 +1,16 @@
 // The record of an inode that is hashed, fed to a hasher piece by piece: no byte of a file is copied.
-ghost use Rattle.std.specs.Prelude.{◌≡◌, ◌≤◌, ◌++◌, List, ℕ, length};
+ghost use Rattle.std.specs.Prelude.{◌≡◌, ◌++◌, List, ℕ, length};
 ghost use Rattle.std.specs.List.{All};
 ghost use Rattle.sha2.specs.Hashers.{Holds256};
 ghost use Rattle.bfs_model.specs.Bytes.Items.{word};
 ghost use Rattle.bfs_inode.specs.Inodes.{body_seen};
 ghost use Rattle.bfs_inode.specs.Records.{blocks_text, hashed_body, listing_text, record_digest};
-ghost use Rattle.bfs_model.specs.Server.Limits.{most_file_bytes};
 ghost use Rattle.bfs_digest.specs.Inside.Hashed.{IsBlockOf, bytes_in};
 
 use crate::blocks::{BlockDigest, File};
 use crate::listings::put_listing;
 use crate::words::head_words;
-use bfs_inode::{Body, Directory, FileId, Inode};
+use bfs_inode::{Body, Directory, FileData, FileId, Inode};
 use bfs_xdr::{hash_opaque, hash_u32, hash_words};
 use sha2::{Digest, Sha256};
 
@@ -43,15 +42,14 @@ fn hash_body(hasher: &mut Sha256, id: FileId, body: &Body, made: &[BlockDigest])
     ensures { (m : List ℕ) → Holds256 hasher.old m → Holds256 hasher.new (m ++ hashed_body (body_seen body.now)) }
 {
     match body {
-        Body::File(data) => hash_file(hasher, id, data.as_slice(), made),
+        Body::File(data) => hash_file(hasher, id, data, made),
         Body::Directory(directory) => hash_directory(hasher, directory),
         Body::Link(path) => hash_opaque(hasher, path.as_slice()),
     }
 }
 
-fn hash_file(hasher: &mut Sha256, id: FileId, bytes: &[u8], made: &[BlockDigest])
-    requires few { length bytes.now ≤ most_file_bytes }
-    requires made { All (IsBlockOf id bytes.now) made.now }
+fn hash_file(hasher: &mut Sha256, id: FileId, bytes: &FileData, made: &[BlockDigest])
+    requires { All (IsBlockOf id bytes.now) made.now }
     ensures { (m : List ℕ) → Holds256 hasher.old m → Holds256 hasher.new (m ++ (word (length bytes.now) ++ blocks_text bytes.now)) }
 {
     hash_u32(hasher, bytes.len() as u32);

@@ -9,7 +9,7 @@ ghost use Rattle.bfs_digest.specs.Inside.Hashed.{IsBlockHashed, IsHashed, bytes_
 
 use crate::blocks::{Block, BlockDigest, block_count, hash_block};
 use crate::hashes::record_digest;
-use bfs_inode::{FileId, RecordDigest};
+use bfs_inode::{Body, FileData, FileId, RecordDigest};
 use bfs_tree::Tree;
 use bfs_types::Memory;
 use rayon::prelude::*;
@@ -52,8 +52,8 @@ impl<'a> Model for Files<'a> {
     ghost invariant = { λ files. All (IsBlockHashed (at_home files.tree.now)) files.blocks.now };
 }
 
-/// Hashes the records of the inodes at home that don't keep their digest, and of the files among them the blocks, by as many threads as
-/// there are processors. For each block it takes 64 bytes. `Memory` if memory runs out.
+/// Hashes the records of the inodes at home that don't keep their digest, and of the files among them the blocks whose digest they don't keep, by
+/// as many threads as there are processors. For each such block it takes 64 bytes. `Memory` if memory runs out.
 pub(crate) fn hash_missing(
     rt: &(impl Threads + Sync),
     alloc: Global,
@@ -63,7 +63,7 @@ pub(crate) fn hash_missing(
     ensures records { IfOk result (λ hashed. All (IsHashed (at_home tree.now)) hashed.records.items) }
 {
     let ids = ids_without_digest(alloc, tree)?;
-    let missing = blocks_of(alloc, tree, &ids)?;
+    let missing = blocks_without_digest(alloc, tree, &ids)?;
     let blocks = hash_blocks(rt, alloc, tree, &missing)?;
     let files = Files {
         tree,
@@ -85,18 +85,26 @@ fn ids_without_digest(alloc: Global, tree: &Tree) -> Result<Vec<FileId>, Memory>
     Ok(ids)
 }
 
-// Of the files of those fileids. No contract speaks of it either.
-fn blocks_of(alloc: Global, tree: &Tree, ids: &[FileId]) -> Result<Vec<Block>, Memory> {
+// Of the files of those fileids, those whose digest no file keeps. No contract speaks of it either.
+fn blocks_without_digest(alloc: Global, tree: &Tree, ids: &[FileId]) -> Result<Vec<Block>, Memory> {
     let mut blocks = Vec::new(alloc);
     for id in ids {
-        put_blocks(&mut blocks, *id, bytes_of(tree, *id))?;
+        if let Some(Body::File(data)) = body_at(tree, *id) {
+            put_blocks(&mut blocks, *id, data)?;
+        }
     }
     Ok(blocks)
 }
 
-fn put_blocks(out: &mut Vec<Block>, id: FileId, bytes: &[u8]) -> Result<(), Memory> {
-    for number in 0..block_count(bytes) {
-        out.push(Block { id, number })?;
+fn body_at(tree: &Tree, id: FileId) -> Option<&Body> {
+    Some(tree.home(id)?.body())
+}
+
+fn put_blocks(out: &mut Vec<Block>, id: FileId, data: &FileData) -> Result<(), Memory> {
+    for number in 0..block_count(data.as_slice()) {
+        if data.kept_block(number).is_none() {
+            out.push(Block { id, number })?;
+        }
     }
     Ok(())
 }

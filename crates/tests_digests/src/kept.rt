@@ -1,6 +1,7 @@
 //! Digests that inodes keep: which there are, that a change of an inode drops its own alone, and what the digest of the file system is then.
 use bfs_digest::{digest_parallel, digest_serial, refresh, restore, snapshot};
 use bfs_executor::{Engine, Executor};
+use bfs_inode::Body;
 use bfs_serial::{Batch, ExecError, FileSystem, execute_serial};
 use bfs_testing::asserts::compared;
 use bfs_testing::holds;
@@ -10,7 +11,8 @@ use bfs_testing::numbers::{
 };
 use bfs_testing::steps::Step;
 use bfs_testing::words::{
-    A, B, C, D, E, EIGHTH, F, FIFTH, FOURTH, G, L, ROOT, SEVENTH, SIXTH, THIRD, UNSET,
+    A, B, C, D, E, EIGHTH, F, FIFTH, FOURTH, G, L, ROOT, SEVENTH, SIXTH, THIRD, UNSET, call,
+    put_parts,
 };
 use bfs_testing_batches::gates::AsksForThreads;
 use bfs_types::{FileId, Time};
@@ -164,6 +166,93 @@ fn drops_the_digest_of_what_changes(rt: HostRuntime) -> Result<(), Fail> {
     let alloc = rt.alloc();
     for (step, changed) in CHANGES {
         drops(&rt, alloc, step, *changed)?;
+    }
+    Ok(())
+}
+
+// of a file of up to 25 blocks
+enum Change {
+    // 8,192 bytes at an offset, all spelled by one word
+    Write(u32, u32),
+    Size(u32),
+}
+
+fn request_of(alloc: Global, change: &Change) -> Result<Vec<u8>, Fail> {
+    let same = u32::MAX;
+    match change {
+        Change::Write(offset, word) => request(
+            alloc,
+            WRITE,
+            &[THIRD, &[0, *offset, 0, 8_192], &[*word; 2_048]],
+        ),
+        Change::Size(size) => request(
+            alloc,
+            SETATTR,
+            &[THIRD, &[same, same, same, *size, same, same, same, same]],
+        ),
+    }
+}
+
+fn request(alloc: Global, procedure: u32, arguments: &[&[u32]]) -> Result<Vec<u8>, Fail> {
+    let mut bytes = call(alloc, 1, procedure)?;
+    put_parts(&mut bytes, arguments)?;
+    Ok(bytes)
+}
+
+// of how many blocks the file keeps the digests behind each, and behind the next refresh
+const CHANGES_OF_A_LARGE_FILE: &[(Change, u32, u32)] = &[
+    (Change::Size(81_920), 0, 20),
+    (Change::Write(0, 0x61626364), 18, 20),
+    (Change::Write(73_728, 0x65666768), 18, 20),
+    // within three blocks
+    (Change::Write(6_000, 0x696a6b6c), 17, 20),
+    // over the end, up to a short last block
+    (Change::Write(77_000, 0x6d6e6f70), 18, 21),
+    // a block is cut, and then grows by zeros
+    (Change::Size(79_000), 19, 20),
+    (Change::Size(81_000), 19, 20),
+    // behind the end, with zeros between
+    (Change::Write(90_000, 0x71727374), 19, 24),
+    // the fewest blocks of which any are kept, and fewer
+    (Change::Size(65_536), 16, 16),
+    (Change::Size(65_535), 15, 16),
+    (Change::Size(40_000), 9, 0),
+    (Change::Write(39_000, 0x75767778), 0, 0),
+    (Change::Size(0), 0, 0),
+    (Change::Size(100_000), 0, 25),
+    (Change::Write(50_000, 0x797a3031), 22, 25),
+];
+
+fn kept_blocks(files: &FileSystem) -> Option<u32> {
+    let Body::File(data) = files.tree()?.home(FileId::new(3))?.body() else {
+        return None;
+    };
+    let mut count: u32 = 0;
+    for number in 0..25 {
+        if data.kept_block(number).is_some() {
+            count = count.wrapping_add(1);
+        }
+    }
+    Some(count)
+}
+
+#[test]
+fn keeps_the_digests_of_the_blocks_that_stay(rt: HostRuntime) -> Result<(), Fail> {
+    let alloc = rt.alloc();
+    let mut files = FileSystem::new(alloc)?;
+    let create = Step(CREATE, &[ROOT, A, UNSET], &[]);
+    execute_serial(alloc, &mut files, &batch_of(alloc, 1, &[create])?)?;
+    refresh(&rt, alloc, &mut files)?;
+    for (change, stay, kept) in CHANGES_OF_A_LARGE_FILE {
+        let mut batch = Batch::new(alloc);
+        batch.set_time(Time::new(2, 0).ok_or("a time")?);
+        batch.push(request_of(alloc, change)?.as_slice())?;
+        execute_serial(alloc, &mut files, &batch)?;
+        compared(kept_blocks(&files), Some(*stay))?;
+        is_kept_but(&rt, alloc, &files, &[3])?;
+        refresh(&rt, alloc, &mut files)?;
+        compared(kept_blocks(&files), Some(*kept))?;
+        is_kept_but(&rt, alloc, &files, &[])?;
     }
     Ok(())
 }
