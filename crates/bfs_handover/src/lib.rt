@@ -15,6 +15,6 @@ pub use laws::{
     complete_results_are_taken, results_are_out, results_come_home, split_requests_are_carried_out,
 };
 pub use loans::{Loan, Loans};
-pub use parts::{split, split_one, split_part, split_request};
+pub use parts::{split, split_part, split_request};
 pub use results::{MergeError, NumberedReply, merge, merge_one};
 pub use share::Share;

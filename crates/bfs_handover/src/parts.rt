@@ -47,34 +47,6 @@ pub fn split<'a>(
     split_part(alloc, tree, &part, footprints, numbers)
 }
 
-/// Takes out of the tree what the request of that number writes, and makes a job of it: what `split` does for this number alone, with
-/// less memory.
-pub fn split_one<'a>(
-    alloc: Global,
-    tree: &mut Tree,
-    batch: &'a Batch,
-    ordinal: Ordinal,
-    time: Time,
-    first: usize,
-    footprints: &[Footprint],
-    number: u32,
-) -> Result<Job<'a>, Memory>
-    requires whole { IsTrue ((reach_of tree.old).whole) }
-    requires footprint { IsFoundOn (at_home tree.old) (part_of first ordinal time batch.now.requests (map footprint_seen footprints.now)) number }
-    requires number { CanBeSplit (at_home tree.old) (part_of first ordinal time batch.now.requests (map footprint_seen footprints.now)) number }
-    ensures split { IfOk result (λ job. IsSplit tree.old tree.new (part_of first ordinal time batch.now.requests (map footprint_seen footprints.now)) (number ∷ []) (job ∷ [])) }
-    ensures whole { OnErr result (IsTrue ((reach_of tree.new).whole)) }
-    ensures home { OnErr result (at_home tree.new ≡ at_home tree.old) }
-{
-    let part = Part {
-        batch,
-        first,
-        ordinal,
-        time,
-    };
-    split_request(alloc, tree, &part, footprints, number)
-}
-
 /// Takes out of the tree what the requests of these numbers write, and makes a job of each. The footprints are of the part's requests;
 /// those of these numbers are as the inodes of the tree are, and none of them conflicts with another. `Memory` if memory runs out; the
 /// tree is then whole, and its inodes are those before.

@@ -59,32 +59,6 @@ pub fn plan_group(
     part.group_before(alloc, tree, batch.len())
 }
 
-/// The longest group of those of the batch's requests that stand before the place `end`: what `plan_group` gives of a batch that ends there. The
-/// tree is whole.
-pub fn plan_group_before(
-    alloc: Global,
-    tree: &Tree,
-    ordinal: Ordinal,
-    time: Time,
-    batch: &Batch,
-    first: usize,
-    end: usize,
-) -> Result<Group, Memory>
-    requires whole { IsTrue ((reach_of tree.now).whole) }
-    ensures first { IfOk result (λ group. group.first ≡ first) }
-    ensures longest { IfOk result (λ group. let requests = drop first (take end batch.now.requests) in map footprint_seen group.footprints.items ≡ footprints_at (at_home tree.now) ordinal time (take (group_length (at_home tree.now) ordinal time requests) requests)) }
-    ensures count { IfOk result (λ group. length group.footprints.items ≡ group_length (at_home tree.now) ordinal time (drop first (take end batch.now.requests))) }
-    ensures levels { IfOk result (λ group. group.level_of.items ≡ levels_of (map footprint_seen group.footprints.items)) }
-{
-    let part = Part {
-        batch,
-        first,
-        ordinal,
-        time,
-    };
-    part.group_before(alloc, tree, end)
-}
-
 impl Part<'_> {
     /// The longest group of its requests before the place `end` that begins with the first. The tree is whole.
     ///

@@ -8,7 +8,7 @@ mod part;
 mod plans;
 mod run;
 
-pub use group::{Group, plan_group, plan_group_before};
+pub use group::{Group, plan_group};
 pub use laws::{groups_are_cut, groups_are_longest, levels_rise, runs_are_longest};
 pub use part::Part;
-pub use run::{Run, runs, runs_before};
+pub use run::{Run, runs};

@@ -55,31 +55,6 @@ pub fn runs(
     part.run_before(alloc, tree, batch.len())
 }
 
-/// The longest run of those of the batch's requests that stand before the place `end`: what `runs` gives of a batch that ends there. The
-/// tree is whole.
-pub fn runs_before(
-    alloc: Global,
-    tree: &Tree,
-    ordinal: Ordinal,
-    time: Time,
-    batch: &Batch,
-    first: usize,
-    end: usize,
-) -> Result<Run, Memory>
-    requires whole { IsTrue ((reach_of tree.now).whole) }
-    ensures first { IfOk result (λ run. run.first ≡ first) }
-    ensures longest { IfOk result (λ run. let requests = drop first (take end batch.now.requests) in map footprint_seen run.footprints.items ≡ footprints_at (at_home tree.now) ordinal time (take (run_length (at_home tree.now) ordinal time requests) requests)) }
-    ensures count { IfOk result (λ run. length run.footprints.items ≡ run_length (at_home tree.now) ordinal time (drop first (take end batch.now.requests))) }
-{
-    let part = Part {
-        batch,
-        first,
-        ordinal,
-        time,
-    };
-    part.run_before(alloc, tree, end)
-}
-
 impl Part<'_> {
     /// The longest run of its requests before the place `end` that begins with the first. The tree is whole.
     pub fn run_before(&self, alloc: Global, tree: &Tree, end: usize) -> Result<Run, Memory>

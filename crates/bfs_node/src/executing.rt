@@ -13,7 +13,7 @@ ghost use Rattle.bfs_node.specs.declared.error.NodeError.TheVariants as error;
 use crate::error::NodeError;
 use crate::node::Node;
 use bfs_messages::{Message, OrderedBatch, Signed};
-use bfs_outcome::{Executed, Executor, Gate, answers_go_to_clients, execute_ordered};
+use bfs_outcome::{Executed, Executor, Gate, Means, answers_go_to_clients, execute_ordered};
 use bfs_pending::BatchNames;
 use bfs_replies::Answer;
 use bfs_serial::ExecError;
@@ -88,16 +88,13 @@ impl Node {
         ensures others { with_files self.new None ≡ with_files self.old None }
     {
         let names = BatchNames::of(self.alloc, batch)?;
-        let executed = execute_ordered(
+        let means = Means {
             rt,
-            self.alloc,
-            &mut self.files,
-            &self.table,
-            batch,
+            alloc: self.alloc,
             executor,
             gate,
-        );
-        match executed {
+        };
+        match execute_ordered(&means, &mut self.files, &self.table, batch) {
             Ok(
                 Executed {
                     to_record,

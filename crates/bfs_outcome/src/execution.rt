@@ -38,11 +38,15 @@ impl Executed {
 
 /// By what requests are executed.
 #[derive(Drop)]
-struct Means<'a, R, G> {
-    rt: &'a R,
-    alloc: Global,
-    executor: Executor,
-    gate: &'a G,
+pub struct Means<'a, R, G> {
+    /// What starts threads.
+    pub rt: &'a R,
+    /// The memory.
+    pub alloc: Global,
+    /// The workers and the engine.
+    pub executor: Executor,
+    /// By which requests are run.
+    pub gate: &'a G,
 }
 
 /// Executes an ordered batch through the table. Its new requests are executed together, as one batch of the file system; a repeated
@@ -51,13 +55,10 @@ struct Means<'a, R, G> {
 /// stays so; `Memory` if memory runs out, and then the file system has failed.
 #[tactic(auto, using(crate::proofs::Clients::told_to_clients), unfolding(crate::specs::Outcome::outcome))]
 pub fn execute_ordered<R: Threads + Wait + Sync, G: Gate + Sync>(
-    rt: &R,
-    alloc: Global,
+    means: &Means<'_, R, G>,
     files: &mut FileSystem,
     table: &ReplyTable,
     batch: &OrderedBatch,
-    executor: Executor,
-    gate: &G,
 ) -> Result<Executed, ExecError>
     ensures done { IfOk result (λ executed. ComesTo files.old table.now batch.now files.new executed.to_record.items executed.to_answer.items) }
     ensures clients { IfOk result (λ executed. All (λ answer. answer.client < length table.now) executed.to_answer.items) }
@@ -69,15 +70,9 @@ pub fn execute_ordered<R: Threads + Wait + Sync, G: Gate + Sync>(
         return Err(ExecError::Failed);
     }
     let Some(time) = batch.time() else {
-        return Ok(Executed::new(alloc));
+        return Ok(Executed::new(means.alloc));
     };
-    let means = Means {
-        rt,
-        alloc,
-        executor,
-        gate,
-    };
-    match execute_requests(&means, files, table, batch, time) {
+    match execute_requests(means, files, table, batch, time) {
         Ok(executed) => Ok(executed),
         Err(Memory) => {
             files.take_parts();

@@ -19,24 +19,31 @@ use std::alloc::Global;
 use std::sync::Wait;
 use std::thread::Threads;
 
+/// A group, and the numbers of its requests, level after level.
+#[derive(Drop)]
+pub(crate) struct LevelledGroup<'a> {
+    pub(crate) group: &'a Group,
+    pub(crate) levels: Vec<Vec<u32>>,
+}
+
 /// Executes a group of the part's first requests, level after level, and puts their replies behind the others, where there is one of each
 /// request before the part. It is known of each what it touches. `Memory` if memory runs out; the tree may then not be whole.
 pub(crate) fn execute_levels<R: Threads + Wait + Sync, G: Gate + Sync>(
     means: &Means<'_, R, G>,
     tree: &mut Tree,
     part: &Part<'_>,
-    group: &Group,
-    levels: Vec<Vec<u32>>,
+    levelled: LevelledGroup<'_>,
     rounds: &Rounds,
     replies: &mut Replies,
 ) -> Result<(), Memory>
     requires whole { IsTrue ((reach_of tree.old).whole) }
-    requires group { IsGroupOf (at_home tree.old) part.now.first part.now.ordinal part.now.time part.now.batch.now.requests (map footprint_seen group.now.footprints.items) group.now.level_of.items }
-    requires levels { AreInLevels part.now.first group.now.level_of.items 0 levels.items }
-    requires some { 0 < length group.now.footprints.items }
+    requires group { IsGroupOf (at_home tree.old) part.now.first part.now.ordinal part.now.time part.now.batch.now.requests (map footprint_seen levelled.group.now.footprints.items) levelled.group.now.level_of.items }
+    requires levels { AreInLevels part.now.first levelled.group.now.level_of.items 0 levelled.levels.items }
+    requires some { 0 < length levelled.group.now.footprints.items }
     requires placed { length replies.old ≡ part.now.first }
-    ensures { IfOk result (λ _. IsPartExecuted G.ran tree.old tree.new part.now.ordinal part.now.time part.now.batch.now.requests part.now.first (length group.now.footprints.items) replies.old replies.new) }
+    ensures { IfOk result (λ _. IsPartExecuted G.ran tree.old tree.new part.now.ordinal part.now.time part.now.batch.now.requests part.now.first (length levelled.entry.group.now.footprints.items) replies.old replies.new) }
 {
+    let LevelledGroup { group, levels } = levelled;
     replies.add_places(means.alloc, group.len())?;
     for numbers in levels {
         let workers = rounds.workers_for(part.batch, numbers.as_slice());

@@ -4,7 +4,7 @@ ghost use Rattle.bfs_model.specs.Server.WellFormed.{IsWellFormed};
 ghost use Rattle.bfs_tree.specs.Tree.{at_home, reach_of};
 ghost use Rattle.bfs_parallel.specs.Parts.{IsPartExecuted};
 
-use crate::levels::{execute_levels, levels_in};
+use crate::levels::{LevelledGroup, execute_levels, levels_in};
 use crate::means::Means;
 use crate::planning::plan;
 use crate::requests::execute_in_order;
@@ -43,7 +43,11 @@ pub(crate) fn execute_part<R: Threads + Wait + Sync, G: Gate + Sync>(
     if count > 1 {
         let levels = levels_in(means.alloc, part.first, group.level_of.as_slice())?;
         if rounds.start(part.batch, levels.as_slice()) {
-            execute_levels(means, tree, part, &group, levels, rounds, replies)?;
+            let group = LevelledGroup {
+                group: &group,
+                levels,
+            };
+            execute_levels(means, tree, part, group, rounds, replies)?;
             return Ok(count);
         }
     }

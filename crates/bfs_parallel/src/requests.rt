@@ -46,7 +46,7 @@ fn execute_one<G: Gate>(
     requires within { part.now.first < length part.now.batch.now.requests }
     ensures { IfOk result (λ _. IsPartExecuted G.ran tree.old tree.new part.now.ordinal part.now.time part.now.batch.now.requests part.now.first 1 replies.old replies.new) }
 {
-    let reply = gate.answer_one(alloc, tree, part.batch, part.first, part.ordinal, part.time)?;
+    let reply = gate.answer_one(alloc, tree, part)?;
     replies.push(reply)?;
     Ok(())
 }

@@ -6,10 +6,11 @@ ghost use Rattle.bfs_workers.specs.Answered.{IsAnswered};
 ghost use Rattle.bfs_workers.specs.Results.{Gives};
 
 use bfs_footprint::touch_of;
-use bfs_handover::{Done, Job, merge_one, run_job, split_one};
-use bfs_serial::{Batch, answer_next};
+use bfs_handover::{Done, Job, merge_one, run_job, split_request};
+use bfs_levels::Part;
+use bfs_serial::answer_next;
 use bfs_tree::Tree;
-use bfs_types::{Memory, Ordinal, Time};
+use bfs_types::Memory;
 use std::alloc::Global;
 
 /// By which requests are answered, and by it alone, so that it sees each of them begin and end: as jobs, or one alone on the whole tree.
@@ -22,42 +23,25 @@ pub trait Gate {
         requires { CanRun tree.now job }
         ensures { IfOk result (λ done. Gives ran tree.now job.entry done) };
 
-    /// Executes the batch's request at that place, which has that ordinal, on the whole tree, and gives its reply. It is split off as a job,
-    /// run by the gate and brought home; one that may touch any inode is answered in place. `Memory` if memory runs out; the tree may then
-    /// not be whole.
-    fn answer_one(
-        &self,
-        alloc: Global,
-        tree: &mut Tree,
-        batch: &Batch,
-        place: usize,
-        ordinal: Ordinal,
-        time: Time,
-    ) -> Result<Vec<u8>, Memory>
+    /// Executes the first of the part's requests on the whole tree, and gives its reply. It is split off as a job, run by the gate and
+    /// brought home; one that may touch any inode is answered in place. `Memory` if memory runs out; the tree may then not be whole.
+    fn answer_one(&self, alloc: Global, tree: &mut Tree, part: &Part<'_>) -> Result<Vec<u8>, Memory>
         requires whole { IsTrue ((reach_of tree.old).whole) }
-        requires formed { IsWellFormed (record { tree = at_home tree.old; next_ordinal = ordinal; last_time = time }) }
-        requires within { place < length batch.now.requests }
-        ensures { IfOk result (λ reply. IsAnswered ran tree.old tree.new place ordinal time (get_or batch.now.requests place []) reply.items) }
+        requires formed { IsWellFormed (record { tree = at_home tree.old; next_ordinal = part.now.ordinal; last_time = part.now.time }) }
+        requires within { part.now.first < length part.now.batch.now.requests }
+        ensures { IfOk result (λ reply. IsAnswered ran tree.old tree.new part.now.first part.now.ordinal part.now.time (get_or part.now.batch.now.requests part.now.first []) reply.items) }
     {
-        let count = batch.len();
+        let place = part.first;
+        let count = part.batch.len();
         prove!(place < count);
-        let request = batch.request(place);
-        let footprint = touch_of(tree, ordinal, time, request).footprint;
+        let request = part.batch.request(place);
+        let footprint = touch_of(tree, part.ordinal, part.time, request).footprint;
         if footprint.is_whole() {
-            return answer_next(alloc, tree, ordinal, time, request);
+            return answer_next(alloc, tree, part.ordinal, part.time, request);
         }
         let footprints = [footprint];
         let number = place as u32;
-        let job = split_one(
-            alloc,
-            tree,
-            batch,
-            ordinal,
-            time,
-            place,
-            &footprints,
-            number,
-        )?;
+        let job = split_request(alloc, tree, part, &footprints, number)?;
         let done = self.run(alloc, tree, job)?;
         Ok(merge_one(tree, done).bytes)
     }
@@ -83,12 +67,10 @@ impl Gate for NoGate {
         &self,
         alloc: Global,
         tree: &mut Tree,
-        batch: &Batch,
-        place: usize,
-        ordinal: Ordinal,
-        time: Time,
+        part: &Part<'_>,
     ) -> Result<Vec<u8>, Memory> {
-        answer_next(alloc, tree, ordinal, time, batch.request(place))
+        let request = part.batch.request(part.first);
+        answer_next(alloc, tree, part.ordinal, part.time, request)
     }
 
     fn asks_for_threads(&self) -> bool {

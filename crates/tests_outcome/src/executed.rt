@@ -2,7 +2,7 @@
 use crate::batches::{Round, are_told, batch};
 use bfs_executor::{Engine, Executor, Workers};
 use bfs_messages::OrderedBatch;
-use bfs_outcome::{Executed, execute_ordered};
+use bfs_outcome::{Executed, Means, execute_ordered};
 use bfs_replies::ReplyTable;
 use bfs_serial::FileSystem;
 use bfs_testing_batches::gates::AsksForThreads;
@@ -35,7 +35,13 @@ pub fn executed<R: Threads + Wait + Sync>(
     let workers = Workers::new(count).ok_or("workers")?;
     let executor = Executor { workers, engine };
     let gate = AsksForThreads;
-    Ok(execute_ordered(rt, alloc, files, table, ordered, executor, &gate)?)
+    let means = Means {
+        rt,
+        alloc,
+        executor,
+        gate: &gate,
+    };
+    Ok(execute_ordered(&means, files, table, ordered)?)
 }
 
 // records the replies, after a look at the answers

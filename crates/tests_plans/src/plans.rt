@@ -1,5 +1,5 @@
 //! The runs, groups and levels of worked batches, planned on a file system with the files `a`, of fileid 3, and `b`, of fileid 4.
-use bfs_levels::{Part, plan_group, plan_group_before, runs, runs_before};
+use bfs_levels::{Part, plan_group, runs};
 use bfs_serial::{Batch, FileSystem, execute_serial};
 use bfs_testing::numbers::{CREATE, LOOKUP, READ, REMOVE, STATFS, WRITE};
 use bfs_testing::same;
@@ -73,15 +73,20 @@ fn plans_no_further_than_an_end(rt: HostRuntime) -> Result<(), Fail> {
     let alloc = rt.alloc();
     let files = with_executed(alloc, MAKING)?;
     let tree = files.tree().ok_or("a live file system")?;
-    let ordinal = Ordinal::first().next().next();
     let batch = batch_of(alloc, 2, WRITING)?;
-    let time = batch.time();
-    same!(rt; runs_before(alloc, tree, ordinal, time, &batch, 1, 3)?.len(), 2);
-    same!(rt; runs_before(alloc, tree, ordinal, time, &batch, 1, 100)?.len(), 3);
-    same!(rt; runs_before(alloc, tree, ordinal, time, &batch, 3, 3)?.len(), 0);
-    let group = plan_group_before(alloc, tree, ordinal, time, &batch, 0, 3)?;
-    same!(rt; group.level_of.as_slice(), [0, 1, 0].as_slice());
-    same!(rt; plan_group_before(alloc, tree, ordinal, time, &batch, 0, 100)?.len(), 5);
+    let all = Part {
+        batch: &batch,
+        first: 0,
+        ordinal: Ordinal::first().next().next(),
+        time: batch.time(),
+    };
+    let behind_the_first = Part { first: 1, ..all };
+    same!(rt; behind_the_first.run_before(alloc, tree, 3)?.len(), 2);
+    same!(rt; behind_the_first.run_before(alloc, tree, 100)?.len(), 3);
+    let behind_three = Part { first: 3, ..all };
+    same!(rt; behind_three.run_before(alloc, tree, 3)?.len(), 0);
+    same!(rt; all.group_before(alloc, tree, 3)?.level_of.as_slice(), [0, 1, 0].as_slice());
+    same!(rt; all.group_before(alloc, tree, 100)?.len(), 5);
     Ok(())
 }
 

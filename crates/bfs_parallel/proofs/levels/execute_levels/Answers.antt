@@ -23,30 +23,30 @@ pub loop-numbers-init : goal.loop-numbers-init
 loop-numbers-init g c =
     let a = c.args in
     let part = a.part.now in
-    let items = a.group.now.footprints.items in
-    let gives : c.into_iter-numbers-iterator.result.rest.items ≡ a.levels.items = search rules in
+    let items = a.levelled.group.now.footprints.items in
+    let gives : c.into_iter-numbers-iterator.result.rest.items ≡ a.levelled.levels.items = search rules in
     record {
       whole = c.requires.whole;
       texts = replicate (length items) [];
       behind = c.in_ok-add_places.ensures.ok ∙ ap (λ n. a.replies.now ++ replicate n []) c.len.ensures;
       way = rw gives
-          (sets_out g.G.Gate.ran (at_home a.tree.now) part.first part.ordinal part.time part.batch.now.requests (map footprint_seen items) a.group.now.level_of.items (replicate (length items) []) a.levels.items c.requires.group c.requires.levels
+          (sets_out g.G.Gate.ran (at_home a.tree.now) part.first part.ordinal part.time part.batch.now.requests (map footprint_seen items) a.levelled.group.now.level_of.items (replicate (length items) []) a.levelled.levels.items c.requires.group c.requires.levels
           (length-replicate (length items) [] ∙ sym (length-map items footprint_seen)));
     }
 
 -- the group is on its way, with the level whose turn it is before the others that are left
 way : (g : _) (c : After-as_slice-in-loop-numbers-2 g)
-    → IsOnItsWay g.G.Gate.ran (at_home c.args.tree.now) c.args.part.now.first c.args.part.now.ordinal c.args.part.now.time c.args.part.now.batch.now.requests (map footprint_seen c.args.group.now.footprints.items) c.args.group.now.level_of.items (at_home c.loop-numbers.tree) c.loop-numbers.invariant.texts (c.in-Some.numbers ∷ c.next.new.self.rest.items)
+    → IsOnItsWay g.G.Gate.ran (at_home c.args.tree.now) c.args.part.now.first c.args.part.now.ordinal c.args.part.now.time c.args.part.now.batch.now.requests (map footprint_seen c.args.levelled.group.now.footprints.items) c.args.levelled.group.now.level_of.items (at_home c.loop-numbers.tree) c.loop-numbers.invariant.texts (c.in-Some.numbers ∷ c.next.new.self.rest.items)
 way g c =
     let a = c.args in
-    subst (λ left. IsOnItsWay g.G.Gate.ran (at_home a.tree.now) a.part.now.first a.part.now.ordinal a.part.now.time a.part.now.batch.now.requests (map footprint_seen a.group.now.footprints.items) a.group.now.level_of.items (at_home c.loop-numbers.tree) c.loop-numbers.invariant.texts left) c.in-Some.ensures.steps.0 c.loop-numbers.invariant.way
+    subst (λ left. IsOnItsWay g.G.Gate.ran (at_home a.tree.now) a.part.now.first a.part.now.ordinal a.part.now.time a.part.now.batch.now.requests (map footprint_seen a.levelled.group.now.footprints.items) a.levelled.group.now.level_of.items (at_home c.loop-numbers.tree) c.loop-numbers.invariant.texts left) c.in-Some.ensures.steps.0 c.loop-numbers.invariant.way
 
 -- what that level asks for
 level : (g : _) (c : After-as_slice-in-loop-numbers-2 g)
-    → IsReady g.G.Gate.ran (at_home c.args.tree.now) c.args.part.now.first c.args.part.now.ordinal c.args.part.now.time c.args.part.now.batch.now.requests (map footprint_seen c.args.group.now.footprints.items) c.args.group.now.level_of.items (at_home c.loop-numbers.tree) c.loop-numbers.invariant.texts c.in-Some.numbers.items
+    → IsReady g.G.Gate.ran (at_home c.args.tree.now) c.args.part.now.first c.args.part.now.ordinal c.args.part.now.time c.args.part.now.batch.now.requests (map footprint_seen c.args.levelled.group.now.footprints.items) c.args.levelled.group.now.level_of.items (at_home c.loop-numbers.tree) c.loop-numbers.invariant.texts c.in-Some.numbers.items
 level g c =
     let a = c.args in
-    ready g.G.Gate.ran (at_home a.tree.now) a.part.now.first a.part.now.ordinal a.part.now.time a.part.now.batch.now.requests (map footprint_seen a.group.now.footprints.items) a.group.now.level_of.items (at_home c.loop-numbers.tree) c.loop-numbers.invariant.texts c.in-Some.numbers c.next.new.self.rest.items (way g c)
+    ready g.G.Gate.ran (at_home a.tree.now) a.part.now.first a.part.now.ordinal a.part.now.time a.part.now.batch.now.requests (map footprint_seen a.levelled.group.now.footprints.items) a.levelled.group.now.level_of.items (at_home c.loop-numbers.tree) c.loop-numbers.invariant.texts c.in-Some.numbers c.next.new.self.rest.items (way g c)
 
 pub carry_out-requires-clause-footprints : goal.carry_out-requires-clause-footprints
 carry_out-requires-clause-footprints g c κs within = rw (c.as_slice-in-loop-numbers.ensures.value, c.as_slice-in-loop-numbers-2.ensures.value) (level g (goal.at.carry_out-requires-clause-footprints g c).After-as_slice-in-loop-numbers-2).found
@@ -62,7 +62,7 @@ carry_out-requires-clause-rising g c κs within = rw c.as_slice-in-loop-numbers-
 
 -- the level whose turn it was has been carried out
 carried : (g : _) (c : In_ok-carried g)
-    → AreCarriedOut (at_home c.loop-numbers.tree) (at_home c.carry_out.new.tree) (part_of c.args.part.now.first c.args.part.now.ordinal c.args.part.now.time c.args.part.now.batch.now.requests (map footprint_seen c.args.group.now.footprints.items)) c.in-Some.numbers.items c.in_ok-carried.carried.items
+    → AreCarriedOut (at_home c.loop-numbers.tree) (at_home c.carry_out.new.tree) (part_of c.args.part.now.first c.args.part.now.ordinal c.args.part.now.time c.args.part.now.batch.now.requests (map footprint_seen c.args.levelled.group.now.footprints.items)) c.in-Some.numbers.items c.in_ok-carried.carried.items
 carried g c =
     let a = c.args in
     let first = a.part.now.first in
@@ -70,18 +70,18 @@ carried g c =
     let home = at_home c.loop-numbers.tree in
     let after = at_home c.carry_out.new.tree in
     let replies = c.in_ok-carried.carried.items in
-    subst (λ ns. AreCarriedOut home after (part_of first a.part.now.ordinal a.part.now.time batch (map footprint_seen a.group.now.footprints.items)) ns replies) c.as_slice-in-loop-numbers-2.ensures.value
+    subst (λ ns. AreCarriedOut home after (part_of first a.part.now.ordinal a.part.now.time batch (map footprint_seen a.levelled.group.now.footprints.items)) ns replies) c.as_slice-in-loop-numbers-2.ensures.value
     (subst (λ (items : List declared.Footprint). AreCarriedOut home after (part_of first a.part.now.ordinal a.part.now.time batch (map footprint_seen items)) c.as_slice-in-loop-numbers-2.result.now replies) c.as_slice-in-loop-numbers.ensures.value c.in_ok-carried.ensures.done)
 
 pub put_all-requires : goal.put_all-requires
 put_all-requires g c =
     let a = c.args in
-    let fs = map footprint_seen a.group.now.footprints.items in
+    let fs = map footprint_seen a.levelled.group.now.footprints.items in
     let all = c.loop-numbers.replies in
     let long : length all ≡ a.part.now.first + length fs =
     ap length c.loop-numbers.invariant.behind ∙ length-append a.replies.now c.loop-numbers.invariant.texts ∙ (let before = c.requires.placed in let behind = c.loop-numbers.invariant.way.under.many_texts in omega arith) in
     All-weaker (IsPlaced a.part.now.first (length fs)) (λ (reply : NumberedReply). (reply.number < length all) × (length reply.bytes.items ≤ most_reply_bytes)) (λ reply is. (let less = is.1 in omega arith, is.2)) c.in_ok-carried.carried.items
-    (placed g.G.Gate.ran (at_home a.tree.now) a.part.now.first a.part.now.ordinal a.part.now.time a.part.now.batch.now.requests fs a.group.now.level_of.items (at_home c.loop-numbers.tree) c.loop-numbers.invariant.texts c.in-Some.numbers c.next.new.self.rest.items
+    (placed g.G.Gate.ran (at_home a.tree.now) a.part.now.first a.part.now.ordinal a.part.now.time a.part.now.batch.now.requests fs a.levelled.group.now.level_of.items (at_home c.loop-numbers.tree) c.loop-numbers.invariant.texts c.in-Some.numbers c.next.new.self.rest.items
     (way g (goal.at.put_all-requires g c).After-as_slice-in-loop-numbers-2) (at_home c.carry_out.new.tree) c.in_ok-carried.carried.items (carried g (goal.at.put_all-requires g c).In_ok-carried) c.in_ok-carried.ensures.ran)
 
 pub loop-numbers-preserved : goal.loop-numbers-preserved
@@ -89,8 +89,8 @@ loop-numbers-preserved g c =
     let a = c.args in
     let part = a.part.now in
     let m = at_home a.tree.now in
-    let fs = map footprint_seen a.group.now.footprints.items in
-    let levels = a.group.now.level_of.items in
+    let fs = map footprint_seen a.levelled.group.now.footprints.items in
+    let levels = a.levelled.group.now.level_of.items in
     let batch = part.batch.now.requests in
     let home = at_home c.loop-numbers.tree in
     let texts = c.loop-numbers.invariant.texts in
@@ -116,16 +116,16 @@ returns g c =
     let m = at_home a.tree.now in
     let first = part.first in
     let batch = part.batch.now.requests in
-    let items = a.group.now.footprints.items in
+    let items = a.levelled.group.now.footprints.items in
     let fs = map footprint_seen items in
     let home = at_home c.loop-numbers.tree in
     let texts = c.loop-numbers.invariant.texts in
     let rest = c.loop-numbers.numbers-iterator.rest in
     let over : rest.items ≡ [] = none_left rest.items rest.len rest.ok.0 c.in-None.ensures.steps.0 in
-    let way = subst (λ left. IsOnItsWay g.G.Gate.ran m first part.ordinal part.time batch fs a.group.now.level_of.items home texts left) over c.loop-numbers.invariant.way in
+    let way = subst (λ left. IsOnItsWay g.G.Gate.ran m first part.ordinal part.time batch fs a.levelled.group.now.level_of.items home texts left) over c.loop-numbers.invariant.way in
     let long : length fs ≡ length items = length-map items footprint_seen in
     let end = subst (λ n. (home ≡ inodes_after m part.ordinal part.time (requests_from first n batch)) × (texts ≡ replies_to m part.ordinal part.time (requests_from first n batch)) × AllRan g.G.Gate.ran first (requests_from first n batch) texts) long
-    (arrives g.G.Gate.ran m first part.ordinal part.time batch fs a.group.now.level_of.items home texts way) in
+    (arrives g.G.Gate.ran m first part.ordinal part.time batch fs a.levelled.group.now.level_of.items home texts way) in
     record {
       some = c.requires.some;
       within = (let within = c.requires.group.within in omega arith);
