@@ -3,7 +3,7 @@ use crate::numbers::{
     CREATE, GETATTR, LINK, LOOKUP, MKDIR, READ, READDIR, REMOVE, RENAME, RMDIR, SETATTR, STATFS,
     WRITE,
 };
-use crate::words::{SIZE_OF_ONE, UNSET, call, letters, put_parts};
+use crate::words::{SIZE_OF_ONE, UNSET, letters, request};
 use bfs_types::Memory;
 use bfs_xdr::put_opaque;
 use std::alloc::Global;
@@ -71,17 +71,17 @@ impl Asked {
     /// The bytes of the request.
     pub fn request(self, alloc: Global, xid: u32) -> Result<Vec<u8>, Memory> {
         match self {
-            Asked::Attributes { file } => spelled(alloc, xid, GETATTR, &[&handle(file)]),
-            Asked::Truncate { file } => spelled(alloc, xid, SETATTR, &[&handle(file), SIZE_OF_ONE]),
-            Asked::LookUp { dir, name } => spelled(
+            Asked::Attributes { file } => request(alloc, xid, GETATTR, &[&handle(file)]),
+            Asked::Truncate { file } => request(alloc, xid, SETATTR, &[&handle(file), SIZE_OF_ONE]),
+            Asked::LookUp { dir, name } => request(
                 alloc,
                 xid,
                 LOOKUP,
                 &[&handle(dir), &letters_of(name)],
             ),
-            Asked::Read { file } => spelled(alloc, xid, READ, &[&handle(file), &[0, 8192, 0]]),
+            Asked::Read { file } => request(alloc, xid, READ, &[&handle(file), &[0, 8192, 0]]),
             Asked::Write { file, value } => {
-                spelled(
+                request(
                     alloc,
                     xid,
                     WRITE,
@@ -89,19 +89,19 @@ impl Asked {
                 )
             }
             Asked::WriteMuch { file } => {
-                let mut bytes = spelled(alloc, xid, WRITE, &[&handle(file), &[0, 0, 0]])?;
+                let mut bytes = request(alloc, xid, WRITE, &[&handle(file), &[0, 0, 0]])?;
                 put_opaque(&mut bytes, &MUCH)?;
                 Ok(bytes)
             }
             Asked::Create { dir, name } => {
-                spelled(
+                request(
                     alloc,
                     xid,
                     CREATE,
                     &[&handle(dir), &letters_of(name), UNSET],
                 )
             }
-            Asked::Remove { dir, name } => spelled(
+            Asked::Remove { dir, name } => request(
                 alloc,
                 xid,
                 REMOVE,
@@ -112,7 +112,7 @@ impl Asked {
                 name,
                 to,
                 other,
-            } => spelled(
+            } => request(
                 alloc,
                 xid,
                 RENAME,
@@ -124,7 +124,7 @@ impl Asked {
                 ],
             ),
             Asked::Link { file, dir, name } => {
-                spelled(
+                request(
                     alloc,
                     xid,
                     LINK,
@@ -132,13 +132,13 @@ impl Asked {
                 )
             }
             Asked::MakeDirectory { dir, name } => {
-                spelled(alloc, xid, MKDIR, &[&handle(dir), &letters_of(name), UNSET])
+                request(alloc, xid, MKDIR, &[&handle(dir), &letters_of(name), UNSET])
             }
             Asked::RemoveDirectory { dir, name } => {
-                spelled(alloc, xid, RMDIR, &[&handle(dir), &letters_of(name)])
+                request(alloc, xid, RMDIR, &[&handle(dir), &letters_of(name)])
             }
-            Asked::List { dir } => spelled(alloc, xid, READDIR, &[&handle(dir), &[0, 8192]]),
-            Asked::Status => spelled(alloc, xid, STATFS, &[&handle(2)]),
+            Asked::List { dir } => request(alloc, xid, READDIR, &[&handle(dir), &[0, 8192]]),
+            Asked::Status => request(alloc, xid, STATFS, &[&handle(2)]),
         }
     }
 }
@@ -150,10 +150,4 @@ fn handle(file: u32) -> [u32; 8] {
 // a name of four letters
 fn letters_of(name: u32) -> [u32; 2] {
     [4, u32::from_be_bytes(letters(name))]
-}
-
-fn spelled(alloc: Global, xid: u32, procedure: u32, parts: &[&[u32]]) -> Result<Vec<u8>, Memory> {
-    let mut bytes = call(alloc, xid, procedure)?;
-    put_parts(&mut bytes, parts)?;
-    Ok(bytes)
 }

@@ -113,6 +113,19 @@ pub fn call(alloc: Global, xid: u32, procedure: u32) -> Result<Vec<u8>, Memory>
     Ok(bytes)
 }
 
+/// A call by a caller without a credential, with the words of its arguments in parts. No contract says which bytes it has: a test that is
+/// told them proves much longer.
+pub fn request(
+    alloc: Global,
+    xid: u32,
+    procedure: u32,
+    arguments: &[&[u32]],
+) -> Result<Vec<u8>, Memory> {
+    let mut bytes = call(alloc, xid, procedure)?;
+    put_parts(&mut bytes, arguments)?;
+    Ok(bytes)
+}
+
 /// The head of a call of RPC version 2 by a user and its group, who has 16 further groups (RFC 5531 appendix A), with no verifier.
 #[tactic(auto, using(std::proofs::lemmas::List::append_assoc))]
 pub fn call_by(

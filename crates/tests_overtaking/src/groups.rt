@@ -4,7 +4,7 @@ use bfs_overtaking::{Core, CoreError, Event};
 use bfs_serial::{Batch, FileSystem, Replies, execute_serial};
 use bfs_testing::asserts::compared;
 use bfs_testing::numbers::CREATE;
-use bfs_testing::words::{A, B, C, ROOT, UNSET, call, put_parts};
+use bfs_testing::words::{A, B, C, ROOT, UNSET, request};
 use bfs_types::Time;
 use std::alloc::Global;
 use std::test::Fail;
@@ -12,14 +12,18 @@ use std::test::Fail;
 /// A procedure, and the words of its arguments.
 pub(crate) struct Asked(pub(crate) u32, pub(crate) &'static [&'static [u32]]);
 
+fn push_all(alloc: Global, batch: &mut Batch, calls: &[Asked]) -> Result<(), Fail> {
+    for Asked(procedure, arguments) in calls {
+        batch.push(request(alloc, 1, *procedure, *arguments)?.as_slice())?;
+    }
+    Ok(())
+}
+
+/// A batch of these calls, at a time in seconds.
 pub(crate) fn batch_of(alloc: Global, second: u32, calls: &[Asked]) -> Result<Batch, Fail> {
     let mut batch = Batch::new(alloc);
     batch.set_time(Time::new(second, 0).ok_or("a time")?);
-    for Asked(procedure, arguments) in calls {
-        let mut request = call(alloc, 1, *procedure)?;
-        put_parts(&mut request, arguments)?;
-        batch.push(request.as_slice())?;
-    }
+    push_all(alloc, &mut batch, calls)?;
     Ok(batch)
 }
 
@@ -37,13 +41,18 @@ pub(crate) fn with_files(alloc: Global) -> Result<FileSystem, Fail> {
     Ok(files)
 }
 
+fn push_part(part: &mut Batch, batch: &Batch, from: usize, to: usize) -> Result<(), Fail> {
+    for place in from..batch.len().min(to) {
+        part.push(batch.request(place))?;
+    }
+    Ok(())
+}
+
 /// The requests of a batch from one place to another, as a batch of their own.
 pub(crate) fn part_of(alloc: Global, batch: &Batch, from: u32, to: u32) -> Result<Batch, Fail> {
     let mut part = Batch::new(alloc);
     part.set_time(batch.time());
-    for place in from as usize..batch.len().min(to as usize) {
-        part.push(batch.request(place))?;
-    }
+    push_part(&mut part, batch, from as usize, to as usize)?;
     Ok(part)
 }
 

@@ -3,8 +3,11 @@
 use crate::groups::{batch_of, compare_first, compare_played, first_core, happens};
 use crate::worked::{OVERTAKING, READS_BETWEEN};
 use bfs_overtaking::{Core, Event};
+use bfs_serial::Batch;
 use bfs_testing::same;
 use bfs_types::Memory;
+use std::alloc::Global;
+use std::process::Abort;
 use std::test::Fail;
 
 // the number of the first refusal, 0 where there is none
@@ -27,18 +30,21 @@ fn has_failed(core: &mut Core) -> bool {
         && happens(core, Event::Take(9)) == 41
 }
 
-#[test]
-fn is_right_or_has_failed(rt: HostRuntime) -> Result<(), Fail> {
-    let alloc = rt.alloc();
-    let batch = batch_of(alloc, 2, READS_BETWEEN)?;
-    let mut core = first_core(alloc, &batch)?;
-    match first_refusal(&mut core, OVERTAKING) {
-        0 => compare_first(alloc, &core, &batch, 5),
+// where one was refused, the same is right once there is memory
+fn is_right(rt: &impl Abort, alloc: Global, core: &mut Core, batch: &Batch) -> Result<(), Fail> {
+    match first_refusal(core, OVERTAKING) {
+        0 => compare_first(alloc, core, batch, 5),
         refusal => {
-            same!(rt; (refusal, has_failed(&mut core)), (40, true));
-            // once there is memory
-            compare_played(alloc, &batch, OVERTAKING, 5)?;
+            same!(rt; (refusal, has_failed(core)), (40, true));
+            compare_played(alloc, batch, OVERTAKING, 5)?;
             Err(Memory.into())
         }
     }
+}
+
+#[test]
+fn is_right_or_has_failed(rt: HostRuntime) -> Result<(), Fail> {
+    let batch = batch_of(rt.alloc(), 2, READS_BETWEEN)?;
+    let mut core = first_core(rt.alloc(), &batch)?;
+    is_right(&rt, rt.alloc(), &mut core, &batch)
 }

@@ -61,14 +61,27 @@ fn accepted(alloc: Global, events: &[(Event, u32)]) -> Result<Vec<Event>, Memory
     Ok(accepted)
 }
 
+// at the machine of the batch's first group, which is then as the calls one after another leave it
+fn first_wrong_of(
+    alloc: Global,
+    batch: &Batch,
+    events: &[(Event, u32)],
+) -> Result<Option<usize>, Fail> {
+    let mut core = first_core(alloc, batch)?;
+    let wrong = first_wrong(&mut core, events);
+    compare_first(alloc, &core, batch, 3)?;
+    Ok(wrong)
+}
+
+fn compare_accepted(alloc: Global, batch: &Batch, events: &[(Event, u32)]) -> Result<(), Fail> {
+    compare_played(alloc, batch, &accepted(alloc, events)?, 3)
+}
+
 #[test]
 fn refuses_events_out_of_turn(rt: HostRuntime) -> Result<(), Fail> {
-    let alloc = rt.alloc();
-    let batch = batch_of(alloc, 2, WRITES)?;
-    let mut core = first_core(alloc, &batch)?;
-    same!(rt; first_wrong(&mut core, EVENTS), None);
-    compare_first(alloc, &core, &batch, 3)?;
-    compare_played(alloc, &batch, &accepted(alloc, EVENTS)?, 3)
+    let batch = batch_of(rt.alloc(), 2, WRITES)?;
+    same!(rt; first_wrong_of(rt.alloc(), &batch, EVENTS)?, None);
+    compare_accepted(rt.alloc(), &batch, EVENTS)
 }
 
 // to which of the requests 0, 1 and 9 there is a reply
@@ -167,21 +180,24 @@ fn finish_each(core: &mut Core, first: u32, end: u32) -> u32 {
     0
 }
 
+// the number of the first refusal of those, and of the call behind them
+fn finish_all(core: &mut Core, first: u32, end: u32) -> (u32, u32) {
+    let refusal = finish_each(core, first, end);
+    (refusal, happens(core, Event::Take(end)))
+}
+
 // a group of so many calls that begins with that one. The call behind it is of no call of it
+fn ends(alloc: Global, core: &mut Core, batch: &Batch, first: u32, count: u32) -> Result<(), Fail> {
+    let end = first.saturating_add(count);
+    compared(finish_all(core, first, end), (0, 17))?;
+    let mut files = before(alloc, batch, first)?;
+    compare(alloc, core, &mut files, batch, first, count)
+}
+
 fn goes(alloc: Global, batch: &Batch, first: u32, count: u32) -> Result<(), Fail> {
     let mut files = before(alloc, batch, first)?;
     let mut core = core_of(alloc, &mut files, batch, first)?;
-    let end = first.saturating_add(count);
-    compared(finish_each(&mut core, first, end), 0)?;
-    compared(happens(&mut core, Event::Take(end)), 17)?;
-    compare(
-        alloc,
-        &core,
-        &mut before(alloc, batch, first)?,
-        batch,
-        first,
-        count,
-    )
+    ends(alloc, &mut core, batch, first, count)
 }
 
 #[test]
