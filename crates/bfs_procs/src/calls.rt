@@ -9,7 +9,7 @@ ghost use Rattle.bfs_wire.specs.Replies.{reply_seen};
 
 use crate::attributes::{get_attributes, set_attributes};
 use crate::data::{read, read_link, write};
-use crate::making::{create, link, make_directory, make_symbolic_link};
+use crate::making::{NewLink, create, link, make_directory, make_symbolic_link};
 use crate::names::{look_up, read_directory};
 use crate::not_done::NotDone;
 use crate::removing::{remove, remove_directory};
@@ -98,7 +98,13 @@ fn attempt<S: Store>(
             name,
             path,
             settings,
-        } => make_symbolic_link(alloc, store, context, dir, name, path, &settings),
+        } => {
+            let link = NewLink {
+                path,
+                settings: &settings,
+            };
+            make_symbolic_link(alloc, store, context, dir, name, &link)
+        }
         NfsCall::MakeDirectory {
             dir,
             name,

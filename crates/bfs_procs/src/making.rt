@@ -17,7 +17,7 @@ ghost use Rattle.bfs_procs.specs.Borrowed.{found_seen};
 ghost use Rattle.bfs_tree.specs.Reach.{Knows};
 ghost use Rattle.bfs_wire.specs.Replies.{reply_seen, status_seen};
 
-use crate::found::FoundDirectory;
+use crate::found::{FoundDirectory, found_directory};
 use crate::not_done::NotDone;
 use crate::steps::{add_entry, add_link, put};
 use bfs_inode::{Directory, FileId, Inode, is_bad_name};
@@ -42,14 +42,11 @@ pub(crate) fn create<S: Store>(
     ensures done { Answers (S.inodes store.old) (S.inodes store.new) result (file_created (S.inodes store.old) context.now dir name.now settings.now) }
     ensures reach { S.reach store.new ≡ S.reach store.old }
 {
-    let dir = dir.ok_or(Status::Stale)?;
-    let inode = store.get(dir).ok_or(Status::Stale)?;
-    let directory = inode.directory().ok_or(Status::NotDir)?;
-    let found = FoundDirectory {
-        id: dir,
-        inode,
-        directory,
+    let found = match found_directory(store, dir) {
+        Ok(found) => found,
+        Err(status) => return Err(NotDone::Refused(status)),
     };
+    let dir = found.id;
     let id = new_file_id(context, &found, name, settings)?;
     let file = Inode::new_file(alloc, context, settings)?;
     let reply = made(id, &file);
@@ -74,14 +71,11 @@ pub(crate) fn make_directory<S: Store>(
     ensures done { Answers (S.inodes store.old) (S.inodes store.new) result (directory_made (S.inodes store.old) context.now dir name.now settings.now) }
     ensures reach { S.reach store.new ≡ S.reach store.old }
 {
-    let dir = dir.ok_or(Status::Stale)?;
-    let inode = store.get(dir).ok_or(Status::Stale)?;
-    let directory = inode.directory().ok_or(Status::NotDir)?;
-    let found = FoundDirectory {
-        id: dir,
-        inode,
-        directory,
+    let found = match found_directory(store, dir) {
+        Ok(found) => found,
+        Err(status) => return Err(NotDone::Refused(status)),
     };
+    let dir = found.id;
     let id = new_directory_id(context, &found, name, settings)?;
     let new = Inode::new_directory(alloc, context, settings, dir);
     let reply = made(id, &new);
@@ -89,6 +83,15 @@ pub(crate) fn make_directory<S: Store>(
     add_link(store, context.time, dir);
     put(store, id, new)?;
     Ok(reply)
+}
+
+/// What a symbolic link is made with.
+#[derive(Clone, Copy)]
+pub(crate) struct NewLink<'a> {
+    /// The path that it leads to.
+    pub(crate) path: &'a [u8],
+    /// Its attributes.
+    pub(crate) settings: &'a Settings,
 }
 
 /// SYMLINK (RFC 1094 section 2.2.14).
@@ -99,28 +102,24 @@ pub(crate) fn make_symbolic_link<S: Store>(
     context: &Context,
     dir: Option<FileId>,
     name: &[u8],
-    path: &[u8],
-    settings: &Settings,
+    link: &NewLink,
 ) -> Result<NfsReply, NotDone>
-    requires known { Knows (S.reach store.old) (footprint (S.inodes store.old) context.now (call.make_symbolic_link dir name.now path.now settings.now)) }
-    requires fresh { IsFresh (S.inodes store.old) context.now (call.make_symbolic_link dir name.now path.now settings.now) }
+    requires known { Knows (S.reach store.old) (footprint (S.inodes store.old) context.now (call.make_symbolic_link dir name.now link.now.path.now link.now.settings.now)) }
+    requires fresh { IsFresh (S.inodes store.old) context.now (call.make_symbolic_link dir name.now link.now.path.now link.now.settings.now) }
     requires short { length name.now ≤ most_name_bytes }
-    requires short_path { length path.now ≤ most_path_bytes }
-    ensures done { Answers (S.inodes store.old) (S.inodes store.new) result (symbolic_link_made (S.inodes store.old) context.now dir name.now path.now settings.now) }
+    requires short_path { length link.now.path.now ≤ most_path_bytes }
+    ensures done { Answers (S.inodes store.old) (S.inodes store.new) result (symbolic_link_made (S.inodes store.old) context.now dir name.now link.now.path.now link.now.settings.now) }
     ensures reach { S.reach store.new ≡ S.reach store.old }
 {
-    let dir = dir.ok_or(Status::Stale)?;
-    let inode = store.get(dir).ok_or(Status::Stale)?;
-    let directory = inode.directory().ok_or(Status::NotDir)?;
-    let found = FoundDirectory {
-        id: dir,
-        inode,
-        directory,
+    let found = match found_directory(store, dir) {
+        Ok(found) => found,
+        Err(status) => return Err(NotDone::Refused(status)),
     };
-    let id = new_name(context, &found, name, settings)?;
-    let link = Inode::new_symbolic_link(alloc, context, settings, path)?;
+    let dir = found.id;
+    let id = new_name(context, &found, name, link.settings)?;
+    let symbolic_link = Inode::new_symbolic_link(alloc, context, link.settings, link.path)?;
     add_entry(store, context, dir, name, id)?;
-    put(store, id, link)?;
+    put(store, id, symbolic_link)?;
     Ok(NfsReply::Done)
 }
 
@@ -144,14 +143,11 @@ pub(crate) fn link<S: Store>(
     if linked.is_directory() {
         return Err(NotDone::Refused(Status::IsDir));
     }
-    let dir = dir.ok_or(Status::Stale)?;
-    let inode = store.get(dir).ok_or(Status::Stale)?;
-    let directory = inode.directory().ok_or(Status::NotDir)?;
-    let found = FoundDirectory {
-        id: dir,
-        inode,
-        directory,
+    let found = match found_directory(store, dir) {
+        Ok(found) => found,
+        Err(status) => return Err(NotDone::Refused(status)),
     };
+    let dir = found.id;
     takes_link(context, &found, name, linked.links())?;
     add_entry(store, context, dir, name, id)?;
     add_link(store, context.time, id);

@@ -12,6 +12,7 @@ ghost use Rattle.bfs_procs.specs.Borrowed.{page_seen};
 ghost use Rattle.bfs_tree.specs.Reach.{Knows};
 ghost use Rattle.bfs_wire.specs.Replies.{reply_seen, status_seen};
 
+use crate::found::found_directory;
 use crate::not_done::NotDone;
 use bfs_inode::{FileId, Listed, Page, is_no_name};
 use bfs_tree::Store;
@@ -29,16 +30,20 @@ pub(crate) fn look_up<S: Store>(
     requires { Knows (S.reach store.now) (footprint (S.inodes store.now) context.now (call.look_up dir name.now)) }
     ensures { Answers (S.inodes store.now) (S.inodes store.now) result (looked_up (S.inodes store.now) context.now dir name.now) }
 {
-    let dir = dir.ok_or(Status::Stale)?;
-    let inode = store.get(dir).ok_or(Status::Stale)?;
-    let directory = inode.directory().ok_or(Status::NotDir)?;
-    if !inode.may_search(&context.caller) {
+    let dir = match found_directory(store, dir) {
+        Ok(found) => found,
+        Err(status) => return Err(NotDone::Refused(status)),
+    };
+    if !dir.inode.may_search(&context.caller) {
         return Err(NotDone::Refused(Status::Acces));
     }
     if is_no_name(name) {
         return Err(NotDone::Refused(Status::Perm));
     }
-    let file = directory.child_named(dir, name).ok_or(Status::NoEnt)?;
+    let file = dir
+        .directory
+        .child_named(dir.id, name)
+        .ok_or(Status::NoEnt)?;
     let child = store.get(file).ok_or(Status::Stale)?;
     let attributes = child.attributes(file);
     Ok(NfsReply::Found { file, attributes })
@@ -73,13 +78,14 @@ pub(crate) fn read_page<'a, S: Store>(
     requires { Knows (S.reach store.now) (footprint (S.inodes store.now) context.now (call.read_directory dir cookie count)) }
     ensures { result_map_both (λ page. (S.inodes store.now, page_seen page)) status_seen result ≡ directory_read (S.inodes store.now) context.now dir cookie count }
 {
-    let id = dir.ok_or(Status::Stale)?;
-    let inode = store.get(id).ok_or(Status::Stale)?;
-    let directory = inode.directory().ok_or(Status::NotDir)?;
-    if !inode.may_read(&context.caller) {
+    let found = match found_directory(store, dir) {
+        Ok(found) => found,
+        Err(status) => return Err(status),
+    };
+    if !found.inode.may_read(&context.caller) {
         return Err(Status::Acces);
     }
-    Ok(directory.page(id, cookie, count))
+    Ok(found.directory.page(found.id, cookie, count))
 }
 
 fn list(alloc: Global, mut page: Page) -> Result<NfsReply, Memory>

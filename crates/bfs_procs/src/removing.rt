@@ -13,7 +13,7 @@ ghost use Rattle.bfs_procs.specs.Borrowed.{found_seen};
 ghost use Rattle.bfs_tree.specs.Reach.{Knows};
 ghost use Rattle.bfs_wire.specs.Replies.{status_seen};
 
-use crate::found::FoundDirectory;
+use crate::found::{FoundDirectory, found_directory};
 use crate::not_done::NotDone;
 use crate::steps::{drop_entry, lose_link, lose_name};
 use bfs_inode::{FileId, Inode, is_bad_name};
@@ -33,14 +33,11 @@ pub(crate) fn remove<S: Store>(
     ensures done { Answers (S.inodes store.old) (S.inodes store.new) result (file_removed (S.inodes store.old) context.now dir name.now) }
     ensures reach { S.reach store.new ≡ S.reach store.old }
 {
-    let dir = dir.ok_or(Status::Stale)?;
-    let inode = store.get(dir).ok_or(Status::Stale)?;
-    let directory = inode.directory().ok_or(Status::NotDir)?;
-    let found = FoundDirectory {
-        id: dir,
-        inode,
-        directory,
+    let found = match found_directory(store, dir) {
+        Ok(found) => found,
+        Err(status) => return Err(NotDone::Refused(status)),
     };
+    let dir = found.id;
     let id = child_of(context, &found, name)?;
     let child = store.get(id).ok_or(Status::Stale)?;
     if child.is_directory() {
@@ -63,14 +60,11 @@ pub(crate) fn remove_directory<S: Store>(
     ensures done { Answers (S.inodes store.old) (S.inodes store.new) result (directory_removed (S.inodes store.old) context.now dir name.now) }
     ensures reach { S.reach store.new ≡ S.reach store.old }
 {
-    let dir = dir.ok_or(Status::Stale)?;
-    let inode = store.get(dir).ok_or(Status::Stale)?;
-    let directory = inode.directory().ok_or(Status::NotDir)?;
-    let found = FoundDirectory {
-        id: dir,
-        inode,
-        directory,
+    let found = match found_directory(store, dir) {
+        Ok(found) => found,
+        Err(status) => return Err(NotDone::Refused(status)),
     };
+    let dir = found.id;
     let id = child_of(context, &found, name)?;
     is_empty_directory(store.get(id).ok_or(Status::Stale)?)?;
     drop_entry(store, context.time, dir, name);

@@ -10,4 +10,4 @@ pub add_link-requires-clause-few : goal.add_link-requires-clause-few
 add_link-requires-clause-few g c =
     let there : get (g.S.Store.inodes c.args.store.now) c.in_ok-id.id ≡ Some c.in_ok-linked.linked.now = grind (arith, common_steps) in
     let few : c.in_ok-linked.linked.now.links < most_links = rw (← c.links.ensures.value) c.in_ok-takes_link.ensures.few in
-    rw c.in_ok-add_entry.ensures.done (few_links _ c.args.context.now c.args.name.now c.in_ok-id.id c.in_ok-dir.dir _ _ there few)
+    rw c.in_ok-add_entry.ensures.done (few_links _ c.args.context.now c.args.name.now c.in_ok-id.id c.in-Ok.found.id _ _ there few)
