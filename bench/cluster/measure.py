@@ -2,8 +2,8 @@
 """`measure.py PROGRAM` prints, by the program of main.txt, what a batch of 1,024 requests takes a run of one replica and one of four: on one processor
 and on all, beside what must be hashed for it and its executions one after another; and the memory of each run. The least of ROUNDS runs.
 
-What must be hashed, for n replicas: the client signs a request for each; each checks it when it comes, and each backup again in the PRE-PREPARE; each
-hashes the batch; each signs its reply, and the client checks each. Counted in blocks of SHA-256, at the speed of the kit's `sha2`.
+What must be hashed, for n replicas: the client signs a request for each; each checks it when it comes, and not again in the PRE-PREPARE; each hashes
+the batch; each signs its reply, and the client checks each. Counted in blocks of SHA-256, at the speed of the kit's `sha2`.
 """
 import os
 import subprocess
@@ -41,7 +41,7 @@ def hashed(replicas, workload):
     """Blocks of SHA-256, for a batch."""
     request = 20 + CALLS[workload]
     batch = replicas * blocks(16 + REQUESTS * (request + 4 + 32 * replicas))
-    return REQUESTS * ((3 * replicas - 1) * keyed(request) + 2 * replicas * keyed(REPLY)) + batch
+    return REQUESTS * (2 * replicas * keyed(request) + 2 * replicas * keyed(REPLY)) + batch
 
 
 def main(program):

@@ -1,5 +1,5 @@
 -- What a step of a view change comes to.
-use Rattle.std.proofs.Common.{◌≡◌, ◌∙◌, ℕ, true, false, Bool, [], Option, None, sym, ap, if◌then◌else◌}
+use Rattle.std.proofs.Common.{◌≡◌, ◌∙◌, ℕ, true, Bool, [], Option, None, sym, ap, if◌then◌else◌}
 use Rattle.bfs_auth.specs.Keys.{Keys}
 use Rattle.bfs_log.specs.Logs.{Log}
 use Rattle.bfs_messages.specs.Messages as model
@@ -11,7 +11,7 @@ use Rattle.bfs_order.specs.Replica.Views.{entered, entering_refusal}
 use Rattle.bfs_order.specs.declared.error.OrderError.{OrderError}
 use Rattle.bfs_view.specs.Changes.Keeping.{with_asked, with_change}
 use Rattle.bfs_node.specs.Changing.{begun_if_due, leads, with_view_change}
-use Rattle.bfs_node.specs.Nodes.{Node, Outcome}
+use Rattle.bfs_node.specs.Nodes.{Node}
 
 -- as many replicas may be faulty in a view that is entered
 pub same_faults : CallsKeepTheReplica → (keys : Keys) (s now : State) (view min_s : ℕ) (handed : Log) → entering_refusal s view ≡ None → now ≡ (entered keys s view min_s handed).now → now.f ≡ s.f

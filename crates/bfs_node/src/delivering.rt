@@ -123,7 +123,10 @@ impl Node {
         ensures refused { IfErr result (λ e. e ≢ error.Memory → order_refusal self.old signed ≡ Some e) }
         ensures err { OnErr result (self.new ≡ self.old) }
     {
-        Ok(self.order.on_message(rt, &self.keys, signed)?)
+        Ok(
+            self.order
+                .on_message(rt, &self.keys, &self.pending, signed)?,
+        )
     }
 
     // The CHECKPOINTs that may make its number stable are copied before it is taken, so that nothing is refused afterwards.
@@ -141,7 +144,9 @@ impl Node {
     {
         let number = header_of(&signed.message).number;
         let certificate = certificate_with(self.alloc, self.order.log(), &signed)?;
-        let sent = self.order.on_message(rt, &self.keys, signed)?;
+        let sent = self
+            .order
+            .on_message(rt, &self.keys, &self.pending, signed)?;
         self.settle_at(number, certificate);
         Ok(sent)
     }

@@ -1,4 +1,4 @@
-//! One replica, as tests: a request's way through it, what it refuses, its checkpoints, and what it adopts.
+//! One replica, as tests: a request's way through it, what it refuses, what waits when a batch comes, its checkpoints, and what it adopts.
 #![tactic(auto)]
 
 #[cfg(test)]
@@ -15,3 +15,5 @@ mod refusals;
 mod replica;
 #[cfg(test)]
 mod script;
+#[cfg(test)]
+mod waiting;

@@ -1,5 +1,5 @@
 //! Requests wait until a batch in which they stand is executed.
-use bfs_auth::Authenticator;
+use bfs_auth::{Authenticator, MOST_REPLICAS, Principal};
 use bfs_messages::{OrderedBatch, Request, Signed};
 use bfs_pending::{BatchNames, PendingRequests};
 use bfs_testing::{holds, same};
@@ -15,6 +15,15 @@ fn request(alloc: Global, client: u32, timestamp: u64) -> Result<Signed<Request>
         message: Request::new(alloc, client, timestamp, b"a call")?,
         auth: Authenticator::new(alloc),
     })
+}
+
+// of client 3, with one entry, of that byte
+fn signed(alloc: Global, timestamp: u64, byte: u8) -> Result<Signed<Request>, Memory> {
+    let mut signed = request(alloc, 3, timestamp)?;
+    if signed.auth.entries().len() < MOST_REPLICAS {
+        signed.auth.push([byte; 32])?;
+    }
+    Ok(signed)
 }
 
 fn waiting(alloc: Global, names: &[Name]) -> Result<PendingRequests, Memory> {
@@ -56,6 +65,24 @@ fn what_stands_in_a_batch_waits_no_longer(rt: HostRuntime) -> Result<(), Fail> {
     holds!(rt; are(pending.requests(), &[(4, 5), (3, 6)]));
     drop_batch(alloc, &mut pending, &[])?;
     same!(rt; pending.len(), 2);
+    Ok(())
+}
+
+#[test]
+fn what_waits_is_found_until_it_leaves(rt: HostRuntime) -> Result<(), Fail> {
+    let alloc = rt.alloc();
+    let me = Principal::Replica(0);
+    let mut pending = waiting(alloc, &[])?;
+    pending.push(signed(alloc, 5, 1)?)?;
+    pending.push(signed(alloc, 6, 1)?)?;
+    holds!(rt; pending.waits(me, &signed(alloc, 5, 1)?));
+    holds!(rt; !pending.waits(me, &signed(alloc, 5, 2)?));
+    holds!(rt; !pending.waits(me, &signed(alloc, 7, 1)?));
+    // it has no entry for another one
+    holds!(rt; !pending.waits(Principal::Replica(1), &signed(alloc, 5, 1)?));
+    drop_batch(alloc, &mut pending, &[(3, 5)])?;
+    holds!(rt; !pending.waits(me, &signed(alloc, 5, 1)?));
+    holds!(rt; pending.waits(me, &signed(alloc, 6, 1)?));
     Ok(())
 }
 

@@ -3,6 +3,7 @@ use crate::parts::{Told, keys_of, null};
 use bfs_auth::{Keys, Principal};
 use bfs_messages::{Message, Signed};
 use bfs_order::{Order, OrderError};
+use bfs_pending::PendingRequests;
 use bfs_types::Memory;
 use std::alloc::Global;
 use std::thread::Threads;
@@ -88,7 +89,8 @@ impl Replica {
     }
 
     fn take_signed<R: Threads + Sync>(&mut self, rt: &R, signed: Signed<Message>) -> Answer {
-        sent(self.order.on_message(rt, &self.keys, signed))
+        let none = PendingRequests::new(self.alloc);
+        sent(self.order.on_message(rt, &self.keys, &none, signed))
     }
 
     /// It takes what that one signs, whoever the message says that it is of.

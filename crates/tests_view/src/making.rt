@@ -62,7 +62,8 @@ fn takes<R: Threads + Sync>(
     event: Event,
 ) -> Result<bool, Memory> {
     let signed = event.message(alloc)?;
-    Ok(order.on_message(rt, &keys_of(alloc, 1)?, signed).is_ok())
+    let none = PendingRequests::new(alloc);
+    Ok(order.on_message(rt, &keys_of(alloc, 1)?, &none, signed).is_ok())
 }
 
 fn takes_all<R: Threads + Sync>(

@@ -1,4 +1,4 @@
-use Rattle.std.proofs.Common.{◌≡◌, ◌∙◌, ◌++◌, sym, ap}
+use Rattle.std.proofs.Common.{◌∙◌, ◌++◌, sym, ap}
 use Rattle.bfs_view.specs.Changes.Keeping.{Kept, with_change}
 use Rattle.bfs_node.specs.Changing.{begun_if_due}
 use Rattle.bfs_node.specs.Inside.Asking.{asking}

@@ -1,4 +1,4 @@
-use Rattle.std.proofs.Common.{◌≡◌, ◌∙◌, ◌++◌, ℕ, ap}
+use Rattle.std.proofs.Common.{◌∙◌, ◌++◌, ℕ, ap}
 use Rattle.bfs_log.specs.Logs.{Log}
 use Rattle.bfs_node.specs.Changing.{with_view_change}
 use Rattle.bfs_node.specs.Inside.Asking.{asking}
