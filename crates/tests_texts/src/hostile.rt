@@ -1,9 +1,8 @@
 //! Texts that no file system has, and the number by which each is refused.
 use crate::texts::{bytes_of, refusal};
-use bfs_testing::same;
+use bfs_testing::asserts::compared;
 use bfs_testing::texts::{NEW, SOME};
 use std::alloc::Global;
-use std::process::Abort;
 use std::test::Fail;
 
 /// The text with a word in the place of one.
@@ -28,57 +27,106 @@ fn refused(alloc: Global, text: &str, place: usize, word: u32) -> Result<u32, Fa
     Ok(refusal(alloc, with_word(alloc, text, place, word)?.as_slice()))
 }
 
+/// A word in the place of one of a text, and the number by which the text is then refused, 0 where it is not.
+struct Word(usize, u32, u32);
+
+// the place of the first of which something else is said
+fn first_wrong(alloc: Global, text: &str, words: &[Word]) -> Result<Option<usize>, Fail> {
+    for (index, Word(place, word, wanted)) in words.iter().enumerate() {
+        if refused(alloc, text, *place, *word)? != *wanted {
+            return Ok(Some(index));
+        }
+    }
+    Ok(None)
+}
+
+/// A text, and the number by which it is refused.
+struct Text(&'static str, u32);
+
+fn refused_text(alloc: Global, text: &str) -> Result<u32, Fail> {
+    Ok(refusal(alloc, bytes_of(alloc, text)?.as_slice()))
+}
+
+fn first_wrong_text(alloc: Global, texts: &[Text]) -> Result<Option<usize>, Fail> {
+    for (index, Text(text, wanted)) in texts.iter().enumerate() {
+        if refused_text(alloc, text)? != *wanted {
+            return Ok(Some(index));
+        }
+    }
+    Ok(None)
+}
+
+// nothing, and `BFSS` and `BFST` with and without a version
+static SHORT: [Text; 4] = [
+    Text("", 20),
+    Text("42465353", 20),
+    Text("4246535300000003", 22),
+    Text("4246535400000003", 20),
+];
+
+static VERSIONS: [Word; 4] = [Word(4, 1, 0), Word(4, 2, 0), Word(4, 3, 22), Word(4, 0, 22)];
+
 #[test]
 fn looks_at_the_version_first(rt: HostRuntime) -> Result<(), Fail> {
-    let alloc = rt.alloc();
-    same!(rt; refusal(alloc, &[]), 20);
-    same!(rt; refusal(alloc, b"BFSS"), 20);
-    same!(rt; refusal(alloc, bytes_of(alloc, "4246535300000003")?.as_slice()), 22);
-    same!(rt; refusal(alloc, bytes_of(alloc, "4246535400000003")?.as_slice()), 20);
-    same!(rt; refused(alloc, NEW, 4, 1)?, 0);
-    same!(rt; refused(alloc, NEW, 4, 2)?, 0);
-    same!(rt; refused(alloc, NEW, 4, 3)?, 22);
-    same!(rt; refused(alloc, NEW, 4, 0)?, 22);
+    compared(first_wrong_text(rt.alloc(), &SHORT)?, None)?;
+    compared(first_wrong(rt.alloc(), NEW, &VERSIONS)?, None)?;
     Ok(())
 }
+
+static OUT_OF_RANGE: [Word; 7] = [
+    // the next ordinal
+    Word(12, 2, 20),
+    Word(8, 1, 20),
+    // microseconds of the last time, and of the first time of the root
+    Word(20, 1_000_000, 20),
+    Word(56, 1_000_000, 20),
+    // a fileid, a type and permissions
+    Word(28, 1, 20),
+    Word(32, 3, 20),
+    Word(36, 4096, 20),
+];
 
 #[test]
 fn refuses_numbers_out_of_range(rt: HostRuntime) -> Result<(), Fail> {
-    let alloc = rt.alloc();
-    // the next ordinal
-    same!(rt; refused(alloc, NEW, 12, 2)?, 20);
-    same!(rt; refused(alloc, NEW, 8, 1)?, 20);
-    // microseconds of the last time, and of the first time of the root
-    same!(rt; refused(alloc, NEW, 20, 1_000_000)?, 20);
-    same!(rt; refused(alloc, NEW, 56, 1_000_000)?, 20);
-    // a fileid, a type and permissions
-    same!(rt; refused(alloc, NEW, 28, 1)?, 20);
-    same!(rt; refused(alloc, NEW, 32, 3)?, 20);
-    same!(rt; refused(alloc, NEW, 36, 4096)?, 20);
+    compared(first_wrong(rt.alloc(), NEW, &OUT_OF_RANGE)?, None)?;
     Ok(())
 }
+
+static COUNTS: [Word; 6] = [
+    Word(24, 2, 20),
+    Word(24, 65_536, 20),
+    Word(24, u32::MAX, 20),
+    Word(80, 2, 20),
+    Word(80, 65_536, 20),
+    Word(80, u32::MAX, 20),
+];
+
+static COUNTS_OF_SOME: [Word; 3] = [
+    Word(24, 2, 20),
+    Word(24, 65_536, 20),
+    Word(24, u32::MAX, 20),
+];
 
 #[test]
 fn reserves_nothing_by_counts(rt: HostRuntime) -> Result<(), Fail> {
-    let alloc = rt.alloc();
-    for count in [2, 65_536, u32::MAX] {
-        same!(rt; refused(alloc, NEW, 24, count)?, 20);
-        same!(rt; refused(alloc, NEW, 80, count)?, 20);
-        same!(rt; refused(alloc, SOME, 24, count)?, 20);
-    }
+    compared(first_wrong(rt.alloc(), NEW, &COUNTS)?, None)?;
+    compared(first_wrong(rt.alloc(), SOME, &COUNTS_OF_SOME)?, None)?;
     Ok(())
 }
 
+static NOT_FORMED: [Word; 5] = [
+    // the links of the root, and more than an inode may have
+    Word(40, 3, 21),
+    Word(40, 32_768, 21),
+    Word(40, u32::MAX, 21),
+    // the root's parent, and a root that is no inode
+    Word(76, 3, 21),
+    Word(28, 3, 21),
+];
+
 #[test]
 fn refuses_file_systems_that_are_not_well_formed(rt: HostRuntime) -> Result<(), Fail> {
-    let alloc = rt.alloc();
-    // the links of the root, and more than an inode may have
-    same!(rt; refused(alloc, NEW, 40, 3)?, 21);
-    same!(rt; refused(alloc, NEW, 40, 32_768)?, 21);
-    same!(rt; refused(alloc, NEW, 40, u32::MAX)?, 21);
-    // the root's parent, and a root that is no inode
-    same!(rt; refused(alloc, NEW, 76, 3)?, 21);
-    same!(rt; refused(alloc, NEW, 28, 3)?, 21);
+    compared(first_wrong(rt.alloc(), NEW, &NOT_FORMED)?, None)?;
     Ok(())
 }
 
@@ -92,32 +140,54 @@ fn with_entry(alloc: Global, entry: &str) -> Result<Vec<u8>, Fail> {
     Ok(bytes)
 }
 
+fn first_wrong_entry(alloc: Global, entries: &[Text]) -> Result<Option<usize>, Fail> {
+    for (index, Text(entry, wanted)) in entries.iter().enumerate() {
+        if refusal(alloc, with_entry(alloc, entry)?.as_slice()) != *wanted {
+            return Ok(Some(index));
+        }
+    }
+    Ok(None)
+}
+
+static ENTRIES: [Text; 4] = [
+    // of nothing, and padded with another byte than 0
+    Text("00000003000000016100000000000003", 21),
+    Text("00000003000000016100000100000003", 20),
+    // the cookie of no request
+    Text("00000002000000016100000000000003", 20),
+    // the root as its own entry
+    Text("00000003000000016100000000000002", 21),
+];
+
 #[test]
 fn refuses_entries_that_name_nothing(rt: HostRuntime) -> Result<(), Fail> {
-    let alloc = rt.alloc();
-    let dangling = with_entry(alloc, "00000003000000016100000000000003")?;
-    same!(rt; refusal(alloc, dangling.as_slice()), 21);
-    let padded = with_entry(alloc, "00000003000000016100000100000003")?;
-    same!(rt; refusal(alloc, padded.as_slice()), 20);
-    // the cookie of no request
-    let early = with_entry(alloc, "00000002000000016100000000000003")?;
-    same!(rt; refusal(alloc, early.as_slice()), 20);
-    // the root as its own entry
-    let looped = with_entry(alloc, "00000003000000016100000000000002")?;
-    same!(rt; refusal(alloc, looped.as_slice()), 21);
+    compared(first_wrong_entry(rt.alloc(), &ENTRIES)?, None)?;
     Ok(())
+}
+
+/// The first length at which a text that is cut there is not malformed.
+pub(crate) fn first_length(alloc: Global, text: &[u8]) -> Option<usize> {
+    for length in 0..text.len() {
+        if refusal(alloc, &text[..length]) != 20 {
+            return Some(length);
+        }
+    }
+    None
 }
 
 // the two first entries of `SOME`'s root have the names `d` and `l`
 const SECOND_NAME: usize = 108;
 
+fn repeated(alloc: Global) -> Result<(u32, Option<usize>), Fail> {
+    let repeated = with_word(alloc, SOME, SECOND_NAME, 0x6400_0000)?;
+    Ok((
+        refusal(alloc, repeated.as_slice()),
+        first_length(alloc, repeated.as_slice()),
+    ))
+}
+
 #[test]
 fn reads_to_the_end_before_it_says_that_a_name_is_repeated(rt: HostRuntime) -> Result<(), Fail> {
-    let alloc = rt.alloc();
-    let repeated = with_word(alloc, SOME, SECOND_NAME, 0x6400_0000)?;
-    same!(rt; refusal(alloc, repeated.as_slice()), 21);
-    for length in 0..repeated.len() {
-        same!(rt; refusal(alloc, &repeated.as_slice()[..length]), 20);
-    }
+    compared(repeated(rt.alloc())?, (21, None))?;
     Ok(())
 }

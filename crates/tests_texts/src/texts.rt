@@ -1,4 +1,5 @@
 //! Texts of file systems and their digests.
+use crate::hostile::first_length;
 use bfs_digest::{RestoreError, digest_parallel, digest_serial, restore, snapshot};
 use bfs_serial::{ExecError, FileSystem};
 use bfs_testing::texts::{NEW, SOME};
@@ -68,23 +69,23 @@ fn tells_nothing_of_one_that_has_failed(rt: HostRuntime) -> Result<(), Fail> {
     Ok(())
 }
 
+// the first length at which it is not malformed, and the number by which it is refused with a byte more
+fn cut(alloc: Global, text: &str) -> Result<(Option<usize>, u32), Fail> {
+    let mut bytes = bytes_of(alloc, text)?;
+    let first = first_length(alloc, bytes.as_slice());
+    bytes.push(0)?;
+    Ok((first, refusal(alloc, bytes.as_slice())))
+}
+
 #[test]
 fn refuses_a_text_cut_short(rt: HostRuntime) -> Result<(), Fail> {
-    let alloc = rt.alloc();
-    for text in [NEW, SOME] {
-        let bytes = bytes_of(alloc, text)?;
-        for length in 0..bytes.len() {
-            same!(rt; refusal(alloc, &bytes.as_slice()[..length]), 20);
-        }
-        let mut longer = bytes;
-        longer.push(0)?;
-        same!(rt; refusal(alloc, longer.as_slice()), 20);
-    }
+    same!(rt; cut(rt.alloc(), NEW)?, (None, 20));
+    same!(rt; cut(rt.alloc(), SOME)?, (None, 20));
     Ok(())
 }
 
 // whether a byte that is changed makes another file system, or none
-fn is_other(alloc: Global, changed: &[u8], digest: [u8; 32]) -> bool {
+fn is_other(alloc: Global, changed: &[u8], digest: &[u8; 32]) -> bool {
     match restore(alloc, changed) {
         Ok(files) => match digest_serial(&files) {
             Ok(other) => other.as_slice() != digest.as_slice(),
@@ -94,19 +95,44 @@ fn is_other(alloc: Global, changed: &[u8], digest: [u8; 32]) -> bool {
     }
 }
 
-#[test]
-fn tells_each_changed_byte(rt: HostRuntime) -> Result<(), Fail> {
-    let alloc = rt.alloc();
-    for text in [NEW, SOME] {
-        let bytes = bytes_of(alloc, text)?;
-        let digest = digest_serial(&restore(alloc, bytes.as_slice())?)?;
-        for place in 0..bytes.len() {
-            for bit in [0x01, 0x10, 0x80] {
-                let mut changed = bytes.clone()?;
-                changed.as_mut_slice()[place] ^= bit;
-                holds!(rt; is_other(alloc, changed.as_slice(), digest));
-            }
+// a text with other bits at a place
+fn with_bits(alloc: Global, text: &[u8], place: usize, bits: u8) -> Result<Vec<u8>, Fail> {
+    let mut changed = text.to_vec(alloc)?;
+    if let Some(byte) = changed.as_mut_slice().get_mut(place) {
+        *byte ^= bits;
+    }
+    Ok(changed)
+}
+
+fn is_told_at(alloc: Global, text: &[u8], digest: &[u8; 32], place: usize) -> Result<bool, Fail> {
+    for bits in [0x01, 0x10, 0x80] {
+        let changed = with_bits(alloc, text, place, bits)?;
+        if !is_other(alloc, changed.as_slice(), digest) {
+            return Ok(false);
         }
     }
+    Ok(true)
+}
+
+// the first place at which a change does not tell
+fn first_silent(alloc: Global, text: &[u8], digest: &[u8; 32]) -> Result<Option<usize>, Fail> {
+    for place in 0..text.len() {
+        if !is_told_at(alloc, text, digest, place)? {
+            return Ok(Some(place));
+        }
+    }
+    Ok(None)
+}
+
+fn silent(alloc: Global, text: &str) -> Result<Option<usize>, Fail> {
+    let bytes = bytes_of(alloc, text)?;
+    let digest = digest_serial(&restore(alloc, bytes.as_slice())?)?;
+    first_silent(alloc, bytes.as_slice(), &digest)
+}
+
+#[test]
+fn tells_each_changed_byte(rt: HostRuntime) -> Result<(), Fail> {
+    same!(rt; silent(rt.alloc(), NEW)?, None);
+    same!(rt; silent(rt.alloc(), SOME)?, None);
     Ok(())
 }
