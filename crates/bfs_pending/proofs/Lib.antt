@@ -1,2 +1,3 @@
 mod Alike
 mod Lasts
+pub mod Asked

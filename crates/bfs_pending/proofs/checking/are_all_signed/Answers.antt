@@ -1,6 +1,6 @@
 use Rattle.std.proofs.Common.{ap, ◌∙◌}
 use Rattle.bfs_messages.specs.Signing.{request_is_signed}
-use Rattle.bfs_messages.proofs.Asked.{asked}
+use Rattle.bfs_pending.proofs.Asked.{asked}
 use Rattle.bfs_pending.proofs.checking.are_all_signed.Goals as goal
 
 pub returns : goal.returns

@@ -1,9 +1,0 @@
-use Rattle.std.proofs.Common.{ap, ◌∙◌}
-use Rattle.bfs_messages.specs.Signing.{request_is_signed}
-use Rattle.bfs_messages.proofs.Asked.{asked}
-use Rattle.bfs_messages.proofs.checking.are_all_signed.Goals as goal
-
-pub returns : goal.returns
-returns g c =
-    let slice = ap (λ it. it.slice.now) c.with_min_len.ensures.base ∙ c.par_iter.ensures in
-    asked (request_is_signed c.args.keys.now) c.all.ensures.0 c.args.requests.now (c.all.ensures.1 ∙ slice) c.all.result c.all.ensures.2
