@@ -170,6 +170,8 @@ fn drops_the_digest_of_what_changes(rt: HostRuntime) -> Result<(), Fail> {
     Ok(())
 }
 
+const CREATED: &[Step] = &[Step(CREATE, &[ROOT, A, UNSET], &[])];
+
 // of a file of up to 25 blocks
 enum Change {
     // 8,192 bytes at an offset, all spelled by one word
@@ -240,8 +242,7 @@ fn kept_blocks(files: &FileSystem) -> Option<u32> {
 fn keeps_the_digests_of_the_blocks_that_stay(rt: HostRuntime) -> Result<(), Fail> {
     let alloc = rt.alloc();
     let mut files = FileSystem::new(alloc)?;
-    let create = Step(CREATE, &[ROOT, A, UNSET], &[]);
-    execute_serial(alloc, &mut files, &batch_of(alloc, 1, &[create])?)?;
+    execute_serial(alloc, &mut files, &batch_of(alloc, 1, CREATED)?)?;
     refresh(&rt, alloc, &mut files)?;
     for (change, stay, kept) in CHANGES_OF_A_LARGE_FILE {
         let mut batch = Batch::new(alloc);
