@@ -4,6 +4,7 @@ ghost use Rattle.std.specs.Option.{ForSome};
 ghost use Rattle.std.specs.Result.{result_map_both};
 ghost use Rattle.bfs_model.specs.Server.Refusals.{directory_found};
 ghost use Rattle.bfs_model.specs.Server.Tree.{listing_in};
+ghost use Rattle.bfs_model.specs.Server.WellFormed.{NamesDiffer};
 ghost use Rattle.bfs_procs.specs.Borrowed.{found_seen};
 ghost use Rattle.bfs_wire.specs.Replies.{status_seen};
 
@@ -29,6 +30,7 @@ pub(crate) fn found_directory<'a, S: Store>(
     ensures led { IfOk result (λ found. handle ≡ Some found.id) }
     ensures there { IfOk result (λ found. get (S.inodes store.now) found.id ≡ Some found.inode.now) }
     ensures holds { IfOk result (λ found. listing_in found.inode.now.body ≡ Some found.directory.now) }
+    ensures differ { IfOk result (λ found. NamesDiffer found.directory.now.entries) }
 {
     let id = handle.ok_or(Status::Stale)?;
     let inode = store.get(id).ok_or(Status::Stale)?;

@@ -13,6 +13,7 @@ ghost use Rattle.bfs_procs.specs.Renaming.{KeepsLimits, replaced_at};
 ghost use Rattle.bfs_tree.specs.Reach.{Knows};
 ghost use Rattle.bfs_wire.specs.Replies.{status_seen};
 
+use crate::found::found_directory;
 use crate::renaming::refusals::{Renaming, Replaced};
 use bfs_inode::{FileId, Inode, is_bad_name};
 use bfs_tree::Store;
@@ -53,25 +54,27 @@ fn found<S: Store>(
     ensures within { KeepsLimits (S.inodes store.now) result to }
     ensures whole { IfOk result (λ plan. ForSome plan (λ renaming. IsTrue (moves_directory renaming) → IsTrue ((S.reach store.now).whole))) }
 {
-    let from = from.ok_or(Status::Stale)?;
-    let from_inode = store.get(from).ok_or(Status::Stale)?;
-    let from_directory = from_inode.directory().ok_or(Status::NotDir)?;
-    let to = to.ok_or(Status::Stale)?;
-    let to_inode = store.get(to).ok_or(Status::Stale)?;
-    let to_directory = to_inode.directory().ok_or(Status::NotDir)?;
-    may_change_both(context, from_inode, to_inode)?;
+    let from = match found_directory(store, from) {
+        Ok(found) => found,
+        Err(status) => return Err(status),
+    };
+    let to = match found_directory(store, to) {
+        Ok(found) => found,
+        Err(status) => return Err(status),
+    };
+    may_change_both(context, from.inode, to.inode)?;
     are_good(from_name, to_name)?;
-    let moved = from_directory.entry(from_name).ok_or(Status::NoEnt)?.child;
+    let moved = from.directory.entry(from_name).ok_or(Status::NoEnt)?.child;
     let moved_inode = store.get(moved).ok_or(Status::Stale)?;
-    let existing = to_directory.entry(to_name).map(|entry| entry.child);
+    let existing = to.directory.entry(to_name).map(|entry| entry.child);
     if existing == Some(moved) {
         return Ok(None);
     }
     Ok(Some(Renaming {
-        from,
-        to,
-        entries: to_directory.len(),
-        links: to_inode.links(),
+        from: from.id,
+        to: to.id,
+        entries: to.directory.len(),
+        links: to.inode.links(),
         moved,
         is_directory: moved_inode.is_directory(),
         replaced: replaced_at(store, existing)?,
