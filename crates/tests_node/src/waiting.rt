@@ -71,11 +71,30 @@ const WAITS: Form = Form {
 // what replica 1 of four answers where the primary proposes that while the other one waits
 static CASES: [(Form, Said); 6] = [
     (WAITS, Said::Sent(1)),
-    (Form { spoiled: Some(2), ..WAITS }, Said::Sent(1)),
-    (Form { spoiled: Some(1), ..WAITS }, Said::Refused(24)),
+    (
+        Form {
+            spoiled: Some(2),
+            ..WAITS
+        },
+        Said::Sent(1),
+    ),
+    (
+        Form {
+            spoiled: Some(1),
+            ..WAITS
+        },
+        Said::Refused(24),
+    ),
     (Form { call: 8, ..WAITS }, Said::Refused(24)),
     (Form { signed: 8, ..WAITS }, Said::Refused(24)),
-    (Form { call: 8, signed: 8, ..WAITS }, Said::Sent(1)),
+    (
+        Form {
+            call: 8,
+            signed: 8,
+            ..WAITS
+        },
+        Said::Sent(1),
+    ),
 ];
 
 fn said_of<R: Threads + Sync>(rt: &R, alloc: Global, proposed: Form) -> Result<Said, Memory> {

@@ -63,7 +63,11 @@ fn takes<R: Threads + Sync>(
 ) -> Result<bool, Memory> {
     let signed = event.message(alloc)?;
     let none = PendingRequests::new(alloc);
-    Ok(order.on_message(rt, &keys_of(alloc, 1)?, &none, signed).is_ok())
+    Ok(
+        order
+            .on_message(rt, &keys_of(alloc, 1)?, &none, signed)
+            .is_ok(),
+    )
 }
 
 fn takes_all<R: Threads + Sync>(
