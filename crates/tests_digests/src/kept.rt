@@ -11,11 +11,10 @@ use bfs_testing::numbers::{
 };
 use bfs_testing::steps::Step;
 use bfs_testing::words::{
-    A, B, C, D, E, EIGHTH, F, FIFTH, FOURTH, G, L, ROOT, SEVENTH, SIXTH, THIRD, UNSET, call,
-    put_parts,
+    A, B, C, D, E, EIGHTH, F, FIFTH, FOURTH, G, L, ROOT, SEVENTH, SIXTH, THIRD, UNSET, request,
 };
 use bfs_testing_batches::gates::AsksForThreads;
-use bfs_types::{FileId, Time};
+use bfs_types::{FileId, Memory, Time};
 use bfs_workers::Workers;
 use std::alloc::Global;
 use std::process::Abort;
@@ -179,26 +178,22 @@ enum Change {
     Size(u32),
 }
 
-fn request_of(alloc: Global, change: &Change) -> Result<Vec<u8>, Fail> {
+fn request_of(alloc: Global, change: &Change) -> Result<Vec<u8>, Memory> {
     let same = u32::MAX;
     match change {
         Change::Write(offset, word) => request(
             alloc,
+            1,
             WRITE,
             &[THIRD, &[0, *offset, 0, 8_192], &[*word; 2_048]],
         ),
         Change::Size(size) => request(
             alloc,
+            1,
             SETATTR,
             &[THIRD, &[same, same, same, *size, same, same, same, same]],
         ),
     }
-}
-
-fn request(alloc: Global, procedure: u32, arguments: &[&[u32]]) -> Result<Vec<u8>, Fail> {
-    let mut bytes = call(alloc, 1, procedure)?;
-    put_parts(&mut bytes, arguments)?;
-    Ok(bytes)
 }
 
 // of how many blocks the file keeps the digests behind each, and behind the next refresh
@@ -291,12 +286,20 @@ fn refreshes_none_that_has_failed(rt: HostRuntime) -> Result<(), Fail> {
     Ok(())
 }
 
+// so that its blocks are kept too
+const LARGE: &[u32] = &[
+    0xffffffff, 0xffffffff, 0xffffffff, 65_536, 0xffffffff, 0xffffffff, 0xffffffff, 0xffffffff,
+];
+
+const ENLARGED: &[Step] = &[Step(SETATTR, &[FIFTH, LARGE], &[])];
+
 /// Nothing is refused in the gate's run of the tests: `.ci/refusals` runs this one with each growth of memory, and each start of a thread,
 /// refused in turn.
 #[test]
 fn refreshes_or_stays_as_it_was(rt: HostRuntime) -> Result<(), Fail> {
     let alloc = rt.alloc();
     let mut files = made(alloc)?;
+    execute_serial(alloc, &mut files, &batch_of(alloc, 2, ENLARGED)?)?;
     let wanted: &[u32] = match refresh(&rt, alloc, &mut files) {
         Ok(()) => &[],
         Err(_) => &[2, 3, 4, 5, 6, 7, 8],
