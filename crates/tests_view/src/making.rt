@@ -4,6 +4,7 @@ ghost use Rattle.std.specs.Prelude.{◌<◌, ◌^◌};
 use crate::parts::{Batch, Told, keys_of, proposal};
 use bfs_messages::{Message, Signed, ViewChange, Vote, sign};
 use bfs_order::Order;
+use bfs_pending::PendingRequests;
 use bfs_testing::asserts::compared;
 use bfs_types::Memory;
 use bfs_view::{make_view_change, valid_view_change};
