@@ -26,13 +26,18 @@ fn signed(alloc: Global, timestamp: u64, byte: u8) -> Result<Signed<Request>, Me
     Ok(signed)
 }
 
+// behind the others, if there is room
+fn put(pending: &mut PendingRequests, signed: Signed<Request>) -> Result<(), Memory> {
+    if pending.is_full() {
+        return Err(Memory);
+    }
+    pending.push(signed)
+}
+
 fn waiting(alloc: Global, names: &[Name]) -> Result<PendingRequests, Memory> {
     let mut pending = PendingRequests::new(alloc);
     for (client, timestamp) in names {
-        if pending.is_full() {
-            return Err(Memory);
-        }
-        pending.push(request(alloc, *client, *timestamp)?)?;
+        put(&mut pending, request(alloc, *client, *timestamp)?)?;
     }
     Ok(pending)
 }
@@ -73,8 +78,8 @@ fn what_waits_is_found_until_it_leaves(rt: HostRuntime) -> Result<(), Fail> {
     let alloc = rt.alloc();
     let me = Principal::Replica(0);
     let mut pending = waiting(alloc, &[])?;
-    pending.push(signed(alloc, 5, 1)?)?;
-    pending.push(signed(alloc, 6, 1)?)?;
+    put(&mut pending, signed(alloc, 5, 1)?)?;
+    put(&mut pending, signed(alloc, 6, 1)?)?;
     holds!(rt; pending.waits(me, &signed(alloc, 5, 1)?));
     holds!(rt; !pending.waits(me, &signed(alloc, 5, 2)?));
     holds!(rt; !pending.waits(me, &signed(alloc, 7, 1)?));
