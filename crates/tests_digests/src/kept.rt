@@ -286,9 +286,9 @@ fn refreshes_none_that_has_failed(rt: HostRuntime) -> Result<(), Fail> {
     Ok(())
 }
 
-// so that its blocks are kept too
+// of 256 blocks, which are kept, and which threads hash
 const LARGE: &[u32] = &[
-    0xffffffff, 0xffffffff, 0xffffffff, 65_536, 0xffffffff, 0xffffffff, 0xffffffff, 0xffffffff,
+    0xffffffff, 0xffffffff, 0xffffffff, 1_048_576, 0xffffffff, 0xffffffff, 0xffffffff, 0xffffffff,
 ];
 
 const ENLARGED: &[Step] = &[Step(SETATTR, &[FIFTH, LARGE], &[])];

@@ -8,6 +8,9 @@ use std::thread::Threads;
 
 pub const ALL: &[usize] = &[0, 1, 2, 3];
 
+/// The primary of view 0.
+pub const PRIMARY: &[usize] = &[0];
+
 /// All but the primary of view 0.
 pub const BACKUPS: &[usize] = &[1, 2, 3];
 

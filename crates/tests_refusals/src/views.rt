@@ -1,7 +1,7 @@
 //! A request is ordered, and views change, whatever call finds no memory: the replica that found none does it again, and then says what it says
 //! where nothing was refused.
 use crate::replica::Standing;
-use crate::script::{ALL, BACKUPS, Event, wrong_in_both};
+use crate::script::{ALL, BACKUPS, Event, PRIMARY, wrong_in_both};
 use bfs_testing::same;
 use std::test::Fail;
 
@@ -43,11 +43,11 @@ fn what_was_prepared_is_executed(rt: HostRuntime) -> Result<(), Fail> {
     Ok(())
 }
 
-// so many bytes that threads check whose they are
+// so many bytes that threads check whose they are at the backups, which learn of the requests by the PRE-PREPARE
 static MUCH: [Event; 7] = [
-    Event::AskMuch(ALL, 7),
-    Event::AskMuch(ALL, 8),
-    Event::AskMuch(ALL, 9),
+    Event::AskMuch(PRIMARY, 7),
+    Event::AskMuch(PRIMARY, 8),
+    Event::AskMuch(PRIMARY, 9),
     Event::Propose(0),
     Event::Settle(ALL),
     Event::Stand(ALL, Standing(0, 1, 0)),
