@@ -9,10 +9,10 @@ ghost use Rattle.bfs_tree.specs.Tree.{at_home, reach_of};
 ghost use Rattle.bfs_digest.specs.Inside.Formation.{TellsPlaced, is_named};
 
 use crate::names::Names;
-use crate::placing::{is_directory, is_placed};
+use crate::placing::is_placed;
 use crate::reach::all_reach_root;
 use bfs_inode::Inode;
-use bfs_tree::Tree;
+use bfs_tree::{Tree, is_directory};
 use bfs_types::{FileId, Memory};
 use std::alloc::Global;
 

@@ -52,8 +52,8 @@ impl<'a> Model for Files<'a> {
     ghost invariant = { λ files. All (IsBlockHashed (at_home files.tree.now)) files.blocks.now };
 }
 
-/// Hashes the records of the inodes at home that don't keep their digest, and of the files among them the blocks whose digest they don't keep, by
-/// as many threads as there are processors. For each such block it takes 64 bytes. `Memory` if memory runs out.
+/// Hashes the records of the inodes at home that don't keep their digest, and of the files among them the blocks whose digest they don't
+/// keep, by as many threads as there are processors. For each such block it takes 64 bytes. `Memory` if memory runs out.
 pub(crate) fn hash_missing(
     rt: &(impl Threads + Sync),
     alloc: Global,

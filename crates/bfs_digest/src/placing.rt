@@ -1,60 +1,21 @@
 // Whether an inode of a tree may stand where it does, as far as that can be told before all entries are counted.
 ghost use Rattle.std.specs.Prelude.{◌≡◌, ◌≤◌, ◌<◌, ◌↔◌, IsTrue};
 ghost use Rattle.std.specs.List.{list_all};
-ghost use Rattle.std.specs.FinMap.{get};
-ghost use Rattle.bfs_model.specs.Server.Limits.{most_entries};
-ghost use Rattle.bfs_model.specs.Server.Tree as model;
 ghost use Rattle.bfs_model.specs.Server.Tree.{root_id};
-ghost use Rattle.bfs_model.specs.Server.WellFormed.{directories_among, IsLimited, IsNumbered};
-ghost use Rattle.bfs_tree.specs.Inside.WellFormed as place;
+ghost use Rattle.bfs_model.specs.Server.WellFormed.{IsNumbered};
 ghost use Rattle.bfs_tree.specs.Tree.{at_home};
 ghost use Rattle.bfs_digest.specs.Inside.Formation as formation;
 ghost use Rattle.bfs_digest.specs.Inside.Formation.{IsPlaced};
 
-use bfs_inode::{Body, Directory, Entry, Inode, is_bad_name};
-use bfs_tree::Tree;
-use bfs_types::{FileId, MOST_FILE_BYTES, MOST_PATH_BYTES};
+use bfs_inode::{Directory, Entry, Inode};
+use bfs_tree::{Tree, are_children, directories_among, is_limited};
+use bfs_types::FileId;
 
 /// Whether the inode may stand at that fileid before the request of that ordinal.
 pub(crate) fn is_placed(tree: &Tree, id: FileId, inode: &Inode, ordinal: u64) -> bool
     ensures { IsTrue result ↔ IsPlaced (at_home tree.now) ordinal (id, inode.now) }
 {
     is_limited(inode) && is_numbered(id, inode, ordinal) && holds_children(tree, id, inode)
-}
-
-// whether an inode is within the limits; the types keep those of its links, of what it holds, and of cookies
-#[tactic(auto, using(crate::proofs::Placed::names_from, crate::proofs::Placed::names_of))]
-fn is_limited(inode: &Inode) -> bool
-    ensures { IsTrue result ↔ IsLimited inode.now }
-{
-    let links = inode.links();
-    match inode.body() {
-        Body::File(data) => {
-            prove!(data.len() <= MOST_FILE_BYTES);
-            links >= 1
-        }
-        Body::Directory(directory) => {
-            directory.entries_are_in_order();
-            names_are_good(directory)
-        }
-        Body::Link(path) => {
-            prove!(path.len() <= MOST_PATH_BYTES);
-            links >= 1
-        }
-    }
-}
-
-fn names_are_good(directory: &Directory) -> bool
-    ensures { result ≡ list_all (λ entry. place.is_good_name entry.name) directory.now.entries }
-{
-    directory.iter().all(|entry| has_good_name(entry))
-}
-
-// its type keeps a name short
-fn has_good_name(entry: &Entry) -> bool
-    ensures { result ≡ place.is_good_name entry.now.name }
-{
-    !is_bad_name(entry.name.as_slice())
 }
 
 // whether its fileid and its cookies are those of earlier requests, and the root is its own parent
@@ -107,46 +68,5 @@ fn holds_children(tree: &Tree, id: FileId, inode: &Inode) -> bool
                 && inode.links() as usize == 2 + directories_among(tree, directory)
         }
         None => true,
-    }
-}
-
-fn are_children(tree: &Tree, dir: FileId, directory: &Directory) -> bool
-    ensures { result ≡ list_all (λ entry. place.is_child (at_home tree.now) dir entry.child) directory.now.entries }
-{
-    directory
-        .iter()
-        .all(|entry| is_child(tree, dir, entry.child))
-}
-
-// whether what a directory names is there, and isn't the root or a directory that lies in another one
-fn is_child(tree: &Tree, dir: FileId, child: FileId) -> bool
-    ensures { result ≡ place.is_child (at_home tree.now) dir child }
-{
-    let Some(inode) = tree.home(child) else {
-        return false;
-    };
-    match inode.directory() {
-        Some(directory) => child != FileId::root() && directory.parent() == dir,
-        None => true,
-    }
-}
-
-fn directories_among(tree: &Tree, directory: &Directory) -> usize
-    ensures value { result ≡ directories_among (at_home tree.now) directory.now.entries }
-    ensures within { result ≤ most_entries }
-{
-    directory
-        .iter()
-        .filter(|entry| is_directory(tree, entry.child))
-        .count()
-}
-
-/// Whether a directory has the fileid.
-pub(crate) fn is_directory(tree: &Tree, id: FileId) -> bool
-    ensures { result ≡ model.is_directory (get (at_home tree.now) id) }
-{
-    match tree.home(id) {
-        Some(inode) => inode.is_directory(),
-        None => false,
     }
 }

@@ -16,3 +16,4 @@ pub use boxed::BoxedInode;
 pub use inodes::Inodes;
 pub use store::Store;
 pub use trees::Tree;
+pub use well_formed::{are_children, directories_among, is_limited};

@@ -14,7 +14,7 @@ use crate::store::Store;
 use crate::trees::Tree;
 use bfs_inode::{Directory, Inode};
 use bfs_types::FileId;
-use limits::is_limited;
+pub use limits::is_limited;
 
 impl Tree {
     /// Whether the tree is whole and well formed:
@@ -85,7 +85,9 @@ fn is_directory_in_place(tree: &Tree, id: FileId, links: u32, directory: &Direct
         && is_below(tree, id, FileId::root())
 }
 
-fn are_children(tree: &Tree, dir: FileId, directory: &Directory) -> bool
+/// Whether everything that a directory names is in the tree, and at home, and may lie in a directory of that fileid: it isn't the root, and
+/// isn't a directory whose parent is another one. Each entry costs a look-up.
+pub fn are_children(tree: &Tree, dir: FileId, directory: &Directory) -> bool
     ensures { result ≡ list_all (λ entry. place.is_child (at_home tree.now) dir entry.child) directory.now.entries }
 {
     directory
@@ -106,8 +108,9 @@ fn is_child(tree: &Tree, dir: FileId, child: FileId) -> bool
     }
 }
 
+/// How many entries of a directory name directories that are at home in the tree. Each entry costs a look-up.
 #[tactic(auto, using(crate::proofs::WellFormed::Lists::directories_counted))]
-fn directories_among(tree: &Tree, directory: &Directory) -> usize
+pub fn directories_among(tree: &Tree, directory: &Directory) -> usize
     ensures value { result ≡ model.directories_among (at_home tree.now) directory.now.entries }
     ensures within { result ≤ most_entries }
 {

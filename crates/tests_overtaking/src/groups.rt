@@ -12,9 +12,13 @@ use std::test::Fail;
 /// A procedure, and the words of its arguments.
 pub(crate) struct Asked(pub(crate) u32, pub(crate) &'static [&'static [u32]]);
 
+fn request_of(alloc: Global, call: &Asked) -> Result<Vec<u8>, Fail> {
+    Ok(request(alloc, 1, call.0, call.1)?)
+}
+
 fn push_all(alloc: Global, batch: &mut Batch, calls: &[Asked]) -> Result<(), Fail> {
-    for Asked(procedure, arguments) in calls {
-        batch.push(request(alloc, 1, *procedure, *arguments)?.as_slice())?;
+    for call in calls {
+        batch.push(request_of(alloc, call)?.as_slice())?;
     }
     Ok(())
 }

@@ -6,9 +6,10 @@ ghost use Rattle.bfs_tree.specs.Inside.WellFormed.{is_good_name};
 use bfs_inode::{Body, Directory, Entry, Inode, is_bad_name};
 use bfs_types::{MOST_FILE_BYTES, MOST_PATH_BYTES};
 
-// whether an inode is within the limits; the types keep those of its links, of what it holds, and of cookies
+/// Whether an inode is within the limits: a file or a symbolic link has a link, and a directory good names. The types keep the limits of how
+/// many links it has, of what it holds, and of cookies. A directory costs a step for each byte of its names.
 #[tactic(auto, using(crate::proofs::WellFormed::Lists::names_from, crate::proofs::WellFormed::Lists::names_of))]
-pub(super) fn is_limited(inode: &Inode) -> bool
+pub fn is_limited(inode: &Inode) -> bool
     ensures { IsTrue result ↔ IsLimited inode.now }
 {
     let links = inode.links();
