@@ -1,5 +1,5 @@
 -- A message comes: each kind goes to its part, and what the part gives is sent (OSDI 1999 sections 4.1 to 4.4).
-use Rattle.std.specs.Prelude.{not, [], ◌∷◌, ◌++◌, length, Option, Some, None, nat_le, if◌then◌else◌}
+use Rattle.std.specs.Prelude.{◌≡◌, ℕ, not, [], ◌∷◌, ◌++◌, length, take, Option, Some, None, nat_le, if◌then◌else◌}
 use Rattle.std.specs.List.{fold}
 use Rattle.std.specs.Option.{option_map}
 use Rattle.bfs_model.specs.Server.Limits.{most_requests}
@@ -51,6 +51,10 @@ after_request node signed _ = node
 -- the REQUESTs among messages come, one after another
 abbrev pub after_requests : Node → Log → Node
 after_requests node messages = fold (λ node signed. after_request node signed signed.message) node messages
+
+-- the first ones of them came, and no other
+abbrev pub SomeCame : (before : Node) → Log → (after : Node) → Type 0
+SomeCame before messages after = (count : ℕ) × (after ≡ after_requests before (take count messages))
 
 -- Messages of the order ----------------------------------------------------------------------------------------------------
 

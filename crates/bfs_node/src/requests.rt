@@ -1,7 +1,7 @@
 // Many requests come.
-ghost use Rattle.std.specs.Prelude.{◌≡◌, map, IfOk, OnOk};
+ghost use Rattle.std.specs.Prelude.{◌≡◌, map, IfOk, OnOk, OnErr};
 ghost use Rattle.bfs_messages.specs.Signing.{is_signed};
-ghost use Rattle.bfs_node.specs.Delivering.{after_request, after_requests};
+ghost use Rattle.bfs_node.specs.Delivering.{SomeCame, after_request, after_requests};
 
 use crate::node::Node;
 use bfs_auth::{Keys, least_texts};
@@ -14,13 +14,14 @@ use std::thread::Threads;
 impl Node {
     /// Takes the REQUESTs among messages, one after another, each as `take` does; one that is refused is lost. Any other message is passed
     /// over. Their authenticators are checked by as many threads as there are processors, unless there is too little to hash for them.
-    /// `Memory` if memory runs out; then those before one of them wait.
+    /// `Memory` if memory runs out; then the first ones of them came, and the others didn't.
     pub fn take_requests(
         &mut self,
         rt: &(impl Threads + Sync),
         messages: &[Signed<Message>],
     ) -> Result<(), Memory>
-        ensures { OnOk result (self.new ≡ after_requests self.old messages.now) }
+        ensures ok { OnOk result (self.new ≡ after_requests self.old messages.now) }
+        ensures err { OnErr result (SomeCame self.old messages.now self.new) }
     {
         let passes = are_signed(rt, self.alloc, &self.keys, messages)?;
         for number in 0..messages.len() {
@@ -32,6 +33,7 @@ impl Node {
     fn take_checked(&mut self, passes: bool, signed: &Signed<Message>) -> Result<(), Memory>
         requires { passes ≡ is_signed self.old.keys signed.now }
         ensures now { OnOk result (self.new ≡ after_request self.old signed.now signed.now.message) }
+        ensures err { OnErr result (self.new ≡ self.old) }
         ensures keys { self.new.keys ≡ self.old.keys }
     {
         if !passes || self.pending.is_full() {

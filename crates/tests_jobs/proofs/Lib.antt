@@ -1,3 +1,4 @@
+pub mod Nothing
 pub mod Numbers
 pub mod Out
 pub mod Parts

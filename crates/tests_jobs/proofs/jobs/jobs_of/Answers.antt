@@ -3,7 +3,7 @@ use Rattle.std.proofs.Common.{sym, subst}
 use Rattle.std.specs.List.{All}
 use Rattle.std.proofs.lemmas.List.Elements.{All-push}
 use Rattle.bfs_handover.specs.Jobs.{CanRun}
-use Rattle.tests_overlap.proofs.jobs.jobs_of.Goals as goal
+use Rattle.tests_jobs.proofs.jobs.jobs_of.Goals as goal
 
 pub loop-request-preserved : goal.loop-request-preserved
 loop-request-preserved c =
