@@ -1,6 +1,13 @@
-//! The clients of a run of replicas, as tests: the requests that they sign, and what they make of replies to several requests at a time.
+//! Clients, as tests: the requests that they sign, which replies they count, when they accept a result, and what they make of replies to several
+//! requests at a time.
 #![tactic(auto)]
 
+#[cfg(test)]
+mod accepted;
+#[cfg(test)]
+mod passed_over;
+#[cfg(test)]
+mod received;
 #[cfg(test)]
 mod replies;
 #[cfg(test)]

@@ -1,8 +1,8 @@
 use Rattle.std.proofs.Common.{ap}
 use Rattle.bfs_messages.specs.Messages as model
 use Rattle.bfs_messages.specs.declared.message.Message.TheVariants.{Checkpoint}
-use Rattle.tests_checkpoints.proofs.Certified.{certified}
-use Rattle.tests_checkpoints.proofs.keeping.tell.Goals as goal
+use Rattle.tests_outcome.proofs.Certified.{certified}
+use Rattle.tests_outcome.proofs.keeping.tell.Goals as goal
 
 pub settle-requires : goal.settle-requires
 settle-requires c =
