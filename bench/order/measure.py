@@ -2,7 +2,7 @@
 """`measure.py PROGRAM decode|check|hold|vote|change ..` prints, by the program of main.txt: what decoding a PRE-PREPARE of 1,024 requests of 8,192 bytes takes
 beside the SHA-256 of its bytes; what checking its requests takes on one processor and on all; how many bytes of memory each byte of it takes once it is
 decoded; and what a vote takes beside its own keyed hashes, among 4 and 31 replicas, in a log of one number and of 32; and what
-a view change takes beside the hashes that its rules ask for. Medians of ROUNDS runs.
+a view change takes beside the hashes that its rules ask for. Medians of ROUNDS runs; of `check` the least.
 """
 import os
 import statistics
@@ -31,8 +31,10 @@ def decode(program):
 
 
 def check(program):
-    one, = medians("taskset", "-c", "0", program, "check", "5")
-    every, = medians(program, "check", "5")
+    """The least of many, in turn: what else the machine does now and then doubles a time."""
+    processor = str(min(os.sched_getaffinity(0)))
+    rounds = [(run("taskset", "-c", processor, program, "check", "20")[0][0], run(program, "check", "20")[0][0]) for _ in range(2 * ROUNDS)]
+    one, every = (min(column) for column in zip(*rounds))
     print(f"check: one processor {one / 1000:.1f} ms, {len(os.sched_getaffinity(0))} processors {every / 1000:.1f} ms: {one / every:.2f} times")
 
 
