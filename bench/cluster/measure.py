@@ -1,6 +1,6 @@
 #!/usr/bin/env python3
 """`measure.py PROGRAM` prints, by the program of main.txt, what a batch of 1,024 requests takes a run of one replica and one of four: on one processor
-and on all, beside what must be hashed for it and its executions one after another; and the memory of each run. The least of ROUNDS runs.
+and on all, beside what must be hashed for it and its executions one after another; and the memory of each run.
 
 What must be hashed, for n replicas: the client signs a request for each; each checks it when it comes, and not again in the PRE-PREPARE; each hashes
 the batch; each signs its reply, and the client checks each. Counted in blocks of SHA-256, at the speed of the kit's `sha2`.
@@ -8,8 +8,9 @@ the batch; each signs its reply, and the client checks each. Counted in blocks o
 import os
 import subprocess
 import sys
+import time
 
-ROUNDS, BATCHES, REQUESTS = 5, "12", 1_024
+SECONDS, BATCHES, REQUESTS = 25, "6", 1_024
 CALLS = {"getattr": 72, "write": 8_280}  # bytes of a call
 REPLY = 32 + 96  # bytes of what is signed of a reply, with attributes as its result
 
@@ -23,10 +24,16 @@ def run(*command):
     return [int(word) for word in said.split()], usage.ru_maxrss
 
 
-def least(*command):
-    """The run of the least time, and the most memory."""
-    runs = [run(*command) for _ in range(ROUNDS)]
-    return min(said for said, _ in runs), max(memory for _, memory in runs)
+def least(commands):
+    """The least of what each command prints first, with what it prints beside it, and its most memory: of as many rounds as SECONDS hold, in each of
+    which all run, since other work on the machine may double a time."""
+    found, end = {}, time.monotonic() + SECONDS
+    while time.monotonic() < end:
+        for name, command in commands.items():
+            said, memory = run(*command)
+            before, most = found.get(name, (said, 0))
+            found[name] = min(said, before), max(memory, most)
+    return found
 
 
 def blocks(length):
@@ -46,19 +53,26 @@ def hashed(replicas, workload):
 
 def main(program):
     one = "taskset", "-c", str(min(os.sched_getaffinity(0)))
-    (hashing,), _ = least(*one, program, "hash", "8192", "1024")
-    block = hashing / (1_024 * blocks(8_192))
     for workload in CALLS:
-        (serial,), plain = least(*one, program, "serial", workload, BATCHES)
         for faults in ("0", "1"):
             replicas = 3 * int(faults) + 1
-            due = block * hashed(replicas, workload) + replicas * serial
-            (alone, *parts), memory = least(*one, program, "run", faults, workload, BATCHES)
-            (every, *_), _ = least(program, "run", faults, workload, BATCHES)
+            found = least({
+                "hash": (*one, program, "hash", "8192", "1024"),
+                "serial": (*one, program, "serial", workload, BATCHES),
+                "one": (*one, program, "run", faults, workload, BATCHES),
+                "every": (program, "run", faults, workload, BATCHES),
+            })
+            (hashing,), _ = found["hash"]
+            (serial,), plain = found["serial"]
+            due = hashing / (1_024 * blocks(8_192)) * hashed(replicas, workload) + replicas * serial
+            (alone, *parts), memory = found["one"]
+            (every, *parts_of_every), _ = found["every"]
+            tell = lambda all: " ".join(f"{part / 1000:.1f}" for part in all)
             print(
                 f"{workload}, {replicas} replicas: hashes and executions {due / 1000:.1f} ms; one processor {alone / 1000:.1f} ms: {alone / due:.2f}; "
-                f"{len(os.sched_getaffinity(0))} processors {every / 1000:.1f} ms: {every / due:.2f}; of one: signing, coming, ordering, counting "
-                f"{' '.join(f'{part / 1000:.1f}' for part in parts)} ms; memory {memory / 1024:.0f} MiB: {memory / plain:.2f} of the plain run's"
+                f"{len(os.sched_getaffinity(0))} processors {every / 1000:.1f} ms: {every / due:.2f}; signing, coming, ordering, counting {tell(parts)} ms "
+                f"and {tell(parts_of_every)} ms; memory {memory / 1024:.0f} MiB: {memory / plain:.2f} of the plain run's",
+                flush=True,
             )
 
 
