@@ -66,16 +66,23 @@ def files(program, folder):
 
 
 def large(program, folder):
-    trace, size, times = f"{folder}/trace", 16 * MEBIBYTE, 10
-    for count in (1, 64):
+    size, times, counts, works = 16 * MEBIBYTE, "10", (1, 64), ("nothing", "serial", "parallel")
+    for count in counts:
         made = [f"create #2 f{number} - - - {size // count} - -" for number in range(count)]
         made += ["null"] * (-len(made) % BATCH)
-        write_trace(trace, [*made, f"write #3 {size // count // 2} x" + "61" * 8_192])
-        found = least({work: (program, work, str(times), trace) for work in ("nothing", "serial", "parallel")})
-        took = {work: (found[work][0] - found["nothing"][0]) / times * 1e3 for work in ("serial", "parallel")}
-        rounds = [subprocess.run((program, "refresh", str(times), trace), check=True, capture_output=True, text=True).stdout for _ in range(ROUNDS)]
-        first, again = (min(int(round.split()[place]) for round in rounds) / 1e3 for place in (0, 1))
-        print(f"16 MiB in {count} files: digest_serial {took['serial']:.1f} ms, digest_parallel {took['parallel']:.1f} ms; refresh {first:.1f} ms, behind a WRITE of 8 KiB {again:.1f} ms")
+        write_trace(f"{folder}/{count}", [*made, f"write #3 {size // count // 2} x" + "61" * 8_192])
+    # all of them in turn, since other work on the machine may double a time
+    found, rounds = {}, {count: [] for count in counts}
+    for _ in range(3):
+        for command, took in least({(work, count): (program, work, times, f"{folder}/{count}") for work in works for count in counts}).items():
+            found[command] = min(found.get(command, took), took)
+        for count in counts:
+            said = subprocess.run((program, "refresh", times, f"{folder}/{count}"), check=True, capture_output=True, text=True).stdout
+            rounds[count].append([int(word) / 1e3 for word in said.split()])
+    for count in counts:
+        serial, parallel = ((found[work, count][0] - found["nothing", count][0]) / int(times) * 1e3 for work in works[1:])
+        first, again = map(min, zip(*rounds[count]))
+        print(f"16 MiB in {count} files: digest_serial {serial:.1f} ms, digest_parallel {parallel:.1f} ms; refresh {first:.1f} ms, behind a WRITE of 8 KiB {again:.1f} ms")
 
 
 def inodes(program, folder):
