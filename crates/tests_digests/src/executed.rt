@@ -1,55 +1,40 @@
 //! File systems that are restored, and then executed on.
-use bfs_digest::{digest_serial, refresh, restore, snapshot};
-use bfs_executor::{Engine, Executor};
-use bfs_serial::{Batch, FileSystem, Replies, execute_serial};
+use crate::files::{
+    batch_of, copied, digest_of, execute, execute_by, refreshed, restored, text_of,
+};
+use bfs_executor::Engine;
+use bfs_serial::{Batch, FileSystem, Replies};
+use bfs_testing::asserts::compared;
 use bfs_testing::numbers::{CREATE, GETATTR};
+use bfs_testing::steps::Step;
 use bfs_testing::texts::{NEARLY_SPENT, NEW, SOME};
-use bfs_testing::words::{A, B, ROOT, UNSET, call, put_parts, same_bytes, spelled, spells};
-use bfs_testing::{holds, same};
-use bfs_testing_batches::gates::AsksForThreads;
-use bfs_types::{Memory, Time};
-use bfs_workers::Workers;
+use bfs_testing::words::{A, B, ROOT, UNSET, spelled, spells};
+use bfs_types::Memory;
 use std::alloc::Global;
-use std::process::Abort;
 use std::sync::Wait;
 use std::test::Fail;
 use std::thread::Threads;
 
-fn restored(alloc: Global, text: &str) -> Result<FileSystem, Fail> {
-    Ok(restore(alloc, hex::decode(alloc, text)?.as_slice())?)
+fn restored_from(alloc: Global, text: &str) -> Result<FileSystem, Fail> {
+    Ok(restored(alloc, hex::decode(alloc, text)?.as_slice())?)
 }
 
-// the file system has that text, and its inodes that digest
-fn is_told(alloc: Global, files: &FileSystem, text: &str, digest: &str) -> Result<(), Fail> {
-    spells(alloc, snapshot(alloc, files)?.as_slice(), text)?;
-    spells(alloc, digest_serial(files)?.as_slice(), digest)
+fn is_spelled(alloc: Global, bytes: &[u8], text: &str) -> Result<(), Fail> {
+    spells(alloc, bytes, text)
 }
 
-fn create(alloc: Global, xid: u32, name: &[u32]) -> Result<Vec<u8>, Memory> {
-    let mut bytes = call(alloc, xid, CREATE)?;
-    put_parts(&mut bytes, &[ROOT, name, UNSET])?;
-    Ok(bytes)
-}
-
-fn root_attributes(alloc: Global, xid: u32) -> Result<Vec<u8>, Memory> {
-    let mut bytes = call(alloc, xid, GETATTR)?;
-    put_parts(&mut bytes, &[ROOT])?;
-    Ok(bytes)
+// the file system has the text of `AFTER`, and its inodes that digest
+fn is_after(alloc: Global, files: &FileSystem) -> Result<(), Fail> {
+    is_spelled(alloc, text_of(alloc, files)?.as_slice(), AFTER)?;
+    is_spelled(alloc, digest_of(files)?.as_slice(), AFTER_DIGEST)
 }
 
 // two files made in the root, and its attributes
-fn batch_at(alloc: Global, second: u32) -> Result<Batch, Fail> {
-    let mut batch = Batch::new(alloc);
-    batch.set_time(Time::new(second, 0).ok_or("a time")?);
-    batch.push(create(alloc, 1, A)?.as_slice())?;
-    batch.push(create(alloc, 2, B)?.as_slice())?;
-    batch.push(root_attributes(alloc, 3)?.as_slice())?;
-    Ok(batch)
-}
-
-fn is_reply(replies: &Replies, place: usize, wanted: &[u8]) -> bool {
-    place < replies.len() && replies.get(place) == wanted
-}
+static MADE: &[Step] = &[
+    Step(CREATE, &[ROOT, A, UNSET], &[]),
+    Step(CREATE, &[ROOT, B, UNSET], &[]),
+    Step(GETATTR, &[ROOT], &[]),
+];
 
 // by an engine with so many workers, or one request after another
 fn executed<R: Threads + Wait + Sync>(
@@ -59,19 +44,10 @@ fn executed<R: Threads + Wait + Sync>(
     batch: &Batch,
     by: Option<(Engine, u32)>,
 ) -> Result<Replies, Fail> {
-    let Some((engine, count)) = by else {
-        return Ok(execute_serial(alloc, files, batch)?);
-    };
-    let workers = Workers::new(count).ok_or("workers")?;
-    let engine = Some(engine);
-    let executor = Executor { workers, engine };
-    let answered = executor.execute_and_digest(rt, alloc, files, batch, &AsksForThreads)?;
-    same_bytes(
-        alloc,
-        answered.1.as_slice(),
-        digest_serial(files)?.as_slice(),
-    )?;
-    Ok(answered.0)
+    match by {
+        None => Ok(execute(alloc, files, batch)?),
+        Some((engine, count)) => execute_by(rt, alloc, files, batch, engine, count),
+    }
 }
 
 static BY: &[Option<(Engine, u32)>] = &[
@@ -102,57 +78,121 @@ static AT_THE_LAST: &[&[&[u32]]] = &[
     ],
 ];
 
+fn is_reply(replies: &Replies, place: usize, wanted: &[u8]) -> bool {
+    place < replies.len() && replies.get(place) == wanted
+}
+
+fn is_reply_of(
+    alloc: Global,
+    replies: &Replies,
+    place: usize,
+    words: &[&[u32]],
+) -> Result<bool, Memory> {
+    Ok(is_reply(replies, place, spelled(alloc, words)?.as_slice()))
+}
+
+// the place of the first that is another one
+fn first_wrong(
+    alloc: Global,
+    replies: &Replies,
+    wanted: &[&[&[u32]]],
+) -> Result<Option<usize>, Memory> {
+    let mut place = 0;
+    for words in wanted {
+        if !is_reply_of(alloc, replies, place, words)? {
+            return Ok(Some(place));
+        }
+        place = usize::saturating_add(place, 1);
+    }
+    Ok(None)
+}
+
+fn is_the_last(alloc: Global, files: &FileSystem, replies: &Replies) -> Result<(), Fail> {
+    compared(replies.len(), 3)?;
+    compared(first_wrong(alloc, replies, AT_THE_LAST)?, None)?;
+    Ok(compared(files.next_ordinal(), Some(4_294_967_296))?)
+}
+
+// one that was stored and restored has the same digest
+fn is_stored(alloc: Global, files: &FileSystem) -> Result<(), Fail> {
+    let again = copied(alloc, files)?;
+    Ok(compared(digest_of(&again)?, digest_of(files)?)?)
+}
+
+fn goes_on<R: Threads + Wait + Sync>(
+    rt: &R,
+    alloc: Global,
+    batch: &Batch,
+    by: Option<(Engine, u32)>,
+) -> Result<(), Fail> {
+    let mut files = restored_from(alloc, NEARLY_SPENT)?;
+    let replies = executed(rt, alloc, &mut files, batch, by)?;
+    is_the_last(alloc, &files, &replies)?;
+    // a spent ordinal is stored too
+    is_stored(alloc, &files)
+}
+
 #[test]
 fn goes_on_where_ordinals_end(rt: HostRuntime) -> Result<(), Fail> {
-    let alloc = rt.alloc();
-    let batch = batch_at(alloc, 7)?;
+    let batch = batch_of(rt.alloc(), 7, MADE)?;
     for by in BY {
-        let mut files = restored(alloc, NEARLY_SPENT)?;
-        let replies = executed(&rt, alloc, &mut files, &batch, *by)?;
-        same!(rt; replies.len(), 3);
-        let mut place = 0;
-        for wanted in AT_THE_LAST {
-            holds!(rt; is_reply(&replies, place, spelled(alloc, wanted)?.as_slice()));
-            place = usize::saturating_add(place, 1);
-        }
-        same!(rt; files.next_ordinal(), Some(4_294_967_296));
-        // a spent ordinal is stored too
-        let again = restore(alloc, snapshot(alloc, &files)?.as_slice())?;
-        holds!(rt; digest_serial(&again)? == digest_serial(&files)?);
+        goes_on(&rt, rt.alloc(), &batch, *by)?;
     }
     Ok(())
 }
 
 // a new file system after the batch, by another implementation
-const AFTER: &str =
+static AFTER: &str =
     "424653530000000200000000000000060000000100000000000000030000000200000002000001ff000000020000000000000000000000000000000000000001000000000000000100000000000000020000000200000003000000016100000000000003000000040000000162000000000000040000000300000001000001a4000000010000fffe0000fffe000000010000000000000001000000000000000100000000000000000000000400000001000001a4000000010000fffe0000fffe00000001000000000000000100000000000000010000000000000000";
 
-const AFTER_DIGEST: &str = "640e0cd60502c9ae9f0df4c914bac131102d497bc239571f60ba09264efb6b6c";
+static AFTER_DIGEST: &str = "640e0cd60502c9ae9f0df4c914bac131102d497bc239571f60ba09264efb6b6c";
+
+static TEXTS: &[&str] = &[NEW, NEARLY_SPENT, SOME];
+
+// the place of the first of three that differ
+fn first_other(given: &Replies, wanted: &Replies) -> Option<usize> {
+    for place in 0..3 {
+        if place >= wanted.len() || !is_reply(given, place, wanted.get(place)) {
+            return Some(place);
+        }
+    }
+    None
+}
+
+fn executes_the_same(alloc: Global, text: &str, batch: &Batch) -> Result<(), Fail> {
+    let mut files = restored_from(alloc, text)?;
+    let mut others = copied(alloc, &files)?;
+    let replies = execute(alloc, &mut files, batch)?;
+    let wanted = execute(alloc, &mut others, batch)?;
+    compared(first_other(&replies, &wanted), None)?;
+    Ok(compared(digest_of(&files)?, digest_of(&others)?)?)
+}
 
 #[test]
 fn executes_the_same_where_it_was_restored(rt: HostRuntime) -> Result<(), Fail> {
-    let alloc = rt.alloc();
-    for text in [NEW, NEARLY_SPENT, SOME] {
-        let mut files = restored(alloc, text)?;
-        let mut others = restore(alloc, snapshot(alloc, &files)?.as_slice())?;
-        let replies = execute_serial(alloc, &mut files, &batch_at(alloc, 9)?)?;
-        let wanted = execute_serial(alloc, &mut others, &batch_at(alloc, 9)?)?;
-        for place in 0..3 {
-            holds!(rt; place < wanted.len() && is_reply(&replies, place, wanted.get(place)));
-        }
-        holds!(rt; digest_serial(&files)? == digest_serial(&others)?);
+    let batch = batch_of(rt.alloc(), 9, MADE)?;
+    for text in TEXTS {
+        executes_the_same(rt.alloc(), text, &batch)?;
     }
     Ok(())
 }
 
+fn leaves<R: Threads + Wait + Sync>(
+    rt: &R,
+    alloc: Global,
+    batch: &Batch,
+    by: Option<(Engine, u32)>,
+) -> Result<(), Fail> {
+    let mut files = FileSystem::new(alloc)?;
+    executed(rt, alloc, &mut files, batch, by)?;
+    is_after(alloc, &files)
+}
+
 #[test]
 fn digests_what_its_workers_leave(rt: HostRuntime) -> Result<(), Fail> {
-    let alloc = rt.alloc();
-    let batch = batch_at(alloc, 1)?;
+    let batch = batch_of(rt.alloc(), 1, MADE)?;
     for by in BY {
-        let mut files = FileSystem::new(alloc)?;
-        executed(&rt, alloc, &mut files, &batch, *by)?;
-        is_told(alloc, &files, AFTER, AFTER_DIGEST)?;
+        leaves(&rt, rt.alloc(), &batch, *by)?;
     }
     Ok(())
 }
@@ -160,10 +200,10 @@ fn digests_what_its_workers_leave(rt: HostRuntime) -> Result<(), Fail> {
 #[test]
 fn tells_what_another_implementation_does_from_what_is_kept(rt: HostRuntime) -> Result<(), Fail> {
     let alloc = rt.alloc();
-    let mut files = restored(alloc, NEW)?;
-    refresh(&rt, alloc, &mut files)?;
-    execute_serial(alloc, &mut files, &batch_at(alloc, 1)?)?;
-    is_told(alloc, &files, AFTER, AFTER_DIGEST)?;
-    refresh(&rt, alloc, &mut files)?;
-    is_told(alloc, &files, AFTER, AFTER_DIGEST)
+    let mut files = restored_from(alloc, NEW)?;
+    refreshed(&rt, alloc, &mut files)?;
+    execute(alloc, &mut files, &batch_of(alloc, 1, MADE)?)?;
+    is_after(alloc, &files)?;
+    refreshed(&rt, alloc, &mut files)?;
+    is_after(alloc, &files)
 }

@@ -1,8 +1,11 @@
 //! Digests that inodes keep: which there are, that a change of an inode drops its own alone, and what the digest of the file system is then.
-use bfs_digest::{digest_parallel, digest_serial, refresh, restore, snapshot};
-use bfs_executor::{Engine, Executor};
-use bfs_inode::Body;
-use bfs_serial::{Batch, ExecError, FileSystem, execute_serial};
+use crate::files::{
+    batch_at, batch_of, copied, digest_of, digest_on_threads, execute, execute_by, execute_steps,
+    made, push, refreshed, text_of,
+};
+use bfs_executor::Engine;
+use bfs_inode::{Body, FileData, Inode};
+use bfs_serial::{ExecError, FileSystem};
 use bfs_testing::asserts::compared;
 use bfs_testing::holds;
 use bfs_testing::numbers::{
@@ -13,17 +16,16 @@ use bfs_testing::steps::Step;
 use bfs_testing::words::{
     A, B, C, D, E, EIGHTH, F, FIFTH, FOURTH, G, L, ROOT, SEVENTH, SIXTH, THIRD, UNSET, request,
 };
-use bfs_testing_batches::gates::AsksForThreads;
-use bfs_types::{FileId, Memory, Time};
-use bfs_workers::Workers;
+use bfs_types::{FileId, Memory};
 use std::alloc::Global;
 use std::process::Abort;
+use std::sync::Wait;
 use std::test::Fail;
 use std::thread::Threads;
 
 // directories 3 and 4 in the root, files 5 and 6 in the first, of which 6 has a name in the second too, a directory 7 in the first, and a
 // symbolic link 8 in the root
-const MADE: &[Step] = &[
+static MADE: &[Step] = &[
     Step(MKDIR, &[ROOT, D, UNSET], &[]),
     Step(MKDIR, &[ROOT, E, UNSET], &[]),
     Step(CREATE, &[THIRD, A, UNSET], &[]),
@@ -40,7 +42,7 @@ const READ_ONLY: &[u32] = &[
 ];
 
 // a call each, and the fileids of the inodes that it changes or makes
-const CHANGES: &[(Step, &[u32])] = &[
+static CHANGES: &[(Step, &[u32])] = &[
     (Step(SETATTR, &[FIFTH, READ_ONLY], &[]), &[5]),
     (Step(SETATTR, &[THIRD, READ_ONLY], &[]), &[3]),
     (Step(WRITE, &[FIFTH, &[0, 0, 0, 1, 0x61000000]], &[]), &[5]),
@@ -64,19 +66,9 @@ const CHANGES: &[(Step, &[u32])] = &[
     (Step(STATFS, &[ROOT], &[]), &[]),
 ];
 
-fn batch_of(alloc: Global, second: u32, steps: &[Step]) -> Result<Batch, Fail> {
-    let mut batch = Batch::new(alloc);
-    batch.set_time(Time::new(second, 0).ok_or("a time")?);
-    for step in steps {
-        batch.push(step.request(alloc, 1)?.as_slice())?;
-    }
-    Ok(batch)
-}
-
-fn made(alloc: Global) -> Result<FileSystem, Fail> {
-    let mut files = FileSystem::new(alloc)?;
-    execute_serial(alloc, &mut files, &batch_of(alloc, 1, MADE)?)?;
-    Ok(files)
+// whether that inode keeps its digest
+fn keeps(inode: &Inode, number: u32) -> bool {
+    inode.kept_digest(FileId::new(number)).is_some()
 }
 
 // the fileids of the inodes that don't keep their digest
@@ -84,17 +76,18 @@ fn without(alloc: Global, files: &FileSystem) -> Result<Vec<u32>, Fail> {
     let mut ids = Vec::new(alloc);
     let tree = files.tree().ok_or("a tree")?;
     for (number, inode) in tree.iter() {
-        if inode.kept_digest(FileId::new(*number)).is_none() {
+        if !keeps(inode, *number) {
             ids.push(*number)?;
         }
     }
     Ok(ids)
 }
 
-// the digest of what the file system's text spells, in whose inodes nothing is kept
-fn hashed_anew(alloc: Global, files: &FileSystem) -> Result<[u8; 32], Fail> {
-    let restored = restore(alloc, snapshot(alloc, files)?.as_slice())?;
-    Ok(digest_serial(&restored)?)
+// both digests of the file system are that of what its text spells, in whose inodes nothing is kept
+fn is_digested(rt: &(impl Threads + Sync), alloc: Global, files: &FileSystem) -> Result<(), Fail> {
+    let wanted = digest_of(&copied(alloc, files)?)?;
+    compared(digest_of(files)?, wanted)?;
+    Ok(compared(digest_on_threads(rt, alloc, files)?, wanted)?)
 }
 
 // just these inodes don't keep their digest, and both digests of the file system are right
@@ -105,71 +98,87 @@ fn is_kept_but(
     ids: &[u32],
 ) -> Result<(), Fail> {
     compared(without(alloc, files)?.as_slice(), ids)?;
-    let digest = hashed_anew(alloc, files)?;
-    compared(digest_serial(files)?, digest)?;
-    Ok(compared(digest_parallel(rt, alloc, files)?, digest)?)
+    is_digested(rt, alloc, files)
 }
 
-// how many of the fileids up to one more than the last each inode keeps a digest under
-fn kept_under(files: &FileSystem) -> Result<u32, Fail> {
+// the inodes keep their digests from then on
+fn keeps_all(
+    rt: &(impl Threads + Sync),
+    alloc: Global,
+    files: &mut FileSystem,
+) -> Result<(), Fail> {
+    refreshed(rt, alloc, files)?;
+    is_kept_but(rt, alloc, files, &[])
+}
+
+// under how many of the fileids up to one more than the last an inode keeps a digest
+fn count_of(inode: &Inode) -> u32 {
     let mut count: u32 = 0;
-    let tree = files.tree().ok_or("a tree")?;
-    for (_, inode) in tree.iter() {
-        for id in 0..=LAST + 1 {
-            if inode.kept_digest(FileId::new(id)).is_some() {
-                count = count.wrapping_add(1);
-            }
+    for number in 0..=LAST + 1 {
+        if keeps(inode, number) {
+            count = count.wrapping_add(1);
         }
     }
-    Ok(count)
+    count
+}
+
+// the same of all inodes
+fn kept_under(files: &FileSystem) -> Option<u32> {
+    let mut count: u32 = 0;
+    for (_, inode) in files.tree()?.iter() {
+        count = count.wrapping_add(count_of(inode));
+    }
+    Some(count)
 }
 
 #[test]
 fn keeps_the_digest_of_each_inode(rt: HostRuntime) -> Result<(), Fail> {
     let alloc = rt.alloc();
-    let mut files = made(alloc)?;
+    let mut files = made(alloc, MADE)?;
     is_kept_but(&rt, alloc, &files, &[2, 3, 4, 5, 6, 7, 8])?;
-    let text = snapshot(alloc, &files)?;
-    refresh(&rt, alloc, &mut files)?;
-    is_kept_but(&rt, alloc, &files, &[])?;
+    let text = text_of(alloc, &files)?;
+    keeps_all(&rt, alloc, &mut files)?;
     // under its own fileid alone
-    compared(kept_under(&files)?, 7)?;
-    compared(snapshot(alloc, &files)?.as_slice(), text.as_slice())?;
+    compared(kept_under(&files), Some(7))?;
+    compared(text_of(alloc, &files)?.as_slice(), text.as_slice())?;
     // again, with nothing to hash
-    refresh(&rt, alloc, &mut files)?;
-    is_kept_but(&rt, alloc, &files, &[])
+    keeps_all(&rt, alloc, &mut files)
 }
 
 // the call drops the digests of just these, and the next refresh makes them again
-fn drops(
+fn drops_in(
     rt: &(impl Threads + Sync),
     alloc: Global,
-    step: &Step,
-    changed: &[u32],
+    files: &mut FileSystem,
+    change: &(Step, &[u32]),
 ) -> Result<(), Fail> {
-    let mut files = made(alloc)?;
-    refresh(rt, alloc, &mut files)?;
-    let before = digest_serial(&files)?;
-    let mut batch = Batch::new(alloc);
-    batch.set_time(Time::new(2, 0).ok_or("a time")?);
-    batch.push(step.request(alloc, 1)?.as_slice())?;
-    execute_serial(alloc, &mut files, &batch)?;
-    is_kept_but(rt, alloc, &files, changed)?;
-    compared(digest_serial(&files)? == before, false)?;
-    refresh(rt, alloc, &mut files)?;
-    is_kept_but(rt, alloc, &files, &[])
+    refreshed(rt, alloc, files)?;
+    let before = digest_of(files)?;
+    let mut batch = batch_at(alloc, 2)?;
+    push(
+        &mut batch,
+        request(alloc, 1, change.0.0, change.0.1)?.as_slice(),
+    )?;
+    execute(alloc, files, &batch)?;
+    is_kept_but(rt, alloc, files, change.1)?;
+    compared(digest_of(files)? == before, false)?;
+    keeps_all(rt, alloc, files)
+}
+
+fn drops(rt: &(impl Threads + Sync), alloc: Global, change: &(Step, &[u32])) -> Result<(), Fail> {
+    let mut files = made(alloc, MADE)?;
+    drops_in(rt, alloc, &mut files, change)
 }
 
 #[test]
 fn drops_the_digest_of_what_changes(rt: HostRuntime) -> Result<(), Fail> {
-    let alloc = rt.alloc();
-    for (step, changed) in CHANGES {
-        drops(&rt, alloc, step, *changed)?;
+    for change in CHANGES {
+        drops(&rt, rt.alloc(), change)?;
     }
     Ok(())
 }
 
-const CREATED: &[Step] = &[Step(CREATE, &[ROOT, A, UNSET], &[])];
+static CREATED: &[Step] = &[Step(CREATE, &[ROOT, A, UNSET], &[])];
 
 // of a file of up to 25 blocks
 enum Change {
@@ -178,26 +187,26 @@ enum Change {
     Size(u32),
 }
 
-fn request_of(alloc: Global, change: &Change) -> Result<Vec<u8>, Memory> {
+fn write(alloc: Global, offset: u32, word: u32) -> Result<Vec<u8>, Memory> {
+    let bytes = [word; 2_048];
+    request(alloc, 1, WRITE, &[THIRD, &[0, offset, 0, 8_192], &bytes])
+}
+
+fn resize(alloc: Global, size: u32) -> Result<Vec<u8>, Memory> {
     let same = u32::MAX;
+    let settings = [same, same, same, size, same, same, same, same];
+    request(alloc, 1, SETATTR, &[THIRD, &settings])
+}
+
+fn request_of(alloc: Global, change: &Change) -> Result<Vec<u8>, Memory> {
     match change {
-        Change::Write(offset, word) => request(
-            alloc,
-            1,
-            WRITE,
-            &[THIRD, &[0, *offset, 0, 8_192], &[*word; 2_048]],
-        ),
-        Change::Size(size) => request(
-            alloc,
-            1,
-            SETATTR,
-            &[THIRD, &[same, same, same, *size, same, same, same, same]],
-        ),
+        Change::Write(offset, word) => write(alloc, *offset, *word),
+        Change::Size(size) => resize(alloc, *size),
     }
 }
 
 // of how many blocks the file keeps the digests behind each, and behind the next refresh
-const CHANGES_OF_A_LARGE_FILE: &[(Change, u32, u32)] = &[
+static CHANGES_OF_A_LARGE_FILE: &[(Change, u32, u32)] = &[
     (Change::Size(81_920), 0, 20),
     (Change::Write(0, 0x61626364), 18, 20),
     (Change::Write(73_728, 0x65666768), 18, 20),
@@ -220,68 +229,98 @@ const CHANGES_OF_A_LARGE_FILE: &[(Change, u32, u32)] = &[
     (Change::Write(50_000, 0x797a3031), 22, 25),
 ];
 
-fn kept_blocks(files: &FileSystem) -> Option<u32> {
-    let Body::File(data) = files.tree()?.home(FileId::new(3))?.body() else {
-        return None;
-    };
+fn count_blocks(data: &FileData) -> u32 {
     let mut count: u32 = 0;
     for number in 0..25 {
         if data.kept_block(number).is_some() {
             count = count.wrapping_add(1);
         }
     }
-    Some(count)
+    count
 }
 
-#[test]
-fn keeps_the_digests_of_the_blocks_that_stay(rt: HostRuntime) -> Result<(), Fail> {
-    let alloc = rt.alloc();
-    let mut files = FileSystem::new(alloc)?;
-    execute_serial(alloc, &mut files, &batch_of(alloc, 1, CREATED)?)?;
-    refresh(&rt, alloc, &mut files)?;
-    for (change, stay, kept) in CHANGES_OF_A_LARGE_FILE {
-        let mut batch = Batch::new(alloc);
-        batch.set_time(Time::new(2, 0).ok_or("a time")?);
-        batch.push(request_of(alloc, change)?.as_slice())?;
-        execute_serial(alloc, &mut files, &batch)?;
-        compared(kept_blocks(&files), Some(*stay))?;
-        is_kept_but(&rt, alloc, &files, &[3])?;
-        refresh(&rt, alloc, &mut files)?;
-        compared(kept_blocks(&files), Some(*kept))?;
-        is_kept_but(&rt, alloc, &files, &[])?;
+fn blocks_of(inode: &Inode) -> Option<u32> {
+    match inode.body() {
+        Body::File(data) => Some(count_blocks(data)),
+        _ => None,
+    }
+}
+
+fn kept_blocks(files: &FileSystem) -> Option<u32> {
+    blocks_of(files.tree()?.home(FileId::new(3))?)
+}
+
+fn execute_change(alloc: Global, files: &mut FileSystem, change: &Change) -> Result<(), Fail> {
+    let mut batch = batch_at(alloc, 2)?;
+    push(&mut batch, request_of(alloc, change)?.as_slice())?;
+    execute(alloc, files, &batch)?;
+    Ok(())
+}
+
+fn keeps_what_stays(
+    rt: &(impl Threads + Sync),
+    alloc: Global,
+    files: &mut FileSystem,
+    row: &(Change, u32, u32),
+) -> Result<(), Fail> {
+    execute_change(alloc, files, &row.0)?;
+    compared(kept_blocks(files), Some(row.1))?;
+    is_kept_but(rt, alloc, files, &[3])?;
+    refreshed(rt, alloc, files)?;
+    compared(kept_blocks(files), Some(row.2))?;
+    is_kept_but(rt, alloc, files, &[])
+}
+
+fn keeps_what_stays_each(
+    rt: &(impl Threads + Sync),
+    alloc: Global,
+    files: &mut FileSystem,
+) -> Result<(), Fail> {
+    for row in CHANGES_OF_A_LARGE_FILE {
+        keeps_what_stays(rt, alloc, files, row)?;
     }
     Ok(())
 }
 
+#[test]
+fn keeps_the_digests_of_the_blocks_that_stay(rt: HostRuntime) -> Result<(), Fail> {
+    let mut files = made(rt.alloc(), CREATED)?;
+    refreshed(&rt, rt.alloc(), &mut files)?;
+    keeps_what_stays_each(&rt, rt.alloc(), &mut files)
+}
+
 // 5 is changed, and 6 read
-const TOUCHED: &[Step] = &[
+static TOUCHED: &[Step] = &[
     Step(SETATTR, &[FIFTH, READ_ONLY], &[]),
     Step(READ, &[SIXTH, &[0, 8, 0]], &[]),
     Step(READDIR, &[THIRD, &[0, 512]], &[]),
 ];
 
+fn goes<R: Threads + Wait + Sync>(rt: &R, alloc: Global, engine: Engine) -> Result<(), Fail> {
+    let mut files = made(alloc, MADE)?;
+    refreshed(rt, alloc, &mut files)?;
+    let batch = batch_of(alloc, 2, TOUCHED)?;
+    execute_by(rt, alloc, &mut files, &batch, engine, 3)?;
+    is_kept_but(rt, alloc, &files, &[5])
+}
+
 #[test]
 fn goes_with_an_inode_to_a_worker(rt: HostRuntime) -> Result<(), Fail> {
-    let alloc = rt.alloc();
-    let batch = batch_of(alloc, 2, TOUCHED)?;
-    let workers = Workers::new(3).ok_or("workers")?;
-    for engine in [Engine::Runs, Engine::Levels] {
-        let mut files = made(alloc)?;
-        refresh(&rt, alloc, &mut files)?;
-        let engine = Some(engine);
-        let executor = Executor { workers, engine };
-        executor.execute_and_digest(&rt, alloc, &mut files, &batch, &AsksForThreads)?;
-        is_kept_but(&rt, alloc, &files, &[5])?;
-    }
-    Ok(())
+    goes(&rt, rt.alloc(), Engine::Runs)?;
+    goes(&rt, rt.alloc(), Engine::Levels)
+}
+
+// whether it was live
+fn fail(files: &mut FileSystem) -> bool {
+    files.take_parts().is_some()
 }
 
 #[test]
 fn refreshes_none_that_has_failed(rt: HostRuntime) -> Result<(), Fail> {
     let alloc = rt.alloc();
     let mut files = FileSystem::new(alloc)?;
-    holds!(rt; files.take_parts().is_some());
-    holds!(rt; refresh(&rt, alloc, &mut files).err() == Some(ExecError::Failed));
+    holds!(rt; fail(&mut files));
+    holds!(rt; refreshed(&rt, alloc, &mut files) == Err(ExecError::Failed));
     holds!(rt; !files.is_live());
     Ok(())
 }
@@ -291,21 +330,29 @@ const LARGE: &[u32] = &[
     0xffffffff, 0xffffffff, 0xffffffff, 1_048_576, 0xffffffff, 0xffffffff, 0xffffffff, 0xffffffff,
 ];
 
-const ENLARGED: &[Step] = &[Step(SETATTR, &[FIFTH, LARGE], &[])];
+static ENLARGED: &[Step] = &[Step(SETATTR, &[FIFTH, LARGE], &[])];
+
+// those that don't keep their digest once it was tried
+fn left_without(
+    rt: &(impl Threads + Sync),
+    alloc: Global,
+    files: &mut FileSystem,
+) -> &'static [u32] {
+    match refreshed(rt, alloc, files) {
+        Ok(()) => &[],
+        Err(_) => &[2, 3, 4, 5, 6, 7, 8],
+    }
+}
 
 /// Nothing is refused in the gate's run of the tests: `.ci/refusals` runs this one with each growth of memory, and each start of a thread,
 /// refused in turn.
 #[test]
 fn refreshes_or_stays_as_it_was(rt: HostRuntime) -> Result<(), Fail> {
     let alloc = rt.alloc();
-    let mut files = made(alloc)?;
-    execute_serial(alloc, &mut files, &batch_of(alloc, 2, ENLARGED)?)?;
-    let wanted: &[u32] = match refresh(&rt, alloc, &mut files) {
-        Ok(()) => &[],
-        Err(_) => &[2, 3, 4, 5, 6, 7, 8],
-    };
+    let mut files = made(alloc, MADE)?;
+    execute_steps(alloc, &mut files, 2, ENLARGED)?;
+    let wanted = left_without(&rt, alloc, &mut files);
     is_kept_but(&rt, alloc, &files, wanted)?;
     // once there is memory
-    refresh(&rt, alloc, &mut files)?;
-    is_kept_but(&rt, alloc, &files, &[])
+    keeps_all(&rt, alloc, &mut files)
 }

@@ -4,4 +4,6 @@
 #[cfg(test)]
 mod executed;
 #[cfg(test)]
+mod files;
+#[cfg(test)]
 mod kept;

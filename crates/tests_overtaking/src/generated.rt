@@ -1,5 +1,7 @@
 //! Generated groups under generated lists of events, with the outcome of the calls one after another.
-use crate::groups::{compare_first, compare_played, count_of, first_core, happens, with_files};
+use crate::groups::{
+    batch_of, compare_first, compare_played, count_of, first_core, happens, with_files,
+};
 use bfs_overtaking::{Core, Event};
 use bfs_serial::Batch;
 use bfs_testing::asserts::compared;
@@ -8,7 +10,7 @@ use bfs_testing::holds;
 use bfs_testing::numbers::{
     CREATE, GETATTR, LINK, MKDIR, READ, READDIR, REMOVE, RENAME, SETATTR, WRITE,
 };
-use bfs_types::{Memory, Time};
+use bfs_types::Memory;
 use std::alloc::Global;
 use std::test::Fail;
 
@@ -29,12 +31,20 @@ fn generator() -> Generator {
     }
 }
 
-fn batch(alloc: Global, generator: &mut Generator) -> Result<Batch, Fail> {
-    let mut batch = Batch::new(alloc);
-    batch.set_time(Time::new(2, 0).ok_or("a time")?);
+fn push(alloc: Global, generator: &mut Generator, batch: &mut Batch) -> Result<(), Fail> {
+    Ok(batch.push(generator.request(alloc)?.as_slice())?)
+}
+
+fn push_each(alloc: Global, generator: &mut Generator, batch: &mut Batch) -> Result<(), Fail> {
     for _ in 0..16 {
-        batch.push(generator.request(alloc)?.as_slice())?;
+        push(alloc, generator, batch)?;
     }
+    Ok(())
+}
+
+fn batch(alloc: Global, generator: &mut Generator) -> Result<Batch, Fail> {
+    let mut batch = batch_of(alloc, 2, &[])?;
+    push_each(alloc, generator, &mut batch)?;
     Ok(batch)
 }
 

@@ -1,11 +1,12 @@
 //! Groups of a batch on the machine, and what is compared.
 use bfs_levels::plan_group;
 use bfs_overtaking::{Core, CoreError, Event};
-use bfs_serial::{Batch, FileSystem, Replies, execute_serial};
+use bfs_serial::{Batch, ExecError, FileSystem, Replies, execute_serial};
 use bfs_testing::asserts::compared;
 use bfs_testing::numbers::CREATE;
 use bfs_testing::words::{A, B, C, ROOT, UNSET, request};
-use bfs_types::Time;
+use bfs_tree::Tree;
+use bfs_types::{Memory, Time};
 use std::alloc::Global;
 use std::test::Fail;
 
@@ -37,11 +38,20 @@ static MAKING: &[Asked] = &[
     Asked(CREATE, &[ROOT, C, UNSET]),
 ];
 
+/// The replies to a batch that is executed one request after another. No contract says which: a test that is told proves much longer.
+pub(crate) fn execute(
+    alloc: Global,
+    files: &mut FileSystem,
+    batch: &Batch,
+) -> Result<Replies, ExecError> {
+    execute_serial(alloc, files, batch)
+}
+
 /// A file system with the files `a`, `b` and `c`, of the fileids 3, 4 and 5.
 pub(crate) fn with_files(alloc: Global) -> Result<FileSystem, Fail> {
     let mut files = FileSystem::new(alloc)?;
     let batch = batch_of(alloc, 1, MAKING)?;
-    execute_serial(alloc, &mut files, &batch)?;
+    execute(alloc, &mut files, &batch)?;
     Ok(files)
 }
 
@@ -111,11 +121,14 @@ fn has_replies(core: &Core, first: u32, replies: &Replies) -> bool {
     true
 }
 
+fn shown(alloc: Global, tree: Option<&Tree>) -> Result<String, Memory> {
+    Ok(format!(in alloc; "{:?}", tree)?)
+}
+
 fn compare_trees(alloc: Global, core: &Core, files: &FileSystem) -> Result<(), Fail> {
-    let tree = format!(in alloc; "{:?}", core.tree())?;
-    let wanted = format!(in alloc; "{:?}", files.tree())?;
-    compared(tree.as_str(), wanted.as_str())?;
-    Ok(())
+    let tree = shown(alloc, core.tree())?;
+    let wanted = shown(alloc, files.tree())?;
+    Ok(compared(tree.as_str(), wanted.as_str())?)
 }
 
 /// Compares a machine, whose calls are so many and all finished, with a file system on which they are executed one after another.
@@ -128,10 +141,9 @@ pub(crate) fn compare(
     count: u32,
 ) -> Result<(), Fail> {
     let part = part_of(alloc, batch, first, first.saturating_add(count))?;
-    let replies = execute_serial(alloc, files, &part)?;
+    let replies = execute(alloc, files, &part)?;
     compared(replies.len(), count as usize)?;
-    compared(has_replies(core, first, &replies), true)?;
-    compared(core.finished(), true)?;
+    compared(core.finished() && has_replies(core, first, &replies), true)?;
     compare_trees(alloc, core, files)
 }
 

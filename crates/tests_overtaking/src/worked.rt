@@ -1,10 +1,10 @@
 //! Worked groups: each refusal, and calls that are finished after later ones.
 use crate::groups::{
-    Asked, batch_of, compare, compare_first, compare_played, core_of, first_core, happens, part_of,
-    played, with_files,
+    Asked, batch_of, compare, compare_first, compare_played, core_of, execute, first_core, happens,
+    part_of, played, with_files,
 };
 use bfs_overtaking::{Core, Event};
-use bfs_serial::{Batch, FileSystem, execute_serial};
+use bfs_serial::{Batch, FileSystem};
 use bfs_testing::asserts::compared;
 use bfs_testing::numbers::{CREATE, LOOKUP, READ, REMOVE, RENAME, STATFS, WRITE};
 use bfs_testing::same;
@@ -42,10 +42,12 @@ static EVENTS: &[(Event, u32)] = &[
 
 // the place of the first that comes to something else, or before which all is finished
 fn first_wrong(core: &mut Core, events: &[(Event, u32)]) -> Option<usize> {
-    for (place, (event, wanted)) in events.iter().enumerate() {
-        if core.finished() || happens(core, *event) != *wanted {
+    let mut place = 0;
+    for event in events {
+        if core.finished() || happens(core, event.0) != event.1 {
             return Some(place);
         }
+        place = usize::saturating_add(place, 1);
     }
     None
 }
@@ -53,9 +55,9 @@ fn first_wrong(core: &mut Core, events: &[(Event, u32)]) -> Option<usize> {
 // those that are not refused
 fn accepted(alloc: Global, events: &[(Event, u32)]) -> Result<Vec<Event>, Memory> {
     let mut accepted = Vec::new(alloc);
-    for (event, refusal) in events {
-        if *refusal == 0 {
-            accepted.push(*event)?;
+    for event in events {
+        if event.1 == 0 {
+            accepted.push(event.0)?;
         }
     }
     Ok(accepted)
@@ -163,18 +165,23 @@ static REPLACING: &[Asked] = &[
 // a file system on which the requests before that one were executed
 fn before(alloc: Global, batch: &Batch, first: u32) -> Result<FileSystem, Fail> {
     let mut files = with_files(alloc)?;
-    execute_serial(alloc, &mut files, &part_of(alloc, batch, 0, first)?)?;
+    execute(alloc, &mut files, &part_of(alloc, batch, 0, first)?)?;
     Ok(files)
+}
+
+fn finish_one(core: &mut Core, number: u32) -> u32 {
+    match happens(core, Event::Take(number)) {
+        0 => happens(core, Event::Finish(number)),
+        refusal => refusal,
+    }
 }
 
 // the number of the first refusal, 0 where each call is taken and finished
 fn finish_each(core: &mut Core, first: u32, end: u32) -> u32 {
     for number in first..end {
-        for event in [Event::Take(number), Event::Finish(number)] {
-            let refusal = happens(core, event);
-            if refusal != 0 {
-                return refusal;
-            }
+        let refusal = finish_one(core, number);
+        if refusal != 0 {
+            return refusal;
         }
     }
     0
@@ -200,12 +207,15 @@ fn goes(alloc: Global, batch: &Batch, first: u32, count: u32) -> Result<(), Fail
     ends(alloc, &mut core, batch, first, count)
 }
 
+// the first calls of groups, and how many calls they have
+static GROUPS: &[(u32, u32)] = &[(0, 2), (2, 1), (3, 1), (4, 1)];
+
 #[test]
 fn goes_group_after_group(rt: HostRuntime) -> Result<(), Fail> {
     let alloc = rt.alloc();
     let batch = batch_of(alloc, 2, REPLACING)?;
-    for (first, count) in [(0u32, 2u32), (2, 1), (3, 1), (4, 1)] {
-        goes(alloc, &batch, first, count)?;
+    for group in GROUPS {
+        goes(alloc, &batch, group.0, group.1)?;
     }
     Ok(())
 }
