@@ -61,21 +61,32 @@ struct Snapshot {
     digest: [u8; 32],
 }
 
+// 16 batches without requests, and a checkpoint
 fn execute_sixteen<R: Threads + Wait + Sync>(rt: &R, node: &mut Node) {
     for _ in 0u32..16 {
         propose(node);
         execute(rt, node);
     }
+    checkpoint(rt, node);
+}
+
+fn snapshot_of<R: Threads + Sync>(rt: &R, alloc: Global, node: &Node) -> Result<Snapshot, Memory> {
+    let text = stable_text(alloc, node)?;
+    match digest_of(rt, node) {
+        Some(digest) => Ok(Snapshot { text, digest }),
+        None => Err(Memory),
+    }
 }
 
 // of a replica that has executed 16 batches without requests
-fn sixteen_batches<R: Threads + Wait + Sync>(rt: &R, alloc: Global) -> Result<Snapshot, Memory> {
+fn of_sixteen_batches<R: Threads + Wait + Sync>(rt: &R, alloc: Global) -> Result<Snapshot, Memory> {
     let mut node = replica(alloc, 0, 0)?;
     execute_sixteen(rt, &mut node);
-    checkpoint(rt, &mut node);
-    let text = stable_text(alloc, &node)?;
-    let digest = digest_of(rt, &node).ok_or(Memory)?;
-    Ok(Snapshot { text, digest })
+    snapshot_of(rt, alloc, &node)
+}
+
+fn copy_of(alloc: Global, text: &[u8]) -> Result<Vec<u8>, Memory> {
+    Ok(text.to_vec(alloc)?)
 }
 
 fn with_another_byte(
@@ -84,7 +95,7 @@ fn with_another_byte(
     place: usize,
     byte: u8,
 ) -> Result<Vec<u8>, Memory> {
-    let mut changed = text.to_vec(alloc)?;
+    let mut changed = copy_of(alloc, text)?;
     if let Some(one) = changed.get_mut(place) {
         *one = byte;
     }
@@ -102,7 +113,7 @@ struct Behind {
 
 impl Behind {
     fn new<R: Threads + Wait + Sync>(rt: &R, alloc: Global) -> Result<Behind, Memory> {
-        let snapshot = sixteen_batches(rt, alloc)?;
+        let snapshot = of_sixteen_batches(rt, alloc)?;
         let node = replica(alloc, 1, 3)?;
         let before = digest_of(rt, &node);
         Ok(Behind {
@@ -113,6 +124,15 @@ impl Behind {
         })
     }
 
+    fn text(&self, text: Text) -> Result<Vec<u8>, Memory> {
+        let right = self.snapshot.text.as_slice();
+        match text {
+            Text::Right => copy_of(self.alloc, right),
+            Text::But(place, byte) => with_another_byte(self.alloc, right, place, byte),
+            Text::Word => copy_of(self.alloc, &[0, 0, 0, 1]),
+        }
+    }
+
     fn adopt<R: Threads + Sync>(
         &mut self,
         rt: &R,
@@ -120,15 +140,8 @@ impl Behind {
         told: &[Told],
     ) -> Result<Said, Memory> {
         let certificate = checkpoints(self.alloc, told, self.snapshot.digest)?;
-        let right = &self.snapshot.text;
-        Ok(match text {
-            Text::Right => adopt(rt, &mut self.node, right, &certificate),
-            Text::But(place, byte) => {
-                let changed = with_another_byte(self.alloc, right, place, byte)?;
-                adopt(rt, &mut self.node, &changed, &certificate)
-            }
-            Text::Word => adopt(rt, &mut self.node, &[0, 0, 0, 1], &certificate),
-        })
+        let text = self.text(text)?;
+        Ok(adopt(rt, &mut self.node, &text, &certificate))
     }
 
     fn has_adopted<R: Threads + Sync>(&self, rt: &R) -> bool {
@@ -144,12 +157,12 @@ impl Behind {
 
     // whether it comes as it is told
     fn happens<R: Threads + Sync>(&mut self, rt: &R, step: Step) -> Result<bool, Memory> {
-        Ok(match step {
-            Step::Adopt(text, told, wanted) => self.adopt(rt, text, told)? == wanted,
-            Step::Stands(wanted) => standing_of(&self.node) == wanted,
-            Step::HasAdopted => self.has_adopted(rt),
-            Step::IsAsBefore => self.is_as_before(rt),
-        })
+        match step {
+            Step::Adopt(text, told, wanted) => Ok(self.adopt(rt, text, told)? == wanted),
+            Step::Stands(wanted) => Ok(standing_of(&self.node) == wanted),
+            Step::HasAdopted => Ok(self.has_adopted(rt)),
+            Step::IsAsBefore => Ok(self.is_as_before(rt)),
+        }
     }
 }
 

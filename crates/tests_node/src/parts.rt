@@ -18,16 +18,19 @@ pub struct Asked {
 }
 
 impl Asked {
-    /// The request as a message.
-    pub fn message(self, alloc: Global) -> Result<Signed<Message>, Memory> {
-        let signer = Principal::Client(self.signer % CLIENTS);
-        let keys = Keys::derive(alloc, SECRET, signer, 1, CLIENTS)?;
+    fn request(self, alloc: Global) -> Result<Request, Memory> {
         let bytes = call(alloc, self.timestamp, 0)?;
         if bytes.len() > 1_000 {
             return Err(Memory);
         }
-        let request = Request::new(alloc, self.client, self.timestamp as u64, &bytes)?;
-        sign(alloc, &keys, Message::Request(request))
+        Request::new(alloc, self.client, self.timestamp as u64, &bytes)
+    }
+
+    /// The request as a message.
+    pub fn message(self, alloc: Global) -> Result<Signed<Message>, Memory> {
+        let signer = Principal::Client(self.signer % CLIENTS);
+        let keys = Keys::derive(alloc, SECRET, signer, 1, CLIENTS)?;
+        sign(alloc, &keys, Message::Request(self.request(alloc)?))
     }
 
     /// The bytes of the message.

@@ -1,8 +1,9 @@
 //! A PRE-PREPARE comes while a request waits of the same client and timestamp: it is taken where its own request is the client's.
 use crate::replica::{CLIENTS, SECRET, Said, deliver, replica};
-use bfs_auth::{Keys, Principal};
+use bfs_auth::{Authenticator, Keys, Principal};
 use bfs_codec::encode;
 use bfs_messages::{Message, OrderedBatch, PrePrepare, Request, Signed, sign};
+use bfs_node::Node;
 use bfs_testing::asserts::compared;
 use bfs_testing_messages::with_changed_entry;
 use bfs_types::{Memory, Time};
@@ -27,38 +28,47 @@ fn request(alloc: Global, call: u8) -> Result<Request, Memory> {
 }
 
 impl Form {
-    fn request(self, alloc: Global) -> Result<Signed<Request>, Memory> {
+    fn signature(self, alloc: Global) -> Result<Authenticator, Memory> {
         let keys = Keys::derive(alloc, SECRET, Principal::Client(3), 4, CLIENTS)?;
         let signed = sign(alloc, &keys, Message::Request(request(alloc, self.signed)?))?;
-        let auth = match self.spoiled {
-            None => signed.auth.copy(alloc)?,
-            Some(replica) => with_changed_entry(alloc, &signed.auth, replica)?,
-        };
-        Ok(Signed {
-            message: request(alloc, self.call)?,
-            auth,
-        })
+        Ok(signed.auth)
+    }
+
+    fn auth(self, alloc: Global) -> Result<Authenticator, Memory> {
+        let auth = self.signature(alloc)?;
+        match self.spoiled {
+            None => Ok(auth),
+            Some(replica) => with_changed_entry(alloc, &auth, replica),
+        }
+    }
+
+    fn request(self, alloc: Global) -> Result<Signed<Request>, Memory> {
+        let message = request(alloc, self.call)?;
+        let auth = self.auth(alloc)?;
+        Ok(Signed { message, auth })
     }
 
     // the bytes of the REQUEST
     fn bytes(self, alloc: Global) -> Result<Vec<u8>, Memory> {
-        let Signed { message, auth } = self.request(alloc)?;
-        let signed = Signed {
-            message: Message::Request(message),
-            auth,
-        };
-        encode(alloc, &signed)
+        let message = Message::Request(request(alloc, self.call)?);
+        let auth = self.auth(alloc)?;
+        encode(alloc, &Signed { message, auth })
     }
 
-    // the bytes of the primary's PRE-PREPARE of it alone
-    fn proposed(self, alloc: Global) -> Result<Vec<u8>, Memory> {
-        let keys = Keys::derive(alloc, SECRET, Principal::Replica(0), 4, CLIENTS)?;
+    // the batch of it alone
+    fn batch(self, alloc: Global) -> Result<Arc<OrderedBatch>, Memory> {
         let mut requests = Vec::new(alloc);
         requests.push(self.request(alloc)?)?;
         let time = Time::new(1, 0).ok_or(Memory)?;
-        let batch = Arc::new(alloc, OrderedBatch::new(time, requests))?;
-        let proposal = Message::PrePrepare(PrePrepare::new(0, 0, 1, batch));
-        encode(alloc, &sign(alloc, &keys, proposal)?)
+        Ok(Arc::new(alloc, OrderedBatch::new(time, requests))?)
+    }
+
+    // the bytes of the primary's PRE-PREPARE of that batch
+    fn proposed(self, alloc: Global) -> Result<Vec<u8>, Memory> {
+        let keys = Keys::derive(alloc, SECRET, Principal::Replica(0), 4, CLIENTS)?;
+        let proposal = PrePrepare::new(0, 0, 1, self.batch(alloc)?);
+        let signed = sign(alloc, &keys, Message::PrePrepare(proposal))?;
+        encode(alloc, &signed)
     }
 }
 
@@ -68,47 +78,63 @@ const WAITS: Form = Form {
     spoiled: None,
 };
 
-// what replica 1 of four answers where the primary proposes that while the other one waits
-static CASES: [(Form, Said); 6] = [
-    (WAITS, Said::Sent(1)),
-    (
-        Form {
-            spoiled: Some(2),
-            ..WAITS
-        },
-        Said::Sent(1),
-    ),
-    (
-        Form {
-            spoiled: Some(1),
-            ..WAITS
-        },
-        Said::Refused(24),
-    ),
-    (Form { call: 8, ..WAITS }, Said::Refused(24)),
-    (Form { signed: 8, ..WAITS }, Said::Refused(24)),
-    (
-        Form {
-            call: 8,
-            signed: 8,
-            ..WAITS
-        },
-        Said::Sent(1),
-    ),
+const SPOILED_FOR_ANOTHER: Form = Form {
+    spoiled: Some(2),
+    ..WAITS
+};
+
+const SPOILED_FOR_IT: Form = Form {
+    spoiled: Some(1),
+    ..WAITS
+};
+
+const ANOTHER_CALL: Form = Form { call: 8, ..WAITS };
+
+const ANOTHER_SIGNED: Form = Form { signed: 8, ..WAITS };
+
+const ANOTHER: Form = Form {
+    call: 8,
+    signed: 8,
+    ..WAITS
+};
+
+/// What the primary proposes while the other one waits, and what replica 1 of four answers.
+struct Case(Form, Said);
+
+static CASES: [Case; 6] = [
+    Case(WAITS, Said::Sent(1)),
+    Case(SPOILED_FOR_ANOTHER, Said::Sent(1)),
+    Case(SPOILED_FOR_IT, Said::Refused(24)),
+    Case(ANOTHER_CALL, Said::Refused(24)),
+    Case(ANOTHER_SIGNED, Said::Refused(24)),
+    Case(ANOTHER, Said::Sent(1)),
 ];
+
+fn said_at<R: Threads + Sync>(
+    rt: &R,
+    alloc: Global,
+    node: &mut Node,
+    proposed: Form,
+) -> Result<Said, Memory> {
+    if deliver(rt, node, &WAITS.bytes(alloc)?) != Said::Sent(0) {
+        return Ok(Said::Nothing);
+    }
+    Ok(deliver(rt, node, &proposed.proposed(alloc)?))
+}
 
 fn said_of<R: Threads + Sync>(rt: &R, alloc: Global, proposed: Form) -> Result<Said, Memory> {
     let mut node = replica(alloc, 1, 1)?;
-    if deliver(rt, &mut node, &WAITS.bytes(alloc)?) != Said::Sent(0) {
-        return Ok(Said::Nothing);
-    }
-    Ok(deliver(rt, &mut node, &proposed.proposed(alloc)?))
+    said_at(rt, alloc, &mut node, proposed)
+}
+
+fn is_as_told<R: Threads + Sync>(rt: &R, alloc: Global, case: &Case) -> Result<bool, Memory> {
+    Ok(said_of(rt, alloc, case.0)? == case.1)
 }
 
 // the place of the first case that does not come as it is told
 fn first_wrong<R: Threads + Sync>(rt: &R, alloc: Global) -> Result<Option<usize>, Memory> {
-    for (place, (proposed, wanted)) in CASES.iter().enumerate() {
-        if said_of(rt, alloc, *proposed)? != *wanted {
+    for (place, case) in CASES.iter().enumerate() {
+        if !is_as_told(rt, alloc, case)? {
             return Ok(Some(place));
         }
     }

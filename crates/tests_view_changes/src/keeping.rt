@@ -1,7 +1,6 @@
 //! What was prepared, executed or made stable stands in the new view.
 use crate::replica::Standing;
-use crate::script::{ALL, BACKUPS, Event, first_wrong};
-use bfs_testing::same;
+use crate::script::{ALL, BACKUPS, Event, four_play};
 use std::test::Fail;
 
 static PREPARED: [Event; 12] = [
@@ -22,8 +21,7 @@ static PREPARED: [Event; 12] = [
 
 #[test]
 fn what_was_prepared_is_executed_in_the_new_view(rt: HostRuntime) -> Result<(), Fail> {
-    same!(rt; first_wrong(&rt, rt.alloc(), &PREPARED)?, None);
-    Ok(())
+    four_play(&rt, rt.alloc(), &PREPARED)
 }
 
 static ONLY_PROPOSED: [Event; 12] = [
@@ -43,8 +41,7 @@ static ONLY_PROPOSED: [Event; 12] = [
 
 #[test]
 fn what_was_only_proposed_waits_on(rt: HostRuntime) -> Result<(), Fail> {
-    same!(rt; first_wrong(&rt, rt.alloc(), &ONLY_PROPOSED)?, None);
-    Ok(())
+    four_play(&rt, rt.alloc(), &ONLY_PROPOSED)
 }
 
 static EXECUTED: [Event; 15] = [
@@ -68,8 +65,7 @@ static EXECUTED: [Event; 15] = [
 
 #[test]
 fn what_was_executed_is_not_executed_again(rt: HostRuntime) -> Result<(), Fail> {
-    same!(rt; first_wrong(&rt, rt.alloc(), &EXECUTED)?, None);
-    Ok(())
+    four_play(&rt, rt.alloc(), &EXECUTED)
 }
 
 static BEHIND_A_CHECKPOINT: [Event; 8] = [
@@ -85,6 +81,5 @@ static BEHIND_A_CHECKPOINT: [Event; 8] = [
 
 #[test]
 fn a_view_begins_behind_a_checkpoint(rt: HostRuntime) -> Result<(), Fail> {
-    same!(rt; first_wrong(&rt, rt.alloc(), &BEHIND_A_CHECKPOINT)?, None);
-    Ok(())
+    four_play(&rt, rt.alloc(), &BEHIND_A_CHECKPOINT)
 }

@@ -17,4 +17,6 @@ mod replicas;
 #[cfg(test)]
 mod script;
 #[cfg(test)]
+mod steps;
+#[cfg(test)]
 mod view_changes;

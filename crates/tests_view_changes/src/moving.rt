@@ -1,7 +1,7 @@
 //! A view is left, and the next one is entered.
-use crate::replica::{Said, Standing, replica, standing_of, time_out};
-use crate::script::{ALL, BACKUPS, Event, first_wrong};
-use bfs_testing::same;
+use crate::replica::{Said, Standing};
+use crate::script::{ALL, BACKUPS, Event, four_play};
+use crate::steps::{Step, plays};
 use std::test::Fail;
 
 static THE_PRIMARY_IS_SILENT: [Event; 14] = [
@@ -24,8 +24,7 @@ static THE_PRIMARY_IS_SILENT: [Event; 14] = [
 
 #[test]
 fn a_silent_primary_is_replaced(rt: HostRuntime) -> Result<(), Fail> {
-    same!(rt; first_wrong(&rt, rt.alloc(), &THE_PRIMARY_IS_SILENT)?, None);
-    Ok(())
+    four_play(&rt, rt.alloc(), &THE_PRIMARY_IS_SILENT)
 }
 
 static TWO_HAVE_LEFT: [Event; 5] = [
@@ -38,16 +37,17 @@ static TWO_HAVE_LEFT: [Event; 5] = [
 
 #[test]
 fn a_replica_that_has_left_takes_nothing_of_its_view(rt: HostRuntime) -> Result<(), Fail> {
-    same!(rt; first_wrong(&rt, rt.alloc(), &TWO_HAVE_LEFT)?, None);
-    Ok(())
+    four_play(&rt, rt.alloc(), &TWO_HAVE_LEFT)
 }
+
+static ALONE: [Step; 3] = [
+    // its VIEW-CHANGE and its NEW-VIEW
+    Step::TimeOut(Said::Sent(2)),
+    Step::TimeOut(Said::Sent(2)),
+    Step::Stands(Standing(2, 0, 0)),
+];
 
 #[test]
 fn a_replica_that_is_alone_begins_the_next_view_at_once(rt: HostRuntime) -> Result<(), Fail> {
-    let mut node = replica(rt.alloc(), 0, 0)?;
-    // its VIEW-CHANGE and its NEW-VIEW
-    same!(rt; time_out(&mut node), Said::Sent(2));
-    same!(rt; time_out(&mut node), Said::Sent(2));
-    same!(rt; standing_of(&node), Standing(2, 0, 0));
-    Ok(())
+    plays(&rt, rt.alloc(), 0, 0, &ALONE)
 }

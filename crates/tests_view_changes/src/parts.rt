@@ -6,6 +6,7 @@ use bfs_messages::{
     sign, sign_prepare, sign_proposal, sign_view_change,
 };
 use bfs_testing::words::call;
+use bfs_testing_messages::with_changed_entry;
 use bfs_types::{Memory, Time};
 use std::alloc::Global;
 use std::sync::Arc;
@@ -25,27 +26,54 @@ pub fn request(alloc: Global, timestamp: u32) -> Result<Signed<Message>, Memory>
     sign(alloc, &keys, Message::Request(request))
 }
 
-// the PRE-PREPARE of a primary for number 1, with a batch without requests
-fn proposal(alloc: Global, sender: u32, view: u64) -> Result<Signed<PrePrepare>, Memory> {
+// a batch without requests
+fn batch(alloc: Global) -> Result<Arc<OrderedBatch>, Memory> {
     let time = Time::new(5, 0).ok_or(Memory)?;
-    let batch = Arc::new(alloc, OrderedBatch::new(time, Vec::new(alloc)))?;
-    let proposal = PrePrepare::new(sender, view % (1 << 63), 1, batch);
-    sign_proposal(alloc, &keys_of(alloc, sender)?, proposal)
+    Ok(Arc::new(alloc, OrderedBatch::new(time, Vec::new(alloc)))?)
+}
+
+// the PRE-PREPARE of a primary for number 1, with that batch
+fn proposal(alloc: Global, sender: u32, view: u64) -> Result<Signed<PrePrepare>, Memory> {
+    let keys = keys_of(alloc, sender)?;
+    let proposal = PrePrepare::new(sender, view % (1 << 63), 1, batch(alloc)?);
+    sign_proposal(alloc, &keys, proposal)
+}
+
+// the PREPARE of a backup for number 1 in view 0
+fn prepare(alloc: Global, backup: u32, digest: [u8; 32]) -> Result<Signed<Vote>, Memory> {
+    let keys = keys_of(alloc, backup)?;
+    sign_prepare(alloc, &keys, Vote::new(backup, 0, 1, digest))
+}
+
+fn prepares(alloc: Global, backups: &[u32], digest: [u8; 32]) -> Result<Vec<Signed<Vote>>, Memory> {
+    let mut prepares = Vec::new(alloc);
+    for backup in backups {
+        prepares.push(prepare(alloc, *backup, digest)?)?;
+    }
+    Ok(prepares)
+}
+
+fn digest_of(proposal: &Signed<PrePrepare>) -> [u8; 32] {
+    *proposal.message.vote().digest()
 }
 
 // that number 1 was prepared in view 0, by PREPAREs of these backups
 fn certificate(alloc: Global, backups: &[u32]) -> Result<Certificate, Memory> {
     let proposal = proposal(alloc, 0, 0)?;
-    let digest = *proposal.message.vote().digest();
-    let mut prepares = Vec::new(alloc);
-    for backup in backups {
-        let vote = Vote::new(*backup, 0, 1, digest);
-        prepares.push(sign_prepare(alloc, &keys_of(alloc, *backup)?, vote)?)?;
-    }
+    let prepares = prepares(alloc, backups, digest_of(&proposal))?;
     if prepares.len() > 31 {
         return Err(Memory);
     }
     Ok(Certificate::new(proposal, prepares))
+}
+
+// none where there are no backups
+fn certificates(alloc: Global, backups: &[u32]) -> Result<Vec<Certificate>, Memory> {
+    let mut certificates = Vec::new(alloc);
+    if !backups.is_empty() {
+        certificates.push(certificate(alloc, backups)?)?;
+    }
+    Ok(certificates)
 }
 
 /// What a VIEW-CHANGE says.
@@ -91,23 +119,19 @@ pub const A_PREPARE_LESS: Asked = Asked {
 };
 
 impl Asked {
-    /// The VIEW-CHANGE, signed by a replica.
-    pub fn signed_by(self, alloc: Global, signer: u32) -> Result<Signed<ViewChange>, Memory> {
-        let mut certificates = Vec::new(alloc);
-        if !self.backups.is_empty() {
-            certificates.push(certificate(alloc, self.backups)?)?;
-        }
+    fn change(self, alloc: Global) -> Result<ViewChange, Memory> {
+        let certificates = certificates(alloc, self.backups)?;
         if certificates.len() > 32 {
             return Err(Memory);
         }
-        let change = ViewChange::new(
-            self.sender,
-            self.view % (1 << 63),
-            0,
-            Vec::new(alloc),
-            certificates,
-        );
-        sign_view_change(alloc, &keys_of(alloc, signer)?, change)
+        let (view, none) = (self.view % (1 << 63), Vec::new(alloc));
+        Ok(ViewChange::new(self.sender, view, 0, none, certificates))
+    }
+
+    // the VIEW-CHANGE, signed by a replica
+    fn signed_by(self, alloc: Global, signer: u32) -> Result<Signed<ViewChange>, Memory> {
+        let keys = keys_of(alloc, signer)?;
+        sign_view_change(alloc, &keys, self.change(alloc)?)
     }
 
     /// The VIEW-CHANGE as a message, signed by a replica.
@@ -118,6 +142,33 @@ impl Asked {
             auth,
         })
     }
+
+    /// The VIEW-CHANGE as a message, signed by its sender, with a changed entry for a receiver.
+    pub fn spoiled_for(self, alloc: Global, receiver: usize) -> Result<Signed<Message>, Memory> {
+        let Signed { message, auth } = self.message_by(alloc, self.sender)?;
+        let auth = with_changed_entry(alloc, &auth, receiver)?;
+        Ok(Signed { message, auth })
+    }
+}
+
+fn changes(alloc: Global, asked: &[Asked]) -> Result<Vec<Signed<ViewChange>>, Memory> {
+    let mut changes = Vec::new(alloc);
+    for one in asked {
+        changes.push(one.signed_by(alloc, one.sender)?)?;
+    }
+    Ok(changes)
+}
+
+fn proposals(
+    alloc: Global,
+    sender: u32,
+    proposes: bool,
+) -> Result<Vec<Signed<PrePrepare>>, Memory> {
+    let mut proposals = Vec::new(alloc);
+    if proposes {
+        proposals.push(proposal(alloc, sender, 1)?)?;
+    }
+    Ok(proposals)
 }
 
 /// A NEW-VIEW of a replica for view 1, from these VIEW-CHANGEs. It proposes what number 1 was prepared with, if it is asked to.
@@ -127,14 +178,8 @@ pub fn new_view(
     asked: &[Asked],
     proposes: bool,
 ) -> Result<Signed<Message>, Memory> {
-    let mut changes = Vec::new(alloc);
-    for one in asked {
-        changes.push(one.signed_by(alloc, one.sender)?)?;
-    }
-    let mut proposals = Vec::new(alloc);
-    if proposes {
-        proposals.push(proposal(alloc, sender, 1)?)?;
-    }
+    let changes = changes(alloc, asked)?;
+    let proposals = proposals(alloc, sender, proposes)?;
     if changes.len() > 31 || proposals.len() > 32 {
         return Err(Memory);
     }

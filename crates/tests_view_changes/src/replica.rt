@@ -41,6 +41,20 @@ pub fn replica(alloc: Global, f: u32, me: u32) -> Result<Node, Memory> {
     }
 }
 
+/// What a replica sends when a message comes, where it takes it.
+pub fn sent_for<R: Threads + Sync>(
+    rt: &R,
+    node: &mut Node,
+    signed: Signed<Message>,
+) -> Option<Vec<Signed<Message>>> {
+    node.take(rt, signed).ok()
+}
+
+/// What a replica sends when time runs out, where it leaves its view.
+pub fn sent_late(node: &mut Node) -> Option<Vec<Signed<Message>>> {
+    node.timeout().ok()
+}
+
 /// A message comes to a replica.
 pub fn take<R: Threads + Sync>(rt: &R, node: &mut Node, signed: Signed<Message>) -> Said {
     what_came_of(&node.take(rt, signed))
@@ -56,12 +70,32 @@ pub fn standing_of(node: &Node) -> Standing {
     Standing(node.view(), node.last_executed(), node.pending())
 }
 
-/// The number of the refusal of a proposal at 1.000000, 0 where there is none.
-pub fn propose(node: &mut Node) -> Result<Signed<Message>, u32> {
+/// A replica's digest, if its file system has not failed.
+pub fn digest_of<R: Threads + Sync>(rt: &R, node: &Node) -> Option<[u8; 32]> {
+    node.digest(rt).ok()
+}
+
+/// A proposal at 1.000000, where a replica may propose.
+pub fn proposed(node: &mut Node) -> Option<Signed<Message>> {
     match Time::new(1, 0) {
-        Some(time) => node.propose(time).map_err(|error| error.code()),
-        None => Err(40),
+        Some(time) => node.propose(time).ok(),
+        None => None,
     }
+}
+
+fn replies<R: Threads + Wait + Sync>(rt: &R, node: &mut Node) -> Option<Vec<Signed<Message>>> {
+    let executor = Executor {
+        workers: Workers::one(),
+        engine: None,
+    };
+    match node.execute_ready(rt, executor, &NoGate) {
+        Ok(replies) => replies,
+        Err(_) => None,
+    }
+}
+
+fn checkpoint<R: Threads + Sync>(rt: &R, node: &mut Node) -> Option<Signed<Message>> {
+    node.checkpoint(rt).ok()
 }
 
 /// Executes the next batch one request after another, and gives what is sent: replies, and a CHECKPOINT where one is due.
@@ -69,14 +103,10 @@ pub fn execute<R: Threads + Wait + Sync>(
     rt: &R,
     node: &mut Node,
 ) -> Result<Option<Vec<Signed<Message>>>, Memory> {
-    let executor = Executor {
-        workers: Workers::one(),
-        engine: None,
-    };
-    let Ok(Some(mut sent)) = node.execute_ready(rt, executor, &NoGate) else {
+    let Some(mut sent) = replies(rt, node) else {
         return Ok(None);
     };
-    if let Ok(checkpoint) = node.checkpoint(rt) {
+    if let Some(checkpoint) = checkpoint(rt, node) {
         sent.push(checkpoint)?;
     }
     Ok(Some(sent))

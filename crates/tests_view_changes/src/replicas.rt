@@ -1,6 +1,8 @@
 //! Four replicas, of which one may be faulty, and messages on their way between them.
 use crate::parts::request;
-use crate::replica::{Standing, execute, propose, replica, standing_of};
+use crate::replica::{
+    Standing, digest_of, execute, proposed, replica, sent_for, sent_late, standing_of,
+};
 use bfs_messages::{Message, Signed};
 use bfs_node::Node;
 use bfs_types::Memory;
@@ -17,13 +19,26 @@ pub struct Replicas {
     noted: Option<[u8; 32]>,
 }
 
+fn four(alloc: Global, nodes: &mut Vec<Node>) -> Result<(), Memory> {
+    for me in 0..4 {
+        nodes.push(replica(alloc, 1, me)?)?;
+    }
+    Ok(())
+}
+
+// how many VIEW-CHANGEs and PRE-PREPAREs a NEW-VIEW has
+fn sizes_of(signed: &Signed<Message>) -> Option<(usize, usize)> {
+    match &signed.message {
+        Message::NewView(new) => Some((new.changes().len(), new.proposals().len())),
+        _ => None,
+    }
+}
+
 impl Replicas {
     /// Four that have done nothing.
     pub fn new(alloc: Global) -> Result<Replicas, Memory> {
         let mut nodes = Vec::new(alloc);
-        for me in 0..4 {
-            nodes.push(replica(alloc, 1, me)?)?;
-        }
+        four(alloc, &mut nodes)?;
         Ok(Replicas {
             alloc,
             nodes,
@@ -32,19 +47,28 @@ impl Replicas {
         })
     }
 
+    fn stands(&self, number: usize, wanted: Standing) -> bool {
+        match self.nodes.get(number) {
+            Some(node) => standing_of(node) == wanted,
+            None => false,
+        }
+    }
+
     /// Whether each of these stands so.
     pub fn stand(&self, numbers: &[usize], wanted: Standing) -> bool {
         for number in numbers {
-            match self.nodes.get(*number) {
-                Some(node) if standing_of(node) == wanted => {}
-                _ => return false,
+            if !self.stands(*number, wanted) {
+                return false;
             }
         }
         true
     }
 
     fn digest<R: Threads + Sync>(&self, rt: &R, number: usize) -> Option<[u8; 32]> {
-        self.nodes.get(number)?.digest(rt).ok()
+        match self.nodes.get(number) {
+            Some(node) => digest_of(rt, node),
+            None => None,
+        }
     }
 
     /// A replica's digest is noted. It gives whether there is one.
@@ -53,21 +77,26 @@ impl Replicas {
         self.noted.is_some()
     }
 
+    fn is_as_noted<R: Threads + Sync>(&self, rt: &R, number: usize) -> bool {
+        self.digest(rt, number) == self.noted
+    }
+
     /// Whether each of these has the digest that was noted.
     pub fn are_as_noted<R: Threads + Sync>(&self, rt: &R, numbers: &[usize]) -> bool {
         for number in numbers {
-            if self.digest(rt, *number) != self.noted {
+            if !self.is_as_noted(rt, *number) {
                 return false;
             }
         }
         true
     }
 
-    /// How many VIEW-CHANGEs and PRE-PREPAREs a NEW-VIEW has that is on its way.
+    /// How many VIEW-CHANGEs and PRE-PREPAREs the first NEW-VIEW has that is on its way.
     pub fn new_view(&self) -> Option<(usize, usize)> {
-        for (_, signed) in &self.on_their_way {
-            if let Message::NewView(new) = &signed.message {
-                return Some((new.changes().len(), new.proposals().len()));
+        for sent in &self.on_their_way {
+            let sizes = sizes_of(&sent.1);
+            if sizes.is_some() {
+                return sizes;
             }
         }
         None
@@ -93,13 +122,21 @@ impl Replicas {
         timestamp: u32,
     ) -> Result<(), Memory> {
         let signed = request(self.alloc, timestamp)?;
+        self.tell(rt, numbers, &signed)
+    }
+
+    fn tell<R: Threads + Sync>(
+        &mut self,
+        rt: &R,
+        numbers: &[usize],
+        signed: &Signed<Message>,
+    ) -> Result<(), Memory> {
         for number in numbers {
-            self.tell_one(rt, *number, &signed)?;
+            self.tell_one(rt, *number, signed)?;
         }
         Ok(())
     }
 
-    // what it refuses is passed over
     fn tell_one<R: Threads + Sync>(
         &mut self,
         rt: &R,
@@ -110,9 +147,9 @@ impl Replicas {
         let Some(node) = self.nodes.get_mut(number) else {
             return Ok(());
         };
-        match node.take(rt, copy) {
-            Ok(sent) => self.send(number, sent),
-            Err(_) => Ok(()),
+        match sent_for(rt, node, copy) {
+            Some(sent) => self.send(number, sent),
+            None => Ok(()),
         }
     }
 
@@ -121,12 +158,12 @@ impl Replicas {
         let Some(node) = self.nodes.get_mut(number) else {
             return Ok(false);
         };
-        match propose(node) {
-            Ok(signed) => {
+        match proposed(node) {
+            Some(signed) => {
                 self.on_their_way.push((number, signed))?;
                 Ok(true)
             }
-            Err(_) => Ok(false),
+            None => Ok(false),
         }
     }
 
@@ -142,20 +179,41 @@ impl Replicas {
         let Some(node) = self.nodes.get_mut(number) else {
             return Ok(());
         };
-        match node.timeout() {
-            Ok(sent) => self.send(number, sent),
-            Err(_) => Ok(()),
+        match sent_late(node) {
+            Some(sent) => self.send(number, sent),
+            None => Ok(()),
         }
     }
 
     /// What is on its way comes to those that are heard, and not what they send then.
     pub fn hand_over<R: Threads + Sync>(&mut self, rt: &R, heard: &[usize]) -> Result<(), Memory> {
         let due = std::mem::replace(&mut self.on_their_way, Vec::new(self.alloc));
-        for (sender, signed) in &due {
-            for number in heard {
-                if number != sender {
-                    self.tell_one(rt, *number, signed)?;
-                }
+        self.hand_all(rt, heard, &due)
+    }
+
+    fn hand_all<R: Threads + Sync>(
+        &mut self,
+        rt: &R,
+        heard: &[usize],
+        due: &[(usize, Signed<Message>)],
+    ) -> Result<(), Memory> {
+        for sent in due {
+            self.tell_others(rt, heard, sent.0, &sent.1)?;
+        }
+        Ok(())
+    }
+
+    // all but the sender
+    fn tell_others<R: Threads + Sync>(
+        &mut self,
+        rt: &R,
+        heard: &[usize],
+        sender: usize,
+        signed: &Signed<Message>,
+    ) -> Result<(), Memory> {
+        for number in heard {
+            if *number != sender {
+                self.tell_one(rt, *number, signed)?;
             }
         }
         Ok(())
@@ -183,6 +241,15 @@ impl Replicas {
         }
     }
 
+    fn settle_once<R: Threads + Wait + Sync>(
+        &mut self,
+        rt: &R,
+        heard: &[usize],
+    ) -> Result<(), Memory> {
+        self.hand_over(rt, heard)?;
+        self.execute(rt, heard)
+    }
+
     /// Messages come to those that are heard, who execute what is next, until that has gone on long enough for all that is asked of them.
     pub fn settle<R: Threads + Wait + Sync>(
         &mut self,
@@ -190,8 +257,7 @@ impl Replicas {
         heard: &[usize],
     ) -> Result<(), Memory> {
         for _ in 0u32..6 {
-            self.hand_over(rt, heard)?;
-            self.execute(rt, heard)?;
+            self.settle_once(rt, heard)?;
         }
         Ok(())
     }

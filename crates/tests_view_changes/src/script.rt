@@ -1,9 +1,11 @@
-//! What happens to four replicas, one event after another, as tables. The proof of a test that tells them by calls takes many times as long.
+//! What happens to four replicas, one event after another, as tables.
 use crate::replica::Standing;
 use crate::replicas::Replicas;
+use bfs_testing::asserts::compared;
 use bfs_types::Memory;
 use std::alloc::Global;
 use std::sync::Wait;
+use std::test::Fail;
 use std::thread::Threads;
 
 pub const ALL: &[usize] = &[0, 1, 2, 3];
@@ -40,18 +42,31 @@ pub enum Event {
     AsNoted(&'static [usize]),
 }
 
+fn batch<R: Threads + Wait + Sync>(rt: &R, all: &mut Replicas) -> Result<bool, Memory> {
+    if !all.propose(0)? {
+        return Ok(false);
+    }
+    did(all.settle(rt, ALL))
+}
+
 fn batches<R: Threads + Wait + Sync>(
     rt: &R,
     all: &mut Replicas,
     count: u32,
 ) -> Result<bool, Memory> {
     for _ in 0..count {
-        if !all.propose(0)? {
+        if !batch(rt, all)? {
             return Ok(false);
         }
-        all.settle(rt, ALL)?;
     }
     Ok(true)
+}
+
+fn did(done: Result<(), Memory>) -> Result<bool, Memory> {
+    match done {
+        Ok(()) => Ok(true),
+        Err(error) => Err(error),
+    }
 }
 
 // whether it comes as it is told
@@ -61,35 +76,45 @@ fn happens<R: Threads + Wait + Sync>(
     event: Event,
 ) -> Result<bool, Memory> {
     match event {
-        Event::Propose(number) => return all.propose(number),
-        Event::MayNotPropose(number) => return Ok(!all.propose(number)?),
-        Event::Batches(count) => return batches(rt, all, count),
-        Event::NewView(changes, proposals) => {
-            return Ok(all.new_view() == Some((changes, proposals)));
+        Event::Ask(numbers, timestamp) => did(all.ask(rt, numbers, timestamp)),
+        Event::Propose(number) => all.propose(number),
+        Event::MayNotPropose(number) => Ok(!all.propose(number)?),
+        Event::TimeOut(numbers) => did(all.time_out(numbers)),
+        Event::HandOver(numbers) => did(all.hand_over(rt, numbers)),
+        Event::Lose => {
+            all.lose();
+            Ok(true)
         }
-        Event::Stand(numbers, wanted) => return Ok(all.stand(numbers, wanted)),
-        Event::Note(number) => return Ok(all.note(rt, number)),
-        Event::AsNoted(numbers) => return Ok(all.are_as_noted(rt, numbers)),
-        Event::Ask(numbers, timestamp) => all.ask(rt, numbers, timestamp)?,
-        Event::TimeOut(numbers) => all.time_out(numbers)?,
-        Event::HandOver(numbers) => all.hand_over(rt, numbers)?,
-        Event::Settle(numbers) => all.settle(rt, numbers)?,
-        Event::Lose => all.lose(),
+        Event::Settle(numbers) => did(all.settle(rt, numbers)),
+        Event::Batches(count) => batches(rt, all, count),
+        Event::NewView(changes, proposals) => Ok(all.new_view() == Some((changes, proposals))),
+        Event::Stand(numbers, wanted) => Ok(all.stand(numbers, wanted)),
+        Event::Note(number) => Ok(all.note(rt, number)),
+        Event::AsNoted(numbers) => Ok(all.are_as_noted(rt, numbers)),
     }
-    Ok(true)
 }
 
-/// The place of the first event that does not come as it is told, at four replicas that have done nothing.
-pub fn first_wrong<R: Threads + Wait + Sync>(
+// the place of the first event that does not come as it is told
+fn first_wrong<R: Threads + Wait + Sync>(
     rt: &R,
-    alloc: Global,
+    all: &mut Replicas,
     events: &[Event],
 ) -> Result<Option<usize>, Memory> {
-    let mut all = Replicas::new(alloc)?;
     for (place, event) in events.iter().enumerate() {
-        if !happens(rt, &mut all, *event)? {
+        if !happens(rt, all, *event)? {
             return Ok(Some(place));
         }
     }
     Ok(None)
+}
+
+/// It all comes as it is told, at four replicas that have done nothing.
+pub fn four_play<R: Threads + Wait + Sync>(
+    rt: &R,
+    alloc: Global,
+    events: &[Event],
+) -> Result<(), Fail> {
+    let mut all = Replicas::new(alloc)?;
+    compared(first_wrong(rt, &mut all, events)?, None)?;
+    Ok(())
 }
