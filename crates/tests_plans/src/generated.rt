@@ -1,17 +1,12 @@
 //! Plans of generated batches against a plain planner, which compares calls pair by pair.
-ghost use Rattle.std.specs.Prelude.{IsTrue};
-ghost use Rattle.bfs_tree.specs.Tree.{reach_of};
-
-use crate::plans::{Asked, with_executed};
+use crate::plans::{Asked, group_of, has_levels, run_length, with_executed};
 use bfs_footprint::{Touch, conflicts, touch_of};
-use bfs_levels::{plan_group, runs};
-use bfs_serial::Batch;
+use bfs_serial::{Batch, FileSystem};
 use bfs_testing::asserts::compared;
 use bfs_testing::generated::Generator;
 use bfs_testing::numbers::{CREATE, MKDIR, SYMLINK};
 use bfs_testing::words::{A, B, C, D, E, FOURTH, ROOT, UNSET, put_parts};
-use bfs_tree::Tree;
-use bfs_types::{FileId, Memory, Ordinal, Time};
+use bfs_types::{FileId, Memory, Ordinal};
 use std::alloc::Global;
 use std::test::Fail;
 
@@ -49,20 +44,31 @@ fn generated(alloc: Global, generator: &mut Generator) -> Result<Batch, Fail> {
     Ok(batch)
 }
 
+fn touch_at(
+    files: &FileSystem,
+    ordinal: Ordinal,
+    batch: &Batch,
+    place: usize,
+) -> Result<Touch, Fail> {
+    let tree = files.tree().ok_or("a live file system")?;
+    if batch.len() <= place {
+        return Err("a request".into());
+    }
+    Ok(touch_of(tree, ordinal, batch.time(), batch.request(place)))
+}
+
 // what the batch's requests touch, from that place on
 fn touches(
     alloc: Global,
-    tree: &Tree,
+    files: &FileSystem,
     ordinal: Ordinal,
     batch: &Batch,
     first: usize,
-) -> Result<Vec<Touch>, Memory>
-    requires whole { IsTrue ((reach_of tree.now).whole) }
-{
+) -> Result<Vec<Touch>, Fail> {
     let mut touches = Vec::new(alloc);
     let mut ordinal = ordinal;
-    for index in first..batch.len() {
-        touches.push(touch_of(tree, ordinal, batch.time(), batch.request(index)))?;
+    for place in first..batch.len() {
+        touches.push(touch_at(files, ordinal, batch, place)?)?;
         ordinal = ordinal.next();
     }
     Ok(touches)
@@ -83,8 +89,12 @@ fn parts_groups(earlier: &Touch, later: &Touch) -> bool {
         || is_written(earlier, later.resolved.second)
 }
 
-fn parts_runs(earlier: &Touch, later: &Touch) -> bool {
-    conflicts(&earlier.footprint, &later.footprint)
+fn are_parted(earlier: &Touch, later: &Touch, groups: bool) -> bool {
+    if groups {
+        parts_groups(earlier, later)
+    } else {
+        conflicts(&earlier.footprint, &later.footprint)
+    }
 }
 
 fn is_parted(touches: &[Touch], count: usize, later: &Touch, groups: bool) -> bool {
@@ -93,7 +103,7 @@ fn is_parted(touches: &[Touch], count: usize, later: &Touch, groups: bool) -> bo
         if place >= count {
             return false;
         }
-        if groups && parts_groups(earlier, later) || !groups && parts_runs(earlier, later) {
+        if are_parted(earlier, later, groups) {
             return true;
         }
         place = place.saturating_add(1);
@@ -112,15 +122,19 @@ fn count_joined(touches: &[Touch], groups: bool) -> usize {
     count
 }
 
+// the level of a call at least, behind an earlier one of that level
+fn level_above(level: u32, earlier: Option<&Touch>, later: &Touch) -> u32 {
+    match earlier {
+        Some(earlier) if conflicts(&earlier.footprint, &later.footprint) => level.saturating_add(1),
+        _ => 0,
+    }
+}
+
 fn level_behind(touches: &[Touch], levels: &[u32], later: &Touch) -> u32 {
     let mut level = 0;
     let mut place = 0;
     for own in levels {
-        if let Some(earlier) = touches.get(place) {
-            if conflicts(&earlier.footprint, &later.footprint) {
-                level = level.max(own.saturating_add(1));
-            }
-        }
+        level = level.max(level_above(*own, touches.get(place), later));
         place = place.saturating_add(1);
     }
     level
@@ -138,19 +152,15 @@ fn levels_of(alloc: Global, touches: &[Touch], count: usize) -> Result<Vec<u32>,
     Ok(levels)
 }
 
-fn compare_at(alloc: Global, tree: &Tree, batch: &Batch, first: usize) -> Result<(), Fail>
-    requires whole { IsTrue ((reach_of tree.now).whole) }
-{
+fn compare_at(alloc: Global, files: &FileSystem, batch: &Batch, first: usize) -> Result<(), Fail> {
     let ordinal = Ordinal::first().after(8).after(first as u64);
-    let time = batch.time();
-    let touches = touches(alloc, tree, ordinal, batch, first)?;
-    let run = runs(alloc, tree, ordinal, time, batch, first)?;
-    compared(run.len(), count_joined(touches.as_slice(), false))?;
-    let group = plan_group(alloc, tree, ordinal, time, batch, first)?;
+    let touches = touches(alloc, files, ordinal, batch, first)?;
+    let joined = count_joined(touches.as_slice(), false);
+    compared(run_length(alloc, files, ordinal, batch, first)?, joined)?;
     let count = count_joined(touches.as_slice(), true);
-    compared(group.len(), count)?;
     let levels = levels_of(alloc, touches.as_slice(), count)?;
-    compared(group.level_of.as_slice() == levels.as_slice(), true)?;
+    let group = group_of(alloc, files, ordinal, batch, first)?;
+    compared(has_levels(&group, levels.as_slice()), true)?;
     Ok(())
 }
 
@@ -166,16 +176,21 @@ static MAKING: &[Asked] = &[
     Asked(SYMLINK, &[FOURTH, E, PATH, UNSET]),
 ];
 
-#[test]
-fn plans_generated_batches_as_pair_by_pair(rt: HostRuntime) -> Result<(), Fail> {
-    let alloc = rt.alloc();
-    let files = with_executed(alloc, MAKING)?;
-    let tree = files.tree().ok_or("a live file system")?;
+fn compare(alloc: Global, files: &FileSystem, generator: &mut Generator) -> Result<(), Fail> {
+    let batch = generated(alloc, generator)?;
+    compare_at(alloc, files, &batch, 0)?;
+    compare_at(alloc, files, &batch, generator.next() as usize % 24)
+}
+
+fn compare_all(alloc: Global, files: &FileSystem) -> Result<(), Fail> {
     let mut generator = generator();
     for _ in 0..500 {
-        let batch = generated(alloc, &mut generator)?;
-        compare_at(alloc, tree, &batch, 0)?;
-        compare_at(alloc, tree, &batch, generator.next() as usize % 24)?;
+        compare(alloc, files, &mut generator)?;
     }
     Ok(())
+}
+
+#[test]
+fn plans_generated_batches_as_pair_by_pair(rt: HostRuntime) -> Result<(), Fail> {
+    compare_all(rt.alloc(), &with_executed(rt.alloc(), MAKING)?)
 }

@@ -1,7 +1,7 @@
 //! What single calls touch, in a new tree.
-use bfs_footprint::{Footprint, ResolvedIn, conflicts, footprint, resolved_in, touch_of};
+use bfs_footprint::{Footprint, ResolvedIn, Touch, conflicts, footprint, resolved_in, touch_of};
 use bfs_testing::numbers::{CREATE, LOOKUP};
-use bfs_testing::words::{A, ROOT, UNSET, call, put_parts};
+use bfs_testing::words::{A, ROOT, UNSET, request};
 use bfs_testing::{holds, same};
 use bfs_tree::Tree;
 use bfs_types::{Context, Cred, FileId, Gids, Ordinal, Time};
@@ -9,11 +9,15 @@ use bfs_wire::NfsCall;
 use std::alloc::Global;
 use std::test::Fail;
 
+fn no_groups() -> Gids {
+    Gids::none()
+}
+
 fn nobody() -> Cred {
     Cred {
         uid: 65534,
         gid: 65534,
-        gids: Gids::none(),
+        gids: no_groups(),
     }
 }
 
@@ -27,50 +31,62 @@ fn touched_by(alloc: Global, call: &NfsCall) -> Result<Footprint, Fail> {
     Ok(footprint(&tree, &context, call))
 }
 
+// what the request of those words touches
+fn touch(alloc: Global, procedure: u32, arguments: &[&[u32]]) -> Result<Touch, Fail> {
+    let bytes = request(alloc, 1, procedure, arguments)?;
+    let tree = Tree::new(alloc)?;
+    Ok(touch_of(&tree, Ordinal::first(), Time::epoch(), bytes.as_slice()))
+}
+
+fn conflict(footprint: &Footprint, other: &Footprint) -> bool {
+    conflicts(footprint, other)
+}
+
+fn reads_alone(footprint: &Footprint, file: FileId) -> bool {
+    footprint.touches(file) && !footprint.writes(file)
+}
+
+// the first of the directories in which a call resolves names
+fn resolves_first_in(call: &NfsCall) -> Option<FileId> {
+    resolved_in(call).first
+}
+
+// how many inodes it reads, where they are known
+fn count_of_reads(footprint: &Footprint) -> Option<usize> {
+    match footprint {
+        Footprint::Known { reads, .. } => Some(reads.as_slice().len()),
+        Footprint::Whole => None,
+    }
+}
+
 #[test]
 fn a_file_is_made_where_none_is_read(rt: HostRuntime) -> Result<(), Fail> {
-    let alloc = rt.alloc();
     let root = FileId::root();
-    let mut bytes = call(alloc, 1, CREATE)?;
-    put_parts(&mut bytes, &[ROOT, A, UNSET])?;
-    let tree = Tree::new(alloc)?;
-    let made = touch_of(&tree, Ordinal::first(), Time::epoch(), bytes.as_slice());
-    holds!(rt; made.footprint.writes(root));
-    holds!(rt; made.resolved == ResolvedIn::nowhere());
-    let read = touched_by(alloc, &NfsCall::GetAttr { file: Some(root) })?;
-    holds!(rt; read.touches(root));
-    holds!(rt; !read.writes(root));
-    holds!(rt; conflicts(&made.footprint, &read));
-    holds!(rt; !conflicts(&read, &read));
+    let made = touch(rt.alloc(), CREATE, &[ROOT, A, UNSET])?;
+    holds!(rt; made.footprint.writes(root) && made.resolved == ResolvedIn::nowhere());
+    let read = touched_by(rt.alloc(), &NfsCall::GetAttr { file: Some(root) })?;
+    holds!(rt; reads_alone(&read, root));
+    holds!(rt; conflict(&made.footprint, &read) && !conflict(&read, &read));
     Ok(())
 }
 
 #[test]
 fn a_name_is_resolved_in_its_directory(rt: HostRuntime) -> Result<(), Fail> {
-    let alloc = rt.alloc();
     let root = Some(FileId::root());
     let look_up = NfsCall::LookUp {
         dir: root,
         name: b".".as_slice(),
     };
-    same!(rt; resolved_in(&look_up).first, root);
-    match touched_by(alloc, &look_up)? {
-        Footprint::Known { reads, .. } => same!(rt; reads.as_slice().len(), 2),
-        Footprint::Whole => return Err(Fail::new("a known footprint")),
-    }
-    let mut bytes = call(alloc, 1, LOOKUP)?;
-    put_parts(&mut bytes, &[ROOT, A])?;
-    let tree = Tree::new(alloc)?;
-    let touch = touch_of(&tree, Ordinal::first(), Time::epoch(), bytes.as_slice());
-    holds!(rt; touch.resolved.first == root);
+    same!(rt; resolves_first_in(&look_up), root);
+    same!(rt; count_of_reads(&touched_by(rt.alloc(), &look_up)?), Some(2));
+    same!(rt; touch(rt.alloc(), LOOKUP, &[ROOT, A])?.resolved.first, root);
     Ok(())
 }
 
 #[test]
 fn statfs_touches_all(rt: HostRuntime) -> Result<(), Fail> {
-    let alloc = rt.alloc();
-    let all = touched_by(alloc, &NfsCall::FileSystemStatus { file: None })?;
+    let all = touched_by(rt.alloc(), &NfsCall::FileSystemStatus { file: None })?;
     holds!(rt; all.is_whole());
-    holds!(rt; conflicts(&all, &Footprint::none()));
+    holds!(rt; conflict(&all, &Footprint::none()));
     Ok(())
 }

@@ -2,8 +2,7 @@
 //! which of them are malformed (20) and which are of another version (22). It does not look whether the others are well formed: of these each
 //! is refused for that (21), or read and written again to the same bytes.
 use crate::hostile::with_word;
-use crate::texts::{bytes_of, refusal};
-use bfs_digest::{restore, snapshot};
+use crate::texts::{bytes_of, refusal, told_again};
 use bfs_testing::asserts::compared;
 use bfs_testing::changes::{Change, Changes};
 use bfs_testing::cursors::Cursor;
@@ -24,13 +23,19 @@ fn rising(cursor: &mut Cursor<'_>, last: u32) -> Option<u32> {
     if last < number { Some(number) } else { None }
 }
 
+// the cookie of an entry, which is above the last one
+fn entry(cursor: &mut Cursor<'_>, last: u32) -> Option<u32> {
+    let cookie = rising(cursor, last)?;
+    cursor.opaque(255)?;
+    cursor.word()?;
+    Some(cookie)
+}
+
 fn directory(cursor: &mut Cursor<'_>) -> Option<()> {
     cursor.word()?;
     let mut cookie = 2;
     for _entry in 0..cursor.word_up_to(65_536)? {
-        cookie = rising(cursor, cookie)?;
-        cursor.opaque(255)?;
-        cursor.word()?;
+        cookie = entry(cursor, cookie)?;
     }
     Some(())
 }
@@ -88,21 +93,29 @@ fn wanted(text: &[u8]) -> Option<u32> {
 // whether it has the text that it was restored from, but for the version, which is the latest
 fn is_told_again(alloc: Global, text: &[u8]) -> Result<bool, Fail> {
     let (_, behind) = text.split_at_checked(8).ok_or("a version")?;
-    let told = snapshot(alloc, &restore(alloc, text)?)?;
+    let told = told_again(alloc, text)?;
     Ok(told.as_slice().strip_prefix(b"BFSS\0\0\0\x02".as_slice()) == Some(behind))
+}
+
+// whether a text is rightly refused by that number, or restored where it is 0
+fn is_right(alloc: Global, text: &[u8], given: u32) -> Result<bool, Fail> {
+    match wanted(text) {
+        Some(refused) => Ok(given == refused),
+        None if given == 0 => is_told_again(alloc, text),
+        None => Ok(given == 21),
+    }
+}
+
+// a text that is longer is malformed or of another version
+fn may_be(change: Change, given: u32) -> bool {
+    change != Change::Lengthen || given == 20 || given == 22
 }
 
 // the number by which a text is refused, which is as it is to be
 fn judged(alloc: Global, change: Change, text: &[u8]) -> Result<u32, Fail> {
     let given = refusal(alloc, text);
-    match wanted(text) {
-        Some(refused) => compared((change, given), (change, refused))?,
-        None if given == 0 => compared((change, is_told_again(alloc, text)?), (change, true))?,
-        None => compared((change, given), (change, 21))?,
-    }
-    if change == Change::Lengthen {
-        compared(given == 20 || given == 22, true)?;
-    }
+    let right = is_right(alloc, text, given)? && may_be(change, given);
+    compared((change, given, right), (change, given, true))?;
     Ok(given)
 }
 
@@ -131,33 +144,52 @@ impl Counts {
     }
 }
 
+fn judge(
+    alloc: Global,
+    changes: &mut Changes,
+    text: &[u8],
+    others: &[u8],
+    counts: &mut Counts,
+) -> Result<(), Fail> {
+    let (change, changed) = changes.changed(alloc, text, others)?;
+    counts.count(judged(alloc, change, changed.as_slice())?);
+    Ok(())
+}
+
 fn judge_all(alloc: Global, text: &[u8], others: &[u8], counts: &mut Counts) -> Result<(), Fail> {
     let mut changes = Changes { state: 35 };
     for _ in 0u32..1_000 {
-        let (change, changed) = changes.changed(alloc, text, others)?;
-        counts.count(judged(alloc, change, changed.as_slice())?);
+        judge(alloc, &mut changes, text, others, counts)?;
     }
     Ok(())
 }
 
+/// A text, its version, and another text.
+struct Pair(&'static str, u32, &'static str);
+
+static PAIRS: [Pair; 4] = [
+    Pair(NEW, 2, SOME),
+    Pair(SOME, 1, SOME),
+    Pair(SOME, 2, NEW),
+    Pair(NEW, 1, NEARLY_SPENT),
+];
+
+fn judge_pair(alloc: Global, pair: &Pair, counts: &mut Counts) -> Result<(), Fail> {
+    let text = with_word(alloc, pair.0, 4, pair.1)?;
+    let others = bytes_of(alloc, pair.2)?;
+    judge_all(alloc, text.as_slice(), others.as_slice(), counts)
+}
+
 #[test]
 fn changed_texts_are_read_as_the_format_tells(rt: HostRuntime) -> Result<(), Fail> {
-    let alloc = rt.alloc();
     let mut counts = Counts {
         restored: 0,
         malformed: 0,
         not_formed: 0,
         others: 0,
     };
-    let pairs = [
-        (NEW, SOME, 2),
-        (SOME, SOME, 1),
-        (SOME, NEW, 2),
-        (NEW, NEARLY_SPENT, 1),
-    ];
-    for (text, other, version) in pairs {
-        let (bytes, others) = (with_word(alloc, text, 4, version)?, bytes_of(alloc, other)?);
-        judge_all(alloc, bytes.as_slice(), others.as_slice(), &mut counts)?;
+    for pair in &PAIRS {
+        judge_pair(rt.alloc(), pair, &mut counts)?;
     }
     holds!(rt; counts.are_many());
     Ok(())

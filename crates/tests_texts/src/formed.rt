@@ -1,6 +1,7 @@
 //! Texts of file systems that are not well formed, one for each way not to be.
 use crate::texts::refusal;
 use bfs_testing::asserts::compared;
+use bfs_testing::words::letters;
 use std::alloc::Global;
 use std::test::Fail;
 
@@ -33,12 +34,18 @@ fn put_file(text: &mut Vec<u8>, fileid: u32, links: u32) -> Result<(), Fail> {
     put_words(text, &[0])
 }
 
-fn put_entry(text: &mut Vec<u8>, cookie: u32, name: &[u8], child: u32) -> Result<(), Fail> {
-    put_words(text, &[cookie, number_of(name.len())?])?;
+// with zeros behind it up to a whole word
+fn put_name(text: &mut Vec<u8>, name: &[u8]) -> Result<(), Fail> {
     text.extend_from_slice(name)?;
     for _ in 0..(4 - name.len() % 4) % 4 {
         text.push(0)?;
     }
+    Ok(())
+}
+
+fn put_entry(text: &mut Vec<u8>, cookie: u32, name: &[u8], child: u32) -> Result<(), Fail> {
+    put_words(text, &[cookie, number_of(name.len())?])?;
+    put_name(text, name)?;
     put_words(text, &[child])
 }
 
@@ -46,8 +53,8 @@ fn put_entry(text: &mut Vec<u8>, cookie: u32, name: &[u8], child: u32) -> Result
 type Entry<'a> = (u32, &'a str, u32);
 
 fn put_entries(text: &mut Vec<u8>, entries: &[Entry]) -> Result<(), Fail> {
-    for (cookie, name, child) in entries {
-        put_entry(text, *cookie, name.as_bytes(), *child)?;
+    for entry in entries {
+        put_entry(text, entry.0, entry.1.as_bytes(), entry.2)?;
     }
     Ok(())
 }
@@ -70,10 +77,10 @@ fn put_directory(
 struct Small<'a>(u32, (u32, u32), (u32, u32), u32, Entry<'a>, u32);
 
 fn put_small(text: &mut Vec<u8>, small: &Small) -> Result<(), Fail> {
-    let Small(_, (links, parent), (links_below, parent_below), of_file, second, _) = small;
-    put_directory(text, 2, *links, *parent, &[(3, "d", 3), *second])?;
-    put_directory(text, 3, *links_below, *parent_below, &[(4, "f", 4)])?;
-    put_file(text, 4, *of_file)
+    let (root, below) = (small.1, small.2);
+    put_directory(text, 2, root.0, root.1, &[(3, "d", 3), small.4])?;
+    put_directory(text, 3, below.0, below.1, &[(4, "f", 4)])?;
+    put_file(text, 4, small.3)
 }
 
 fn is_as_told(alloc: Global, small: &Small) -> Result<bool, Fail> {
@@ -170,12 +177,15 @@ fn refuses_names_that_are_too_long(rt: HostRuntime) -> Result<(), Fail> {
 // one that is not there, below, between and above those that are; the root; and a directory for the second time
 static CHILDREN: [u32; 6] = [0, 1, 6, u32::MAX, 2, 3];
 
+// with such a child in the root, which has so many links
+fn is_no_child(alloc: Global, child: u32, links: u32) -> Result<bool, Fail> {
+    is_as_told(alloc, &Small(9, (links, 2), (2, 2), 1, (5, "e", child), 21))
+}
+
 // the first that is not refused, in a root with as many links as it has names of directories, and with one more
 fn first_child(alloc: Global) -> Result<Option<u32>, Fail> {
     for child in &CHILDREN {
-        let second = (5, "e", *child);
-        let few = is_as_told(alloc, &Small(9, (3, 2), (2, 2), 1, second, 21))?;
-        if !few || !is_as_told(alloc, &Small(9, (4, 2), (2, 2), 1, second, 21))? {
+        if !is_no_child(alloc, *child, 3)? || !is_no_child(alloc, *child, 4)? {
             return Ok(Some(*child));
         }
     }
@@ -190,11 +200,15 @@ fn refuses_children_that_a_directory_may_not_name(rt: HostRuntime) -> Result<(),
 
 static PARENTS: [u32; 6] = [0, 1, 3, 4, 5, u32::MAX];
 
+// of the root, and of the directory
+fn are_no_parents(alloc: Global, root: u32, below: u32) -> Result<bool, Fail> {
+    is_as_told(alloc, &Small(6, (3, root), (2, below), 2, SECOND, 21))
+}
+
 // the first that is not refused, of the root and of the directory
 fn first_parent(alloc: Global) -> Result<Option<u32>, Fail> {
     for parent in &PARENTS {
-        let root = is_as_told(alloc, &Small(6, (3, *parent), (2, 2), 2, SECOND, 21))?;
-        if !root || !is_as_told(alloc, &Small(6, (3, 2), (2, *parent), 2, SECOND, 21))? {
+        if !are_no_parents(alloc, *parent, 2)? || !are_no_parents(alloc, 2, *parent)? {
             return Ok(Some(*parent));
         }
     }
@@ -235,9 +249,8 @@ fn put_inodes(text: &mut Vec<u8>, inodes: &[Inode]) -> Result<(), Fail> {
 }
 
 fn refused(alloc: Global, written: &Written) -> Result<u32, Fail> {
-    let Written(next_ordinal, inodes) = written;
-    let mut text = begin(alloc, *next_ordinal, number_of(inodes.len())?)?;
-    put_inodes(&mut text, *inodes)?;
+    let mut text = begin(alloc, written.0, number_of(written.1.len())?)?;
+    put_inodes(&mut text, written.1)?;
     Ok(refusal(alloc, text.as_slice()))
 }
 
@@ -311,8 +324,7 @@ fn refuses_what_is_no_tree_below_the_root(rt: HostRuntime) -> Result<(), Fail> {
 fn put_names(text: &mut Vec<u8>, names: u32, last: u32) -> Result<(), Fail> {
     for place in 0..names {
         let number = if place + 1 == names { last } else { place };
-        let name = [b'a' + (number / 26 % 26) as u8, b'a' + (number % 26) as u8];
-        put_entry(text, place.saturating_add(4), name.as_slice(), 3)?;
+        put_entry(text, place.saturating_add(4), &letters(number), 3)?;
     }
     Ok(())
 }

@@ -5,6 +5,15 @@ use bfs_testing::texts::{NEW, SOME};
 use std::alloc::Global;
 use std::test::Fail;
 
+fn put_word(bytes: &mut [u8], place: usize, word: u32) -> Result<(), Fail> {
+    let mut at = place;
+    for byte in word.to_be_bytes() {
+        *bytes.get_mut(at).ok_or("a place")? = byte;
+        at = at.saturating_add(1);
+    }
+    Ok(())
+}
+
 /// The text with a word in the place of one.
 pub(crate) fn with_word(
     alloc: Global,
@@ -12,45 +21,45 @@ pub(crate) fn with_word(
     place: usize,
     word: u32,
 ) -> Result<Vec<u8>, Fail> {
-    let bytes = bytes_of(alloc, text)?;
-    let (front, rest) = bytes.as_slice().split_at_checked(place).ok_or("a place")?;
-    let (_, behind) = rest.split_at_checked(4).ok_or("a word")?;
-    let mut changed = Vec::new(alloc);
-    changed.extend_from_slice(front)?;
-    changed.extend_from_slice(&word.to_be_bytes())?;
-    changed.extend_from_slice(behind)?;
-    Ok(changed)
-}
-
-// the number by which the text with such a word is refused
-fn refused(alloc: Global, text: &str, place: usize, word: u32) -> Result<u32, Fail> {
-    Ok(refusal(alloc, with_word(alloc, text, place, word)?.as_slice()))
+    let mut bytes = bytes_of(alloc, text)?;
+    put_word(bytes.as_mut_slice(), place, word)?;
+    Ok(bytes)
 }
 
 /// A word in the place of one of a text, and the number by which the text is then refused, 0 where it is not.
 struct Word(usize, u32, u32);
 
+fn is_as_told(alloc: Global, text: &str, word: &Word) -> Result<bool, Fail> {
+    let bytes = with_word(alloc, text, word.0, word.1)?;
+    Ok(refusal(alloc, bytes.as_slice()) == word.2)
+}
+
 // the place of the first of which something else is said
 fn first_wrong(alloc: Global, text: &str, words: &[Word]) -> Result<Option<usize>, Fail> {
-    for (index, Word(place, word, wanted)) in words.iter().enumerate() {
-        if refused(alloc, text, *place, *word)? != *wanted {
-            return Ok(Some(index));
+    for (place, word) in words.iter().enumerate() {
+        if !is_as_told(alloc, text, word)? {
+            return Ok(Some(place));
         }
     }
     Ok(None)
 }
 
+fn are_as_told(alloc: Global, text: &str, words: &[Word]) -> Result<(), Fail> {
+    compared(first_wrong(alloc, text, words)?, None)?;
+    Ok(())
+}
+
 /// A text, and the number by which it is refused.
 struct Text(&'static str, u32);
 
-fn refused_text(alloc: Global, text: &str) -> Result<u32, Fail> {
-    Ok(refusal(alloc, bytes_of(alloc, text)?.as_slice()))
+fn is_refused(alloc: Global, text: &Text) -> Result<bool, Fail> {
+    Ok(refusal(alloc, bytes_of(alloc, text.0)?.as_slice()) == text.1)
 }
 
 fn first_wrong_text(alloc: Global, texts: &[Text]) -> Result<Option<usize>, Fail> {
-    for (index, Text(text, wanted)) in texts.iter().enumerate() {
-        if refused_text(alloc, text)? != *wanted {
-            return Ok(Some(index));
+    for (place, text) in texts.iter().enumerate() {
+        if !is_refused(alloc, text)? {
+            return Ok(Some(place));
         }
     }
     Ok(None)
@@ -69,8 +78,7 @@ static VERSIONS: [Word; 4] = [Word(4, 1, 0), Word(4, 2, 0), Word(4, 3, 22), Word
 #[test]
 fn looks_at_the_version_first(rt: HostRuntime) -> Result<(), Fail> {
     compared(first_wrong_text(rt.alloc(), &SHORT)?, None)?;
-    compared(first_wrong(rt.alloc(), NEW, &VERSIONS)?, None)?;
-    Ok(())
+    are_as_told(rt.alloc(), NEW, &VERSIONS)
 }
 
 static OUT_OF_RANGE: [Word; 7] = [
@@ -88,8 +96,7 @@ static OUT_OF_RANGE: [Word; 7] = [
 
 #[test]
 fn refuses_numbers_out_of_range(rt: HostRuntime) -> Result<(), Fail> {
-    compared(first_wrong(rt.alloc(), NEW, &OUT_OF_RANGE)?, None)?;
-    Ok(())
+    are_as_told(rt.alloc(), NEW, &OUT_OF_RANGE)
 }
 
 static COUNTS: [Word; 6] = [
@@ -109,9 +116,8 @@ static COUNTS_OF_SOME: [Word; 3] = [
 
 #[test]
 fn reserves_nothing_by_counts(rt: HostRuntime) -> Result<(), Fail> {
-    compared(first_wrong(rt.alloc(), NEW, &COUNTS)?, None)?;
-    compared(first_wrong(rt.alloc(), SOME, &COUNTS_OF_SOME)?, None)?;
-    Ok(())
+    are_as_told(rt.alloc(), NEW, &COUNTS)?;
+    are_as_told(rt.alloc(), SOME, &COUNTS_OF_SOME)
 }
 
 static NOT_FORMED: [Word; 5] = [
@@ -126,24 +132,25 @@ static NOT_FORMED: [Word; 5] = [
 
 #[test]
 fn refuses_file_systems_that_are_not_well_formed(rt: HostRuntime) -> Result<(), Fail> {
-    compared(first_wrong(rt.alloc(), NEW, &NOT_FORMED)?, None)?;
-    Ok(())
+    are_as_told(rt.alloc(), NEW, &NOT_FORMED)
 }
 
 // a new file system with the next ordinal 4 and one entry in its root
 fn with_entry(alloc: Global, entry: &str) -> Result<Vec<u8>, Fail> {
     let mut bytes = with_word(alloc, NEW, 12, 4)?;
-    if bytes.len() == 84 {
-        bytes.as_mut_slice()[83] = 1;
-    }
+    put_word(bytes.as_mut_slice(), 80, 1)?;
     bytes.extend_from_slice(bytes_of(alloc, entry)?.as_slice())?;
     Ok(bytes)
 }
 
+fn is_refused_entry(alloc: Global, entry: &Text) -> Result<bool, Fail> {
+    Ok(refusal(alloc, with_entry(alloc, entry.0)?.as_slice()) == entry.1)
+}
+
 fn first_wrong_entry(alloc: Global, entries: &[Text]) -> Result<Option<usize>, Fail> {
-    for (index, Text(entry, wanted)) in entries.iter().enumerate() {
-        if refusal(alloc, with_entry(alloc, entry)?.as_slice()) != *wanted {
-            return Ok(Some(index));
+    for (place, entry) in entries.iter().enumerate() {
+        if !is_refused_entry(alloc, entry)? {
+            return Ok(Some(place));
         }
     }
     Ok(None)
@@ -165,10 +172,17 @@ fn refuses_entries_that_name_nothing(rt: HostRuntime) -> Result<(), Fail> {
     Ok(())
 }
 
+fn is_malformed_at(alloc: Global, text: &[u8], length: usize) -> bool {
+    match text.get(..length) {
+        Some(front) => refusal(alloc, front) == 20,
+        None => false,
+    }
+}
+
 /// The first length at which a text that is cut there is not malformed.
 pub(crate) fn first_length(alloc: Global, text: &[u8]) -> Option<usize> {
     for length in 0..text.len() {
-        if refusal(alloc, &text[..length]) != 20 {
+        if !is_malformed_at(alloc, text, length) {
             return Some(length);
         }
     }
@@ -178,16 +192,10 @@ pub(crate) fn first_length(alloc: Global, text: &[u8]) -> Option<usize> {
 // the two first entries of `SOME`'s root have the names `d` and `l`
 const SECOND_NAME: usize = 108;
 
-fn repeated(alloc: Global) -> Result<(u32, Option<usize>), Fail> {
-    let repeated = with_word(alloc, SOME, SECOND_NAME, 0x6400_0000)?;
-    Ok((
-        refusal(alloc, repeated.as_slice()),
-        first_length(alloc, repeated.as_slice()),
-    ))
-}
-
 #[test]
 fn reads_to_the_end_before_it_says_that_a_name_is_repeated(rt: HostRuntime) -> Result<(), Fail> {
-    compared(repeated(rt.alloc())?, (21, None))?;
+    let repeated = with_word(rt.alloc(), SOME, SECOND_NAME, 0x6400_0000)?;
+    compared(refusal(rt.alloc(), repeated.as_slice()), 21)?;
+    compared(first_length(rt.alloc(), repeated.as_slice()), None)?;
     Ok(())
 }

@@ -1,55 +1,59 @@
 //! Files of each length at which the blocks of a digest, or what a version spells, end. The digests are another implementation's.
-use crate::texts::{bytes_of, refusal};
-use bfs_digest::{digest_parallel, digest_serial, refresh, restore, snapshot};
-use bfs_testing::words::spells;
-use bfs_testing::{holds, same};
+use crate::hostile::with_word;
+use crate::texts::{digest_of, has_digest, refusal, restored, told_again};
+use bfs_digest::refresh;
+use bfs_serial::FileSystem;
+use bfs_testing::asserts::compared;
 use std::alloc::Global;
 use std::process::Abort;
 use std::test::Fail;
 use std::thread::Threads;
 
-// what stands between the version and the length of the only file, `f` in the root
-const FRONT: &str =
-    "00000000000000040000000100000000000000020000000200000002000001ed0000000200000000000000000000000000000000000000000000000000000000000000000000000200000001000000030000000166000000000000030000000300000001000001a4000000010000000700000008000000010000000000000001000000000000000100000000";
+// what stands in front of the length of the only file, `f` in the root
+static FRONT: &str =
+    "424653530000000200000000000000040000000100000000000000020000000200000002000001ed0000000200000000000000000000000000000000000000000000000000000000000000000000000200000001000000030000000166000000000000030000000300000001000001a4000000010000000700000008000000010000000000000001000000000000000100000000";
 
-// the text in that version: the last byte of the file is `b`, and those before it are `a`
-fn text_of(alloc: Global, version: u8, size: u32) -> Result<Vec<u8>, Fail> {
-    let mut text = Vec::new(alloc);
-    text.extend_from_slice(&[b'B', b'F', b'S', b'S', 0, 0, 0, version])?;
-    text.extend_from_slice(bytes_of(alloc, FRONT)?.as_slice())?;
+// the last byte of the file is `b`, and those before it are `a`
+fn put_bytes(text: &mut Vec<u8>, size: u32) -> Result<(), Fail> {
     text.extend_from_slice(&size.to_be_bytes())?;
     if size > 0 {
-        let end = usize::saturating_add(text.len(), size as usize);
-        text.resize(usize::saturating_sub(end, 1), b'a')?;
+        let last = text.len().saturating_add(size as usize - 1);
+        text.resize(last, b'a')?;
         text.push(b'b')?;
     }
+    Ok(())
+}
+
+fn put_padding(text: &mut Vec<u8>, size: u32) -> Result<(), Fail> {
     for _ in 0..(4 - size % 4) % 4 {
         text.push(0)?;
     }
+    Ok(())
+}
+
+// the text in that version of a file of that size
+fn text_of(alloc: Global, version: u32, size: u32) -> Result<Vec<u8>, Fail> {
+    let mut text = with_word(alloc, FRONT, 4, version)?;
+    put_bytes(&mut text, size)?;
+    put_padding(&mut text, size)?;
     Ok(text)
 }
 
+fn keep_all(rt: &(impl Threads + Sync), alloc: Global, files: &mut FileSystem) -> Result<(), Fail> {
+    Ok(refresh(rt, alloc, files)?)
+}
+
 // both digests, with nothing kept and with all
-fn has_digest(
+fn has_digests(
     rt: &(impl Threads + Sync),
     alloc: Global,
-    text: &[u8],
+    size: u32,
     digest: &str,
 ) -> Result<(), Fail> {
-    let mut files = restore(alloc, text)?;
-    spells(alloc, digest_serial(&files)?.as_slice(), digest)?;
-    spells(
-        alloc,
-        digest_parallel(rt, alloc, &files)?.as_slice(),
-        digest,
-    )?;
-    refresh(rt, alloc, &mut files)?;
-    spells(alloc, digest_serial(&files)?.as_slice(), digest)?;
-    spells(
-        alloc,
-        digest_parallel(rt, alloc, &files)?.as_slice(),
-        digest,
-    )
+    let mut files = restored(alloc, text_of(alloc, 2, size)?.as_slice())?;
+    has_digest(rt, alloc, &files, digest)?;
+    keep_all(rt, alloc, &mut files)?;
+    has_digest(rt, alloc, &files, digest)
 }
 
 static SIZES: &[(u32, &str)] = &[
@@ -97,39 +101,50 @@ static SIZES: &[(u32, &str)] = &[
 
 #[test]
 fn digests_files_by_blocks(rt: HostRuntime) -> Result<(), Fail> {
-    let alloc = rt.alloc();
-    for (size, digest) in SIZES {
-        has_digest(&rt, alloc, text_of(alloc, 2, *size)?.as_slice(), digest)?;
+    for size in SIZES {
+        has_digests(&rt, rt.alloc(), size.0, size.1)?;
     }
     Ok(())
 }
 
+// versions, sizes, and the number by which a text of them is refused
+static LIMITS: [(u32, u32, u32); 6] = [
+    (1, 1_048_576, 0),
+    (1, 1_048_577, 20),
+    (1, 16_777_216, 20),
+    (2, 1_048_577, 0),
+    (2, 16_777_216, 0),
+    (2, 16_777_217, 20),
+];
+
+fn refused(alloc: Global, version: u32, size: u32) -> Result<u32, Fail> {
+    Ok(refusal(alloc, text_of(alloc, version, size)?.as_slice()))
+}
+
 #[test]
 fn spells_files_up_to_the_limit_of_the_version(rt: HostRuntime) -> Result<(), Fail> {
-    let alloc = rt.alloc();
-    let limits = [
-        (1, 1_048_576, 0),
-        (1, 1_048_577, 20),
-        (1, 16_777_216, 20),
-        (2, 1_048_577, 0),
-        (2, 16_777_216, 0),
-        (2, 16_777_217, 20),
-    ];
-    for (version, size, refused) in limits {
-        same!(rt; refusal(alloc, text_of(alloc, version, size)?.as_slice()), refused);
+    for limit in &LIMITS {
+        compared(refused(rt.alloc(), limit.0, limit.1)?, limit.2)?;
     }
+    Ok(())
+}
+
+// a text of version 1 with a file of that size is told again in version 2, and they have one digest
+fn is_read_as_latest(alloc: Global, size: u32) -> Result<(), Fail> {
+    let older = text_of(alloc, 1, size)?;
+    let latest = text_of(alloc, 2, size)?;
+    compared(told_again(alloc, older.as_slice())? == latest, true)?;
+    compared(
+        digest_of(alloc, older.as_slice())?,
+        digest_of(alloc, latest.as_slice())?,
+    )?;
     Ok(())
 }
 
 #[test]
 fn reads_an_older_text_as_the_latest(rt: HostRuntime) -> Result<(), Fail> {
-    let alloc = rt.alloc();
     for size in [0, 4_097, 1_048_576] {
-        let older = restore(alloc, text_of(alloc, 1, size)?.as_slice())?;
-        let latest = text_of(alloc, 2, size)?;
-        holds!(rt; snapshot(alloc, &older)?.as_slice() == latest.as_slice());
-        let files = restore(alloc, latest.as_slice())?;
-        holds!(rt; digest_serial(&older)? == digest_serial(&files)?);
+        is_read_as_latest(rt.alloc(), size)?;
     }
     Ok(())
 }
