@@ -1,19 +1,46 @@
 //! Pages of a directory's entries.
-use crate::growing::{Entry, add};
+use crate::growing::takes;
 use bfs_inode::{Directory, FileId, Page};
-use bfs_testing::asserts::compared;
 use bfs_testing::words::letters;
+use bfs_testing::{holds, same};
 use std::alloc::Global;
+use std::process::Abort;
 use std::test::Fail;
 
-fn empty(alloc: Global) -> Directory {
-    Directory::new(alloc, FileId::root())
+fn add_thousand(rt: &impl Abort, alloc: Global) -> Result<Directory, Fail> {
+    let mut directory = Directory::new(alloc, FileId::root());
+    for index in 0..1000 {
+        let (cookie, name) = (3 + index, letters(index));
+        assert!(rt; takes(&directory, cookie, &name));
+        directory.add(cookie, &name, FileId::new(cookie))?;
+    }
+    Ok(directory)
 }
 
-// entries of the names by these numbers, with cookies from 3 on
-fn add_thousand(directory: &mut Directory) -> Result<(), Fail> {
-    for number in 0..1000 {
-        add(directory, Entry(3 + number, &letters(number), 3 + number))?;
+// Lists the page behind a cookie, and gives the last cookie on it. Those of `.` and `..` are 1 and 2, and the others rise by that
+// step up to 1002.
+fn list_page(rt: &impl Abort, directory: &Directory, cookie: u32, step: u32) -> u32 {
+    let mut last = cookie;
+    let mut page = directory.page(FileId::new(7), cookie, 512);
+    // 25 entries of 20 bytes fit between the 12 bytes around them
+    for _entry in 0..25 {
+        if let Some(listed) = page.next_entry() {
+            same!(rt; listed.cookie.checked_sub(last), Some(if last < 2 { 1 } else { step }));
+            last = listed.cookie;
+        }
+    }
+    assert!(rt; page.next_entry().is_none());
+    same!(rt; page.is_last(), last == 1002);
+    last
+}
+
+#[test]
+fn lists_each_of_many_entries_once(rt: HostRuntime) -> Result<(), Fail> {
+    let directory = add_thousand(&rt, rt.alloc())?;
+    let mut last = 0;
+    for pages in 1..42 {
+        last = list_page(&rt, &directory, last, 1);
+        same!(rt; last, 1002.min(25 * pages));
     }
     Ok(())
 }
@@ -25,157 +52,66 @@ fn drop_every_second(directory: &mut Directory) {
     }
 }
 
-fn next_cookie(page: &mut Page) -> Option<u32> {
-    match page.next_entry() {
-        Some(listed) => Some(listed.cookie),
-        None => None,
-    }
-}
-
-// Where there is no further entry, whether the page is the last.
-fn is_last(page: &mut Page) -> Option<bool> {
-    match page.next_entry() {
-        Some(_) => None,
-        None => Some(page.is_last()),
-    }
-}
-
-// The last of at most 25 cookies behind that one. Those of `.` and `..` are 1 and 2, and the others rise by that step.
-fn last_cookie(page: &mut Page, cookie: u32, step: u32) -> Result<u32, Fail> {
-    let mut last = cookie;
-    for _entry in 0..25 {
-        if let Some(next) = next_cookie(page) {
-            compared(
-                next.checked_sub(last),
-                Some(if last < 2 { 1 } else { step }),
-            )?;
-            last = next;
-        }
-    }
-    Ok(last)
-}
-
-// Lists the page behind a cookie, and gives the last cookie on it. The last of all is 1002.
-fn list_page(directory: &Directory, cookie: u32, step: u32) -> Result<u32, Fail> {
-    // 25 entries of 20 bytes fit between the 12 bytes around them
-    let mut page = directory.page(FileId::new(7), cookie, 512);
-    let last = last_cookie(&mut page, cookie, step)?;
-    compared(is_last(&mut page), Some(last == 1002))?;
-    Ok(last)
-}
-
-// Lists so many pages. The second ends 25 steps behind the first, and so on, up to the last cookie.
-fn lists_pages(directory: &Directory, step: u32, first: u32, pages: u32) -> Result<(), Fail> {
-    let (mut last, mut end) = (0, first);
-    for _page in 0..pages {
-        last = list_page(directory, last, step)?;
-        compared(last, 1002.min(end))?;
-        end = end.saturating_add(step.saturating_mul(25));
-    }
-    Ok(())
-}
-
-#[test]
-fn lists_each_of_many_entries_once(rt: HostRuntime) -> Result<(), Fail> {
-    let mut directory = empty(rt.alloc());
-    add_thousand(&mut directory)?;
-    lists_pages(&directory, 1, 25, 41)
-}
-
 fn cookie_of(directory: &Directory, name: &[u8]) -> Option<u32> {
     Some(directory.entry(name)?.cookie)
 }
 
-fn is_held(directory: &Directory, name: &[u8]) -> bool {
-    directory.holds(name)
-}
-
-// the entry by that number, with that cookie if it is there
-fn finds(directory: &Directory, number: u32, cookie: Option<u32>) -> Result<(), Fail> {
-    let name = letters(number);
-    compared(cookie_of(directory, &name), cookie)?;
-    compared(is_held(directory, &name), cookie.is_some())?;
-    Ok(())
-}
-
-fn finds_every_second(directory: &Directory) -> Result<(), Fail> {
-    for pair in 0..500 {
-        finds(directory, 2 * pair, None)?;
-        finds(directory, 2 * pair + 1, Some(2 * pair + 4))?;
-    }
-    Ok(())
-}
-
 #[test]
 fn finds_just_the_entries_that_are_left(rt: HostRuntime) -> Result<(), Fail> {
-    let mut directory = empty(rt.alloc());
-    add_thousand(&mut directory)?;
+    let mut directory = add_thousand(&rt, rt.alloc())?;
     drop_every_second(&mut directory);
-    compared(directory.len(), 500)?;
-    finds_every_second(&directory)
-}
-
-// names, and whether they are held where `ba` and `ab` are
-static NAMES: &[(&[u8], bool)] = &[
-    (b"ba", true),
-    (b"ab", true),
-    (b"", false),
-    (b"aa", false),
-    (b"b", false),
-    (b"baa", false),
-    (b"bb", false),
-];
-
-fn holds_each(directory: &Directory) -> Result<(), Fail> {
-    for name in NAMES {
-        compared(is_held(directory, name.0), name.1)?;
+    same!(rt; directory.len(), 500);
+    for pair in 0..500 {
+        same!(rt; cookie_of(&directory, &letters(2 * pair)), None);
+        same!(rt; cookie_of(&directory, &letters(2 * pair + 1)), Some(2 * pair + 4));
+        holds!(rt; !directory.holds(&letters(2 * pair)));
+        holds!(rt; directory.holds(&letters(2 * pair + 1)));
     }
     Ok(())
 }
 
 #[test]
 fn holds_the_names_of_its_entries_alone(rt: HostRuntime) -> Result<(), Fail> {
-    let mut directory = empty(rt.alloc());
-    compared(is_held(&directory, b"ba"), false)?;
-    add(&mut directory, Entry(9, b"ba", 8))?;
-    add(&mut directory, Entry(10, b"ab", 9))?;
-    holds_each(&directory)
+    let mut directory = Directory::new(rt.alloc(), FileId::root());
+    holds!(rt; !directory.holds(b"ba"));
+    directory.add(9, b"ba", FileId::new(8))?;
+    directory.add(10, b"ab", FileId::new(9))?;
+    holds!(rt; directory.holds(b"ba") && directory.holds(b"ab"));
+    holds!(rt; !directory.holds(b"") && !directory.holds(b"aa") && !directory.holds(b"b"));
+    holds!(rt; !directory.holds(b"baa") && !directory.holds(b"bb"));
+    Ok(())
 }
 
 #[test]
 fn lists_each_of_the_entries_that_are_left_once(rt: HostRuntime) -> Result<(), Fail> {
-    let mut directory = empty(rt.alloc());
-    add_thousand(&mut directory)?;
+    let mut directory = add_thousand(&rt, rt.alloc())?;
     drop_every_second(&mut directory);
-    lists_pages(&directory, 2, 48, 21)
+    let mut last = 0;
+    for pages in 1..22 {
+        last = list_page(&rt, &directory, last, 2);
+        same!(rt; last, 1002.min(50 * pages - 2));
+    }
+    Ok(())
 }
 
-fn is_next(page: &mut Page, entry: Entry) -> bool {
+fn lists(page: &mut Page, cookie: u32, name: &[u8], child: u32) -> bool {
     match page.next_entry() {
         Some(listed) => {
-            listed.cookie == entry.0
-                && listed.name == entry.1
-                && listed.child == FileId::new(entry.2)
+            listed.cookie == cookie && listed.name == name && listed.child == FileId::new(child)
         }
         None => false,
     }
 }
 
-// `.`, `..` and an entry
-static ALL: &[Entry] = &[Entry(1, b".", 7), Entry(2, b"..", 2), Entry(9, b"abc", 8)];
-
-fn lists_all(directory: &Directory) -> Result<(), Fail> {
-    let mut page = directory.page(FileId::new(7), 0, 8192);
-    for entry in ALL {
-        compared(is_next(&mut page, *entry), true)?;
-    }
-    compared(is_last(&mut page), Some(true))?;
-    Ok(())
-}
-
 #[test]
 fn lists_the_directory_and_the_one_above_first(rt: HostRuntime) -> Result<(), Fail> {
-    let mut directory = empty(rt.alloc());
-    add(&mut directory, Entry(9, b"abc", 8))?;
-    lists_all(&directory)
+    let mut directory = Directory::new(rt.alloc(), FileId::root());
+    directory.add(9, b"abc", FileId::new(8))?;
+    let mut page = directory.page(FileId::new(7), 0, 8192);
+    holds!(rt; lists(&mut page, 1, b".", 7));
+    holds!(rt; lists(&mut page, 2, b"..", 2));
+    holds!(rt; lists(&mut page, 9, b"abc", 8));
+    assert!(rt; page.next_entry().is_none());
+    holds!(rt; page.is_last());
+    Ok(())
 }
