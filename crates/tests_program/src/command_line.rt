@@ -1,47 +1,28 @@
 //! Command lines: what the words ask for, and those that are refused.
 use bfs_replay::{Engine, Failure, Options, UsageError, options};
-use bfs_testing::asserts::compared;
-use bfs_testing::same;
+use bfs_testing::{holds, same};
 use std::alloc::Global;
 use std::test::Fail;
 
-/// A command line, and what it asks for beside the trace `a.trace`: workers, an engine, and the path of settings.
-struct Taken(&'static str, u32, Option<Engine>, Option<&'static str>);
-
-static TAKEN: [Taken; 13] = [
-    Taken("replay a.trace", 4, Some(Engine::Levels), None),
-    Taken("replay -- a.trace", 4, Some(Engine::Levels), None),
-    Taken("replay --engine runs a.trace", 4, Some(Engine::Runs), None),
-    Taken("replay --engine serial a.trace", 4, None, None),
-    Taken("replay a.trace --engine=serial", 4, None, None),
-    Taken("replay --workers 1 a.trace", 1, Some(Engine::Levels), None),
-    Taken(
-        "replay --workers 64 a.trace",
-        64,
-        Some(Engine::Levels),
-        None,
-    ),
-    Taken("replay --workers=8 a.trace", 8, Some(Engine::Levels), None),
-    Taken("replay a.trace --workers +7", 7, Some(Engine::Levels), None),
-    Taken(
-        "replay --workers 007 a.trace",
-        7,
-        Some(Engine::Levels),
-        None,
-    ),
-    Taken("replay --workers 2 --engine serial a.trace", 2, None, None),
-    Taken(
+// the words of a command line, and the workers and the engine that they ask for
+static TAKEN: [(&str, u32, Option<Engine>); 13] = [
+    ("replay a.trace", 4, Some(Engine::Levels)),
+    ("replay -- a.trace", 4, Some(Engine::Levels)),
+    ("replay --engine runs a.trace", 4, Some(Engine::Runs)),
+    ("replay --engine serial a.trace", 4, None),
+    ("replay a.trace --engine=serial", 4, None),
+    ("replay --workers 1 a.trace", 1, Some(Engine::Levels)),
+    ("replay --workers 64 a.trace", 64, Some(Engine::Levels)),
+    ("replay --workers=8 a.trace", 8, Some(Engine::Levels)),
+    ("replay a.trace --workers +7", 7, Some(Engine::Levels)),
+    ("replay --workers 007 a.trace", 7, Some(Engine::Levels)),
+    ("replay --workers 2 --engine serial a.trace", 2, None),
+    (
         "replay --engine=runs a.trace --workers=33",
         33,
         Some(Engine::Runs),
-        None,
     ),
-    Taken(
-        "replay --engine levels a.trace",
-        4,
-        Some(Engine::Levels),
-        None,
-    ),
+    ("replay --engine levels a.trace", 4, Some(Engine::Levels)),
 ];
 
 static REFUSED: [&str; 28] = [
@@ -75,84 +56,57 @@ static REFUSED: [&str; 28] = [
     "replay --engine runs --engine runs a.trace",
 ];
 
-fn words_of<'a>(alloc: Global, line: &'a str) -> Result<Vec<&'a str>, Fail> {
-    Ok(line.split(' ').collect(alloc)?)
-}
-
-fn is_asked(asked: &Options, taken: &Taken) -> bool {
-    asked.workers.count() == taken.1
-        && asked.engine == taken.2
-        && asked.config == taken.3
-        && asked.trace == "a.trace"
-}
-
-fn is_taken(alloc: Global, taken: &Taken) -> Result<bool, Fail> {
-    let words = words_of(alloc, taken.0)?;
-    match options(alloc, words.as_slice()) {
-        Ok(asked) => Ok(is_asked(&asked, taken)),
-        Err(UsageError::Usage) => Ok(false),
-        Err(UsageError::Memory) => Err(UsageError::Memory.into()),
-    }
-}
-
-// the first line that asks for something else
-fn first_other(alloc: Global, lines: &[Taken]) -> Result<Option<&'static str>, Fail> {
-    for taken in lines {
-        if !is_taken(alloc, taken)? {
-            return Ok(Some(taken.0));
-        }
-    }
-    Ok(None)
+/// Whether the words of a line ask for so many workers, that engine, and the trace `a.trace`.
+fn asks_for(alloc: Global, line: &str, workers: u32, engine: Option<Engine>) -> Result<bool, Fail> {
+    let words: Vec<&str> = line.split(' ').collect(alloc)?;
+    let asked = match options(alloc, words.as_slice()) {
+        Ok(asked) => asked,
+        Err(UsageError::Usage) => return Ok(false),
+        Err(UsageError::Memory) => return Err(UsageError::Memory.into()),
+    };
+    Ok(asked.workers.count() == workers && asked.engine == engine && asked.trace == "a.trace")
 }
 
 #[test]
 fn reads_the_command_line(rt: HostRuntime) -> Result<(), Fail> {
-    compared(first_other(rt.alloc(), &TAKEN)?, None)?;
+    for (line, workers, engine) in TAKEN.iter() {
+        assert!(rt; asks_for(rt.alloc(), line, *workers, *engine)?, "{line}");
+    }
     Ok(())
 }
 
-// whether the words of a line are no usage of the program
+/// Whether the words of a line are no usage of the program.
 fn is_refused(alloc: Global, line: &str) -> Result<bool, Fail> {
-    let words = words_of(alloc, line)?;
+    let words: Vec<&str> = line.split(' ').collect(alloc)?;
     Ok(matches!(options(alloc, words.as_slice()), Err(UsageError::Usage)))
-}
-
-// the first line that is not refused
-fn first_taken(alloc: Global) -> Result<Option<&'static str>, Fail> {
-    for line in &REFUSED {
-        if !is_refused(alloc, line)? {
-            return Ok(Some(*line));
-        }
-    }
-    Ok(None)
 }
 
 #[test]
 fn refuses_other_command_lines(rt: HostRuntime) -> Result<(), Fail> {
-    compared(first_taken(rt.alloc())?, None)?;
+    for line in REFUSED.iter() {
+        assert!(rt; is_refused(rt.alloc(), line)?, "{line}");
+    }
     Ok(())
 }
 
-static OF_SETTINGS: [Taken; 3] = [
-    Taken(
-        "replay --config a.toml a.trace",
-        4,
-        Some(Engine::Levels),
-        Some("a.toml"),
-    ),
-    Taken(
-        "replay a.trace --config=a.toml",
-        4,
-        Some(Engine::Levels),
-        Some("a.toml"),
-    ),
-    Taken("replay a.trace", 4, Some(Engine::Levels), None),
-];
+/// Whether the words of a line ask for the settings at that path.
+fn asks_for_settings(alloc: Global, line: &str, path: Option<&str>) -> Result<bool, Fail> {
+    let words: Vec<&str> = line.split(' ').collect(alloc)?;
+    let asked = match options(alloc, words.as_slice()) {
+        Ok(asked) => asked,
+        Err(UsageError::Usage) => return Ok(false),
+        Err(UsageError::Memory) => return Err(UsageError::Memory.into()),
+    };
+    Ok(asked.config == path)
+}
 
 /// `.ci/refusals` runs this one with each growth of memory refused in turn.
 #[test]
 fn reads_where_the_settings_are(rt: HostRuntime) -> Result<(), Fail> {
-    compared(first_other(rt.alloc(), &OF_SETTINGS)?, None)?;
+    let path = Some("a.toml");
+    holds!(rt; asks_for_settings(rt.alloc(), "replay --config a.toml a.trace", path)?);
+    holds!(rt; asks_for_settings(rt.alloc(), "replay a.trace --config=a.toml", path)?);
+    holds!(rt; asks_for_settings(rt.alloc(), "replay a.trace", None)?);
     Ok(())
 }
 

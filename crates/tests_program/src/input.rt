@@ -1,12 +1,11 @@
 //! Input: all of it, or why there is none.
 use bfs_replay::{Failure, read_input};
 use bfs_testing::{holds, same};
-use std::alloc::Global;
 use std::io;
 use std::io::{ErrorKind, Read};
 use std::test::Fail;
 
-static TEXT: &[u8] = b"batch 1.000000\n0 1 null\n";
+const TEXT: &[u8] = b"batch 1.000000\n0 1 null\n";
 
 #[test]
 fn reads_input(rt: HostRuntime) -> Result<(), Fail> {
@@ -31,12 +30,11 @@ impl Read for Broken {
     }
 }
 
-fn refusal(alloc: Global, kind: ErrorKind) -> Option<Failure> {
-    read_input(alloc, Broken { bytes: TEXT, kind }).err()
-}
-
 #[test]
 fn tells_why_the_reader_refuses(rt: HostRuntime) {
-    same!(rt; refusal(rt.alloc(), ErrorKind::PermissionDenied), Some(Failure::Input));
-    same!(rt; refusal(rt.alloc(), ErrorKind::OutOfMemory), Some(Failure::Memory));
+    let broken = |kind| Broken { bytes: TEXT, kind };
+    let refused = read_input(rt.alloc(), broken(ErrorKind::PermissionDenied));
+    same!(rt; refused.err(), Some(Failure::Input));
+    let refused = read_input(rt.alloc(), broken(ErrorKind::OutOfMemory));
+    same!(rt; refused.err(), Some(Failure::Memory));
 }

@@ -1,26 +1,17 @@
 //! What a run's settings are to the program, and the comparison of digests.
 use bfs_replay::{
-    Failure, Outcome, Settings, SettingsError, compare, default_settings, parse_settings,
-    population_of,
+    Failure, Outcome, SettingsError, compare, default_settings, parse_settings, population_of,
 };
 use bfs_testing::same;
-use std::alloc::Global;
 use std::test::Fail;
-
-// how many clients and replicas a trace names
-fn named(settings: &Settings) -> (u32, u32) {
-    let population = population_of(settings);
-    (population.clients(), population.replicas())
-}
-
-fn settings_of(alloc: Global, text: &[u8]) -> Result<Settings, Fail> {
-    Ok(parse_settings(alloc, text)?)
-}
 
 #[test]
 fn a_trace_names_those_of_the_settings(rt: HostRuntime) -> Result<(), Fail> {
-    same!(rt; named(&default_settings(rt.alloc())?), (16, 1));
-    same!(rt; named(&settings_of(rt.alloc(), b"f = 10\nclients = 1024\n")?), (1_024, 31));
+    let population = population_of(&default_settings(rt.alloc())?);
+    same!(rt; (population.clients(), population.replicas()), (16, 1));
+    let settings = parse_settings(rt.alloc(), b"f = 10\nclients = 1024\n")?;
+    let population = population_of(&settings);
+    same!(rt; (population.clients(), population.replicas()), (1_024, 31));
     Ok(())
 }
 
