@@ -1,7 +1,7 @@
 #!/usr/bin/env python3
 """`measure.py PROGRAM` prints, by the program of main.txt, how many bytes come to a replica, and the peak of the process's memory without what it takes
 where nothing comes: for requests that wait, last replies, PRE-PREPAREs, and VIEW-CHANGEs of one sender, each of which is made, read and then kept in
-the place of the one before."""
+the place of the one before. `PROGRAM changes 31 1024` has the greatest ones among four replicas, and takes a quarter of an hour."""
 import os
 import subprocess
 import sys
