@@ -16,7 +16,7 @@ use std::thread::Threads;
 type MaybeSigned = Result<Option<Signed<Message>>, Memory>;
 
 impl Clients {
-    /// The requests in their order, each signed by its client for all replicas; one whose client there isn't is left out. They are signed by
+    /// The requests in their order, each signed by its client for all replicas; one whose client there isn't is left out. They share the calls, and are signed by
     /// as many threads as there are processors, unless there is too little to hash for them. `Memory` if memory runs out.
     pub fn sign_all(
         &self,
@@ -42,20 +42,9 @@ impl Clients {
             .map(
                 |request: &Request| -> MaybeSigned
                     ensures { IfOk result (λ one. one ≡ signed_request self.entry.now request.now) }
-                { self.sign_copy(request) },
+                { self.sign(request.try_clone()?) },
             )
             .collect(rt, self.alloc)
-    }
-
-    fn sign_copy(&self, request: &Request) -> MaybeSigned
-        ensures { IfOk result (λ one. one ≡ signed_request self.now request.now) }
-    {
-        self.sign(Request::new(
-            self.alloc,
-            request.client(),
-            request.timestamp(),
-            request.call(),
-        )?)
     }
 
     // what is hashed of a request, for all replicas together

@@ -64,6 +64,17 @@ impl Request {
     {
         self.call.as_slice()
     }
+
+    /// An equal one, which shares the call. `Memory` if memory runs out.
+    pub fn try_clone(&self) -> Result<Request, Memory>
+        ensures { IfOk result (λ copy. copy ≡ self.now) }
+    {
+        Ok(Request {
+            client: self.client,
+            timestamp: self.timestamp,
+            call: Arc::try_clone(&self.call)?,
+        })
+    }
 }
 
 impl Part for Request {
@@ -78,11 +89,7 @@ impl Part for Request {
     }
 
     fn try_clone(&self, _alloc: Global) -> Result<Request, Memory> {
-        Ok(Request {
-            client: self.client,
-            timestamp: self.timestamp,
-            call: Arc::try_clone(&self.call)?,
-        })
+        Request::try_clone(self)
     }
 }
 
@@ -98,7 +105,7 @@ impl Signed<Request> {
         ensures { IfOk result (λ copy. copy ≡ self.now) }
     {
         Ok(Signed {
-            message: self.message.try_clone(alloc)?,
+            message: self.message.try_clone()?,
             auth: self.auth.copy(alloc)?,
         })
     }
