@@ -16,8 +16,9 @@ use std::thread::Threads;
 type MaybeSigned = Result<Option<Signed<Message>>, Memory>;
 
 impl Clients {
-    /// The requests in their order, each signed by its client for all replicas; one whose client there isn't is left out. They share the calls, and are signed by
-    /// as many threads as there are processors, unless there is too little to hash for them. `Memory` if memory runs out.
+    /// The requests in their order, each signed by its client for all replicas; one whose client there isn't is left out. They share the
+    /// calls. They are signed by as many threads as there are processors, unless there is too little to hash for them. `Memory` if memory
+    /// runs out.
     pub fn sign_all(
         &self,
         rt: &(impl Threads + Sync),
