@@ -67,8 +67,8 @@ impl Authenticator {
     pub fn copy(&self, alloc: Global) -> Result<Authenticator, Memory>
         ensures { IfOk result (λ copy. copy ≡ self.now) }
     {
-        Ok(Authenticator {
-            entries: self.entries.to_vec(alloc)?,
-        })
+        let mut entries = Vec::with_capacity(alloc, self.entries.len())?;
+        entries.extend_from_slice(self.entries.as_slice())?;
+        Ok(Authenticator { entries })
     }
 }

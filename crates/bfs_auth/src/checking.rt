@@ -2,7 +2,6 @@ ghost use Rattle.std.specs.Prelude.{◌≡◌, IfOk, map};
 ghost use Rattle.bfs_auth.specs.Authenticators.{passes};
 
 use crate::authenticators::Authenticator;
-use crate::keyed_hash::hmac_of;
 use crate::pairwise::Keys;
 use crate::principals::Principal;
 use crate::texts::Text;
@@ -38,7 +37,7 @@ pub fn check_text<T: Text>(keys: &Keys, sender: Principal, text: &T, auth: &Auth
     let Some(entry) = auth.entry_for(keys.me()) else {
         return false;
     };
-    hmac_of(&shared.receiving, text).as_slice() == entry.as_slice()
+    shared.receiving.hash(text).as_slice() == entry.as_slice()
 }
 
 /// What `check` answers of each, in their order, from as many threads as there are processors, unless there is too little to hash for them.

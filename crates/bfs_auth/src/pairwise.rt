@@ -6,7 +6,7 @@ ghost use Rattle.bfs_model.specs.Server.Limits.{most_replicas};
 ghost use Rattle.bfs_auth.specs.Principals.{number_of};
 ghost use Rattle.bfs_auth.specs.Keys.{clients_known, key_from_to, keys_of, shared_keys, shared_with};
 
-use crate::keyed_hash::hmac;
+use crate::keyed_hash::{HmacKey, hmac};
 use crate::principals::Principal;
 use bfs_types::Memory;
 use std::alloc::Global;
@@ -16,9 +16,9 @@ use std::marker::Model;
 #[derive(Drop)]
 pub struct SharedKeys {
     // of what it sends to the other one
-    pub(crate) sending: [u8; 32],
+    pub(crate) sending: HmacKey,
     // of what it receives from the other one
-    pub(crate) receiving: [u8; 32],
+    pub(crate) receiving: HmacKey,
 }
 
 /// The keys that one principal holds: a replica shares keys with all replicas, itself among them, and with all clients; a client
@@ -159,8 +159,8 @@ fn shared_between(secret: &[u8], me: Principal, other: Principal) -> SharedKeys
     ensures { result ≡ shared_keys secret.now me other }
 {
     SharedKeys {
-        sending: key_from_to(secret, me, other),
-        receiving: key_from_to(secret, other, me),
+        sending: HmacKey::new(key_from_to(secret, me, other)),
+        receiving: HmacKey::new(key_from_to(secret, other, me)),
     }
 }
 

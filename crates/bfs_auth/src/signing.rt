@@ -2,7 +2,6 @@ ghost use Rattle.std.specs.Prelude.{◌≡◌, ◌<◌, [], ◌∷◌, length, S
 ghost use Rattle.bfs_auth.specs.Authenticators.{signature, signature_for_client};
 
 use crate::authenticators::Authenticator;
-use crate::keyed_hash::hmac_of;
 use crate::pairwise::Keys;
 use crate::texts::Text;
 use bfs_types::Memory;
@@ -21,7 +20,7 @@ pub fn sign_text<T: Text>(alloc: Global, keys: &Keys, text: &T) -> Result<Authen
 {
     let mut auth = Authenticator::new(alloc);
     for shared in keys.shared_with_each_replica() {
-        auth.push(hmac_of(&shared.sending, text))?;
+        auth.push(shared.sending.hash(text))?;
     }
     Ok(auth)
 }
@@ -50,6 +49,6 @@ pub fn sign_text_for_client<T: Text>(
     ensures { IfOk result (λ auth. signature_for_client keys.now client (T.text text.now) ≡ Some auth) }
 {
     let mut auth = Authenticator::new(alloc);
-    auth.push(hmac_of(&keys.shared_with_client(client).sending, text))?;
+    auth.push(keys.shared_with_client(client).sending.hash(text))?;
     Ok(auth)
 }
