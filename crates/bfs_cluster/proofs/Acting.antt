@@ -33,11 +33,11 @@ acted world number old new None sent is did =
 acted world number old new (Some done) sent is did =
     ap (posted_if number (with_replica world number new)) did.1 ∙ ap (λ (replica : Replica). posted_if number (with_replica world number replica) (Some done.sent)) did.0
 
-at_number : (act : Node → Option Outcome) (world : World) (number : ℕ) (old : Replica) → slice_get world.replicas number ≡ Some old
+pub at_number : (act : Node → Option Outcome) (world : World) (number : ℕ) (old : Replica) → slice_get world.replicas number ≡ Some old
     → (node_at world number >>= act) ≡ doing act old
 at_number act world number old is = ap (λ (replica : Option Replica). node_if_heard replica >>= act) is
 
-in_turn : (world : World) (number : ℕ) → number < length world.replicas → turning world number ≡ turn_taken world number (node_at world number >>= executing)
+pub in_turn : (world : World) (number : ℕ) → number < length world.replicas → turning world number ≡ turn_taken world number (node_at world number >>= executing)
 in_turn world number within = rw (lt-ltb number (length world.replicas) within) refl
 
 -- the replica that stands at a number
@@ -51,22 +51,6 @@ pub acted_at : (act : Node → Option Outcome) (world : World) (number : ℕ) (o
     → posted_if number (with_replica world number new) sent ≡ done_if number world (node_at world number >>= act)
 acted_at act world number old new sent is did =
     acted world number old new (doing act old) sent is did ∙ ap (done_if number world) (sym (at_number act world number old is))
-
--- At its turn ------------------------------------------------------------------------------------------------------------
-
-pub turn_passes : (world : World) (number : ℕ) (old new : Replica) (given : Option Log) → number < length world.replicas
-    → slice_get world.replicas number ≡ Some old → given ≡ None → Acts (doing executing old) old new given
-    → record (with_replica world number new) { turn = Some (number + 1) } ≡ turning world number
-turn_passes world number old new given within is gives did =
-    subst (λ (done : Option Outcome). record (with_replica world number new) { turn = Some (number + 1) } ≡ turn_taken world number done) (sym (at_number executing world number old is))
-    (go (doing executing old) (subst (λ (given : Option Log). Acts (doing executing old) old new given) gives did))
-    ∙ sym (in_turn world number within)
-  where
-    go : (done : Option Outcome) → Acts done old new None → record (with_replica world number new) { turn = Some (number + 1) } ≡ turn_taken world number done
-    go (Some done) did = absurd (let never : None ≡ Some done.sent = did.1 in cc)
-    go None did =
-        ap (λ (replica : Replica). record (with_replica world number replica) { turn = Some (number + 1) }) did.0
-        ∙ ap (λ (w : World). record w { turn = Some (number + 1) }) (with_itself world number old is)
 
 -- As many replicas as before -------------------------------------------------------------------------------------------
 

@@ -1,4 +1,5 @@
 pub mod Acting
+pub mod Aside
 pub mod Catching
 pub mod Each
 pub mod Once

@@ -3,7 +3,6 @@ use Rattle.std.proofs.Common.{◌≡◌, ◌∙◌, ℕ, zero, suc, ◌+◌, Boo
 use Rattle.std.specs.Prelude.{if◌then◌else◌}
 use Rattle.std.specs.List.{fold, list_all, range_with_len, slice_get, slice_set}
 use Rattle.std.proofs.lemmas.Bool.{and_parts}
-use Rattle.std.proofs.lemmas.List.{length-set}
 use Rattle.bfs_log.specs.Logs.{Log}
 use Rattle.bfs_model.specs.Bytes.Call.{◌>>=◌}
 use Rattle.bfs_messages.specs.Messages as model
@@ -54,22 +53,6 @@ module _ (change : Replica → Replica) where
 
   at_each : (world : World) → fold (changing change) world (range_with_len 0 (length world.replicas)) ≡ record world { replicas = map change world.replicas }
   at_each world = each world (length world.replicas) ∙ ap (λ (replicas : List Replica). record world { replicas = replicas }) (all_with world.replicas)
-
-  as_many : (world : World) (n : ℕ) → length (changing change world n).replicas ≡ length world.replicas
-  as_many world n = go (slice_get world.replicas n)
-    where
-      go : (found : Option Replica) → length (with_changed change world.replicas n found) ≡ length world.replicas
-      go None = refl
-      go (Some replica) = length-set world.replicas n (change replica)
-
-  -- one replica more, in a loop over their numbers
-  pub goes_on : (first before next : World) (n : ℕ) → next ≡ changing change before n
-      → (before ≡ fold (changing change) first (range_with_len 0 n)) × (length before.replicas ≡ length first.replicas)
-      → (next ≡ fold (changing change) first (range_with_len 0 (n + 1))) × (length next.replicas ≡ length first.replicas)
-  goes_on first before next n is so_far = (
-    is ∙ ap (λ (world : World). changing change world n) so_far.0 ∙ sym (one_more (changing change) first n),
-    ap (λ (world : World). length world.replicas) is ∙ as_many before n ∙ so_far.1,
-  )
 
 -- A request comes to a replica ---------------------------------------------------------------------------------------------
 
@@ -141,14 +124,10 @@ all_none : (replicas : List Replica) → map (with_requests []) replicas ≡ rep
 all_none [] = refl
 all_none (replica ∷ rest) = ap₂ (λ (first : Replica) (more : List Replica). first ∷ more) (none replica.heard replica.node) (all_none rest)
 
-come : (messages : Log) → list_all is_request messages ≡ true → (world : World) → fold requested world messages ≡ record world { replicas = map (with_requests messages) world.replicas }
+pub come : (messages : Log) → list_all is_request messages ≡ true → (world : World) → fold requested world messages ≡ record world { replicas = map (with_requests messages) world.replicas }
 come [] all world = ap (λ (replicas : List Replica). record world { replicas = replicas }) (sym (all_none world.replicas))
 come (signed ∷ messages) all world =
     let both = and_parts (is_request signed) (list_all is_request messages) all in
     ap (λ (w : World). fold requested w messages) (requested_once signed both.0 world)
     ∙ come messages both.1 (record world { replicas = map (with_requests (signed ∷ [])) world.replicas })
     ∙ ap (λ (replicas : List Replica). record world { replicas = replicas }) (all_more signed messages world.replicas)
-
-pub come_to_each : (messages : Log) → list_all is_request messages ≡ true → (world : World)
-    → fold (changing (with_requests messages)) world (range_with_len 0 (length world.replicas)) ≡ fold requested world messages
-come_to_each messages all world = at_each (with_requests messages) world ∙ sym (come messages all world)

@@ -1,6 +1,6 @@
 -- What a world comes to at rest does not depend on the number of steps at which it is looked at.
 use Rattle.std.proofs.Common.{◌≡◌, ◌∙◌, ℕ, zero, suc, ◌+◌, Bool, true, Option, Some, None, refl, sym, ap, subst, arith}
-use Rattle.bfs_cluster.specs.Inside.Acts.{Steps}
+use Rattle.bfs_cluster.specs.Inside.Aside.{Goes}
 use Rattle.bfs_cluster.specs.Steps.{after, onward, step, Rests}
 use Rattle.bfs_cluster.specs.World.{World}
 
@@ -22,13 +22,16 @@ onwards world (suc one) other =
     go None is later = sym (stays world other is)
     go (Some next) is later = later next
 
--- one step more
-pub one_step_more : (world before next : World) (went : Bool) → went ≡ true → Steps went before next → (steps : ℕ) × (after steps world ≡ before)
+-- some steps more
+pub more_steps : (world before next : World) (went : Bool) → went ≡ true → Goes went before next → (steps : ℕ) × (after steps world ≡ before)
     → (steps : ℕ) × (after steps world ≡ next)
-one_step_more world before next went is stepped so_far =
-    let made : step before ≡ Some next = subst (λ (went : Bool). Steps went before next) is stepped in
-    let last : after (suc zero) before ≡ next = ap (λ (w : Option World). onward before w (λ next. after zero next)) made in
-    (so_far.0 + suc zero, onwards world so_far.0 (suc zero) ∙ ap (after (suc zero)) so_far.1 ∙ last)
+more_steps world before next went is gone so_far =
+    let made : (steps : ℕ) × (after steps before ≡ next) = subst (λ (went : Bool). Goes went before next) is gone in
+    (so_far.0 + made.0, onwards world so_far.0 made.0 ∙ ap (after made.0) so_far.1 ∙ made.1)
+
+-- one is some
+pub one_step : (world next : World) → step world ≡ Some next → after (suc zero) world ≡ next
+one_step world next is = ap (λ (w : Option World). onward world w (λ next. after zero next)) is
 
 pub rests_once : (world one other : World) → Rests world one → Rests world other → one ≡ other
 rests_once world one other a b =

@@ -1,7 +1,7 @@
-ghost use Rattle.std.specs.Prelude.{◌≡◌, ◌<◌, true, fold, length, OnOk};
+ghost use Rattle.std.specs.Prelude.{◌≡◌, true, fold, OnOk};
 ghost use Rattle.std.specs.List.{list_all};
-ghost use Rattle.bfs_cluster.specs.Blocks.{requested, to_each, with_block};
-ghost use Rattle.bfs_cluster.specs.Inside.Requests.{changing, is_request, with_requests};
+ghost use Rattle.bfs_cluster.specs.Blocks.{requested, with_block};
+ghost use Rattle.bfs_cluster.specs.Inside.Requests.{is_request};
 
 use crate::acts::Act;
 use crate::cluster::Cluster;
@@ -38,7 +38,7 @@ impl Cluster {
         }
     }
 
-    // All of them come to one replica, which checks them side by side, and then to the next one: none makes a replica send anything.
+    // None makes a replica send anything.
     fn take_requests<R: Threads + Sync>(
         &mut self,
         rt: &R,
@@ -48,31 +48,6 @@ impl Cluster {
         ensures { OnOk result (self.new ≡ fold requested self.old messages.now) }
     {
         self.take_requests_each(rt, messages)
-    }
-
-    fn take_requests_each<R: Threads + Sync>(
-        &mut self,
-        rt: &R,
-        messages: &[Signed<Message>],
-    ) -> Result<(), Memory>
-        ensures { OnOk result (self.new ≡ to_each (changing (with_requests messages.now)) self.old) }
-    {
-        for number in 0..self.replicas.len() {
-            self.take_requests_at(rt, messages, number)?;
-        }
-        Ok(())
-    }
-
-    fn take_requests_at<R: Threads + Sync>(
-        &mut self,
-        rt: &R,
-        messages: &[Signed<Message>],
-        number: usize,
-    ) -> Result<(), Memory>
-        requires { number < length self.old.replicas }
-        ensures { OnOk result (self.new ≡ changing (with_requests messages.now) self.old number) }
-    {
-        self.replicas[number].take_requests(rt, messages)
     }
 
     fn request_each<R: Threads + Sync>(

@@ -35,8 +35,6 @@ pub struct Cluster {
     pub(crate) replicas: Vec<Replica>,
     pub(crate) queue: VecDeque<Broadcast>,
     pub(crate) replies: Vec<Signed<Message>>,
-    // whose turn it is to execute, while no messages are delivered
-    pub(crate) turn: Option<usize>,
     // what was sent since it was asked for last, once somebody watches
     pub(crate) watched: Option<Vec<Sent>>,
 }
@@ -44,6 +42,7 @@ pub struct Cluster {
 impl Model for Cluster {
     ghost use Rattle.bfs_cluster.specs.World as model;
     ghost use Rattle.std.specs.Coded.{codes};
+    ghost use Rattle.std.specs.Prelude.{None};
     ghost use Rattle.std.specs.Option.{option_map};
     ghost use Rattle.bfs_serial.specs.Codes.{inodes_code};
 
@@ -51,7 +50,7 @@ impl Model for Cluster {
 
     ghost coded = { Prim.hlevel (codes, inodes_code) };
 
-    ghost view = { λ cluster. record { replicas = cluster.replicas.items; queue = cluster.queue.items; replies = cluster.replies.items; turn = cluster.turn; watched = option_map (λ sent. sent.items) cluster.watched } };
+    ghost view = { λ cluster. record { replicas = cluster.replicas.items; queue = cluster.queue.items; replies = cluster.replies.items; turn = None; watched = option_map (λ sent. sent.items) cluster.watched } };
 }
 
 impl Cluster {
@@ -74,7 +73,6 @@ impl Cluster {
             replicas,
             queue: VecDeque::new(alloc),
             replies: Vec::new(alloc),
-            turn: None,
             watched: None,
         })
     }

@@ -7,6 +7,7 @@ mod catching_up;
 mod cluster;
 mod laws;
 mod replica;
+mod side_by_side;
 mod standings;
 mod stepping;
 mod timeouts;

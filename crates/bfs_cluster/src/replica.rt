@@ -1,8 +1,9 @@
-ghost use Rattle.std.specs.Prelude.{◌≡◌, ◌≢◌, Some, None, IfOk, OnOk};
+ghost use Rattle.std.specs.Prelude.{◌≡◌, ◌≢◌, Some, None, map, IfOk, OnOk};
 ghost use Rattle.std.specs.Option.{option_map};
 ghost use Rattle.bfs_cluster.specs.Blocks.{proposal};
 ghost use Rattle.bfs_cluster.specs.CatchingUp.{Offer, offered};
 ghost use Rattle.bfs_cluster.specs.Inside.Acts.{Acts, CheckpointsAfter, deed, doing};
+ghost use Rattle.bfs_cluster.specs.Inside.Aside.{RunsOut};
 ghost use Rattle.bfs_cluster.specs.Inside.Requests.{with_requests};
 ghost use Rattle.bfs_cluster.specs.Inside.Trying.{Tries};
 ghost use Rattle.bfs_cluster.specs.Standings.{is_in};
@@ -145,6 +146,24 @@ impl Replica {
             Ok(None) => Ok(None),
             Err(_) => Err(Memory),
         }
+    }
+
+    /// Executes all that is ready, as `execute` does one batch. It gives what it sends behind each.
+    pub fn execute_all<R: Threads + Wait + Sync>(
+        &mut self,
+        rt: &R,
+        alloc: Global,
+    ) -> Result<Vec<Vec<Signed<Message>>>, Memory>
+        ensures { IfOk result (λ all. RunsOut (map (λ sent. sent.items) all.items) self.old self.new) }
+    {
+        let mut all = Vec::new(alloc);
+        for _ in rt.forever() {
+            match self.execute(rt)? {
+                Some(sent) => all.push(sent)?,
+                None => return Ok(all),
+            }
+        }
+        unreachable!()
     }
 
     /// Whether it is heard, and has entered that view last.

@@ -1,8 +1,9 @@
-ghost use Rattle.std.specs.Prelude.{◌≡◌, ◌<◌, ◌+◌, None, [], ◌∷◌, length, IfOk, OnOk};
+ghost use Rattle.std.specs.Prelude.{◌≡◌, ◌<◌, ◌+◌, None, [], ◌∷◌, length, map, IfOk, OnOk};
 ghost use Rattle.std.specs.List.{fold, list_any};
 ghost use Rattle.std.specs.Option.{option_map};
-ghost use Rattle.bfs_cluster.specs.Inside.Acts.{Steps, posted_if};
-ghost use Rattle.bfs_cluster.specs.Steps.{Rests, Settles, delivering, handed, has_ready, turning};
+ghost use Rattle.bfs_cluster.specs.Inside.Acts.{posted_if};
+ghost use Rattle.bfs_cluster.specs.Inside.Aside.{Goes, posted_all};
+ghost use Rattle.bfs_cluster.specs.Steps.{Rests, Settles, delivering, handed, has_ready};
 ghost use Rattle.bfs_cluster.specs.World.{posted};
 
 use crate::cluster::{Broadcast, Cluster};
@@ -32,7 +33,7 @@ impl Cluster {
         ensures { OnOk result (Rests self.old self.new) }
     {
         for _ in rt.forever() {
-            if !self.step(rt)? {
+            if !self.go(rt)? {
                 return Ok(());
             }
         }
@@ -40,35 +41,29 @@ impl Cluster {
     }
 
     // `false` where no step is left
-    fn step<R: Threads + Wait + Sync>(&mut self, rt: &R) -> Result<bool, Memory>
-        ensures { IfOk result (λ went. Steps went self.old self.new) }
+    fn go<R: Threads + Wait + Sync>(&mut self, rt: &R) -> Result<bool, Memory>
+        ensures { IfOk result (λ went. Goes went self.old self.new) }
     {
-        match self.turn {
-            Some(number) => {
-                self.take_turn(rt, number)?;
+        match self.queue.pop_front() {
+            Some(broadcast) => {
+                self.deliver(rt, broadcast)?;
                 Ok(true)
             }
-            None => match self.queue.pop_front() {
-                Some(broadcast) => {
-                    self.deliver(rt, broadcast)?;
-                    Ok(true)
-                }
-                None => Ok(self.begin_turns()),
-            },
+            None => self.execute_if_ready(rt),
         }
     }
 
     // `false` where nothing is ready
-    fn begin_turns(&mut self) -> bool
+    fn execute_if_ready<R: Threads + Wait + Sync>(&mut self, rt: &R) -> Result<bool, Memory>
         requires turn { self.old.turn ≡ None }
         requires queue { self.old.queue ≡ [] }
-        ensures { Steps result self.old self.new }
+        ensures { IfOk result (λ went. Goes went self.old self.new) }
     {
-        let ready = self.is_any_ready();
-        if ready {
-            self.turn = Some(0);
+        if !self.is_any_ready() {
+            return Ok(false);
         }
-        ready
+        self.execute_each(rt)?;
+        Ok(true)
     }
 
     fn is_any_ready(&self) -> bool
@@ -123,23 +118,6 @@ impl Cluster {
         self.post_if(number, sent)
     }
 
-    // a replica executes a batch, or it is the next one's turn
-    fn take_turn<R: Threads + Wait + Sync>(&mut self, rt: &R, number: usize) -> Result<(), Memory>
-        ensures { OnOk result (self.new ≡ turning self.old number) }
-    {
-        if number >= self.replicas.len() {
-            self.turn = None;
-            return Ok(());
-        }
-        match self.replicas[number].execute(rt)? {
-            Some(sent) => self.post(number, sent),
-            None => {
-                self.turn = Some(number + 1);
-                Ok(())
-            }
-        }
-    }
-
     /// Sends what a replica gave to be sent, if it gave anything.
     pub(crate) fn post_if(
         &mut self,
@@ -152,6 +130,20 @@ impl Cluster {
             Some(sent) => self.post(sender, sent),
             None => Ok(()),
         }
+    }
+
+    /// Sends what a replica gave to be sent behind each batch.
+    pub(crate) fn post_all(
+        &mut self,
+        sender: usize,
+        all: Vec<Vec<Signed<Message>>>,
+    ) -> Result<(), Memory>
+        ensures { OnOk result (self.new ≡ posted_all sender self.old (map (λ sent. sent.items) all.items)) }
+    {
+        for sent in all {
+            self.post(sender, sent)?;
+        }
+        Ok(())
     }
 
     fn post(&mut self, sender: usize, sent: Vec<Signed<Message>>) -> Result<(), Memory>

@@ -6,7 +6,7 @@ use Rattle.bfs_model.specs.Bytes.Call.{◌>>=◌}
 use Rattle.bfs_node.specs.Checkpoints.{checkpoint, checkpoint_refusal}
 use Rattle.bfs_node.specs.Nodes.{Node, Outcome}
 use Rattle.bfs_cluster.specs.Blocks.{proposal}
-use Rattle.bfs_cluster.specs.Steps.{followed_by, step, unless_refused}
+use Rattle.bfs_cluster.specs.Steps.{followed_by, unless_refused}
 use Rattle.bfs_cluster.specs.Timeouts.{timing_out, waiting_proposal}
 use Rattle.bfs_cluster.specs.World.{Replica, World, done_if, node_at, node_if_heard, posted}
 use Rattle.bfs_cluster.specs.declared.acts.Act.{Act}
@@ -40,8 +40,3 @@ CheckpointsAfter old to_send new sent =
 abbrev pub posted_if : (sender : ℕ) → World → Option Log → World
 posted_if sender world None = world
 posted_if sender world (Some sent) = fold (posted sender) world sent
-
--- a step was made, or none is left
-abbrev pub Steps : (went : Bool) → (old new : World) → Type 0
-Steps true old new = step old ≡ Some new
-Steps false old new = (new ≡ old) × (step old ≡ None)

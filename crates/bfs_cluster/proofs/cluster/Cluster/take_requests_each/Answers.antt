@@ -1,7 +1,22 @@
+use Rattle.std.proofs.Common.{ap, arith, length, map, subst, List, ◌∙◌, []}
+use Rattle.std.specs.List.{AllZip}
+use Rattle.std.proofs.lemmas.Result.{on_ok_weaker}
+use Rattle.bfs_cluster.specs.Inside.Aside.{AreBack, CameTo}
 use Rattle.bfs_cluster.specs.Inside.Requests.{with_requests}
-use Rattle.bfs_cluster.proofs.Requesting.{goes_on}
+use Rattle.bfs_cluster.specs.World.{Replica}
+use Rattle.bfs_cluster.specs.declared.side_by_side.Busy.{Busy}
+use Rattle.bfs_cluster.proofs.Aside.{came_back, have_received, written}
 use Rattle.bfs_cluster.proofs.cluster.Cluster.take_requests_each.Goals as goal
 
-pub loop-number-preserved : goal.loop-number-preserved
-loop-number-preserved g c =
-    goes_on (with_requests c.args.messages.now) c.args.self.now c.loop-number.self c.take_requests_at.new.self c.loop-number.number c.in_ok-take_requests_at.ensures c.loop-number.invariant
+pub returns : goal.returns
+returns g c =
+    let messages = c.args.messages.now in
+    let before = c.in_ok-all.all.items in
+    let now = c.take_requests_all.new.all in
+    let is = written before now c.in_ok-all.all.len (c.take_requests_all.ensures.len ∙ ap length c.as_mut_slice.ensures.value) (omega (arith, c.in_ok-all.all.ok.0)) in
+    on_ok_weaker c.put_back.result
+    (λ both. came_back is c.in_ok-all.ensures.now both.1
+    ∙ have_received messages before now [] c.args.self.now (subst (λ (all : List Busy). AllZip (CameTo messages) all now) c.as_mut_slice.ensures.value c.take_requests_all.ensures.each)
+    (subst AreBack is both.0) c.in_ok-all.ensures.sent
+    ∙ ap (λ (replicas : List Replica). record c.args.self.now { replicas = map (with_requests messages) replicas }) c.in_ok-all.ensures.all)
+    c.put_back.ensures

@@ -1,0 +1,212 @@
+-- Replicas that execute side by side come to what they come to one after another.
+use Rattle.std.proofs.Common.{◌≡◌, ◌∙◌, true, ℕ, ◌<◌, ◌≤◌, ◌+◌, zero, suc, List, [], ◌∷◌, ◌++◌, length, get_or, map, take, drop, Option, Some, None, Ok, All, refl, sym, ap, subst, arith}
+use Rattle.std.specs.Prelude.{OnOk}
+use Rattle.std.specs.List.{AllZip, fold, list_any, slice_get, slice_set}
+use Rattle.std.proofs.lemmas.Bool.{le-ltb}
+use Rattle.std.proofs.lemmas.List.Elements.{All-tail}
+use Rattle.std.proofs.lemmas.List.{append-nil, append_assoc, drop_all, get_or-set_same, length-append, length-set, set-set, set_at, take_all}
+use Rattle.std.proofs.lemmas.Option.{slice_get-get_or}
+use Rattle.bfs_log.specs.Logs.{Log}
+use Rattle.bfs_model.specs.Bytes.Call.{◌>>=◌}
+use Rattle.bfs_messages.specs.declared.message.Message.{Message}
+use Rattle.bfs_messages.specs.declared.signed.Signed.{Signed}
+use Rattle.bfs_node.specs.Nodes.{Node, Outcome}
+use Rattle.bfs_node.specs.Receivers.{receivers_of}
+use Rattle.bfs_node.specs.declared.receivers.Receivers.{Receivers}
+use Rattle.bfs_node.specs.declared.receivers.Receivers.TheVariants.{Replicas, Client}
+use Rattle.bfs_cluster.proofs.Acting.{at_number, in_turn, with_itself}
+use Rattle.bfs_cluster.proofs.Settling.{one_step, onwards}
+use Rattle.bfs_cluster.specs.Inside.Acts.{Acts, doing}
+use Rattle.bfs_cluster.specs.Inside.Aside.{AreBack, CameOut, CameTo, Executes, Goes, RunsOut, back, posted_all, sent_by}
+use Rattle.bfs_cluster.specs.Inside.Requests.{with_requests}
+use Rattle.bfs_cluster.specs.Steps.{after, executing, has_ready, step, turn_taken, turning}
+use Rattle.bfs_cluster.specs.World.{Replica, World, noted, posted, posted_to, with_node}
+use Rattle.bfs_cluster.specs.declared.side_by_side.Busy.{Busy}
+
+-- One more batch -------------------------------------------------------------------------------------------------------------
+
+pub executes_more : (all : List Log) (first : Log) (old now next : Replica) → Executes all old now → Acts (doing executing now) now next (Some first)
+    → Executes (all ++ first ∷ []) old next
+executes_more [] first old now next so_far did = subst (λ (from : Replica). Executes (first ∷ []) from next) so_far (next, did, refl)
+executes_more (sent ∷ all) first old now next so_far did = (so_far.0, so_far.1, executes_more all first so_far.0 now next so_far.2 did)
+
+-- where nothing is sent, nothing was done
+pub runs_out : (all : List Log) (old now new : Replica) → Executes all old now → Acts (doing executing now) now new None → RunsOut all old new
+runs_out all old now new so_far did = go (doing executing now) refl did
+  where
+    go : (done : Option Outcome) → doing executing now ≡ done → Acts done now new None → RunsOut all old new
+    go (Some done) is did = absurd (let never : None ≡ Some done.sent = did.1 in cc)
+    go None is did = (subst (Executes all old) (sym did.0) so_far, ap (doing executing) did.0 ∙ is)
+
+-- What is sent does not depend on the replicas ----------------------------------------------------------------------------
+
+module _ (replicas : List Replica) (turn : Option ℕ) where
+  abbrev pub beside : World → World
+  beside world = record world { replicas = replicas; turn = turn }
+
+  posted_beside : (sender : ℕ) (world : World) (signed : Signed Message) → posted sender (beside world) signed ≡ beside (posted sender world signed)
+  posted_beside sender world signed = go (receivers_of signed.message)
+    where
+      go : (receivers : Receivers) → posted_to sender (noted sender (beside world) signed) signed receivers ≡ beside (posted_to sender (noted sender world signed) signed receivers)
+      go Replicas = refl
+      go (Client client) = refl
+
+  sent_beside : (sender : ℕ) (world : World) (sent : Log) → fold (posted sender) (beside world) sent ≡ beside (fold (posted sender) world sent)
+  sent_beside sender world [] = refl
+  sent_beside sender world (signed ∷ sent) =
+      ap (λ (w : World). fold (posted sender) w sent) (posted_beside sender world signed) ∙ sent_beside sender (posted sender world signed) sent
+
+  all_beside : (sender : ℕ) (world : World) (all : List Log) → posted_all sender (beside world) all ≡ beside (posted_all sender world all)
+  all_beside sender world [] = refl
+  all_beside sender world (sent ∷ all) =
+      ap (λ (w : World). posted_all sender w all) (sent_beside sender world sent) ∙ all_beside sender (fold (posted sender) world sent) all
+
+-- One replica's turn -------------------------------------------------------------------------------------------------------
+
+-- a step of the replica whose turn it is
+takes : (world : World) (n : ℕ) (old : Replica) → world.turn ≡ Some n → n < length world.replicas → slice_get world.replicas n ≡ Some old
+    → (ran : Option Outcome) → doing executing old ≡ ran → after (suc zero) world ≡ turn_taken world n ran
+takes world n old turn within is ran did =
+    one_step world (turning world n) (rw turn refl)
+    ∙ in_turn world n within ∙ ap (turn_taken world n) (at_number executing world n old is ∙ did)
+
+there : (replicas : List Replica) (n : ℕ) (replica : Replica) → n < length replicas → slice_get (slice_set replicas n replica) n ≡ Some replica
+there replicas n replica within =
+    slice_get-get_or (slice_set replicas n replica) n replica (let long : length (slice_set replicas n replica) ≡ length replicas = length-set replicas n replica in omega (arith, long, within))
+    ∙ ap (λ (r : Replica). Some r) (get_or-set_same replicas n replica replica within)
+
+one_turn : (all : List Log) (world : World) (n : ℕ) (old new : Replica) → world.turn ≡ Some n → n < length world.replicas → slice_get world.replicas n ≡ Some old
+    → Executes all old new → doing executing new ≡ None
+    → (steps : ℕ) × (after steps world ≡ beside (slice_set world.replicas n new) (Some (n + 1)) (posted_all n world all))
+one_turn [] world n old new turn within is ran ended = (
+  suc zero,
+  takes world n old turn within is None (ap (doing executing) (sym ran) ∙ ended)
+      ∙ ap (λ (replicas : List Replica). record world { replicas = replicas; turn = Some (n + 1) })
+      (sym (ap (λ (w : World). w.replicas) (with_itself world n new (is ∙ ap (λ (r : Replica). Some r) (sym ran))))),
+)
+one_turn (first ∷ rest) world n old new turn within is ran ended =
+    let long : length (slice_set world.replicas n ran.0) ≡ length world.replicas = length-set world.replicas n ran.0 in
+    go (one_turn rest next n ran.0 new turn (omega (arith, long, within)) (there world.replicas n ran.0 within) ran.2 ended) (doing executing old) refl ran.1
+  where
+    next : World
+    next = beside (slice_set world.replicas n ran.0) world.turn (fold (posted n) world first)
+
+    end : World
+    end = beside (slice_set world.replicas n new) (Some (n + 1)) (posted_all n world (first ∷ rest))
+
+    go : (steps : ℕ) × (after steps next ≡ beside (slice_set next.replicas n new) (Some (n + 1)) (posted_all n next rest))
+        → (done : Option Outcome) → doing executing old ≡ done → Acts done old ran.0 (Some first) → (steps : ℕ) × (after steps world ≡ end)
+    go later None did acts = absurd (let never : Some first ≡ None = acts.1 in cc)
+    go later (Some done) did acts =
+        let sent : done.sent ≡ first = cc in
+        let comes : after (suc zero) world ≡ next =
+        takes world n old turn within is (Some done) did
+        ∙ ap (fold (posted n) (with_node world n done.now)) sent
+        ∙ ap (λ (r : Replica). fold (posted n) (record world { replicas = slice_set world.replicas n r }) first) (sym acts.0)
+        ∙ sent_beside (slice_set world.replicas n ran.0) world.turn n world first in (
+          suc zero + later.0,
+          onwards world (suc zero) later.0 ∙ ap (after later.0) comes ∙ later.1
+              ∙ ap (λ (w : World). beside (slice_set (slice_set world.replicas n ran.0) n new) (Some (n + 1)) w)
+              (all_beside (slice_set world.replicas n ran.0) world.turn n (fold (posted n) world first) rest)
+              ∙ ap (λ (replicas : List Replica). beside replicas (Some (n + 1)) (posted_all n world (first ∷ rest))) (set-set world.replicas n ran.0 new),
+        )
+
+past : (world : World) (n : ℕ) → length world.replicas ≤ n → turning world n ≡ record world { turn = None }
+past world n behind = rw (le-ltb n (length world.replicas) behind) refl
+
+-- All turns ----------------------------------------------------------------------------------------------------------------
+
+middle : (front : List Replica) (old : Replica) (olds : List Replica) → slice_get (front ++ old ∷ olds) (length front) ≡ Some old
+middle [] old olds = refl
+middle (first ∷ front) old olds = middle front old olds
+
+abbrev pub RanOut : Replica → Busy → Type 0
+RanOut old one = RunsOut (sent_by one) old one.replica
+
+all_turns : (busy : List Busy) (olds front : List Replica) (world : World) → world.replicas ≡ front ++ olds → world.turn ≡ Some (length front)
+    → AllZip RanOut olds busy → (steps : ℕ) × (after steps world ≡ fold back (beside front None world) busy)
+all_turns [] (old ∷ olds) front world are turn ran = absurd ran
+all_turns (one ∷ busy) [] front world are turn ran = absurd ran
+all_turns [] [] front world are turn ran =
+    let all : world.replicas ≡ front = are ∙ append-nil front in (
+      suc zero,
+      one_step world (turning world (length front)) (rw turn refl)
+          ∙ past world (length front) (omega (arith, let long : length world.replicas ≡ length front = ap length all in long))
+          ∙ ap (λ (replicas : List Replica). record world { replicas = replicas; turn = None }) all,
+    )
+all_turns (one ∷ busy) (old ∷ olds) front world are turn ran =
+    let n : ℕ = length front in
+    let sent : List Log = sent_by one in
+    let replica : Replica = one.replica in
+    let next : World = beside (slice_set world.replicas n replica) (Some (n + 1)) (posted_all n world sent) in
+    let longer : length (front ++ replica ∷ []) ≡ n + 1 = length-append front (replica ∷ []) in
+    let within : n < length world.replicas =
+    let long : length world.replicas ≡ length front + length (old ∷ olds) = ap length are ∙ length-append front (old ∷ olds) in
+    omega (arith, long) in
+    let first = one_turn sent world n old replica turn within (ap (λ (replicas : List Replica). slice_get replicas n) are ∙ middle front old olds) ran.0.0 ran.0.1 in
+    let placed : slice_set world.replicas n replica ≡ (front ++ replica ∷ []) ++ olds =
+    ap (λ (replicas : List Replica). slice_set replicas n replica) are ∙ set_at front old olds replica n refl ∙ sym (append_assoc front (replica ∷ []) olds) in
+    let later = all_turns busy olds (front ++ replica ∷ []) next placed (ap (λ (k : ℕ). Some k) (sym longer)) ran.1 in (
+      first.0 + later.0,
+      onwards world first.0 later.0 ∙ ap (after later.0) first.1 ∙ later.1
+          ∙ ap (λ (w : World). fold back w busy) (sym (all_beside (front ++ replica ∷ []) None n world sent)),
+    )
+
+-- what was written over a whole vector
+pub written : {X : Type 0} (old new : List X) (n : ℕ) → length new ≡ length old → n ≡ length old → take n (new ++ drop (length new) old) ≡ new
+written old new n long all =
+    ap (λ (rest : List _). take n (new ++ rest)) (drop_all (length new) old (omega (arith, long))) ∙ ap (take n) (append-nil new) ∙ take_all n new (omega (arith, long, all))
+
+-- That came of them ----------------------------------------------------------------------------------------------------------
+
+-- what is said place by place
+pub from_places : {X : Type 0} (R : X → X → Type 0) (xs ys : List X) → length ys ≡ length xs
+    → ((i : ℕ) (d : X) → i < length xs → R (get_or xs i d) (get_or ys i d)) → AllZip R xs ys
+from_places R [] [] long each = tt
+from_places R [] (y ∷ ys) long each = absurd (let no : suc (length ys) ≡ zero = long in cc)
+from_places R (x ∷ xs) [] long each = absurd (let no : zero ≡ suc (length xs) = long in cc)
+from_places R (x ∷ xs) (y ∷ ys) long each =
+    (each zero x (omega arith), from_places R xs ys (omega (arith, long)) (λ i d within. each (suc i) d (omega (arith, within))))
+
+ran_out : (before now : List Busy) → AllZip CameOut before now → AreBack now → AllZip RanOut (map (λ one. one.replica) before) now
+ran_out [] [] came all = tt
+ran_out [] (one ∷ now) came all = came
+ran_out (old ∷ before) [] came all = came
+ran_out (old ∷ before) (one ∷ now) came all =
+    (subst (λ result. OnOk result (RunsOut (sent_by one) old.replica one.replica)) all.0 came.0, ran_out before now came.1 all.1)
+
+-- all have executed what was ready
+pub have_executed : (world : World) (before now : List Busy) → world.turn ≡ None → map (λ one. one.replica) before ≡ world.replicas
+    → AllZip CameOut before now → AreBack now → Goes true (record world { turn = Some 0 }) (fold back (record world { replicas = [] }) now)
+have_executed world before now turn are came all =
+    subst (λ (none : Option ℕ). Goes true (record world { turn = Some 0 }) (fold back (record world { replicas = []; turn = none }) now)) (sym turn)
+    (all_turns now (map (λ one. one.replica) before) [] (record world { turn = Some 0 }) (sym are) refl (ran_out before now came all))
+
+pub came_back : {first world end : World} {given now : List Busy} → given ≡ now → first ≡ world → end ≡ fold back first given → end ≡ fold back world now
+came_back {first} {world} {end} {given} {now} all same is = is ∙ ap (fold back first) all ∙ ap (λ (w : World). fold back w now) same
+
+-- all have taken requests, and send nothing
+pub have_received : (messages : Log) (before now : List Busy) (front : List Replica) (world : World) → AllZip (CameTo messages) before now → AreBack now
+    → All (λ one. one.sent.items ≡ []) before
+    → fold back (record world { replicas = front }) now ≡ record world { replicas = front ++ map (with_requests messages) (map (λ one. one.replica) before) }
+have_received messages [] [] front world came all none = ap (λ (replicas : List Replica). record world { replicas = replicas }) (sym (append-nil front))
+have_received messages [] (one ∷ now) front world came all none = absurd came
+have_received messages (old ∷ before) [] front world came all none = absurd came
+have_received messages (old ∷ before) (one ∷ now) front world came all none =
+    let is : one.replica ≡ with_requests messages old.replica = subst (λ result. OnOk result (one.replica ≡ with_requests messages old.replica)) all.0 came.0.0 in
+    let none_first : old.sent.items ≡ [] = none zero old (omega arith) in
+    let quiet : sent_by one ≡ [] = ap (λ sent. map (λ log. log.items) sent.items) came.0.1 ∙ ap (map (λ log. log.items)) none_first in
+    let first : back (record world { replicas = front }) one ≡ record world { replicas = front ++ with_requests messages old.replica ∷ [] } =
+    ap (posted_all (length front) (record world { replicas = front ++ one.replica ∷ [] })) quiet
+    ∙ ap (λ (replica : Replica). record world { replicas = front ++ replica ∷ [] }) is in
+    ap (λ (w : World). fold back w now) first
+    ∙ have_received messages before now (front ++ with_requests messages old.replica ∷ []) world came.1 all.1 (All-tail (λ one. one.sent.items ≡ []) old before none)
+    ∙ ap (λ (replicas : List Replica). record world { replicas = replicas }) (append_assoc front (with_requests messages old.replica ∷ []) (map (with_requests messages) (map (λ one. one.replica) before)))
+
+-- The turns begin ----------------------------------------------------------------------------------------------------------
+
+pub turns_begin : (world next : World) → world.turn ≡ None → world.queue ≡ [] → list_any has_ready world.replicas ≡ true
+    → Goes true (record world { turn = Some 0 }) next → Goes true world next
+turns_begin world next turn queue ready gone =
+    let begins : step world ≡ Some (record world { turn = Some 0 }) = rw turn (rw queue (rw ready refl)) in
+    (suc zero + gone.0, onwards world (suc zero) gone.0 ∙ ap (after gone.0) (one_step world (record world { turn = Some 0 }) begins) ∙ gone.1)

@@ -1,0 +1,138 @@
+// Replicas are busy side by side while none takes what another one sends.
+ghost use Rattle.std.specs.Prelude.{◌≡◌, true, [], None, Some, Ok, All, length, map, IfOk, OnOk};
+ghost use Rattle.std.specs.List.{AllZip, fold};
+ghost use Rattle.bfs_cluster.specs.Inside.Aside.{AreBack, CameOut, CameTo, Goes, back};
+ghost use Rattle.bfs_cluster.specs.Inside.Requests.{with_requests};
+
+use crate::cluster::Cluster;
+use crate::replica::Replica;
+use bfs_messages::{Message, Signed};
+use bfs_types::Memory;
+use rayon::prelude::*;
+use std::alloc::Global;
+use std::sync::Wait;
+use std::thread::Threads;
+
+/// A replica out of its cluster, what it sends, a list for each batch that it executes, and whether there was memory for it.
+#[derive(Drop)]
+pub(crate) struct Busy {
+    pub replica: Replica,
+    pub sent: Vec<Vec<Signed<Message>>>,
+    pub came: Result<(), Memory>,
+}
+
+impl Busy {
+    fn new(alloc: Global, replica: Replica) -> Busy
+        ensures replica { result.replica ≡ replica }
+        ensures sent { result.sent.items ≡ [] }
+    {
+        Busy {
+            replica,
+            sent: Vec::new(alloc),
+            came: Ok(()),
+        }
+    }
+
+    fn take_requests<R: Threads + Sync>(&mut self, rt: &R, messages: &[Signed<Message>])
+        ensures { CameTo messages.now self.old self.new }
+    {
+        self.came = self.replica.take_requests(rt, messages);
+    }
+
+    fn execute_all<R: Threads + Wait + Sync>(&mut self, rt: &R, alloc: Global)
+        ensures { CameOut self.old self.new }
+    {
+        match self.replica.execute_all(rt, alloc) {
+            Ok(sent) => {
+                self.sent = sent;
+                self.came = Ok(());
+            }
+            Err(error) => self.came = Err(error),
+        }
+    }
+}
+
+impl Cluster {
+    /// The requests come to each replica, which as many threads as there are processors share out among them.
+    pub(crate) fn take_requests_each<R: Threads + Sync>(
+        &mut self,
+        rt: &R,
+        messages: &[Signed<Message>],
+    ) -> Result<(), Memory>
+        ensures { OnOk result (self.new ≡ record self.old { replicas = map (with_requests messages.now) self.old.replicas }) }
+    {
+        let mut all = self.take_out()?;
+        take_requests_all(rt, all.as_mut_slice(), messages);
+        self.put_back(all)
+    }
+
+    /// Each replica that is heard executes all that is ready, and makes the checkpoints that are due; as many threads as there are processors
+    /// share the replicas out among them. Then what each sends is posted, by rising number.
+    pub(crate) fn execute_each<R: Threads + Wait + Sync>(&mut self, rt: &R) -> Result<(), Memory>
+        requires { self.old.turn ≡ None }
+        ensures { OnOk result (Goes true (record self.old { turn = Some 0 }) self.new) }
+    {
+        let mut all = self.take_out()?;
+        execute_all(rt, self.alloc, all.as_mut_slice());
+        self.put_back(all)
+    }
+
+    // All replicas leave the cluster.
+    fn take_out(&mut self) -> Result<Vec<Busy>, Memory>
+        ensures all { IfOk result (λ all. map (λ one. one.replica) all.items ≡ self.old.replicas) }
+        ensures sent { IfOk result (λ all. All (λ one. one.sent.items ≡ []) all.items) }
+        ensures now { OnOk result (self.new ≡ record self.old { replicas = [] }) }
+    {
+        let mut all = Vec::with_capacity(self.alloc, self.replicas.len())?;
+        for replica in std::mem::replace(&mut self.replicas, Vec::new(self.alloc)) {
+            all.push(Busy::new(self.alloc, replica))?;
+        }
+        Ok(all)
+    }
+
+    // They come back one after another, and what each sends is posted.
+    fn put_back(&mut self, all: Vec<Busy>) -> Result<(), Memory>
+        ensures { OnOk result (AreBack all.items × (self.new ≡ fold back self.old all.items)) }
+    {
+        for one in all {
+            self.put_one(one)?;
+        }
+        Ok(())
+    }
+
+    fn put_one(&mut self, one: Busy) -> Result<(), Memory>
+        ensures came { OnOk result (one.came ≡ Ok tt) }
+        ensures now { OnOk result (self.new ≡ back self.old one) }
+    {
+        one.came?;
+        let number = self.replicas.len();
+        self.replicas.push(one.replica)?;
+        self.post_all(number, one.sent)
+    }
+}
+
+fn take_requests_all<R: Threads + Sync>(rt: &R, all: &mut [Busy], messages: &[Signed<Message>])
+    ensures each { AllZip (CameTo messages.now) all.old all.new }
+    ensures len { length all.new ≡ length all.old }
+{
+    par_for_each_mut(
+        rt,
+        all,
+        |_number: usize, one: &mut Busy|
+            ensures { CameTo messages.entry.now one.old one.new }
+        { one.take_requests(rt, messages) },
+    );
+}
+
+fn execute_all<R: Threads + Wait + Sync>(rt: &R, alloc: Global, all: &mut [Busy])
+    ensures each { AllZip CameOut all.old all.new }
+    ensures len { length all.new ≡ length all.old }
+{
+    par_for_each_mut(
+        rt,
+        all,
+        |_number: usize, one: &mut Busy|
+            ensures { CameOut one.old one.new }
+        { one.execute_all(rt, alloc) },
+    );
+}
