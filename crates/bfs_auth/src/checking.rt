@@ -72,11 +72,11 @@ fn checked(
         .collect(rt, alloc)
 }
 
-// What a thread hashes at least: about as long as this takes, it takes to start it.
-const LEAST_BYTES: usize = 8_192;
+// What a thread hashes at least: in a third of the time that this takes a thread is started.
+const LEAST_BYTES: usize = 32_768;
 
-// What is hashed of an item beside its text: keys, the inner hash, and padding.
-const BYTES_BESIDE: usize = 256;
+// What is hashed of an item beside its text: the inner hash, and padding.
+const BYTES_BESIDE: usize = 128;
 
 /// How many texts of that mean length a thread is to hash at least, so that they pay for its start.
 pub fn least_texts(mean_length: usize) -> usize {

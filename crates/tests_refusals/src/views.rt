@@ -44,10 +44,15 @@ fn what_was_prepared_is_executed(rt: HostRuntime) -> Result<(), Fail> {
 }
 
 // so many bytes that threads check whose they are at the backups, which learn of the requests by the PRE-PREPARE
-static MUCH: [Event; 7] = [
+static MUCH: [Event; 12] = [
+    Event::AskMuch(PRIMARY, 1),
+    Event::AskMuch(PRIMARY, 2),
+    Event::AskMuch(PRIMARY, 3),
+    Event::AskMuch(PRIMARY, 4),
+    Event::AskMuch(PRIMARY, 5),
+    Event::AskMuch(PRIMARY, 6),
     Event::AskMuch(PRIMARY, 7),
     Event::AskMuch(PRIMARY, 8),
-    Event::AskMuch(PRIMARY, 9),
     Event::Propose(0),
     Event::Settle(ALL),
     Event::Stand(ALL, Standing(0, 1, 0)),
