@@ -123,6 +123,10 @@ impl PendingRequests {
         ensures passed { (keys : Secrets) → HavePassed keys self.old → HavePassed keys self.new }
     {
         self.requests.retain(|signed| !names.has(signed));
-        self.last.retain(|name, _| !names.has_name(name));
+        if self.requests.is_empty() {
+            self.last = BTreeMap::new(self.alloc);
+        } else {
+            self.last.retain(|name, _| !names.has_name(name));
+        }
     }
 }
