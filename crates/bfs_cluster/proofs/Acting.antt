@@ -1,5 +1,5 @@
 -- What a replica does is what becomes of the world.
-use Rattle.std.proofs.Common.{◌≡◌, ◌∙◌, ℕ, ◌<◌, ◌+◌, List, [], ◌∷◌, length, get_or, Option, Some, None, true, refl, sym, ap, subst}
+use Rattle.std.proofs.Common.{◌≡◌, ◌∙◌, ℕ, ◌<◌, ◌+◌, List, [], ◌∷◌, length, get_or, Option, Some, None, true, refl, sym, ap}
 use Rattle.std.specs.List.{fold, range_with_len, slice_get, slice_set}
 use Rattle.std.proofs.lemmas.Bool.{lt-ltb}
 use Rattle.std.proofs.lemmas.List.{length-set, set-get_or}

@@ -1,5 +1,5 @@
 -- Replicas that execute side by side come to what they come to one after another.
-use Rattle.std.proofs.Common.{◌≡◌, ◌∙◌, true, ℕ, ◌<◌, ◌≤◌, ◌+◌, zero, suc, List, [], ◌∷◌, ◌++◌, length, get_or, map, take, drop, Option, Some, None, Ok, All, refl, sym, ap, subst, arith}
+use Rattle.std.proofs.Common.{◌≡◌, ◌∙◌, true, ℕ, ◌<◌, ◌≤◌, ◌+◌, zero, suc, List, [], ◌∷◌, ◌++◌, length, get_or, map, take, drop, Option, Some, None, Result, Ok, Err, All, refl, sym, ap, subst, arith}
 use Rattle.std.specs.Prelude.{OnOk}
 use Rattle.std.specs.List.{AllZip, fold, list_any, slice_get, slice_set}
 use Rattle.std.proofs.lemmas.Bool.{le-ltb}
@@ -7,10 +7,9 @@ use Rattle.std.proofs.lemmas.List.Elements.{All-tail}
 use Rattle.std.proofs.lemmas.List.{append-nil, append_assoc, drop_all, get_or-set_same, length-append, length-set, set-set, set_at, take_all}
 use Rattle.std.proofs.lemmas.Option.{slice_get-get_or}
 use Rattle.bfs_log.specs.Logs.{Log}
-use Rattle.bfs_model.specs.Bytes.Call.{◌>>=◌}
 use Rattle.bfs_messages.specs.declared.message.Message.{Message}
 use Rattle.bfs_messages.specs.declared.signed.Signed.{Signed}
-use Rattle.bfs_node.specs.Nodes.{Node, Outcome}
+use Rattle.bfs_node.specs.Nodes.{Outcome}
 use Rattle.bfs_node.specs.Receivers.{receivers_of}
 use Rattle.bfs_node.specs.declared.receivers.Receivers.{Receivers}
 use Rattle.bfs_node.specs.declared.receivers.Receivers.TheVariants.{Replicas, Client}
@@ -202,6 +201,20 @@ have_received messages (old ∷ before) (one ∷ now) front world came all none 
     ap (λ (w : World). fold back w now) first
     ∙ have_received messages before now (front ++ with_requests messages old.replica ∷ []) world came.1 all.1 (All-tail (λ one. one.sent.items ≡ []) old before none)
     ∙ ap (λ (replicas : List Replica). record world { replicas = replicas }) (append_assoc front (with_requests messages old.replica ∷ []) (map (with_requests messages) (map (λ one. one.replica) before)))
+
+-- They come back --------------------------------------------------------------------------------------------------------------
+
+-- those that are left, and all that there were
+abbrev pub ComesBack : (first now : World) (all rest : List Busy) → Type 0
+ComesBack first now all rest = (fold back now rest ≡ fold back first all) × (AreBack rest → AreBack all)
+
+pub one_back : {E : Type 0} (before result : Result Unit E) (first old new : World) (all rest left : List Busy) (one : Busy) → left ≡ one ∷ rest
+    → OnOk result ((before ≡ Ok tt) × (one.came ≡ Ok tt) × (new ≡ back old one)) → OnOk before (ComesBack first old all left) → OnOk result (ComesBack first new all rest)
+one_back before (Err e) first old new all rest left one is put so_far = put
+one_back before (Ok u) first old new all rest left one is put so_far =
+    let far : ComesBack first old all (one ∷ rest) =
+    subst (ComesBack first old all) is (subst (λ result. OnOk result (ComesBack first old all left)) put.0 so_far) in
+    (ap (λ (w : World). fold back w rest) put.2 ∙ far.0, λ are. far.1 (put.1, are))
 
 -- The turns begin ----------------------------------------------------------------------------------------------------------
 

@@ -27,7 +27,7 @@ impl Model for Broadcast {
     ghost view = { λ broadcast. record { sender = broadcast.sender; next = broadcast.next; signed = broadcast.signed } };
 }
 
-/// Replicas of one process, and the messages between them. After a call that answers `Memory`, a message may be lost and a file system
+/// Replicas of one process, and the messages between them. After a call that answers `Memory`, messages may be lost and file systems
 /// failed: then nothing is said of what further calls leave.
 #[derive(Drop)]
 pub struct Cluster {

@@ -77,36 +77,39 @@ impl Cluster {
         self.put_back(all)
     }
 
-    // All replicas leave the cluster.
+    // All replicas leave the cluster, with room for them to come back.
     fn take_out(&mut self) -> Result<Vec<Busy>, Memory>
         ensures all { IfOk result (λ all. map (λ one. one.replica) all.items ≡ self.old.replicas) }
         ensures sent { IfOk result (λ all. All (λ one. one.sent.items ≡ []) all.items) }
         ensures now { OnOk result (self.new ≡ record self.old { replicas = [] }) }
     {
         let mut all = Vec::with_capacity(self.alloc, self.replicas.len())?;
-        for replica in std::mem::replace(&mut self.replicas, Vec::new(self.alloc)) {
+        let room = Vec::with_capacity(self.alloc, self.replicas.len())?;
+        for replica in std::mem::replace(&mut self.replicas, room) {
             all.push(Busy::new(self.alloc, replica))?;
         }
         Ok(all)
     }
 
-    // They come back one after another, and what each sends is posted.
+    // They come back one after another, also where memory ran out, and what each sends is posted.
     fn put_back(&mut self, all: Vec<Busy>) -> Result<(), Memory>
         ensures { OnOk result (AreBack all.items × (self.new ≡ fold back self.old all.items)) }
     {
+        let mut done = Ok(());
         for one in all {
-            self.put_one(one)?;
+            done = self.put_one(one, done);
         }
-        Ok(())
+        done
     }
 
-    fn put_one(&mut self, one: Busy) -> Result<(), Memory>
-        ensures came { OnOk result (one.came ≡ Ok tt) }
-        ensures now { OnOk result (self.new ≡ back self.old one) }
+    // What it sends is posted unless memory ran out before.
+    fn put_one(&mut self, one: Busy, before: Result<(), Memory>) -> Result<(), Memory>
+        ensures { OnOk result ((before ≡ Ok tt) × (one.came ≡ Ok tt) × (self.new ≡ back self.old one)) }
     {
-        one.came?;
         let number = self.replicas.len();
         self.replicas.push(one.replica)?;
+        before?;
+        one.came?;
         self.post_all(number, one.sent)
     }
 }

@@ -1,5 +1,5 @@
 -- What replicas come to that are busy side by side.
-use Rattle.std.specs.Prelude.{◌≡◌, ℕ, ◌+◌, Bool, true, false, List, [], ◌∷◌, ◌++◌, length, map, Option, Some, None, Ok, OnOk, ⊤}
+use Rattle.std.specs.Prelude.{◌≡◌, ℕ, Bool, true, false, List, [], ◌∷◌, ◌++◌, length, map, Some, None, Ok, OnOk, ⊤}
 use Rattle.std.specs.List.{fold}
 use Rattle.bfs_log.specs.Logs.{Log}
 use Rattle.bfs_cluster.specs.Inside.Acts.{Acts, doing}

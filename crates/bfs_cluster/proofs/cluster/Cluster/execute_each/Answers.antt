@@ -2,7 +2,6 @@ use Rattle.std.proofs.Common.{ap, arith, length, subst, sym, true, List, Some, â
 use Rattle.std.specs.List.{AllZip, fold}
 use Rattle.std.proofs.lemmas.Result.{on_ok_weaker}
 use Rattle.bfs_cluster.specs.Inside.Aside.{AreBack, CameOut, Goes, back}
-use Rattle.bfs_cluster.specs.World.{World}
 use Rattle.bfs_cluster.specs.declared.side_by_side.Busy.{Busy}
 use Rattle.bfs_cluster.proofs.Aside.{came_back, have_executed, written}
 use Rattle.bfs_cluster.proofs.cluster.Cluster.execute_each.Goals as goal

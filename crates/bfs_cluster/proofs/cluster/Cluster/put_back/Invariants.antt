@@ -1,8 +1,6 @@
-use Rattle.std.proofs.Common.{◌≡◌}
-use Rattle.std.specs.List.{fold}
-use Rattle.bfs_cluster.specs.Inside.Aside.{AreBack, back}
+use Rattle.std.specs.Prelude.{OnOk}
+use Rattle.bfs_cluster.proofs.Aside.{ComesBack}
 use Rattle.bfs_cluster.proofs.cluster.Cluster.put_back.Given as goal
 
 abbrev pub invariant-loop-one : goal.invariant-loop-one
-invariant-loop-one l =
-    (fold back l.self l.one-iterator.rest.items ≡ fold back l.fn.self l.fn.all.items) × (AreBack l.one-iterator.rest.items → AreBack l.fn.all.items)
+invariant-loop-one l = OnOk l.done (ComesBack l.fn.self l.self l.fn.all.items l.one-iterator.rest.items)

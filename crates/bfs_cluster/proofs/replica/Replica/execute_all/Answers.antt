@@ -4,7 +4,7 @@ use Rattle.std.specs.Option.{option_map}
 use Rattle.bfs_cluster.specs.Inside.Acts.{Acts, doing}
 use Rattle.bfs_cluster.specs.Inside.Aside.{Executes}
 use Rattle.bfs_cluster.specs.Steps.{executing}
-use Rattle.bfs_cluster.proofs.Aside.{executes_more, runs_out}
+use Rattle.bfs_cluster.proofs.Aside.{executes_more}
 use Rattle.bfs_cluster.proofs.replica.Replica.execute_all.Goals as goal
 
 pub loop-preserved : goal.loop-preserved
