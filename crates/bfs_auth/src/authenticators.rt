@@ -5,6 +5,7 @@ ghost use Rattle.bfs_auth.specs.Authenticators.{IsAuthenticator, entry_for};
 
 use crate::principals::Principal;
 use bfs_types::Memory;
+use smallvec::SmallVec;
 use std::alloc::Global;
 use std::marker::Model;
 
@@ -12,7 +13,8 @@ use std::marker::Model;
 /// section 3). At most `MOST_REPLICAS` entries.
 #[derive(Debug, Drop)]
 pub struct Authenticator {
-    entries: Vec<[u8; 32]>,
+    // one lies in the value itself: a client's, and where there is one replica
+    entries: SmallVec<[u8; 32], 1>,
 }
 
 impl Model for Authenticator {
@@ -32,7 +34,7 @@ impl Authenticator {
         ensures { result ≡ [] }
     {
         Authenticator {
-            entries: Vec::new(alloc),
+            entries: SmallVec::new(alloc),
         }
     }
 
@@ -58,8 +60,8 @@ impl Authenticator {
         ensures { option_map (λ entry. entry.now) result ≡ entry_for receiver self.now }
     {
         match receiver {
-            Principal::Replica(number) => self.entries.get(number as usize),
-            Principal::Client(_) => self.entries.first(),
+            Principal::Replica(number) => self.entries().get(number as usize),
+            Principal::Client(_) => self.entries().first(),
         }
     }
 
@@ -67,8 +69,8 @@ impl Authenticator {
     pub fn copy(&self, alloc: Global) -> Result<Authenticator, Memory>
         ensures { IfOk result (λ copy. copy ≡ self.now) }
     {
-        let mut entries = Vec::with_capacity(alloc, self.entries.len())?;
-        entries.extend_from_slice(self.entries.as_slice())?;
-        Ok(Authenticator { entries })
+        Ok(Authenticator {
+            entries: SmallVec::from_slice(alloc, self.entries())?,
+        })
     }
 }

@@ -15,7 +15,7 @@ pub fn gather<T: Drop>(
 ) -> Result<Vec<T>, Memory>
     ensures { IfOk result (λ all. (list_all is_ok each.items ≡ true) × (all.items ≡ filter_map gathered_from each.items)) }
 {
-    let mut all = Vec::new(alloc);
+    let mut all = Vec::with_capacity(alloc, each.len())?;
     for one in each {
         if let Some(given) = one? {
             all.push(given)?;

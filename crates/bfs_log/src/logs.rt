@@ -3,7 +3,7 @@ ghost use Rattle.bfs_model.specs.Server.Limits.{most_replicas};
 ghost use Rattle.bfs_agreement.specs.Votes.{SlotsDiffer, is_taken};
 ghost use Rattle.bfs_log.specs.Headers.{header};
 ghost use Rattle.bfs_log.specs.Logs.{greatest_proposed, headers, kept_after};
-ghost use Rattle.bfs_log.specs.Places.{said_at};
+ghost use Rattle.bfs_log.specs.Places.{place_of, said_at};
 
 use crate::headers::header_of;
 use crate::places::{Place, drop_up_to, greatest_in, pop_at, put_at, row_at};
@@ -113,7 +113,7 @@ impl Log {
         ensures { self.new ≡ take (length self.old - 1) self.old }
     {
         if let Some(signed) = self.messages.pop() {
-            pop_at(&mut self.places, header_of(&signed.message).place());
+            pop_at(&mut self.places, place_in(signed));
         }
     }
 
@@ -124,4 +124,11 @@ impl Log {
         self.messages.retain(|signed| header_of(&signed.message).does_stay(number, digest));
         drop_up_to(&mut self.places, number, digest);
     }
+}
+
+// where it stood
+fn place_in(signed: Signed<Message>) -> Place
+    ensures { result ≡ place_of (header signed) }
+{
+    header_of(&signed.message).place()
 }

@@ -1,4 +1,5 @@
-ghost use Rattle.std.specs.Prelude.{◌≡◌, ◌≤◌, [], None, Some, vec_len, length, OnOk};
+ghost use Rattle.std.specs.Prelude.{◌≡◌, ◌≤◌, [], None, Some, vec_len, length, IfOk, OnOk};
+ghost use Rattle.std.specs.Arc.{arc_value};
 ghost use Rattle.std.specs.Option.{option_map};
 ghost use Rattle.sha2.specs.Sha256.{sha256};
 ghost use Rattle.bfs_model.specs.Server.Limits.{most_requests};
@@ -10,10 +11,11 @@ ghost use Rattle.bfs_messages.specs.Messages.{requests_of};
 use crate::parts::put_list;
 use crate::requests::Request;
 use crate::signed::Signed;
-use bfs_types::Time;
+use bfs_types::{Memory, Time};
 use bfs_xdr::Sink;
 use sha2::{Digest, Sha256};
 use std::marker::Model;
+use std::sync::Arc;
 
 #[derive(Drop)]
 struct Requests {
@@ -96,6 +98,71 @@ impl OrderedBatch {
             Ok(()) => hasher.finalize(),
             Err(never) => match never {},
         }
+    }
+}
+
+/// A batch beside its digest, so that it is hashed once. It may share the batch with others.
+#[derive(Drop)]
+pub struct HashedBatch {
+    batch: Arc<OrderedBatch>,
+    digest: [u8; 32],
+}
+
+impl Model for HashedBatch {
+    ghost use Rattle.std.specs.Prelude.{◌≡◌};
+    ghost use Rattle.std.specs.Arc.{arc_value};
+    ghost use Rattle.sha2.specs.Sha256.{sha256};
+    ghost use Rattle.bfs_messages.specs.Batches.{batch_text};
+    ghost use Rattle.bfs_messages.specs.Messages as model;
+
+    ghost Value = { model.Batch };
+
+    ghost view = { λ hashed. arc_value hashed.batch };
+
+    ghost invariant = { λ hashed. hashed.digest ≡ sha256 (batch_text (arc_value hashed.batch)) };
+}
+
+impl HashedBatch {
+    /// Of a batch, which is hashed.
+    pub fn new(batch: Arc<OrderedBatch>) -> HashedBatch
+        ensures { result ≡ arc_value batch }
+    {
+        let digest = batch.digest();
+        HashedBatch { batch, digest }
+    }
+
+    /// Of a batch whose digest is known.
+    pub fn with_digest(batch: Arc<OrderedBatch>, digest: [u8; 32]) -> HashedBatch
+        requires { digest ≡ sha256 (batch_text (arc_value batch)) }
+        ensures { result ≡ arc_value batch }
+    {
+        HashedBatch { batch, digest }
+    }
+
+    /// The batch.
+    pub fn batch(&self) -> &Arc<OrderedBatch>
+        ensures { arc_value result.now ≡ self.now }
+    {
+        &self.batch
+    }
+
+    /// An equal one, which shares the batch. `Memory` if memory runs out.
+    pub fn try_clone(&self) -> Result<HashedBatch, Memory>
+        ensures { IfOk result (λ copy. copy ≡ self.now) }
+    {
+        Ok(HashedBatch {
+            batch: Arc::try_clone(&self.batch)?,
+            digest: self.digest,
+        })
+    }
+
+    /// The batch and its digest.
+    pub fn into_parts(self) -> (Arc<OrderedBatch>, [u8; 32])
+        ensures batch { arc_value result.0 ≡ self }
+        ensures digest { result.1 ≡ sha256 (batch_text self) }
+    {
+        let HashedBatch { batch, digest } = self;
+        (batch, digest)
     }
 }
 

@@ -6,7 +6,7 @@ ghost use Rattle.bfs_messages.specs.Batches.{batch_text};
 ghost use Rattle.bfs_messages.specs.Changes.{proposal_text};
 ghost use Rattle.bfs_messages.specs.Limits.{FitsPrePrepare, FitsSigned};
 
-use crate::batches::{OrderedBatch, put_batch};
+use crate::batches::{HashedBatch, OrderedBatch, put_batch};
 use crate::parts::Part;
 use crate::signed::Signed;
 use crate::votes::Vote;
@@ -45,7 +45,16 @@ impl PrePrepare {
         requires number { number ≤ most_number }
         ensures { result ≡ record { vote = record { sender = sender; view = view; number = number; digest = sha256 (batch_text (arc_value batch)) }; batch = arc_value batch } }
     {
-        let digest = batch.digest();
+        PrePrepare::of_hashed(sender, view, number, HashedBatch::new(batch))
+    }
+
+    /// Of a primary, by its number, with a batch that is hashed already. View and number are at most `MOST_NUMBER`.
+    pub fn of_hashed(sender: u32, view: u64, number: u64, hashed: HashedBatch) -> PrePrepare
+        requires view { view ≤ most_number }
+        requires number { number ≤ most_number }
+        ensures { result ≡ record { vote = record { sender = sender; view = view; number = number; digest = sha256 (batch_text hashed) }; batch = hashed } }
+    {
+        let (batch, digest) = hashed.into_parts();
         PrePrepare {
             vote: Vote::new(sender, view, number, digest),
             batch,

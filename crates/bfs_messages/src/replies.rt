@@ -1,4 +1,5 @@
 ghost use Rattle.std.specs.Prelude.{◌≡◌, ◌≤◌, length, IfOk};
+ghost use Rattle.std.specs.Arc.{arc_value};
 ghost use Rattle.bfs_model.specs.Server.Limits.{most_number, most_reply_bytes};
 ghost use Rattle.bfs_messages.specs.Batches.{reply_text};
 ghost use Rattle.bfs_messages.specs.Limits.{FitsReply};
@@ -8,26 +9,28 @@ use bfs_types::{Bytes, MOST_REPLY_BYTES, Memory};
 use bfs_xdr::Sink;
 use std::alloc::Global;
 use std::marker::Model;
+use std::sync::Arc;
 
 /// A replica's answer to a client's request: its timestamp, and the bytes of what came of the call (OSDI 1999 section 4.1). The view is at
-/// most `MOST_NUMBER`.
+/// most `MOST_NUMBER`. It may share the bytes with others.
 #[derive(Drop)]
 pub struct Reply {
     sender: u32,
     view: u64,
     client: u32,
     timestamp: u64,
-    result: Bytes<MOST_REPLY_BYTES>,
+    result: Arc<Bytes<MOST_REPLY_BYTES>>,
 }
 
 impl Model for Reply {
     ghost use Rattle.std.specs.Prelude.{◌≤◌};
+    ghost use Rattle.std.specs.Arc.{arc_value};
     ghost use Rattle.bfs_model.specs.Server.Limits.{most_number};
     ghost use Rattle.bfs_messages.specs.Messages as model;
 
     ghost Value = { model.Reply };
 
-    ghost view = { λ reply. record { sender = reply.sender; view = reply.view; client = reply.client; timestamp = reply.timestamp; result = reply.result } };
+    ghost view = { λ reply. record { sender = reply.sender; view = reply.view; client = reply.client; timestamp = reply.timestamp; result = arc_value reply.result } };
 
     ghost invariant = { λ reply. reply.view ≤ most_number };
 }
@@ -46,13 +49,28 @@ impl Reply {
         requires bytes { length bytes.now ≤ most_reply_bytes }
         ensures { IfOk result (λ reply. reply ≡ record { sender = sender; view = view; client = client; timestamp = timestamp; result = bytes.now }) }
     {
-        Ok(Reply {
+        let bytes = Arc::new(alloc, Bytes::new(alloc, bytes)?)?;
+        Ok(Reply::sharing(sender, view, client, timestamp, bytes))
+    }
+
+    /// Of a replica to a client, with a result that it shares.
+    pub fn sharing(
+        sender: u32,
+        view: u64,
+        client: u32,
+        timestamp: u64,
+        bytes: Arc<Bytes<MOST_REPLY_BYTES>>,
+    ) -> Reply
+        requires { view ≤ most_number }
+        ensures { result ≡ record { sender = sender; view = view; client = client; timestamp = timestamp; result = arc_value bytes } }
+    {
+        Reply {
             sender,
             view,
             client,
             timestamp,
-            result: Bytes::new(alloc, bytes)?,
-        })
+            result: bytes,
+        }
     }
 
     /// The replica that sends it.
@@ -84,6 +102,13 @@ impl Reply {
         self.timestamp
     }
 
+    /// What came of the call, to be shared.
+    pub fn shared(&self) -> &Arc<Bytes<MOST_REPLY_BYTES>>
+        ensures { arc_value result.now ≡ self.now.result }
+    {
+        &self.result
+    }
+
     /// What came of the call.
     pub fn result(&self) -> &[u8]
         ensures value { result.now ≡ self.now.result }
@@ -106,14 +131,13 @@ impl Part for Reply {
         out.opaque(self.result.as_slice())
     }
 
-    fn try_clone(&self, alloc: Global) -> Result<Reply, Memory> {
-        Reply::new(
-            alloc,
-            self.sender,
-            self.view,
-            self.client,
-            self.timestamp,
-            self.result.as_slice(),
-        )
+    fn try_clone(&self, _alloc: Global) -> Result<Reply, Memory> {
+        Ok(Reply {
+            sender: self.sender,
+            view: self.view,
+            client: self.client,
+            timestamp: self.timestamp,
+            result: Arc::try_clone(&self.result)?,
+        })
     }
 }

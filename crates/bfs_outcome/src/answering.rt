@@ -66,9 +66,9 @@ fn answer_new(
     ensures to_record { OnOk result (executed.new.to_record.items ≡ executed.old.to_record.items ++ to_record_as Class.New request.now (drop (length executed.old.to_record.items) replies.now)) }
     ensures to_answer { OnOk result (executed.new.to_answer.items ≡ executed.old.to_answer.items ++ to_record_as Class.New request.now (drop (length executed.old.to_record.items) replies.now)) }
 {
-    let reply = replies.get(executed.to_record.len());
-    executed.to_answer.push(answer(alloc, request, reply)?)?;
-    executed.to_record.push(answer(alloc, request, reply)?)?;
+    let answer = answer(alloc, request, replies.get(executed.to_record.len()))?;
+    executed.to_answer.push(answer.try_clone()?)?;
+    executed.to_record.push(answer)?;
     Ok(())
 }
 

@@ -1,4 +1,5 @@
 ghost use Rattle.std.specs.Prelude.{◌≡◌, ◌≤◌, length, IfOk, IfSome};
+ghost use Rattle.std.specs.Arc.{arc_value};
 ghost use Rattle.std.specs.Option.{option_map};
 ghost use Rattle.bfs_model.specs.Server.Limits.{most_reply_bytes};
 ghost use Rattle.bfs_replies.specs.Answers.{recorded_all};
@@ -8,25 +9,27 @@ use crate::tables::{Last, ReplyTable};
 use bfs_types::{Bytes, MOST_REPLY_BYTES, Memory};
 use std::alloc::Global;
 use std::marker::Model;
+use std::sync::Arc;
 
-/// The reply to a client's request of that timestamp: at most `MOST_REPLY_BYTES` bytes.
+/// The reply to a client's request of that timestamp: at most `MOST_REPLY_BYTES` bytes. It may share them with others.
 #[derive(Debug, Drop)]
 pub struct Answer {
     client: u32,
     timestamp: u64,
-    reply: Bytes<MOST_REPLY_BYTES>,
+    reply: Arc<Bytes<MOST_REPLY_BYTES>>,
 }
 
 impl Model for Answer {
     ghost use Rattle.std.specs.Prelude.{Some};
+    ghost use Rattle.std.specs.Arc.{arc_value};
     ghost use Rattle.bfs_replies.specs.Answers as model;
     ghost use Rattle.bfs_replies.specs.Tables.{LastIsKept};
 
     ghost Value = { model.Answer };
 
-    ghost view = { λ answer. record { client = answer.client; timestamp = answer.timestamp; reply = answer.reply } };
+    ghost view = { λ answer. record { client = answer.client; timestamp = answer.timestamp; reply = arc_value answer.reply } };
 
-    ghost invariant = { λ answer. LastIsKept (Some (record { timestamp = answer.timestamp; reply = answer.reply })) };
+    ghost invariant = { λ answer. LastIsKept (Some (record { timestamp = answer.timestamp; reply = arc_value answer.reply })) };
 }
 
 impl Answer {
@@ -38,7 +41,7 @@ impl Answer {
         Ok(Answer {
             client,
             timestamp,
-            reply: Bytes::new(alloc, reply)?,
+            reply: Arc::new(alloc, Bytes::new(alloc, reply)?)?,
         })
     }
 
@@ -54,6 +57,24 @@ impl Answer {
         ensures { result ≡ self.now.timestamp }
     {
         self.timestamp
+    }
+
+    /// An equal one, which shares the reply. `Memory` if memory runs out.
+    pub fn try_clone(&self) -> Result<Answer, Memory>
+        ensures { IfOk result (λ copy. copy ≡ self.now) }
+    {
+        Ok(Answer {
+            client: self.client,
+            timestamp: self.timestamp,
+            reply: Arc::try_clone(&self.reply)?,
+        })
+    }
+
+    /// The reply to it, to be shared.
+    pub fn shared(&self) -> &Arc<Bytes<MOST_REPLY_BYTES>>
+        ensures { arc_value result.now ≡ self.now.reply }
+    {
+        &self.reply
     }
 
     /// The bytes of the reply to it.
@@ -101,7 +122,7 @@ impl ReplyTable {
         let mut found = self.reply_of(client);
         for answer in answers {
             if answer.client == client {
-                found = Some(answer.reply.as_slice());
+                found = Some(answer.reply());
             }
         }
         found

@@ -9,6 +9,7 @@ use crate::timestamps::{Timestamps, timestamps_in};
 use bfs_types::{Bytes, MOST_REPLY_BYTES, Memory};
 use std::alloc::Global;
 use std::marker::Model;
+use std::sync::Arc;
 use thiserror::Error;
 
 /// What a request is to its client's last one.
@@ -70,15 +71,16 @@ impl RecordError {
 #[derive(Debug, Drop)]
 pub(crate) struct Last {
     pub(crate) timestamp: u64,
-    pub(crate) reply: Bytes<MOST_REPLY_BYTES>,
+    pub(crate) reply: Arc<Bytes<MOST_REPLY_BYTES>>,
 }
 
 impl Model for Last {
+    ghost use Rattle.std.specs.Arc.{arc_value};
     ghost use Rattle.bfs_replies.specs.Tables as model;
 
     ghost Value = { model.Last };
 
-    ghost view = { λ last. record { timestamp = last.timestamp; reply = last.reply } };
+    ghost view = { λ last. record { timestamp = last.timestamp; reply = arc_value last.reply } };
 }
 
 impl Last {
@@ -89,7 +91,7 @@ impl Last {
     {
         Ok(Last {
             timestamp,
-            reply: Bytes::new(alloc, reply)?,
+            reply: Arc::new(alloc, Bytes::new(alloc, reply)?)?,
         })
     }
 }
@@ -220,19 +222,20 @@ fn copy_of_all(alloc: Global, clients: &[Option<Last>]) -> Result<Vec<Option<Las
 {
     let mut copies = Vec::new(alloc);
     for last in clients {
-        copies.push(copy_of(alloc, last)?)?;
+        copies.push(copy_of(last)?)?;
     }
     Ok(copies)
 }
 
-fn copy_of(alloc: Global, last: &Option<Last>) -> Result<Option<Last>, Memory>
+// they share the reply
+fn copy_of(last: &Option<Last>) -> Result<Option<Last>, Memory>
     ensures { IfOk result (λ copy. copy ≡ last.now) }
 {
     match last {
         None => Ok(None),
-        Some(last) => {
-            let copy = Last::new(alloc, last.timestamp, last.reply.as_slice())?;
-            Ok(Some(copy))
-        }
+        Some(last) => Ok(Some(Last {
+            timestamp: last.timestamp,
+            reply: Arc::try_clone(&last.reply)?,
+        })),
     }
 }

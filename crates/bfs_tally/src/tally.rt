@@ -9,28 +9,37 @@ use bfs_messages::{Message, Reply, Signed, is_signed};
 use bfs_types::{Bytes, MOST_REPLY_BYTES, Memory};
 use std::alloc::Global;
 use std::marker::Model;
+use std::sync::Arc;
 
 #[derive(Debug, Drop)]
 struct Counted {
     sender: u32,
-    result: Bytes<MOST_REPLY_BYTES>,
+    result: Arc<Bytes<MOST_REPLY_BYTES>>,
 }
 
 impl Model for Counted {
+    ghost use Rattle.std.specs.Arc.{arc_value};
     ghost use Rattle.bfs_tally.specs.Tallies as model;
 
     ghost Value = { model.Counted };
 
-    ghost view = { λ counted. record { sender = counted.sender; result = counted.result } };
+    ghost view = { λ counted. record { sender = counted.sender; result = arc_value counted.result } };
 }
 
 impl Counted {
-    fn try_clone(&self, alloc: Global) -> Result<Counted, Memory>
+    fn bytes(&self) -> &[u8]
+        ensures value { result.now ≡ self.now.result }
+        ensures within { length result.now ≤ most_reply_bytes }
+    {
+        self.result.as_slice()
+    }
+
+    fn try_clone(&self) -> Result<Counted, Memory>
         ensures { IfOk result (λ copy. copy ≡ self.now) }
     {
         Ok(Counted {
             sender: self.sender,
-            result: Bytes::new(alloc, self.result.as_slice())?,
+            result: Arc::try_clone(&self.result)?,
         })
     }
 }
@@ -157,7 +166,7 @@ impl Tally {
     {
         let counted = Counted {
             sender: reply.sender(),
-            result: Bytes::new(self.alloc, reply.result())?,
+            result: Arc::try_clone(reply.shared())?,
         };
         self.counted.push(counted)?;
         Ok(())
@@ -179,7 +188,7 @@ impl Tally {
     {
         for one in &self.counted {
             if self.is_agreed(one) {
-                return Some(one.result.as_slice());
+                return Some(one.bytes());
             }
         }
         None
@@ -188,7 +197,7 @@ impl Tally {
     fn is_agreed(&self, one: &Counted) -> bool
         ensures { result ≡ is_agreed self.now one.now }
     {
-        self.senders_of(one.result.as_slice()) > self.f as usize
+        self.senders_of(one.bytes()) > self.f as usize
     }
 
     // how many replicas sent that result
@@ -197,7 +206,7 @@ impl Tally {
     {
         let mut count = 0;
         for one in &self.counted {
-            if one.result.as_slice() == wanted {
+            if one.bytes() == wanted {
                 count += 1;
             }
         }
@@ -210,7 +219,7 @@ fn copy_of(alloc: Global, replies: &[Counted]) -> Result<Vec<Counted>, Memory>
 {
     let mut copies = Vec::with_capacity(alloc, replies.len())?;
     for one in replies {
-        copies.push(one.try_clone(alloc)?)?;
+        copies.push(one.try_clone()?)?;
     }
     Ok(copies)
 }

@@ -1,4 +1,4 @@
-use Rattle.std.proofs.Common.{◌≡◌, sym, ap, ◌∙◌}
+use Rattle.std.proofs.Common.{sym, ap, ◌∙◌}
 use Rattle.std.specs.Prelude.{List, find}
 use Rattle.bfs_log.specs.Batches.{Said}
 use Rattle.bfs_log.specs.Places.{said_at}

@@ -18,7 +18,7 @@ loop-answer-preserved c =
     rw more (elim c.if-answer-client.branch [
       | then-answer-client w ↦
           let mine : answer.client ≡ c.args.client = sym (ap (λ a. a.client) c.answer.view_is) ∙ w.if-answer-client.true in
-          rw w.found-is (ap Some (w.as_slice.ensures.value ∙ ap (λ a. a.reply) c.answer.view_is) ∙ sym (ap (λ client. reply_in (last_of (recorded before client answer.timestamp answer.reply) c.args.client)) mine ∙ recorded_here before c.args.client answer.timestamp answer.reply known), w.as_slice.ensures.within)
+          rw w.found-is (ap Some w.reply.ensures.value ∙ sym (ap (λ client. reply_in (last_of (recorded before client answer.timestamp answer.reply) c.args.client)) mine ∙ recorded_here before c.args.client answer.timestamp answer.reply known), w.reply.ensures.short)
       | else-answer-client w ↦
           let other = λ (is : c.args.client ≡ answer.client). w.if-answer-client.false (ap (λ a. a.client) c.answer.view_is ∙ sym is) in
           rw w.found-is (c.loop-answer.invariant.0 ∙ sym (recorded_elsewhere before c.args.client answer.client answer.timestamp answer.reply known other), c.loop-answer.invariant.1)

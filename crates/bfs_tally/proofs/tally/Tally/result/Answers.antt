@@ -8,7 +8,7 @@ use Rattle.bfs_tally.proofs.tally.Tally.result.Goals as goal
 pub returns-then-is_agreed-clause-value : goal.returns-then-is_agreed-clause-value
 returns-then-is_agreed-clause-value c =
     let here = find_here (is_agreed c.args.self.now) c.deref-one-items.result.now c.loop-one.one-index c.one-item.result (omega arith) c.one-item.is (sym c.is_agreed.ensures ∙ c.if-is_agreed.true) in
-    ap Some (c.as_slice.ensures.value ∙ ap (λ (one : Counted). one.result) c.one.view_is) ∙ ap (option_map (λ (one : Counted). one.result)) (sym here ∙ c.loop-one.invariant)
+    ap Some c.bytes.ensures.value ∙ ap (option_map (λ (one : Counted). one.result)) (sym here ∙ c.loop-one.invariant)
 
 pub loop-one-preserved : goal.loop-one-preserved
 loop-one-preserved c =
