@@ -1,46 +1,42 @@
 //! Four replicas of the file service, of which one may be faulty, and a client: only bytes go between them. docs/CLUSTER.md says more.
 #![tactic(auto)]
 
-mod wire;
-
-use crate::wire::Wire;
-use anyhow::Context;
+use anyhow::{Context, Error};
 use bfs_clients::{Clients, Tallies};
 use bfs_codec::{decode, encode};
 use bfs_messages::{Message, Request, Signed};
-use bfs_node::{Executor, NoGate, Node, NodeError, Workers};
+use bfs_node::{Executor, NoGate, Node, NodeError, Receivers, Workers, receivers_of};
 use bfs_settings::parse_settings;
-use bfs_types::{MOST_REQUEST_BYTES, Memory, Time};
+use bfs_types::Time;
 use std::alloc::Global;
+use std::collections::VecDeque;
 use std::sync::Wait;
 use std::thread::Threads;
 
 const CONFIGURATION: &[u8] = b"f = 1\nclients = 2\nsecret = \"6120736563726574\"\n";
 
-/// GETATTR of the root (RFC 1094 section 2.2.2).
-const CALL: &str =
-    "000000010000000000000002000186a30000000200000001000000000000000000000000000000004246533200000001000000020000000000000000000000000000000000000000";
+// GETATTR of the root (RFC 1094 section 2.2.2)
+const CALL: &[u8; 72] =
+    b"\0\0\0\x01\0\0\0\0\0\0\0\x02\0\x01\x86\xa3\0\0\0\x02\0\0\0\x01\0\0\0\0\0\0\0\0\0\0\0\0\0\0\0\0BFS2\0\0\0\x01\0\0\0\x02\0\0\0\0\0\0\0\0\0\0\0\0\0\0\0\0\0\0\0\0";
 
-fn main(rt: HostRuntime) -> Result<(), anyhow::Error> {
+fn main(rt: HostRuntime) -> Result<(), Error> {
     let alloc = rt.alloc();
     let settings = parse_settings(alloc, CONFIGURATION)?;
     let clients = Clients::new(alloc, &settings)?;
-    let mut wire = Wire::new(alloc);
     let mut nodes = Vec::new(alloc);
     for number in 0..settings.replicas() {
         nodes.push(Node::new(alloc, &settings, number)?)?;
     }
     // client 1 sends a request to all replicas, and the primary proposes what waits
-    wire.to_replicas.push_back(request(alloc, &clients)?)?;
-    settle(&rt, &mut nodes, &mut wire)?;
+    let request = clients.sign(Request::new(alloc, 1, 7, CALL)?)?;
+    settle(&rt, alloc, &mut nodes, request.context("a client")?)?;
     let primary = nodes.first_mut().context("a primary")?;
-    let time = Time::new(1, 0).context("a time")?;
-    wire.send(&primary.propose(time)?)?;
-    settle(&rt, &mut nodes, &mut wire)?;
+    let proposal = primary.propose(Time::new(1, 0).context("a time")?)?;
+    let replies = settle(&rt, alloc, &mut nodes, proposal)?;
     // the client takes what f + 1 replicas answer
     let mut tallies = Tallies::new(alloc, settings.f());
     tallies.begin(1, 7)?;
-    for bytes in &wire.to_clients {
+    for bytes in &replies {
         tallies.add(&clients, &decode(alloc, bytes.as_slice())?)?;
     }
     let reply = tallies.result(1, 7).context("a result")?;
@@ -52,59 +48,57 @@ fn main(rt: HostRuntime) -> Result<(), anyhow::Error> {
     Ok(())
 }
 
-fn request(alloc: Global, clients: &Clients) -> Result<Vec<u8>, anyhow::Error> {
-    let call = hex::decode(alloc, CALL)?;
-    if call.len() > MOST_REQUEST_BYTES {
-        return Err(anyhow::Error::msg("a call that is too long"));
-    }
-    let request = Request::new(alloc, 1, 7, call.as_slice())?;
-    let signed = clients.sign(request)?.context("a client")?;
-    Ok(encode(alloc, &signed)?)
-}
-
-/// Brings what is on its way to all replicas, until nothing is.
+// Brings a message to all replicas, and what they send then, until nothing is on its way. It gives the bytes that go to clients.
 fn settle<R: Threads + Wait + Sync>(
     rt: &R,
+    alloc: Global,
     nodes: &mut [Node],
-    wire: &mut Wire,
-) -> Result<(), NodeError> {
+    first: Signed<Message>,
+) -> Result<Vec<Vec<u8>>, Error> {
+    let mut to_clients = Vec::new(alloc);
+    let mut sent = VecDeque::new(alloc);
+    sent.push_back(first)?;
     for _ in rt.forever() {
-        let Some(bytes) = wire.to_replicas.pop_front() else {
-            return Ok(());
+        let Some(message) = sent.pop_front() else {
+            return Ok(to_clients);
         };
-        for node in nodes.iter_mut() {
-            for message in turn(rt, wire.alloc, node, bytes.as_slice())? {
-                wire.send(&message)?;
+        let bytes = encode(alloc, &message)?;
+        match receivers_of(&message.message) {
+            Receivers::Client(_) => to_clients.push(bytes)?,
+            Receivers::Replicas => {
+                for node in nodes.iter_mut() {
+                    turn(rt, node, bytes.as_slice(), &mut sent)?;
+                }
             }
         }
     }
     unreachable!()
 }
 
-/// What a replica sends when bytes come to it. What is forged, too early or there already, its own messages too, changes nothing.
+// Bytes come to a replica, and it executes what is ready then. What is forged, too early or there already, its own messages too, changes nothing.
 fn turn<R: Threads + Wait + Sync>(
     rt: &R,
-    alloc: Global,
     node: &mut Node,
     bytes: &[u8],
-) -> Result<Vec<Signed<Message>>, NodeError> {
-    let mut sent = match node.deliver(rt, bytes) {
-        Ok(sent) => sent,
-        Err(NodeError::Memory) => return Err(NodeError::Memory),
-        Err(_) => Vec::new(alloc),
+    sent: &mut VecDeque<Signed<Message>>,
+) -> Result<(), Error> {
+    match node.deliver(rt, bytes) {
+        Ok(more) => sent.extend(more)?,
+        Err(NodeError::Memory) => return Err(NodeError::Memory.into()),
+        Err(_) => (),
+    }
+    let executor = Executor {
+        workers: Workers::one(),
+        engine: None,
     };
     for _ in rt.forever() {
-        let executor = Executor {
-            workers: Workers::one(),
-            engine: None,
-        };
         let Some(replies) = node.execute_ready(rt, executor, &NoGate)? else {
-            return Ok(sent);
+            return Ok(());
         };
-        sent.extend(replies).map_err(Memory::from)?;
+        sent.extend(replies)?;
         match node.checkpoint(rt) {
-            Ok(checkpoint) => sent.push(checkpoint).map_err(Memory::from)?,
-            Err(NodeError::Memory) => return Err(NodeError::Memory),
+            Ok(checkpoint) => sent.push_back(checkpoint)?,
+            Err(NodeError::Memory) => return Err(NodeError::Memory.into()),
             // none is due at this number
             Err(_) => (),
         }
