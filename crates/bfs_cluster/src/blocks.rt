@@ -20,19 +20,20 @@ impl Cluster {
     ) -> Result<(), Memory>
         ensures { OnOk result (self.new ≡ with_block self.old time requests.now) }
     {
-        self.request_all(rt, requests)?;
+        self.request_all(rt, time, requests)?;
         self.act(&Act::Propose(time))
     }
 
     fn request_all<R: Threads + Sync>(
         &mut self,
         rt: &R,
+        time: Time,
         messages: &[Signed<Message>],
     ) -> Result<(), Memory>
         ensures { OnOk result (self.new ≡ fold requested self.old messages.now) }
     {
         if are_requests(messages) {
-            self.take_requests(rt, messages)
+            self.take_requests(rt, time, messages)
         } else {
             self.request_each(rt, messages)
         }
@@ -42,12 +43,13 @@ impl Cluster {
     fn take_requests<R: Threads + Sync>(
         &mut self,
         rt: &R,
+        time: Time,
         messages: &[Signed<Message>],
     ) -> Result<(), Memory>
         requires { list_all is_request messages.now ≡ true }
         ensures { OnOk result (self.new ≡ fold requested self.old messages.now) }
     {
-        self.take_requests_each(rt, messages)
+        self.take_requests_each(rt, time, messages)
     }
 
     fn request_each<R: Threads + Sync>(

@@ -60,16 +60,17 @@ impl Replica {
         }
     }
 
-    /// The REQUESTs among messages come, one after another; it sends nothing then.
+    /// The REQUESTs among messages come, one after another, before it proposes at that time; it sends nothing then.
     pub fn take_requests<R: Threads + Sync>(
         &mut self,
         rt: &R,
+        time: Time,
         messages: &[Signed<Message>],
     ) -> Result<(), Memory>
         ensures { OnOk result (self.new ≡ with_requests messages.now self.old) }
     {
         if self.heard {
-            self.node.take_requests(rt, messages)?;
+            self.node.take_requests_for(rt, time, messages)?;
         }
         Ok(())
     }

@@ -7,7 +7,7 @@ ghost use Rattle.bfs_cluster.specs.Inside.Requests.{with_requests};
 use crate::cluster::Cluster;
 use crate::replica::Replica;
 use bfs_messages::{Message, Signed};
-use bfs_types::Memory;
+use bfs_types::{Memory, Time};
 use rayon::prelude::*;
 use std::alloc::Global;
 use std::sync::Wait;
@@ -33,10 +33,10 @@ impl Busy {
         }
     }
 
-    fn take_requests<R: Threads + Sync>(&mut self, rt: &R, messages: &[Signed<Message>])
+    fn take_requests<R: Threads + Sync>(&mut self, rt: &R, time: Time, messages: &[Signed<Message>])
         ensures { CameTo messages.now self.old self.new }
     {
-        self.came = self.replica.take_requests(rt, messages);
+        self.came = self.replica.take_requests(rt, time, messages);
     }
 
     fn execute_all<R: Threads + Wait + Sync>(&mut self, rt: &R, alloc: Global)
@@ -53,16 +53,18 @@ impl Busy {
 }
 
 impl Cluster {
-    /// The requests come to each replica, which as many threads as there are processors share out among them.
+    /// The requests come to each replica before it proposes at that time; as many threads as there are processors share the replicas out among
+    /// them.
     pub(crate) fn take_requests_each<R: Threads + Sync>(
         &mut self,
         rt: &R,
+        time: Time,
         messages: &[Signed<Message>],
     ) -> Result<(), Memory>
         ensures { OnOk result (self.new ≡ record self.old { replicas = map (with_requests messages.now) self.old.replicas }) }
     {
         let mut all = self.take_out()?;
-        take_requests_all(rt, all.as_mut_slice(), messages);
+        take_requests_all(rt, time, all.as_mut_slice(), messages);
         self.put_back(all)
     }
 
@@ -114,7 +116,12 @@ impl Cluster {
     }
 }
 
-fn take_requests_all<R: Threads + Sync>(rt: &R, all: &mut [Busy], messages: &[Signed<Message>])
+fn take_requests_all<R: Threads + Sync>(
+    rt: &R,
+    time: Time,
+    all: &mut [Busy],
+    messages: &[Signed<Message>],
+)
     ensures each { AllZip (CameTo messages.now) all.old all.new }
     ensures len { length all.new ≡ length all.old }
 {
@@ -123,7 +130,7 @@ fn take_requests_all<R: Threads + Sync>(rt: &R, all: &mut [Busy], messages: &[Si
         all,
         |_number: usize, one: &mut Busy|
             ensures { CameTo messages.entry.now one.old one.new }
-        { one.take_requests(rt, messages) },
+        { one.take_requests(rt, time, messages) },
     );
 }
 

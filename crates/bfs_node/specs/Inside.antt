@@ -3,3 +3,4 @@ pub mod Asking
 pub mod Bounds
 pub mod Finishing
 pub mod Settling
+pub mod Taking

@@ -1,10 +1,8 @@
 // The next committed batch is executed.
 ghost use Rattle.std.specs.Prelude.{◌≡◌, ◌≢◌, ◌↔◌, None, Some, length, IfOk, IfErr, IsErrOf, IsSome, OnOk};
 ghost use Rattle.std.specs.Option.{option_map};
-ghost use Rattle.bfs_messages.specs.Messages.{Batch};
 ghost use Rattle.bfs_order.specs.Replica.Executing.{next_committed};
 ghost use Rattle.bfs_outcome.specs.Executed.{ComesTo};
-ghost use Rattle.bfs_pending.specs.Names.{AreNamesOf};
 ghost use Rattle.bfs_replies.specs.Answers.{recorded_all};
 ghost use Rattle.bfs_node.specs.Executing.{after_execution, execution, is_ready, replies_to};
 ghost use Rattle.bfs_node.specs.Inside.Finishing.{answers_in, finished_by, with_files};
@@ -14,7 +12,6 @@ use crate::error::NodeError;
 use crate::node::Node;
 use bfs_messages::{Message, OrderedBatch, Signed};
 use bfs_outcome::{Executed, Executor, Gate, Means, answers_go_to_clients, execute_ordered};
-use bfs_pending::BatchNames;
 use bfs_replies::Answer;
 use bfs_serial::ExecError;
 use bfs_types::Memory;
@@ -26,7 +23,6 @@ use std::thread::Threads;
 struct Finished {
     to_record: Vec<Answer>,
     replies: Vec<Signed<Message>>,
-    names: BatchNames,
 }
 
 impl Node {
@@ -67,7 +63,7 @@ impl Node {
             Ok(finished) => {
                 // no client comes or goes
                 answers_go_to_clients();
-                Ok(Some(self.finish(number, finished)))
+                Ok(Some(self.finish(number, &batch, finished)))
             }
             Err(Memory) => Err(self.fail()),
         }
@@ -84,10 +80,8 @@ impl Node {
         requires { IsSome self.old.files }
         ensures done { IfOk result (λ finished. ComesTo self.old.files self.old.table batch.now self.new.files finished.to_record.items (answers_in self.old batch.now)) }
         ensures replies { IfOk result (λ finished. finished.replies.items ≡ replies_to self.old.keys self.old.order (answers_in self.old batch.now)) }
-        ensures names { IfOk result (λ finished. AreNamesOf batch.now finished.names) }
         ensures others { with_files self.new None ≡ with_files self.old None }
     {
-        let names = BatchNames::of(self.alloc, batch)?;
         let means = Means {
             rt,
             alloc: self.alloc,
@@ -103,7 +97,6 @@ impl Node {
             ) => Ok(Finished {
                 to_record,
                 replies: self.replies_to(rt, &to_answer)?,
-                names,
             }),
             Err(ExecError::Memory) => Err(Memory),
             Err(ExecError::Failed) => unreachable!(),
@@ -111,15 +104,20 @@ impl Node {
     }
 
     // Its replies are recorded, it counts as executed, and its requests wait no longer. It takes no memory.
-    fn finish(&mut self, number: u64, finished: Finished) -> Vec<Signed<Message>>
+    fn finish(
+        &mut self,
+        number: u64,
+        batch: &OrderedBatch,
+        finished: Finished,
+    ) -> Vec<Signed<Message>>
         requires next { option_map (λ committed. committed.number) (next_committed self.old.order) ≡ Some number }
         requires clients { length (recorded_all self.old.table finished.to_record.items) ≡ length self.old.table }
-        ensures now { (batch : Batch) → AreNamesOf batch finished.names → self.new ≡ finished_by self.old number finished.to_record.items batch }
+        ensures now { self.new ≡ finished_by self.old number finished.to_record.items batch.now }
         ensures sent { result.items ≡ finished.replies.items }
     {
         self.table.record_all(finished.to_record);
         self.order.executed(number);
-        self.pending.drop_batch(&finished.names);
+        self.pending.drop_batch(batch);
         finished.replies
     }
 

@@ -1,14 +1,12 @@
 // The primary proposes the requests that wait.
 ghost use Rattle.std.specs.Prelude.{◌≡◌, ◌≢◌, ◌∷◌, [], None, Some, IfOk, IfErr, OnOk, OnErr};
-ghost use Rattle.std.specs.Arc.{arc_value};
-ghost use Rattle.bfs_node.specs.Proposing.{pending_batch, proposal_refusal, proposed};
+ghost use Rattle.bfs_node.specs.Proposing.{proposal_refusal, proposed};
 ghost use Rattle.bfs_node.specs.declared.error.NodeError.TheVariants as error;
 
 use crate::error::NodeError;
 use crate::node::Node;
-use bfs_messages::{Message, OrderedBatch, Signed};
-use bfs_types::{Memory, Time};
-use std::sync::Arc;
+use bfs_messages::{Message, Signed};
+use bfs_types::Time;
 
 impl Node {
     /// Proposes the requests that wait, in the order in which they came, as one batch of that time for the next number of the view,
@@ -25,15 +23,7 @@ impl Node {
         if let Some(error) = self.order.proposal_refusal() {
             return Err(NodeError::from(error));
         }
-        let batch = self.pending_batch(time)?;
+        let batch = self.pending.batch(self.alloc, time)?;
         Ok(self.order.propose(&self.keys, batch)?)
-    }
-
-    // the requests are shared with the list of those that wait
-    fn pending_batch(&self, time: Time) -> Result<Arc<OrderedBatch>, Memory>
-        ensures { IfOk result (λ batch. arc_value batch ≡ pending_batch self.now time) }
-    {
-        let requests = self.pending.try_clone(self.alloc)?;
-        Ok(Arc::new(self.alloc, OrderedBatch::new(time, requests))?)
     }
 }

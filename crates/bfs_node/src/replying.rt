@@ -12,6 +12,7 @@ use bfs_replies::Answer;
 use bfs_types::Memory;
 use rayon::prelude::*;
 use std::alloc::{AllocError, Global};
+use std::sync::Arc;
 use std::thread::Threads;
 
 /// A REPLY, where there is its client.
@@ -59,14 +60,13 @@ fn tell(alloc: Global, keys: &Keys, order: &Order, answer: &Answer) -> MaybeTold
     if client as usize >= keys.clients() {
         return Ok(None);
     }
-    let message = Message::Reply(Reply::new(
-        alloc,
+    let message = Message::Reply(Reply::sharing(
         order.me(),
         order.view(),
         client,
         answer.timestamp(),
-        answer.reply(),
-    )?);
+        Arc::try_clone(answer.shared())?,
+    ));
     let auth = sign_text_for_client(alloc, keys, client, &message)?;
     Ok(Some(Signed { message, auth }))
 }

@@ -1,6 +1,5 @@
 // The primary proposes a batch.
 ghost use Rattle.std.specs.Prelude.{◌≡◌, ◌≢◌, ◌<◌, false, None, Some, IfSome, IfOk, IfErr, OnOk, OnErr};
-ghost use Rattle.std.specs.Arc.{arc_value};
 ghost use Rattle.bfs_log.specs.Headers.{header};
 ghost use Rattle.bfs_order.specs.Replica.Proposing.{greatest_taken, leads, lone_commits, own_proposal, proposal, proposal_refusal, proposed};
 ghost use Rattle.bfs_order.specs.Replica.Refusals.{is_there};
@@ -11,9 +10,8 @@ use crate::error::OrderError;
 use crate::order::Order;
 use crate::refusals::WINDOW;
 use bfs_auth::Keys;
-use bfs_messages::{Message, OrderedBatch, PrePrepare, Signed, Vote, sign};
+use bfs_messages::{HashedBatch, Message, PrePrepare, Signed, Vote, sign};
 use bfs_types::{MOST_NUMBER, Memory};
-use std::sync::Arc;
 
 impl Order {
     fn greatest_taken(&self) -> u64
@@ -47,11 +45,11 @@ impl Order {
         }
     }
 
-    fn own_proposal(&self, batch: Arc<OrderedBatch>) -> PrePrepare
+    fn own_proposal(&self, batch: HashedBatch) -> PrePrepare
         requires { proposal_refusal self.now ≡ None }
-        ensures { result ≡ own_proposal self.now (arc_value batch) }
+        ensures { result ≡ own_proposal self.now batch }
     {
-        PrePrepare::new(self.me, self.view, self.greatest_taken() + 1, batch)
+        PrePrepare::of_hashed(self.me, self.view, self.greatest_taken() + 1, batch)
     }
 
     /// Proposes a batch for the next number of the view, as its primary, and gives the PRE-PREPARE, which is to be sent to all other
@@ -60,11 +58,11 @@ impl Order {
     pub fn propose(
         &mut self,
         keys: &Keys,
-        batch: Arc<OrderedBatch>,
+        batch: HashedBatch,
     ) -> Result<Signed<Message>, OrderError>
         ensures taken { OnOk result (proposal_refusal self.old ≡ None) }
-        ensures now { OnOk result (self.new ≡ (proposed keys.now self.old (arc_value batch)).now) }
-        ensures sent { IfOk result (λ sent. sent ≡ proposal keys.now self.old (arc_value batch)) }
+        ensures now { OnOk result (self.new ≡ (proposed keys.now self.old batch).now) }
+        ensures sent { IfOk result (λ sent. sent ≡ proposal keys.now self.old batch) }
         ensures refused { IfErr result (λ e. e ≢ error.Memory → proposal_refusal self.old ≡ Some e) }
         ensures memory { IfErr result (λ e. e ≡ error.Memory → proposal_refusal self.old ≡ None) }
         ensures err { OnErr result (self.new ≡ self.old) }

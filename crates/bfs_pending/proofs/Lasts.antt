@@ -1,18 +1,20 @@
 -- The last one of a client and timestamp, in a list that changes.
-use Rattle.std.proofs.Common.{◌≡◌, ℕ, Bool, true, false, ◌&&◌, cond, List, [], ◌∷◌, ◌++◌, refl, ap, sym, ◌∙◌}
-use Rattle.std.specs.Prelude.{◌==◌, not, filter, Option, Some, None, if◌then◌else◌}
+use Rattle.std.proofs.Common.{◌≡◌, ℕ, Bool, true, false, ◌&&◌, cond, List, [], ◌∷◌, ◌++◌, zero, All, refl, ap, arith, subst, sym, ◌∙◌}
+use Rattle.std.specs.Prelude.{◌==◌, ◌||◌, is_some, not, filter, Option, Some, None, if◌then◌else◌}
 use Rattle.std.specs.Ordering.{ordering_then, nat_cmp, is_eq}
 use Rattle.std.specs.declared.cmp.Ordering.{Ordering}
 use Rattle.std.specs.declared.cmp.Ordering.TheVariants.{Less, Equal, Greater}
 use Rattle.std.specs.Cmp.{unsigned_tied}
 use Rattle.std.specs.BTreeMap as tree
-use Rattle.std.specs.Map.{lookup}
-use Rattle.std.proofs.lemmas.Bool.{and_parts, eqb-true, false≢true}
-use Rattle.std.proofs.lemmas.Map.Entries.{lookup-filter-keys}
+use Rattle.std.specs.List.{list_any}
+use Rattle.std.proofs.lemmas.Bool.{and_from, and_parts, eq-eqb, eqb-true, false≢true}
+use Rattle.std.proofs.lemmas.List.{append_assoc}
+use Rattle.std.proofs.lemmas.List.Elements.{All-tail}
+use Rattle.std.proofs.lemmas.List.Folds.{list_any-append}
 use Rattle.bfs_messages.specs.Messages.{Request}
 use Rattle.bfs_messages.specs.declared.signed.Signed.{Signed}
-use Rattle.bfs_pending.specs.Indexes.{Index, IsIndex}
-use Rattle.bfs_pending.specs.Names.{has_name, name_cmp, name_of}
+use Rattle.bfs_pending.specs.Indexes.{Index, IsIndex, left_of}
+use Rattle.bfs_pending.specs.Names.{name_cmp, name_of}
 use Rattle.bfs_pending.specs.Passed.{last_same, later}
 use Rattle.bfs_pending.specs.Requests.{is_same}
 use Rattle.bfs_pending.specs.declared.names.Name.{Name}
@@ -63,20 +65,60 @@ pushed waiting s before after index inserted one =
 
 -- Some leave -----------------------------------------------------------------------------------------------------------------
 
-abbrev stays : List Name → Signed Request → Bool
-stays names one = not (has_name names (name_of one))
+-- among those is one of that name
+abbrev among : List (Signed Request) → Name → Bool
+among requests p = list_any (λ other. (p.client == other.message.client) && (p.timestamp == other.message.timestamp)) requests
 
-kept_step : (names : List Name) (one other : Signed Request) (found rest : Option (Signed Request)) (keep stay same : Bool) → stays names other ≡ keep → stays names one ≡ stay → is_same other one ≡ same
-    → found ≡ (if stay then rest else None)
+abbrev stays : List (Signed Request) → Signed Request → Bool
+stays requests one = not (among requests (name_of one))
+
+same_self : (one : Signed Request) → is_same one one ≡ true
+same_self one =
+    let request : Request = one.message in
+    and_from (request.client == request.client) (request.timestamp == request.timestamp) (eq-eqb request.client request.client refl) (eq-eqb request.timestamp request.timestamp refl)
+
+same_flips : (one other : Signed Request) → is_same one other ≡ true → is_same other one ≡ true
+same_flips one other same =
+    let names : name_of one ≡ name_of other = one_name (name_of one) (name_of other) same in
+    subst (λ (p : Name). ((other.message.client == p.client) && (other.message.timestamp == p.timestamp)) ≡ true) (sym names) (same_self other)
+
+agree : (b c : Bool) → (b ≡ true → c ≡ true) → (c ≡ true → b ≡ true) → b ≡ c
+agree true c there back = sym (there refl)
+agree false true there back = back refl
+agree false false there back = refl
+
+same_either : (one other : Signed Request) → is_same one other ≡ is_same other one
+same_either one other = agree (is_same one other) (is_same other one) (same_flips one other) (same_flips other one)
+
+left_step : (front same : Bool) (found : Option (Signed Request)) → cond same None (if front then None else found) ≡ (if front || (same || false) then None else found)
+left_step true true found = refl
+left_step true false found = refl
+left_step false true found = refl
+left_step false false found = refl
+
+-- one more is forgotten
+pub forgot : (front : List (Signed Request)) (s one : Signed Request) (before : Option (Signed Request)) (now after : Index)
+    → tree.get name_cmp now (name_of one) ≡ left_of front one before
+    → ((q : Name) → tree.get name_cmp after q ≡ cond (tree.is_at (name_cmp (name_of s)) q) None (tree.get name_cmp now q))
+    → tree.get name_cmp after (name_of one) ≡ left_of (front ++ s ∷ []) one before
+forgot front s one before now after so_far removed =
+    removed (name_of one)
+    ∙ ap (λ b. cond b None (tree.get name_cmp now (name_of one))) (tied (name_of s) (name_of one) ∙ same_either s one)
+    ∙ ap (λ found. cond (is_same one s) None found) so_far
+    ∙ left_step (list_any (is_same one) front) (is_same one s) before
+    ∙ ap (λ (b : Bool). if b then None else before) (sym (list_any-append (is_same one) front (s ∷ [])))
+
+kept_step : (requests : List (Signed Request)) (one other : Signed Request) (found rest : Option (Signed Request)) (keep stay same : Bool) → stays requests other ≡ keep → stays requests one ≡ stay
+    → is_same other one ≡ same → found ≡ (if stay then rest else None)
     → cond keep (later found (if same then Some other else None)) found ≡ (if stay then later rest (if same then Some other else None) else None)
-kept_step names one other found rest true true same k s e h = ap (λ f. later f (if same then Some other else None)) h
-kept_step names one other found rest true false true k s e h =
-    absurd (false≢true (sym s ∙ ap (λ n. not (has_name names n)) (sym (one_name (name_of other) (name_of one) e)) ∙ k))
-kept_step names one other found rest true false false k s e h = ap (λ f. later f None) h
-kept_step names one other found rest false true true k s e h =
-    absurd (false≢true (sym k ∙ ap (λ n. not (has_name names n)) (one_name (name_of other) (name_of one) e) ∙ s))
-kept_step names one other found rest false true false k s e h = h ∙ sym (later_none rest)
-kept_step names one other found rest false false same k s e h = h
+kept_step requests one other found rest true true same k s e h = ap (λ f. later f (if same then Some other else None)) h
+kept_step requests one other found rest true false true k s e h =
+    absurd (false≢true (sym s ∙ ap (λ p. not (among requests p)) (sym (one_name (name_of other) (name_of one) e)) ∙ k))
+kept_step requests one other found rest true false false k s e h = ap (λ f. later f None) h
+kept_step requests one other found rest false true true k s e h =
+    absurd (false≢true (sym k ∙ ap (λ p. not (among requests p)) (one_name (name_of other) (name_of one) e) ∙ s))
+kept_step requests one other found rest false true false k s e h = h ∙ sym (later_none rest)
+kept_step requests one other found rest false false same k s e h = h
 
 last_cond : (one other : Signed Request) (more : List (Signed Request)) (keep : Bool)
     → last_same one (cond keep (other ∷ more) more) ≡ cond keep (later (last_same one more) (if is_same other one then Some other else None)) (last_same one more)
@@ -87,17 +129,64 @@ none_step : (b : Bool) → ◌≡◌ {A = Option (Signed Request)} None (if b th
 none_step true = refl
 none_step false = refl
 
-last_kept : (names : List Name) (one : Signed Request) (waiting : List (Signed Request)) → last_same one (filter (stays names) waiting) ≡ (if stays names one then last_same one waiting else None)
-last_kept names one [] = none_step (stays names one)
-last_kept names one (other ∷ waiting) =
-    last_cond one other (filter (stays names) waiting) (stays names other)
-    ∙ kept_step names one other (last_same one (filter (stays names) waiting)) (last_same one waiting) (stays names other) (stays names one) (is_same other one) refl refl refl (last_kept names one waiting)
+last_kept : (requests : List (Signed Request)) (one : Signed Request) (waiting : List (Signed Request))
+    → last_same one (filter (stays requests) waiting) ≡ (if stays requests one then last_same one waiting else None)
+last_kept requests one [] = none_step (stays requests one)
+last_kept requests one (other ∷ waiting) =
+    last_cond one other (filter (stays requests) waiting) (stays requests other)
+    ∙ kept_step requests one other (last_same one (filter (stays requests) waiting)) (last_same one waiting) (stays requests other) (stays requests one) (is_same other one) refl refl refl
+    (last_kept requests one waiting)
 
-pub dropped : (names : List Name) (waiting : List (Signed Request)) (before after : Index) → IsIndex before waiting
-    → after.entries ≡ filter (λ e. not (has_name names e.0)) before.entries → IsIndex after (filter (stays names) waiting)
-dropped names waiting before after index kept one =
-    let at = tree.is_at (name_cmp (name_of one)) in
-    ap (lookup at) kept
-    ∙ lookup-filter-keys at (λ n. not (has_name names n)) (stays names one) (λ q here. ap (λ n. not (has_name names n)) (sym (one_name (name_of one) q (sym (tied (name_of one) q) ∙ here)))) before.entries
-    ∙ ap (λ found. cond (stays names one) found None) (index one)
-    ∙ sym (last_kept names one waiting)
+turned : (b : Bool) (found : Option (Signed Request)) → (if b then None else found) ≡ (if not b then found else None)
+turned true found = refl
+turned false found = refl
+
+-- the index without what was forgotten is that of those that are left
+pub dropped : (requests waiting : List (Signed Request)) (before after : Index) → IsIndex before waiting
+    → ((one : Signed Request) → tree.get name_cmp after (name_of one) ≡ left_of requests one (tree.get name_cmp before (name_of one)))
+    → IsIndex after (filter (stays requests) waiting)
+dropped requests waiting before after index left one =
+    left one ∙ ap (left_of requests one) (index one) ∙ turned (among requests (name_of one)) (last_same one waiting) ∙ sym (last_kept requests one waiting)
+
+found_later : (found first : Option (Signed Request)) → is_some found ≡ true → is_some (later found first) ≡ true
+found_later (Some one) first is = refl
+found_later None first is = absurd (false≢true is)
+
+found_first : (found : Option (Signed Request)) (one : Signed Request) → is_some (later found (Some one)) ≡ true
+found_first None one = refl
+found_first (Some it) one = refl
+
+-- one that waits is found
+last_here : (one : Signed Request) (front more : List (Signed Request)) → is_some (last_same one (front ++ one ∷ more)) ≡ true
+last_here one [] more =
+    ap (λ (b : Bool). is_some (later (last_same one more) (if b then Some one else None))) (same_self one) ∙ found_first (last_same one more) one
+last_here one (other ∷ front) more = found_later (last_same one (front ++ one ∷ more)) (if is_same other one then Some other else None) (last_here one front more)
+
+is_left : (b : Bool) (found : Option (Signed Request)) → is_some found ≡ true → is_some (if b then None else found) ≡ not b
+is_left true found is = refl
+is_left false found is = is
+
+abbrev found_in : Index → Signed Request → Bool
+found_in index one = is_some (tree.get name_cmp index (name_of one))
+
+-- of those that wait, the ones stay that are still found
+pub left_behind : (requests : List (Signed Request)) (before after : Index) (front rest : List (Signed Request)) → IsIndex before (front ++ rest)
+    → ((one : Signed Request) → tree.get name_cmp after (name_of one) ≡ left_of requests one (tree.get name_cmp before (name_of one)))
+    → filter (found_in after) rest ≡ filter (stays requests) rest
+left_behind requests before after front [] index left = refl
+left_behind requests before after front (one ∷ rest) index left =
+    let stay : found_in after one ≡ stays requests one =
+    ap (λ (found : Option (Signed Request)). is_some found) (left one ∙ ap (left_of requests one) (index one))
+    ∙ is_left (among requests (name_of one)) (last_same one (front ++ one ∷ rest)) (last_here one front rest) in
+    ap (λ (kept : List (Signed Request)). cond (found_in after one) (one ∷ kept) kept)
+    (left_behind requests before after (front ++ one ∷ []) rest (subst (IsIndex before) (sym (append_assoc front (one ∷ []) rest)) index) left)
+    ∙ ap (λ b. cond b (one ∷ filter (stays requests) rest) (filter (stays requests) rest)) stay
+
+-- where each is among those that leave
+pub all_leave : (requests waiting : List (Signed Request)) → All (λ one. list_any (is_same one) requests ≡ true) waiting
+    → filter (λ one. not (list_any (is_same one) requests)) waiting ≡ []
+all_leave requests [] all = refl
+all_leave requests (one ∷ waiting) all =
+    let here : list_any (is_same one) requests ≡ true = all zero one (omega arith) in
+    ap (λ kept. cond (stays requests one) (one ∷ kept) kept) (all_leave requests waiting (All-tail (λ one. list_any (is_same one) requests ≡ true) one waiting all))
+    ∙ ap (λ (b : Bool). cond (not b) (one ∷ []) []) here

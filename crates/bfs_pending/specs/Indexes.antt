@@ -1,11 +1,14 @@
 -- What stands beside the list of requests that wait.
-use Rattle.std.specs.Prelude.{◌≡◌, ◌≤◌, List, length}
+use Rattle.std.specs.Prelude.{◌≡◌, ◌≤◌, List, length, Option, None, Some, IfSome, if◌then◌else◌}
+use Rattle.std.specs.Option.{option_map}
+use Rattle.std.specs.List.{list_any}
 use Rattle.std.specs.BTreeMap.{BTreeMap, get}
 use Rattle.bfs_model.specs.Server.Limits.{most_requests}
-use Rattle.bfs_messages.specs.Messages.{Request}
+use Rattle.bfs_messages.specs.Messages.{Batch, Request, Requests}
 use Rattle.bfs_messages.specs.declared.signed.Signed.{Signed}
 use Rattle.bfs_pending.specs.Names.{name_cmp, name_of}
 use Rattle.bfs_pending.specs.Passed.{last_same}
+use Rattle.bfs_pending.specs.Requests.{is_same}
 use Rattle.bfs_pending.specs.declared.names.Name.{Name}
 
 abbrev pub Index : Type 0
@@ -15,6 +18,14 @@ Index = BTreeMap Name (Signed Request)
 abbrev pub IsIndex : Index → List (Signed Request) → Type 0
 IsIndex index waiting = (one : Signed Request) → get name_cmp index (name_of one) ≡ last_same one waiting
 
+-- what is found of that client and timestamp once those are forgotten
+abbrev pub left_of : List (Signed Request) → Signed Request → Option (Signed Request) → Option (Signed Request)
+left_of forgotten one found = if list_any (is_same one) forgotten then None else found
+
 pub record IsIndexed (waiting : List (Signed Request)) (index : Index) : Type 0 where
   pub few : length waiting ≤ most_requests
   pub lasts : IsIndex index waiting
+
+-- the batch that is kept, if one is, has all that wait
+abbrev pub AreHashed : (waiting : List (Signed Request)) → Option Batch → Type 0
+AreHashed waiting kept = IfSome kept (λ batch. option_map (λ (requests : Requests). requests.requests) batch ≡ Some waiting)

@@ -5,5 +5,4 @@ mod checking;
 mod names;
 mod waiting;
 
-pub use names::BatchNames;
 pub use waiting::PendingRequests;

@@ -1,42 +1,49 @@
-ghost use Rattle.std.specs.Prelude.{◌≡◌, ◌<◌, ◌≤◌, [], ◌∷◌, ◌++◌, true, length, nat_le, vec_len, IfOk, OnOk, OnErr};
+ghost use Rattle.std.specs.BTreeMap.{get};
+ghost use Rattle.std.specs.List.{list_any};
+ghost use Rattle.std.specs.Prelude.{◌≡◌, ◌<◌, ◌≤◌, [], ◌∷◌, ◌++◌, Some, All, IsTrue, true, filter, length, nat_le, not, vec_len, IfOk, OnOk, OnErr};
 ghost use Rattle.bfs_model.specs.Server.Limits.{most_requests};
-ghost use Rattle.bfs_messages.specs.Messages.{Batch};
+ghost use Rattle.bfs_messages.specs.Messages as model;
 ghost use Rattle.bfs_auth.specs.Keys.{Keys as Secrets};
 ghost use Rattle.bfs_messages.specs.Signing.{request_is_signed};
-ghost use Rattle.bfs_pending.specs.Names.{AreNamesOf};
+ghost use Rattle.bfs_messages.specs.declared.signed.Signed as declared;
+ghost use Rattle.bfs_pending.specs.Indexes.{AreHashed, left_of};
+ghost use Rattle.bfs_pending.specs.Names.{name_cmp, name_of};
 ghost use Rattle.bfs_pending.specs.Passed.{HavePassed, waits};
-ghost use Rattle.bfs_pending.specs.Requests.{without};
+ghost use Rattle.bfs_pending.specs.Requests.{is_same, without};
 
 use crate::checking::is_alike;
-use crate::names::{BatchNames, Name, name_of};
+use crate::names::{Name, name_of};
 use bfs_auth::Principal;
-use bfs_messages::{Request, Signed};
-use bfs_types::{MOST_REQUESTS, Memory};
+use bfs_messages::{HashedBatch, OrderedBatch, Request, Signed};
+use bfs_types::{MOST_REQUESTS, Memory, Time};
 use std::alloc::Global;
 use std::collections::BTreeMap;
 use std::marker::Model;
+use std::sync::Arc;
 
 /// The requests that wait to be ordered, in the order in which they came. There are at most as many as a batch can have.
 ///
-/// Beside them stands the last one of each client and timestamp, so that one is found by one look-up. It shares the call.
+/// Beside them stands the last one of each client and timestamp, so that one is found by one look-up. It shares the call. A batch of all that
+/// wait may stand there too, with its digest.
 #[derive(Drop)]
 pub struct PendingRequests {
     alloc: Global,
     requests: Vec<Signed<Request>>,
     last: BTreeMap<Name, Signed<Request>>,
+    hashed: Option<HashedBatch>,
 }
 
 impl Model for PendingRequests {
     ghost use Rattle.std.specs.Prelude.{List};
     ghost use Rattle.bfs_messages.specs.Messages as model;
     ghost use Rattle.bfs_messages.specs.declared.signed.Signed as declared;
-    ghost use Rattle.bfs_pending.specs.Indexes.{IsIndexed};
+    ghost use Rattle.bfs_pending.specs.Indexes.{AreHashed, IsIndexed};
 
     ghost Value = { List (declared.Signed model.Request) };
 
     ghost view = { λ pending. pending.requests.items };
 
-    ghost invariant = { λ pending. IsIndexed pending.requests.items pending.last };
+    ghost invariant = { λ pending. IsIndexed pending.requests.items pending.last × AreHashed pending.requests.items pending.hashed };
 }
 
 impl PendingRequests {
@@ -48,6 +55,7 @@ impl PendingRequests {
             alloc,
             requests: Vec::new(alloc),
             last: BTreeMap::new(alloc),
+            hashed: None,
         }
     }
 
@@ -94,12 +102,34 @@ impl PendingRequests {
     {
         let name = name_of(&signed);
         let copy = signed.try_clone(self.alloc)?;
+        self.hashed = None;
         self.requests.push(signed)?;
         match self.last.insert(name, copy) {
             Ok(_) => Ok(()),
             Err(refused) => {
                 self.requests.pop();
                 Err(Memory::from(refused))
+            }
+        }
+    }
+
+    /// A batch of all that wait is kept with its digest, until others wait.
+    pub fn keep_hashed(&mut self, batch: HashedBatch)
+        requires { AreHashed self.old (Some batch) }
+        ensures { self.new ≡ self.old }
+    {
+        self.hashed = Some(batch);
+    }
+
+    /// Those that wait as a batch of that time, with its digest. It shares the calls. `Memory` if memory runs out.
+    pub fn batch(&self, alloc: Global, time: Time) -> Result<HashedBatch, Memory>
+        ensures { IfOk result (λ batch. batch ≡ Some (record { time = time; requests = self.now })) }
+    {
+        match &self.hashed {
+            Some(hashed) if hashed.batch().time() == Some(time) => hashed.try_clone(),
+            _ => {
+                let batch = OrderedBatch::new(time, self.try_clone(alloc)?);
+                Ok(HashedBatch::new(Arc::new(alloc, batch)?))
             }
         }
     }
@@ -117,16 +147,59 @@ impl PendingRequests {
         Ok(copies)
     }
 
-    /// Those leave that stand in the batch of these names; the others stay in their order. It takes no memory.
-    pub fn drop_batch(&mut self, names: &BatchNames)
-        ensures now { (batch : Batch) → AreNamesOf batch names.now → self.new ≡ without self.old batch }
+    /// Those leave of whose client and timestamp one stands in the batch; the others stay in their order. It takes no memory.
+    pub fn drop_batch(&mut self, batch: &OrderedBatch)
+        ensures now { self.new ≡ without self.old batch.now }
         ensures passed { (keys : Secrets) → HavePassed keys self.old → HavePassed keys self.new }
     {
-        self.requests.retain(|signed| !names.has(signed));
-        if self.requests.is_empty() {
-            self.last = BTreeMap::new(self.alloc);
+        let requests = batch.requests();
+        if are_named_alike(self.requests.as_slice(), requests) {
+            self.clear();
         } else {
-            self.last.retain(|name, _| !names.has_name(name));
+            self.drop_named(requests);
         }
+    }
+
+    fn clear(&mut self)
+        ensures { self.new ≡ [] }
+    {
+        self.hashed = None;
+        self.requests.clear();
+        self.last = BTreeMap::new(self.alloc);
+    }
+
+    fn drop_named(&mut self, requests: &[Signed<Request>])
+        ensures now { self.new ≡ filter (λ one. not (list_any (is_same one) requests.now)) self.old }
+        ensures passed { (keys : Secrets) → HavePassed keys self.old → HavePassed keys self.new }
+    {
+        self.hashed = None;
+        forget(&mut self.last, requests);
+        let last = &self.last;
+        self.requests
+            .retain(|signed| last.contains_key(&name_of(signed)));
+    }
+}
+
+// Whether one after another has the client and timestamp of the other list's. So it is in most batches, which are found out without a look-up.
+fn are_named_alike(waiting: &[Signed<Request>], requests: &[Signed<Request>]) -> bool
+    ensures { IsTrue result → All (λ one. list_any (is_same one) requests.now ≡ true) waiting.now }
+{
+    if waiting.len() != requests.len() {
+        return false;
+    }
+    for number in 0..waiting.len() {
+        if name_of(&waiting[number]) != name_of(&requests[number]) {
+            return false;
+        }
+    }
+    true
+}
+
+// None is found any more of whose client and timestamp one is among those.
+fn forget(last: &mut BTreeMap<Name, Signed<Request>>, requests: &[Signed<Request>])
+    ensures { (one : declared.Signed model.Request) → get name_cmp last.new (name_of one) ≡ left_of requests.now one (get name_cmp last.old (name_of one)) }
+{
+    for signed in requests {
+        last.remove(&name_of(signed));
     }
 }

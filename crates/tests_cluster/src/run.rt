@@ -45,11 +45,38 @@ pub fn null_request(
     client: u32,
     timestamp: u32,
 ) -> Result<Signed<Message>, Fail> {
-    let bytes = null_call(alloc, timestamp)?;
-    if bytes.len() > 1_000 {
+    sign(
+        alloc,
+        clients,
+        client,
+        timestamp,
+        &null_call(alloc, timestamp)?,
+    )
+}
+
+/// The same with so many bytes behind it that threads check a few of them.
+pub fn large_request(
+    alloc: Global,
+    clients: &Clients,
+    client: u32,
+    timestamp: u32,
+) -> Result<Signed<Message>, Fail> {
+    let mut bytes = null_call(alloc, timestamp)?;
+    bytes.resize(8_192, 0)?;
+    sign(alloc, clients, client, timestamp, &bytes)
+}
+
+fn sign(
+    alloc: Global,
+    clients: &Clients,
+    client: u32,
+    timestamp: u32,
+    bytes: &[u8],
+) -> Result<Signed<Message>, Fail> {
+    if bytes.len() > 10_000 {
         return Err("a call that is too long".into());
     }
-    let request = Request::new(alloc, client, timestamp as u64, &bytes)?;
+    let request = Request::new(alloc, client, timestamp as u64, bytes)?;
     Ok(clients.sign(request)?.ok_or("a client")?)
 }
 

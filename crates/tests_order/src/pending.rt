@@ -1,7 +1,7 @@
 //! Requests wait until a batch in which they stand is executed.
 use bfs_auth::{Authenticator, MOST_REPLICAS, Principal};
 use bfs_messages::{OrderedBatch, Request, Signed};
-use bfs_pending::{BatchNames, PendingRequests};
+use bfs_pending::PendingRequests;
 use bfs_testing::{holds, same};
 use bfs_types::{MOST_REQUESTS, Memory, Time};
 use std::alloc::Global;
@@ -44,8 +44,22 @@ fn waiting(alloc: Global, names: &[Name]) -> Result<PendingRequests, Memory> {
 
 fn batch(alloc: Global, names: &[Name]) -> Result<OrderedBatch, Memory> {
     let requests = waiting(alloc, names)?.try_clone(alloc)?;
-    let time = Time::new(1, 0).ok_or(Memory)?;
-    Ok(OrderedBatch::new(time, requests))
+    Ok(OrderedBatch::new(at(1)?, requests))
+}
+
+fn at(seconds: u32) -> Result<Time, Memory> {
+    Time::new(seconds, 0).ok_or(Memory)
+}
+
+// Whether those that wait are a batch of that digest, at a time.
+fn has_batch(
+    alloc: Global,
+    pending: &PendingRequests,
+    seconds: u32,
+    digest: &[u8; 32],
+) -> Result<bool, Memory> {
+    let (batch, hashed) = pending.batch(alloc, at(seconds)?)?.into_parts();
+    Ok(hashed == *digest && batch.digest() == *digest)
 }
 
 fn are(requests: &[Signed<Request>], names: &[Name]) -> bool {
@@ -56,7 +70,7 @@ fn are(requests: &[Signed<Request>], names: &[Name]) -> bool {
 }
 
 fn drop_batch(alloc: Global, pending: &mut PendingRequests, names: &[Name]) -> Result<(), Memory> {
-    pending.drop_batch(&BatchNames::of(alloc, &batch(alloc, names)?)?);
+    pending.drop_batch(&batch(alloc, names)?);
     Ok(())
 }
 
@@ -92,13 +106,20 @@ fn what_waits_is_found_until_it_leaves(rt: HostRuntime) -> Result<(), Fail> {
 }
 
 #[test]
-fn a_request_is_found_by_client_and_timestamp(rt: HostRuntime) -> Result<(), Fail> {
+fn a_batch_of_all_that_wait_is_kept_until_others_do(rt: HostRuntime) -> Result<(), Fail> {
     let alloc = rt.alloc();
-    let names = BatchNames::of(alloc, &batch(alloc, &[(3, 5), (4, 6)])?)?;
-    holds!(rt; names.has(&request(alloc, 3, 5)?));
-    holds!(rt; names.has(&request(alloc, 4, 6)?));
-    holds!(rt; !names.has(&request(alloc, 3, 6)?));
-    holds!(rt; !names.has(&request(alloc, 5, 5)?));
+    let mut pending = waiting(alloc, &[(3, 5), (4, 5)])?;
+    let kept = pending.batch(alloc, at(1)?)?;
+    let digest = batch(alloc, &[(3, 5), (4, 5)])?.digest();
+    pending.keep_hashed(kept);
+    holds!(rt; has_batch(alloc, &pending, 1, &digest)?);
+    // another time
+    holds!(rt; !has_batch(alloc, &pending, 2, &digest)?);
+    // one more, and one less
+    put(&mut pending, request(alloc, 3, 6)?)?;
+    holds!(rt; has_batch(alloc, &pending, 1, &batch(alloc, &[(3, 5), (4, 5), (3, 6)])?.digest())?);
+    drop_batch(alloc, &mut pending, &[(3, 6)])?;
+    holds!(rt; has_batch(alloc, &pending, 1, &digest)?);
     Ok(())
 }
 

@@ -1,7 +1,7 @@
 //! A replica among 3f + 1, with its keys. What is done to it comes to an answer, and to nothing that a contract says.
 use crate::parts::{Told, keys_of, null};
 use bfs_auth::{Keys, Principal};
-use bfs_messages::{Message, Signed};
+use bfs_messages::{HashedBatch, Message, Signed};
 use bfs_order::{Order, OrderError};
 use bfs_pending::PendingRequests;
 use bfs_types::Memory;
@@ -168,7 +168,7 @@ impl Replica {
 
     /// It proposes the null request.
     pub fn propose(&mut self) -> Result<Answer, Memory> {
-        let batch = null(self.alloc)?;
+        let batch = HashedBatch::new(null(self.alloc)?);
         Ok(proposed(self.order.propose(&self.keys, batch)))
     }
 

@@ -1,5 +1,4 @@
 use Rattle.std.proofs.Common.{ap, ◌∙◌}
-use Rattle.std.specs.Arc.{arc_value}
 use Rattle.bfs_messages.specs.Messages as model
 use Rattle.bfs_messages.specs.declared.message.Message.TheVariants.{PrePrepare}
 use Rattle.bfs_messages.specs.Signing.{signed_by}
@@ -8,5 +7,5 @@ use Rattle.bfs_order.proofs.order.Order.propose.Goals as goal
 
 pub add_proposal-requires-clause-free : goal.add_proposal-requires-clause-free
 add_proposal-requires-clause-free c =
-    next_is_free c.args.keys.now c.args.self.now (arc_value c.args.batch) c.in_ok-try_clone.field-0
+    next_is_free c.args.keys.now c.args.self.now c.args.batch c.in_ok-try_clone.field-0
     (c.in_ok-try_clone.ensures ∙ c.in_ok-sent.ensures ∙ ap (λ (p : model.PrePrepare). signed_by c.args.keys.now (PrePrepare p)) c.own_proposal-own.ensures)
