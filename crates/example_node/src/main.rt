@@ -87,11 +87,11 @@ fn turn<R: Threads + Wait + Sync>(
         Err(NodeError::Memory) => return Err(NodeError::Memory.into()),
         Err(_) => (),
     }
-    let executor = Executor {
-        workers: Workers::one(),
-        engine: None,
-    };
     for _ in rt.forever() {
+        let executor = Executor {
+            workers: Workers::one(),
+            engine: None,
+        };
         let Some(replies) = node.execute_ready(rt, executor, &NoGate)? else {
             return Ok(());
         };
