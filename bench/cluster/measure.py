@@ -1,6 +1,7 @@
 #!/usr/bin/env python3
 """`measure.py PROGRAM` prints, by the program of main.txt, what a batch of 1,024 requests takes a run of one replica and one of four: on one processor
-and on all, beside what must be hashed for it and its executions one after another; and the memory of each run.
+and on all, beside what must be hashed for it and its executions one after another; and the memory of each run. A run has 24 batches, of which the least
+counts; the first ones of a process take longer.
 
 What must be hashed, for n replicas: the client signs a request for each; each checks it when it comes, and not again in the PRE-PREPARE; each hashes
 the batch; each signs its reply, and the client checks each. Counted in blocks of SHA-256, at the speed of the kit's `sha2`.
@@ -10,7 +11,7 @@ import subprocess
 import sys
 import time
 
-SECONDS, BATCHES, REQUESTS = 25, "6", 1_024
+SECONDS, BATCHES, REQUESTS = 25, "24", 1_024
 CALLS = {"getattr": 72, "write": 8_280}  # bytes of a call
 REPLY = 32 + 96  # bytes of what is signed of a reply, with attributes as its result
 
