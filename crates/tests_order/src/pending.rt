@@ -5,6 +5,7 @@ use bfs_pending::PendingRequests;
 use bfs_testing::{holds, same};
 use bfs_types::{MOST_REQUESTS, Memory, Time};
 use std::alloc::Global;
+use std::sync::Arc;
 use std::test::Fail;
 
 // A client and a timestamp.
@@ -62,6 +63,12 @@ fn has_batch(
     Ok(hashed == *digest && batch.digest() == *digest)
 }
 
+// How many share a batch of those that wait, at a time.
+fn sharers(alloc: Global, pending: &PendingRequests, seconds: u32) -> Result<usize, Memory> {
+    let hashed = pending.batch(alloc, at(seconds)?)?;
+    Ok(Arc::strong_count(hashed.batch()))
+}
+
 fn are(requests: &[Signed<Request>], names: &[Name]) -> bool {
     requests.len() == names.len()
         && requests.iter().zip(names).all(|(signed, name)| {
@@ -111,12 +118,16 @@ fn a_batch_of_all_that_wait_is_kept_until_others_do(rt: HostRuntime) -> Result<(
     let mut pending = waiting(alloc, &[(3, 5), (4, 5)])?;
     let kept = pending.batch(alloc, at(1)?)?;
     let digest = batch(alloc, &[(3, 5), (4, 5)])?.digest();
+    same!(rt; sharers(alloc, &pending, 1)?, 1);
     pending.keep_hashed(kept);
+    same!(rt; sharers(alloc, &pending, 1)?, 2);
     holds!(rt; has_batch(alloc, &pending, 1, &digest)?);
     // another time
+    same!(rt; sharers(alloc, &pending, 2)?, 1);
     holds!(rt; !has_batch(alloc, &pending, 2, &digest)?);
     // one more, and one less
     put(&mut pending, request(alloc, 3, 6)?)?;
+    same!(rt; sharers(alloc, &pending, 1)?, 1);
     holds!(rt; has_batch(alloc, &pending, 1, &batch(alloc, &[(3, 5), (4, 5), (3, 6)])?.digest())?);
     drop_batch(alloc, &mut pending, &[(3, 6)])?;
     holds!(rt; has_batch(alloc, &pending, 1, &digest)?);
