@@ -1,4 +1,5 @@
-//! One replica, as tests: a request's way through it, what it refuses, what waits when a batch comes, its checkpoints, and what it adopts.
+//! One replica, as tests: a request's way through it, what it refuses, what waits when a batch comes, when a batch is hashed, its checkpoints,
+//! and what it adopts.
 #![tactic(auto)]
 
 #[cfg(test)]
@@ -7,6 +8,8 @@ mod adoption;
 mod alone;
 #[cfg(test)]
 mod behind;
+#[cfg(test)]
+mod hashing;
 #[cfg(test)]
 mod parts;
 #[cfg(test)]

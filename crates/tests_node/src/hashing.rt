@@ -1,0 +1,75 @@
+//! A primary hashes a batch while the requests in it come, and proposes that one.
+use crate::replica::{CLIENTS, SECRET, replica};
+use bfs_auth::{Keys, Principal};
+use bfs_messages::{Message, Request, Signed, sign};
+use bfs_node::Node;
+use bfs_testing::same;
+use bfs_types::{Memory, Time};
+use std::alloc::Global;
+use std::sync::Arc;
+use std::test::Fail;
+use std::thread::Threads;
+
+// so long that a few are enough for a thread
+const CALL: &[u8] = &[0; 8_192];
+
+fn request(alloc: Global, keys: &Keys, timestamp: u64) -> Result<Signed<Message>, Memory> {
+    if CALL.len() > 10_000 {
+        return Err(Memory);
+    }
+    let request = Request::new(alloc, 3, timestamp, CALL)?;
+    sign(alloc, keys, Message::Request(request))
+}
+
+fn requests(alloc: Global, count: u64) -> Result<Vec<Signed<Message>>, Memory> {
+    let keys = Keys::derive(alloc, SECRET, Principal::Client(3), 4, CLIENTS)?;
+    let mut all = Vec::new(alloc);
+    for timestamp in 0..count {
+        all.push(request(alloc, &keys, timestamp)?)?;
+    }
+    Ok(all)
+}
+
+fn take<R: Threads + Sync>(
+    rt: &R,
+    node: &mut Node,
+    time: Time,
+    messages: &[Signed<Message>],
+) -> Result<(), Memory> {
+    node.take_requests_for(rt, time, messages)
+}
+
+// how many share the batch
+fn propose(node: &mut Node, time: Time) -> Result<usize, Memory> {
+    let Ok(signed) = node.propose(time) else {
+        return Err(Memory);
+    };
+    match &signed.message {
+        Message::PrePrepare(proposal) => Ok(Arc::strong_count(proposal.batch())),
+        _ => Err(Memory),
+    }
+}
+
+// So many come to the primary of four before it proposes at 1.000000, and it proposes at that many seconds.
+fn sharers<R: Threads + Sync>(
+    rt: &R,
+    alloc: Global,
+    count: u64,
+    seconds: u32,
+) -> Result<usize, Memory> {
+    let mut node = replica(alloc, 1, 0)?;
+    let before = Time::new(1, 0).ok_or(Memory)?;
+    take(rt, &mut node, before, &requests(alloc, count)?)?;
+    propose(&mut node, Time::new(seconds, 0).ok_or(Memory)?)
+}
+
+#[test]
+fn a_batch_is_hashed_while_its_requests_come(rt: HostRuntime) -> Result<(), Fail> {
+    let alloc = rt.alloc();
+    // the PRE-PREPARE, the log and its index, and what waits, which had it first
+    same!(rt; sharers(&rt, alloc, 8, 1)?, 4);
+    // at another time, and where there is too little for a thread, it is made when it is proposed
+    same!(rt; sharers(&rt, alloc, 8, 2)?, 3);
+    same!(rt; sharers(&rt, alloc, 1, 1)?, 3);
+    Ok(())
+}
