@@ -1,1 +1,3 @@
+mod Below
 mod Counts
+pub mod Public

@@ -1,3 +1,4 @@
 -- What the contracts of bfs_agreement and of the crates above it cite.
+pub mod Tags
 pub mod Votes
 pub mod Laws

@@ -1,8 +1,9 @@
 -- Messages by their headers, and what messages tell of a batch or a checkpoint (OSDI 1999 sections 4.2 and 4.3). Senders are counted, not messages.
 use Rattle.std.specs.Prelude.{◌≡◌, ℕ, zero, suc, ◌+◌, ◌*◌, ◌%◌, ◌==◌, Bool, true, false, ◌&&◌, ◌||◌, not, cond, List, [], ◌∷◌, bytes_eq, nat_le}
 use Rattle.std.specs.List.{list_any}
+use Rattle.bfs_agreement.specs.Tags.{checkpoint_tag, commit_tag, pre_prepare_tag, prepare_tag}
 
--- what a message says: the tag is that of its text (2 PRE-PREPARE, 3 PREPARE, 4 COMMIT, 5 CHECKPOINT). A CHECKPOINT has no view: its view is 0 here
+-- what a message says: the tag is that of its text (Tags). A CHECKPOINT has no view: its view is 0 here
 pub record Header : Type 0 where
   pub tag : ℕ
   pub sender : ℕ
@@ -58,21 +59,21 @@ tellers f log tag view number digest = count_below (λ k. told log tag k view nu
 
 -- how many replicas other than the primary have told it by a PREPARE (OSDI 1999 section 4.2)
 abbrev pub backups : (f : ℕ) → List Header → (view number : ℕ) → List ℕ → ℕ
-backups f log view number digest = count_below (λ k. not (k == primary f view) && told log 3 k view number digest) (replicas f)
+backups f log view number digest = count_below (λ k. not (k == primary f view) && told log prepare_tag k view number digest) (replicas f)
 
 -- the primary's PRE-PREPARE and 2f matching PREPAREs of different backups (OSDI 1999 section 4.2)
 abbrev pub is_backed : (f : ℕ) → List Header → (view number : ℕ) → List ℕ → Bool
-is_backed f log view number digest = told log 2 (primary f view) view number digest && nat_le (2 * f) (backups f log view number digest)
+is_backed f log view number digest = told log pre_prepare_tag (primary f view) view number digest && nat_le (2 * f) (backups f log view number digest)
 
 -- backed, and by the own PREPARE, which the primary has none of (OSDI 1999 section 4.2)
 abbrev pub prepared : (f me : ℕ) → List Header → (view number : ℕ) → List ℕ → Bool
-prepared f me log view number digest = is_backed f log view number digest && ((me == primary f view) || told log 3 me view number digest)
+prepared f me log view number digest = is_backed f log view number digest && ((me == primary f view) || told log prepare_tag me view number digest)
 
 -- prepared, and 2f + 1 matching COMMITs, the own one among them: committed-local (OSDI 1999 section 4.2)
 abbrev pub committed : (f me : ℕ) → List Header → (view number : ℕ) → List ℕ → Bool
 committed f me log view number digest =
-    prepared f me log view number digest && (nat_le (2 * f + 1) (tellers f log 4 view number digest) && told log 4 me view number digest)
+    prepared f me log view number digest && (nat_le (2 * f + 1) (tellers f log commit_tag view number digest) && told log commit_tag me view number digest)
 
 -- 2f + 1 CHECKPOINTs with that number and digest (OSDI 1999 section 4.3)
 abbrev pub is_stable : (f : ℕ) → List Header → (number : ℕ) → List ℕ → Bool
-is_stable f log number digest = nat_le (2 * f + 1) (tellers f log 5 0 number digest)
+is_stable f log number digest = nat_le (2 * f + 1) (tellers f log checkpoint_tag 0 number digest)

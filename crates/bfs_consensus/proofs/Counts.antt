@@ -4,6 +4,7 @@ use Rattle.std.proofs.lemmas.Bool.{eqb-false}
 use Rattle.bfs_agreement.specs.Laws.{QuorumsMeet}
 use Rattle.bfs_agreement.specs.Votes.{count_below, replicas}
 use Rattle.bfs_consensus.specs.Histories.{FewAreFaulty}
+use Rattle.bfs_agreement.proofs.Public.{more, more_below}
 
 -- any two sets of 2f + 1 replicas share a correct one
 abbrev pub QuorumsShare : (f : ℕ) (faulty : ℕ → Bool) → Type 0
@@ -12,20 +13,6 @@ QuorumsShare f faulty = (one other : ℕ → Bool) → 2 * f + 1 ≤ count_below
 
 pub quorums_share : QuorumsMeet → (f : ℕ) (faulty : ℕ → Bool) → FewAreFaulty f faulty → QuorumsShare f faulty
 quorums_share meet f faulty few = λ one other p q. meet f one other faulty p q few
-
-step_more : (a b : Bool) (x y : ℕ) → (a ≡ true → b ≡ true) → x ≤ y → cond a (1 + x) x ≤ cond b (1 + y) y
-step_more true true x y i h = omega arith
-step_more true false x y i h = let e : false ≡ true = i refl in absurd cc
-step_more false true x y i h = omega arith
-step_more false false x y i h = omega arith
-
--- what passes one test below a bound passes the other
-pub more_below : (p q : ℕ → Bool) (n : ℕ) → ((k : ℕ) → k < n → p k ≡ true → q k ≡ true) → count_below p n ≤ count_below q n
-more_below p q zero i = omega arith
-more_below p q (suc n) i = step_more (p n) (q n) (count_below p n) (count_below q n) (i n (omega arith)) (more_below p q n (λ k low. i k (omega (arith, low))))
-
-pub more : (p q : ℕ → Bool) (n : ℕ) → ((k : ℕ) → p k ≡ true → q k ≡ true) → count_below p n ≤ count_below q n
-more p q n i = more_below p q n (λ k low. i k)
 
 step_one : (e a : Bool) (x y : ℕ) → (e ≡ true → x ≤ y) → (e ≡ false → x + 1 ≤ y) → cond (not e && a) (1 + x) x + 1 ≤ cond (e || a) (1 + y) y
 step_one true a x y h g = let k : x ≤ y = h refl in omega arith

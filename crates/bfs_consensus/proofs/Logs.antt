@@ -4,7 +4,7 @@ use Rattle.std.proofs.lemmas.Bool.{and_parts, and_from, and_cases, or_cases, or_
 use Rattle.std.proofs.lemmas.List.Folds.{list_any-append}
 use Rattle.bfs_agreement.specs.Votes.{Header, is_slot, has_slot, says, told, Told, count_below, primary, is_backed, prepared, replicas}
 use Rattle.bfs_consensus.specs.Moves.{kept_above, taken_in}
-use Rattle.bfs_consensus.proofs.Counts.{more}
+use Rattle.bfs_agreement.proofs.Public.{more}
 use Rattle.bfs_consensus.proofs.Told.{told_cases}
 
 pub told_slot : (log : List Header) (t k v n : ℕ) (d : List ℕ) → Told log t k v n d → has_slot log t k v n ≡ true

@@ -5,13 +5,14 @@ use Rattle.bfs_agreement.specs.Votes.{Header, says, told, Told, count_below, pri
 use Rattle.bfs_consensus.specs.Histories.{IsIn, Executed, ViewChange, NewView, Execution, History, World, WasSent, IsValidNewView}
 use Rattle.bfs_consensus.specs.Moves.{Move, Accepts, Says, Drops, Leaves, Enters, Executes, after_move, IsAllowed, Step, with_history, after_step, after_steps, AreAllowed, new_world}
 use Rattle.bfs_agreement.specs.Laws.{QuorumsMeet}
-use Rattle.bfs_consensus.proofs.Counts.{QuorumsShare, quorums_share, more}
+use Rattle.bfs_consensus.proofs.Counts.{QuorumsShare, quorums_share}
 use Rattle.bfs_consensus.proofs.Told.{told_cases, told_more}
 use Rattle.bfs_consensus.proofs.Logs.{kept_told, taken_told, join_right}
 use Rattle.bfs_consensus.proofs.Kept.{Kept, fresh_kept, accept_kept, drop_kept, leave_kept, enter_kept}
 use Rattle.bfs_consensus.proofs.Said.{moved, says_itself, say_kept}
 use Rattle.bfs_consensus.proofs.Carried.{Facts, carried, same_digest}
 use Rattle.bfs_consensus.specs.Laws.{HasQuorum, MovesAgree, QuorumsAreCarried, TellsOneDigest}
+use Rattle.bfs_agreement.proofs.Public.{more}
 
 -- histories only grow
 pub record Grows (p q : History) : Type 0 where

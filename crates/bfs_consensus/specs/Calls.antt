@@ -5,6 +5,7 @@ use Rattle.bfs_agreement.specs.Votes.{Header, has_slot, is_taken, Told, count_be
 use Rattle.bfs_consensus.specs.Histories.{IsIn, Certificate, ViewChange, State, World, WasSent}
 use Rattle.bfs_consensus.specs.Moves.{Move, Accepts, Says, Drops, Leaves, Enters, Executes, taken_in, Step, after_steps}
 use Rattle.bfs_consensus.specs.Choice.{chosen}
+use Rattle.bfs_agreement.specs.Tags.{commit_tag, pre_prepare_tag, prepare_tag}
 
 abbrev pub vote : (tag sender view number : ℕ) → List ℕ → Header
 vote tag sender view number digest = record { tag = tag; sender = sender; view = view; number = number; digest = digest }
@@ -25,11 +26,11 @@ with_said (h ∷ hs) log = with_said hs (h ∷ log)
 
 -- the primary sends none
 abbrev pub prepares_in : (f me : ℕ) → List Header → (view number : ℕ) → List ℕ → List Header
-prepares_in f me log view number digest = if me == primary f view then [] else said_once log (vote 3 me view number digest)
+prepares_in f me log view number digest = if me == primary f view then [] else said_once log (vote prepare_tag me view number digest)
 
 -- once it is prepared
 abbrev pub commits_in : (f me : ℕ) → List Header → (view number : ℕ) → List ℕ → List Header
-commits_in f me log view number digest = if prepared f me log view number digest then said_once log (vote 4 me view number digest) else []
+commits_in f me log view number digest = if prepared f me log view number digest then said_once log (vote commit_tag me view number digest) else []
 
 -- to a PRE-PREPARE
 abbrev pub votes_in : (f me : ℕ) → List Header → (view number : ℕ) → List ℕ → List Header
@@ -40,8 +41,8 @@ votes_in f me log view number digest =
 -- to a PRE-PREPARE and a PREPARE
 abbrev pub answers_in : (f me : ℕ) → List Header → Header → List Header
 answers_in f me log h =
-    if h.tag == 2 then votes_in f me log h.view h.number h.digest else
-    (if h.tag == 3 then commits_in f me log h.view h.number h.digest else [])
+    if h.tag == pre_prepare_tag then votes_in f me log h.view h.number h.digest else
+    (if h.tag == prepare_tag then commits_in f me log h.view h.number h.digest else [])
 
 abbrev pub all_said : List Header → List Move
 all_said [] = []
@@ -49,7 +50,7 @@ all_said (h ∷ hs) = Says h ∷ all_said hs
 
 -- the test of a message whose authenticator passes (OSDI 1999 section 4.2)
 abbrev pub is_acceptable : (f : ℕ) → State → Header → Bool
-is_acceptable f s h = is_within s h.view h.number && (not (is_taken s.log h) && (not (h.tag == 2) || (h.sender == primary f h.view)))
+is_acceptable f s h = is_within s h.view h.number && (not (is_taken s.log h) && (not (h.tag == pre_prepare_tag) || (h.sender == primary f h.view)))
 
 abbrev pub accepting : (f me : ℕ) → State → Header → List Move
 accepting f me s h = if is_acceptable f s h then Accepts h ∷ all_said (answers_in f me (h ∷ s.log) h) else []
@@ -58,7 +59,7 @@ accepting f me s h = if is_acceptable f s h then Accepts h ∷ all_said (answers
 abbrev pub greatest_proposed : List Header → (view : ℕ) → ℕ
 greatest_proposed [] view = 0
 greatest_proposed (h ∷ log) view =
-    if (h.tag == 2) && (h.view == view) then max h.number (greatest_proposed log view) else greatest_proposed log view
+    if (h.tag == pre_prepare_tag) && (h.view == view) then max h.number (greatest_proposed log view) else greatest_proposed log view
 
 abbrev pub next_number : State → ℕ
 next_number s = suc (max (greatest_proposed s.log s.view) (max s.handed (max s.low s.min_s)))
@@ -67,21 +68,21 @@ next_number s = suc (max (greatest_proposed s.log s.view) (max s.handed (max s.l
 abbrev pub proposing : (f me : ℕ) → State → (digest : List ℕ) → List Move
 proposing f me s digest =
     let number = next_number s in
-    let h = vote 2 me s.view number digest in
-    if (me == primary f s.view) && (is_within s s.view number && not (has_slot s.log 2 me s.view number))
+    let h = vote pre_prepare_tag me s.view number digest in
+    if (me == primary f s.view) && (is_within s s.view number && not (has_slot s.log pre_prepare_tag me s.view number))
     then Says h ∷ all_said (if f == 0 then commits_in f me (h ∷ s.log) s.view number digest else [])
     else []
 
 -- the PREPAREs that match a PRE-PREPARE
 abbrev pub matching : List Header → Header → List Header
 matching [] h = []
-matching (p ∷ log) h = if (p.tag == 3) && ((p.view == h.view) && (p.number == h.number)) then p ∷ matching log h else matching log h
+matching (p ∷ log) h = if (p.tag == prepare_tag) && ((p.view == h.view) && (p.number == h.number)) then p ∷ matching log h else matching log h
 
 -- certificates of all that is prepared above the low mark
 abbrev pub candidates : (f me low : ℕ) → (log hs : List Header) → List Certificate
 candidates f me low log [] = []
 candidates f me low log (h ∷ hs) =
-    if ((h.tag == 2) && (h.sender == primary f h.view)) && (nat_lt low h.number && prepared f me log h.view h.number h.digest)
+    if ((h.tag == pre_prepare_tag) && (h.sender == primary f h.view)) && (nat_lt low h.number && prepared f me log h.view h.number h.digest)
     then record { proposal = h; prepares = matching log h } ∷ candidates f me low log hs
     else candidates f me low log hs
 

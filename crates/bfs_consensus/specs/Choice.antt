@@ -2,6 +2,7 @@
 use Rattle.std.specs.Prelude.{ℕ, zero, suc, ◌+◌, ◌-◌, ◌==◌, max, List, [], ◌∷◌, ◌++◌, Option, Some, None, nat_lt, if◌then◌else◌}
 use Rattle.bfs_agreement.specs.Votes.{Header, primary}
 use Rattle.bfs_consensus.specs.Histories.{Certificate, ViewChange, NewView}
+use Rattle.bfs_agreement.specs.Tags.{pre_prepare_tag}
 
 -- the latest stable number
 abbrev pub latest_stable : List ViewChange → ℕ
@@ -36,7 +37,7 @@ digest_or null (Some c) = c.proposal.digest
 abbrev pub proposals_from : (f view : ℕ) (null : List ℕ) (cs : List Certificate) (number count : ℕ) → List Header
 proposals_from f view null cs number zero = []
 proposals_from f view null cs number (suc count) =
-    record { tag = 2; sender = primary f view; view = view; number = number; digest = digest_or null (highest_of cs number) }
+    record { tag = pre_prepare_tag; sender = primary f view; view = view; number = number; digest = digest_or null (highest_of cs number) }
     ∷ proposals_from f view null cs (number + 1) count
 
 abbrev pub chosen : (f view : ℕ) (null : List ℕ) → List ViewChange → NewView

@@ -6,6 +6,7 @@ use Rattle.bfs_consensus.specs.Histories.{IsIn, ViewChange, Executed, FewAreFaul
 use Rattle.bfs_consensus.specs.Moves.{new_world}
 use Rattle.bfs_consensus.specs.Calls.{vote, Call, Receives, Orders, TimesOut, ChangesView, Runs, Turn, after_turns, AreAuthentic}
 use Rattle.bfs_consensus.specs.Nodes.{has_checkpoint, Service, Snapshot, Nodes, NodeCall, Calls, Continues, Reports, Adopts, after_node_call, NodeTurn, with_node, after_node_turns, MayTakeTurns, new_nodes}
+use Rattle.bfs_agreement.specs.Tags.{commit_tag, pre_prepare_tag, prepare_tag}
 
 abbrev pub silent : ℕ → Bool
 silent k = k == 3
@@ -24,11 +25,11 @@ of i call = record { who = i; call = call }
 abbrev pub in_view_0 : List Turn
 in_view_0 =
     of 0 (Orders digest)
-    ∷ of 1 (Receives (saying 2 0 0)) ∷ of 2 (Receives (saying 2 0 0))
-    ∷ of 1 (Receives (saying 3 2 0)) ∷ of 2 (Receives (saying 3 1 0))
-    ∷ of 0 (Receives (saying 3 1 0)) ∷ of 0 (Receives (saying 3 2 0))
-    ∷ of 1 (Receives (saying 4 0 0)) ∷ of 1 (Receives (saying 4 2 0))
-    ∷ of 1 (Runs (saying 2 0 0))
+    ∷ of 1 (Receives (saying pre_prepare_tag 0 0)) ∷ of 2 (Receives (saying pre_prepare_tag 0 0))
+    ∷ of 1 (Receives (saying prepare_tag 2 0)) ∷ of 2 (Receives (saying prepare_tag 1 0))
+    ∷ of 0 (Receives (saying prepare_tag 1 0)) ∷ of 0 (Receives (saying prepare_tag 2 0))
+    ∷ of 1 (Receives (saying commit_tag 0 0)) ∷ of 1 (Receives (saying commit_tag 2 0))
+    ∷ of 1 (Runs (saying pre_prepare_tag 0 0))
     ∷ []
 
 -- the VIEW-CHANGE of a replica that has number 1 prepared
@@ -38,7 +39,7 @@ change_of sender one two =
       sender = sender;
       view = 1;
       stable = 0;
-      certificates = record { proposal = saying 2 0 0; prepares = saying 3 one 0 ∷ saying 3 two 0 ∷ [] } ∷ [];
+      certificates = record { proposal = saying pre_prepare_tag 0 0; prepares = saying prepare_tag one 0 ∷ saying prepare_tag two 0 ∷ [] } ∷ [];
     }
 
 abbrev pub the_changes : List ViewChange
@@ -48,15 +49,15 @@ abbrev pub in_view_1 : List Turn
 in_view_1 =
     of 0 TimesOut ∷ of 1 TimesOut ∷ of 2 TimesOut
     ∷ of 1 (ChangesView 1 the_changes) ∷ of 2 (ChangesView 1 the_changes) ∷ of 0 (ChangesView 1 the_changes)
-    ∷ of 1 (Receives (saying 3 2 1)) ∷ of 1 (Receives (saying 3 0 1))
-    ∷ of 2 (Receives (saying 3 0 1)) ∷ of 0 (Receives (saying 3 2 1))
-    ∷ of 2 (Receives (saying 4 0 1)) ∷ of 2 (Receives (saying 4 1 1))
-    ∷ of 2 (Runs (saying 2 1 1))
+    ∷ of 1 (Receives (saying prepare_tag 2 1)) ∷ of 1 (Receives (saying prepare_tag 0 1))
+    ∷ of 2 (Receives (saying prepare_tag 0 1)) ∷ of 0 (Receives (saying prepare_tag 2 1))
+    ∷ of 2 (Receives (saying commit_tag 0 1)) ∷ of 2 (Receives (saying commit_tag 1 1))
+    ∷ of 2 (Runs (saying pre_prepare_tag 1 1))
     ∷ []
 
 abbrev pub RunsInTwoViews : Type 0
-RunsInTwoViews = Executed (after_turns 1 [] new_world (in_view_0 ++ in_view_1) 1) (saying 2 0 0)
-    × Executed (after_turns 1 [] new_world (in_view_0 ++ in_view_1) 2) (saying 2 1 1)
+RunsInTwoViews = Executed (after_turns 1 [] new_world (in_view_0 ++ in_view_1) 1) (saying pre_prepare_tag 0 0)
+    × Executed (after_turns 1 [] new_world (in_view_0 ++ in_view_1) 2) (saying pre_prepare_tag 1 1)
 
 -- such calls and deliveries as the laws speak of
 abbrev pub IsARun : Type 0
@@ -64,16 +65,16 @@ IsARun = FewAreFaulty 1 silent × AreAuthentic 1 [] silent new_world (in_view_0 
 
 -- what agreement says of it
 abbrev pub RunsAgree : Type 0
-RunsAgree = (saying 2 0 0).digest ≡ (saying 2 1 1).digest
+RunsAgree = (saying pre_prepare_tag 0 0).digest ≡ (saying pre_prepare_tag 1 1).digest
 
 -- Where a premise does not hold ---------------------------------------------------------------------------------------------
 
 -- the primary and replica 3 each say one digest to one replica, and another to another one
 abbrev pub told_to : (i : ℕ) → List ℕ → List Turn
 told_to i d =
-    of i (Receives (vote 2 0 0 1 d)) ∷ of i (Receives (vote 3 3 0 1 d))
-    ∷ of i (Receives (vote 4 0 0 1 d)) ∷ of i (Receives (vote 4 3 0 1 d))
-    ∷ of i (Runs (vote 2 0 0 1 d))
+    of i (Receives (vote pre_prepare_tag 0 0 1 d)) ∷ of i (Receives (vote prepare_tag 3 0 1 d))
+    ∷ of i (Receives (vote commit_tag 0 0 1 d)) ∷ of i (Receives (vote commit_tag 3 0 1 d))
+    ∷ of i (Runs (vote pre_prepare_tag 0 0 1 d))
     ∷ []
 
 abbrev pub other_digest : List ℕ
@@ -83,8 +84,8 @@ abbrev pub in_two_tongues : List Turn
 in_two_tongues = told_to 1 digest ++ told_to 2 other_digest
 
 abbrev pub ExecutesTwoDigests : Type 0
-ExecutesTwoDigests = Executed (after_turns 1 [] new_world in_two_tongues 1) (vote 2 0 0 1 digest)
-    × Executed (after_turns 1 [] new_world in_two_tongues 2) (vote 2 0 0 1 other_digest)
+ExecutesTwoDigests = Executed (after_turns 1 [] new_world in_two_tongues 1) (vote pre_prepare_tag 0 0 1 digest)
+    × Executed (after_turns 1 [] new_world in_two_tongues 2) (vote pre_prepare_tag 0 0 1 other_digest)
     × (digest ≡ other_digest → ⊥)
 
 abbrev pub two_liars : ℕ → Bool
@@ -114,7 +115,7 @@ other_text = 2 ∷ []
 -- replicas of which the other premises hold execute the digest of two texts
 abbrev pub NeedsDistinctDigests : Type 0
 NeedsDistinctDigests = IsARun
-    × ((saying 2 0 0).digest ≡ one_for_all text) × ((saying 2 1 1).digest ≡ one_for_all other_text) × (text ≡ other_text → ⊥)
+    × ((saying pre_prepare_tag 0 0).digest ≡ one_for_all text) × ((saying pre_prepare_tag 1 1).digest ≡ one_for_all other_text) × (text ≡ other_text → ⊥)
 
 -- a service of which all states have one digest
 abbrev pub all_alike : Service
@@ -130,9 +131,9 @@ called turn = by turn.who (Calls turn.call)
 abbrev pub up_to_checkpoints : List NodeTurn
 up_to_checkpoints =
     map called in_view_0
-    ++ by 1 (Continues (saying 2 0 0)) ∷ by 1 Reports
-    ∷ by 2 (Calls (Receives (saying 4 0 0))) ∷ by 2 (Calls (Receives (saying 4 1 0)))
-    ∷ by 2 (Continues (saying 2 0 0)) ∷ by 2 Reports
+    ++ by 1 (Continues (saying pre_prepare_tag 0 0)) ∷ by 1 Reports
+    ∷ by 2 (Calls (Receives (saying commit_tag 0 0))) ∷ by 2 (Calls (Receives (saying commit_tag 1 0)))
+    ∷ by 2 (Continues (saying pre_prepare_tag 0 0)) ∷ by 2 Reports
     ∷ []
 
 abbrev pub at_checkpoints : Nodes

@@ -2,6 +2,7 @@
 use Rattle.std.specs.Prelude.{◌≡◌, ℕ, ◌+◌, ◌*◌, ◌<◌, ◌≤◌, ◌==◌, Bool, true, false, List, [], ◌∷◌, ◌⊎◌}
 use Rattle.std.specs.List.{list_any}
 use Rattle.bfs_agreement.specs.Votes.{Header, Told, count_below, replicas, primary, is_backed}
+use Rattle.bfs_agreement.specs.Tags.{pre_prepare_tag}
 
 -- x is one of the items
 abbrev pub IsIn : {A : Type 0} → A → List A → Type 0
@@ -78,7 +79,7 @@ FewAreFaulty f faulty = count_below faulty (replicas f) ≤ f
 -- a replica has sent it, by itself or inside a NEW-VIEW
 abbrev pub HasSaid : History → (tag sender view number : ℕ) → List ℕ → Type 0
 HasSaid history tag sender view number digest =
-    Told history.sent tag sender view number digest ⊎ ((tag ≡ 2) × Told history.offers 2 sender view number digest)
+    Told history.sent tag sender view number digest ⊎ ((tag ≡ pre_prepare_tag) × Told history.offers pre_prepare_tag sender view number digest)
 
 -- a correct sender has (OSDI 1999 section 2: authenticators aren't forged)
 abbrev pub WasSent : (faulty : ℕ → Bool) → World → (tag sender view number : ℕ) → List ℕ → Type 0
@@ -95,15 +96,15 @@ pub record IsValidCertificate (f : ℕ) (faulty : ℕ → Bool) (w : World) (ask
 -- (OSDI 1999 section 4.4)
 pub record IsChoice (f : ℕ) (r : NewView) : Type 0 where
   pub kinds : (tag sender view number : ℕ) (digest : List ℕ)
-      → Told r.proposals tag sender view number digest → (tag ≡ 2) × (sender ≡ primary f r.view) × (view ≡ r.view)
-  pub within : (sender view number : ℕ) (digest : List ℕ) → Told r.proposals 2 sender view number digest → (r.min_s < number) × (number ≤ r.top)
+      → Told r.proposals tag sender view number digest → (tag ≡ pre_prepare_tag) × (sender ≡ primary f r.view) × (view ≡ r.view)
+  pub within : (sender view number : ℕ) (digest : List ℕ) → Told r.proposals pre_prepare_tag sender view number digest → (r.min_s < number) × (number ≤ r.top)
   pub once : (sender view number : ℕ) (one other : List ℕ)
-      → Told r.proposals 2 sender view number one → Told r.proposals 2 sender view number other → one ≡ other
+      → Told r.proposals pre_prepare_tag sender view number one → Told r.proposals pre_prepare_tag sender view number other → one ≡ other
   pub stable : (m : ViewChange) → IsIn m r.changes → m.stable ≤ r.min_s
   pub highest : (m : ViewChange) (c : Certificate) → IsIn m r.changes → IsIn c m.certificates → r.min_s < c.proposal.number
       → (l : ViewChange) × (b : Certificate) × IsIn l r.changes × IsIn b l.certificates
       × (b.proposal.number ≡ c.proposal.number) × (c.proposal.view ≤ b.proposal.view)
-      × Told r.proposals 2 (primary f r.view) r.view c.proposal.number b.proposal.digest
+      × Told r.proposals pre_prepare_tag (primary f r.view) r.view c.proposal.number b.proposal.digest
 
 -- VIEW-CHANGEs for the view from 2f + 1 replicas, each of them valid to who takes it, and the choice (OSDI 1999 section 4.4)
 pub record IsValidNewView (f : ℕ) (faulty : ℕ → Bool) (w : World) (r : NewView) : Type 0 where

@@ -6,6 +6,7 @@ use Rattle.bfs_consensus.specs.Moves.{Step, after_steps, AreAllowed, new_world}
 use Rattle.bfs_consensus.specs.Choice.{chosen}
 use Rattle.bfs_consensus.specs.Calls.{Turn, after_turns, AreAuthentic}
 use Rattle.bfs_consensus.specs.Nodes.{Service, NodeTurn, DontCollide, after_node_turns, MayTakeTurns, new_nodes, ComesOfBatches}
+use Rattle.bfs_agreement.specs.Tags.{commit_tag, pre_prepare_tag}
 
 -- Across views ---------------------------------------------------------------------------------------------------------
 
@@ -16,7 +17,7 @@ HasQuorum f faulty w view number digest = 2 * f + 1 ≤ count_below (λ k. fault
 -- then each NEW-VIEW of a later view by which a correct replica has entered has the digest, or begins behind the number
 abbrev pub Carries : (f : ℕ) (faulty : ℕ → Bool) → World → (view number : ℕ) → List ℕ → (later : ℕ) → Type 0
 Carries f faulty w view number digest later = (k : ℕ) (r : NewView) → faulty k ≡ false → IsIn r (w k).entered
-    → r.view ≡ later → r.min_s < number → view < later → Told r.proposals 2 (primary f later) later number digest
+    → r.view ≡ later → r.min_s < number → view < later → Told r.proposals pre_prepare_tag (primary f later) later number digest
 
 abbrev pub QuorumsAreCarried : Type 0
 QuorumsAreCarried = (f : ℕ) (faulty : ℕ → Bool) (steps : List Step) (view number later : ℕ) (digest : List ℕ)
@@ -69,7 +70,7 @@ abbrev pub ExecutesCommitted : Type 0
 ExecutesCommitted = (f : ℕ) (null : List ℕ) (faulty : ℕ → Bool) (turns : List Turn) → AreAuthentic f null faulty new_world turns
     → (k : ℕ) (x : Execution) → IsIn x (after_turns f null new_world turns k).executions
     → (committed f k x.log x.proposal.view x.proposal.number x.proposal.digest ≡ true)
-    × (2 * f + 1 ≤ tellers f x.log 4 x.proposal.view x.proposal.number x.proposal.digest)
+    × (2 * f + 1 ≤ tellers f x.log commit_tag x.proposal.view x.proposal.number x.proposal.digest)
 
 -- any two that execute a batch for a number in one view execute one digest
 abbrev pub AgreesInView : Type 0

@@ -2,6 +2,7 @@
 use Rattle.std.specs.Prelude.{◌≡◌, ℕ, ◌+◌, ◌<◌, ◌≤◌, ◌==◌, Bool, true, false, ◌&&◌, List, [], ◌∷◌, ◌++◌, nat_lt, nat_le, if◌then◌else◌}
 use Rattle.bfs_agreement.specs.Votes.{Header, is_taken, Told, primary, prepared, committed}
 use Rattle.bfs_consensus.specs.Histories.{IsIn, Certificate, ViewChange, NewView, State, History, World, WasSent, IsValidNewView}
+use Rattle.bfs_agreement.specs.Tags.{commit_tag, pre_prepare_tag, prepare_tag}
 
 pub data Move : Type 0 where
   -- a message of another, or its own that comes back
@@ -32,9 +33,9 @@ pub record MayAccept (faulty : ℕ → Bool) (w : World) (s : State) (h : Header
 
 -- a primary proposes above what the NEW-VIEW had; a backup answers the PRE-PREPARE; who is prepared sends a COMMIT (OSDI 1999 section 4.2)
 pub data Reason (f me : ℕ) (s : State) (h : Header) : Type 0 where
-  Proposes : h.tag ≡ 2 → me ≡ primary f h.view → s.handed < h.number → Reason f me s h
-  Prepares : h.tag ≡ 3 → Told s.log 2 (primary f h.view) h.view h.number h.digest → Reason f me s h
-  Commits : h.tag ≡ 4 → prepared f me s.log h.view h.number h.digest ≡ true → Reason f me s h
+  Proposes : h.tag ≡ pre_prepare_tag → me ≡ primary f h.view → s.handed < h.number → Reason f me s h
+  Prepares : h.tag ≡ prepare_tag → Told s.log pre_prepare_tag (primary f h.view) h.view h.number h.digest → Reason f me s h
+  Commits : h.tag ≡ commit_tag → prepared f me s.log h.view h.number h.digest ≡ true → Reason f me s h
 
 pub record MaySay (f me : ℕ) (s : State) (h : Header) : Type 0 where
   pub opened : IsOpen s h

@@ -6,6 +6,7 @@ use Rattle.bfs_model.specs.Server.Tree.{Time}
 use Rattle.bfs_messages.specs.Messages as model
 use Rattle.bfs_messages.specs.Messages.{Requests, Batch, Vote}
 use Rattle.bfs_messages.specs.declared.signed.Signed.{Signed}
+use Rattle.bfs_agreement.specs.Tags.{request_tag}
 
 -- keyed hashes
 abbrev pub auth_text : List (List ℕ) → List ℕ
@@ -35,7 +36,7 @@ abbrev pub time_text : Time → List ℕ
 time_text time = word time.seconds ++ word time.useconds
 
 abbrev pub requests_text : Requests → List ℕ
-requests_text requests = time_text requests.time ++ list_text (signed_as 1 request_text) requests.requests
+requests_text requests = time_text requests.time ++ list_text (signed_as request_tag request_text) requests.requests
 
 -- 0 for the null request
 unfoldable pub batch_text : Batch → List ℕ

@@ -13,6 +13,7 @@ use Rattle.bfs_messages.specs.Spelling.{body_text}
 use Rattle.bfs_messages.specs.declared.signed.Signed.{Signed}
 use Rattle.bfs_messages.specs.declared.message.Message.{Message}
 use Rattle.bfs_messages.specs.declared.message.Message.TheVariants.{Request, PrePrepare, Prepare, Commit, Checkpoint, ViewChange, NewView, Reply}
+use Rattle.bfs_agreement.specs.Tags.{request_tag}
 
 abbrev pub sender_of : Message → Principal
 sender_of (Request request) = Client request.client
@@ -30,7 +31,7 @@ is_signed keys signed = passes keys (sender_of signed.message) (body_text signed
 
 -- a REQUEST in a batch
 abbrev pub request_is_signed : Keys → Signed model.Request → Bool
-request_is_signed keys signed = passes keys (Client signed.message.client) (word 1 ++ request_text signed.message) signed.auth
+request_is_signed keys signed = passes keys (Client signed.message.client) (word request_tag ++ request_text signed.message) signed.auth
 
 abbrev pub requests_are_signed : Keys → Batch → Bool
 requests_are_signed keys batch = list_all (request_is_signed keys) (requests_of batch)

@@ -6,16 +6,17 @@ use Rattle.bfs_messages.specs.Changes.{view_change_text, new_view_text}
 use Rattle.bfs_messages.specs.declared.signed.Signed.{Signed}
 use Rattle.bfs_messages.specs.declared.message.Message.{Message}
 use Rattle.bfs_messages.specs.declared.message.Message.TheVariants.{Request, PrePrepare, Prepare, Commit, Checkpoint, ViewChange, NewView, Reply}
+use Rattle.bfs_agreement.specs.Tags.{checkpoint_tag, commit_tag, new_view_tag, pre_prepare_tag, prepare_tag, reply_tag, request_tag, view_change_tag}
 
 abbrev pub tag_of : Message → ℕ
-tag_of (Request request) = 1
-tag_of (PrePrepare proposal) = 2
-tag_of (Prepare vote) = 3
-tag_of (Commit vote) = 4
-tag_of (Checkpoint checkpoint) = 5
-tag_of (ViewChange change) = 6
-tag_of (NewView new) = 7
-tag_of (Reply reply) = 8
+tag_of (Request request) = request_tag
+tag_of (PrePrepare proposal) = pre_prepare_tag
+tag_of (Prepare vote) = prepare_tag
+tag_of (Commit vote) = commit_tag
+tag_of (Checkpoint checkpoint) = checkpoint_tag
+tag_of (ViewChange change) = view_change_tag
+tag_of (NewView new) = new_view_tag
+tag_of (Reply reply) = reply_tag
 
 -- what stands behind the tag of a message's body
 abbrev pub fields_text : Message → List ℕ

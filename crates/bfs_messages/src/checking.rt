@@ -11,6 +11,7 @@ use crate::proposals::PrePrepare;
 use crate::requests::Request;
 use crate::signed::Signed;
 use crate::signing::Body;
+use crate::tags::{CHECKPOINT_TAG, PRE_PREPARE_TAG, PREPARE_TAG, REQUEST_TAG, VIEW_CHANGE_TAG};
 use crate::votes::{Checkpoint, Vote};
 use bfs_auth::{Authenticator, Keys, Principal, check_text};
 
@@ -26,7 +27,7 @@ pub fn is_request_signed(keys: &Keys, signed: &Signed<Request>) -> bool
     ensures { result ≡ request_is_signed keys.now signed.now }
 {
     let client = Principal::Client(signed.message.client());
-    check_fields(keys, client, 1, &signed.message, &signed.auth)
+    check_fields(keys, client, REQUEST_TAG, &signed.message, &signed.auth)
 }
 
 /// Whether a PREPARE is its sender's.
@@ -34,7 +35,7 @@ pub fn is_prepare_signed(keys: &Keys, signed: &Signed<Vote>) -> bool
     ensures { result ≡ is_signed keys.now (record { message = Message.Prepare signed.now.message; auth = signed.now.auth }) }
 {
     let sender = Principal::Replica(signed.message.sender());
-    check_fields(keys, sender, 3, &signed.message, &signed.auth)
+    check_fields(keys, sender, PREPARE_TAG, &signed.message, &signed.auth)
 }
 
 /// Whether a PRE-PREPARE is its sender's. The REQUESTs of its batch are another thing.
@@ -45,7 +46,7 @@ pub fn is_proposal_signed(keys: &Keys, signed: &Signed<PrePrepare>) -> bool
     check_fields(
         keys,
         Principal::Replica(vote.sender()),
-        2,
+        PRE_PREPARE_TAG,
         vote,
         &signed.auth,
     )
@@ -56,7 +57,7 @@ pub fn is_checkpoint_signed(keys: &Keys, signed: &Signed<Checkpoint>) -> bool
     ensures { result ≡ is_signed keys.now (record { message = Message.Checkpoint signed.now.message; auth = signed.now.auth }) }
 {
     let sender = Principal::Replica(signed.message.sender());
-    check_fields(keys, sender, 5, &signed.message, &signed.auth)
+    check_fields(keys, sender, CHECKPOINT_TAG, &signed.message, &signed.auth)
 }
 
 /// Whether a VIEW-CHANGE is its sender's. The messages within it are another thing.
@@ -64,7 +65,7 @@ pub fn is_view_change_signed(keys: &Keys, signed: &Signed<ViewChange>) -> bool
     ensures { result ≡ is_signed keys.now (record { message = Message.ViewChange signed.now.message; auth = signed.now.auth }) }
 {
     let sender = Principal::Replica(signed.message.sender());
-    check_fields(keys, sender, 6, &signed.message, &signed.auth)
+    check_fields(keys, sender, VIEW_CHANGE_TAG, &signed.message, &signed.auth)
 }
 
 fn check_fields<T: Part>(

@@ -9,6 +9,7 @@ ghost use Rattle.bfs_messages.specs.Limits.{FitsPrePrepare, FitsSigned};
 use crate::batches::{HashedBatch, OrderedBatch, put_batch};
 use crate::parts::Part;
 use crate::signed::Signed;
+use crate::tags::PRE_PREPARE_TAG;
 use crate::votes::Vote;
 use bfs_types::Memory;
 use bfs_xdr::Sink;
@@ -101,7 +102,7 @@ impl Part for Signed<PrePrepare> {
     ghost fits = { FitsSigned FitsPrePrepare };
 
     fn put<S: Sink>(&self, out: &mut S) -> Result<(), S::Error> {
-        out.u32(2)?;
+        out.u32(PRE_PREPARE_TAG)?;
         self.message.vote.put(out)?;
         self.auth.put(out)?;
         put_batch(&self.message.batch, out)

@@ -3,9 +3,11 @@ ghost use Rattle.std.specs.Arc.{arc_value};
 ghost use Rattle.bfs_model.specs.Server.Limits.{most_request_bytes};
 ghost use Rattle.bfs_messages.specs.Batches.{request_text};
 ghost use Rattle.bfs_messages.specs.Limits.{FitsRequest};
+ghost use Rattle.bfs_agreement.specs.Tags.{request_tag};
 
 use crate::parts::{Kind, Part};
 use crate::signed::Signed;
+use crate::tags::REQUEST_TAG;
 use bfs_types::{Bytes, MOST_REQUEST_BYTES, Memory};
 use bfs_xdr::Sink;
 use std::alloc::Global;
@@ -94,9 +96,9 @@ impl Part for Request {
 }
 
 impl Kind for Request {
-    ghost TAG = { 1 };
+    ghost TAG = { request_tag };
 
-    const TAG: u32 = 1;
+    const TAG: u32 = REQUEST_TAG;
 }
 
 impl Signed<Request> {

@@ -6,12 +6,14 @@ ghost use Rattle.bfs_messages.specs.Batches.{checkpoint_text, vote_text};
 ghost use Rattle.bfs_messages.specs.Changes.{view_change_text};
 ghost use Rattle.bfs_messages.specs.Signing.{signed_by};
 ghost use Rattle.bfs_messages.specs.Spelling.{body_text};
+ghost use Rattle.bfs_agreement.specs.Tags.{checkpoint_tag, pre_prepare_tag, prepare_tag, view_change_tag};
 
 use crate::changes::ViewChange;
 use crate::message::Message;
 use crate::parts::Part;
 use crate::proposals::PrePrepare;
 use crate::signed::Signed;
+use crate::tags::{CHECKPOINT_TAG, PRE_PREPARE_TAG, PREPARE_TAG, VIEW_CHANGE_TAG};
 use crate::votes::{Checkpoint, Vote};
 use crate::writing::{put_body, put_tagged};
 use bfs_auth::{Authenticator, Keys, Text, sign_text};
@@ -58,9 +60,9 @@ pub fn sign(alloc: Global, keys: &Keys, message: Message) -> Result<Signed<Messa
 
 /// Signs a PREPARE. `Memory` if memory runs out.
 pub fn sign_prepare(alloc: Global, keys: &Keys, vote: Vote) -> Result<Signed<Vote>, Memory>
-    ensures { IfOk result (λ signed. signed ≡ record { message = vote; auth = signature keys.now (word 3 ++ vote_text vote) }) }
+    ensures { IfOk result (λ signed. signed ≡ record { message = vote; auth = signature keys.now (word prepare_tag ++ vote_text vote) }) }
 {
-    let auth = sign_fields(alloc, keys, 3, &vote)?;
+    let auth = sign_fields(alloc, keys, PREPARE_TAG, &vote)?;
     Ok(Signed {
         message: vote,
         auth,
@@ -73,9 +75,9 @@ pub fn sign_proposal(
     keys: &Keys,
     proposal: PrePrepare,
 ) -> Result<Signed<PrePrepare>, Memory>
-    ensures { IfOk result (λ signed. signed ≡ record { message = proposal; auth = signature keys.now (word 2 ++ vote_text proposal.vote) }) }
+    ensures { IfOk result (λ signed. signed ≡ record { message = proposal; auth = signature keys.now (word pre_prepare_tag ++ vote_text proposal.vote) }) }
 {
-    let auth = sign_fields(alloc, keys, 2, proposal.vote())?;
+    let auth = sign_fields(alloc, keys, PRE_PREPARE_TAG, proposal.vote())?;
     Ok(Signed {
         message: proposal,
         auth,
@@ -88,9 +90,9 @@ pub fn sign_checkpoint(
     keys: &Keys,
     checkpoint: Checkpoint,
 ) -> Result<Signed<Checkpoint>, Memory>
-    ensures { IfOk result (λ signed. signed ≡ record { message = checkpoint; auth = signature keys.now (word 5 ++ checkpoint_text checkpoint) }) }
+    ensures { IfOk result (λ signed. signed ≡ record { message = checkpoint; auth = signature keys.now (word checkpoint_tag ++ checkpoint_text checkpoint) }) }
 {
-    let auth = sign_fields(alloc, keys, 5, &checkpoint)?;
+    let auth = sign_fields(alloc, keys, CHECKPOINT_TAG, &checkpoint)?;
     Ok(Signed {
         message: checkpoint,
         auth,
@@ -103,9 +105,9 @@ pub fn sign_view_change(
     keys: &Keys,
     change: ViewChange,
 ) -> Result<Signed<ViewChange>, Memory>
-    ensures { IfOk result (λ signed. signed ≡ record { message = change; auth = signature keys.now (word 6 ++ view_change_text change) }) }
+    ensures { IfOk result (λ signed. signed ≡ record { message = change; auth = signature keys.now (word view_change_tag ++ view_change_text change) }) }
 {
-    let auth = sign_fields(alloc, keys, 6, &change)?;
+    let auth = sign_fields(alloc, keys, VIEW_CHANGE_TAG, &change)?;
     Ok(Signed {
         message: change,
         auth,

@@ -2,8 +2,10 @@ ghost use Rattle.std.specs.Prelude.{◌≡◌, ◌≤◌, IfOk};
 ghost use Rattle.bfs_model.specs.Server.Limits.{most_number};
 ghost use Rattle.bfs_messages.specs.Batches.{checkpoint_text, vote_text};
 ghost use Rattle.bfs_messages.specs.Limits.{FitsCheckpoint, FitsVote};
+ghost use Rattle.bfs_agreement.specs.Tags.{checkpoint_tag, prepare_tag};
 
 use crate::parts::{Kind, Part};
+use crate::tags::{CHECKPOINT_TAG, PREPARE_TAG};
 use bfs_types::Memory;
 use bfs_xdr::Sink;
 use std::alloc::Global;
@@ -97,9 +99,9 @@ impl Part for Vote {
 }
 
 impl Kind for Vote {
-    ghost TAG = { 3 };
+    ghost TAG = { prepare_tag };
 
-    const TAG: u32 = 3;
+    const TAG: u32 = PREPARE_TAG;
 }
 
 /// What a replica says of its node behind a number: its digest (OSDI 1999 section 4.3). The number is at most `MOST_NUMBER`.
@@ -177,7 +179,7 @@ impl Part for Checkpoint {
 }
 
 impl Kind for Checkpoint {
-    ghost TAG = { 5 };
+    ghost TAG = { checkpoint_tag };
 
-    const TAG: u32 = 5;
+    const TAG: u32 = CHECKPOINT_TAG;
 }

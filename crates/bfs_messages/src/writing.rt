@@ -11,6 +11,10 @@ use crate::batches::{OrderedBatch, put_batch};
 use crate::message::Message;
 use crate::parts::Part;
 use crate::signed::Signed;
+use crate::tags::{
+    CHECKPOINT_TAG, COMMIT_TAG, NEW_VIEW_TAG, PRE_PREPARE_TAG, PREPARE_TAG, REPLY_TAG, REQUEST_TAG,
+    VIEW_CHANGE_TAG,
+};
 use bfs_types::Memory;
 use bfs_xdr::Sink;
 use std::alloc::Global;
@@ -48,14 +52,14 @@ pub(crate) fn put_body<S: Sink>(message: &Message, out: &mut S) -> Result<(), S:
     ensures fits { OnOk result (FieldsFit message.now) }
 {
     match message {
-        Message::Request(request) => put_tagged(1, request, out),
-        Message::PrePrepare(proposal) => put_tagged(2, proposal.vote(), out),
-        Message::Prepare(vote) => put_tagged(3, vote, out),
-        Message::Commit(vote) => put_tagged(4, vote, out),
-        Message::Checkpoint(checkpoint) => put_tagged(5, checkpoint, out),
-        Message::ViewChange(change) => put_tagged(6, change, out),
-        Message::NewView(new) => put_tagged(7, new, out),
-        Message::Reply(reply) => put_tagged(8, reply, out),
+        Message::Request(request) => put_tagged(REQUEST_TAG, request, out),
+        Message::PrePrepare(proposal) => put_tagged(PRE_PREPARE_TAG, proposal.vote(), out),
+        Message::Prepare(vote) => put_tagged(PREPARE_TAG, vote, out),
+        Message::Commit(vote) => put_tagged(COMMIT_TAG, vote, out),
+        Message::Checkpoint(checkpoint) => put_tagged(CHECKPOINT_TAG, checkpoint, out),
+        Message::ViewChange(change) => put_tagged(VIEW_CHANGE_TAG, change, out),
+        Message::NewView(new) => put_tagged(NEW_VIEW_TAG, new, out),
+        Message::Reply(reply) => put_tagged(REPLY_TAG, reply, out),
     }
 }
 

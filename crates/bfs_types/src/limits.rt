@@ -2,7 +2,7 @@
 ghost use Rattle.std.specs.Prelude.{◌≡◌, ℕ, ◌+◌, ◌%◌};
 ghost use Rattle.bfs_model.specs.Bytes.Attributes.{block_size, total_blocks, transfer_size};
 ghost use Rattle.bfs_model.specs.Server.Changes.{permission_bits};
-ghost use Rattle.bfs_model.specs.Server.Limits.{most_file_bytes, most_data_bytes, most_name_bytes, most_path_bytes, most_entries, most_links, most_request_bytes, most_reply_bytes, most_requests, most_replicas, most_clients, most_number, log_size};
+ghost use Rattle.bfs_model.specs.Server.Limits.{most_file_bytes, most_data_bytes, most_name_bytes, most_path_bytes, most_entries, most_links, most_request_bytes, most_reply_bytes, most_requests, most_faults, most_replicas, most_clients, most_number, log_size, checkpoint_interval};
 
 /// The bytes of a file.
 pub const MOST_FILE_BYTES: usize = 16_777_216;
@@ -34,8 +34,11 @@ pub const MOST_REPLY_BYTES: usize = 16_384;
 /// The requests of a batch.
 pub const MOST_REQUESTS: usize = 1_024;
 
-/// The replicas: 3f + 1 of them do where at most f fail, and f is at most 10 (OSDI 1999 section 3).
-pub const MOST_REPLICAS: usize = 31;
+/// The replicas that may fail.
+pub const MOST_FAULTS: u32 = 10;
+
+/// The replicas: 3f + 1 of them do where at most f fail (OSDI 1999 section 3).
+pub const MOST_REPLICAS: usize = 3 * MOST_FAULTS as usize + 1;
 
 /// The clients.
 pub const MOST_CLIENTS: u32 = 1_024;
@@ -45,6 +48,9 @@ pub const MOST_NUMBER: u64 = (1 << 63) - 1;
 
 /// The numbers between the low and the high mark (OSDI 1999 section 4.3), and so the batches that are ordered at once.
 pub const LOG_SIZE: usize = 32;
+
+/// How many numbers apart checkpoints are (OSDI 1999 section 4.3).
+pub const CHECKPOINT_INTERVAL: u64 = 16;
 
 /// The bytes of a block (RFC 1094 section 2.2.18, bsize).
 pub const BLOCK_SIZE: u32 = 4_096;
@@ -67,10 +73,12 @@ pub fn limits_are_those_of_the_model()
     ensures request_bytes { MOST_REQUEST_BYTES ≡ most_request_bytes }
     ensures reply_bytes { MOST_REPLY_BYTES ≡ most_reply_bytes }
     ensures requests { MOST_REQUESTS ≡ most_requests }
+    ensures faults { MOST_FAULTS ≡ most_faults }
     ensures replicas { MOST_REPLICAS ≡ most_replicas }
     ensures clients { MOST_CLIENTS ≡ most_clients }
     ensures number { MOST_NUMBER ≡ most_number }
     ensures log_size { LOG_SIZE ≡ log_size }
+    ensures interval { CHECKPOINT_INTERVAL ≡ checkpoint_interval }
     ensures block_size { BLOCK_SIZE ≡ block_size }
     ensures total_blocks { TOTAL_BLOCKS ≡ total_blocks }
     ensures transfer_size { TRANSFER_SIZE ≡ transfer_size }

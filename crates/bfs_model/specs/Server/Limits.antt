@@ -38,7 +38,11 @@ most_reply_bytes = 16384
 abbrev pub most_requests : ℕ
 most_requests = 1024
 
--- the replicas: 3f + 1 of them do where at most f fail, and f is at most 10 (OSDI 1999 section 3)
+-- the replicas that may fail
+abbrev pub most_faults : ℕ
+most_faults = 10
+
+-- the replicas: 3f + 1 of them do where at most f fail (OSDI 1999 section 3)
 abbrev pub most_replicas : ℕ
 most_replicas = 31
 
@@ -53,3 +57,7 @@ most_number = 9223372036854775807
 -- the numbers between the low and the high mark (OSDI 1999 section 4.3), and so the batches that are ordered at once
 abbrev pub log_size : ℕ
 log_size = 32
+
+-- how many numbers apart checkpoints are (OSDI 1999 section 4.3)
+abbrev pub checkpoint_interval : ℕ
+checkpoint_interval = 16
