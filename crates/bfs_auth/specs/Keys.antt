@@ -6,6 +6,7 @@ use Rattle.bfs_auth.specs.Hmac.{hmac_sha256}
 use Rattle.bfs_auth.specs.Principals.{number_of}
 use Rattle.bfs_auth.specs.declared.principals.Principal.{Principal}
 use Rattle.bfs_auth.specs.declared.principals.Principal.TheVariants.{Replica, Client}
+use Rattle.bfs_auth.specs.declared.pairwise.Pair.{Pair}
 use Rattle.bfs_auth.specs.declared.pairwise.SharedKeys.{SharedKeys}
 
 -- of what one principal sends to another: their numbers, hashed under a secret
@@ -33,6 +34,14 @@ keys_of secret me replicas clients = record {
   replicas = map (λ number. shared_keys secret me (Replica number)) (range_with_len 0 replicas);
   clients = map (λ number. shared_keys secret me (Client number)) (range_with_len 0 (clients_known me clients));
 }
+
+-- as one of the two was given them
+abbrev pub shared_of : Pair → SharedKeys
+shared_of pair = record { sending = pair.sending; receiving = pair.receiving }
+
+-- given for each replica and each client, by their numbers
+abbrev pub keys_from : (me : Principal) → (replicas clients : List Pair) → Keys
+keys_from me replicas clients = record { me = me; replicas = map shared_of replicas; clients = map shared_of clients }
 
 abbrev pub shared_with : Keys → Principal → Option SharedKeys
 shared_with keys (Replica number) = slice_get keys.replicas number

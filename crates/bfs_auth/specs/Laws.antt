@@ -1,8 +1,10 @@
 -- What holds of keys that are derived from one secret.
 use Rattle.std.specs.Prelude.{◌≡◌, ◌<◌, ◌↔◌, ℕ, List, Some, IsTrue}
+use Rattle.bfs_agreement.specs.Votes.{replicas as replicas_of}
 use Rattle.bfs_auth.specs.Hmac.{hmac_sha256}
 use Rattle.bfs_auth.specs.Keys.{clients_known, key_from_to, keys_of}
 use Rattle.bfs_auth.specs.Authenticators.{entry_for, passes, signature, signature_for_client}
+use Rattle.bfs_auth.specs.Replicas.{AreOfReplica}
 use Rattle.bfs_auth.specs.declared.principals.Principal.{Principal}
 use Rattle.bfs_auth.specs.declared.principals.Principal.TheVariants.{Replica, Client}
 
@@ -27,3 +29,8 @@ abbrev pub PassesAtClients : Type 0
 PassesAtClients = (secret : List ℕ) (sender receiver replicas clients : ℕ) (text : List ℕ) (entries : List (List ℕ))
     → sender < replicas → signature_for_client (keys_of secret (Replica sender) replicas clients) receiver text ≡ Some entries
     → IsTrue (passes (keys_of secret (Client receiver) replicas clients) (Replica sender) text entries)
+
+-- Those that are derived for one of 3f + 1 replicas are its keys among them
+abbrev pub DerivedAreOfReplicas : Type 0
+DerivedAreOfReplicas = (secret : List ℕ) (f me clients : ℕ)
+    → me < replicas_of f → AreOfReplica f me (keys_of secret (Replica me) (replicas_of f) clients)

@@ -1,4 +1,4 @@
-ghost use Rattle.bfs_auth.specs.Laws.{OnlyTheSendersHashPasses, PassesAtClients, PassesAtReplicas};
+ghost use Rattle.bfs_auth.specs.Laws.{DerivedAreOfReplicas, OnlyTheSendersHashPasses, PassesAtClients, PassesAtReplicas};
 
 /// A text passes exactly where sender and receiver share keys and the receiver's own entry is the keyed hash under the key from
 /// the one to the other. The body is empty: what is said is its contract.
@@ -10,4 +10,10 @@ pub fn only_the_senders_hash_passes()
 pub fn what_is_signed_passes()
     ensures replicas { PassesAtReplicas }
     ensures client { PassesAtClients }
+{}
+
+/// Keys that are derived for one of 3f + 1 replicas are those of that replica among them.
+#[tactic(auto, using(crate::proofs::Numbered::as_many))]
+pub fn derived_keys_are_of_replicas()
+    ensures { DerivedAreOfReplicas }
 {}

@@ -1,16 +1,24 @@
-ghost use Rattle.std.specs.Prelude.{◌≡◌, ◌+◌, ◌<◌, ◌≤◌, ◌^◌, ◌++◌, map, length, slice_get, Some, IfOk};
+ghost use Rattle.std.specs.Prelude.{◌≡◌, ◌+◌, ◌<◌, ◌≤◌, ◌^◌, ◌++◌, ℕ, map, length, slice_get, Some, IfOk, IfSome, IsNone};
 ghost use Rattle.std.specs.List.{range_with_len};
 ghost use Rattle.std.specs.Option.{option_map};
 ghost use Rattle.bfs_model.specs.Bytes.Items.{word};
-ghost use Rattle.bfs_model.specs.Server.Limits.{most_replicas};
-ghost use Rattle.bfs_auth.specs.Principals.{number_of};
-ghost use Rattle.bfs_auth.specs.Keys.{clients_known, key_from_to, keys_of, shared_keys, shared_with};
+ghost use Rattle.bfs_model.specs.Server.Limits.{most_faults, most_replicas};
+ghost use Rattle.bfs_auth.specs.Principals.{first_client, number_of};
+ghost use Rattle.bfs_auth.specs.Keys.{clients_known, key_from_to, keys_from, keys_of, shared_keys, shared_of, shared_with};
+ghost use Rattle.bfs_auth.specs.Replicas.{AreOfReplica};
 
 use crate::keyed_hash::{HmacKey, hmac};
 use crate::principals::Principal;
 use bfs_types::Memory;
-use std::alloc::Global;
+use std::alloc::{AllocError, Global};
 use std::marker::Model;
+
+/// Two keys of 32 bytes that a principal shares with another one: of what it sends to that one, and of what it receives from it.
+#[derive(Clone, Copy)]
+pub struct Pair {
+    pub sending: [u8; 32],
+    pub receiving: [u8; 32],
+}
 
 /// The keys that two principals share, as one of them holds them.
 #[derive(Drop)]
@@ -56,7 +64,7 @@ impl Keys {
     ) -> Result<Keys, Memory>
         requires me { number_of me < 2 ^ 32 }
         requires replicas { replicas ≤ most_replicas }
-        requires clients { 4096 + clients ≤ 2 ^ 32 }
+        requires clients { first_client + clients ≤ 2 ^ 32 }
         ensures { IfOk result (λ keys. keys ≡ keys_of secret.now me replicas clients) }
     {
         let clients = match me {
@@ -67,6 +75,25 @@ impl Keys {
             me,
             replicas: shared_with_replicas(alloc, secret, me, replicas)?,
             clients: shared_with_clients(alloc, secret, me, clients)?,
+        })
+    }
+
+    /// The keys of a principal that was given them: a pair for each replica, at most `MOST_REPLICAS`, and one for each client, by their
+    /// numbers. A client shares keys with no client. `Memory` if memory runs out.
+    pub fn of_pairs(
+        alloc: Global,
+        me: Principal,
+        replicas: &[Pair],
+        clients: &[Pair],
+    ) -> Result<Keys, Memory>
+        requires replicas { length replicas.now ≤ most_replicas }
+        requires clients { clients_known me (length clients.now) ≡ length clients.now }
+        ensures { IfOk result (λ keys. keys ≡ keys_from me replicas.now clients.now) }
+    {
+        Ok(Keys {
+            me,
+            replicas: shared_of_each(alloc, replicas)?,
+            clients: shared_of_each(alloc, clients)?,
         })
     }
 
@@ -90,6 +117,25 @@ impl Keys {
         ensures { result ≡ length self.now.clients }
     {
         self.clients.len()
+    }
+
+    /// How many replicas may be faulty and which replica this is, f and its number, where these are the keys of one of 3f + 1 replicas
+    /// (OSDI 1999 section 3); `None` where they are others.
+    pub fn replica_of(&self) -> Option<(u32, u32)>
+        ensures some { IfSome result (λ of. AreOfReplica of.0 of.1 self.now) }
+        ensures none { IsNone result → (f me : ℕ) → ¬ AreOfReplica f me self.now }
+        ensures faults { IfSome result (λ of. of.0 ≤ most_faults) }
+    {
+        let Principal::Replica(me) = self.me else {
+            return None;
+        };
+        let replicas = self.replicas.len() as u32;
+        let faults = replicas / 3;
+        if replicas == 3 * faults + 1 && me < replicas {
+            Some((faults, me))
+        } else {
+            None
+        }
     }
 
     // by their numbers
@@ -118,6 +164,21 @@ impl Keys {
     }
 }
 
+fn shared_of(pair: Pair) -> SharedKeys
+    ensures { result ≡ shared_of pair }
+{
+    SharedKeys {
+        sending: HmacKey::new(pair.sending),
+        receiving: HmacKey::new(pair.receiving),
+    }
+}
+
+fn shared_of_each(alloc: Global, pairs: &[Pair]) -> Result<Vec<SharedKeys>, AllocError>
+    ensures { IfOk result (λ all. all.items ≡ map shared_of pairs.now) }
+{
+    pairs.iter().copied().map(shared_of).collect(alloc)
+}
+
 #[tactic(auto, using(crate::proofs::Numbered::one_more))]
 fn shared_with_replicas(
     alloc: Global,
@@ -143,7 +204,7 @@ fn shared_with_clients(
     clients: u32,
 ) -> Result<Vec<SharedKeys>, Memory>
     requires me { number_of me < 2 ^ 32 }
-    requires clients { 4096 + clients ≤ 2 ^ 32 }
+    requires clients { first_client + clients ≤ 2 ^ 32 }
     ensures { IfOk result (λ all. all.items ≡ map (λ number. shared_keys secret.now me (Principal.Client number)) (range_with_len 0 clients)) }
 {
     let mut all = Vec::new(alloc);
@@ -158,10 +219,10 @@ fn shared_between(secret: &[u8], me: Principal, other: Principal) -> SharedKeys
     requires other { number_of other < 2 ^ 32 }
     ensures { result ≡ shared_keys secret.now me other }
 {
-    SharedKeys {
-        sending: HmacKey::new(key_from_to(secret, me, other)),
-        receiving: HmacKey::new(key_from_to(secret, other, me)),
-    }
+    shared_of(Pair {
+        sending: key_from_to(secret, me, other),
+        receiving: key_from_to(secret, other, me),
+    })
 }
 
 fn key_from_to(secret: &[u8], from: Principal, to: Principal) -> [u8; 32]

@@ -1,6 +1,9 @@
 ghost use Rattle.std.specs.Prelude.{◌≡◌, ◌<◌, ◌^◌};
 ghost use Rattle.bfs_auth.specs.Principals.{number_of};
 
+/// The number of client 0 among all principals: replicas have those below it.
+pub const FIRST_CLIENT: u32 = 4_096;
+
 /// Who sends and receives messages.
 #[derive(Clone, Copy, Debug, PartialEq, Eq)]
 pub enum Principal {
@@ -11,14 +14,14 @@ pub enum Principal {
 }
 
 impl Principal {
-    /// Its number among all principals: a replica has its own, and clients have those from 4,096 on.
+    /// Its number among all principals: a replica has its own, and clients have those from `FIRST_CLIENT` on.
     pub fn number(self) -> u32
         requires { number_of self < 2 ^ 32 }
         ensures { result ≡ number_of self }
     {
         match self {
             Principal::Replica(number) => number,
-            Principal::Client(number) => 4_096 + number,
+            Principal::Client(number) => FIRST_CLIENT + number,
         }
     }
 }

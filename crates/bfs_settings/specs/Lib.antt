@@ -1,5 +1,7 @@
 -- What the contracts of bfs_settings cite.
 pub mod Settings
+pub mod Tables
 pub mod Document
+pub mod KeysDocument
 pub mod Outcomes
 pub mod Errors

@@ -1,15 +1,12 @@
 -- The settings of a run, and how far each may go.
-use Rattle.std.specs.Prelude.{ℕ, ◌+◌, ◌*◌, ◌&&◌, Bool, IsTrue, List, length, replicate, Option, Some, None, nat_le, if◌then◌else◌}
-use Rattle.bfs_model.specs.Server.Limits.{most_clients}
+use Rattle.std.specs.Prelude.{ℕ, ◌+◌, ◌*◌, ◌&&◌, Bool, List, length, replicate, Option, Some, None, nat_le, if◌then◌else◌}
+use Rattle.bfs_model.specs.Server.Limits.{most_clients, most_faults}
 
 -- how many faults are tolerated, how many clients there are, and the secret from which keys are derived
 pub record Settings : Type 0 where
   pub f : ℕ
   pub clients : ℕ
   pub secret : List ℕ
-
-abbrev pub most_faults : ℕ
-most_faults = 10
 
 abbrev pub most_secret_bytes : ℕ
 most_secret_bytes = 64

@@ -1,27 +1,16 @@
-ghost use Rattle.std.specs.Prelude.{◌≡◌, codes, option_map};
+ghost use Rattle.std.specs.Prelude.{◌≡◌, codes};
 ghost use Rattle.toml.specs.Data.{get_member};
 ghost use Rattle.toml.specs.View.{table_view, view};
-ghost use Rattle.bfs_settings.specs.Document.{are_keys, bytes_in, is_key, number_in, said_or, settings_in, settings_said, settings_spelled};
+ghost use Rattle.bfs_settings.specs.Document.{bytes_in, settings_in, settings_said, settings_spelled};
 ghost use Rattle.bfs_settings.specs.Outcomes.{Gives};
+ghost use Rattle.bfs_settings.specs.Tables.{number_in, said_or};
 
 use crate::error::SettingsError;
 use crate::settings::{DEFAULT_CLIENTS, DEFAULT_FAULTS, DEFAULT_SECRET, Settings};
+use crate::tables::{has_only, number_in, read_table, value_at};
 use hex::FromHexError;
 use std::alloc::Global;
 use toml::{Table, Value};
-
-#[tactic(auto, using(toml::proofs::Views::table_get))]
-fn value_at<'a>(table: &'a Table, key: &str) -> Option<&'a Value>
-    ensures { option_map (λ value. view value.now) result ≡ get_member key.now (table_view table.now) }
-{
-    table.get(key)
-}
-
-fn number_in(value: &Value) -> Option<u32>
-    ensures { result ≡ number_in (view value.now) }
-{
-    u32::try_from(value.as_integer()?).ok()
-}
 
 fn number_at(table: &Table, key: &str, default: u32) -> Option<u32>
     ensures { result ≡ said_or default number_in (get_member key.now (table_view table.now)) }
@@ -45,18 +34,6 @@ fn bytes_in(alloc: Global, value: &Value) -> Result<Vec<u8>, SettingsError>
     }
 }
 
-fn is_key(key: &str) -> bool
-    ensures { result ≡ is_key key.now }
-{
-    matches!(key, "f" | "clients" | "secret")
-}
-
-fn are_keys(table: &Table) -> bool
-    ensures { result ≡ are_keys (table_view table.now) }
-{
-    table.keys().all(|key| is_key(key.as_str()))
-}
-
 // whatever other keys there are
 fn settings_said(alloc: Global, table: &Table) -> Result<Settings, SettingsError>
     ensures { Gives (λ settings. settings) result (settings_said (table_view table.now)) }
@@ -76,7 +53,7 @@ fn settings_said(alloc: Global, table: &Table) -> Result<Settings, SettingsError
 fn settings_in(alloc: Global, table: &Table) -> Result<Settings, SettingsError>
     ensures { Gives (λ settings. settings) result (settings_in (table_view table.now)) }
 {
-    if are_keys(table) {
+    if has_only(table, &["f", "clients", "secret"]) {
         settings_said(alloc, table)
     } else {
         Err(SettingsError::BadSettings)
@@ -90,9 +67,5 @@ fn settings_in(alloc: Global, table: &Table) -> Result<Settings, SettingsError>
 pub fn parse_settings(alloc: Global, document: &[u8]) -> Result<Settings, SettingsError>
     ensures { Gives (λ settings. settings) result (settings_spelled document.now) }
 {
-    match toml::table_from_slice(alloc, document) {
-        Ok(table) => settings_in(alloc, &table),
-        Err(error) if error.is_memory() => Err(SettingsError::Memory),
-        Err(_) => Err(SettingsError::BadSettings),
-    }
+    settings_in(alloc, &read_table(alloc, document)?)
 }

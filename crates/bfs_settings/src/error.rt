@@ -2,6 +2,7 @@ ghost use Rattle.std.specs.Prelude.{◌≡◌};
 ghost use Rattle.bfs_settings.specs.Errors.{settings_error_code};
 
 use bfs_types::Memory;
+use std::alloc::AllocFailed;
 use thiserror::Error;
 
 /// Why there are no such settings.
@@ -33,6 +34,16 @@ impl From<Memory> for SettingsError {
     ghost from_gives = { λ memory given. given ≡ error.Memory };
 
     fn from(_error: Memory) -> SettingsError {
+        SettingsError::Memory
+    }
+}
+
+impl<T: Drop> From<AllocFailed<T>> for SettingsError {
+    ghost use Rattle.bfs_settings.specs.declared.error.SettingsError.TheVariants as error;
+
+    ghost from_gives = { λ failed given. given ≡ error.Memory };
+
+    fn from(_failed: AllocFailed<T>) -> SettingsError {
         SettingsError::Memory
     }
 }

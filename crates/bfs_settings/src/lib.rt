@@ -4,8 +4,11 @@
 
 mod document;
 mod error;
+mod keys_document;
 mod settings;
+mod tables;
 
 pub use document::parse_settings;
 pub use error::SettingsError;
-pub use settings::{MOST_FAULTS, MOST_SECRET_BYTES, Settings, default_settings};
+pub use keys_document::parse_keys;
+pub use settings::{MOST_SECRET_BYTES, Settings, default_settings};

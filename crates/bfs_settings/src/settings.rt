@@ -1,15 +1,12 @@
 ghost use Rattle.std.specs.Prelude.{◌≡◌, ◌≤◌, length, IfOk};
-ghost use Rattle.bfs_model.specs.Server.Limits.{most_clients, most_replicas};
+ghost use Rattle.bfs_model.specs.Server.Limits.{most_clients, most_faults, most_replicas};
 ghost use Rattle.bfs_settings.specs.Outcomes.{Gives};
-ghost use Rattle.bfs_settings.specs.Settings.{default_settings, most_faults, most_secret_bytes, replicas_for, settings_of};
+ghost use Rattle.bfs_settings.specs.Settings.{default_settings, most_secret_bytes, replicas_for, settings_of};
 
 use crate::error::SettingsError;
-use bfs_types::{Bytes, MOST_CLIENTS, Memory};
+use bfs_types::{Bytes, MOST_CLIENTS, MOST_FAULTS, Memory};
 use std::alloc::Global;
 use std::marker::Model;
-
-/// The most faults that are tolerated: those that `MOST_REPLICAS` replicas bear.
-pub const MOST_FAULTS: u32 = 10;
 
 /// The most bytes of a secret.
 pub const MOST_SECRET_BYTES: usize = 64;

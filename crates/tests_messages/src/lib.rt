@@ -1,4 +1,4 @@
-//! Settings, keyed hashes, authenticators and the last replies, as tests whose expected values come from outside: the standards' own
+//! Settings, keys, keyed hashes, authenticators and the last replies, as tests whose expected values come from outside: the standards' own
 //! vectors, and hashes that Python's hmac made.
 #![tactic(auto)]
 
@@ -6,6 +6,8 @@
 mod authenticators;
 #[cfg(test)]
 mod hashes;
+#[cfg(test)]
+mod keys;
 #[cfg(test)]
 mod replies;
 #[cfg(test)]
