@@ -5,3 +5,4 @@ pub mod KindsExact
 pub mod Whole
 pub mod Known
 pub mod Loops
+pub mod Passed

@@ -5,6 +5,7 @@ use Rattle.bfs_model.specs.Server.Limits.{log_size, most_replicas}
 use Rattle.bfs_messages.specs.Messages.{PrePrepare, Certificate, ViewChange, NewView}
 use Rattle.bfs_codec.specs.Parts.{auth_from, batch_of_from, checkpoint_from, number_from, signed_as_from, tagged_from, vote_from}
 use Rattle.bfs_messages.specs.declared.signed.Signed.{Signed}
+use Rattle.bfs_agreement.specs.Tags.{checkpoint_tag, pre_prepare_tag, prepare_tag, view_change_tag}
 
 unfoldable pub behind_proposal_from : List ℕ → Reading (Signed PrePrepare)
 behind_proposal_from bytes =
@@ -12,17 +13,17 @@ behind_proposal_from bytes =
     (with_from (then_from vote_from auth_from) (λ p. batch_of_from p.0.digest)) bytes
 
 abbrev pub proposal_from : List ℕ → Reading (Signed PrePrepare)
-proposal_from bytes = tagged_from 2 behind_proposal_from bytes
+proposal_from bytes = tagged_from pre_prepare_tag behind_proposal_from bytes
 
 unfoldable pub certificate_from : List ℕ → Reading Certificate
-certificate_from bytes = as_from (λ p. record { proposal = p.0; prepares = p.1 }) (then_from proposal_from (list_from most_replicas (signed_as_from 3 vote_from))) bytes
+certificate_from bytes = as_from (λ p. record { proposal = p.0; prepares = p.1 }) (then_from proposal_from (list_from most_replicas (signed_as_from prepare_tag vote_from))) bytes
 
 unfoldable pub view_change_from : List ℕ → Reading ViewChange
 view_change_from bytes =
     as_from (λ p. record { sender = p.0.0.0.0; view = p.0.0.0.1; stable = p.0.0.1; checkpoints = p.0.1; certificates = p.1 })
-    (then_from (then_from (then_from (then_from word_from number_from) number_from) (list_from most_replicas (signed_as_from 5 checkpoint_from))) (list_from log_size certificate_from)) bytes
+    (then_from (then_from (then_from (then_from word_from number_from) number_from) (list_from most_replicas (signed_as_from checkpoint_tag checkpoint_from))) (list_from log_size certificate_from)) bytes
 
 unfoldable pub new_view_from : List ℕ → Reading NewView
 new_view_from bytes =
     as_from (λ p. record { sender = p.0.0.0; view = p.0.0.1; changes = p.0.1; proposals = p.1 })
-    (then_from (then_from (then_from word_from number_from) (list_from most_replicas (signed_as_from 6 view_change_from))) (list_from log_size proposal_from)) bytes
+    (then_from (then_from (then_from word_from number_from) (list_from most_replicas (signed_as_from view_change_tag view_change_from))) (list_from log_size proposal_from)) bytes

@@ -1,5 +1,5 @@
 -- How the parts of messages are read, strictly. It is proved that this reads just what is written, so nothing here has to be believed.
-use Rattle.std.specs.Prelude.{ℕ, ◌==◌, List, Some, None, bytes_eq, nat_lt, nat_le, if◌then◌else◌}
+use Rattle.std.specs.Prelude.{ℕ, ◌==◌, List, Some, None, bytes_eq, nat_lt, nat_le, not, if◌then◌else◌}
 use Rattle.sha2.specs.Sha256.{sha256}
 use Rattle.bfs_model.specs.Bytes.Call.{◌>>=◌}
 use Rattle.bfs_model.specs.Bytes.Formats.{Reading, word_from, hyper_from, fixed_from, bytes_from, as_from, where_from, then_from, list_from}
@@ -9,6 +9,7 @@ use Rattle.bfs_messages.specs.Messages as model
 use Rattle.bfs_messages.specs.Messages.{Requests, Batch, Vote}
 use Rattle.bfs_messages.specs.Batches.{batch_text}
 use Rattle.bfs_messages.specs.declared.signed.Signed.{Signed}
+use Rattle.bfs_agreement.specs.Tags.{request_tag}
 
 -- of a view, or of a batch in the order
 abbrev pub number_from : List ℕ → Reading ℕ
@@ -20,6 +21,10 @@ digest_from bytes = fixed_from 32 bytes
 unfoldable pub time_from : List ℕ → Reading Time
 time_from bytes =
     as_from (λ p. record { seconds = p.0; useconds = p.1 }) (then_from word_from (where_from (λ useconds. nat_lt useconds 1000000) word_from)) bytes
+
+-- the number of the things behind it, at most so many
+abbrev pub count_from : (most : ℕ) → List ℕ → Reading ℕ
+count_from most bytes = where_from (λ count. not (nat_lt most count)) word_from bytes
 
 abbrev pub auth_from : List ℕ → Reading (List (List ℕ))
 auth_from bytes = list_from most_replicas digest_from bytes
@@ -61,7 +66,7 @@ signed_as_from tag from bytes = tagged_from tag (behind_from from) bytes
 -- Batches ------------------------------------------------------------------------------------------------------------
 
 unfoldable pub requests_from : List ℕ → Reading Requests
-requests_from bytes = as_from (λ p. record { time = p.0; requests = p.1 }) (then_from time_from (list_from most_requests (signed_as_from 1 request_from))) bytes
+requests_from bytes = as_from (λ p. record { time = p.0; requests = p.1 }) (then_from time_from (list_from most_requests (signed_as_from request_tag request_from))) bytes
 
 unfoldable pub some_requests_from : List ℕ → Reading Batch
 some_requests_from bytes = as_from (λ requests. Some requests) requests_from bytes

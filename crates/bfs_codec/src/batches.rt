@@ -1,13 +1,14 @@
 // Batches, and the proposals that hold them.
 ghost use Rattle.bfs_codec.specs.ChangeReading.{behind_proposal_from, proposal_from};
-ghost use Rattle.bfs_codec.specs.Codes.{Reads};
+ghost use Rattle.bfs_codec.specs.Codes.{Passes, Reads};
 ghost use Rattle.bfs_codec.specs.Parts.{batch_from, some_requests_from};
 
-use crate::error::DecodeError;
+use crate::error::{DecodeError, Malformed};
+use crate::kinds::read_vote;
 use crate::parts::Read;
 use crate::reader::MessageReader;
 use bfs_auth::Authenticator;
-use bfs_messages::{OrderedBatch, PrePrepare, Signed, Vote};
+use bfs_messages::{OrderedBatch, PRE_PREPARE_TAG, PrePrepare, Request, Signed, Vote};
 use bfs_types::MOST_REQUESTS;
 
 #[tactic(auto, unfolding(crate::specs::Parts::batch_from))]
@@ -30,12 +31,36 @@ fn read_requests(reader: &mut MessageReader<'_>) -> Result<OrderedBatch, DecodeE
     Ok(OrderedBatch::new(time, requests))
 }
 
+#[tactic(auto, unfolding(crate::specs::Parts::batch_from))]
+pub(crate) fn skip_batch(reader: &mut MessageReader<'_>) -> Result<(), Malformed>
+    ensures { Passes result (batch_from reader.old) reader.new }
+{
+    match reader.u32()? {
+        0 => Ok(()),
+        1 => skip_requests(reader),
+        _ => Err(Malformed),
+    }
+}
+
+#[tactic(auto, unfolding(crate::specs::Parts::some_requests_from, crate::specs::Parts::requests_from))]
+fn skip_requests(reader: &mut MessageReader<'_>) -> Result<(), Malformed>
+    ensures { Passes result (some_requests_from reader.old) reader.new }
+{
+    reader.time()?;
+    reader.skip_list::<Signed<Request>>(MOST_REQUESTS as u32)
+}
+
 impl Read for Signed<PrePrepare> {
     ghost from = { proposal_from };
 
     fn read(reader: &mut MessageReader<'_>) -> Result<Signed<PrePrepare>, DecodeError> {
-        reader.tag(2)?;
+        reader.tag(PRE_PREPARE_TAG)?;
         read_behind_proposal(reader)
+    }
+
+    fn skip(reader: &mut MessageReader<'_>) -> Result<(), Malformed> {
+        reader.tag(PRE_PREPARE_TAG)?;
+        skip_behind_proposal(reader)
     }
 }
 
@@ -53,4 +78,14 @@ pub(crate) fn read_behind_proposal(
         message: PrePrepare::from_vote(vote, batch),
         auth,
     })
+}
+
+/// Passes over what stands behind the tag of a PRE-PREPARE, with its keyed hashes and its batch.
+#[tactic(auto, unfolding(crate::specs::ChangeReading::behind_proposal_from))]
+pub(crate) fn skip_behind_proposal(reader: &mut MessageReader<'_>) -> Result<(), Malformed>
+    ensures { Passes result (behind_proposal_from reader.old) reader.new }
+{
+    let vote = read_vote(reader)?;
+    Authenticator::skip(reader)?;
+    reader.skip_batch_of(vote.digest())
 }

@@ -1,10 +1,10 @@
 // What replicas say of a change of the view (OSDI 1999 section 4.4).
 ghost use Rattle.bfs_codec.specs.ChangeReading.{certificate_from, new_view_from, view_change_from};
 
-use crate::error::DecodeError;
+use crate::error::{DecodeError, Malformed};
 use crate::parts::Read;
 use crate::reader::MessageReader;
-use bfs_messages::{Certificate, NewView, PrePrepare, Signed, ViewChange};
+use bfs_messages::{Certificate, Checkpoint, NewView, PrePrepare, Signed, ViewChange, Vote};
 use bfs_types::{LOG_SIZE, MOST_REPLICAS};
 
 impl Read for Certificate {
@@ -15,6 +15,12 @@ impl Read for Certificate {
         let proposal = Signed::<PrePrepare>::read(reader)?;
         let prepares = reader.list(MOST_REPLICAS as u32)?;
         Ok(Certificate::new(proposal, prepares))
+    }
+
+    #[tactic(auto, unfolding(crate::specs::ChangeReading::certificate_from))]
+    fn skip(reader: &mut MessageReader<'_>) -> Result<(), Malformed> {
+        Signed::<PrePrepare>::skip(reader)?;
+        reader.skip_list::<Signed<Vote>>(MOST_REPLICAS as u32)
     }
 }
 
@@ -30,6 +36,15 @@ impl Read for ViewChange {
         let certificates = reader.list(LOG_SIZE as u32)?;
         Ok(ViewChange::new(sender, view, stable, checkpoints, certificates))
     }
+
+    #[tactic(auto, unfolding(crate::specs::ChangeReading::view_change_from))]
+    fn skip(reader: &mut MessageReader<'_>) -> Result<(), Malformed> {
+        reader.u32()?;
+        reader.number()?;
+        reader.number()?;
+        reader.skip_list::<Signed<Checkpoint>>(MOST_REPLICAS as u32)?;
+        reader.skip_list::<Certificate>(LOG_SIZE as u32)
+    }
 }
 
 impl Read for NewView {
@@ -42,5 +57,13 @@ impl Read for NewView {
         let changes = reader.list(MOST_REPLICAS as u32)?;
         let proposals = reader.list(LOG_SIZE as u32)?;
         Ok(NewView::new(sender, view, changes, proposals))
+    }
+
+    #[tactic(auto, unfolding(crate::specs::ChangeReading::new_view_from))]
+    fn skip(reader: &mut MessageReader<'_>) -> Result<(), Malformed> {
+        reader.u32()?;
+        reader.number()?;
+        reader.skip_list::<Signed<ViewChange>>(MOST_REPLICAS as u32)?;
+        reader.skip_list::<Signed<PrePrepare>>(LOG_SIZE as u32)
     }
 }

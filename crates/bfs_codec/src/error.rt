@@ -30,10 +30,20 @@ impl DecodeError {
     }
 }
 
-impl From<XdrError> for DecodeError {
+/// What is read does not stand there: found out without memory.
+#[derive(Clone, Copy)]
+pub(crate) struct Malformed;
+
+impl From<XdrError> for Malformed {
+    fn from(_error: XdrError) -> Malformed {
+        Malformed
+    }
+}
+
+impl From<Malformed> for DecodeError {
     ghost from_gives = { λ _ e. e ≡ errors.Malformed };
 
-    fn from(_error: XdrError) -> DecodeError {
+    fn from(_error: Malformed) -> DecodeError {
         DecodeError::Malformed
     }
 }

@@ -1,7 +1,8 @@
 // What stands behind the tags of messages that hold no others.
+ghost use Rattle.bfs_codec.specs.Codes.{Finds};
 ghost use Rattle.bfs_codec.specs.Parts.{checkpoint_from, reply_from, request_from, vote_from};
 
-use crate::error::DecodeError;
+use crate::error::{DecodeError, Malformed};
 use crate::parts::Read;
 use crate::reader::MessageReader;
 use bfs_messages::{Checkpoint, Reply, Request, Vote};
@@ -17,19 +18,39 @@ impl Read for Request {
         let call = reader.bytes(MOST_REQUEST_BYTES as u32)?;
         Ok(Request::new(reader.alloc(), client, timestamp, call)?)
     }
+
+    #[tactic(auto, unfolding(crate::specs::Parts::request_from))]
+    fn skip(reader: &mut MessageReader<'_>) -> Result<(), Malformed> {
+        reader.u32()?;
+        reader.u64()?;
+        reader.bytes(MOST_REQUEST_BYTES as u32)?;
+        Ok(())
+    }
 }
 
 impl Read for Vote {
     ghost from = { vote_from };
 
-    #[tactic(auto, unfolding(crate::specs::Parts::vote_from))]
     fn read(reader: &mut MessageReader<'_>) -> Result<Vote, DecodeError> {
-        let sender = reader.u32()?;
-        let view = reader.number()?;
-        let number = reader.number()?;
-        let digest = reader.digest()?;
-        Ok(Vote::new(sender, view, number, digest))
+        Ok(read_vote(reader)?)
     }
+
+    fn skip(reader: &mut MessageReader<'_>) -> Result<(), Malformed> {
+        read_vote(reader)?;
+        Ok(())
+    }
+}
+
+/// Reads a vote. No memory is taken.
+#[tactic(auto, unfolding(crate::specs::Parts::vote_from))]
+pub(crate) fn read_vote(reader: &mut MessageReader<'_>) -> Result<Vote, Malformed>
+    ensures { Finds (λ vote. vote) result (vote_from reader.old) reader.new }
+{
+    let sender = reader.u32()?;
+    let view = reader.number()?;
+    let number = reader.number()?;
+    let digest = reader.digest()?;
+    Ok(Vote::new(sender, view, number, digest))
 }
 
 impl Read for Checkpoint {
@@ -41,6 +62,14 @@ impl Read for Checkpoint {
         let number = reader.number()?;
         let digest = reader.digest()?;
         Ok(Checkpoint::new(sender, number, digest))
+    }
+
+    #[tactic(auto, unfolding(crate::specs::Parts::checkpoint_from))]
+    fn skip(reader: &mut MessageReader<'_>) -> Result<(), Malformed> {
+        reader.u32()?;
+        reader.number()?;
+        reader.digest()?;
+        Ok(())
     }
 }
 
@@ -55,5 +84,15 @@ impl Read for Reply {
         let timestamp = reader.u64()?;
         let bytes = reader.bytes(MOST_REPLY_BYTES as u32)?;
         Ok(Reply::new(reader.alloc(), sender, view, client, timestamp, bytes)?)
+    }
+
+    #[tactic(auto, unfolding(crate::specs::Parts::reply_from))]
+    fn skip(reader: &mut MessageReader<'_>) -> Result<(), Malformed> {
+        reader.u32()?;
+        reader.number()?;
+        reader.u32()?;
+        reader.u64()?;
+        reader.bytes(MOST_REPLY_BYTES as u32)?;
+        Ok(())
     }
 }

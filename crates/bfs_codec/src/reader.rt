@@ -1,15 +1,15 @@
 // The bytes of one message, read from their front on.
-ghost use Rattle.std.specs.Prelude.{◌≡◌, ◌≤◌, ◌<◌, ◌^◌, Some, length, vec_len, IfOk, IfSome, bytes_eq, nat_lt, not};
+ghost use Rattle.std.specs.Prelude.{◌≡◌, ◌≤◌, ◌<◌, ◌^◌, Some, None, length, vec_len, IfOk, IfSome, bytes_eq, nat_lt, not, if◌then◌else◌};
 ghost use Rattle.std.specs.Arc.{arc_value};
 ghost use Rattle.sha2.specs.Sha256.{sha256};
 ghost use Rattle.bfs_model.specs.Bytes.Formats.{bytes_from, hyper_from, items_from, list_from, word_from};
 ghost use Rattle.bfs_model.specs.Server.Limits.{most_number};
 ghost use Rattle.bfs_messages.specs.Batches.{batch_text};
-ghost use Rattle.bfs_codec.specs.Codes.{Reads};
-ghost use Rattle.bfs_codec.specs.Parts.{batch_from, batch_of_from, digest_from, number_from, tag_from, time_from};
+ghost use Rattle.bfs_codec.specs.Codes.{Finds, Passes, Reads, behind};
+ghost use Rattle.bfs_codec.specs.Parts.{batch_from, batch_of_from, count_from, digest_from, number_from, tag_from, time_from};
 
-use crate::batches::read_batch;
-use crate::error::DecodeError;
+use crate::batches::{read_batch, skip_batch};
+use crate::error::{DecodeError, Malformed};
 use crate::parts::Read;
 use bfs_messages::OrderedBatch;
 use bfs_types::{MOST_NUMBER, Memory, Time};
@@ -100,6 +100,15 @@ fn find_known<'a>(
     Ok(None)
 }
 
+// Whether a batch has that digest that was passed over at the front of some bytes, of which the rest is left.
+fn is_batch_of(digest: &[u8; 32], bytes: &[u8], rest: &[u8]) -> bool
+    requires { behind (batch_from bytes.now) ≡ Some rest.now }
+    ensures { behind (batch_of_from digest.now bytes.now) ≡ (if result then Some rest.now else None) }
+{
+    let text = &bytes[..bytes.len() - rest.len()];
+    *digest == Sha256::digest(text)
+}
+
 /// A strict reader of a message.
 #[derive(Drop)]
 pub(crate) struct MessageReader<'a> {
@@ -140,41 +149,41 @@ impl<'a> MessageReader<'a> {
         self.reader.rest().is_empty()
     }
 
-    pub(crate) fn u32(&mut self) -> Result<u32, DecodeError>
-        ensures { Reads (λ x. x) result (word_from self.old) self.new }
+    pub(crate) fn u32(&mut self) -> Result<u32, Malformed>
+        ensures { Finds (λ x. x) result (word_from self.old) self.new }
     {
         Ok(self.reader.u32()?)
     }
 
-    pub(crate) fn u64(&mut self) -> Result<u64, DecodeError>
-        ensures { Reads (λ x. x) result (hyper_from self.old) self.new }
+    pub(crate) fn u64(&mut self) -> Result<u64, Malformed>
+        ensures { Finds (λ x. x) result (hyper_from self.old) self.new }
     {
         Ok(self.reader.u64()?)
     }
 
     /// Opaque data of at most so many bytes, behind its length (RFC 4506 section 4.10).
-    pub(crate) fn bytes(&mut self, most: u32) -> Result<&'a [u8], DecodeError>
-        ensures value { Reads (λ x. x.now) result (bytes_from most self.old) self.new }
+    pub(crate) fn bytes(&mut self, most: u32) -> Result<&'a [u8], Malformed>
+        ensures value { Finds (λ x. x.now) result (bytes_from most self.old) self.new }
         ensures within { IfOk result (λ bytes. length bytes.now ≤ most) }
     {
         Ok(self.reader.opaque(most)?)
     }
 
     /// The number of a view, or of a batch in the order.
-    pub(crate) fn number(&mut self) -> Result<u64, DecodeError>
-        ensures read { Reads (λ x. x) result (number_from self.old) self.new }
+    pub(crate) fn number(&mut self) -> Result<u64, Malformed>
+        ensures read { Finds (λ x. x) result (number_from self.old) self.new }
         ensures within { IfOk result (λ number. number ≤ most_number) }
     {
         let number = self.u64()?;
         if number > MOST_NUMBER {
-            return Err(DecodeError::Malformed);
+            return Err(Malformed);
         }
         Ok(number)
     }
 
     #[tactic(auto, using(crate::proofs::Loops::fixed_long))]
-    pub(crate) fn digest(&mut self) -> Result<[u8; 32], DecodeError>
-        ensures { Reads (λ x. x) result (digest_from self.old) self.new }
+    pub(crate) fn digest(&mut self) -> Result<[u8; 32], Malformed>
+        ensures { Finds (λ x. x) result (digest_from self.old) self.new }
     {
         let bytes = self.reader.fixed(32)?;
         let mut digest = [0; 32];
@@ -183,22 +192,34 @@ impl<'a> MessageReader<'a> {
     }
 
     #[tactic(auto, unfolding(crate::specs::Parts::time_from))]
-    pub(crate) fn time(&mut self) -> Result<Time, DecodeError>
-        ensures { Reads (λ x. x) result (time_from self.old) self.new }
+    pub(crate) fn time(&mut self) -> Result<Time, Malformed>
+        ensures { Finds (λ x. x) result (time_from self.old) self.new }
     {
         let seconds = self.u32()?;
         let useconds = self.u32()?;
-        Time::new(seconds, useconds).ok_or(DecodeError::Malformed)
+        Time::new(seconds, useconds).ok_or(Malformed)
     }
 
     /// The tag of a message within another.
-    pub(crate) fn tag(&mut self, tag: u32) -> Result<(), DecodeError>
-        ensures { Reads (λ _. tag) result (tag_from tag self.old) self.new }
+    pub(crate) fn tag(&mut self, tag: u32) -> Result<(), Malformed>
+        ensures { Finds (λ _. tag) result (tag_from tag self.old) self.new }
     {
         if self.u32()? != tag {
-            return Err(DecodeError::Malformed);
+            return Err(Malformed);
         }
         Ok(())
+    }
+
+    /// The number of parts that follow, at most so many.
+    pub(crate) fn count(&mut self, most: u32) -> Result<u32, Malformed>
+        ensures read { Finds (λ x. x) result (count_from most self.old) self.new }
+        ensures within { IfOk result (λ count. count ≤ most) }
+    {
+        let count = self.u32()?;
+        if count > most {
+            return Err(Malformed);
+        }
+        Ok(count)
     }
 
     /// At most so many parts, behind their number. Memory is taken as they are read, whatever number is claimed.
@@ -207,10 +228,7 @@ impl<'a> MessageReader<'a> {
         ensures read { Reads (λ list. list.items) result (list_from most T.from self.old) self.new }
         ensures few { IfOk result (λ list. vec_len list ≤ most) }
     {
-        let count = self.u32()?;
-        if count > most {
-            return Err(DecodeError::Malformed);
-        }
+        let count = self.count(most)?;
         self.parts(count)
     }
 
@@ -223,6 +241,24 @@ impl<'a> MessageReader<'a> {
             parts.push(T::read(self)?)?;
         }
         Ok(parts)
+    }
+
+    /// Passes over at most so many parts, behind their number.
+    #[tactic(auto, unfolding(bfs_model::specs::Bytes::Formats::list_from))]
+    pub(crate) fn skip_list<T: Read>(&mut self, most: u32) -> Result<(), Malformed>
+        ensures { Passes result (list_from most T.from self.old) self.new }
+    {
+        let count = self.count(most)?;
+        self.skip_parts::<T>(count)
+    }
+
+    fn skip_parts<T: Read>(&mut self, count: u32) -> Result<(), Malformed>
+        ensures { Passes result (items_from T.from count self.old) self.new }
+    {
+        for _part in 0..count {
+            T::skip(self)?;
+        }
+        Ok(())
     }
 
     /// The batch of that digest. Batches that are spelled alike in the message are one value, which is read and hashed once.
@@ -248,5 +284,17 @@ impl<'a> MessageReader<'a> {
         let batch = known.share()?;
         self.batches.push(known)?;
         Ok(batch)
+    }
+
+    /// Passes over a batch of that digest, which is hashed where it stands.
+    pub(crate) fn skip_batch_of(&mut self, digest: &[u8; 32]) -> Result<(), Malformed>
+        ensures { Passes result (batch_of_from digest.now self.old) self.new }
+    {
+        let bytes = self.reader.rest();
+        skip_batch(self)?;
+        if !is_batch_of(digest, bytes, self.reader.rest()) {
+            return Err(Malformed);
+        }
+        Ok(())
     }
 }

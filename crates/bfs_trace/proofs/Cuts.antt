@@ -8,8 +8,9 @@ use Rattle.std.proofs.Common.{length-drop}
 use Rattle.std.proofs.lemmas.List.Elements.{All-from_get_or}
 use Rattle.std.proofs.lemmas.List.Splits.{length-slice_split, slice_split_first, slice_split_none}
 use Rattle.std.proofs.lemmas.List.Sums.{position_or_len_is}
+use Rattle.std.proofs.lemmas.Option.{some_pair_parts}
 use Rattle.memchr.specs.Find.{IsFirstByte, is_byte}
-use Rattle.bfs_trace.specs.Words.{only_word, parts}
+use Rattle.bfs_trace.specs.Words.{only_word, parts, word_in}
 
 -- where a byte isn't the one that is looked for
 apart : (at byte : ℕ) → ¬ (is_byte at byte ≡ true) → eqb byte at ≡ false
@@ -30,6 +31,11 @@ pub cut_none : (at : ℕ) (text : List ℕ) → IsFirstByte (is_byte at) text No
 unfolding parts
 cut_none at text none =
     slice_split_none (λ b. eqb b at) text (All-from_get_or (λ b. eqb b at ≡ false) text 0 (λ k within. apart at (slice_index text k) (none k (omega arith) within)))
+
+-- the words that a word is read of
+pub word_is : (left : List (List ℕ)) {word : List ℕ} {words : List (List ℕ)} → Some (word, words) ≡ word_in left → left ≡ word ∷ words
+word_is [] is = absurd cc
+word_is (first ∷ rest) {word} {words} is = let same = some_pair_parts word first words rest is in cc
 
 -- any text has a part
 pub parts_of_some_text : (at : ℕ) (text : List ℕ) → parts at text ≢ []

@@ -1,8 +1,7 @@
 -- How long a credential is.
-use Rattle.std.proofs.Common.{◌≡◌, ◌<◌, ◌≤◌, ◌^◌, ◌+◌, ◌*◌, ℕ, List, [], ◌∷◌, ◌++◌, length, length-append, codes, refl, arith}
+use Rattle.std.proofs.Common.{◌≡◌, ◌+◌, ◌*◌, ℕ, List, [], ◌∷◌, ◌++◌, length, length-append, codes, replicate, refl, ap, ◌∙◌, append_assoc, append-nil, arith}
 use Rattle.bfs_model.specs.Bytes.Call.{Credential}
-use Rattle.bfs_model.specs.Bytes.Items.{counted, fixed, word, words}
-use Rattle.bfs_trace.specs.Callers.{most_gids}
+use Rattle.bfs_model.specs.Bytes.Items.{counted, fixed, padding_of, word, words}
 use Rattle.bfs_trace.specs.Messages.{credential_body}
 
 length_of_word : (n : ℕ) → length (word n) ≡ 4
@@ -23,5 +22,15 @@ credential_length caller =
     let ns : List ℕ = caller.uid ∷ caller.gid ∷ length caller.gids ∷ caller.gids in
     omega (arith, length-append (word 0 ++ counted (codes "replay")) (words ns), length_of_front, length_of_words ns)
 
-pub credential_is_short : (caller : Credential) → length caller.gids ≤ most_gids → length (credential_body caller) < 2 ^ 32
-credential_is_short caller few = omega (arith, credential_length caller, few)
+no_padding : (n : ℕ) → padding_of (28 + 4 * n) ≡ 0
+no_padding n = omega arith
+
+-- a credential behind its length, item by item
+pub credential_counted : (caller : Credential) → counted (credential_body caller)
+    ≡ words ((28 + 4 * length caller.gids) ∷ 0 ∷ []) ++ (counted (codes "replay") ++ (words (caller.uid ∷ caller.gid ∷ length caller.gids ∷ []) ++ words caller.gids))
+unfolding counted credential_body fixed
+credential_counted caller =
+    let body : List ℕ = credential_body caller in
+    ap (λ n. word n ++ (body ++ replicate (padding_of n) 0)) (credential_length caller)
+    ∙ ap (λ n. word (28 + 4 * length caller.gids) ++ (body ++ replicate n 0)) (no_padding (length caller.gids))
+    ∙ simp (append_assoc, append-nil)

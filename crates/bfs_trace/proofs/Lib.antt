@@ -1,8 +1,11 @@
 pub mod Cuts
-pub mod Decoded
 pub mod Digits
+pub mod Faults
 pub mod Gids
+pub mod Growing
 pub mod Headers
+pub mod Rests
+pub mod Room
 pub mod Rows
 pub mod SentArguments
 pub mod SentCallers

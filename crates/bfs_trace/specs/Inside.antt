@@ -1,2 +1,4 @@
 -- What contracts of private functions cite.
+pub mod Places
 pub mod Reading
+pub mod Writing

@@ -1,12 +1,46 @@
-ghost use Rattle.std.specs.Prelude.{◌≡◌, ◌≤◌, [], length};
+ghost use Rattle.std.specs.Prelude.{◌≡◌, ◌≤◌, [], length, IfOk};
 ghost use Rattle.bfs_model.specs.Server.Limits.{most_request_bytes, most_requests};
 ghost use Rattle.bfs_trace.specs.Inside.Reading.{Parses};
 ghost use Rattle.bfs_trace.specs.Trace.{block_with, event_with};
 
 use crate::fault::Fault;
-use bfs_types::{MOST_REQUESTS, Time};
+use bfs_types::{MOST_REQUESTS, Memory, Time};
 use std::alloc::Global;
 use std::marker::Model;
+
+/// A request as a line spells it, of which the call stands elsewhere.
+#[derive(Drop)]
+pub(crate) struct RequestText<'c> {
+    client: u32,
+    timestamp: u64,
+    call: &'c [u8],
+}
+
+impl<'c> Model for RequestText<'c> {
+    ghost use Rattle.std.specs.Prelude.{◌≤◌, length};
+    ghost use Rattle.bfs_model.specs.Server.Limits.{most_request_bytes};
+    ghost use Rattle.bfs_trace.specs.Events as model;
+
+    ghost Value = { model.Request };
+
+    ghost view = { λ text. record { client = text.client; timestamp = text.timestamp; call = text.call.now } };
+
+    ghost invariant = { λ text. length text.call.now ≤ most_request_bytes };
+}
+
+impl<'c> RequestText<'c> {
+    /// The request of that client with the bytes of a call message (RFC 5531 section 9).
+    pub(crate) fn new(client: u32, timestamp: u64, call: &'c [u8]) -> RequestText<'c>
+        requires { length call.now ≤ most_request_bytes }
+        ensures { result ≡ record { client = client; timestamp = timestamp; call = call.now } }
+    {
+        RequestText {
+            client,
+            timestamp,
+            call,
+        }
+    }
+}
 
 /// The call that a client sends under its timestamp. It has at most `MOST_REQUEST_BYTES` bytes.
 #[derive(Debug, Drop)]
@@ -29,16 +63,15 @@ impl Model for Request {
 }
 
 impl Request {
-    /// The request of that client with the bytes of a call message (RFC 5531 section 9).
-    pub(crate) fn new(client: u32, timestamp: u64, call: Vec<u8>) -> Request
-        requires { length call.items ≤ most_request_bytes }
-        ensures { result ≡ record { client = client; timestamp = timestamp; call = call.items } }
+    /// The request that a line spells. `Memory` if memory runs out.
+    pub(crate) fn spelled(alloc: Global, text: &RequestText<'_>) -> Result<Request, Memory>
+        ensures { IfOk result (λ request. request ≡ text.now) }
     {
-        Request {
-            client,
-            timestamp,
-            call,
-        }
+        Ok(Request {
+            client: text.client,
+            timestamp: text.timestamp,
+            call: text.call.to_vec(alloc)?,
+        })
     }
 
     /// The number of the client, counted from 0.
@@ -95,16 +128,14 @@ impl Block {
     }
 
     /// Puts a request behind the others, if there is room for it.
-    pub(crate) fn push(&mut self, request: Request) -> Result<(), Fault>
-        ensures { Parses (λ _. self.new) result (block_with request self.old) }
+    pub(crate) fn push(&mut self, alloc: Global, text: &RequestText<'_>) -> Result<(), Fault>
+        ensures { Parses (λ _. self.new) result (block_with text.now self.old) }
     {
         if self.requests.len() == MOST_REQUESTS {
             return Err(Fault::Bad);
         }
-        match self.requests.push(request) {
-            Ok(()) => Ok(()),
-            Err(_) => Err(Fault::Memory),
-        }
+        self.requests.push(Request::spelled(alloc, text)?)?;
+        Ok(())
     }
 
     /// The time that is proposed for the batch.
@@ -138,11 +169,15 @@ pub enum TraceEvent {
 
 impl TraceEvent {
     /// Puts a request behind the others of a block with room for it. Other events have no requests.
-    pub(crate) fn push_request(&mut self, request: Request) -> Result<(), Fault>
-        ensures { Parses (λ _. self.new) result (event_with request self.old) }
+    pub(crate) fn push_request(
+        &mut self,
+        alloc: Global,
+        text: &RequestText<'_>,
+    ) -> Result<(), Fault>
+        ensures { Parses (λ _. self.new) result (event_with text.now self.old) }
     {
         match self {
-            TraceEvent::Block(block) => block.push(request),
+            TraceEvent::Block(block) => block.push(alloc, text),
             _ => Err(Fault::Bad),
         }
     }

@@ -1,7 +1,7 @@
 ghost use Rattle.std.specs.Prelude.{◌≡◌};
 
 use bfs_types::Memory;
-use std::alloc::AllocError;
+use std::alloc::{AllocError, AllocFailed};
 
 /// Why a line is not read.
 #[derive(Clone, Copy)]
@@ -18,6 +18,16 @@ impl From<AllocError> for Fault {
     ghost from_gives = { λ error given. given ≡ fault.Memory };
 
     fn from(_error: AllocError) -> Fault {
+        Fault::Memory
+    }
+}
+
+impl<T: Drop> From<AllocFailed<T>> for Fault {
+    ghost use Rattle.bfs_trace.specs.declared.fault.Fault.TheVariants as fault;
+
+    ghost from_gives = { λ error given. given ≡ fault.Memory };
+
+    fn from(_error: AllocFailed<T>) -> Fault {
         Fault::Memory
     }
 }

@@ -1,7 +1,9 @@
 //! Traces: what happens to a new file system, event by event, as lines of text tell it.
 #![tactic(auto)]
 
+mod buffer;
 mod callers;
+mod checking;
 mod events;
 mod fault;
 mod header;

@@ -1,22 +1,22 @@
 // What the lines of a trace say, one after another.
-ghost use Rattle.std.specs.Prelude.{◌≡◌, IfOk};
+ghost use Rattle.std.specs.Prelude.{◌≡◌};
 ghost use Rattle.bfs_trace.specs.Inside.Reading.{Parses};
 ghost use Rattle.bfs_trace.specs.declared.lines.Line.TheVariants as line;
 ghost use Rattle.bfs_trace.specs.Trace.{first_reading, is_passed_over, with_line, with_text};
 
+use crate::buffer::Buffer;
 use crate::callers::Callers;
-use crate::events::Request;
+use crate::events::RequestText;
 use crate::fault::Fault;
 use crate::lines::{Line, parse_line};
 use crate::population::Population;
 use crate::trace::Trace;
-use bfs_types::Memory;
 use std::alloc::Global;
 use std::marker::Model;
 
 /// Whether a line is empty or a comment.
 #[tactic(auto, unfolding(crate::specs::Trace::is_passed_over))]
-fn is_passed_over(text: &[u8]) -> bool
+pub(crate) fn is_passed_over(text: &[u8]) -> bool
     ensures { result ≡ is_passed_over text.now }
 {
     matches!(text, [] | [b'#', ..])
@@ -41,27 +41,27 @@ impl Model for Reading {
 
 impl Reading {
     /// What no lines say.
-    pub(crate) fn new(alloc: Global, population: Population) -> Result<Reading, Memory>
-        ensures { IfOk result (λ reading. reading ≡ first_reading population) }
+    pub(crate) fn new(alloc: Global, population: Population) -> Reading
+        ensures { result ≡ first_reading population }
     {
-        Ok(Reading {
+        Reading {
             trace: Trace::new(alloc),
             has_ended: false,
-            callers: Callers::new(alloc, population.clients())?,
-        })
+            callers: Callers::new(population.clients()),
+        }
     }
 
-    fn push_request(&mut self, request: Request) -> Result<(), Fault>
-        ensures { Parses (λ _. self.new) result (with_line self.old (line.Request request)) }
+    fn push_request(&mut self, alloc: Global, text: &RequestText<'_>) -> Result<(), Fault>
+        ensures { Parses (λ _. self.new) result (with_line self.old (line.Request text.now)) }
     {
         if self.has_ended {
             return Err(Fault::Bad);
         }
-        self.trace.push_request(request)
+        self.trace.push_request(alloc, text)
     }
 
-    fn push(&mut self, line: Line) -> Result<(), Fault>
-        ensures { Parses (λ _. self.new) result (with_line self.old line) }
+    fn push(&mut self, alloc: Global, line: Line<'_>) -> Result<(), Fault>
+        ensures { Parses (λ _. self.new) result (with_line self.old line.entry) }
     {
         match line {
             Line::Event(event) => {
@@ -70,10 +70,10 @@ impl Reading {
             }
             Line::Caller(caller) => {
                 self.has_ended = true;
-                self.callers.set(caller);
+                self.callers.set(&caller);
                 Ok(())
             }
-            Line::Request(request) => self.push_request(request),
+            Line::Request(text) => self.push_request(alloc, &text),
         }
     }
 
@@ -83,14 +83,15 @@ impl Reading {
         alloc: Global,
         population: Population,
         text: &[u8],
+        call: &mut Buffer,
     ) -> Result<(), Fault>
         ensures { Parses (λ _. self.new) result (with_text population self.old text.now) }
     {
         if is_passed_over(text) {
             return Ok(());
         }
-        let line = parse_line(alloc, population, &self.callers, text)?;
-        self.push(line)
+        let line = parse_line(alloc, population, &self.callers, text, call).ok_or(Fault::Bad)?;
+        self.push(alloc, line)
     }
 
     /// The trace of the lines that were read.

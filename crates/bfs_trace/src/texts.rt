@@ -1,18 +1,13 @@
-ghost use Rattle.std.specs.Prelude.{◌≡◌, ◌≤◌, ◌*◌, ◌++◌, length, replicate, IfOk, OnOk, option_map};
-ghost use Rattle.std.specs.Result.{result_ok};
-ghost use Rattle.hex.specs.Hex.{decode_of};
-ghost use Rattle.bfs_model.specs.Bytes.Items.{counted, padding_of};
+ghost use Rattle.std.specs.Prelude.{◌≡◌, ◌≤◌, [], length, IfSome, option_map};
+ghost use Rattle.bfs_model.specs.Bytes.Items.{counted};
 ghost use Rattle.bfs_model.specs.Server.Limits.{most_request_bytes};
-ghost use Rattle.bfs_trace.specs.Inside.Reading.{Parses};
+ghost use Rattle.bfs_trace.specs.Inside.Writing.{Appends};
 ghost use Rattle.bfs_trace.specs.Texts.{are_printable, data_spelled, escape_spelled, text_in_parts, text_spelled};
 ghost use Rattle.bfs_trace.specs.Words.{parts};
 
-use crate::fault::Fault;
+use crate::buffer::Buffer;
 use crate::words::Words;
-use bfs_types::{MOST_REQUEST_BYTES, Memory};
-use bfs_xdr::put_u32;
 use hex::FromHex;
-use std::alloc::Global;
 
 // printable ASCII, but for the space
 fn are_printable(bytes: &[u8]) -> bool
@@ -22,101 +17,80 @@ fn are_printable(bytes: &[u8]) -> bool
 }
 
 // appends what stands behind a `%`: a byte by two hexadecimal digits, and printable bytes
-#[tactic(auto, unfolding(crate::specs::Texts::escape_spelled))]
-fn push_escape(part: &[u8], text: &mut Vec<u8>) -> Result<(), Fault>
-    ensures { Parses (λ _. text.new.items) result (option_map (λ bytes. text.old.items ++ bytes) (escape_spelled part.now)) }
+#[tactic(auto, unfolding(crate::specs::Texts::escape_spelled), using(std::proofs::lemmas::List::append_assoc, crate::proofs::Room::length_of_both))]
+fn push_escape(part: &[u8], text: &mut Buffer) -> Option<()>
+    ensures { Appends result text.old text.new (escape_spelled part.now) }
 {
     let [high, low, plain @ ..] = part else {
-        return Err(Fault::Bad);
+        return None;
     };
-    let Ok(byte) = <[u8; 1]>::from_hex([*high, *low].as_slice()) else {
-        return Err(Fault::Bad);
-    };
+    let byte = <[u8; 1]>::from_hex([*high, *low].as_slice()).ok()?;
     if !are_printable(plain) {
-        return Err(Fault::Bad);
+        return None;
     }
-    text.extend_from_slice(&byte)?;
-    text.extend_from_slice(plain)?;
-    Ok(())
+    text.push(&byte)?;
+    text.push(plain)
 }
 
-// the text of a word that isn't `%` alone
+// appends the text of a word that isn't `%` alone
 #[tactic(auto, unfolding(crate::specs::Texts::text_after))]
-fn parse_escapes(alloc: Global, word: &[u8]) -> Result<Vec<u8>, Fault>
-    ensures { Parses (λ text. text.items) result (text_in_parts (parts 37 word.now)) }
+fn push_escapes(word: &[u8], text: &mut Buffer) -> Option<()>
+    requires { text.old ≡ [] }
+    ensures { Appends result [] text.new (text_in_parts (parts 37 word.now)) }
 {
     let mut parts = Words::new(word, b'%');
-    let plain = parts.next_word().ok_or(Fault::Bad)?;
+    let plain = parts.next_word()?;
     if !are_printable(plain) {
-        return Err(Fault::Bad);
+        return None;
     }
-    let mut text = Vec::new(alloc);
-    text.extend_from_slice(plain)?;
+    text.push(plain)?;
     while let Some(part) = parts.next_word() {
-        push_escape(part, &mut text)?;
+        push_escape(part, text)?;
     }
-    Ok(text)
+    Some(())
 }
 
 /// Reads a `NAME` or a `PATH`: printable bytes, and `%` with two hexadecimal digits for any byte. The word `%` is no bytes.
 #[tactic(auto, unfolding(crate::specs::Texts::text_spelled))]
-pub(crate) fn parse_text(alloc: Global, word: &[u8]) -> Result<Vec<u8>, Fault>
-    ensures value { Parses (λ text. text.items) result (text_spelled word.now) }
-    ensures within { IfOk result (λ text. length text.items ≤ most_request_bytes) }
+fn parse_text<'t>(word: &[u8], text: &'t mut Buffer) -> Option<&'t [u8]>
+    requires { text.old ≡ [] }
+    ensures value { option_map (λ bytes. bytes.now) result ≡ text_spelled word.now }
+    ensures within { IfSome result (λ bytes. length bytes.now ≤ most_request_bytes) }
 {
     if word.is_empty() {
-        return Err(Fault::Bad);
+        return None;
     }
     if word == b"%".as_slice() {
-        return Ok(Vec::new(alloc));
+        return Some(&[]);
     }
-    let text = parse_escapes(alloc, word)?;
-    if text.len() > MOST_REQUEST_BYTES {
-        return Err(Fault::Bad);
-    }
-    Ok(text)
+    push_escapes(word, text)?;
+    Some(text.as_slice())
 }
 
-// appends the bytes that hexadecimal digits spell
-fn push_decoded(digits: &[u8], out: &mut Vec<u8>) -> Result<(), Fault>
-    ensures { Parses (λ _. out.new.items) result (option_map (λ bytes. out.old.items ++ bytes) (result_ok (decode_of digits.now))) }
+/// Appends the bytes of a `NAME` or a `PATH` behind their length, which is known only once they are decoded.
+pub(crate) fn put_text(word: &[u8], out: &mut Buffer) -> Option<()>
+    ensures { Appends result out.old out.new (option_map counted (text_spelled word.now)) }
 {
-    let start = out.len();
-    out.resize(start + digits.len() / 2, 0)?;
-    let (_, room) = out.as_mut_slice().split_at_mut(start);
-    hex::decode_to_slice(digits, room).map_err(|_| Fault::Bad)
+    let mut text = Buffer::new();
+    out.push_opaque(parse_text(word, &mut text)?)
 }
 
-// appends zeros behind so many bytes, up to a multiple of four (RFC 4506 section 4.10)
-fn put_padding(count: usize, out: &mut Vec<u8>) -> Result<(), Memory>
-    ensures { OnOk result (out.new.items ≡ out.old.items ++ replicate (padding_of count) 0) }
-{
-    out.resize(out.len() + (4 - count % 4) % 4, 0)?;
-    Ok(())
-}
-
-// appends the bytes that hexadecimal digits spell, behind their length
-fn put_decoded(digits: &[u8], out: &mut Vec<u8>) -> Result<(), Fault>
-    requires { length digits.now ≤ 2 * most_request_bytes }
-    ensures { Parses (λ _. out.new.items) result (option_map (λ bytes. out.old.items ++ counted bytes) (result_ok (decode_of digits.now))) }
-{
-    let count = digits.len() / 2;
-    put_u32(out, count as u32)?;
-    push_decoded(digits, out)?;
-    put_padding(count, out)?;
-    Ok(())
-}
-
-/// Appends the `BYTES` of a file behind their length: `x`, and two hexadecimal digits for each byte. They are decoded in their place.
+/// Reads the `BYTES` of a file: `x`, and two hexadecimal digits for each byte.
 #[tactic(auto, unfolding(crate::specs::Texts::data_spelled))]
-pub(crate) fn put_data(word: &[u8], out: &mut Vec<u8>) -> Result<(), Fault>
-    ensures { Parses (λ _. out.new.items) result (option_map (λ bytes. out.old.items ++ counted bytes) (data_spelled word.now)) }
+fn parse_data<'b>(word: &[u8], bytes: &'b mut Buffer) -> Option<&'b [u8]>
+    ensures value { option_map (λ read. read.now) result ≡ data_spelled word.now }
+    ensures within { IfSome result (λ read. length read.now ≤ most_request_bytes) }
 {
     let [b'x', digits @ ..] = word else {
-        return Err(Fault::Bad);
+        return None;
     };
-    if digits.len() > 2 * MOST_REQUEST_BYTES {
-        return Err(Fault::Bad);
-    }
-    put_decoded(digits, out)
+    bytes.decode(digits)
+}
+
+/// Appends the `BYTES` of a file behind their length.
+pub(crate) fn put_data(word: &[u8], out: &mut Buffer) -> Option<()>
+    ensures { Appends result out.old out.new (option_map counted (data_spelled word.now)) }
+{
+    let mut data = Buffer::new();
+    out.push_opaque(parse_data(word, &mut data)?)
 }

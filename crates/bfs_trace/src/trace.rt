@@ -3,7 +3,7 @@ ghost use Rattle.bfs_trace.specs.Errors.{trace_error_code};
 ghost use Rattle.bfs_trace.specs.Inside.Reading.{Parses};
 ghost use Rattle.bfs_trace.specs.Trace.{with_event, with_request};
 
-use crate::events::{Request, TraceEvent};
+use crate::events::{RequestText, TraceEvent};
 use crate::fault::Fault;
 use std::alloc::Global;
 use std::marker::Model;
@@ -38,20 +38,22 @@ impl Trace {
     pub(crate) fn push_event(&mut self, event: TraceEvent) -> Result<(), Fault>
         ensures { Parses (λ _. self.new) result (with_event self.old event) }
     {
-        match self.events.push(event) {
-            Ok(()) => Ok(()),
-            Err(_) => Err(Fault::Memory),
-        }
+        self.events.push(event)?;
+        Ok(())
     }
 
     /// Puts a request behind the others of the last event, where that is a block with room for it.
-    pub(crate) fn push_request(&mut self, request: Request) -> Result<(), Fault>
-        ensures { Parses (λ _. self.new) result (with_request self.old request) }
+    pub(crate) fn push_request(
+        &mut self,
+        alloc: Global,
+        text: &RequestText<'_>,
+    ) -> Result<(), Fault>
+        ensures { Parses (λ _. self.new) result (with_request self.old text.now) }
     {
         let Some(event) = self.events.last_mut() else {
             return Err(Fault::Bad);
         };
-        event.push_request(request)
+        event.push_request(alloc, text)
     }
 
     /// The events in their order.
@@ -68,7 +70,7 @@ pub enum TraceError {
     /// The first line that breaks the grammar, counted from 1.
     #[error("line {0} breaks the grammar of a trace")]
     BadLine(usize),
-    /// Memory ran out.
+    /// Memory ran out. No line breaks the grammar.
     #[error("out of memory")]
     Memory,
 }

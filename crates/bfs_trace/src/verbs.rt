@@ -2,7 +2,7 @@
 ghost use Rattle.std.specs.Prelude.{◌≡◌};
 ghost use Rattle.std.specs.Option.{option_map};
 ghost use Rattle.bfs_types.specs.Procedures.{number_of};
-ghost use Rattle.bfs_trace.specs.Inside.Reading.{AppendsCall};
+ghost use Rattle.bfs_trace.specs.Inside.Writing.{AppendsCall};
 ghost use Rattle.bfs_trace.specs.Verbs.{call_in_words, procedure_named};
 
 mod attributes;
@@ -13,7 +13,7 @@ mod removing;
 mod renaming;
 mod status;
 
-use crate::fault::Fault;
+use crate::buffer::Buffer;
 use crate::words::Words;
 use attributes::{get_attributes, set_attributes};
 use bfs_types::Procedure;
@@ -23,7 +23,6 @@ use names::{look_up, read_directory};
 use removing::{remove, remove_directory};
 use renaming::rename;
 use status::file_system_status;
-use std::alloc::Global;
 
 /// The procedure that a verb names (RFC 1094 section 2.2).
 #[tactic(auto, unfolding(crate::specs::Verbs::procedure_named))]
@@ -75,30 +74,29 @@ pub(crate) fn procedure_named(verb: &[u8]) -> Option<Procedure>
 /// Appends the arguments of the call of a procedure that the words behind its verb spell.
 #[tactic(auto, unfolding(crate::specs::Verbs::call_in_words, crate::specs::Messages::arguments))]
 pub(crate) fn put_arguments(
-    alloc: Global,
     procedure: Procedure,
     words: &mut Words<'_>,
-    out: &mut Vec<u8>,
-) -> Result<(), Fault>
-    ensures { AppendsCall result out.old.items out.new.items (call_in_words (number_of procedure) words.old) }
+    out: &mut Buffer,
+) -> Option<()>
+    ensures { AppendsCall result out.old out.new (call_in_words (number_of procedure) words.old) }
 {
     match procedure {
         Procedure::Null => words.end(),
         Procedure::GetAttr => get_attributes(words, out),
         Procedure::SetAttr => set_attributes(words, out),
         Procedure::Root => words.end(),
-        Procedure::LookUp => look_up(alloc, words, out),
+        Procedure::LookUp => look_up(words, out),
         Procedure::ReadLink => read_link(words, out),
         Procedure::Read => read(words, out),
         Procedure::WriteCache => words.end(),
         Procedure::Write => write(words, out),
-        Procedure::Create => create(alloc, words, out),
-        Procedure::Remove => remove(alloc, words, out),
-        Procedure::Rename => rename(alloc, words, out),
-        Procedure::Link => link(alloc, words, out),
-        Procedure::SymbolicLink => make_symbolic_link(alloc, words, out),
-        Procedure::MakeDirectory => make_directory(alloc, words, out),
-        Procedure::RemoveDirectory => remove_directory(alloc, words, out),
+        Procedure::Create => create(words, out),
+        Procedure::Remove => remove(words, out),
+        Procedure::Rename => rename(words, out),
+        Procedure::Link => link(words, out),
+        Procedure::SymbolicLink => make_symbolic_link(words, out),
+        Procedure::MakeDirectory => make_directory(words, out),
+        Procedure::RemoveDirectory => remove_directory(words, out),
         Procedure::ReadDirectory => read_directory(words, out),
         Procedure::FileSystemStatus => file_system_status(words, out),
     }

@@ -1,8 +1,6 @@
 ghost use Rattle.std.specs.Prelude.{◌≡◌, ◌∷◌, ◌<◌, ◌↔◌, [], length, IsTrue, IfSome, IfNone, option_map};
-ghost use Rattle.bfs_trace.specs.Inside.Reading.{Parses};
 ghost use Rattle.bfs_trace.specs.Words.{only_word, parts, parts_left, unless_more, word_in};
 
-use crate::fault::Fault;
 use memchr::memchr;
 use std::marker::Model;
 
@@ -47,20 +45,12 @@ impl<'a> Words<'a> {
 
     /// Reads a word, which is empty where two of the bytes `at` stand side by side.
     pub(crate) fn next_word(&mut self) -> Option<&'a [u8]>
-        ensures some { IfSome result (λ word. self.old ≡ word.now ∷ self.new) }
-        ensures none { IfNone result (self.old ≡ []) }
+        ensures word { option_map (λ word. (word.now, self.new)) result ≡ word_in self.old }
         ensures at_end { IfNone result (self.new ≡ []) }
     {
         let (word, rest) = cut(self.rest?, self.at);
         self.rest = rest;
         Some(word)
-    }
-
-    /// Reads a word.
-    pub(crate) fn word(&mut self) -> Result<&'a [u8], Fault>
-        ensures { Parses (λ word. (word.now, self.new)) result (word_in self.old) }
-    {
-        self.next_word().ok_or(Fault::Bad)
     }
 
     /// Whether all words are read.
@@ -83,14 +73,10 @@ impl<'a> Words<'a> {
         Some(word)
     }
 
-    /// A fault where a word is left.
-    pub(crate) fn end(&self) -> Result<(), Fault>
-        ensures { Parses (λ end. end) result (unless_more self.now tt) }
+    /// `None` where a word is left.
+    pub(crate) fn end(&self) -> Option<()>
+        ensures { result ≡ unless_more self.now tt }
     {
-        if self.is_at_end() {
-            Ok(())
-        } else {
-            Err(Fault::Bad)
-        }
+        if self.is_at_end() { Some(()) } else { None }
     }
 }

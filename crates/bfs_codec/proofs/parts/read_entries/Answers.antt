@@ -1,14 +1,13 @@
 use Rattle.std.proofs.Common.{◌+◌, ◌-◌, [], ◌∷◌, ap, length, length-append, arith}
 use Rattle.std.proofs.lemmas.Result.{err_from_is_err_and}
-use Rattle.bfs_model.proofs.Public.{turn, turns_done}
+use Rattle.bfs_model.proofs.Public.{turn, turn_none, turns_done}
 use Rattle.bfs_codec.specs.Parts.{digest_from}
-use Rattle.bfs_codec.proofs.Loops.{fails}
 use Rattle.bfs_codec.proofs.parts.read_entries.Goals as goal
 
 pub returns-in_err-digest : goal.returns-in_err-digest
 returns-in_err-digest c =
     let p = err_from_is_err_and c.from_residual.result c.from_residual.ensures.1 in
-    rw (p.1, p.2) (fails digest_from c.in_err-digest.field-0.0 (c.args.count - c.loop-entry._entry) (c.args.count - (c.loop-entry._entry + 1)) c.loop-entry.reader c.loop-entry.auth _ (omega arith) c.in_err-digest.ensures c.loop-entry.invariant.1)
+    rw (p.1, p.2) (turn_none digest_from (c.args.count - c.loop-entry._entry) (c.args.count - (c.loop-entry._entry + 1)) c.loop-entry.reader c.loop-entry.auth _ (omega arith) c.in_err-digest.ensures c.loop-entry.invariant.1)
 
 pub loop-entry-preserved : goal.loop-entry-preserved
 loop-entry-preserved c =
