@@ -13,6 +13,7 @@ use Rattle.bfs_messages.specs.declared.signed.Signed.{Signed}
 use Rattle.bfs_messages.specs.declared.message.Message.{Message}
 use Rattle.bfs_checkpoints.specs.Certificates.{checkpoints, tells, told_by}
 use Rattle.bfs_checkpoints.specs.Laws.{AStableCheckpointHasACertificate}
+use Rattle.bfs_agreement.proofs.Public.{same_count, none_below}
 
 -- by its header
 tells_there : (number : ℕ) (digest : List ℕ) → Header → Bool
@@ -41,25 +42,14 @@ same_told number digest log sender =
     ap (λ hs. told hs 5 sender 0 number digest) (headers_of number digest log)
     ∙ any-filter_same (says 5 sender 0 number digest) (tells_there number digest) true (says_tells sender number digest) (headers log)
 
-same_step : (a b : Bool) (x y : ℕ) → a ≡ b → x ≡ y → cond a (1 + x) x ≡ cond b (1 + y) y
-same_step a b x y e h = rw (e, h)
-
-same_count : (p q : ℕ → Bool) (n : ℕ) → ((k : ℕ) → p k ≡ q k) → count_below p n ≡ count_below q n
-same_count p q zero same = refl
-same_count p q (suc n) same = same_step (p n) (q n) (count_below p n) (count_below q n) (same n) (same_count p q n same)
-
 still_stable : (f number : ℕ) (digest : List ℕ) (log : Log) → is_stable f (headers log) number digest ≡ true → is_stable f (headers (checkpoints number digest log)) number digest ≡ true
 still_stable f number digest log stable =
     ap (λ n. nat_le (2 * f + 1) n) (same_count _ _ (replicas f) (same_told number digest log)) ∙ stable
 
-none_below : (n : ℕ) → count_below (λ k. false) n ≡ 0
-none_below zero = refl
-none_below (suc n) = none_below n
-
 told_by_first : (f number : ℕ) (digest : List ℕ) (messages : Log) → All (λ m. tells number digest m ≡ true) messages → is_stable f (headers messages) number digest ≡ true
     → ((told_by messages).number ≡ number) × ((told_by messages).digest ≡ digest)
 told_by_first f number digest [] all stable =
-    let many = leb-true (2 * f + 1) (count_below (λ k. false) (replicas f)) stable in absurd (omega (arith, many, none_below (replicas f)))
+    let many = leb-true (2 * f + 1) (count_below (λ k. false) (replicas f)) stable in absurd (omega (arith, many, none_below (λ k. false) (replicas f) (λ k. refl)))
 told_by_first f number digest (m ∷ messages) all stable =
     let parts = and_parts ((header m).tag == 5) (((header m).number == number) && bytes_eq (header m).digest digest) (All-head (λ m. tells number digest m ≡ true) m messages all) in
     let place = and_parts ((header m).number == number) (bytes_eq (header m).digest digest) parts.1 in

@@ -5,10 +5,11 @@ use Rattle.bfs_log.specs.Headers.{header, other_header}
 use Rattle.bfs_log.specs.Logs.{Log, headers}
 use Rattle.bfs_messages.specs.declared.signed.Signed.{Signed}
 use Rattle.bfs_messages.specs.declared.message.Message.{Message}
+use Rattle.bfs_agreement.specs.Tags.{checkpoint_tag}
 
 -- a CHECKPOINT of that number and digest
 abbrev pub tells : (number : ℕ) → (digest : List ℕ) → Signed Message → Bool
-tells number digest m = ((header m).tag == 5) && (((header m).number == number) && bytes_eq (header m).digest digest)
+tells number digest m = ((header m).tag == checkpoint_tag) && (((header m).number == number) && bytes_eq (header m).digest digest)
 
 -- the CHECKPOINTs of that number and digest
 abbrev pub checkpoints : (number : ℕ) → (digest : List ℕ) → Log → Log

@@ -4,7 +4,7 @@ ghost use Rattle.bfs_log.specs.Headers.{header};
 ghost use Rattle.bfs_checkpoints.specs.Certificates.{checkpoints, tells};
 
 use bfs_log::header_of;
-use bfs_messages::{Message, Signed};
+use bfs_messages::{CHECKPOINT_TAG, Message, Signed};
 use bfs_types::Memory;
 use std::alloc::Global;
 
@@ -58,5 +58,5 @@ fn does_tell(message: &Signed<Message>, number: u64, digest: &[u8]) -> bool
     ensures { result ≡ tells number digest.now message.now }
 {
     let header = header_of(&message.message);
-    header.tag == 5 && (header.number == number && header.digest == digest)
+    header.tag == CHECKPOINT_TAG && (header.number == number && header.digest == digest)
 }

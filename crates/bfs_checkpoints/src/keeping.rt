@@ -42,6 +42,17 @@ impl Kept {
     }
 }
 
+/// What a replica was after a number, as 2f + 1 replicas have told: by it another one catches up (OSDI 1999 section 4.3).
+#[derive(Clone, Copy)]
+pub struct StableSnapshot<'a> {
+    /// The number of its checkpoint.
+    pub number: u64,
+    /// The text of the last replies and of the file system.
+    pub text: &'a [u8],
+    /// CHECKPOINTs of 2f + 1 replicas or more that tell its number and the digest of that state.
+    pub certificate: &'a [Signed<Message>],
+}
+
 /// The snapshots that a replica keeps, in the order in which they came. Once one of them is stable it is kept with the CHECKPOINTs that
 /// made it so, and those below it are dropped (OSDI 1999 section 4.3).
 #[derive(Drop)]
@@ -134,14 +145,20 @@ impl Snapshots {
         }
     }
 
-    /// The text of the stable snapshot, and the CHECKPOINTs of 2f + 1 replicas or more that tell its digest. It takes no memory.
+    /// The stable snapshot, and the CHECKPOINTs of 2f + 1 replicas or more that tell its digest. It takes no memory.
     #[tactic(auto, using(crate::proofs::Stable::found_is_stable))]
-    pub fn stable(&self) -> Option<(&[u8], &[Signed<Message>])>
-        ensures value { option_map (λ stable. (stable.0.now, stable.1.now)) result ≡ stable self.now }
-        ensures certified { IfSome result (λ stable. IsStable self.now.f stable.0.now stable.1.now) }
+    pub fn stable(&self) -> Option<StableSnapshot<'_>>
+        ensures value { option_map (λ stable. (stable.text.now, stable.certificate.now)) result ≡ stable self.now }
+        ensures number { IfSome result (λ stable. stable.number ≡ (told_by stable.certificate.now).number) }
+        ensures certified { IfSome result (λ stable. IsStable self.now.f stable.text.now stable.certificate.now) }
     {
         let kept = self.find_stable()?;
-        Some((kept.snapshot.text(), self.certificate.as_slice()))
+        let certificate = self.certificate.as_slice();
+        Some(StableSnapshot {
+            number: number_in(certificate),
+            text: kept.snapshot.text(),
+            certificate,
+        })
     }
 }
 

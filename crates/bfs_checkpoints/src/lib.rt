@@ -12,7 +12,7 @@ mod snapshots;
 pub use adoption::{AdoptError, Adopted, adopt};
 pub use certificates::certificate_with;
 pub use digests::digest_node;
-pub use keeping::Snapshots;
+pub use keeping::{Snapshots, StableSnapshot};
 pub use laws::{
     a_node_has_one_text, a_stable_checkpoint_has_a_certificate, a_text_spells_one_node,
     live_nodes_are_read_again,

@@ -69,10 +69,3 @@ tellers_counted (said ∷ row) digest q n differ =
     one_more said.sender (bytes_eq said.digest digest) q (tells row digest) n (untold row digest said.sender differ.0)
     ∙ ap (λ x. cond (nat_lt said.sender n && (q said.sender && bytes_eq said.digest digest)) 1 0 + x) (tellers_counted row digest q n differ.1)
     ∙ sym (sum_by-cons (λ said. cond (nat_lt said.sender n && (q said.sender && bytes_eq said.digest digest)) 1 0) said row)
-
-same_step : (a b : Bool) (x y : ℕ) → a ≡ b → x ≡ y → cond a (1 + x) x ≡ cond b (1 + y) y
-same_step a b x y e h = rw (e, h)
-
-pub same_count : (p q : ℕ → Bool) (n : ℕ) → ((k : ℕ) → p k ≡ q k) → count_below p n ≡ count_below q n
-same_count p q zero same = refl
-same_count p q (suc n) same = same_step (p n) (q n) (count_below p n) (count_below q n) (same n) (same_count p q n same)

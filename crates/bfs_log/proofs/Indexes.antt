@@ -14,7 +14,8 @@ use Rattle.bfs_log.specs.Logs.{Log, headers, said_in, said_of}
 use Rattle.bfs_log.specs.Places.{is_at, said_at, same_place, place_of}
 use Rattle.bfs_log.specs.Rows.{SendersDiffer, is_from, tells}
 use Rattle.bfs_log.specs.declared.places.Place.{Place}
-use Rattle.bfs_log.proofs.Counts.{tellers_counted, same_count}
+use Rattle.bfs_log.proofs.Counts.{tellers_counted}
+use Rattle.bfs_agreement.proofs.Public.{same_count}
 
 abbrev pub slot_place : (tag view number : ℕ) → Place
 slot_place tag view number = record { number = number; view = view; tag = tag }

@@ -7,6 +7,7 @@ use Rattle.bfs_messages.specs.declared.message.Message.TheVariants.{Request, Pre
 use Rattle.bfs_agreement.specs.Votes.{Header, is_slot}
 use Rattle.bfs_log.specs.Batches.{Committed, Said}
 use Rattle.bfs_log.specs.Headers.{header, message_header}
+use Rattle.bfs_agreement.specs.Tags.{checkpoint_tag, pre_prepare_tag}
 
 -- the messages that a replica has accepted and not dropped, its own among them, in the order in which they came
 abbrev pub Log : Type 0
@@ -37,11 +38,11 @@ said_of log tag sender view number = option_map (λ m. said_in m.message) (find 
 -- the greatest number of a PRE-PREPARE of a view, 0 where there is none
 abbrev pub greatest_proposed : (view : ℕ) → List Header → ℕ
 greatest_proposed view [] = 0
-greatest_proposed view (h ∷ hs) = if (h.tag == 2) && (h.view == view) then max h.number (greatest_proposed view hs) else greatest_proposed view hs
+greatest_proposed view (h ∷ hs) = if (h.tag == pre_prepare_tag) && (h.view == view) then max h.number (greatest_proposed view hs) else greatest_proposed view hs
 
 -- above a checkpoint, or a CHECKPOINT that tells it (OSDI 1999 section 4.3)
 abbrev pub stays : (number : ℕ) → List ℕ → Header → Bool
-stays number digest h = nat_lt number h.number || ((h.tag == 5) && ((h.number == number) && bytes_eq h.digest digest))
+stays number digest h = nat_lt number h.number || ((h.tag == checkpoint_tag) && ((h.number == number) && bytes_eq h.digest digest))
 
 -- what stays in the log once a checkpoint is stable (OSDI 1999 section 4.3)
 abbrev pub kept_after : (number : ℕ) → List ℕ → Log → Log

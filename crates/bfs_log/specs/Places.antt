@@ -10,6 +10,7 @@ use Rattle.bfs_log.specs.Headers.{header}
 use Rattle.bfs_log.specs.Logs.{Log, headers, said_in}
 use Rattle.bfs_log.specs.declared.places.Place.{Place}
 use Rattle.bfs_log.specs.contracts.places.PlaceOrd.TheImpl as place_ord
+use Rattle.bfs_agreement.specs.Tags.{checkpoint_tag, pre_prepare_tag}
 
 abbrev pub place_cmp : Place → Place → Ordering
 place_cmp = (place_ord.ghosts).cmp
@@ -43,7 +44,7 @@ IsIndex places log = (place : Place) → row_at places place ≡ said_at place l
 
 -- the place of the CHECKPOINTs of a number
 abbrev pub checkpoint_place : (number : ℕ) → Place
-checkpoint_place number = record { number = number; view = 0; tag = 5 }
+checkpoint_place number = record { number = number; view = 0; tag = checkpoint_tag }
 
 -- above a checkpoint, or where CHECKPOINTs tell it
 abbrev pub is_above : (number : ℕ) → Place → Bool
@@ -57,7 +58,7 @@ row_kept number digest p row =
 
 -- PRE-PREPAREs of a view stand at a place
 abbrev pub is_proposed : (view : ℕ) → Place × Vec Said → Bool
-is_proposed view entry = ((entry.0.tag == 2) && (entry.0.view == view)) && not (length entry.1.items == 0)
+is_proposed view entry = ((entry.0.tag == pre_prepare_tag) && (entry.0.view == view)) && not (length entry.1.items == 0)
 
 -- the greatest number of such a place, 0 where there is none
 abbrev pub greatest_in : (view : ℕ) → List (Place × Vec Said) → ℕ

@@ -1,5 +1,6 @@
-ghost use Rattle.std.specs.Prelude.{◌≡◌, ◌<◌, ◌^◌, IfOk};
+ghost use Rattle.std.specs.Prelude.{◌≡◌, ◌≤◌, IfOk};
 ghost use Rattle.std.specs.Arc.{arc_value};
+ghost use Rattle.bfs_model.specs.Server.Limits.{most_number};
 
 use bfs_messages::{OrderedBatch, PrePrepare};
 use bfs_types::Memory;
@@ -14,7 +15,8 @@ pub struct Committed {
 }
 
 impl Model for Committed {
-    ghost use Rattle.std.specs.Prelude.{◌<◌, ◌^◌};
+    ghost use Rattle.std.specs.Prelude.{◌≤◌};
+    ghost use Rattle.bfs_model.specs.Server.Limits.{most_number};
     ghost use Rattle.std.specs.Arc.{arc_value};
     ghost use Rattle.bfs_log.specs.Batches as model;
 
@@ -22,7 +24,7 @@ impl Model for Committed {
 
     ghost view = { λ committed. record { number = committed.number; batch = arc_value committed.batch } };
 
-    ghost invariant = { λ committed. committed.number < 2 ^ 63 };
+    ghost invariant = { λ committed. committed.number ≤ most_number };
 }
 
 impl Committed {
@@ -39,7 +41,7 @@ impl Committed {
     /// The number.
     pub fn number(&self) -> u64
         ensures value { result ≡ self.now.number }
-        ensures within { result < 2 ^ 63 }
+        ensures within { result ≤ most_number }
     {
         self.number
     }

@@ -5,7 +5,10 @@ ghost use Rattle.bfs_log.specs.Logs.{stays};
 ghost use Rattle.bfs_log.specs.Places.{place_of};
 
 use crate::places::Place;
-use bfs_messages::{Message, Vote};
+use bfs_messages::{
+    CHECKPOINT_TAG, COMMIT_TAG, Message, NEW_VIEW_TAG, PRE_PREPARE_TAG, PREPARE_TAG, REPLY_TAG,
+    REQUEST_TAG, VIEW_CHANGE_TAG, Vote,
+};
 use std::marker::Model;
 
 /// A message's kind, by the tag of its text, its sender, its view and number, and its digest. What a kind has not is 0, or no
@@ -53,20 +56,20 @@ pub fn header_of(message: &Message) -> Header<'_>
     ensures { result ≡ message_header message.now }
 {
     match message {
-        Message::Request(request) => Header::new(1, request.client(), 0, 0, &[]),
-        Message::PrePrepare(proposal) => vote_header_of(2, proposal.vote()),
-        Message::Prepare(vote) => vote_header_of(3, vote),
-        Message::Commit(vote) => vote_header_of(4, vote),
+        Message::Request(request) => Header::new(REQUEST_TAG, request.client(), 0, 0, &[]),
+        Message::PrePrepare(proposal) => vote_header_of(PRE_PREPARE_TAG, proposal.vote()),
+        Message::Prepare(vote) => vote_header_of(PREPARE_TAG, vote),
+        Message::Commit(vote) => vote_header_of(COMMIT_TAG, vote),
         Message::Checkpoint(checkpoint) => Header::new(
-            5,
+            CHECKPOINT_TAG,
             checkpoint.sender(),
             0,
             checkpoint.number(),
             checkpoint.digest(),
         ),
-        Message::ViewChange(change) => Header::new(6, change.sender(), 0, 0, &[]),
-        Message::NewView(new) => Header::new(7, new.sender(), 0, 0, &[]),
-        Message::Reply(reply) => Header::new(8, reply.sender(), 0, 0, &[]),
+        Message::ViewChange(change) => Header::new(VIEW_CHANGE_TAG, change.sender(), 0, 0, &[]),
+        Message::NewView(new) => Header::new(NEW_VIEW_TAG, new.sender(), 0, 0, &[]),
+        Message::Reply(reply) => Header::new(REPLY_TAG, reply.sender(), 0, 0, &[]),
     }
 }
 
@@ -99,7 +102,8 @@ impl<'a> Header<'a> {
     pub(crate) fn does_stay(&self, number: u64, digest: &[u8]) -> bool
         ensures { result ≡ stays number digest.now self.now }
     {
-        number < self.number || (self.tag == 5 && (self.number == number && self.digest == digest))
+        number < self.number
+            || (self.tag == CHECKPOINT_TAG && (self.number == number && self.digest == digest))
     }
 
     pub(crate) fn place(&self) -> Place

@@ -6,6 +6,7 @@ ghost use Rattle.bfs_log.specs.Places.{checkpoint_place, greatest_in, is_above, 
 ghost use Rattle.bfs_log.specs.declared.places.Place as declared;
 
 use crate::said::Said;
+use bfs_messages::{CHECKPOINT_TAG, PRE_PREPARE_TAG};
 use bfs_types::Memory;
 use std::alloc::Global;
 use std::collections::BTreeMap;
@@ -34,7 +35,7 @@ pub(crate) fn greatest_in(places: &BTreeMap<Place, Vec<Said>>, view: u64) -> u64
 {
     let mut greatest = 0;
     for (place, row) in places.iter() {
-        if (place.tag == 2 && place.view == view) && !row.as_slice().is_empty() {
+        if (place.tag == PRE_PREPARE_TAG && place.view == view) && !row.as_slice().is_empty() {
             greatest = place.number.max(greatest);
         }
     }
@@ -78,7 +79,7 @@ fn checkpoint_place(number: u64) -> Place
     Place {
         number,
         view: 0,
-        tag: 5,
+        tag: CHECKPOINT_TAG,
     }
 }
 

@@ -13,6 +13,7 @@ use Rattle.bfs_messages.specs.declared.signed.Signed.{Signed}
 use Rattle.bfs_messages.specs.declared.message.Message.{Message}
 use Rattle.bfs_messages.specs.Signing.{is_signed}
 use Rattle.bfs_order.specs.Replica.Installing.{vouches, has_sender, senders_differ, is_certificate, number_of, digest_of, with_new, with_each}
+use Rattle.bfs_agreement.proofs.Public.{more}
 
 -- a replica's signed CHECKPOINT of that number and digest
 pub record IsVoucher (keys : Keys) (f n : ℕ) (d : List ℕ) (m : Signed Message) : Type 0 where
@@ -62,16 +63,6 @@ each_keeps Q R step log (m ∷ ms) all kept = each_keeps Q R step (with_new log 
     go false is = step log m kept (All-head R m ms all) is
 
 -- Counting -------------------------------------------------------------------------------------------------------------
-
-more_step : (a b : Bool) (x y : ℕ) → (a ≡ true → b ≡ true) → x ≤ y → cond a (1 + x) x ≤ cond b (1 + y) y
-more_step true true x y h le = omega (arith, le)
-more_step true false x y h le = let no : false ≡ true = h refl in absurd cc
-more_step false true x y h le = omega (arith, le)
-more_step false false x y h le = le
-
-pub more : (p q : ℕ → Bool) (n : ℕ) → ((k : ℕ) → p k ≡ true → q k ≡ true) → count_below p n ≤ count_below q n
-more p q zero h = omega arith
-more p q (suc n) h = more_step (p n) (q n) (count_below p n) (count_below q n) (h n) (more p q n h)
 
 or_right_true : (a b : Bool) → b ≡ true → (a || b) ≡ true
 or_right_true true b e = refl

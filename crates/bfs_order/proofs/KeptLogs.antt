@@ -20,7 +20,8 @@ use Rattle.bfs_order.specs.Laws.Calls.{Call, Takes, Proposes, Executes, Checkpoi
 use Rattle.bfs_order.specs.Laws.Logs.{HasDistinctSlots, IsInWindow, IsWindowed, IsCertified, HasCertificate}
 use Rattle.bfs_order.proofs.Telling.{says_is, is_said, slot_is, told_left, told_right, is_one, found_kept}
 use Rattle.bfs_order.proofs.Moving.{Fact, Moves, Speaks, Fits, CanTake, call_goes}
-use Rattle.bfs_order.proofs.Certifying.{IsVoucher, Vouched, vouched, each_keeps, more, senders_counted}
+use Rattle.bfs_order.proofs.Certifying.{IsVoucher, Vouched, vouched, each_keeps, senders_counted}
+use Rattle.bfs_agreement.proofs.Public.{more}
 
 -- Whatever is let in ------------------------------------------------------------------------------------------------------
 

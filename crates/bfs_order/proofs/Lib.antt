@@ -1,6 +1,7 @@
 -- What proofs share.
 mod Telling
 mod Moving
+mod Nearly
 mod Certifying
 mod KeptLogs
 mod Certificates

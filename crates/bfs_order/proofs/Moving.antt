@@ -20,20 +20,21 @@ use Rattle.bfs_order.specs.Replica.Executing.{next_order}
 use Rattle.bfs_order.specs.Replica.Installing.{number_of, is_certificate, certified, install_refusal, installed}
 use Rattle.bfs_order.specs.Replica.Outcomes.{Outcome, quiet, unless}
 use Rattle.bfs_order.specs.Replica.Proposing.{next_number, leads, proposal_refusal, proposal, proposal_commits, proposed, batch_digest}
-use Rattle.bfs_order.specs.Replica.Refusals.{window, is_between, is_inside, is_of_view, is_there, conflicts, is_ordering, is_authentic, place_refusal, refusal}
+use Rattle.bfs_order.specs.Replica.Refusals.{is_between, is_inside, is_of_view, is_there, conflicts, is_ordering, is_authentic, place_refusal, refusal}
 use Rattle.bfs_order.specs.Replica.States.{State, known, with_more, with_message}
 use Rattle.bfs_order.specs.Replica.Views.{leaving_refusal, left, entering_refusal, opened, handed_refusal, taken_over, all_taken_over, entered}
 use Rattle.bfs_order.specs.Laws.Calls.{Call, Takes, Proposes, Executes, Checkpoints, Installs, Leaves, Enters, execution, outcome}
 use Rattle.bfs_order.specs.declared.error.OrderError.{OrderError}
 use Rattle.bfs_order.specs.declared.error.OrderError.TheVariants.{WrongKind}
 use Rattle.bfs_order.proofs.Telling.{slot_is, told_left, told_right, is_one}
+use Rattle.bfs_model.specs.Server.Limits.{log_size}
 
 -- a message may go into a log
 pub record CanTake (f view low : ℕ) (log : Log) (m : Signed Message) : Type 0 where
   pub free : is_taken (headers log) (header m) ≡ false
   pub kind : is_ordering (header m) ≡ true
   pub above : low < (header m).number
-  pub to : (header m).number ≤ low + window
+  pub to : (header m).number ≤ low + log_size
   pub led : (header m).tag ≡ 2 → (header m).sender ≡ primary f (header m).view
   pub of_view : (header m).tag < 5 → (header m).view ≡ view
 
@@ -90,10 +91,10 @@ led_by true true e is = refl
 led_by true false e is = absurd cc
 led_by false b e is = absurd cc
 
-pub between : (s : State) (n : ℕ) → is_between s n ≡ true → (s.low < n) × (n ≤ s.low + window)
+pub between : (s : State) (n : ℕ) → is_between s n ≡ true → (s.low < n) × (n ≤ s.low + log_size)
 between s n e =
-    let parts = and_parts (ltb s.low n) (leb n (s.low + window)) e in
-    (ltb-true s.low n parts.0, leb-true n (s.low + window) parts.1)
+    let parts = and_parts (ltb s.low n) (leb n (s.low + log_size)) e in
+    (ltb-true s.low n parts.0, leb-true n (s.low + log_size) parts.1)
 
 viewed : (s : State) (h : Header) → is_of_view s h ≡ true → h.tag < 5 → h.view ≡ s.view
 viewed s h e small = go (or_cases (eqb h.tag 5) (eqb h.view s.view && leb s.asked s.view) e)
@@ -189,7 +190,7 @@ module _ (Good : Signed Message → Type 0) (P : Fact) (moves : Moves Good P) wh
   unless_goes s sent (Some e) o kept goes = quiet_goes s s sent refl refl kept
 
   said_more : (keys : Keys) (s : State) (sent : Log) (m : Message) → Keeps s sent → is_ordering (message_header m) ≡ true → ((message_header m).tag ≡ 2 → ⊥)
-      → s.low < (message_header m).number → (message_header m).number ≤ s.low + window → (message_header m).sender ≡ s.me → (message_header m).view ≡ s.view
+      → s.low < (message_header m).number → (message_header m).number ≤ s.low + log_size → (message_header m).sender ≡ s.me → (message_header m).view ≡ s.view
       → Told (known s) 2 (primary s.f (message_header m).view) (message_header m).view (message_header m).number (message_header m).digest
       → Good (signed_by keys m) → More s sent (said_once keys s m)
   said_more keys s sent m kept kind other above to mine of_view backed good = go (is_there s (message_header m)) refl
@@ -201,7 +202,7 @@ module _ (Good : Signed Message → Type 0) (P : Fact) (moves : Moves Good P) wh
           (record { free = is; kind = kind; above = above; to = to; led = λ two. absurd (other two); of_view = λ small. of_view })
           (record { mine = mine; backed = λ _. told_left s.log (signed_by keys m ∷ []) _ _ _ _ _ backed }) good
 
-  prepares_more : (keys : Keys) (s : State) (sent : Log) (v n : ℕ) (d : List ℕ) → v ≡ s.view → Speaks Good keys s.f s.me → Keeps s sent → s.low < n → n ≤ s.low + window
+  prepares_more : (keys : Keys) (s : State) (sent : Log) (v n : ℕ) (d : List ℕ) → v ≡ s.view → Speaks Good keys s.f s.me → Keeps s sent → s.low < n → n ≤ s.low + log_size
       → Told (known s) 2 (primary s.f v) v n d → More s sent (prepares_in keys s v n d)
   prepares_more keys s sent v n d here speaks kept above to backed = go (eqb s.me (primary s.f v)) refl
     where
@@ -209,7 +210,7 @@ module _ (Good : Signed Message → Type 0) (P : Fact) (moves : Moves Good P) wh
       go true is = none_more s sent kept
       go false is = said_more keys s sent (Prepare (own_vote s v n d)) kept refl (λ two. absurd (omega (arith, two))) above to refl here backed (speaks.prepare v n d is)
 
-  commits_more : (keys : Keys) (s : State) (sent : Log) (v n : ℕ) (d : List ℕ) → v ≡ s.view → Speaks Good keys s.f s.me → Keeps s sent → s.low < n → n ≤ s.low + window
+  commits_more : (keys : Keys) (s : State) (sent : Log) (v n : ℕ) (d : List ℕ) → v ≡ s.view → Speaks Good keys s.f s.me → Keeps s sent → s.low < n → n ≤ s.low + log_size
       → More s sent (commits_in keys s v n d)
   commits_more keys s sent v n d here speaks kept above to = go (prepared s.f s.me (known s) v n d) refl
     where
@@ -221,14 +222,14 @@ module _ (Good : Signed Message → Type 0) (P : Fact) (moves : Moves Good P) wh
   regrouped s sent p c kept =
       subst (λ (l : Log). P s.f s.me s.view s.low l (sent ++ (p ++ c))) (append_assoc s.log p c) (subst (λ (l : Log). P s.f s.me s.view s.low ((s.log ++ p) ++ c) l) (append_assoc sent p c) kept)
 
-  votes_more : (keys : Keys) (s : State) (sent : Log) (v n : ℕ) (d : List ℕ) → v ≡ s.view → Speaks Good keys s.f s.me → Keeps s sent → s.low < n → n ≤ s.low + window
+  votes_more : (keys : Keys) (s : State) (sent : Log) (v n : ℕ) (d : List ℕ) → v ≡ s.view → Speaks Good keys s.f s.me → Keeps s sent → s.low < n → n ≤ s.low + log_size
       → Told (known s) 2 (primary s.f v) v n d → More s sent (votes_in keys s v n d)
   votes_more keys s sent v n d here speaks kept above to backed =
       let p = prepares_in keys s v n d in
       regrouped s sent p (commits_in keys (with_more s p) v n d)
       (commits_more keys (with_more s p) (sent ++ p) v n d here speaks (prepares_more keys s sent v n d here speaks kept above to backed) above to)
 
-  answers_more : (keys : Keys) (s : State) (sent : Log) (h : Header) → (h.tag < 5 → h.view ≡ s.view) → Speaks Good keys s.f s.me → Keeps s sent → s.low < h.number → h.number ≤ s.low + window
+  answers_more : (keys : Keys) (s : State) (sent : Log) (h : Header) → (h.tag < 5 → h.view ≡ s.view) → Speaks Good keys s.f s.me → Keeps s sent → s.low < h.number → h.number ≤ s.low + log_size
       → (h.tag ≡ 2 → Told (known s) 2 (primary s.f h.view) h.view h.number h.digest) → More s sent (answers_in keys s h)
   answers_more keys s sent h of_view speaks kept above to backed = go (eqb h.tag 2) (eqb h.tag 3) refl refl (λ is. backed (eqb-true h.tag 2 is))
     where
@@ -269,8 +270,8 @@ module _ (Good : Signed Message → Type 0) (P : Fact) (moves : Moves Good P) wh
       above : s.low < next_number s
       above = omega arith
 
-      to : next_number s ≤ s.low + window
-      to = leb-true (next_number s) (s.low + window) (and_parts (leb (next_number s) (s.low + window)) _ (not-false _ (passed _ _ _ (passed (not (leads s)) _ _ none).1).0)).0
+      to : next_number s ≤ s.low + log_size
+      to = leb-true (next_number s) (s.low + log_size) (and_parts (leb (next_number s) (s.low + log_size)) _ (not-false _ (passed _ _ _ (passed (not (leads s)) _ _ none).1).0)).0
 
       free : is_taken (known s) (header (proposal keys s batch)) ≡ false
       free = false_from_ne_true (has_slot (known s) 2 s.me s.view (next_number s)) (λ taken. absurd (omega (arith, below_greatest (known s) s.me s.view (next_number s) taken)))

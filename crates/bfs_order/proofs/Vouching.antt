@@ -7,11 +7,12 @@ use Rattle.bfs_auth.specs.Keys.{Keys}
 use Rattle.bfs_agreement.specs.Votes.{SlotsDiffer, has_slot, is_slot, is_taken, replicas, tellers, Told, told, says}
 use Rattle.bfs_log.specs.Headers.{header}
 use Rattle.bfs_log.specs.Logs.{Log, headers}
-use Rattle.bfs_order.proofs.Certifying.{IsVoucher, more, senders_counted, vouched}
+use Rattle.bfs_order.proofs.Certifying.{IsVoucher, senders_counted, vouched}
 use Rattle.bfs_order.proofs.KeptLogs.{no_view}
 use Rattle.bfs_order.proofs.Telling.{is_said, slot_is}
 use Rattle.bfs_order.specs.Laws.Certificates.{CertificatesMakeStable, IsCheckpointOf}
 use Rattle.bfs_order.specs.Replica.Installing.{digest_of, has_sender, number_of, senders_differ}
+use Rattle.bfs_agreement.proofs.Public.{more}
 
 -- each sender tells it
 sender_tells : (keys : Keys) (f n : ℕ) (d : List ℕ) (ms : Log) → All (IsVoucher keys f n d) ms → (k : ℕ) → has_sender ms k ≡ true → Told (headers ms) 5 k 0 n d

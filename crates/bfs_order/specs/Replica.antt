@@ -7,6 +7,7 @@ pub mod Accepting
 pub mod Proposing
 pub mod Executing
 pub mod Checkpoints
+pub mod Behind
 pub mod Installing
 pub mod Views
 pub mod Codes

@@ -7,6 +7,7 @@ ghost use Rattle.bfs_order.specs.Replica.Accepting.{accepted};
 ghost use Rattle.bfs_order.specs.Replica.Answers.{commits_in, own_vote, prepares_in, said_once, votes_in};
 ghost use Rattle.bfs_order.specs.Replica.Refusals.{is_there};
 ghost use Rattle.bfs_order.specs.Replica.States.{known, with_message, with_more};
+ghost use Rattle.bfs_model.specs.Server.Limits.{most_replicas};
 
 use crate::asking::{Asked, asked_by};
 use crate::order::Order;
@@ -130,7 +131,7 @@ impl Order {
         asked: &Asked,
     ) -> Result<Vec<Signed<Message>>, Memory>
         requires free { is_there self.old (header signed) ≡ false }
-        requires sender { (header signed).sender < 31 }
+        requires sender { (header signed).sender < most_replicas }
         ensures now { OnOk result (self.new ≡ with_more (with_message self.old signed) (asked_answers keys.now (with_message self.old signed) asked.now)) }
         ensures sent { IfOk result (λ sent. sent.items ≡ asked_answers keys.now (with_message self.old signed) asked.now) }
         ensures err { OnErr result (self.new ≡ self.old) }
@@ -145,14 +146,15 @@ impl Order {
         Ok(sent)
     }
 
-    /// Takes a message whose place is free. `Memory` if memory runs out; nothing has changed then.
-    pub(crate) fn accept(
+    /// Takes a message that `refusal` does not refuse, and gives what is to be sent to all other replicas. `Memory` if memory runs out;
+    /// nothing has changed then.
+    pub fn accept(
         &mut self,
         keys: &Keys,
         signed: Signed<Message>,
     ) -> Result<Vec<Signed<Message>>, Memory>
         requires free { is_there self.old (header signed) ≡ false }
-        requires sender { (header signed).sender < 31 }
+        requires sender { (header signed).sender < most_replicas }
         ensures now { OnOk result (self.new ≡ (accepted keys.now self.old signed).now) }
         ensures sent { IfOk result (λ sent. sent.items ≡ (accepted keys.now self.old signed).sent) }
         ensures err { OnErr result (self.new ≡ self.old) }

@@ -1,7 +1,7 @@
 // When a checkpoint is stable, and its own checkpoints.
-ghost use Rattle.std.specs.Prelude.{◌≡◌, ◌≢◌, None, Some, IfSome, IfOk, IfErr, OnOk, OnErr};
+ghost use Rattle.std.specs.Prelude.{◌≡◌, ◌≢◌, false, None, Some, IfSome, IfOk, IfErr, OnOk, OnErr};
 ghost use Rattle.bfs_order.specs.Inside.Asking.{asked_settled};
-ghost use Rattle.bfs_order.specs.Replica.Checkpoints.{checkpoint, checkpoint_refusal, checkpointed};
+ghost use Rattle.bfs_order.specs.Replica.Checkpoints.{OneMoreIsTooFew, checkpoint, checkpoint_refusal, checkpointed, is_nearly_stable};
 ghost use Rattle.bfs_order.specs.declared.error.OrderError.TheVariants as error;
 
 use crate::asking::Asked;
@@ -9,7 +9,7 @@ use crate::error::OrderError;
 use crate::order::Order;
 use bfs_auth::Keys;
 use bfs_log::Slot;
-use bfs_messages::{Checkpoint, Message, Signed, sign};
+use bfs_messages::{CHECKPOINT_TAG, Checkpoint, Message, Signed, sign};
 use bfs_types::MOST_NUMBER;
 
 impl Order {
@@ -30,6 +30,14 @@ impl Order {
         }
     }
 
+    /// Whether one more CHECKPOINT of that number and digest may make it stable: 2f replicas have told it. It takes no memory.
+    pub fn is_nearly_stable(&self, number: u64, digest: &[u8]) -> bool
+        ensures value { result ≡ is_nearly_stable self.now number digest.now }
+        ensures only { result ≡ false → OneMoreIsTooFew self.now number digest.now }
+    {
+        2 * self.f as usize <= self.log.checkpoint_votes(self.f, number, digest)
+    }
+
     /// Whether `on_checkpoint` would refuse the number, whatever the digest, so that it is known before a digest is computed: `OutsideMarks`
     /// unless the number is above the low mark, not above the high one, and below 2^63; then `AlreadyHave` where the replica has told that
     /// checkpoint. It takes no memory.
@@ -41,7 +49,7 @@ impl Order {
             return Some(OrderError::OutsideMarks);
         }
         let slot = Slot {
-            tag: 5,
+            tag: CHECKPOINT_TAG,
             sender: self.me,
             view: 0,
             number,

@@ -5,17 +5,19 @@ ghost use Rattle.bfs_agreement.specs.Votes.{committed, primary};
 ghost use Rattle.bfs_log.specs.Logs.{said_of};
 ghost use Rattle.bfs_order.specs.Replica.Executing.{executed, next_committed};
 ghost use Rattle.bfs_order.specs.Replica.States.{known};
+ghost use Rattle.bfs_agreement.specs.Tags.{pre_prepare_tag};
 
 use crate::order::Order;
 use bfs_log::{Committed, Said, Slot};
+use bfs_messages::PRE_PREPARE_TAG;
 
 impl Order {
     // What the PRE-PREPARE for the next number says, in the view last entered.
     fn next_proposal(&self) -> Option<&Said>
-        ensures { option_map (λ said. said.now) result ≡ said_of self.now.log 2 (primary self.now.f self.now.view) self.now.view (self.now.last + 1) }
+        ensures { option_map (λ said. said.now) result ≡ said_of self.now.log pre_prepare_tag (primary self.now.f self.now.view) self.now.view (self.now.last + 1) }
     {
         let slot = Slot {
-            tag: 2,
+            tag: PRE_PREPARE_TAG,
             sender: self.leader(self.view),
             view: self.view,
             number: self.last + 1,

@@ -5,23 +5,24 @@ ghost use Rattle.bfs_log.specs.Headers.{header, message_header};
 ghost use Rattle.bfs_order.specs.Inside.Senders.{are_from_few, is_from_few};
 ghost use Rattle.bfs_order.specs.Replica.Installing.{certified, digest_of, has_sender, install_refusal, installed, is_certificate, number_of, senders_differ, vouches, with_each, with_new};
 ghost use Rattle.bfs_order.specs.declared.error.OrderError.TheVariants as error;
+ghost use Rattle.bfs_model.specs.Server.Limits.{most_faults, most_number};
 
 use crate::error::OrderError;
 use crate::order::Order;
 use crate::refusals::slot_of;
 use bfs_auth::Keys;
 use bfs_log::{Log, header_of};
-use bfs_messages::{Message, Signed, is_signed};
+use bfs_messages::{CHECKPOINT_TAG, Message, Signed, is_signed};
 use bfs_types::Memory;
 use std::alloc::Global;
 
 fn does_vouch(keys: &Keys, f: u32, number: u64, digest: &[u8], signed: &Signed<Message>) -> bool
-    requires { f ≤ 10 }
+    requires { f ≤ most_faults }
     ensures value { result ≡ vouches keys.now f number digest.now signed.now }
     ensures sender { result ≡ true → is_from_few signed.now ≡ true }
 {
     let header = header_of(&signed.message);
-    header.tag == 5
+    header.tag == CHECKPOINT_TAG
         && (header.number == number
             && (header.digest == digest && (header.sender < 3 * f + 1 && is_signed(keys, signed))))
 }
@@ -33,7 +34,7 @@ fn all_vouch(
     digest: &[u8],
     certificate: &[Signed<Message>],
 ) -> bool
-    requires { f ≤ 10 }
+    requires { f ≤ most_faults }
     ensures value { result ≡ list_all (vouches keys.now f number digest.now) certificate.now }
     ensures senders { result ≡ true → are_from_few certificate.now ≡ true }
 {
@@ -79,7 +80,7 @@ fn do_senders_differ(messages: &[Signed<Message>]) -> bool
 }
 
 fn is_certificate_of(keys: &Keys, f: u32, certificate: &[Signed<Message>]) -> bool
-    requires { f ≤ 10 }
+    requires { f ≤ most_faults }
     ensures value { result ≡ is_certificate keys.now f certificate.now }
     ensures senders { result ≡ true → are_from_few certificate.now ≡ true }
 {
@@ -93,7 +94,7 @@ fn is_certificate_of(keys: &Keys, f: u32, certificate: &[Signed<Message>]) -> bo
 
 fn number_in(certificate: &[Signed<Message>]) -> u64
     ensures value { result ≡ number_of certificate.now }
-    ensures within { result < 2 ^ 63 }
+    ensures within { result ≤ most_number }
 {
     match certificate.first() {
         None => 0,
@@ -103,7 +104,7 @@ fn number_in(certificate: &[Signed<Message>]) -> u64
 
 fn number_in_message(message: &Message) -> u64
     ensures value { result ≡ (message_header message.now).number }
-    ensures within { result < 2 ^ 63 }
+    ensures within { result ≤ most_number }
 {
     match message {
         Message::PrePrepare(proposal) => proposal.vote().number(),

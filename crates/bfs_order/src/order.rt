@@ -6,13 +6,14 @@ ghost use Rattle.bfs_order.specs.Replica.Accepting.{accepted};
 ghost use Rattle.bfs_order.specs.Replica.Refusals.{refusal};
 ghost use Rattle.bfs_order.specs.Replica.States.{fresh};
 ghost use Rattle.bfs_order.specs.declared.error.OrderError.TheVariants as error;
+ghost use Rattle.bfs_model.specs.Server.Limits.{log_size, most_faults, most_number};
 
 use crate::error::OrderError;
-use crate::refusals::WINDOW;
 use bfs_auth::Keys;
 use bfs_log::Log;
 use bfs_messages::{Message, Signed};
 use bfs_pending::PendingRequests;
+use bfs_types::LOG_SIZE;
 use std::alloc::Global;
 use std::marker::Model;
 use std::thread::Threads;
@@ -48,7 +49,7 @@ impl Order {
     /// A replica that has accepted nothing, in view 0. At most `f` of the `3f + 1` replicas are faulty, and f is at most 10; `me` is
     /// its number among them.
     pub fn new(alloc: Global, f: u32, me: u32) -> Order
-        requires faults { f ≤ 10 }
+        requires faults { f ≤ most_faults }
         requires me { me < 3 * f + 1 }
         ensures { result ≡ fresh f me }
     {
@@ -69,7 +70,7 @@ impl Order {
     /// At most so many of the `3f + 1` replicas are faulty.
     pub fn f(&self) -> u32
         ensures value { result ≡ self.now.f }
-        ensures within { result ≤ 10 }
+        ensures within { result ≤ most_faults }
     {
         self.f
     }
@@ -85,7 +86,7 @@ impl Order {
     /// The view last asked for: above the one entered while a view change is under way.
     pub fn asked(&self) -> u64
         ensures value { result ≡ self.now.asked }
-        ensures within { result < 2 ^ 63 }
+        ensures within { result ≤ most_number }
     {
         self.asked
     }
@@ -93,7 +94,7 @@ impl Order {
     /// The view last entered.
     pub fn view(&self) -> u64
         ensures value { result ≡ self.now.view }
-        ensures within { result < 2 ^ 63 }
+        ensures within { result ≤ most_number }
     {
         self.view
     }
@@ -101,22 +102,22 @@ impl Order {
     /// The low mark: the number of the stable checkpoint.
     pub fn low(&self) -> u64
         ensures value { result ≡ self.now.low }
-        ensures within { result < 2 ^ 63 }
+        ensures within { result ≤ most_number }
     {
         self.low
     }
 
     /// The high mark: the greatest number that is taken.
     pub fn high(&self) -> u64
-        ensures { result ≡ self.now.low + 32 }
+        ensures { result ≡ self.now.low + log_size }
     {
-        self.low + WINDOW
+        self.low + LOG_SIZE as u64
     }
 
     /// The number last executed.
     pub fn last_executed(&self) -> u64
         ensures value { result ≡ self.now.last }
-        ensures within { result < 2 ^ 63 }
+        ensures within { result ≤ most_number }
     {
         self.last
     }

@@ -5,13 +5,13 @@ ghost use Rattle.bfs_order.specs.Replica.Proposing.{greatest_taken, leads, lone_
 ghost use Rattle.bfs_order.specs.Replica.Refusals.{is_there};
 ghost use Rattle.bfs_order.specs.Replica.States.{with_message, with_more};
 ghost use Rattle.bfs_order.specs.declared.error.OrderError.TheVariants as error;
+ghost use Rattle.bfs_model.specs.Server.Limits.{most_replicas};
 
 use crate::error::OrderError;
 use crate::order::Order;
-use crate::refusals::WINDOW;
 use bfs_auth::Keys;
 use bfs_messages::{HashedBatch, Message, PrePrepare, Signed, Vote, sign};
-use bfs_types::{MOST_NUMBER, Memory};
+use bfs_types::{LOG_SIZE, MOST_NUMBER, Memory};
 
 impl Order {
     fn greatest_taken(&self) -> u64
@@ -21,7 +21,8 @@ impl Order {
         proposed.max(self.handed.max(self.low.max(self.min_s)))
     }
 
-    fn leads(&self) -> bool
+    /// Whether it is the primary of the view entered, and has asked for no later one.
+    pub fn leads(&self) -> bool
         ensures { result ≡ leads self.now }
     {
         self.me == self.leader(self.view) && self.asked <= self.view
@@ -38,7 +39,7 @@ impl Order {
             return Some(OrderError::NotPrimary);
         }
         let greatest = self.greatest_taken();
-        if greatest < self.low + WINDOW && greatest < MOST_NUMBER {
+        if greatest < self.low + LOG_SIZE as u64 && greatest < MOST_NUMBER {
             None
         } else {
             Some(OrderError::OutsideMarks)
@@ -85,7 +86,7 @@ impl Order {
         vote: &Vote,
     ) -> Result<(), Memory>
         requires free { is_there self.old (header signed) ≡ false }
-        requires sender { (header signed).sender < 31 }
+        requires sender { (header signed).sender < most_replicas }
         ensures now { OnOk result (self.new ≡ with_more (with_message self.old signed) (lone_commits keys.now (with_message self.old signed) vote.now.view vote.now.number vote.now.digest)) }
         ensures err { OnErr result (self.new ≡ self.old) }
     {

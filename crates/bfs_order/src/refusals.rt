@@ -6,34 +6,31 @@ ghost use Rattle.bfs_messages.specs.Signing.{carried_are_signed};
 ghost use Rattle.bfs_pending.specs.Passed.{HavePassed};
 ghost use Rattle.bfs_order.specs.Replica.Refusals.{conflicts, is_authentic, is_between, is_inside, is_of_view, is_ordering, is_there, place_refusal, refusal};
 ghost use Rattle.bfs_order.specs.declared.error.OrderError.TheVariants as error;
+ghost use Rattle.bfs_agreement.specs.Tags.{pre_prepare_tag};
+ghost use Rattle.bfs_model.specs.Server.Limits.{most_replicas};
 
 use crate::error::OrderError;
 use crate::order::Order;
 use bfs_auth::Keys;
 use bfs_log::{Header, Slot, header_of, primary_of};
-use bfs_messages::{Message, Signed, is_signed};
+use bfs_messages::{CHECKPOINT_TAG, Message, PRE_PREPARE_TAG, PREPARE_TAG, Signed, is_signed};
 use bfs_pending::PendingRequests;
+use bfs_types::{CHECKPOINT_INTERVAL, LOG_SIZE};
 use std::thread::Threads;
-
-// How far above the low mark numbers are taken.
-pub(crate) const WINDOW: u64 = 32;
-
-// How many numbers apart checkpoints are.
-const INTERVAL: u64 = 16;
 
 impl Order {
     pub(crate) fn is_between(&self, number: u64) -> bool
         ensures { result ≡ is_between self.now number }
     {
-        self.low < number && number <= self.low + WINDOW
+        self.low < number && number <= self.low + LOG_SIZE as u64
     }
 
     fn is_inside(&self, header: &Header<'_>) -> bool
         ensures { result ≡ is_inside self.now header.now }
     {
         self.is_between(header.number)
-            && if header.tag == 5 {
-                header.number % INTERVAL == 0
+            && if header.tag == CHECKPOINT_TAG {
+                header.number % CHECKPOINT_INTERVAL == 0
             } else {
                 self.min_s < header.number
             }
@@ -42,7 +39,7 @@ impl Order {
     fn is_of_view(&self, header: &Header<'_>) -> bool
         ensures { result ≡ is_of_view self.now header.now }
     {
-        header.tag == 5 || (header.view == self.view && self.asked <= self.view)
+        header.tag == CHECKPOINT_TAG || (header.view == self.view && self.asked <= self.view)
     }
 
     pub(crate) fn is_there(&self, header: &Header<'_>) -> bool
@@ -55,17 +52,17 @@ impl Order {
     #[tactic(auto, using(crate::proofs::Senders::primary_is_few))]
     pub(crate) fn leader(&self, view: u64) -> u32
         ensures value { result ≡ primary self.now.f view }
-        ensures within { result < 31 }
+        ensures within { result < most_replicas }
     {
         primary_of(self.f, view)
     }
 
     // A PRE-PREPARE is the primary's.
     fn is_led(&self, header: &Header<'_>) -> bool
-        ensures value { result ≡ not ((header.now.tag == 2) && not (header.now.sender == primary self.now.f header.now.view)) }
-        ensures few { result ≡ true → header.now.tag ≡ 2 → header.now.sender < 31 }
+        ensures value { result ≡ not ((header.now.tag == pre_prepare_tag) && not (header.now.sender == primary self.now.f header.now.view)) }
+        ensures few { result ≡ true → header.now.tag ≡ pre_prepare_tag → header.now.sender < most_replicas }
     {
-        if header.tag != 2 {
+        if header.tag != PRE_PREPARE_TAG {
             return true;
         }
         header.sender == self.leader(header.view)
@@ -74,14 +71,14 @@ impl Order {
     fn conflicts(&self, header: &Header<'_>) -> bool
         ensures { result ≡ conflicts self.now header.now }
     {
-        (header.tag == 3 && header.sender == self.leader(header.view))
+        (header.tag == PREPARE_TAG && header.sender == self.leader(header.view))
             || (self.is_there(header) && !self.log.is_told(slot_of(header), header.digest))
     }
 
     pub(crate) fn place_refusal(&self, header: &Header<'_>) -> Option<OrderError>
         ensures value { result ≡ place_refusal self.now header.now }
         ensures free { IfNone result (is_there self.now header.now ≡ false) }
-        ensures leader { IfNone result (header.now.tag ≡ 2 → header.now.sender < 31) }
+        ensures leader { IfNone result (header.now.tag ≡ pre_prepare_tag → header.now.sender < most_replicas) }
         ensures one { IfSome result (λ e. e ≢ error.Memory) }
     {
         if !self.is_of_view(header) {
@@ -111,7 +108,7 @@ impl Order {
     ) -> bool
         requires { HavePassed keys.now passed.now }
         ensures value { result ≡ is_authentic keys.now self.now signed.now }
-        ensures sender { result ≡ true → (header signed.now).sender < 31 }
+        ensures sender { result ≡ true → (header signed.now).sender < most_replicas }
     {
         if 3 * self.f + 1 <= header_of(&signed.message).sender {
             return false;
@@ -119,7 +116,9 @@ impl Order {
         is_signed(keys, signed) && are_carried_signed(rt, keys, passed, &signed.message)
     }
 
-    pub(crate) fn refusal(
+    /// Why a message is not taken, if it isn't: what `on_message` refuses it with, in the same order. Its keyed hashes are looked at before
+    /// the log is. It takes no memory.
+    pub fn refusal(
         &self,
         rt: &(impl Threads + Sync),
         keys: &Keys,
@@ -129,7 +128,7 @@ impl Order {
         requires { HavePassed keys.now passed.now }
         ensures value { result ≡ refusal keys.now self.now signed.now }
         ensures free { IfNone result (is_there self.now (header signed.now) ≡ false) }
-        ensures sender { IfNone result ((header signed.now).sender < 31) }
+        ensures sender { IfNone result ((header signed.now).sender < most_replicas) }
         ensures one { IfSome result (λ e. e ≢ error.Memory) }
     {
         let header = header_of(&signed.message);
@@ -173,5 +172,5 @@ pub(crate) fn slot_of(header: &Header<'_>) -> Slot
 fn is_ordering(header: &Header<'_>) -> bool
     ensures { result ≡ is_ordering header.now }
 {
-    2 <= header.tag && header.tag <= 5
+    PRE_PREPARE_TAG <= header.tag && header.tag <= CHECKPOINT_TAG
 }

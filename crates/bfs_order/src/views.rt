@@ -1,15 +1,16 @@
 // A view is left for a later one, and entered.
-ghost use Rattle.std.specs.Prelude.{◌≡◌, ◌≢◌, ◌<◌, ◌^◌, ◌++◌, false, length, take, reverse, None, Some, IfNone, IfSome, IfOk, IfErr, OnOk, OnErr};
+ghost use Rattle.std.specs.Prelude.{◌≡◌, ◌≢◌, ◌<◌, ◌≤◌, ◌++◌, false, length, take, reverse, None, Some, IfNone, IfSome, IfOk, IfErr, OnOk, OnErr};
 ghost use Rattle.bfs_order.specs.Inside.Growing.{Grown};
 ghost use Rattle.bfs_order.specs.Replica.Refusals.{is_there};
 ghost use Rattle.bfs_order.specs.Replica.Views.{all_taken_over, entered, entering_refusal, greatest_number, handed_refusal, left, leaving_refusal, taken_over};
 ghost use Rattle.bfs_order.specs.declared.error.OrderError.TheVariants as error;
+ghost use Rattle.bfs_model.specs.Server.Limits.{most_number, most_replicas};
 
 use crate::error::OrderError;
 use crate::order::Order;
 use bfs_auth::Keys;
 use bfs_log::{Header, header_of};
-use bfs_messages::{Message, Signed};
+use bfs_messages::{Message, PRE_PREPARE_TAG, Signed};
 use bfs_types::{MOST_NUMBER, Memory};
 
 fn greatest_of(handed: &[Signed<Message>]) -> u64
@@ -137,8 +138,8 @@ impl Order {
     }
 
     fn put_back(&mut self, saved: &Saved)
-        requires view { saved.now.view < 2 ^ 63 }
-        requires asked { saved.now.asked < 2 ^ 63 }
+        requires view { saved.now.view ≤ most_number }
+        requires asked { saved.now.asked ≤ most_number }
         ensures { self.new ≡ record self.old { view = saved.now.view; asked = saved.now.asked; min_s = saved.now.min_s; handed = saved.now.handed; log = take saved.now.messages self.old.log } }
     {
         self.view = saved.view;
@@ -149,7 +150,7 @@ impl Order {
     }
 
     fn open(&mut self, view: u64, min_s: u64, handed: u64)
-        requires { view < 2 ^ 63 }
+        requires { view ≤ most_number }
         ensures { self.new ≡ record self.old { view = view; asked = view; min_s = min_s; handed = handed } }
     {
         self.view = view;
@@ -161,9 +162,9 @@ impl Order {
     fn handed_refusal(&self, header: &Header<'_>) -> Option<OrderError>
         ensures value { result ≡ handed_refusal self.now header.now }
         ensures free { IfNone result (is_there self.now header.now ≡ false) }
-        ensures sender { IfNone result (header.now.sender < 31) }
+        ensures sender { IfNone result (header.now.sender < most_replicas) }
     {
-        if header.tag != 2 {
+        if header.tag != PRE_PREPARE_TAG {
             return Some(OrderError::WrongKind);
         }
         self.place_refusal(header)

@@ -18,6 +18,7 @@ use Rattle.bfs_view.specs.Changes.Making.{backs, certificate_of}
 use Rattle.bfs_view.specs.Changes.Parts.{as_message, messages_in, prepares_in}
 use Rattle.bfs_view.proofs.Few.{backed_by, passing}
 use Rattle.bfs_view.proofs.Headers.{proposed_by}
+use Rattle.bfs_agreement.proofs.Public.{same_below}
 
 -- Messages of one kind are those messages again --------------------------------------------------------------------------
 
@@ -126,13 +127,6 @@ module _ (f : ℕ) (log : Log) (p : Signed model.PrePrepare) where
           ≡ (not b && told (headers log) 3 k p.message.vote.view p.message.vote.number p.message.vote.digest)
       go true e = refl
       go false e = told_in k low e
-
-same_step : (a b : Bool) (x y : ℕ) → a ≡ b → x ≡ y → cond a (1 + x) x ≡ cond b (1 + y) y
-same_step a b x y e h = rw (e, h) refl
-
-pub same_below : (p q : ℕ → Bool) (n : ℕ) → ((k : ℕ) → k < n → p k ≡ q k) → count_below p n ≡ count_below q n
-same_below p q zero same = refl
-same_below p q (suc n) same = same_step (p n) (q n) (count_below p n) (count_below q n) (same n (omega arith)) (same_below p q n (λ k low. same k (omega (arith, low))))
 
 told_by : (h : Header) → says h.tag h.sender h.view h.number h.digest h ≡ true
 told_by h =

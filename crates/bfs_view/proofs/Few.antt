@@ -6,7 +6,7 @@ use Rattle.std.proofs.lemmas.Bool.{and_parts, and_from, or_parts, or_from, or_ca
 use Rattle.std.proofs.lemmas.List.{length-map}
 use Rattle.std.proofs.lemmas.List.Elements.{All-nil, All-cons, All-head, All-tail}
 use Rattle.std.proofs.lemmas.Map.Steps.{length-le_from_distinct_below}
-use Rattle.bfs_model.specs.Server.Limits.{most_replicas}
+use Rattle.bfs_model.specs.Server.Limits.{most_replicas, most_faults}
 use Rattle.bfs_agreement.specs.Votes.{Header, SlotsDiffer, has_slot, is_slot, replicas, primary}
 use Rattle.bfs_log.specs.Headers.{header, message_header}
 use Rattle.bfs_log.specs.Logs.{Log, headers}
@@ -148,14 +148,14 @@ backups_apart f proposed log differ =
     senders_apart 3 proposed.view proposed.number (filter (λ m. backs f proposed (header m)) log)
     (passing (λ m. backs f proposed (header m)) (IsAt 3 proposed.view proposed.number) (λ m e. (backed_by f proposed m e).at) log) (differ_kept (backs f proposed) log differ)
 
-pub few_checkpoints : (f low : ℕ) (log : Log) → f ≤ 10 → SlotsDiffer (headers log) → length (checkpoints (filter (λ m. is_of_low f low (header m)) log)) ≤ most_replicas
+pub few_checkpoints : (f low : ℕ) (log : Log) → f ≤ most_faults → SlotsDiffer (headers log) → length (checkpoints (filter (λ m. is_of_low f low (header m)) log)) ≤ most_replicas
 few_checkpoints f low log small differ =
     let kept = filter (λ m. is_of_low f low (header m)) log in
     let most = at_most (replicas f) kept (passing (λ m. is_of_low f low (header m)) (λ m. (header m).sender < replicas f) (λ m e. (of_low f low m e).sender) log) (low_apart f low log differ) in
     let fewer = found_fewer (λ (m : Signed Message). checkpoint_in m.message m.auth) kept in
     omega (arith, small, most, fewer)
 
-pub few_prepares : (f : ℕ) (proposed : Vote) (log : Log) → f ≤ 10 → SlotsDiffer (headers log) → length (prepares (filter (λ m. backs f proposed (header m)) log)) ≤ most_replicas
+pub few_prepares : (f : ℕ) (proposed : Vote) (log : Log) → f ≤ most_faults → SlotsDiffer (headers log) → length (prepares (filter (λ m. backs f proposed (header m)) log)) ≤ most_replicas
 few_prepares f proposed log small differ =
     let kept = filter (λ m. backs f proposed (header m)) log in
     let most = at_most (replicas f) kept (passing (λ m. backs f proposed (header m)) (λ m. (header m).sender < replicas f) (λ m e. (backed_by f proposed m e).sender) log) (backups_apart f proposed log differ) in

@@ -23,7 +23,6 @@ use Rattle.bfs_order.specs.Laws.Calls.{Call, CallsKeepTheReplica, IsAlways, afte
 use Rattle.bfs_order.specs.Laws.Clean.{HasCleanLog, IsClean, LogsAreClean, own_keys}
 use Rattle.bfs_order.specs.Laws.Logs.{HasCertificate, HasDistinctSlots, HasNoLaterView, IsCertified}
 use Rattle.bfs_order.specs.Replica.Installing.{has_sender, is_certificate, number_of, senders_differ, vouches}
-use Rattle.bfs_order.specs.Replica.Refusals.{window}
 use Rattle.bfs_order.specs.Replica.States.{State, fresh, known}
 use Rattle.bfs_view.specs.Changes.Certificates.{certifies, faults, has_stable, is_proved, matches, number_in, view_in, vote_in}
 use Rattle.bfs_view.specs.Changes.Kinds.{checkpoint_in, checkpoints, prepare_in, proposal_in, proposals}
@@ -33,11 +32,13 @@ use Rattle.bfs_view.specs.Changes.ViewChanges.{are_in_order, do_rise, is_due, va
 use Rattle.bfs_view.specs.Inside.Near.{IsNear}
 use Rattle.bfs_view.specs.Laws.Made.{MadeHasPrepared, MadeIsValid, MadeIsValidAfterCalls}
 use Rattle.bfs_view.proofs.Certified.{IsKind, again, backed_alike, checkpoint_kind, messages_made, prepare_kind, prepares_made, proposal_kind}
-use Rattle.bfs_view.proofs.Counting.{fewer_below, senders_fit}
+use Rattle.bfs_view.proofs.Counting.{senders_fit}
 use Rattle.bfs_view.proofs.Few.{backed_by, backups_apart, low_apart, of_low, passing}
 use Rattle.bfs_view.proofs.Folds.{any_map}
 use Rattle.bfs_view.proofs.Latest.{latest_in, latest_is}
 use Rattle.bfs_view.proofs.Members.{all_from, any_at, any_from, greatest_at_most, in_filter, in_filter_map, in_front, in_map, in_range, none_in, of_filter, of_filter_map, of_map, of_range}
+use Rattle.bfs_model.specs.Server.Limits.{log_size}
+use Rattle.bfs_agreement.proofs.Public.{more_below}
 
 -- Where a certificate comes from -----------------------------------------------------------------------------------------
 
@@ -75,10 +76,10 @@ made_of s n c e =
     one_of_two : (a b : Signed model.PrePrepare) → Some a ≡ Some b → a ≡ b
     one_of_two a b e = ap (λ (o : Option (Signed model.PrePrepare)). unwrap_or o a) e
 
-in_window : (s : State) (c : Certificate) → Contains (certificates s) c → (n : ℕ) × (s.low < n) × (n ≤ s.low + window) × Made s n c
+in_window : (s : State) (c : Certificate) → Contains (certificates s) c → (n : ℕ) × (s.low < n) × (n ≤ s.low + log_size) × Made s n c
 in_window s c h =
-    let r = of_filter_map (λ number. latest (prepared_for s number)) c (range_with_len (s.low + 1) window) h in
-    let w = of_range (s.low + 1) window r.0 r.1 in
+    let r = of_filter_map (λ number. latest (prepared_for s number)) c (range_with_len (s.low + 1) log_size) h in
+    let w = of_range (s.low + 1) log_size r.0 r.1 in
     (r.0, omega (arith, w.0), omega (arith, w.1), made_of s r.0 c r.2)
 
 rises : (g : ℕ → Option Certificate) → ((n : ℕ) (c : Certificate) → g n ≡ Some c → number_in c ≡ n)
@@ -116,7 +117,7 @@ module _ (keys : Keys) (s : State) (view : ℕ) (fs : faults keys ≡ s.f) (befo
       let number : number_in c ≡ w.0 = ap number_in (sym w.3.is) ∙ w.3.number in
       let seen : view_in c ≡ w.3.proposal.message.vote.view = ap view_in (sym w.3.is) in
       let old : w.3.proposal.message.vote.view ≤ s.view = All-contains (λ h. h.view ≤ s.view) (known s) (header (as_message PrePrepare w.3.proposal)) views (in_map header (as_message PrePrepare w.3.proposal) s.log w.3.among) in
-      and_from (leb (number_in c) (s.low + window)) (ltb (view_in c) view) (le-leb (number_in c) (s.low + window) (omega (arith, number, w.2))) (lt-ltb (view_in c) view (omega (arith, old, before, seen)))
+      and_from (leb (number_in c) (s.low + log_size)) (ltb (view_in c) view) (le-leb (number_in c) (s.low + log_size) (omega (arith, number, w.2))) (lt-ltb (view_in c) view (omega (arith, old, before, seen)))
 
   certified : (n : ℕ) (c : Certificate) → Made s n c → certifies keys c ≡ true
   certified n c made =
@@ -156,7 +157,7 @@ module _ (keys : Keys) (s : State) (view : ℕ) (fs : faults keys ≡ s.f) (befo
       let few : ltb h.sender (replicas s.f) ≡ true = lt-ltb h.sender (replicas s.f) (omega (arith, low, eqb-true h.sender k c.0)) in
       any_from (λ m. eqb (header m).sender k) at.0 kept_low (in_filter (λ m. is_of_low s.f s.low (header m)) at.0 s.log at.1 (and_from _ _ b.0 (and_from _ _ d.1 few))) c.0) in
       let enough = leb-true (2 * s.f + 1) (tellers s.f (known s) 5 0 s.low digest) stable in
-      let count = fewer_below told_by (has_sender kept_low) (replicas s.f) each in
+      let count = more_below told_by (has_sender kept_low) (replicas s.f) each in
       let fit = senders_fit kept_low (replicas s.f) in
       omega (arith, enough, count, fit)
 
@@ -200,7 +201,7 @@ module _ (keys : Keys) (s : State) (view : ℕ) (fs : faults keys ≡ s.f) (befo
 
   valid : is_signed keys (as_message ViewChange (signed_change keys (change_of s view))) ≡ true → valid_view_change keys (signed_change keys (change_of s view)) ≡ true
   valid signed =
-      and_from _ _ (and_from _ _ (rises of_number (λ n c e. let m = made_of s n c e in ap number_in (sym m.is) ∙ m.number) s.low s.low window (omega arith)) (all_from (is_due (change_of s view)) (certificates s) due))
+      and_from _ _ (and_from _ _ (rises of_number (λ n c e. let m = made_of s n c e in ap number_in (sym m.is) ∙ m.number) s.low s.low log_size (omega arith)) (all_from (is_due (change_of s view)) (certificates s) due))
       (and_from _ _ signed (and_from _ _ stable (all_from (certifies keys) (certificates s) (λ c h. let w = in_window s c h in certified w.0 c w.3))))
 
 pub faults_of : (secret : List ℕ) (f me clients : ℕ) → faults (own_keys secret clients f me) ≡ f
@@ -258,14 +259,14 @@ made_has s view number digest is low high =
     let from = made_of s number last.0 last.1 in
     let seen : p.message.vote.view ≡ view = ap (λ (m : Signed Message). (header m).view) kind.same ∙ v in (
       last.0,
-      in_filter_map (λ k. latest (prepared_for s k)) number last.0 (range_with_len (s.low + 1) window) (in_range (s.low + 1) window number (omega (arith, low)) (omega (arith, high))) last.1,
+      in_filter_map (λ k. latest (prepared_for s k)) number last.0 (range_with_len (s.low + 1) log_size) (in_range (s.low + 1) log_size number (omega (arith, low)) (omega (arith, high))) last.1,
       ap number_in (sym from.is) ∙ from.number,
       omega (arith, last.2, seen),
     )
 
 -- its certificates are of numbers in the window
 pub made_near : (s : State) (view : ℕ) → IsNear (change_of s view)
-made_near s view = greatest_at_most (map number_in (certificates s)) (s.low + window) (λ n h.
+made_near s view = greatest_at_most (map number_in (certificates s)) (s.low + log_size) (λ n h.
     let r = of_map number_in n (certificates s) h in
     let w = in_window s r.0 r.1 in
     omega (arith, w.2, sym r.2 ∙ ap number_in (sym w.3.is) ∙ w.3.number))

@@ -123,10 +123,6 @@ same_any p xs ys same = same_bool (list_any p xs) (list_any p ys)
     (λ h. let r = any_at p xs h in any_from p r.0 ys ((same r.0).0 r.1) r.2)
     (λ h. let r = any_at p ys h in any_from p r.0 xs ((same r.0).1 r.1) r.2)
 
-pub same_count : (p q : ℕ → Bool) (n : ℕ) → ((k : ℕ) → p k ≡ q k) → count_below p n ≡ count_below q n
-same_count p q zero h = refl
-same_count p q (suc n) h = rw (h n, same_count p q n h) refl
-
 -- Greatest numbers --------------------------------------------------------------------------------------------------------------
 
 pub at_most_greatest : (ns : List ℕ) (n : ℕ) → Contains ns n → n ≤ greatest ns

@@ -21,8 +21,9 @@ use Rattle.bfs_view.specs.Changes.Parts.{as_changes, as_message}
 use Rattle.bfs_view.specs.declared.error.ViewError.TheVariants.{BadCertificate, TooFew}
 use Rattle.bfs_view.specs.Laws.Sets.{SameMembers}
 use Rattle.bfs_view.specs.Laws.Choices.{ChoiceIsOfTheSet, RefusalIsOfTheSet}
-use Rattle.bfs_view.proofs.Members.{in_front, in_rest, none_in, of_map, in_map, of_filter, in_filter, of_flat, in_flat, same_bool, all_at, all_from, same_all, same_any, same_count, same_greatest, same_map, same_flat, map_agree}
+use Rattle.bfs_view.proofs.Members.{in_front, in_rest, none_in, of_map, in_map, of_filter, in_filter, of_flat, in_flat, same_bool, all_at, all_from, same_all, same_any, same_greatest, same_map, same_flat, map_agree}
 use Rattle.bfs_view.proofs.Best.{IsBest, best_is, one_text}
+use Rattle.bfs_agreement.proofs.Public.{same_count}
 
 -- where a candidate comes from
 pub record Comes (n : ℕ) (changes : List model.ViewChange) (found : Candidate) : Type 0 where

@@ -7,7 +7,6 @@ use Rattle.std.proofs.lemmas.Bool.{and_parts, leb-true}
 use Rattle.std.proofs.lemmas.List.FromFn.{length-map-range_with_len}
 use Rattle.bfs_auth.specs.Keys.{Keys}
 use Rattle.bfs_messages.specs.declared.signed.Signed.{Signed}
-use Rattle.bfs_order.specs.Replica.Refusals.{window}
 use Rattle.bfs_view.specs.Changes.Parts.{messages_of}
 use Rattle.bfs_view.specs.Changes.ViewChanges.{are_in_order, do_rise, is_due, valid_view_change}
 use Rattle.bfs_view.specs.Changes.Certificates.{number_in, view_in}
@@ -17,6 +16,7 @@ use Rattle.bfs_view.specs.Laws.Choices.{IsChosenFor, NumbersAreChosenOnce, Other
 use Rattle.bfs_view.proofs.Members.{all_at, at_most_greatest, greatest_at_most, in_map, in_range, of_map}
 use Rattle.bfs_view.proofs.Best.{best_is, views_fall}
 use Rattle.bfs_view.proofs.OfTheSet.{comes, goes}
+use Rattle.bfs_model.specs.Server.Limits.{log_size}
 
 numbers : (changes : List ViewChange) (ns : List ℕ) → map (λ c. c.number) (map (chosen_for changes) ns) ≡ ns
 numbers changes [] = refl
@@ -68,12 +68,12 @@ others_null changes number e = rw e refl
 
 -- Few ------------------------------------------------------------------------------------------------------------------------
 
-last_due : (change : ViewChange) → list_all (is_due change) change.certificates ≡ true → last_in change ≤ change.stable + window
-last_due change due = greatest_at_most (map number_in change.certificates) (change.stable + window) (λ n h.
+last_due : (change : ViewChange) → list_all (is_due change) change.certificates ≡ true → last_in change ≤ change.stable + log_size
+last_due change due = greatest_at_most (map number_in change.certificates) (change.stable + log_size) (λ n h.
     let r = of_map number_in n change.certificates h in
-    let first = and_parts (leb (number_in r.0) (change.stable + window)) (ltb (view_in r.0) change.view) (all_at (is_due change) change.certificates due r.0 r.1) in
-    let le = leb-true (number_in r.0) (change.stable + window) first.0 in
-    subst (λ k. k ≤ change.stable + window) r.2 le)
+    let first = and_parts (leb (number_in r.0) (change.stable + log_size)) (ltb (view_in r.0) change.view) (all_at (is_due change) change.certificates due r.0 r.1) in
+    let le = leb-true (number_in r.0) (change.stable + log_size) first.0 in
+    subst (λ k. k ≤ change.stable + log_size) r.2 le)
 
 due_in : (keys : Keys) (s : Signed ViewChange) → valid_view_change keys s ≡ true → list_all (is_due s.message) s.message.certificates ≡ true
 due_in keys s valid =
@@ -83,13 +83,13 @@ due_in keys s valid =
 pub valid_near : (keys : Keys) (s : Signed ViewChange) → valid_view_change keys s ≡ true → IsNear s.message
 valid_near keys s valid = last_due s.message (due_in keys s valid)
 
-pub near_short : (changes : List (Signed ViewChange)) → ((s : Signed ViewChange) → Contains changes s → IsNear s.message) → length (choice (messages_of changes)).chosen ≤ window
+pub near_short : (changes : List (Signed ViewChange)) → ((s : Signed ViewChange) → Contains changes s → IsNear s.message) → length (choice (messages_of changes)).chosen ≤ log_size
 near_short changes near =
     let ms = messages_of changes in
-    let top : greatest (map last_in ms) ≤ latest_stable ms + window = greatest_at_most (map last_in ms) (latest_stable ms + window) (λ n h.
+    let top : greatest (map last_in ms) ≤ latest_stable ms + log_size = greatest_at_most (map last_in ms) (latest_stable ms + log_size) (λ n h.
     let r = of_map last_in n ms h in
     let o = of_map (λ (s : Signed ViewChange). s.message) r.0 changes r.1 in
-    let last = subst (λ (c : ViewChange). last_in c ≤ c.stable + window) o.2 (near o.0 o.1) in
+    let last = subst (λ (c : ViewChange). last_in c ≤ c.stable + log_size) o.2 (near o.0 o.1) in
     let passed = stable_passed ms r.0 r.1 in
     omega (arith, last, passed, r.2)) in
     let count = length-map-range_with_len (chosen_for ms) (latest_stable ms + 1) (last_number ms - latest_stable ms) in

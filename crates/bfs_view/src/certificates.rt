@@ -10,6 +10,8 @@ ghost use Rattle.bfs_messages.specs.declared.message.Message.TheVariants as kind
 ghost use Rattle.bfs_order.specs.Replica.Installing.{is_certificate, senders_differ, vouches};
 ghost use Rattle.bfs_view.specs.Changes.Certificates.{certifies, faults, has_stable, is_proved, matches, number_in, view_in, vote_in};
 ghost use Rattle.bfs_view.specs.Changes.Parts.{as_message, checkpoints_in, is_all_signed, messages_in, prepares_in};
+ghost use Rattle.bfs_agreement.specs.Tags.{prepare_tag};
+ghost use Rattle.bfs_model.specs.Server.Limits.{most_faults};
 
 use crate::senders::{do_senders_differ, faults_of, is_sender};
 use bfs_auth::Keys;
@@ -28,14 +30,14 @@ pub(crate) fn vote_in(certificate: &Certificate) -> &Vote
 
 /// Whether a PREPARE matches a PRE-PREPARE.
 pub(crate) fn does_match(proposed: &Vote, vote: &Vote) -> bool
-    ensures { result ≡ matches proposed.now (vote_header 3 vote.now) }
+    ensures { result ≡ matches proposed.now (vote_header prepare_tag vote.now) }
 {
     vote.view() == proposed.view()
         && (vote.number() == proposed.number() && vote.digest() == proposed.digest())
 }
 
 fn do_match(proposed: &Vote, prepares: &[Signed<Vote>]) -> bool
-    ensures { result ≡ list_all (λ s. matches proposed.now (vote_header 3 s.message)) prepares.now }
+    ensures { result ≡ list_all (λ s. matches proposed.now (vote_header prepare_tag s.message)) prepares.now }
 {
     prepares
         .iter()
@@ -52,13 +54,13 @@ fn do_all_differ(certificate: &Certificate) -> bool
 /// Whether a PREPARE of a replica matches the PRE-PREPARE.
 #[tactic(auto, using(crate::proofs::Folds::any_map))]
 pub(crate) fn is_told_by(certificate: &Certificate, sender: u32) -> bool
-    ensures { result ≡ told (headers (messages_in certificate.now)) 3 sender (view_in certificate.now) (number_in certificate.now) (vote_in certificate.now).digest }
+    ensures { result ≡ told (headers (messages_in certificate.now)) prepare_tag sender (view_in certificate.now) (number_in certificate.now) (vote_in certificate.now).digest }
 {
     do_tell(certificate.prepares(), vote_in(certificate), sender)
 }
 
 fn do_tell(prepares: &[Signed<Vote>], proposed: &Vote, sender: u32) -> bool
-    ensures { result ≡ list_any (λ s. says 3 sender proposed.now.view proposed.now.number proposed.now.digest (vote_header 3 s.message)) prepares.now }
+    ensures { result ≡ list_any (λ s. says prepare_tag sender proposed.now.view proposed.now.number proposed.now.digest (vote_header prepare_tag s.message)) prepares.now }
 {
     prepares
         .iter()
@@ -66,7 +68,7 @@ fn do_tell(prepares: &[Signed<Vote>], proposed: &Vote, sender: u32) -> bool
 }
 
 fn does_say(vote: &Vote, proposed: &Vote, sender: u32) -> bool
-    ensures { result ≡ says 3 sender proposed.now.view proposed.now.number proposed.now.digest (vote_header 3 vote.now) }
+    ensures { result ≡ says prepare_tag sender proposed.now.view proposed.now.number proposed.now.digest (vote_header prepare_tag vote.now) }
 {
     (vote.sender() == sender
         && (vote.view() == proposed.view() && vote.number() == proposed.number()))
@@ -74,7 +76,7 @@ fn does_say(vote: &Vote, proposed: &Vote, sender: u32) -> bool
 }
 
 fn count_backups(f: u32, certificate: &Certificate) -> u32
-    requires { f ≤ 10 }
+    requires { f ≤ most_faults }
     ensures { result ≡ backups f (headers (messages_in certificate.now)) (view_in certificate.now) (number_in certificate.now) (vote_in certificate.now).digest }
 {
     let primary = primary_of(f, vote_in(certificate).view());
@@ -90,7 +92,7 @@ fn count_backups(f: u32, certificate: &Certificate) -> u32
 /// Whether 2f backups match the PRE-PREPARE of the primary.
 #[tactic(auto, using(crate::proofs::Headers::proposed_by))]
 pub(crate) fn is_proved(f: u32, certificate: &Certificate) -> bool
-    requires { f ≤ 10 }
+    requires { f ≤ most_faults }
     ensures { result ≡ is_proved f certificate.now }
 {
     let proposed = vote_in(certificate);
@@ -137,7 +139,7 @@ pub(crate) fn does_certify(keys: &Keys, certificate: &Certificate) -> bool
 
 // Whether a replica's CHECKPOINT tells what the first one does.
 fn does_vouch(keys: &Keys, f: u32, first: &Checkpoint, signed: &Signed<Checkpoint>) -> bool
-    requires { f ≤ 10 }
+    requires { f ≤ most_faults }
     ensures { result ≡ vouches keys.now f first.now.number first.now.digest (as_message kind.Checkpoint signed.now) }
 {
     let checkpoint = &signed.message;
@@ -148,7 +150,7 @@ fn does_vouch(keys: &Keys, f: u32, first: &Checkpoint, signed: &Signed<Checkpoin
 
 #[tactic(auto, using(crate::proofs::Folds::all_map))]
 fn do_vouch(keys: &Keys, f: u32, first: &Checkpoint, checkpoints: &[Signed<Checkpoint>]) -> bool
-    requires { f ≤ 10 }
+    requires { f ≤ most_faults }
     ensures { result ≡ list_all (vouches keys.now f first.now.number first.now.digest) (map (as_message kind.Checkpoint) checkpoints.now) }
 {
     does_each_vouch(keys, f, first, checkpoints)
@@ -160,7 +162,7 @@ fn does_each_vouch(
     first: &Checkpoint,
     checkpoints: &[Signed<Checkpoint>],
 ) -> bool
-    requires { f ≤ 10 }
+    requires { f ≤ most_faults }
     ensures { result ≡ list_all (λ s. vouches keys.now f first.now.number first.now.digest (as_message kind.Checkpoint s)) checkpoints.now }
 {
     checkpoints

@@ -2,9 +2,9 @@
 ghost use Rattle.std.specs.Prelude.{◌≡◌, ◌≤◌, ◌++◌, None, replicate, length, option_to_list, slice_set, get_or, ◌<◌, count_by, filter_map, is_some, map, IfOk, OnOk};
 ghost use Rattle.std.specs.Option.{option_map};
 ghost use Rattle.bfs_agreement.specs.Votes.{replicas};
-ghost use Rattle.bfs_model.specs.Server.Limits.{most_replicas};
+ghost use Rattle.bfs_model.specs.Server.Limits.{most_replicas, most_faults};
 ghost use Rattle.bfs_view.specs.Inside.Near.{AreNear, IsNear, IsNearIfKept};
-ghost use Rattle.bfs_view.specs.Changes.Keeping.{above_view, changes_for, if_above, if_for, nothing_kept, put_back, was_asked, with_asked, with_change};
+ghost use Rattle.bfs_view.specs.Changes.Keeping.{above_view, asked_above, changes_for, if_above, if_for, least_asked, least_of, nothing_kept, put_back, was_asked, with_asked, with_change};
 
 use crate::copies::Copied;
 use bfs_messages::{Signed, ViewChange};
@@ -43,7 +43,7 @@ pub struct Replaced {
 impl KeptViewChanges {
     /// Nothing of any of `3f + 1` replicas. `Memory` if memory runs out.
     pub fn new(alloc: Global, f: u32) -> Result<KeptViewChanges, Memory>
-        requires { f ≤ 10 }
+        requires { f ≤ most_faults }
         ensures { IfOk result (λ kept. kept ≡ nothing_kept f) }
     {
         let replicas = 3 * f + 1;
@@ -61,6 +61,35 @@ impl KeptViewChanges {
             Some(&view) => change.view() <= view,
             None => change.view() == 0,
         }
+    }
+
+    /// The least view above one that senders have asked for, if so many have asked for views above it (OSDI 1999 section 4.5.2). It takes no
+    /// memory.
+    pub fn least_asked(&self, view: u64, count: usize) -> Option<u64>
+        ensures { result ≡ least_asked self.now view count }
+    {
+        if self.count_above(view) < count {
+            return None;
+        }
+        self.least_above(view)
+    }
+
+    fn least_above(&self, view: u64) -> Option<u64>
+        ensures { result ≡ least_of (asked_above self.now view) }
+    {
+        let mut least: Option<u64> = None;
+        for asked in &self.asked {
+            if view < *asked {
+                least = Some(least.unwrap_or(*asked).min(*asked));
+            }
+        }
+        least
+    }
+
+    fn count_above(&self, view: u64) -> usize
+        ensures { result ≡ length (asked_above self.now view) }
+    {
+        self.asked.iter().filter(|asked| view < **asked).count()
     }
 
     /// Notes what its sender asks for: a view that another replica leads. It takes no memory.

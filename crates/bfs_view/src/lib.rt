@@ -23,4 +23,5 @@ pub use laws::{
 pub use making::{make_view_change, view_change_message};
 pub use new_views::{check_new_view, choose};
 pub use proposing::{Begun, begin_view, handed_in, make_new_view};
+pub use senders::faults_of;
 pub use view_changes::{valid_signed_view_change, valid_view_change};

@@ -1,7 +1,7 @@
 // What a replica says of its log in a VIEW-CHANGE.
 ghost use Rattle.std.specs.Prelude.{◌≡◌, ◌<◌, ◌≤◌, ◌+◌, ◌-◌, ◌==◌, ◌&&◌, ◌||◌, true, [], ◌∷◌, length, nat_lt, option_to_list, IfOk, OnOk, ◌++◌, if◌then◌else◌};
 ghost use Rattle.std.specs.List.{Contains, filter, filter_map, fold, range_with_len};
-ghost use Rattle.bfs_model.specs.Server.Limits.{log_size, most_number, most_replicas};
+ghost use Rattle.bfs_model.specs.Server.Limits.{log_size, most_number, most_replicas, most_faults};
 ghost use Rattle.bfs_agreement.specs.Votes.{SlotsDiffer, prepared, primary, replicas, told};
 ghost use Rattle.bfs_log.specs.Headers.{header, vote_header};
 ghost use Rattle.bfs_log.specs.Logs.{headers};
@@ -87,7 +87,7 @@ fn low_checkpoints(
     low: u64,
     log: &[Signed<Message>],
 ) -> Result<Vec<Signed<Checkpoint>>, Memory>
-    requires { f ≤ 10 }
+    requires { f ≤ most_faults }
     ensures { IfOk result (λ found. found.items ≡ checkpoints (filter (λ m. is_of_low f low (header m)) log.now)) }
 {
     let mut found = Vec::new(alloc);
@@ -113,7 +113,7 @@ fn low_checkpoint(
     low: u64,
     signed: &Signed<Message>,
 ) -> Result<Option<Signed<Checkpoint>>, Memory>
-    requires { f ≤ 10 }
+    requires { f ≤ most_faults }
     ensures { IfOk result (λ found. option_to_list found ≡ checkpoints (filter (λ m. is_of_low f low (header m)) (signed.now ∷ []))) }
 {
     match &signed.message {
@@ -126,7 +126,7 @@ fn low_checkpoint(
 }
 
 fn is_of_low(f: u32, low: u64, checkpoint: &Checkpoint) -> bool
-    requires { f ≤ 10 }
+    requires { f ≤ most_faults }
     ensures { result ≡ ((checkpoint.now.number == low) && nat_lt checkpoint.now.sender (replicas f)) }
 {
     checkpoint.number() == low && checkpoint.sender() < 3 * f + 1
@@ -264,7 +264,7 @@ fn matching_among(
     proposed: &Vote,
     log: &[Signed<Message>],
 ) -> Result<Vec<Signed<Vote>>, Memory>
-    requires { f ≤ 10 }
+    requires { f ≤ most_faults }
     ensures { IfOk result (λ found. found.items ≡ prepares (filter (λ m. backs f proposed.now (header m)) log.now)) }
 {
     let mut found = Vec::new(alloc);
@@ -281,7 +281,7 @@ fn matching_in(
     proposed: &Vote,
     signed: &Signed<Message>,
 ) -> Result<Option<Signed<Vote>>, Memory>
-    requires { f ≤ 10 }
+    requires { f ≤ most_faults }
     ensures { IfOk result (λ found. option_to_list found ≡ prepares (filter (λ m. backs f proposed.now (header m)) (signed.now ∷ []))) }
 {
     match &signed.message {
@@ -294,7 +294,7 @@ fn matching_in(
 }
 
 fn does_back(f: u32, proposed: &Vote, vote: &Vote) -> bool
-    requires { f ≤ 10 }
+    requires { f ≤ most_faults }
     ensures { result ≡ backs f proposed.now (vote_header 3 vote.now) }
 {
     does_match(proposed, vote)

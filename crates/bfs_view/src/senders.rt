@@ -9,6 +9,7 @@ ghost use Rattle.bfs_messages.specs.declared.message.Message.TheVariants as kind
 ghost use Rattle.bfs_order.specs.Replica.Installing.{has_sender, senders_differ};
 ghost use Rattle.bfs_view.specs.Changes.Certificates.{faults};
 ghost use Rattle.bfs_view.specs.Changes.Parts.{as_message};
+ghost use Rattle.bfs_model.specs.Server.Limits.{most_faults};
 
 use bfs_auth::Keys;
 use bfs_messages::{Checkpoint, Signed, ViewChange, Vote};
@@ -48,9 +49,9 @@ impl Sent for Signed<ViewChange> {
 }
 
 /// How many replicas may be faulty where keys are shared with so many.
-pub(crate) fn faults_of(keys: &Keys) -> u32
+pub fn faults_of(keys: &Keys) -> u32
     ensures value { result ≡ faults keys.now }
-    ensures within { result ≤ 10 }
+    ensures within { result ≤ most_faults }
 {
     (keys.replicas().saturating_sub(1) / 3) as u32
 }
@@ -84,7 +85,7 @@ pub(crate) fn do_senders_differ<T: Sent>(messages: &[T]) -> bool
 
 /// How many of the replicas send some of them.
 pub(crate) fn count_senders<T: Sent>(f: u32, messages: &[T]) -> u32
-    requires { f ≤ 10 }
+    requires { f ≤ most_faults }
     ensures { result ≡ count_below (λ k. has_sender (map T.sent messages.now) k) (replicas f) }
 {
     let mut count = 0;

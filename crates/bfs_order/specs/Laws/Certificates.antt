@@ -7,10 +7,11 @@ use Rattle.bfs_log.specs.Logs.{Log, headers}
 use Rattle.bfs_messages.specs.declared.signed.Signed.{Signed}
 use Rattle.bfs_messages.specs.declared.message.Message.{Message}
 use Rattle.bfs_order.specs.Replica.Installing.{digest_of, is_certificate, number_of}
+use Rattle.bfs_agreement.specs.Tags.{checkpoint_tag}
 
 -- a CHECKPOINT of that number and digest
 pub record IsCheckpointOf (number : ℕ) (digest : List ℕ) (m : Signed Message) : Type 0 where
-  pub tag : (header m).tag ≡ 5
+  pub tag : (header m).tag ≡ checkpoint_tag
   pub number_is : (header m).number ≡ number
   pub digest_is : (header m).digest ≡ digest
 

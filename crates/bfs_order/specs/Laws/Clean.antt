@@ -10,14 +10,15 @@ use Rattle.bfs_messages.specs.declared.message.Message.{Message}
 use Rattle.bfs_order.specs.Laws.Calls.{Call, Takes, Proposes, Executes, Checkpoints, Installs, Leaves, Enters, outcome, after}
 use Rattle.bfs_messages.specs.Signing.{is_signed, carried_are_signed}
 use Rattle.bfs_order.specs.Replica.States.{State, fresh}
+use Rattle.bfs_agreement.specs.Tags.{pre_prepare_tag, prepare_tag}
 
 -- it and what it carries are signed, its sender is a replica, and the primary of its view where it is a PRE-PREPARE, but not where it is a PREPARE
 pub record IsClean (keys : Keys) (f : ℕ) (m : Signed Message) : Type 0 where
   pub signed : is_signed keys m ≡ true
   pub sender : (header m).sender < replicas f
   pub carried : carried_are_signed keys m.message ≡ true
-  pub led : (header m).tag ≡ 2 → (header m).sender ≡ primary f (header m).view
-  pub backup : (header m).tag ≡ 3 → (header m).sender ≡ primary f (header m).view → ⊥
+  pub led : (header m).tag ≡ pre_prepare_tag → (header m).sender ≡ primary f (header m).view
+  pub backup : (header m).tag ≡ prepare_tag → (header m).sender ≡ primary f (header m).view → ⊥
 
 -- a message and what it carries
 pub record IsAllSigned (keys : Keys) (m : Signed Message) : Type 0 where

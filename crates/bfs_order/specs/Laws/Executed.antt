@@ -10,10 +10,11 @@ use Rattle.bfs_messages.specs.declared.message.Message.{Message}
 use Rattle.bfs_order.specs.Laws.Calls.{Executes, outcome}
 use Rattle.bfs_order.specs.Replica.Executing.{executed, next_committed}
 use Rattle.bfs_order.specs.Replica.States.{State, known}
+use Rattle.bfs_agreement.specs.Tags.{commit_tag, pre_prepare_tag}
 
 -- it is the PRE-PREPARE of that batch by the primary of the view entered
 pub record IsProposalOf (s : State) (next : Committed) (m : Signed Message) : Type 0 where
-  pub tag : (header m).tag ≡ 2
+  pub tag : (header m).tag ≡ pre_prepare_tag
   pub sender : (header m).sender ≡ primary s.f s.view
   pub view : (header m).view ≡ s.view
   pub number : (header m).number ≡ next.number
@@ -27,8 +28,8 @@ pub record HasItsCertificate (s : State) (next : Committed) : Type 0 where
   pub in_log : Contains s.log proposal
   pub proposes : IsProposalOf s next proposal
   pub prepares : 2 * s.f ≤ backups s.f (known s) s.view next.number (header proposal).digest
-  pub commits : 2 * s.f + 1 ≤ tellers s.f (known s) 4 s.view next.number (header proposal).digest
-  pub own : Told (known s) 4 s.me s.view next.number (header proposal).digest
+  pub commits : 2 * s.f + 1 ≤ tellers s.f (known s) commit_tag s.view next.number (header proposal).digest
+  pub own : Told (known s) commit_tag s.me s.view next.number (header proposal).digest
 
 -- the next batch has its certificate
 abbrev pub NextHasItsCertificate : Type 0

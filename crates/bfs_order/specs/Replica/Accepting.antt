@@ -10,10 +10,11 @@ use Rattle.bfs_order.specs.Replica.Answers.{answers_in}
 use Rattle.bfs_order.specs.Replica.Outcomes.{Outcome, unless}
 use Rattle.bfs_order.specs.Replica.Refusals.{refusal}
 use Rattle.bfs_order.specs.Replica.States.{State, known, with_more, with_message}
+use Rattle.bfs_agreement.specs.Tags.{checkpoint_tag}
 
 -- a CHECKPOINT with which enough replicas tell one digest
 abbrev pub makes_stable : State → Header → Bool
-makes_stable s h = (h.tag == 5) && is_stable s.f (known s) h.number h.digest
+makes_stable s h = (h.tag == checkpoint_tag) && is_stable s.f (known s) h.number h.digest
 
 -- the low mark rises to it, and what stands up to it goes, but for the CHECKPOINTs that tell it
 abbrev pub settled : State → Header → State

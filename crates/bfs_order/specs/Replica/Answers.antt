@@ -10,6 +10,7 @@ use Rattle.bfs_messages.specs.declared.message.Message.TheVariants.{Prepare, Com
 use Rattle.bfs_messages.specs.Signing.{signed_by}
 use Rattle.bfs_order.specs.Replica.Refusals.{is_there}
 use Rattle.bfs_order.specs.Replica.States.{State, known, with_more}
+use Rattle.bfs_agreement.specs.Tags.{pre_prepare_tag, prepare_tag}
 
 -- a message of its own, where it has said none of that kind in that view and of that number
 abbrev pub said_once : Keys → State → Message → Log
@@ -34,5 +35,5 @@ votes_in keys s view number digest =
 -- to a PRE-PREPARE and a PREPARE, which are in the log
 abbrev pub answers_in : Keys → State → Header → Log
 answers_in keys s h =
-    if h.tag == 2 then votes_in keys s h.view h.number h.digest else
-    (if h.tag == 3 then commits_in keys s h.view h.number h.digest else [])
+    if h.tag == pre_prepare_tag then votes_in keys s h.view h.number h.digest else
+    (if h.tag == prepare_tag then commits_in keys s h.view h.number h.digest else [])

@@ -9,10 +9,11 @@ use Rattle.bfs_messages.specs.declared.signed.Signed.{Signed}
 use Rattle.bfs_messages.specs.declared.message.Message.{Message}
 use Rattle.bfs_order.specs.Replica.Outcomes.{Outcome, quiet}
 use Rattle.bfs_order.specs.Replica.States.{State, known}
+use Rattle.bfs_agreement.specs.Tags.{pre_prepare_tag}
 
 -- the PRE-PREPARE of the number after the last executed, in the view entered
 abbrev pub next_proposal : State → Option (Signed Message)
-next_proposal s = find (λ m. is_slot 2 (primary s.f s.view) s.view (s.last + 1) (header m)) s.log
+next_proposal s = find (λ m. is_slot pre_prepare_tag (primary s.f s.view) s.view (s.last + 1) (header m)) s.log
 
 abbrev pub where_committed : State → Option (Signed Message) → Option (Signed Message)
 where_committed s None = None

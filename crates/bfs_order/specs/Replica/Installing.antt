@@ -12,11 +12,12 @@ use Rattle.bfs_order.specs.Replica.Outcomes.{Outcome, quiet}
 use Rattle.bfs_order.specs.Replica.States.{State}
 use Rattle.bfs_order.specs.declared.error.OrderError.{OrderError}
 use Rattle.bfs_order.specs.declared.error.OrderError.TheVariants.{OutsideMarks, NoCertificate}
+use Rattle.bfs_agreement.specs.Tags.{checkpoint_tag}
 
 -- a replica's CHECKPOINT of that number and digest
 abbrev pub vouches : Keys → (f number : ℕ) → List ℕ → Signed Message → Bool
 vouches keys f number digest m =
-    ((header m).tag == 5) && (((header m).number == number) && (bytes_eq (header m).digest digest && (nat_lt (header m).sender (replicas f) && is_signed keys m)))
+    ((header m).tag == checkpoint_tag) && (((header m).number == number) && (bytes_eq (header m).digest digest && (nat_lt (header m).sender (replicas f) && is_signed keys m)))
 
 abbrev pub has_sender : Log → (sender : ℕ) → Bool
 has_sender messages sender = list_any (λ m. (header m).sender == sender) messages

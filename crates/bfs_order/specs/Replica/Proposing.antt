@@ -13,10 +13,10 @@ use Rattle.bfs_messages.specs.declared.message.Message.TheVariants.{PrePrepare}
 use Rattle.bfs_order.specs.Replica.Answers.{own_vote, commits_in}
 use Rattle.bfs_messages.specs.Signing.{signed_by}
 use Rattle.bfs_order.specs.Replica.Outcomes.{Outcome}
-use Rattle.bfs_order.specs.Replica.Refusals.{window}
 use Rattle.bfs_order.specs.Replica.States.{State, known, with_more, with_message}
 use Rattle.bfs_order.specs.declared.error.OrderError.{OrderError}
 use Rattle.bfs_order.specs.declared.error.OrderError.TheVariants.{OutsideMarks, NotPrimary}
+use Rattle.bfs_model.specs.Server.Limits.{log_size, most_number}
 
 -- of the PRE-PREPAREs of the view and of what was handed over, the low mark, and what the view begins behind
 abbrev pub greatest_taken : State → ℕ
@@ -32,7 +32,7 @@ leads s = (s.me == primary s.f s.view) && nat_le s.asked s.view
 abbrev pub proposal_refusal : State → Option OrderError
 proposal_refusal s =
     if not (leads s) then Some NotPrimary else
-    (if not (nat_le (next_number s) (s.low + window) && nat_lt (next_number s) (2 ^ 63)) then Some OutsideMarks else None)
+    (if not (nat_le (next_number s) (s.low + log_size) && nat_le (next_number s) most_number) then Some OutsideMarks else None)
 
 abbrev pub batch_digest : Batch → List ℕ
 batch_digest batch = sha256 (batch_text batch)

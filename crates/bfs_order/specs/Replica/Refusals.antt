@@ -9,26 +9,20 @@ use Rattle.bfs_messages.specs.Signing.{is_signed, carried_are_signed}
 use Rattle.bfs_order.specs.Replica.States.{State, known}
 use Rattle.bfs_order.specs.declared.error.OrderError.{OrderError}
 use Rattle.bfs_order.specs.declared.error.OrderError.TheVariants.{WrongKind, BadAuthenticator, WrongView, OutsideMarks, NotPrimary, Conflicting, AlreadyHave}
-
--- how far above the low mark numbers are taken
-abbrev pub window : ℕ
-window = 32
-
--- how many numbers apart checkpoints are
-abbrev pub interval : ℕ
-interval = 16
+use Rattle.bfs_agreement.specs.Tags.{checkpoint_tag, pre_prepare_tag, prepare_tag}
+use Rattle.bfs_model.specs.Server.Limits.{checkpoint_interval, log_size}
 
 -- above the low mark, and not above the high one
 abbrev pub is_between : State → (number : ℕ) → Bool
-is_between s number = nat_lt s.low number && nat_le number (s.low + window)
+is_between s number = nat_lt s.low number && nat_le number (s.low + log_size)
 
 -- a CHECKPOINT tells of a multiple of the interval; all others of numbers that the view has
 abbrev pub is_inside : State → Header → Bool
-is_inside s h = is_between s h.number && (if h.tag == 5 then (h.number % interval) == 0 else nat_lt s.min_s h.number)
+is_inside s h = is_between s h.number && (if h.tag == checkpoint_tag then (h.number % checkpoint_interval) == 0 else nat_lt s.min_s h.number)
 
 -- it has no view, or the view is the one entered and none was asked for since
 abbrev pub is_of_view : State → Header → Bool
-is_of_view s h = h.tag == 5 || ((h.view == s.view) && nat_le s.asked s.view)
+is_of_view s h = h.tag == checkpoint_tag || ((h.view == s.view) && nat_le s.asked s.view)
 
 -- a message of that kind, sender, view and number is there
 abbrev pub is_there : State → Header → Bool
@@ -36,20 +30,20 @@ is_there s h = is_taken (known s) h
 
 -- a PREPARE of the primary, or another digest than the one that its sender told
 abbrev pub conflicts : State → Header → Bool
-conflicts s h = ((h.tag == 3) && (h.sender == primary s.f h.view)) || (is_there s h && not (told (known s) h.tag h.sender h.view h.number h.digest))
+conflicts s h = ((h.tag == prepare_tag) && (h.sender == primary s.f h.view)) || (is_there s h && not (told (known s) h.tag h.sender h.view h.number h.digest))
 
 -- of what is signed, and of a kind that is taken
 abbrev pub place_refusal : State → Header → Option OrderError
 place_refusal s h =
     if not (is_of_view s h) then Some WrongView else
     (if not (is_inside s h) then Some OutsideMarks else
-    (if (h.tag == 2) && not (h.sender == primary s.f h.view) then Some NotPrimary else
+    (if (h.tag == pre_prepare_tag) && not (h.sender == primary s.f h.view) then Some NotPrimary else
     (if conflicts s h then Some Conflicting else
     (if is_there s h then Some AlreadyHave else None))))
 
 -- PRE-PREPARE, PREPARE, COMMIT and CHECKPOINT
 abbrev pub is_ordering : Header → Bool
-is_ordering h = nat_le 2 h.tag && nat_le h.tag 5
+is_ordering h = nat_le pre_prepare_tag h.tag && nat_le h.tag checkpoint_tag
 
 -- by a replica, and the requests in its batch by their clients
 abbrev pub is_authentic : Keys → State → Signed Message → Bool

@@ -12,17 +12,19 @@ use Rattle.bfs_order.specs.Replica.Refusals.{place_refusal}
 use Rattle.bfs_order.specs.Replica.States.{State}
 use Rattle.bfs_order.specs.declared.error.OrderError.{OrderError}
 use Rattle.bfs_order.specs.declared.error.OrderError.TheVariants.{WrongKind, WrongView}
+use Rattle.bfs_agreement.specs.Tags.{pre_prepare_tag}
+use Rattle.bfs_model.specs.Server.Limits.{most_number}
 
 -- only for a view above the one entered and the one asked for
 abbrev pub leaving_refusal : State → (view : ℕ) → Option OrderError
-leaving_refusal s view = if not (nat_lt (max s.view s.asked) view && nat_lt view (2 ^ 63)) then Some WrongView else None
+leaving_refusal s view = if not (nat_lt (max s.view s.asked) view && nat_le view most_number) then Some WrongView else None
 
 abbrev pub left : State → (view : ℕ) → Outcome
 left s view = quiet (record s { asked = view })
 
 -- only a view above the one entered, and not below the one asked for
 abbrev pub entering_refusal : State → (view : ℕ) → Option OrderError
-entering_refusal s view = if not (nat_lt s.view view && (nat_le s.asked view && nat_lt view (2 ^ 63))) then Some WrongView else None
+entering_refusal s view = if not (nat_lt s.view view && (nat_le s.asked view && nat_le view most_number)) then Some WrongView else None
 
 abbrev pub greatest_number : Log → ℕ
 greatest_number [] = 0
@@ -34,7 +36,7 @@ opened s view min_s handed = record s { view = view; asked = view; min_s = min_s
 
 -- what is handed over was checked when it was chosen: a PRE-PREPARE whose place is free is taken, and the rest is passed over
 abbrev pub handed_refusal : State → Header → Option OrderError
-handed_refusal s h = if h.tag == 2 then place_refusal s h else Some WrongKind
+handed_refusal s h = if h.tag == pre_prepare_tag then place_refusal s h else Some WrongKind
 
 abbrev pub taken_over : Keys → State → Signed Message → Outcome
 taken_over keys s m = unless (handed_refusal s (header m)) s (accepted keys s m)

@@ -8,6 +8,7 @@ use Rattle.bfs_log.specs.Logs.{headers}
 use Rattle.bfs_messages.specs.Messages.{Vote, Certificate, ViewChange}
 use Rattle.bfs_order.specs.Replica.Installing.{is_certificate, number_of, senders_differ}
 use Rattle.bfs_view.specs.Changes.Parts.{checkpoints_in, is_all_signed, messages_in, prepares_in}
+use Rattle.bfs_agreement.specs.Tags.{prepare_tag}
 
 -- how many replicas may be faulty where the keys are shared with 3f + 1 (OSDI 1999 section 4)
 abbrev pub faults : Keys → ℕ
@@ -26,7 +27,7 @@ view_in c = (vote_in c).view
 
 -- a PREPARE that tells the digest of a PRE-PREPARE, for its number in its view (OSDI 1999 section 4.2)
 abbrev pub matches : (proposed : Vote) → Header → Bool
-matches proposed h = (h.tag == 3) && ((h.view == proposed.view) && ((h.number == proposed.number) && bytes_eq h.digest proposed.digest))
+matches proposed h = (h.tag == prepare_tag) && ((h.view == proposed.view) && ((h.number == proposed.number) && bytes_eq h.digest proposed.digest))
 
 -- the primary's PRE-PREPARE, and PREPAREs of 2f different backups (OSDI 1999 section 4.2)
 abbrev pub is_proved : (f : ℕ) → Certificate → Bool

@@ -1,6 +1,6 @@
 -- What a replica keeps of the VIEW-CHANGEs that come to it (OSDI 1999 section 4.4). Of each sender there is at most one, for a view that the keeper
 -- leads: a sender that asks for view after view takes no more room.
-use Rattle.std.specs.Prelude.{ℕ, ◌==◌, Bool, List, map, replicate, get_or, slice_set, Option, Some, None, nat_le, nat_lt, if◌then◌else◌}
+use Rattle.std.specs.Prelude.{ℕ, ◌==◌, Bool, List, [], ◌∷◌, filter, fold, length, map, min, replicate, get_or, slice_set, Option, Some, None, nat_le, nat_lt, if◌then◌else◌}
 use Rattle.std.specs.List.{filter_map}
 use Rattle.bfs_agreement.specs.Votes.{replicas}
 use Rattle.bfs_messages.specs.Messages as model
@@ -18,6 +18,18 @@ nothing_kept f = record { asked = replicate (replicas f) 0; changes = replicate 
 -- its sender has asked for that view, or for a later one
 abbrev pub was_asked : Kept → model.ViewChange → Bool
 was_asked kept change = nat_le change.view (get_or kept.asked change.sender 0)
+
+-- the views above one that replicas have asked for
+abbrev pub asked_above : Kept → (view : ℕ) → List ℕ
+asked_above kept view = filter (nat_lt view) kept.asked
+
+abbrev pub least_of : List ℕ → Option ℕ
+least_of [] = None
+least_of (view ∷ views) = Some (fold min view views)
+
+-- the least view above one for which so many replicas ask, or for a later one (OSDI 1999 section 4.5.2)
+abbrev pub least_asked : Kept → (view count : ℕ) → Option ℕ
+least_asked kept view count = if nat_le count (length (asked_above kept view)) then least_of (asked_above kept view) else None
 
 -- of a view that another replica leads
 abbrev pub with_asked : Kept → model.ViewChange → Kept

@@ -13,12 +13,13 @@ use Rattle.bfs_messages.specs.Batches.{batch_text}
 use Rattle.bfs_messages.specs.Spelling.{body_text}
 use Rattle.bfs_messages.specs.declared.signed.Signed.{Signed}
 use Rattle.bfs_messages.specs.declared.message.Message.TheVariants.{PrePrepare, ViewChange}
-use Rattle.bfs_order.specs.Replica.Refusals.{window}
 use Rattle.bfs_order.specs.Replica.States.{State, known}
 use Rattle.bfs_view.specs.Changes.Parts.{as_message}
 use Rattle.bfs_view.specs.Changes.Kinds.{checkpoints, prepares, proposals}
 use Rattle.bfs_view.specs.Changes.Certificates.{matches, view_in}
 use Rattle.bfs_view.specs.Changes.Choice.{Choice, Chosen}
+use Rattle.bfs_agreement.specs.Tags.{checkpoint_tag, pre_prepare_tag}
+use Rattle.bfs_model.specs.Server.Limits.{log_size}
 
 -- A VIEW-CHANGE ---------------------------------------------------------------------------------------------------------
 
@@ -33,7 +34,7 @@ certificate_of f log p = record { proposal = p; prepares = prepares (filter (λ 
 -- a PRE-PREPARE of the primary for a number that is prepared (OSDI 1999 section 4.2)
 abbrev pub is_prepared_for : State → (number : ℕ) → Header → Bool
 is_prepared_for s number h =
-    (h.tag == 2) && ((h.number == number) && ((h.sender == primary s.f h.view) && prepared s.f s.me (known s) h.view h.number h.digest))
+    (h.tag == pre_prepare_tag) && ((h.number == number) && ((h.sender == primary s.f h.view) && prepared s.f s.me (known s) h.view h.number h.digest))
 
 -- what some messages of the log are that
 abbrev pub prepared_among : State → (number : ℕ) → Log → List Certificate
@@ -53,11 +54,11 @@ latest found = fold later None found
 
 -- one for each number above the low mark that is prepared, of the highest such view (OSDI 1999 section 4.4)
 abbrev pub certificates : State → List Certificate
-certificates s = filter_map (λ number. latest (prepared_for s number)) (range_with_len (s.low + 1) window)
+certificates s = filter_map (λ number. latest (prepared_for s number)) (range_with_len (s.low + 1) log_size)
 
 -- a replica's CHECKPOINT of the low mark
 abbrev pub is_of_low : (f low : ℕ) → Header → Bool
-is_of_low f low h = (h.tag == 5) && ((h.number == low) && nat_lt h.sender (replicas f))
+is_of_low f low h = (h.tag == checkpoint_tag) && ((h.number == low) && nat_lt h.sender (replicas f))
 
 -- those that made the low mark stable; the number 0 has none (OSDI 1999 section 4.3)
 abbrev pub stable_checkpoints : State → List (Signed model.Checkpoint)

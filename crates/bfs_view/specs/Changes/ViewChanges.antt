@@ -7,9 +7,9 @@ use Rattle.bfs_messages.specs.Messages.{Certificate}
 use Rattle.bfs_messages.specs.Signing.{is_signed}
 use Rattle.bfs_messages.specs.declared.signed.Signed.{Signed}
 use Rattle.bfs_messages.specs.declared.message.Message.TheVariants.{ViewChange}
-use Rattle.bfs_order.specs.Replica.Refusals.{window}
 use Rattle.bfs_view.specs.Changes.Parts.{as_message}
 use Rattle.bfs_view.specs.Changes.Certificates.{certifies, has_stable, number_in, view_in}
+use Rattle.bfs_model.specs.Server.Limits.{log_size}
 
 -- each number is greater than the one before it, and the first than low
 abbrev pub do_rise : (low : ℕ) → List ℕ → Bool
@@ -18,7 +18,7 @@ do_rise low (n ∷ ns) = nat_lt low n && do_rise n ns
 
 -- of a number in the window above the stable one, prepared before the view that is asked for (OSDI 1999 section 4.4)
 abbrev pub is_due : model.ViewChange → Certificate → Bool
-is_due change c = nat_le (number_in c) (change.stable + window) && nat_lt (view_in c) change.view
+is_due change c = nat_le (number_in c) (change.stable + log_size) && nat_lt (view_in c) change.view
 
 -- the certificates are of rising numbers in the window (OSDI 1999 section 4.4)
 abbrev pub are_in_order : model.ViewChange → Bool

@@ -1,15 +1,14 @@
 -- VIEW-CHANGEs that choose no more batches than stand between the marks.
 use Rattle.std.specs.Prelude.{◌+◌, ◌≤◌, List, length, All, Option, Some, None}
-use Rattle.bfs_model.specs.Server.Limits.{most_replicas}
+use Rattle.bfs_model.specs.Server.Limits.{most_replicas, log_size}
 use Rattle.bfs_messages.specs.Messages.{ViewChange}
 use Rattle.bfs_messages.specs.declared.signed.Signed.{Signed}
-use Rattle.bfs_order.specs.Replica.Refusals.{window}
 use Rattle.bfs_view.specs.Changes.Choice.{last_in}
 use Rattle.bfs_view.specs.Changes.Keeping.{Kept}
 
 -- it has no certificate beyond the window above its stable number
 abbrev pub IsNear : ViewChange → Type 0
-IsNear change = last_in change ≤ change.stable + window
+IsNear change = last_in change ≤ change.stable + log_size
 
 abbrev pub AreNear : List (Signed ViewChange) → Type 0
 AreNear changes = All (λ s. IsNear s.message) changes

@@ -6,13 +6,13 @@ use Rattle.bfs_auth.specs.Keys.{Keys}
 use Rattle.bfs_messages.specs.Messages.{Batch, Certificate, ViewChange}
 use Rattle.bfs_messages.specs.Limits.{FitsViewChange}
 use Rattle.bfs_messages.specs.declared.signed.Signed.{Signed}
-use Rattle.bfs_order.specs.Replica.Refusals.{window}
 use Rattle.bfs_view.specs.Changes.Parts.{messages_of}
 use Rattle.bfs_view.specs.Changes.Certificates.{number_in, view_in}
 use Rattle.bfs_view.specs.Changes.ViewChanges.{valid_view_change}
 use Rattle.bfs_view.specs.Changes.Choice.{Candidate, candidate, candidates, rank, choice, chosen_for, latest_stable, last_number}
 use Rattle.bfs_view.specs.Changes.NewViews.{choice_refusal}
 use Rattle.bfs_view.specs.Laws.Sets.{SameMembers}
+use Rattle.bfs_model.specs.Server.Limits.{log_size}
 
 -- the choice is a function of the set: order and repetition do not matter. Where view, sender and text are the same the batches are, since a
 -- batch within the limits has a text of its own
@@ -56,4 +56,4 @@ OthersAreNull = (changes : List ViewChange) (number : ℕ) → candidates number
 -- valid VIEW-CHANGEs choose no more batches than stand between the marks
 abbrev pub ValidChoicesAreShort : Type 0
 ValidChoicesAreShort = (keys : Keys) (changes : List (Signed ViewChange))
-    → list_all (valid_view_change keys) changes ≡ true → length (choice (messages_of changes)).chosen ≤ window
+    → list_all (valid_view_change keys) changes ≡ true → length (choice (messages_of changes)).chosen ≤ log_size

@@ -9,7 +9,6 @@ use Rattle.bfs_messages.specs.declared.message.Message.TheVariants.{NewView}
 use Rattle.bfs_order.specs.Laws.Calls.{Call, after}
 use Rattle.bfs_order.specs.Laws.Clean.{HasCleanLog, IsProper, own_keys}
 use Rattle.bfs_order.specs.Laws.Logs.{HasCertificate, HasDistinctSlots, HasNoLaterView}
-use Rattle.bfs_order.specs.Replica.Refusals.{window}
 use Rattle.bfs_order.specs.Replica.States.{State, fresh, known}
 use Rattle.bfs_view.specs.Changes.Certificates.{number_in, view_in}
 use Rattle.bfs_view.specs.Changes.ViewChanges.{valid_view_change}
@@ -17,6 +16,7 @@ use Rattle.bfs_view.specs.Changes.Making.{certificates, change_of, new_view_from
 use Rattle.bfs_view.specs.Changes.Choice.{choice}
 use Rattle.bfs_view.specs.Changes.NewViews.{are_for, choice_refusal, new_view_refusal}
 use Rattle.bfs_view.specs.Changes.Parts.{messages_of}
+use Rattle.bfs_model.specs.Server.Limits.{log_size}
 
 -- by its own keys it is valid where the log is clean, and what each replica's log always is
 abbrev pub MadeIsValid : Type 0
@@ -33,7 +33,7 @@ MadeIsValidAfterCalls = (secret : List ℕ) (clients f me : ℕ) (calls : List C
 -- it leaves out nothing that is prepared between the marks: there is a certificate of the number, of a view as high
 abbrev pub MadeHasPrepared : Type 0
 MadeHasPrepared = (s : State) (view number : ℕ) (digest : List ℕ) → prepared s.f s.me (known s) view number digest ≡ true
-    → s.low < number → number ≤ s.low + window
+    → s.low < number → number ≤ s.low + log_size
     → (c : Certificate) × Contains (certificates s) c × (number_in c ≡ number) × (view ≤ view_in c)
 
 -- the NEW-VIEW that a primary makes is right for each replica for which its VIEW-CHANGEs can be chosen from
