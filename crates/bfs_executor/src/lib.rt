@@ -1,4 +1,4 @@
-//! What executes batches, on threads or not, and the digest of the file system that they leave.
+//! What executes batches, on threads or not.
 #![tactic(auto)]
 
 mod executor;

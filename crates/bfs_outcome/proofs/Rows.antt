@@ -9,7 +9,8 @@ use Rattle.bfs_messages.specs.Messages.{Request, Requests}
 use Rattle.bfs_messages.specs.declared.signed.Signed.{Signed}
 use Rattle.bfs_replies.specs.Answers.{Answer}
 use Rattle.bfs_replies.specs.Tables.{Last}
-use Rattle.bfs_outcome.specs.Outcome.{outcome}
+use Rattle.bfs_outcome.specs.Outcome.{at_start, outcome}
+use Rattle.bfs_outcome.specs.Ran.{Execution, executions}
 
 abbrev asked : (xid : ℕ) → List ℕ
 asked xid = words (xid ∷ 0 ∷ 3 ∷ 0 ∷ 0 ∷ 0 ∷ 0 ∷ 0 ∷ 0 ∷ 0 ∷ [])
@@ -40,6 +41,13 @@ pub row-repeats_inside : outcome new_file_system (None ∷ None ∷ []) (Some ba
 }
 unfolding outcome answer call_of header_of opaque_auth_at credential_of opaque_at fixed_at bytes_at word_at word refusal
 row-repeats_inside = refl
+
+abbrev ran : (xid : ℕ) → Execution
+ran xid = record { call = asked xid; reply = refused xid }
+
+pub row-executions : executions (at_start new_file_system (None ∷ None ∷ [])) batch.time batch.requests ≡ ran 7 ∷ ran 8 ∷ ran 9 ∷ []
+unfolding answer call_of header_of opaque_auth_at credential_of opaque_at fixed_at bytes_at word_at word refusal
+row-executions = refl
 
 pub row-null : outcome new_file_system (Some (last 6 8) ∷ []) None ≡ record { files = new_file_system; table = Some (last 6 8) ∷ []; answers = [] }
 unfolding outcome

@@ -1,7 +1,9 @@
-ghost use Rattle.std.specs.Prelude.{◌≡◌, ◌↔◌, ◌<◌, [], All, Some, None, length, IfOk, IsErrOf, IsSome};
-ghost use Rattle.std.specs.Option.{option_map};
+ghost use Rattle.std.specs.Prelude.{◌≡◌, ◌↔◌, ◌<◌, [], All, Some, None, length, IfOk, IsErrOf, IsSome, OnOk};
+ghost use Rattle.std.specs.Option.{ForSome, option_map};
+ghost use Rattle.bfs_parallel.specs.Ran.{AllRan};
 ghost use Rattle.bfs_serial.specs.Executed as serial;
 ghost use Rattle.bfs_outcome.specs.Executed.{ComesTo};
+ghost use Rattle.bfs_outcome.specs.Ran.{RanNew};
 
 use crate::answering::answer_all;
 use crate::news::new_requests;
@@ -49,11 +51,12 @@ pub struct Means<'a, R, G> {
     pub gate: &'a G,
 }
 
-/// Executes an ordered batch through the table. Its new requests are executed together, as one batch of the file system; a repeated
-/// one gets the reply that is recorded when its turn comes; others get none. The null request changes nothing. The table stays as it is until
-/// what is to be recorded is recorded in it, which takes no memory. `Failed` exactly where the file system had failed before, and it
-/// stays so; `Memory` if memory runs out, and then the file system has failed.
-#[tactic(auto, using(crate::proofs::Clients::told_to_clients), unfolding(crate::specs::Outcome::outcome))]
+/// Executes an ordered batch through the table. Its new requests are executed together, as one batch of the file system, and each is run
+/// by the gate where there is an engine, but those that `is_alone` names; a repeated one gets the reply that is recorded when its turn
+/// comes; others get none. The null request changes nothing. The table stays as it is until what is to be recorded is recorded in it, which
+/// takes no memory. `Failed` exactly where the file system had failed before, and it stays so; `Memory` if memory runs out, and then the
+/// file system has failed.
+#[tactic(auto, using(crate::proofs::Clients::told_to_clients), unfolding(crate::specs::Outcome::outcome, crate::specs::Ran::RanNew))]
 pub fn execute_ordered<R: Threads + Wait + Sync, G: Gate + Sync>(
     means: &Means<'_, R, G>,
     files: &mut FileSystem,
@@ -62,6 +65,7 @@ pub fn execute_ordered<R: Threads + Wait + Sync, G: Gate + Sync>(
 ) -> Result<Executed, ExecError>
     ensures done { IfOk result (λ executed. ComesTo files.old table.now batch.now files.new executed.to_record.items executed.to_answer.items) }
     ensures clients { IfOk result (λ executed. All (λ answer. answer.client < length table.now) executed.to_answer.items) }
+    ensures ran { OnOk result (IsSome means.now.executor.engine → ForSome files.old (λ live. RanNew G.ran live table.now batch.now)) }
     ensures failed { IsErrOf result ExecError.Failed ↔ (files.old ≡ None) }
     ensures fails { IsErrOf result ExecError.Memory → files.new ≡ None }
     ensures stays_failed { files.old ≡ None → files.new ≡ None }
@@ -90,7 +94,8 @@ fn execute_requests<R: Threads + Wait + Sync, G: Gate + Sync>(
 ) -> Result<Executed, Memory>
     requires live { IsSome files.old }
     requires time { option_map (λ requests. requests.time) batch.now ≡ Some time }
-    ensures { IfOk result (λ executed. ComesTo files.old table.now batch.now files.new executed.to_record.items executed.to_answer.items) }
+    ensures done { IfOk result (λ executed. ComesTo files.old table.now batch.now files.new executed.to_record.items executed.to_answer.items) }
+    ensures ran { OnOk result (IsSome means.now.executor.engine → ForSome files.old (λ live. RanNew G.ran live table.now batch.now)) }
 {
     files.is_live();
     let requests = batch.requests();
@@ -107,6 +112,7 @@ fn execute<R: Threads + Wait + Sync, G: Gate + Sync>(
     requires { IsSome files.old }
     ensures done { IfOk result (λ replies. serial.Executed files.old batch.now files.new replies) }
     ensures count { IfOk result (λ replies. length replies ≡ length batch.now.requests) }
+    ensures ran { IfOk result (λ replies. IsSome means.now.executor.engine → AllRan G.ran 0 batch.now.requests replies) }
 {
     let executor = means.executor;
     match executor.execute(means.rt, means.alloc, files, batch, means.gate) {

@@ -93,6 +93,14 @@ impl Counts {
             .iter()
             .all(|runs| runs.load(Ordering::SeqCst) == 1)
     }
+
+    /// Whether each job of the numbers below that one was run once, and none of the others.
+    pub fn are_one_each_below(&self, count: usize) -> bool {
+        self.runs.iter().enumerate().all(|(number, runs)| {
+            let wanted = (number < count) as u64;
+            runs.load(Ordering::SeqCst) == wanted
+        })
+    }
 }
 
 impl Gate for Counts {

@@ -111,18 +111,18 @@ pub(crate) fn made(alloc: Global, steps: &[Step]) -> Result<FileSystem, Fail> {
     Ok(files)
 }
 
-fn answered_by<R: Threads + Wait + Sync>(
+fn executed_by<R: Threads + Wait + Sync>(
     rt: &R,
     alloc: Global,
     files: &mut FileSystem,
     batch: &Batch,
     executor: &Executor,
-) -> Result<(Replies, [u8; 32]), ExecError> {
-    executor.execute_and_digest(rt, alloc, files, batch, &AsksForThreads)
+) -> Result<Replies, ExecError> {
+    executor.execute(rt, alloc, files, batch, &AsksForThreads)
 }
 
-/// The replies to a batch that so many workers execute by an engine. It fails where the digest that they make is not that of the file
-/// system.
+/// The replies to a batch that so many workers execute by an engine. It fails where the digest that is made on threads then is not that of
+/// the file system.
 pub(crate) fn execute_by<R: Threads + Wait + Sync>(
     rt: &R,
     alloc: Global,
@@ -136,7 +136,7 @@ pub(crate) fn execute_by<R: Threads + Wait + Sync>(
         workers,
         engine: Some(engine),
     };
-    let (replies, digest) = answered_by(rt, alloc, files, batch, &executor)?;
-    compared(digest, digest_of(files)?)?;
+    let replies = executed_by(rt, alloc, files, batch, &executor)?;
+    compared(digest_on_threads(rt, alloc, files)?, digest_of(files)?)?;
     Ok(replies)
 }

@@ -48,10 +48,10 @@ fn tell(
     Ok(())
 }
 
-// how many bytes the stable text has, and of how many replicas there are CHECKPOINTs
-fn stable(kept: &Snapshots) -> Option<(usize, usize)> {
-    let (text, certificate) = kept.stable()?;
-    Some((text.len(), certificate.len()))
+// the number of the stable checkpoint, how many bytes its text has, and of how many replicas there are CHECKPOINTs
+fn stable(kept: &Snapshots) -> Option<(u64, usize, usize)> {
+    let stable = kept.stable()?;
+    Some((stable.number, stable.text.len(), stable.certificate.len()))
 }
 
 // puts the snapshot of a replica with that table behind the others, and gives its digest
@@ -81,16 +81,16 @@ fn snapshots_become_stable_one_after_another(rt: HostRuntime) -> Result<(), Fail
     tell(alloc, &mut kept, &mut log, 2, 16, &first)?;
     same!(rt; stable(&kept), None);
     tell(alloc, &mut kept, &mut log, 3, 16, &first)?;
-    same!(rt; stable(&kept), Some((112, 3)));
+    same!(rt; stable(&kept), Some((16, 112, 3)));
     // of a number of which there is no snapshot, and of another digest
     for sender in 0..4u32 {
         tell(alloc, &mut kept, &mut log, sender, 48, &first)?;
     }
-    same!(rt; stable(&kept), Some((112, 3)));
+    same!(rt; stable(&kept), Some((16, 112, 3)));
     for sender in 0..4u32 {
         tell(alloc, &mut kept, &mut log, sender, 32, &second)?;
     }
-    same!(rt; stable(&kept), Some((128, 3)));
+    same!(rt; stable(&kept), Some((32, 128, 3)));
     Ok(())
 }
 
