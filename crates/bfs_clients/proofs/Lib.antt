@@ -1,6 +1,5 @@
-mod Adding
-mod Maps
-mod Naming
+mod Finding
 mod Numbered
-mod Placing
-mod Counting
+mod Senders
+mod Places
+pub mod Public

@@ -1,4 +1,2 @@
 -- What contracts inside this crate speak of.
-pub mod Checking
-pub mod Rows
 pub mod Places

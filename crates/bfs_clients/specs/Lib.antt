@@ -1,7 +1,5 @@
--- The clients of a run, and their keys (Clients); what they make of the replies to their requests (Tallies), found by client and timestamp
--- (Names); the requests that have no result yet (Waiting).
+-- The clients of a run, and their keys (Clients); what they make of the replies to their requests (Tallies); what a call begins with (Calls).
 pub mod Clients
-pub mod Names
 pub mod Tallies
-pub mod Waiting
+pub mod Calls
 pub mod Inside

@@ -1,7 +1,10 @@
-ghost use Rattle.std.specs.Prelude.{◌≡◌, IfOk};
+ghost use Rattle.std.specs.Prelude.{◌≡◌, ◌≤◌, length, IfOk};
 ghost use Rattle.std.specs.Option.{option_map};
+ghost use Rattle.bfs_model.specs.Server.Limits.{most_request_bytes};
+ghost use Rattle.bfs_clients.specs.Calls.{call_of};
 ghost use Rattle.bfs_clients.specs.Clients.{clients_of, keys_at, signed_request};
 
+use crate::tally::Tally;
 use bfs_auth::{Keys, Principal};
 use bfs_messages::{Message, Request, Signed, sign};
 use bfs_settings::Settings;
@@ -15,6 +18,13 @@ pub struct Clients {
     pub(crate) alloc: Global,
     pub(crate) f: u32,
     keys: Vec<Keys>,
+}
+
+/// A call that a client begins: its signed request, which goes to all replicas, and the tally of the replies, of which there is none yet.
+#[derive(Drop)]
+pub struct Call {
+    pub request: Signed<Message>,
+    pub tally: Tally,
 }
 
 impl Model for Clients {
@@ -71,5 +81,18 @@ impl Clients {
             Some(keys) => Ok(Some(sign(self.alloc, keys, Message::Request(request))?)),
             None => Ok(None),
         }
+    }
+
+    /// A call of a client, of at most `MOST_REQUEST_BYTES` bytes, with a timestamp above those of its calls before; `None` where there is no
+    /// such client. `Memory` if memory runs out.
+    pub fn call(&self, client: u32, timestamp: u64, bytes: &[u8]) -> Result<Option<Call>, Memory>
+        requires { length bytes.now ≤ most_request_bytes }
+        ensures { IfOk result (λ call. call ≡ call_of self.now (record { client = client; timestamp = timestamp; call = bytes.now })) }
+    {
+        let Some(request) = self.sign(Request::new(self.alloc, client, timestamp, bytes)?)? else {
+            return Ok(None);
+        };
+        let tally = Tally::new(self.alloc, self.f, client, timestamp);
+        Ok(Some(Call { request, tally }))
     }
 }

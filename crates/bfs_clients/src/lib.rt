@@ -3,12 +3,10 @@
 
 mod checking;
 mod clients;
-mod named_tallies;
-mod names;
 mod signing;
 mod tallies;
-mod waiting;
+mod tally;
 
-pub use clients::Clients;
+pub use clients::{Call, Clients};
 pub use tallies::Tallies;
-pub use waiting::WaitingRequests;
+pub use tally::Tally;

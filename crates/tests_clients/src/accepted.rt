@@ -1,6 +1,6 @@
 //! Which results are accepted: those of one replica more than may be faulty.
-use crate::received::{add, has, keys_of_client, reply, signed_by};
-use bfs_tally::Tally;
+use crate::received::{add, has, reply, signed_by, sixteen_clients};
+use bfs_clients::Tally;
 use bfs_testing::holds;
 use std::alloc::Global;
 use std::process::Abort;
@@ -47,13 +47,13 @@ static WHERE_ALL_MAY_FAIL: &[Row] = &[
 
 // a client's tally while those replies come
 fn comes_to(rt: &impl Abort, alloc: Global, f: u32, rows: &[Row]) -> Result<(), Fail> {
-    let keys = keys_of_client(alloc, 2)?;
+    let clients = sixteen_clients(alloc)?;
     let mut tally = Tally::new(alloc, f, 2, 7);
     holds!(rt; has(&tally, 0, None));
     for (sender, bytes, replies, accepted) in rows {
         let message = reply(alloc, *sender, 2, 7, *bytes)?;
         let signed = signed_by(alloc, *sender, 2, message)?;
-        add(&mut tally, &keys, &signed)?;
+        add(&mut tally, &clients, &signed)?;
         holds!(rt; has(&tally, *replies, *accepted));
     }
     Ok(())

@@ -5,6 +5,8 @@
 #[cfg(test)]
 mod accepted;
 #[cfg(test)]
+mod calls;
+#[cfg(test)]
 mod passed_over;
 #[cfg(test)]
 mod received;

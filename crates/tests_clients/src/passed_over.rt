@@ -1,8 +1,8 @@
 //! Messages that a client passes over. Its request has the timestamp 7.
-use crate::received::{add, has, hashed_by, keys_of_client, reply, signed_by};
+use crate::received::{add, has, hashed_by, reply, signed_by, sixteen_clients};
 use bfs_auth::Authenticator;
+use bfs_clients::Tally;
 use bfs_messages::{Message, Request, Signed};
-use bfs_tally::Tally;
 use bfs_testing::holds;
 use std::alloc::Global;
 use std::process::Abort;
@@ -27,9 +27,9 @@ static PASSED_OVER: &[(u32, u32, u64, u32, u32)] = &[
 
 // a tally with no reply stays so
 fn is_passed_over(rt: &impl Abort, alloc: Global, signed: Signed<Message>) -> Result<(), Fail> {
-    let keys = keys_of_client(alloc, 2)?;
+    let clients = sixteen_clients(alloc)?;
     let mut tally = Tally::new(alloc, 0, 2, 7);
-    add(&mut tally, &keys, &signed)?;
+    add(&mut tally, &clients, &signed)?;
     holds!(rt; has(&tally, 0, None));
     Ok(())
 }

@@ -1,25 +1,26 @@
 //! Replies to a client, signed by one of four replicas, and the client's tally of them.
-ghost use Rattle.std.specs.Prelude.{◌<◌};
-
 use bfs_auth::{Authenticator, Keys, Principal, sign_text_for_client};
+use bfs_clients::{Clients, Tally};
 use bfs_messages::{Message, Reply, Signed};
-use bfs_tally::Tally;
+use bfs_settings::{Settings, SettingsError};
 use bfs_types::{MOST_REPLY_BYTES, Memory};
 use std::alloc::Global;
 use std::test::Fail;
 
 const SECRET: &[u8] = b"a secret";
 
-// of 4 replicas and 16 clients
-fn keys_of_replica(alloc: Global, number: u32) -> Result<Keys, Memory> {
-    Keys::derive(alloc, SECRET, Principal::Replica(number), 4, 16)
+fn settings(alloc: Global) -> Result<Settings, SettingsError> {
+    Settings::new(alloc, 1, 16, SECRET)
 }
 
-/// The keys of one of the clients.
-pub fn keys_of_client(alloc: Global, number: u32) -> Result<Keys, Memory>
-    requires { number < 16 }
-{
-    Keys::derive(alloc, SECRET, Principal::Client(number), 4, 16)
+/// The clients.
+pub fn sixteen_clients(alloc: Global) -> Result<Clients, Fail> {
+    let settings = settings(alloc)?;
+    Ok(Clients::new(alloc, &settings)?)
+}
+
+fn keys_of_replica(alloc: Global, number: u32) -> Result<Keys, Memory> {
+    Keys::derive(alloc, SECRET, Principal::Replica(number), 4, 16)
 }
 
 /// A replica's reply to a client's request.
@@ -63,8 +64,8 @@ pub fn signed_by(
 }
 
 /// Adds a message. No test needs what the contract says of it.
-pub fn add(tally: &mut Tally, keys: &Keys, signed: &Signed<Message>) -> Result<(), Memory> {
-    tally.add(keys, signed)
+pub fn add(tally: &mut Tally, clients: &Clients, signed: &Signed<Message>) -> Result<(), Memory> {
+    tally.add(clients, signed)
 }
 
 /// Whether so many replies are counted, and that result is accepted, or none.

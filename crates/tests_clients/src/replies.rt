@@ -1,8 +1,8 @@
 //! Replies to several requests of two clients, where one of four replicas may be faulty.
 use crate::run::{reply, two_clients};
-use bfs_clients::{Clients, Tallies};
+use bfs_clients::{Clients, Tallies, Tally};
 use bfs_messages::{Message, Signed};
-use bfs_testing::holds;
+use bfs_testing::{holds, same};
 use bfs_types::Memory;
 use std::alloc::Global;
 use std::test::Fail;
@@ -22,23 +22,41 @@ fn add_all(
     tallies.add_all(rt, clients, messages)
 }
 
+fn are_signed(
+    rt: &(impl Threads + Sync),
+    clients: &Clients,
+    messages: &[Signed<Message>],
+) -> Result<Vec<bool>, Memory> {
+    clients.are_signed(rt, messages)
+}
+
+// the same, where it was told before which messages are signed
+fn add_checked(
+    rt: &(impl Threads + Sync),
+    tallies: &mut Tallies,
+    clients: &Clients,
+    messages: &[Signed<Message>],
+) -> Result<(), Memory> {
+    let passes = clients.are_signed(rt, messages)?;
+    tallies.add_checked(clients, messages, &passes)
+}
+
 // tallies of four requests, one of them of a client that there isn't
 fn begun(alloc: Global) -> Result<Tallies, Memory> {
-    let mut tallies = Tallies::new(alloc, 1);
-    tallies.begin(0, 7)?;
-    tallies.begin(0, 8)?;
-    tallies.begin(1, 7)?;
-    tallies.begin(2, 7)?;
+    let mut tallies = Tallies::new(alloc);
+    tallies.push(Tally::new(alloc, 1, 0, 7))?;
+    tallies.push(Tally::new(alloc, 1, 0, 8))?;
+    tallies.push(Tally::new(alloc, 1, 1, 7))?;
+    tallies.push(Tally::new(alloc, 1, 2, 7))?;
     Ok(tallies)
 }
 
-fn begin(tallies: &mut Tallies, client: u32, timestamp: u64) -> Result<(), Memory> {
-    tallies.begin(client, timestamp)
-}
-
-// whether that result is accepted, or none
-fn has(tallies: &Tallies, client: u32, timestamp: u64, accepted: Option<&[u8]>) -> bool {
-    match (tallies.result(client, timestamp), accepted) {
+// whether that result is accepted by the tally at that index, or none
+fn has(tallies: &Tallies, index: usize, accepted: Option<&[u8]>) -> bool {
+    match (
+        tallies.as_slice().get(index).and_then(Tally::result),
+        accepted,
+    ) {
         (None, None) => true,
         (Some(given), Some(wanted)) => given == wanted,
         _ => false,
@@ -80,27 +98,22 @@ fn two_replicas_agree_on_the_result_of_one_request(rt: HostRuntime) -> Result<()
     for (sender, request, receiver, bytes, accepted) in ROWS {
         let signed = reply(alloc, *sender, *request, *receiver, *bytes)?;
         add(&mut tallies, &clients, &signed)?;
-        holds!(rt; has(&tallies, 0, 7, *accepted));
+        holds!(rt; has(&tallies, 0, *accepted));
     }
-    holds!(rt; has(&tallies, 0, 8, None));
-    holds!(rt; has(&tallies, 1, 7, None));
-    holds!(rt; has(&tallies, 0, 9, None));
-    holds!(rt; has(&tallies, 2, 7, None));
+    holds!(rt; has(&tallies, 1, None));
+    holds!(rt; has(&tallies, 2, None));
+    holds!(rt; has(&tallies, 3, None));
     Ok(())
 }
 
-#[test]
-fn a_tally_that_is_begun_again_stays(rt: HostRuntime) -> Result<(), Fail> {
-    let alloc = rt.alloc();
-    let clients = two_clients(alloc)?;
-    let mut tallies = begun(alloc)?;
-    let signed = reply(alloc, 0, (1, 7), 1, RIGHT)?;
-    add(&mut tallies, &clients, &signed)?;
-    begin(&mut tallies, 1, 7)?;
-    let signed = reply(alloc, 1, (1, 7), 1, RIGHT)?;
-    add(&mut tallies, &clients, &signed)?;
-    holds!(rt; has(&tallies, 1, 7, Some(RIGHT)));
-    Ok(())
+// in this order they come to a result of the request 8, and to none of the request 7
+fn four_replies(alloc: Global) -> Result<Vec<Signed<Message>>, Fail> {
+    let mut replies = Vec::new(alloc);
+    replies.push(reply(alloc, 2, (0, 8), 0, OTHER)?)?;
+    replies.push(reply(alloc, 3, (0, 8), 0, RIGHT)?)?;
+    replies.push(reply(alloc, 3, (0, 7), 0, RIGHT)?)?;
+    replies.push(reply(alloc, 1, (0, 8), 0, RIGHT)?)?;
+    Ok(replies)
 }
 
 #[test]
@@ -108,13 +121,34 @@ fn many_replies_are_counted_one_after_another(rt: HostRuntime) -> Result<(), Fai
     let alloc = rt.alloc();
     let clients = two_clients(alloc)?;
     let mut tallies = begun(alloc)?;
-    let mut replies = Vec::new(alloc);
-    replies.push(reply(alloc, 2, (0, 8), 0, OTHER)?)?;
-    replies.push(reply(alloc, 3, (0, 8), 0, RIGHT)?)?;
-    replies.push(reply(alloc, 3, (0, 7), 0, RIGHT)?)?;
-    replies.push(reply(alloc, 1, (0, 8), 0, RIGHT)?)?;
-    add_all(&rt, &mut tallies, &clients, &replies)?;
-    holds!(rt; has(&tallies, 0, 8, Some(RIGHT)));
-    holds!(rt; has(&tallies, 0, 7, None));
+    add_all(&rt, &mut tallies, &clients, &four_replies(alloc)?)?;
+    holds!(rt; has(&tallies, 1, Some(RIGHT)));
+    holds!(rt; has(&tallies, 0, None));
+    Ok(())
+}
+
+#[test]
+fn replies_that_are_checked_are_counted_so_too(rt: HostRuntime) -> Result<(), Fail> {
+    let alloc = rt.alloc();
+    let clients = two_clients(alloc)?;
+    let mut tallies = begun(alloc)?;
+    add_checked(&rt, &mut tallies, &clients, &four_replies(alloc)?)?;
+    holds!(rt; has(&tallies, 1, Some(RIGHT)));
+    holds!(rt; has(&tallies, 0, None));
+    Ok(())
+}
+
+#[test]
+fn which_replies_are_signed(rt: HostRuntime) -> Result<(), Fail> {
+    let alloc = rt.alloc();
+    let clients = two_clients(alloc)?;
+    let mut messages = Vec::new(alloc);
+    messages.push(reply(alloc, 0, (1, 7), 1, RIGHT)?)?;
+    // hashed for another client, and to one that there isn't
+    messages.push(reply(alloc, 0, (1, 7), 0, RIGHT)?)?;
+    messages.push(reply(alloc, 0, (2, 7), 1, RIGHT)?)?;
+    messages.push(reply(alloc, 3, (0, 9), 0, OTHER)?)?;
+    let given = are_signed(&rt, &clients, messages.as_slice())?;
+    same!(rt; given.as_slice(), &[true, false, false, true]);
     Ok(())
 }

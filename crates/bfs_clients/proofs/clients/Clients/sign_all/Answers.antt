@@ -1,5 +1,4 @@
 use Rattle.std.proofs.Common.{◌∙◌}
-use Rattle.std.specs.Prelude.{IfOk}
 use Rattle.rayon.proofs.ListFacts.{IfOk-then}
 use Rattle.bfs_clients.specs.Clients.{signed_request}
 use Rattle.bfs_gather.proofs.Public.{all_given}

@@ -1,2 +1,0 @@
--- Definitions of tallies.
-pub mod Tallies
