@@ -1,5 +1,5 @@
 -- When a CHECKPOINT makes its number stable: the low mark rises to it, and the CHECKPOINTs that tell it are a certificate.
-use Rattle.std.proofs.Common.{◌≡◌, ◌∙◌, ◌<◌, ℕ, ◌==◌, Bool, true, false, ◌&&◌, not, cond, ltb, List, [], ◌∷◌, ◌++◌, Option, Some, None, refl, sym, ap, ap₂, arith}
+use Rattle.std.proofs.Common.{◌≡◌, ◌∙◌, ◌<◌, ℕ, ◌==◌, Bool, true, false, ◌&&◌, not, cond, ltb, List, [], ◌∷◌, ◌++◌, Option, Some, None, refl, sym, ap, ap₂, subst, arith}
 use Rattle.std.proofs.lemmas.Bool.{and_parts, eqb-true, ltb-true, eq-eqb, ne_eqb}
 use Rattle.std.proofs.lemmas.List.{append-nil}
 use Rattle.bfs_auth.specs.Keys.{Keys}
@@ -21,7 +21,7 @@ use Rattle.bfs_order.specs.Replica.States.{State, known, with_message, with_more
 use Rattle.bfs_order.specs.declared.error.OrderError.{OrderError}
 use Rattle.bfs_node.specs.Checkpoints.{with_checkpoint}
 use Rattle.bfs_node.specs.Delivering.{ordered, settled_by}
-use Rattle.bfs_node.specs.Inside.Settling.{settled_at}
+use Rattle.bfs_node.specs.Inside.Settling.{Certifies, settled_at}
 use Rattle.bfs_node.specs.Nodes.{Node}
 
 -- What is not refused ---------------------------------------------------------------------------------------------------
@@ -105,28 +105,29 @@ vote_now node signed state is other =
 -- A CHECKPOINT that was taken ----------------------------------------------------------------------------------------------
 
 pub certificate_at : (s : State) (m : Signed Message) (after : State) (number : ℕ) (copies : Log) → after ≡ settled (with_message s m) (header m) → IsNews s m → SlotsDiffer (known s)
-    → number ≡ (header m).number → copies ≡ checkpoints (header m).number (header m).digest (s.log ++ m ∷ []) → after.low ≡ number → IsCertificate after.f copies
+    → number ≡ (header m).number → Certifies s m copies → after.low ≡ number → IsCertificate after.f copies
 certificate_at s m after number copies is news differ at copied low =
-    rw (is, copied) (certified s m news differ (sym (raised s m news) ∙ eq-eqb _ _ (sym (ap (λ (t : State). t.low) is) ∙ low ∙ at)))
+    let stable : makes_stable (with_message s m) (header m) ≡ true = sym (raised s m news) ∙ eq-eqb _ _ (sym (ap (λ (t : State). t.low) is) ∙ low ∙ at) in
+    rw (is, copied stable) (certified s m news differ stable)
 
 pub settled_now : (node : Node) (s : State) (m : Signed Message) (after : State) (number : ℕ) (copies : Log) → after ≡ settled (with_message s m) (header m) → IsNews s m
-    → number ≡ (header m).number → copies ≡ checkpoints (header m).number (header m).digest (s.log ++ m ∷ [])
+    → number ≡ (header m).number → Certifies s m copies
     → settled_at (record node { order = after }) number copies
     ≡ record node { order = settled (with_message s m) (header m); snapshots = settled_by (with_message s m) (header m) node.snapshots }
-settled_now node s m after number copies is news at copied = rw (is, at, copied, raised s m news) (go (makes_stable (with_message s m) (header m)))
+settled_now node s m after number copies is news at copied = rw (is, at, raised s m news) (go (makes_stable (with_message s m) (header m)) refl)
   where
-    go : (stable : Bool) → cond stable
-        (record node { order = settled (with_message s m) (header m); snapshots = settled_snapshots (checkpoints (header m).number (header m).digest (s.log ++ m ∷ [])) node.snapshots })
+    go : (stable : Bool) → makes_stable (with_message s m) (header m) ≡ stable → cond stable
+        (record node { order = settled (with_message s m) (header m); snapshots = settled_snapshots copies node.snapshots })
         (record node { order = settled (with_message s m) (header m) })
         ≡ record node {
           order = settled (with_message s m) (header m);
           snapshots = cond stable (settled_snapshots (checkpoints (header m).number (header m).digest (s.log ++ m ∷ [])) node.snapshots) node.snapshots;
         }
-    go true = refl
-    go false = refl
+    go true stable = ap (λ (certificate : Log). record node { order = settled (with_message s m) (header m); snapshots = settled_snapshots certificate node.snapshots }) (copied stable)
+    go false stable = refl
 
 pub checkpoint_now : (node : Node) (m : Signed Message) (after : State) (number : ℕ) (copies : Log) → after ≡ (accepted node.keys node.order m).now → IsNews node.order m
-    → number ≡ (header m).number → copies ≡ checkpoints (header m).number (header m).digest (node.order.log ++ m ∷ [])
+    → number ≡ (header m).number → Certifies node.order m copies
     → settled_at (record node { order = after }) number copies ≡ (ordered node m).now
 checkpoint_now node m after number copies is news at copied =
     settled_now node node.order m after number copies (is ∙ accepted_checkpoint node.keys node.order m news.checkpoint) news at copied
@@ -136,15 +137,14 @@ checkpoint_now node m after number copies is news at copied =
 
 pub own_certificate : (keys : Keys) (s : State) (number : ℕ) (digest : List ℕ) (m : Signed Message) (after : State) (copies : Log) → m ≡ checkpoint keys s number digest
     → checkpoint_refusal s number ≡ None → SlotsDiffer (known s) → after ≡ (checkpointed keys s number digest).now
-    → copies ≡ checkpoints (header m).number (header m).digest (s.log ++ m ∷ []) → after.low ≡ number → IsCertificate after.f copies
+    → Certifies s m copies → after.low ≡ number → IsCertificate after.f copies
 own_certificate keys s number digest m after copies is none differ now copied low =
     let own = checkpoint keys s number digest in
-    certificate_at s own after number copies now (own_news keys s number digest none) differ refl
-    (copied ∙ ap (λ (one : Signed Message). checkpoints (header one).number (header one).digest (s.log ++ one ∷ [])) is) low
+    certificate_at s own after number copies now (own_news keys s number digest none) differ refl (subst (λ (one : Signed Message). Certifies s one copies) is copied) low
 
 pub own_now : (node : Node) (keys : Keys) (s : State) (number : ℕ) (digest : List ℕ) (m : Signed Message) (after : State) (copies : Log) → m ≡ checkpoint keys s number digest
     → checkpoint_refusal s number ≡ None → after ≡ (checkpointed keys s number digest).now
-    → copies ≡ checkpoints (header m).number (header m).digest (s.log ++ m ∷ [])
+    → Certifies s m copies
     → settled_at (record node { order = after }) number copies
     ≡ record node {
       order = (checkpointed keys s number digest).now;
@@ -152,7 +152,7 @@ pub own_now : (node : Node) (keys : Keys) (s : State) (number : ℕ) (digest : L
     }
 own_now node keys s number digest m after copies is none now copied =
     settled_now node s (checkpoint keys s number digest) after number copies now (own_news keys s number digest none) refl
-    (copied ∙ ap (λ (one : Signed Message). checkpoints (header one).number (header one).digest (s.log ++ one ∷ [])) is)
+    (subst (λ (one : Signed Message). Certifies s one copies) is copied)
 
 pub told_now : (node : Node) (number : ℕ) (digest : List ℕ) (snapshot : Snapshot) (pushed : Keeping) → number ≡ node.order.last → digest ≡ snapshot.digest
     → pushed ≡ with_snapshot node.snapshots number snapshot

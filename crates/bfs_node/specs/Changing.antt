@@ -10,7 +10,7 @@ use Rattle.bfs_messages.specs.declared.message.Message.TheVariants.{NewView, Vie
 use Rattle.bfs_order.specs.Replica.States.{State}
 use Rattle.bfs_order.specs.Replica.Views as order
 use Rattle.bfs_view.specs.Changes.Choice.{choice}
-use Rattle.bfs_view.specs.Changes.Keeping.{above_view, changes_for, was_asked, with_asked, with_change}
+use Rattle.bfs_view.specs.Changes.Keeping.{above_view, changes_for, least_asked, was_asked, with_asked, with_change}
 use Rattle.bfs_view.specs.Changes.Making.{change_of, handed_in, new_view_from, signed_change}
 use Rattle.bfs_view.specs.Changes.NewViews.{choice_in, new_view_refusal}
 use Rattle.bfs_view.specs.Changes.Parts.{as_message, messages_of}
@@ -57,6 +57,10 @@ abbrev pub with_view_change : Node → Signed model.ViewChange → Outcome
 with_view_change node s =
     if leads node s.message.view then begun_if_due (record node { changes = with_change node.changes s })
     else record { now = record node { changes = with_asked node.changes s.message }; sent = [] }
+
+-- the least view above its own that replicas ask for, once f + 1 ask for such views: its own one is not among them (OSDI 1999 section 4.5.2)
+abbrev pub view_to_follow : Node → Option ℕ
+view_to_follow node = least_asked node.changes (max node.order.view node.order.asked) (node.order.f + 1)
 
 -- A timeout --------------------------------------------------------------------------------------------------------------------
 

@@ -6,7 +6,6 @@ use Rattle.bfs_checkpoints.specs.Keeping.{with_snapshot}
 use Rattle.bfs_checkpoints.specs.Snapshots.{Snapshot, snapshot_of}
 use Rattle.bfs_log.specs.Headers.{header}
 use Rattle.bfs_order.specs.Replica.Checkpoints as order
-use Rattle.bfs_order.specs.Replica.Refusals.{interval}
 use Rattle.bfs_order.specs.Replica.States.{with_message}
 use Rattle.bfs_order.specs.declared.error.OrderError.{OrderError}
 use Rattle.bfs_node.specs.Delivering.{settled_by}
@@ -14,6 +13,7 @@ use Rattle.bfs_node.specs.Errors.{of_order}
 use Rattle.bfs_node.specs.Nodes.{Node, Outcome}
 use Rattle.bfs_node.specs.declared.error.NodeError.{NodeError}
 use Rattle.bfs_node.specs.declared.error.NodeError.TheVariants as error
+use Rattle.bfs_model.specs.Server.Limits.{checkpoint_interval}
 
 -- of a file system that has failed there is none
 abbrev pub unless_failed : Option FileSystem → Option NodeError
@@ -27,7 +27,7 @@ told_refusal node (Some refused) = Some (of_order refused)
 -- only of a multiple of the interval within the marks, once, and of a file system that has not failed
 abbrev pub checkpoint_refusal : Node → Option NodeError
 checkpoint_refusal node =
-    if not ((node.order.last % interval) == 0) then Some error.OutsideMarks else told_refusal node (order.checkpoint_refusal node.order node.order.last)
+    if not ((node.order.last % checkpoint_interval) == 0) then Some error.OutsideMarks else told_refusal node (order.checkpoint_refusal node.order node.order.last)
 
 -- its snapshot is kept, and settled at once where its own CHECKPOINT makes it stable
 abbrev pub with_checkpoint : Node → Snapshot → Outcome

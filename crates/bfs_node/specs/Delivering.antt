@@ -16,8 +16,9 @@ use Rattle.bfs_messages.specs.Signing.{request_is_signed}
 use Rattle.bfs_order.specs.Replica.Accepting.{accepted, makes_stable}
 use Rattle.bfs_order.specs.Replica.Refusals.{refusal}
 use Rattle.bfs_order.specs.Replica.States.{State, with_message}
+use Rattle.bfs_view.specs.Changes.NewViews.{ground_refusal}
 use Rattle.bfs_node.specs.Changing.{change_in, change_refusal, view_refusal, with_new_view, with_view_change}
-use Rattle.bfs_node.specs.Errors.{of_order}
+use Rattle.bfs_node.specs.Errors.{of_order, of_view}
 use Rattle.bfs_node.specs.Nodes.{Node, Outcome}
 use Rattle.bfs_node.specs.declared.error.NodeError.{NodeError}
 use Rattle.bfs_node.specs.declared.error.NodeError.TheVariants as error
@@ -85,6 +86,20 @@ message_refusal node signed (Checkpoint checkpoint) = order_refusal node signed
 message_refusal node signed (ViewChange change) = change_refusal node (change_in signed change)
 message_refusal node signed (NewView new) = view_refusal node signed new
 message_refusal node signed (Reply reply) = Some error.WrongKind
+
+-- what of that is known before memory is asked for: all, but for the choice and the view of a NEW-VIEW
+abbrev pub early_message_refusal : Node → Signed Message → Message → Option NodeError
+early_message_refusal node signed (NewView new) = option_map of_view (ground_refusal node.keys signed)
+early_message_refusal node signed (Request request) = request_refusal node (request_in signed request)
+early_message_refusal node signed (PrePrepare proposal) = order_refusal node signed
+early_message_refusal node signed (Prepare vote) = order_refusal node signed
+early_message_refusal node signed (Commit vote) = order_refusal node signed
+early_message_refusal node signed (Checkpoint checkpoint) = order_refusal node signed
+early_message_refusal node signed (ViewChange change) = change_refusal node (change_in signed change)
+early_message_refusal node signed (Reply reply) = Some error.WrongKind
+
+abbrev pub early_refusal : Node → Signed Message → Option NodeError
+early_refusal node signed = early_message_refusal node signed signed.message
 
 abbrev pub delivery_refusal : Node → Signed Message → Option NodeError
 delivery_refusal node signed = message_refusal node signed signed.message

@@ -1,9 +1,11 @@
 -- Why a replica refuses a message or a call, and the numbers of the refusals.
-use Rattle.std.specs.Prelude.{ℕ}
+use Rattle.std.specs.Prelude.{ℕ, ⊤}
 use Rattle.bfs_checkpoints.specs.declared.adoption.AdoptError.{AdoptError}
 use Rattle.bfs_checkpoints.specs.declared.adoption.AdoptError.TheVariants as adopting
 use Rattle.bfs_codec.specs.declared.error.DecodeError.{DecodeError}
 use Rattle.bfs_codec.specs.declared.error.DecodeError.TheVariants as decoding
+use Rattle.bfs_digest.specs.declared.errors.RestoreError.{RestoreError}
+use Rattle.bfs_digest.specs.declared.errors.RestoreError.TheVariants as restoring
 use Rattle.bfs_order.specs.declared.error.OrderError.{OrderError}
 use Rattle.bfs_order.specs.declared.error.OrderError.TheVariants as order
 use Rattle.bfs_serial.specs.declared.executor.ExecError.{ExecError}
@@ -40,6 +42,12 @@ of_adopting adopting.NotWellFormed = node.NotWellFormed
 of_adopting adopting.DigestDiffers = node.DigestDiffers
 of_adopting adopting.Memory = node.Memory
 
+abbrev pub of_restoring : RestoreError → NodeError
+of_restoring restoring.Malformed = node.MalformedText
+of_restoring restoring.WrongVersion = node.WrongVersion
+of_restoring restoring.NotWellFormed = node.NotWellFormed
+of_restoring restoring.Memory = node.Memory
+
 abbrev pub of_view : ViewError → NodeError
 of_view view.WrongKind = node.WrongKind
 of_view view.BadAuthenticator = node.BadAuthenticator
@@ -47,6 +55,14 @@ of_view view.BadCertificate = node.BadCertificate
 of_view view.TooFew = node.TooFew
 of_view view.WrongChoice = node.WrongChoice
 of_view view.Memory = node.Memory
+
+-- why a text spells no replica to begin with, or that memory ran out
+abbrev pub IsTextError : NodeError → Type 0
+IsTextError node.MalformedText = ⊤
+IsTextError node.WrongVersion = ⊤
+IsTextError node.NotWellFormed = ⊤
+IsTextError node.Memory = ⊤
+IsTextError other = ⊥
 
 abbrev pub code_of : NodeError → ℕ
 code_of node.BatchFull = 13

@@ -1,7 +1,7 @@
 -- The next committed batch is executed, and its clients are told (OSDI 1999 sections 4.1 and 4.2).
-use Rattle.std.specs.Prelude.{ℕ, Bool, true, false, List, Option, Some, None}
+use Rattle.std.specs.Prelude.{ℕ, Bool, true, false, List, Option, Some, None, IsSome}
 use Rattle.std.specs.List.{filter_map}
-use Rattle.std.specs.Option.{option_map}
+use Rattle.std.specs.Option.{ForSome, option_map}
 use Rattle.bfs_model.specs.Server.Tree.{FileSystem}
 use Rattle.bfs_auth.specs.Authenticators.{signature_for_client}
 use Rattle.bfs_auth.specs.Keys.{Keys}
@@ -15,6 +15,8 @@ use Rattle.bfs_messages.specs.declared.message.Message.TheVariants.{Reply}
 use Rattle.bfs_order.specs.Replica.Executing as order
 use Rattle.bfs_order.specs.Replica.States.{State}
 use Rattle.bfs_outcome.specs.Outcome.{outcome}
+use Rattle.bfs_outcome.specs.Ran.{RanNew}
+use Rattle.bfs_parallel.specs.declared.engine.Engine.{Engine}
 use Rattle.bfs_pending.specs.Requests.{without}
 use Rattle.bfs_replies.specs.Answers.{Answer}
 use Rattle.bfs_node.specs.Nodes.{Node, Outcome}
@@ -61,6 +63,16 @@ execution node = option_map (executed_next node) node.files
 abbrev pub after_execution : Node → Option Outcome → Node
 after_execution node None = node
 after_execution node (Some outcome) = outcome.now
+
+-- By what it is executed ---------------------------------------------------------------------------------------------
+
+-- the gate has run each new request of the next batch, but those that may touch any inode
+abbrev pub HasRun : (ran : ℕ → List ℕ → Type 0) → Node → Type 0
+HasRun ran node = ForSome node.files (λ live. ForSome (order.next_committed node.order) (λ next. RanNew ran live node.table next.batch))
+
+-- where there is an engine
+abbrev pub Runs : (ran : ℕ → List ℕ → Type 0) → Option Engine → Node → Type 0
+Runs ran engine node = IsSome engine → HasRun ran node
 
 -- Whether there is one -----------------------------------------------------------------------------------------------------
 

@@ -1,4 +1,5 @@
 -- What contracts of private functions, and the invariant, cite.
+pub mod Acting
 pub mod Asking
 pub mod Bounds
 pub mod Finishing

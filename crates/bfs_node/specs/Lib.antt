@@ -7,5 +7,6 @@ pub mod Delivering
 pub mod Proposing
 pub mod Executing
 pub mod Checkpoints
+pub mod Advancing
 pub mod Adopting
 pub mod Inside

@@ -31,6 +31,7 @@ impl Node {
         ensures now { OnOk result (Adopts self.old text.now certificate.now self.new) }
         ensures last { OnOk result (self.new.order.last ≡ number_of certificate.now) }
         ensures refused { IfErr result (λ e. e ≢ error.Memory → IsAdoptionRefusal self.old text.now certificate.now e) }
+        ensures memory { IfErr result (λ e. e ≡ error.Memory → may_adopt self.old certificate.now ≡ true) }
         ensures err { OnErr result (self.new ≡ self.old) }
     {
         a_text_spells_one_node();

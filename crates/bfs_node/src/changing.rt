@@ -1,12 +1,16 @@
 // Views change.
 ghost use Rattle.std.specs.Prelude.{◌≡◌, ◌≢◌, ◌<◌, ◌≤◌, ◌^◌, ◌++◌, ◌∷◌, [], None, Some, IfOk, IfErr, OnOk, OnErr, true};
+ghost use Rattle.std.specs.Option.{option_map};
 ghost use Rattle.bfs_messages.specs.declared.message.Message.TheVariants as kind;
 ghost use Rattle.bfs_node.specs.Changing.{begun, begun_if_due, change_refusal, leads, may_begin, next_view, timed_out, timeout_refusal, view_refusal, with_new_view, with_view_change};
+ghost use Rattle.bfs_node.specs.Errors.{of_view};
 ghost use Rattle.bfs_node.specs.Inside.Asking.{asking, MayAsk};
 ghost use Rattle.bfs_node.specs.declared.error.NodeError.TheVariants as error;
 ghost use Rattle.bfs_order.specs.Replica.Views.{entering_refusal, leaving_refusal};
+ghost use Rattle.bfs_view.specs.Changes.NewViews.{ground_refusal};
 ghost use Rattle.bfs_view.specs.Changes.Parts.{as_message};
 ghost use Rattle.bfs_view.specs.Inside.Near.{IsNear};
+ghost use Rattle.bfs_model.specs.Server.Limits.{most_number};
 
 use crate::error::NodeError;
 use crate::node::Node;
@@ -30,6 +34,7 @@ impl Node {
         ensures now { OnOk result (self.new ≡ (timed_out self.old).now) }
         ensures sent { IfOk result (λ sent. sent.items ≡ (timed_out self.old).sent) }
         ensures refused { IfErr result (λ e. e ≢ error.Memory → timeout_refusal self.old ≡ Some e) }
+        ensures memory { IfErr result (λ e. e ≡ error.Memory → timeout_refusal self.old ≡ None) }
         ensures err { OnErr result (self.new ≡ self.old) }
     {
         let view = self.next_view();
@@ -57,6 +62,7 @@ impl Node {
         ensures now { OnOk result (self.new ≡ (with_view_change self.old signed).now) }
         ensures sent { IfOk result (λ sent. sent.items ≡ (with_view_change self.old signed).sent) }
         ensures refused { IfErr result (λ e. e ≢ error.Memory → change_refusal self.old signed ≡ Some e) }
+        ensures memory { IfErr result (λ e. e ≡ error.Memory → change_refusal self.old signed ≡ None) }
         ensures err { OnErr result (self.new ≡ self.old) }
     {
         if !is_view_change_signed(&self.keys, &signed) {
@@ -85,12 +91,12 @@ impl Node {
     ) -> Result<Vec<Signed<Message>>, Memory>
         requires near { IsNear change.message }
         requires asked { MayAsk self.old asked }
-        requires within { asked < 2 ^ 63 }
+        requires within { asked ≤ most_number }
         ensures now { OnOk result (self.new ≡ (with_view_change (asking self.old asked) change).now) }
         ensures sent { IfOk result (λ sent. sent.items ≡ first.items ++ (with_view_change (asking self.old asked) change).sent) }
         ensures err { OnErr result (self.new ≡ self.old) }
     {
-        if self.leads(change.message.view()) {
+        if self.leads_view(change.message.view()) {
             return self.count(change, asked, first);
         }
         self.changes.note(&change.message);
@@ -108,7 +114,7 @@ impl Node {
         requires led { leads self.old change.message.view ≡ true }
         requires near { IsNear change.message }
         requires asked { MayAsk self.old asked }
-        requires within { asked < 2 ^ 63 }
+        requires within { asked ≤ most_number }
         ensures now { OnOk result (self.new ≡ (with_view_change (asking self.old asked) change).now) }
         ensures sent { IfOk result (λ sent. sent.items ≡ first.items ++ (with_view_change (asking self.old asked) change).sent) }
         ensures err { OnErr result (self.new ≡ self.old) }
@@ -123,7 +129,7 @@ impl Node {
         }
     }
 
-    fn leads(&self, view: u64) -> bool
+    fn leads_view(&self, view: u64) -> bool
         ensures { result ≡ leads self.now view }
     {
         self.order.me() == primary_of(self.order.f(), view)
@@ -144,7 +150,8 @@ impl Node {
         ensures { result ≡ may_begin (asking self.now asked) }
     {
         let quorum = 2 * self.order.f() as usize + 1;
-        self.order.view() < asked && (self.leads(asked) && quorum <= self.changes.count_for(asked))
+        self.order.view() < asked
+            && (self.leads_view(asked) && quorum <= self.changes.count_for(asked))
     }
 
     // It asks for the view, and begins it if that is due.
@@ -154,7 +161,7 @@ impl Node {
         first: Vec<Signed<Message>>,
     ) -> Result<Vec<Signed<Message>>, Memory>
         requires asked { MayAsk self.old asked }
-        requires within { asked < 2 ^ 63 }
+        requires within { asked ≤ most_number }
         ensures now { OnOk result (self.new ≡ (begun_if_due (asking self.old asked)).now) }
         ensures sent { IfOk result (λ sent. sent.items ≡ first.items ++ (begun_if_due (asking self.old asked)).sent) }
         ensures err { OnErr result (self.new ≡ self.old) }
@@ -175,7 +182,7 @@ impl Node {
     ) -> Result<Vec<Signed<Message>>, Memory>
         requires above { self.old.order.view < view }
         requires asked { MayAsk self.old view }
-        requires within { view < 2 ^ 63 }
+        requires within { view ≤ most_number }
         ensures now { OnOk result (self.new ≡ (begun (asking self.old view)).now) }
         ensures sent { IfOk result (λ sent. sent.items ≡ first.items ++ (begun (asking self.old view)).sent) }
         ensures err { OnErr result (self.new ≡ self.old) }
@@ -211,6 +218,7 @@ impl Node {
         ensures now { OnOk result (self.new ≡ (with_new_view self.old (record { message = kind.NewView new; auth = auth }) new).now) }
         ensures sent { IfOk result (λ sent. sent.items ≡ (with_new_view self.old (record { message = kind.NewView new; auth = auth }) new).sent) }
         ensures refused { IfErr result (λ e. e ≢ error.Memory → view_refusal self.old (record { message = kind.NewView new; auth = auth }) new ≡ Some e) }
+        ensures memory { IfErr result (λ e. e ≡ error.Memory → option_map of_view (ground_refusal self.old.keys (record { message = kind.NewView new; auth = auth })) ≡ None) }
         ensures err { OnErr result (self.new ≡ self.old) }
     {
         a_replica_stays_itself();

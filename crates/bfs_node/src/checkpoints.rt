@@ -7,12 +7,10 @@ ghost use Rattle.bfs_node.specs.declared.error.NodeError.TheVariants as error;
 
 use crate::error::NodeError;
 use crate::node::Node;
-use bfs_checkpoints::{Snapshot, certificate_with, take_snapshot};
+use bfs_checkpoints::{Snapshot, take_snapshot};
 use bfs_messages::{Checkpoint, Message, Signed, sign};
+use bfs_types::CHECKPOINT_INTERVAL;
 use std::thread::Threads;
-
-/// How many numbers apart checkpoints are.
-const INTERVAL: u64 = 16;
 
 impl Node {
     /// Makes the checkpoint of the number last executed, and gives the CHECKPOINT; its snapshot is kept. It is refused, in this order:
@@ -23,10 +21,11 @@ impl Node {
         ensures now { OnOk result (option_map (λ outcome. outcome.now) (checkpoint self.old) ≡ Some self.new) }
         ensures sent { IfOk result (λ own. option_map (λ outcome. outcome.sent) (checkpoint self.old) ≡ Some (own ∷ [])) }
         ensures refused { IfErr result (λ e. e ≢ error.Memory → checkpoint_refusal self.old ≡ Some e) }
+        ensures memory { IfErr result (λ e. e ≡ error.Memory → checkpoint_refusal self.old ≡ None) }
         ensures err { OnErr result (self.new ≡ self.old) }
     {
         let number = self.order.last_executed();
-        if number % INTERVAL != 0 {
+        if number % CHECKPOINT_INTERVAL != 0 {
             return Err(NodeError::OutsideMarks);
         }
         if let Some(error) = self.order.checkpoint_refusal(number) {
@@ -48,7 +47,7 @@ impl Node {
         let digest = *snapshot.digest();
         let own = Checkpoint::new(self.order.me(), number, digest);
         let signed = sign(self.alloc, &self.keys, Message::Checkpoint(own))?;
-        let certificate = certificate_with(self.alloc, self.order.log(), &signed)?;
+        let certificate = self.certificate_if_due(&signed)?;
         self.snapshots.push(number, snapshot)?;
         match self.order.on_checkpoint(&self.keys, number, digest) {
             Ok(sent) => {

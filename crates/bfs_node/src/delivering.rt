@@ -1,11 +1,14 @@
 // A message comes.
-ghost use Rattle.std.specs.Prelude.{◌≡◌, ◌≢◌, ◌==◌, [], true, false, None, Some, IfOk, IfErr, OnOk, OnErr};
+ghost use Rattle.std.specs.Prelude.{◌≡◌, ◌≢◌, ◌==◌, ◌++◌, [], ◌∷◌, true, false, None, Some, IfOk, IfErr, IsSome, OnOk, OnErr};
 ghost use Rattle.bfs_checkpoints.specs.Certificates.{IsCertificate};
 ghost use Rattle.bfs_log.specs.Headers.{header};
+ghost use Rattle.bfs_log.specs.Logs.{headers};
+ghost use Rattle.bfs_agreement.specs.Votes.{SlotsDiffer};
 ghost use Rattle.bfs_codec.specs.Reading.{message_of};
-ghost use Rattle.bfs_node.specs.Delivering.{bytes_delivered, bytes_refusal, delivered, delivery_refusal, order_refusal, ordered, request_refusal, with_request};
-ghost use Rattle.bfs_node.specs.Inside.Settling.{settled_at};
+ghost use Rattle.bfs_node.specs.Delivering.{bytes_delivered, bytes_refusal, delivered, delivery_refusal, early_refusal, order_refusal, ordered, request_refusal, with_request};
+ghost use Rattle.bfs_node.specs.Inside.Settling.{Certifies, settled_at};
 ghost use Rattle.bfs_node.specs.declared.error.NodeError.TheVariants as error;
+ghost use Rattle.bfs_agreement.specs.Tags.{checkpoint_tag};
 
 use crate::error::NodeError;
 use crate::node::Node;
@@ -13,11 +16,12 @@ use bfs_checkpoints::certificate_with;
 use bfs_codec::decode;
 use bfs_log::header_of;
 use bfs_messages::{Message, Request, Signed, is_request_signed};
+use bfs_types::Memory;
 use std::thread::Threads;
 
 impl Node {
     /// Takes the bytes of a message that came, and gives what is to be sent. `Malformed` where they spell none; else it is refused as `take`
-    /// refuses it. Nothing changes then.
+    /// refuses it, or with `Memory` where memory runs out. Nothing changes then.
     pub fn deliver(
         &mut self,
         rt: &(impl Threads + Sync),
@@ -27,6 +31,7 @@ impl Node {
         ensures now { OnOk result (self.new ≡ (bytes_delivered self.old (message_of bytes.now)).now) }
         ensures sent { IfOk result (λ sent. sent.items ≡ (bytes_delivered self.old (message_of bytes.now)).sent) }
         ensures refused { IfErr result (λ e. e ≢ error.Memory → bytes_refusal self.old (message_of bytes.now) ≡ Some e) }
+        ensures memory { IfErr result (λ e. e ≡ error.Memory → IsSome (message_of bytes.now)) }
         ensures err { OnErr result (self.new ≡ self.old) }
     {
         let signed = decode(self.alloc, bytes)?;
@@ -38,7 +43,8 @@ impl Node {
     /// `Order::on_message` refuses it. A VIEW-CHANGE is kept, if this replica leads its view: it is refused where it is not its sender's
     /// (`BadAuthenticator`), its view was entered or passed (`WrongView`), its sender has asked for that view or a later one (`AlreadyHave`)
     /// or it is not valid (`BadCertificate`). By a NEW-VIEW its view is entered: it is refused as `check_new_view` and then as
-    /// `Order::enter_view` refuse it. A REPLY is for clients (`WrongKind`). `Memory` if memory runs out. Nothing changes where it is refused.
+    /// `Order::enter_view` refuse it. A REPLY is for clients (`WrongKind`). `Memory` comes where memory runs out: behind all these, but for a
+    /// NEW-VIEW whose proposals are not what is chosen, or whose view is not entered any more. Nothing changes where it is refused.
     pub fn take(
         &mut self,
         rt: &(impl Threads + Sync),
@@ -48,6 +54,7 @@ impl Node {
         ensures now { OnOk result (self.new ≡ (delivered self.old signed).now) }
         ensures sent { IfOk result (λ sent. sent.items ≡ (delivered self.old signed).sent) }
         ensures refused { IfErr result (λ e. e ≢ error.Memory → delivery_refusal self.old signed ≡ Some e) }
+        ensures memory { IfErr result (λ e. e ≡ error.Memory → early_refusal self.old signed ≡ None) }
         ensures err { OnErr result (self.new ≡ self.old) }
     {
         let Signed { message, auth } = signed;
@@ -98,6 +105,7 @@ impl Node {
         ensures now { OnOk result (self.new ≡ (with_request self.old request).now) }
         ensures sent { IfOk result (λ sent. sent.items ≡ []) }
         ensures refused { IfErr result (λ e. e ≢ error.Memory → request_refusal self.old request ≡ Some e) }
+        ensures memory { IfErr result (λ e. e ≡ error.Memory → request_refusal self.old request ≡ None) }
         ensures err { OnErr result (self.new ≡ self.old) }
     {
         if !is_request_signed(&self.keys, &request) {
@@ -116,11 +124,12 @@ impl Node {
         rt: &(impl Threads + Sync),
         signed: Signed<Message>,
     ) -> Result<Vec<Signed<Message>>, NodeError>
-        requires { ((header signed).tag == 5) ≡ false }
+        requires { ((header signed).tag == checkpoint_tag) ≡ false }
         ensures taken { OnOk result (order_refusal self.old signed ≡ None) }
         ensures now { OnOk result (self.new ≡ (ordered self.old signed).now) }
         ensures sent { IfOk result (λ sent. sent.items ≡ (ordered self.old signed).sent) }
         ensures refused { IfErr result (λ e. e ≢ error.Memory → order_refusal self.old signed ≡ Some e) }
+        ensures memory { IfErr result (λ e. e ≡ error.Memory → order_refusal self.old signed ≡ None) }
         ensures err { OnErr result (self.new ≡ self.old) }
     {
         Ok(
@@ -129,26 +138,47 @@ impl Node {
         )
     }
 
-    // The CHECKPOINTs that may make its number stable are copied before it is taken, so that nothing is refused afterwards.
+    // It is checked before anything is copied for it. What makes its number stable is copied before it is taken, so that nothing is refused
+    // afterwards.
     fn take_checkpoint(
         &mut self,
         rt: &(impl Threads + Sync),
         signed: Signed<Message>,
     ) -> Result<Vec<Signed<Message>>, NodeError>
-        requires { ((header signed).tag == 5) ≡ true }
+        requires { ((header signed).tag == checkpoint_tag) ≡ true }
         ensures taken { OnOk result (order_refusal self.old signed ≡ None) }
         ensures now { OnOk result (self.new ≡ (ordered self.old signed).now) }
         ensures sent { IfOk result (λ sent. sent.items ≡ (ordered self.old signed).sent) }
         ensures refused { IfErr result (λ e. e ≢ error.Memory → order_refusal self.old signed ≡ Some e) }
+        ensures memory { IfErr result (λ e. e ≡ error.Memory → order_refusal self.old signed ≡ None) }
         ensures err { OnErr result (self.new ≡ self.old) }
     {
+        let refused = self.order.refusal(rt, &self.keys, &self.pending, &signed);
+        if let Some(error) = refused {
+            return Err(NodeError::from(error));
+        }
         let number = header_of(&signed.message).number;
-        let certificate = certificate_with(self.alloc, self.order.log(), &signed)?;
-        let sent = self
-            .order
-            .on_message(rt, &self.keys, &self.pending, signed)?;
+        let certificate = self.certificate_if_due(&signed)?;
+        let sent = self.order.accept(&self.keys, signed)?;
         self.settle_at(number, certificate);
         Ok(sent)
+    }
+
+    /// The CHECKPOINTs that make a number stable once this one stands in the log; none where too few have told it. `Memory` if memory runs
+    /// out.
+    pub(crate) fn certificate_if_due(
+        &self,
+        signed: &Signed<Message>,
+    ) -> Result<Vec<Signed<Message>>, Memory>
+        ensures made { IfOk result (λ certificate. Certifies self.now.order signed.now certificate.items) }
+        ensures differ { SlotsDiffer (headers self.now.order.log) }
+    {
+        let log = self.order.log();
+        let header = header_of(&signed.message);
+        if !self.order.is_nearly_stable(header.number, header.digest) {
+            return Ok(Vec::new(self.alloc));
+        }
+        certificate_with(self.alloc, log, signed)
     }
 
     /// Settles the snapshots by the CHECKPOINTs of a number, where the low mark is at it. It takes no memory.

@@ -1,8 +1,9 @@
 ghost use Rattle.std.specs.Prelude.{◌≡◌};
-ghost use Rattle.bfs_node.specs.Errors.{code_of, of_adopting, of_decoding, of_executing, of_order, of_view};
+ghost use Rattle.bfs_node.specs.Errors.{code_of, of_adopting, of_decoding, of_executing, of_order, of_restoring, of_view};
 
 use bfs_checkpoints::AdoptError;
 use bfs_codec::DecodeError;
+use bfs_digest::RestoreError;
 use bfs_order::OrderError;
 use bfs_serial::ExecError;
 use bfs_types::Memory;
@@ -156,6 +157,19 @@ impl From<AdoptError> for NodeError {
             AdoptError::NotWellFormed => NodeError::NotWellFormed,
             AdoptError::DigestDiffers => NodeError::DigestDiffers,
             AdoptError::Memory => NodeError::Memory,
+        }
+    }
+}
+
+impl From<RestoreError> for NodeError {
+    ghost from_gives = { λ error given. given ≡ of_restoring error };
+
+    fn from(error: RestoreError) -> NodeError {
+        match error {
+            RestoreError::Malformed => NodeError::MalformedText,
+            RestoreError::WrongVersion => NodeError::WrongVersion,
+            RestoreError::NotWellFormed => NodeError::NotWellFormed,
+            RestoreError::Memory => NodeError::Memory,
         }
     }
 }

@@ -1,10 +1,11 @@
 // The next committed batch is executed.
 ghost use Rattle.std.specs.Prelude.{◌≡◌, ◌≢◌, ◌↔◌, None, Some, length, IfOk, IfErr, IsErrOf, IsSome, OnOk};
-ghost use Rattle.std.specs.Option.{option_map};
+ghost use Rattle.std.specs.Option.{ForSome, option_map};
 ghost use Rattle.bfs_order.specs.Replica.Executing.{next_committed};
 ghost use Rattle.bfs_outcome.specs.Executed.{ComesTo};
+ghost use Rattle.bfs_outcome.specs.Ran.{RanNew};
 ghost use Rattle.bfs_replies.specs.Answers.{recorded_all};
-ghost use Rattle.bfs_node.specs.Executing.{after_execution, execution, is_ready, replies_to};
+ghost use Rattle.bfs_node.specs.Executing.{Runs, after_execution, execution, is_ready, replies_to};
 ghost use Rattle.bfs_node.specs.Inside.Finishing.{answers_in, finished_by, with_files};
 ghost use Rattle.bfs_node.specs.declared.error.NodeError.TheVariants as error;
 
@@ -34,7 +35,8 @@ impl Node {
     }
 
     /// Executes the batch after the one last executed, once it is committed, by the executor and the gate that it is given, and gives the
-    /// REPLYs to its clients; none where no batch is next. Its requests wait no longer. `Failed` where the file system has failed, also
+    /// REPLYs to its clients; none where no batch is next. Where the executor has an engine, each new request is run by the gate, but those
+    /// that may touch any inode. Its requests wait no longer. `Failed` where the file system has failed, also
     /// where no batch is next; nothing changes then. `Memory` if memory runs out: then the file system has failed, and nothing else changed.
     pub fn execute_ready<R: Threads + Wait + Sync, G: Gate + Sync>(
         &mut self,
@@ -44,6 +46,7 @@ impl Node {
     ) -> Result<Option<Vec<Signed<Message>>>, NodeError>
         ensures ready { IfOk result (λ sent. option_map (option_map (λ outcome. outcome.sent)) (execution self.old) ≡ Some (option_map (λ messages. messages.items) sent)) }
         ensures now { OnOk result (option_map (after_execution self.old) (execution self.old) ≡ Some self.new) }
+        ensures ran { OnOk result (Runs G.ran executor.engine self.old) }
         ensures failed { IsErrOf result error.Failed ↔ (self.old.files ≡ None) }
         ensures errors { IfErr result (λ e. e ≢ error.Memory → e ≡ error.Failed) }
         ensures fails { IsErrOf result error.Memory → self.new ≡ record self.old { files = None } }
@@ -79,6 +82,7 @@ impl Node {
     ) -> Result<Finished, Memory>
         requires { IsSome self.old.files }
         ensures done { IfOk result (λ finished. ComesTo self.old.files self.old.table batch.now self.new.files finished.to_record.items (answers_in self.old batch.now)) }
+        ensures ran { OnOk result (IsSome executor.engine → ForSome self.old.files (λ live. RanNew G.ran live self.old.table batch.now)) }
         ensures replies { IfOk result (λ finished. finished.replies.items ≡ replies_to self.old.keys self.old.order (answers_in self.old batch.now)) }
         ensures others { with_files self.new None ≡ with_files self.old None }
     {

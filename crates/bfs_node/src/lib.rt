@@ -3,6 +3,7 @@
 #![tactic(auto)]
 
 mod adopting;
+mod advancing;
 mod changing;
 mod checkpoints;
 mod delivering;

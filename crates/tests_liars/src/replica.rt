@@ -1,7 +1,7 @@
 //! One replica, and what is done to it. It comes to plain values, and to nothing that a contract says.
 use bfs_auth::{Keys, Principal};
 use bfs_messages::{Message, Signed};
-use bfs_node::{Executor, NoGate, Node, NodeError, Workers};
+use bfs_node::{Executor, NoGate, Node, NodeError};
 use bfs_settings::Settings;
 use bfs_types::{Memory, Time};
 use std::alloc::Global;
@@ -27,7 +27,7 @@ pub fn replica(alloc: Global, f: u32, me: u32) -> Result<Node, Memory> {
         return Err(Memory);
     };
     if me < settings.replicas() {
-        Node::new(alloc, &settings, me)
+        Node::of_settings(alloc, &settings, me)
     } else {
         Err(Memory)
     }
@@ -71,11 +71,7 @@ pub fn propose(node: &mut Node, second: u32) -> Option<Signed<Message>> {
 
 /// It executes the next batch one request after another, and gives its replies.
 pub fn execute<R: Threads + Wait + Sync>(rt: &R, node: &mut Node) -> Option<Vec<Signed<Message>>> {
-    let executor = Executor {
-        workers: Workers::one(),
-        engine: None,
-    };
-    match node.execute_ready(rt, executor, &NoGate) {
+    match node.execute_ready(rt, Executor::serial(), &NoGate) {
         Ok(replies) => replies,
         Err(_) => None,
     }
@@ -103,12 +99,12 @@ pub struct Snapshot {
 
 /// A copy of a replica's stable snapshot.
 pub fn snapshot_of(alloc: Global, node: &Node) -> Result<Option<Snapshot>, Memory> {
-    let Some((text, certificate)) = node.stable() else {
+    let Some(stable) = node.stable() else {
         return Ok(None);
     };
     Ok(Some(Snapshot {
-        text: text.to_vec(alloc)?,
-        certificate: copies_of(alloc, certificate)?,
+        text: stable.text.to_vec(alloc)?,
+        certificate: copies_of(alloc, stable.certificate)?,
     }))
 }
 

@@ -1,9 +1,8 @@
 //! A replica that is behind adopts the stable snapshot of another one.
-use crate::behind::{
-    ANOTHER_LINK, ANOTHER_OWNER, EARLIER_VERSION, LATER_VERSION, Step, Text, plays,
-};
+use crate::behind::{Step, plays};
 use crate::parts::Told;
 use crate::replica::{Said, Standing};
+use crate::texts::{ANOTHER_LINK, ANOTHER_OWNER, EARLIER_VERSION, LATER_VERSION, Text};
 use std::test::Fail;
 
 const OF_THREE: &[Told] = &[Told(0, 0), Told(1, 1), Told(2, 2)];
@@ -15,6 +14,30 @@ static A_CERTIFICATE: [Step; 4] = [
     // it is not ahead any more
     Step::Adopt(Text::Right, OF_THREE, Said::Refused(34)),
 ];
+
+static OTHERS_GO_ON: [Step; 14] = [
+    Step::IsBehind(false),
+    Step::Tell(Told(0, 0), Said::Sent(0)),
+    // it may lie
+    Step::IsBehind(false),
+    Step::Tell(Told(0, 0), Said::Refused(29)),
+    Step::Tell(Told(0, 1), Said::Refused(24)),
+    Step::IsBehind(false),
+    Step::Tell(Told(1, 1), Said::Sent(0)),
+    Step::IsBehind(true),
+    Step::StableAt(0, None),
+    // a number is stable of which it has no snapshot
+    Step::Tell(Told(2, 2), Said::Sent(0)),
+    Step::StableAt(16, None),
+    Step::Adopt(Text::Right, OF_THREE, Said::Nothing),
+    Step::StableAt(16, Some(16)),
+    Step::IsBehind(false),
+];
+
+#[test]
+fn one_is_behind_once_two_others_have_gone_on(rt: HostRuntime) -> Result<(), Fail> {
+    plays(&rt, rt.alloc(), &OTHERS_GO_ON)
+}
 
 #[test]
 fn a_new_replica_catches_up(rt: HostRuntime) -> Result<(), Fail> {

@@ -35,7 +35,7 @@ static A_REQUEST_TWICE: [Step; 8] = [
     Step::Propose(Said::Sent(1)),
     Step::Execute(Said::Sent(1)),
     Step::Stands(Standing(0, 2, 0)),
-    Step::HasDigest,
+    Step::HasDigest(true),
 ];
 
 #[test]
@@ -43,13 +43,15 @@ fn a_repeated_request_is_answered_again(rt: HostRuntime) -> Result<(), Fail> {
     plays(&rt, rt.alloc(), 0, 0, &A_REQUEST_TWICE)
 }
 
-static A_CHECKPOINT: [Step; 5] = [
+static A_CHECKPOINT: [Step; 7] = [
     Step::Batches(16),
     Step::HasNoneStable,
+    Step::StableAt(0, None),
     Step::Checkpoint(Said::Sent(1)),
     Step::Checkpoint(Said::Refused(26)),
     // behind 16 clients without a reply a file system
     Step::HasStable(1, 4 + 16 * 4),
+    Step::StableAt(16, Some(16)),
 ];
 
 #[test]

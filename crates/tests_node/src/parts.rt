@@ -52,7 +52,8 @@ pub fn reply(alloc: Global) -> Result<Signed<Message>, Memory> {
 pub struct Told(pub u32, pub u32);
 
 impl Told {
-    fn message(self, alloc: Global, digest: [u8; 32]) -> Result<Signed<Message>, Memory> {
+    /// The CHECKPOINT as a message.
+    pub fn message(self, alloc: Global, digest: [u8; 32]) -> Result<Signed<Message>, Memory> {
         let Told(signer, sender) = self;
         let signer = Principal::Replica(signer % 4);
         let keys = Keys::derive(alloc, SECRET, signer, 4, CLIENTS)?;

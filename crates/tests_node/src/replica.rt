@@ -1,8 +1,11 @@
 //! One replica, and what is done to it.
+use crate::gates::NoRoom;
+use bfs_auth::{Keys, Principal};
+use bfs_codec::encode;
 use bfs_messages::{Message, Signed};
-use bfs_node::{Executor, NoGate, Node, NodeError, Workers};
+use bfs_node::{Engine, Executor, NoGate, Node, NodeError, Workers};
 use bfs_settings::Settings;
-use bfs_types::{Memory, Time};
+use bfs_types::{MOST_CLIENTS, Memory, Time};
 use std::alloc::Global;
 use std::sync::Wait;
 use std::thread::Threads;
@@ -17,6 +20,14 @@ pub enum Said {
     Sent(usize),
     Refused(u32),
     Nothing,
+}
+
+/// What a replica sends as it advances.
+#[derive(Clone, Copy, Debug, PartialEq, Eq)]
+pub enum Kind {
+    Reply,
+    Checkpoint,
+    Other,
 }
 
 /// How a replica stands: how many requests wait, the number last executed, and its view.
@@ -43,10 +54,84 @@ pub fn replica(alloc: Global, f: u32, me: u32) -> Result<Node, Memory> {
         return Err(Memory);
     };
     if me < settings.replicas() {
-        Node::new(alloc, &settings, me)
+        Node::of_settings(alloc, &settings, me)
     } else {
         Err(Memory)
     }
+}
+
+/// The replica with these keys.
+pub fn replica_with(alloc: Global, keys: Keys) -> Result<Node, Memory> {
+    match keys.replica_of() {
+        Some(_) if keys.clients() <= MOST_CLIENTS as usize => Node::new(alloc, keys),
+        _ => Err(Memory),
+    }
+}
+
+/// Replica 3 of four, which begins with a text, where there are so many clients; or the number of the refusal.
+pub fn replica_from(alloc: Global, clients: u32, text: &[u8]) -> Result<Node, u32> {
+    let keys = keys_of(alloc, 1, 3, clients).map_err(|_| 40u32)?;
+    match keys.replica_of() {
+        Some(_) if keys.clients() <= MOST_CLIENTS as usize => {
+            Node::from_text(alloc, keys, text).map_err(|error| error.code())
+        }
+        _ => Err(40),
+    }
+}
+
+/// The keys of the replica of that number among 3f + 1, where there are so many clients.
+pub fn keys_of(alloc: Global, f: u32, me: u32, clients: u32) -> Result<Keys, Memory> {
+    if f > 10 || me > 100 || clients > MOST_CLIENTS {
+        return Err(Memory);
+    }
+    Keys::derive(alloc, SECRET, Principal::Replica(me), 3 * f + 1, clients)
+}
+
+/// What a replica takes itself for: f, its number, and how many clients there are.
+pub fn place_of(node: &Node) -> (u32, u32, u32) {
+    (node.f(), node.number(), node.clients())
+}
+
+fn spelled(alloc: Global, signed: &Signed<Message>) -> Result<Vec<u8>, Memory> {
+    encode(alloc, signed)
+}
+
+fn put_all(alloc: Global, bytes: &mut Vec<u8>, sent: &[Signed<Message>]) -> Result<(), Memory> {
+    for signed in sent {
+        bytes.extend_from_slice(&spelled(alloc, signed)?)?;
+    }
+    Ok(())
+}
+
+// what it sends where it leaves its view
+fn left(node: &mut Node) -> Option<Vec<Signed<Message>>> {
+    node.timeout().ok()
+}
+
+/// The bytes of all that it sends where it proposes, if it may, and then leaves its view.
+pub fn said_first(alloc: Global, node: &mut Node) -> Result<Vec<u8>, Memory> {
+    let mut bytes = Vec::new(alloc);
+    if let Some(signed) = proposed(node) {
+        bytes.extend_from_slice(&spelled(alloc, &signed)?)?;
+    }
+    if let Some(sent) = left(node) {
+        put_all(alloc, &mut bytes, &sent)?;
+    }
+    Ok(bytes)
+}
+
+/// What it sends when bytes come, and nothing where they are refused.
+pub fn sent_for<R: Threads + Sync>(
+    rt: &R,
+    node: &mut Node,
+    bytes: &[u8],
+) -> Option<Vec<Signed<Message>>> {
+    node.deliver(rt, bytes).ok()
+}
+
+/// Its proposal of what waits, at 1.000000, where it may propose.
+pub fn proposed(node: &mut Node) -> Option<Signed<Message>> {
+    node.propose(Time::new(1, 0)?).ok()
 }
 
 /// A message comes to the replica.
@@ -69,15 +154,60 @@ pub fn propose(node: &mut Node) -> Said {
 
 /// It executes the next batch one request after another, and sends REPLYs.
 pub fn execute<R: Threads + Wait + Sync>(rt: &R, node: &mut Node) -> Said {
-    let executor = Executor {
-        workers: Workers::one(),
-        engine: None,
-    };
-    match node.execute_ready(rt, executor, &NoGate) {
+    match node.execute_ready(rt, Executor::serial(), &NoGate) {
         Ok(Some(replies)) => Said::Sent(replies.len()),
         Ok(None) => Said::Nothing,
         Err(error) => Said::Refused(error.code()),
     }
+}
+
+// an engine whose gate finds no memory for any request
+fn without_room() -> Executor {
+    Executor {
+        workers: Workers::one(),
+        engine: Some(Engine::Levels),
+    }
+}
+
+/// It executes the next batch, and finds no memory for the requests in it.
+pub fn execute_without_room<R: Threads + Wait + Sync>(rt: &R, node: &mut Node) -> Said {
+    match node.execute_ready(rt, without_room(), &NoRoom) {
+        Ok(Some(replies)) => Said::Sent(replies.len()),
+        Ok(None) => Said::Nothing,
+        Err(error) => Said::Refused(error.code()),
+    }
+}
+
+/// It executes all that is committed, and gives what it sends, or the number of the refusal.
+pub fn advance<R: Threads + Wait + Sync>(
+    rt: &R,
+    node: &mut Node,
+) -> Result<Vec<Signed<Message>>, u32> {
+    node.advance(rt, Executor::serial(), &NoGate)
+        .map_err(|error| error.code())
+}
+
+/// It executes all that is committed, but finds no memory for any request.
+pub fn advance_without_room<R: Threads + Wait + Sync>(rt: &R, node: &mut Node) -> Said {
+    many(&node.advance(rt, without_room(), &NoRoom))
+}
+
+fn kind_of(signed: &Signed<Message>) -> Kind {
+    match signed.message {
+        Message::Reply(_) => Kind::Reply,
+        Message::Checkpoint(_) => Kind::Checkpoint,
+        _ => Kind::Other,
+    }
+}
+
+/// Whether these are sent, in this order.
+pub fn are_of(sent: &[Signed<Message>], wanted: &[Kind]) -> bool {
+    for (place, signed) in sent.iter().enumerate() {
+        if wanted.get(place) != Some(&kind_of(signed)) {
+            return false;
+        }
+    }
+    sent.len() == wanted.len()
 }
 
 /// It makes a checkpoint.
@@ -108,22 +238,36 @@ pub fn is_ready(node: &Node) -> bool {
     node.is_ready() && node.is_live()
 }
 
+/// Whether others have gone on.
+pub fn is_behind(node: &Node) -> bool {
+    node.is_behind()
+}
+
 /// Its digest, if its file system has not failed.
 pub fn digest_of<R: Threads + Sync>(rt: &R, node: &Node) -> Option<[u8; 32]> {
     node.digest(rt).ok()
 }
 
+/// The number of its last stable checkpoint, and that of its stable snapshot.
+pub fn stable_numbers(node: &Node) -> (u64, Option<u64>) {
+    let snapshot = match node.stable() {
+        Some(stable) => Some(stable.number),
+        None => None,
+    };
+    (node.stable_number(), snapshot)
+}
+
 /// How many CHECKPOINTs tell its stable snapshot, and how many bytes it has.
 pub fn stable_of(node: &Node) -> Option<(usize, usize)> {
-    let (text, certificate) = node.stable()?;
-    Some((certificate.len(), text.len()))
+    let stable = node.stable()?;
+    Some((stable.certificate.len(), stable.text.len()))
 }
 
 /// A copy of the text of its stable snapshot; no bytes where there is none.
 pub fn stable_text(alloc: Global, node: &Node) -> Result<Vec<u8>, Memory> {
     let mut copy = Vec::new(alloc);
-    if let Some((text, _)) = node.stable() {
-        copy.extend_from_slice(text)?;
+    if let Some(stable) = node.stable() {
+        copy.extend_from_slice(stable.text)?;
     }
     Ok(copy)
 }

@@ -1,7 +1,8 @@
 //! What happens to one replica, step after step, as tables. The proof of a test that tells it by calls takes many times as long.
 use crate::parts::{Asked, reply};
 use crate::replica::{
-    Said, Standing, checkpoint, deliver, digest_of, execute, is_ready, propose, replica, stable_of,
+    Kind, Said, Standing, advance, advance_without_room, are_of, checkpoint, deliver, digest_of,
+    execute, execute_without_room, is_ready, propose, replica, stable_numbers, stable_of,
     standing_of, take,
 };
 use bfs_node::Node;
@@ -29,6 +30,16 @@ pub enum Step {
     Propose(Said),
     /// It executes the next batch.
     Execute(Said),
+    /// It executes the next batch, and finds no memory for the requests in it.
+    ExecuteWithoutRoom(Said),
+    /// It executes all that is committed, and sends these.
+    Advance(&'static [Kind]),
+    /// It may execute nothing, by that number.
+    AdvanceRefused(u32),
+    /// It executes all that is committed, but finds no memory for any request.
+    AdvanceWithoutRoom(Said),
+    /// It proposes what waits so many times.
+    Proposals(u32),
     /// It makes a checkpoint.
     Checkpoint(Said),
     /// It proposes and executes so many batches without requests, and before each it may make no checkpoint.
@@ -37,8 +48,10 @@ pub enum Step {
     Stands(Standing),
     /// Whether a batch may be executed.
     IsReady(bool),
-    /// It has a digest.
-    HasDigest,
+    /// Whether it has a digest.
+    HasDigest(bool),
+    /// The number of its last stable checkpoint, and that of its stable snapshot.
+    StableAt(u64, Option<u64>),
     /// None of its snapshots is stable.
     HasNoneStable,
     /// So many CHECKPOINTs tell its stable snapshot, and it has more bytes than that.
@@ -79,6 +92,22 @@ fn batches<R: Threads + Wait + Sync>(rt: &R, node: &mut Node, count: u32) -> boo
     true
 }
 
+fn proposals(node: &mut Node, count: u32) -> bool {
+    for _ in 0..count {
+        if propose(node) != Said::Sent(1) {
+            return false;
+        }
+    }
+    true
+}
+
+fn advances<R: Threads + Wait + Sync>(rt: &R, node: &mut Node, wanted: &[Kind]) -> bool {
+    match advance(rt, node) {
+        Ok(sent) => are_of(&sent, wanted),
+        Err(_) => false,
+    }
+}
+
 fn has_stable(node: &Node, checkpoints: usize, bytes: usize) -> bool {
     match stable_of(node) {
         Some((certificate, text)) => certificate == checkpoints && text > bytes,
@@ -101,11 +130,17 @@ fn happens<R: Threads + Wait + Sync>(
         Step::Fill(count) => fill(rt, alloc, node, count)?,
         Step::Propose(wanted) => propose(node) == wanted,
         Step::Execute(wanted) => execute(rt, node) == wanted,
+        Step::ExecuteWithoutRoom(wanted) => execute_without_room(rt, node) == wanted,
+        Step::Advance(wanted) => advances(rt, node, wanted),
+        Step::AdvanceRefused(code) => advance(rt, node).err() == Some(code),
+        Step::AdvanceWithoutRoom(wanted) => advance_without_room(rt, node) == wanted,
+        Step::Proposals(count) => proposals(node, count),
         Step::Checkpoint(wanted) => checkpoint(rt, node) == wanted,
         Step::Batches(count) => batches(rt, node, count),
         Step::Stands(wanted) => standing_of(node) == wanted,
         Step::IsReady(wanted) => is_ready(node) == wanted,
-        Step::HasDigest => digest_of(rt, node).is_some(),
+        Step::HasDigest(wanted) => digest_of(rt, node).is_some() == wanted,
+        Step::StableAt(low, snapshot) => stable_numbers(node) == (low, snapshot),
         Step::HasNoneStable => stable_of(node).is_none(),
         Step::HasStable(checkpoints, bytes) => has_stable(node, checkpoints, bytes),
     })

@@ -1,6 +1,6 @@
 //! One replica, which is looked at where memory runs out, and then asked again.
 use bfs_messages::{Message, Signed};
-use bfs_node::{Executor, NoGate, Node, NodeError, Workers};
+use bfs_node::{Executor, NoGate, Node, NodeError};
 use bfs_settings::Settings;
 use bfs_types::{Memory, Time};
 use std::alloc::Global;
@@ -59,12 +59,12 @@ pub struct Snapshot {
     certificate: Vec<Signed<Message>>,
 }
 
-fn node(alloc: Global, me: u32) -> Result<Node, Memory> {
-    let Ok(settings) = Settings::new(alloc, 1, CLIENTS, SECRET) else {
+fn node(alloc: Global, f: u32, me: u32) -> Result<Node, Memory> {
+    let Ok(settings) = Settings::new(alloc, f, CLIENTS, SECRET) else {
         return Err(Memory);
     };
     if me < settings.replicas() {
-        Node::new(alloc, &settings, me)
+        Node::of_settings(alloc, &settings, me)
     } else {
         Err(Memory)
     }
@@ -82,11 +82,16 @@ fn one_in(
 }
 
 impl Replica {
-    /// The replica of that number among four, which has done nothing.
-    pub fn new<R: Threads + Sync>(rt: &R, alloc: Global, me: u32) -> Result<Replica, Memory> {
+    /// The replica of that number among 3f + 1, which has done nothing.
+    pub fn new<R: Threads + Sync>(
+        rt: &R,
+        alloc: Global,
+        f: u32,
+        me: u32,
+    ) -> Result<Replica, Memory> {
         let mut replica = Replica {
             alloc,
-            node: node(alloc, me)?,
+            node: node(alloc, f, me)?,
             digest: None,
         };
         replica.digest = Some(replica.digest(rt).ok_or(Memory)?);
@@ -104,7 +109,7 @@ impl Replica {
 
     fn shown(&self) -> Shown {
         let stable = match self.node.stable() {
-            Some((text, certificate)) => Some((certificate.len(), text.len())),
+            Some(stable) => Some((stable.certificate.len(), stable.text.len())),
             None => None,
         };
         (self.standing(), stable)
@@ -121,7 +126,7 @@ impl Replica {
     /// Whether it has a stable snapshot that so many CHECKPOINTs tell.
     pub fn has_stable(&self, checkpoints: usize) -> bool {
         match self.node.stable() {
-            Some((_, certificate)) => certificate.len() == checkpoints,
+            Some(stable) => stable.certificate.len() == checkpoints,
             None => false,
         }
     }
@@ -156,11 +161,7 @@ impl Replica {
         &mut self,
         rt: &R,
     ) -> Result<Vec<Signed<Message>>, NodeError> {
-        let executor = Executor {
-            workers: Workers::one(),
-            engine: None,
-        };
-        match self.node.execute_ready(rt, executor, &NoGate)? {
+        match self.node.execute_ready(rt, Executor::serial(), &NoGate)? {
             Some(replies) => Ok(replies),
             None => Ok(Vec::new(self.alloc)),
         }
@@ -222,15 +223,15 @@ impl Replica {
 
     /// A copy of its stable snapshot, if it has one.
     pub fn snapshot(&self) -> Result<Option<Snapshot>, Memory> {
-        let Some((text, certificate)) = self.node.stable() else {
+        let Some(stable) = self.node.stable() else {
             return Ok(None);
         };
         let mut copies = Vec::new(self.alloc);
-        for signed in certificate {
+        for signed in stable.certificate {
             copies.push(signed.try_clone(self.alloc)?)?;
         }
         Ok(Some(Snapshot {
-            text: text.to_vec(self.alloc)?,
+            text: stable.text.to_vec(self.alloc)?,
             certificate: copies,
         }))
     }
@@ -259,6 +260,30 @@ impl Replica {
         };
         self.digest = self.digest(rt);
         took && self.digest.is_some()
+    }
+
+    fn advances_once<R: Threads + Wait + Sync>(&mut self, rt: &R) -> Result<(), NodeError> {
+        self.node.advance(rt, Executor::serial(), &NoGate)?;
+        Ok(())
+    }
+
+    /// It executes all that is committed. Where memory runs out, it is asked again, but where its file system has failed: then it executes
+    /// nothing before it adopts a snapshot. It gives whether all that is so.
+    pub fn advances<R: Threads + Wait + Sync>(&mut self, rt: &R, snapshot: &Snapshot) -> bool {
+        match self.advances_once(rt) {
+            Ok(()) => true,
+            Err(NodeError::Memory) if self.node.is_live() => self.advances_once(rt).is_ok(),
+            Err(NodeError::Memory) => self.mends(rt, snapshot),
+            Err(_) => false,
+        }
+    }
+
+    fn mends<R: Threads + Wait + Sync>(&mut self, rt: &R, snapshot: &Snapshot) -> bool {
+        let before = self.shown();
+        self.advances_once(rt).err() == Some(NodeError::Failed)
+            && self.is_as(rt, before, false)
+            && self.adopts(rt, snapshot)
+            && self.advances_once(rt).is_ok()
     }
 
     fn is_as<R: Threads + Sync>(&self, rt: &R, before: Shown, live: bool) -> bool {

@@ -30,7 +30,7 @@ impl Replicas {
     pub fn new<R: Threads + Sync>(rt: &R, alloc: Global) -> Result<Replicas, Memory> {
         let mut all = Vec::new(alloc);
         for me in 0..4 {
-            all.push(Replica::new(rt, alloc, me)?)?;
+            all.push(Replica::new(rt, alloc, 1, me)?)?;
         }
         Ok(Replicas {
             alloc,
@@ -142,7 +142,7 @@ impl Replicas {
         numbers: &[usize],
         timestamp: u32,
     ) -> Result<bool, Memory> {
-        let bytes = request(self.alloc, timestamp)?;
+        let bytes = request(self.alloc, 4, timestamp)?;
         self.ask_each(rt, numbers, Call::Deliver(bytes.as_slice()))
     }
 

@@ -1,7 +1,9 @@
-//! Replicas that change their view, as tests: a silent primary is replaced, what was prepared or executed stands in the new view, and which
-//! VIEW-CHANGEs and NEW-VIEWs are refused.
+//! Replicas that change their view, as tests: a silent primary is replaced, what was prepared or executed stands in the new view, which view
+//! a replica is to follow, and which VIEW-CHANGEs and NEW-VIEWs are refused.
 #![tactic(auto)]
 
+#[cfg(test)]
+mod following;
 #[cfg(test)]
 mod keeping;
 #[cfg(test)]

@@ -1,6 +1,6 @@
 //! One replica, and what comes to it.
 use bfs_messages::{Message, Signed};
-use bfs_node::{Executor, NoGate, Node, NodeError, Workers};
+use bfs_node::{Executor, NoGate, Node, NodeError};
 use bfs_settings::Settings;
 use bfs_types::{Memory, Time};
 use std::alloc::Global;
@@ -29,13 +29,17 @@ fn what_came_of(given: &Result<Vec<Signed<Message>>, NodeError>) -> Said {
 #[derive(Clone, Copy, Debug, PartialEq, Eq)]
 pub struct Standing(pub u64, pub u64, pub u32);
 
+/// How a replica looks at views: whether it leads the one that it has entered, the one last asked for, and the one to follow.
+#[derive(Clone, Copy, Debug, PartialEq, Eq)]
+pub struct Outlook(pub bool, pub u64, pub Option<u64>);
+
 /// The replica of that number among 3f + 1.
 pub fn replica(alloc: Global, f: u32, me: u32) -> Result<Node, Memory> {
     let Ok(settings) = Settings::new(alloc, f, CLIENTS, SECRET) else {
         return Err(Memory);
     };
     if me < settings.replicas() {
-        Node::new(alloc, &settings, me)
+        Node::of_settings(alloc, &settings, me)
     } else {
         Err(Memory)
     }
@@ -70,6 +74,11 @@ pub fn standing_of(node: &Node) -> Standing {
     Standing(node.view(), node.last_executed(), node.pending())
 }
 
+/// How a replica looks at views.
+pub fn outlook_of(node: &Node) -> Outlook {
+    Outlook(node.leads(), node.view_asked(), node.view_to_follow())
+}
+
 /// A replica's digest, if its file system has not failed.
 pub fn digest_of<R: Threads + Sync>(rt: &R, node: &Node) -> Option<[u8; 32]> {
     node.digest(rt).ok()
@@ -83,31 +92,7 @@ pub fn proposed(node: &mut Node) -> Option<Signed<Message>> {
     }
 }
 
-fn replies<R: Threads + Wait + Sync>(rt: &R, node: &mut Node) -> Option<Vec<Signed<Message>>> {
-    let executor = Executor {
-        workers: Workers::one(),
-        engine: None,
-    };
-    match node.execute_ready(rt, executor, &NoGate) {
-        Ok(replies) => replies,
-        Err(_) => None,
-    }
-}
-
-fn checkpoint<R: Threads + Sync>(rt: &R, node: &mut Node) -> Option<Signed<Message>> {
-    node.checkpoint(rt).ok()
-}
-
-/// Executes the next batch one request after another, and gives what is sent: replies, and a CHECKPOINT where one is due.
-pub fn execute<R: Threads + Wait + Sync>(
-    rt: &R,
-    node: &mut Node,
-) -> Result<Option<Vec<Signed<Message>>>, Memory> {
-    let Some(mut sent) = replies(rt, node) else {
-        return Ok(None);
-    };
-    if let Some(checkpoint) = checkpoint(rt, node) {
-        sent.push(checkpoint)?;
-    }
-    Ok(Some(sent))
+/// A replica executes all that is committed, one request after another, and gives what is sent: replies, and CHECKPOINTs where they are due.
+pub fn advance<R: Threads + Wait + Sync>(rt: &R, node: &mut Node) -> Option<Vec<Signed<Message>>> {
+    node.advance(rt, Executor::serial(), &NoGate).ok()
 }

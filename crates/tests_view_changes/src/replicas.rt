@@ -1,7 +1,7 @@
 //! Four replicas, of which one may be faulty, and messages on their way between them.
 use crate::parts::request;
 use crate::replica::{
-    Standing, digest_of, execute, proposed, replica, sent_for, sent_late, standing_of,
+    Standing, advance, digest_of, proposed, replica, sent_for, sent_late, standing_of,
 };
 use bfs_messages::{Message, Signed};
 use bfs_node::Node;
@@ -219,15 +219,15 @@ impl Replicas {
         Ok(())
     }
 
-    // those that are heard execute what is next
-    fn execute<R: Threads + Wait + Sync>(&mut self, rt: &R, heard: &[usize]) -> Result<(), Memory> {
+    // those that are heard execute what is committed
+    fn advance<R: Threads + Wait + Sync>(&mut self, rt: &R, heard: &[usize]) -> Result<(), Memory> {
         for number in heard {
-            self.execute_at(rt, *number)?;
+            self.advance_at(rt, *number)?;
         }
         Ok(())
     }
 
-    fn execute_at<R: Threads + Wait + Sync>(
+    fn advance_at<R: Threads + Wait + Sync>(
         &mut self,
         rt: &R,
         number: usize,
@@ -235,7 +235,7 @@ impl Replicas {
         let Some(node) = self.nodes.get_mut(number) else {
             return Ok(());
         };
-        match execute(rt, node)? {
+        match advance(rt, node) {
             Some(sent) => self.send(number, sent),
             None => Ok(()),
         }
@@ -247,10 +247,10 @@ impl Replicas {
         heard: &[usize],
     ) -> Result<(), Memory> {
         self.hand_over(rt, heard)?;
-        self.execute(rt, heard)
+        self.advance(rt, heard)
     }
 
-    /// Messages come to those that are heard, who execute what is next, until that has gone on long enough for all that is asked of them.
+    /// Messages come to those that are heard, who execute what is committed, until that has gone on long enough for all that is asked of them.
     pub fn settle<R: Threads + Wait + Sync>(
         &mut self,
         rt: &R,

@@ -28,7 +28,7 @@ pub enum Event {
     HandOver(&'static [usize]),
     /// What is on its way is lost.
     Lose,
-    /// Messages come to these until none is on its way, and they execute what is next.
+    /// Messages come to these until none is on its way, and they execute what is committed.
     Settle(&'static [usize]),
     /// So many batches without requests are proposed by replica 0, and executed by all.
     Batches(u32),

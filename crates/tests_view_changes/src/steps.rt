@@ -1,6 +1,6 @@
 //! What comes to one replica, step after step, as tables.
 use crate::parts::{Asked, new_view};
-use crate::replica::{Said, Standing, replica, standing_of, take, time_out};
+use crate::replica::{Outlook, Said, Standing, outlook_of, replica, standing_of, take, time_out};
 use bfs_messages::{Message, Signed};
 use bfs_node::Node;
 use bfs_testing::asserts::compared;
@@ -22,6 +22,8 @@ pub enum Step {
     TimeOut(Said),
     /// It stands so.
     Stands(Standing),
+    /// It looks at views so.
+    Looks(Outlook),
 }
 
 // whether it comes to what is wanted
@@ -52,6 +54,7 @@ fn happens<R: Threads + Sync>(
         }
         Step::TimeOut(wanted) => Ok(time_out(node) == wanted),
         Step::Stands(wanted) => Ok(standing_of(node) == wanted),
+        Step::Looks(wanted) => Ok(outlook_of(node) == wanted),
     }
 }
 

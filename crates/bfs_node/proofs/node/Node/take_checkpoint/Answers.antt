@@ -1,9 +1,7 @@
 -- The CHECKPOINTs that were copied are those that may make its number stable.
-use Rattle.std.proofs.Common.{◌∙◌, ◌∷◌, ◌++◌, [], ap}
+use Rattle.std.proofs.Common.{◌∙◌, sym, ap}
 use Rattle.bfs_agreement.specs.Votes.{Header}
-use Rattle.bfs_checkpoints.specs.Certificates.{checkpoints}
 use Rattle.bfs_log.specs.Headers.{header}
-use Rattle.bfs_log.specs.Logs.{Log}
 use Rattle.bfs_node.specs.Nodes.{Node}
 use Rattle.bfs_node.proofs.Stable.{accepted_checkpoint, certificate_at, checkpoint_now, news_taken}
 use Rattle.bfs_node.proofs.node.Node.take_checkpoint.Goals as goal
@@ -12,11 +10,11 @@ pub settle_at-requires : goal.settle_at-requires
 settle_at-requires g c low =
     let order = c.self.inside.order in
     let signed = c.args.signed in
-    let news = news_taken c.self.inside.keys order signed c.requires c.in_ok-sent.ensures.taken in
-    certificate_at order signed c.on_message.new.self c.number.inside.number c.in_ok-certificate.certificate.items
-    (c.in_ok-sent.ensures.now ∙ accepted_checkpoint c.self.inside.keys order signed news.checkpoint) news c.log.ensures.differ
+    let news = news_taken c.self.inside.keys order signed c.requires (sym c.refusal-refused.ensures.value ∙ c.in_default.is) in
+    certificate_at order signed c.accept.new.self c.number.inside.number c.in_ok-certificate.certificate.items
+    (c.in_ok-sent.ensures.now ∙ accepted_checkpoint c.self.inside.keys order signed news.checkpoint) news (rw (← c.self.view_is) at c.certificate_if_due.ensures.differ)
     (ap (λ (h : Header). h.number) (c.number.view_is ∙ c.header_of.ensures))
-    (c.in_ok-certificate.ensures ∙ ap (λ (log : Log). checkpoints (header signed).number (header signed).digest (log ++ signed ∷ [])) c.log.ensures.value) low
+    (rw (← c.self.view_is) at c.in_ok-certificate.ensures.made) low
 
 pub returns-clause-now : goal.returns-clause-now
 returns-clause-now g c =
@@ -24,6 +22,6 @@ returns-clause-now g c =
     let signed = c.args.signed in
     rw (← c.self.view_is)
     (c.settle_at.ensures
-    ∙ checkpoint_now node signed c.on_message.new.self c.number.inside.number c.in_ok-certificate.certificate.items c.in_ok-sent.ensures.now
-    (news_taken node.keys node.order signed c.requires c.in_ok-sent.ensures.taken) (ap (λ (h : Header). h.number) (c.number.view_is ∙ c.header_of.ensures))
-    (c.in_ok-certificate.ensures ∙ ap (λ (log : Log). checkpoints (header signed).number (header signed).digest (log ++ signed ∷ [])) c.log.ensures.value))
+    ∙ checkpoint_now node signed c.accept.new.self c.number.inside.number c.in_ok-certificate.certificate.items c.in_ok-sent.ensures.now
+    (news_taken node.keys node.order signed c.requires (sym c.refusal-refused.ensures.value ∙ c.in_default.is)) (ap (λ (h : Header). h.number) (c.number.view_is ∙ c.header_of.ensures))
+    (rw (← c.self.view_is) at c.in_ok-certificate.ensures.made))

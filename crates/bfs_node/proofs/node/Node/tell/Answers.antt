@@ -1,8 +1,5 @@
 -- The CHECKPOINTs that were copied are those that may make its own stable.
-use Rattle.std.proofs.Common.{◌∙◌, ◌∷◌, ◌++◌, [], ℕ, ap}
-use Rattle.bfs_checkpoints.specs.Certificates.{checkpoints}
-use Rattle.bfs_log.specs.Headers.{header}
-use Rattle.bfs_log.specs.Logs.{Log}
+use Rattle.std.proofs.Common.{◌∙◌, ℕ, ap}
 use Rattle.bfs_messages.specs.Messages as model
 use Rattle.bfs_messages.specs.declared.message.Message.TheVariants.{Checkpoint}
 use Rattle.bfs_messages.specs.Signing.{signed_by}
@@ -16,8 +13,8 @@ settle_at-requires c low =
     let signed = c.in_ok-signed.signed in
     own_certificate c.self.inside.keys order c.args.number c.digest-digest.result.now signed c.on_checkpoint.new.self c.in_ok-certificate.certificate.items
     (c.in_ok-signed.ensures ∙ ap (λ (own : model.Checkpoint). signed_by c.self.inside.keys (Checkpoint own)) (c.new-own.ensures ∙ ap (λ (me : ℕ). record { sender = me; number = c.args.number; digest = c.digest-digest.result.now }) c.me.ensures.value))
-    (rw (← c.self.view_is) at c.requires.taken) c.log.ensures.differ c.in-Ok.ensures.now
-    (c.in_ok-certificate.ensures ∙ ap (λ (log : Log). checkpoints (header signed).number (header signed).digest (log ++ signed ∷ [])) c.log.ensures.value) low
+    (rw (← c.self.view_is) at c.requires.taken) (rw (← c.self.view_is) at c.certificate_if_due.ensures.differ) c.in-Ok.ensures.now
+    (rw (← c.self.view_is) at c.in_ok-certificate.ensures.made) low
 
 pub returns-in-Ok-clause-now : goal.returns-in-Ok-clause-now
 returns-in-Ok-clause-now c =
@@ -28,5 +25,5 @@ returns-in-Ok-clause-now c =
     ∙ own_now (record node { snapshots = c.push.new.self }) node.keys node.order c.args.number c.digest-digest.result.now signed c.on_checkpoint.new.self c.in_ok-certificate.certificate.items
     (c.in_ok-signed.ensures ∙ ap (λ (own : model.Checkpoint). signed_by node.keys (Checkpoint own)) (c.new-own.ensures ∙ ap (λ (me : ℕ). record { sender = me; number = c.args.number; digest = c.digest-digest.result.now }) c.me.ensures.value))
     (rw (← c.self.view_is) at c.requires.taken) c.in-Ok.ensures.now
-    (c.in_ok-certificate.ensures ∙ ap (λ (log : Log). checkpoints (header signed).number (header signed).digest (log ++ signed ∷ [])) c.log.ensures.value)
+    (rw (← c.self.view_is) at c.in_ok-certificate.ensures.made)
     ∙ told_now node c.args.number c.digest-digest.result.now c.args.snapshot c.push.new.self (rw (← c.self.view_is) at c.requires.last) c.digest-digest.ensures c.in_ok-push.ensures.ok)

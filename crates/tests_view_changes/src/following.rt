@@ -1,0 +1,82 @@
+//! Which view a replica leads, has asked for, and is to follow.
+use crate::parts::{Asked, FOR_ANOTHER_VIEW, OF_ONE, OF_THREE, OF_TWO};
+use crate::replica::{Outlook, Said, Standing};
+use crate::steps::{Step, plays};
+use std::test::Fail;
+
+const OF_TWO_FOR_FIVE: Asked = Asked {
+    sender: 2,
+    view: 5,
+    backups: &[1, 2],
+};
+
+static TWO_ASK: [Step; 9] = [
+    Step::Looks(Outlook(true, 0, None)),
+    Step::Change(OF_TWO_FOR_FIVE, 2, Said::Sent(0)),
+    // it may lie
+    Step::Looks(Outlook(true, 0, None)),
+    Step::Change(OF_THREE, 3, Said::Sent(0)),
+    Step::Looks(Outlook(true, 0, Some(1))),
+    Step::TimeOut(Said::Sent(1)),
+    // one alone asks for a later view
+    Step::Looks(Outlook(false, 1, None)),
+    Step::Change(FOR_ANOTHER_VIEW, 3, Said::Sent(0)),
+    Step::Looks(Outlook(false, 1, Some(2))),
+];
+
+#[test]
+fn the_least_view_is_followed_once_two_ask(rt: HostRuntime) -> Result<(), Fail> {
+    plays(&rt, rt.alloc(), 1, 0, &TWO_ASK)
+}
+
+static THE_NEXT_PRIMARY: [Step; 6] = [
+    Step::Looks(Outlook(false, 0, None)),
+    Step::Change(OF_TWO, 2, Said::Sent(0)),
+    Step::Change(OF_THREE, 3, Said::Sent(0)),
+    Step::Looks(Outlook(false, 0, Some(1))),
+    Step::TimeOut(Said::Sent(2)),
+    Step::Looks(Outlook(true, 1, None)),
+];
+
+#[test]
+fn the_primary_of_the_view_that_it_begins_leads(rt: HostRuntime) -> Result<(), Fail> {
+    plays(&rt, rt.alloc(), 1, 1, &THE_NEXT_PRIMARY)
+}
+
+const RIGHT: &[Asked] = &[OF_ONE, OF_TWO, OF_THREE];
+
+static A_BACKUP: [Step; 8] = [
+    Step::TimeOut(Said::Sent(1)),
+    Step::TimeOut(Said::Sent(1)),
+    // it has asked for view 2, and comes back to none below
+    Step::Looks(Outlook(false, 2, None)),
+    Step::NewView(1, RIGHT, true, Said::Refused(25)),
+    Step::Change(OF_TWO_FOR_FIVE, 2, Said::Sent(0)),
+    Step::Change(FOR_SIX, 0, Said::Sent(0)),
+    Step::Looks(Outlook(false, 2, Some(5))),
+    Step::Stands(Standing(0, 0, 0)),
+];
+
+const FOR_SIX: Asked = Asked {
+    sender: 0,
+    view: 6,
+    backups: &[1, 2],
+};
+
+#[test]
+fn what_is_followed_is_above_what_was_asked_for(rt: HostRuntime) -> Result<(), Fail> {
+    plays(&rt, rt.alloc(), 1, 3, &A_BACKUP)
+}
+
+static ENTERED: [Step; 4] = [
+    Step::TimeOut(Said::Sent(1)),
+    // its PREPARE for number 1
+    Step::NewView(1, RIGHT, true, Said::Sent(1)),
+    Step::Stands(Standing(1, 0, 0)),
+    Step::Looks(Outlook(false, 1, None)),
+];
+
+#[test]
+fn a_view_that_is_entered_was_asked_for(rt: HostRuntime) -> Result<(), Fail> {
+    plays(&rt, rt.alloc(), 1, 3, &ENTERED)
+}
