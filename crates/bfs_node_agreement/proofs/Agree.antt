@@ -14,24 +14,24 @@ use Rattle.bfs_view_agreement.specs.Laws.{ReplicasAgree}
 use Rattle.bfs_view_agreement.specs.Replicas as turns
 use Rattle.bfs_node_agreement.specs.Laws.{ComesOfBatches, Executed, NodesAgree, StepsAreTurns, TurnsMayBeTaken}
 use Rattle.bfs_node_agreement.specs.Premises.{AreAuthentic, StatesDontCollide}
-use Rattle.bfs_node_agreement.specs.Replicas.{Replicas, Standing, NodeTurn, after_turn, after_turns, new_replicas, turn_of, ordered_turns}
+use Rattle.bfs_node_agreement.specs.Replicas.{Beginning, Replicas, Standing, NodeTurn, after_turn, after_turns, new_replicas, turn_of, ordered_turns}
 use Rattle.bfs_node_agreement.specs.Steps.{deeds_of}
 use Rattle.bfs_node_agreement.proofs.Right.{step_done}
 use Rattle.bfs_node_agreement.proofs.States.{StatesKnown, digest_tells, new_states, one_state, reached_on, states_on}
 use Rattle.bfs_node_agreement.proofs.Turns.{AreRight, may_be_taken, new_right, right_on, stands_of}
 
 pub turns_may_be_taken : CallsKeepTheReplica → IsKept HasNoLaterView → MessageWasWritten → TurnsMayBeTaken
-turns_may_be_taken same views written f clients secret faulty steps comes =
-    may_be_taken same views written f faulty steps (new_replicas f clients secret) (ordered.new_replicas f) (new_right same views written f faulty clients secret) comes
+turns_may_be_taken same views written f keys start faulty steps shared comes =
+    may_be_taken same views written f faulty steps (new_replicas f keys start) (ordered.new_replicas f) (new_right same views written f faulty keys start shared) comes
 
 reached_later : (steps : List NodeTurn) (w : Replicas) (i : ℕ) (s : Standing) → IsIn s (w i).reached → IsIn s (after_turns w steps i).reached
 reached_later [] w i s j = j
 reached_later (turn ∷ steps) w i s j = reached_later steps (after_turn w turn) i s (reached_on w turn i s j)
 
 module _ (same : CallsKeepTheReplica) (views : IsKept HasNoLaterView) (written : MessageWasWritten) (meet : QuorumsMeet) (stable : CertificatesMakeStable)
-    (clients f : ℕ) (faulty : ℕ → Bool) (few : FewAreFaulty f faulty) where
-  states_known : (steps : List NodeTurn) (w : Replicas) (v : ordered.Replicas) → AreRight f faulty w v → StatesKnown clients faulty w → AreAuthentic faulty w steps
-      → StatesDontCollide faulty (after_turns w steps) → StatesKnown clients faulty (after_turns w steps)
+    (start : Beginning) (f : ℕ) (faulty : ℕ → Bool) (few : FewAreFaulty f faulty) where
+  states_known : (steps : List NodeTurn) (w : Replicas) (v : ordered.Replicas) → AreRight f faulty w v → StatesKnown start faulty w → AreAuthentic faulty w steps
+      → StatesDontCollide faulty (after_turns w steps) → StatesKnown start faulty (after_turns w steps)
   states_known [] w v right known_of comes apart = known_of
   states_known (turn ∷ steps) w v right known_of comes apart =
       let who = turn.who in
@@ -39,31 +39,31 @@ module _ (same : CallsKeepTheReplica) (views : IsKept HasNoLaterView) (written :
       let done = step_done faulty w v who node (stands_of f faulty w v right who) written turn.step comes.0 in
       let next = after_turn w turn in
       let apart_now : StatesDontCollide faulty next = λ i j s t a b x y. apart i j s t a b (reached_later steps next i s x) (reached_later steps next j t y) in
-      let known_now = states_on meet stable clients f faulty few w turn known_of (right who).same_f (λ m i. ((right who).log m i).whole) comes.0 done.stands done.tells apart_now in
+      let known_now = states_on meet stable start f faulty few w turn known_of (right who).same_f (λ m i. ((right who).log m i).whole) comes.0 done.stands done.tells apart_now in
       states_known steps next (turns.after_turns v (map (turn_of who) (deeds_of node turn.step))) (right_on same views written f faulty w v right turn comes.0) known_now comes.1 apart
 
 pub nodes_agree : StepsAreTurns → TurnsMayBeTaken → ReplicasAgree → CallsKeepTheReplica → IsKept HasNoLaterView → MessageWasWritten → QuorumsMeet → CertificatesMakeStable → NodesAgree
-nodes_agree are may agree same views written meet stable f clients secret faulty steps few comes batches_apart states_apart =
-    let start = new_replicas f clients secret in
-    let w = after_turns start steps in
-    let list = ordered_turns start steps in
-    let taken = may f clients secret faulty steps comes in
-    let known_of = states_known same views written meet stable clients f faulty few steps start (ordered.new_replicas f) (new_right same views written f faulty clients secret)
-    (new_states clients f secret faulty) comes states_apart in
+nodes_agree are may agree same views written meet stable f keys start faulty steps shared few comes batches_apart states_apart =
+    let begun = new_replicas f keys start in
+    let w = after_turns begun steps in
+    let list = ordered_turns begun steps in
+    let taken = may f keys start faulty steps shared comes in
+    let known_of = states_known same views written meet stable start f faulty few steps begun (ordered.new_replicas f) (new_right same views written f faulty keys start shared)
+    (new_states f keys start faulty) comes states_apart in
     let batches : (i j number : ℕ) (batch other : model.Batch) → faulty i ≡ false → faulty j ≡ false → Executed (w i) number batch → Executed (w j) number other → batch ≡ other =
     λ i j number batch other a b x y.
     let one = digest_tells x.0.message (record { number = number; batch = batch }) (known_of.whole i x.0 x.1) x.2 in
     let two = digest_tells y.0.message (record { number = number; batch = other }) (known_of.whole j y.0 y.1) y.2 in
     let digests = agree f faulty list few taken i j x.0 y.0
-    (subst (λ (l : Log). IsIn x.0 l) (sym (are f clients secret steps i).executed) x.1)
-    (subst (λ (l : Log). IsIn y.0 l) (sym (are f clients secret steps j).executed) y.1) (one.0 ∙ sym two.0) in
+    (subst (λ (l : Log). IsIn x.0 l) (sym (are f keys start steps i).executed) x.1)
+    (subst (λ (l : Log). IsIn y.0 l) (sym (are f keys start steps j).executed) y.1) (one.0 ∙ sym two.0) in
     batches_apart i j number batch other a b x y (sym one.1 ∙ digests ∙ two.1) in
     record {
       batches = batches;
       states = λ i j s t a b x y number.
           let at = known_of.comes i s a x in
-          let there = subst (λ (n : ℕ). ComesOfBatches clients faulty w n t.files t.table) (sym number) (known_of.comes j t b y) in
-          let equal = one_state clients faulty w batches s.number s.files t.files s.table t.table at there in
+          let there = subst (λ (n : ℕ). ComesOfBatches start faulty w n t.files t.table) (sym number) (known_of.comes j t b y) in
+          let equal = one_state start faulty w batches s.number s.files t.files s.table t.table at there in
           (equal, ap₂ node_digest equal.0 equal.1);
       comes = known_of.comes;
     }

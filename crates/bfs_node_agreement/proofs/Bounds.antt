@@ -1,5 +1,5 @@
 -- The view asked for is below 2^63 after all calls of an order, and so it may be entered.
-use Rattle.std.proofs.Common.{◌≡◌, ℕ, ◌^◌, Bool, true, false, cond, ◌&&◌, not, [], ◌∷◌, Option, Some, None, refl}
+use Rattle.std.proofs.Common.{◌≡◌, ℕ, Bool, true, false, cond, ◌&&◌, not, [], ◌∷◌, Option, Some, None, refl}
 use Rattle.std.specs.Prelude.{max, nat_lt, nat_le}
 use Rattle.std.proofs.lemmas.Bool.{and_parts}
 use Rattle.bfs_auth.specs.Keys.{Keys}
@@ -18,9 +18,10 @@ use Rattle.bfs_order.specs.Replica.Refusals.{refusal}
 use Rattle.bfs_order.specs.Replica.States.{State}
 use Rattle.bfs_order.specs.Replica.Views.{leaving_refusal, left, entering_refusal, opened, handed_refusal, taken_over, all_taken_over, entered}
 use Rattle.bfs_order.specs.declared.error.OrderError.{OrderError}
+use Rattle.bfs_model.specs.Server.Limits.{most_number}
 
 abbrev pub IsBounded : State → Type 0
-IsBounded s = nat_lt s.asked (2 ^ 63) ≡ true
+IsBounded s = nat_le s.asked most_number ≡ true
 
 pub passes : {E : Type 0} (b : Bool) (e : E) → cond (not b) (Some e) None ≡ None → b ≡ true
 passes true e h = refl
@@ -34,8 +35,8 @@ over keys (m ∷ ms) s h = over keys ms (taken_over keys s m).now (go (handed_re
     go None = h
     go (Some error) = h
 
-pub left_bounded : (s : State) (view : ℕ) → leaving_refusal s view ≡ None → nat_lt view (2 ^ 63) ≡ true
-left_bounded s view e = (and_parts (nat_lt (max s.view s.asked) view) (nat_lt view (2 ^ 63)) (passes _ _ e)).1
+pub left_bounded : (s : State) (view : ℕ) → leaving_refusal s view ≡ None → nat_le view most_number ≡ true
+left_bounded s view e = (and_parts (nat_lt (max s.view s.asked) view) (nat_le view most_number) (passes _ _ e)).1
 
 pub kept : (s : State) (call : Call) → IsBounded s → IsBounded (outcome s call).now
 kept s (Takes keys m) h = go (refusal keys s m)
@@ -72,6 +73,6 @@ kept s (Enters keys view min_s handed) h = go (entering_refusal s view) refl
   where
     go : (r : Option OrderError) → entering_refusal s view ≡ r → IsBounded (unless r s (entered keys s view min_s handed)).now
     go None e =
-        let a = and_parts (nat_lt s.view view) (nat_le s.asked view && nat_lt view (2 ^ 63)) (passes _ _ e) in
-        over keys handed (opened s view min_s handed) (and_parts (nat_le s.asked view) (nat_lt view (2 ^ 63)) a.1).1
+        let a = and_parts (nat_lt s.view view) (nat_le s.asked view && nat_le view most_number) (passes _ _ e) in
+        over keys handed (opened s view min_s handed) (and_parts (nat_le s.asked view) (nat_le view most_number) a.1).1
     go (Some error) e = h

@@ -231,7 +231,7 @@ vote_said o sent all m kind said =
           inr (two, subst (λ (t : ℕ). Told (headers o.offers) t (message_header m).sender (message_header m).view (message_header m).number (message_header m).digest) two (told_of o.offers p m offer.2 got.0))
     ]
 
-of_replica : (m : Message) → IsVote m → sender_of m ≡ principal.Replica (message_header m).sender
+pub of_replica : (m : Message) → IsVote m → sender_of m ≡ principal.Replica (message_header m).sender
 of_replica (PrePrepare proposal) kind = refl
 of_replica (Prepare vote) kind = refl
 of_replica (Commit vote) kind = refl
@@ -247,6 +247,27 @@ kinds_in c m i = elim i [
   | inl e ↦ subst (λ (x : Signed Message). IsVote x.message) (sym e) tt
   | inr j ↦ let from = out_of_map (as_message Prepare) c.prepares m j in subst (λ (x : Signed Message). IsVote x.message) (sym from.2) tt
 ]
+
+-- each message of a valid VIEW-CHANGE's certificates is signed
+pub proofs_signed : (keys : Keys) (s : Signed model.ViewChange) → valid_view_change keys s ≡ true → (c : model.Certificate) → IsIn c s.message.certificates → (m : Signed Message) → IsIn m (messages_in c)
+    → is_signed keys m ≡ true
+proofs_signed keys s valid c i m j =
+    let change = s.message in
+    let a = and_parts (are_in_order change) (is_signed keys (as_message ViewChange s) && (has_stable keys change && list_all (certifies keys) change.certificates)) valid in
+    let b = and_parts (is_signed keys (as_message ViewChange s)) (has_stable keys change && list_all (certifies keys) change.certificates) a.1 in
+    let g = and_parts (has_stable keys change) (list_all (certifies keys) change.certificates) b.1 in
+    let certified = passes_at (certifies keys) change.certificates c g.1 i in
+    let p = and_parts _ (senders_differ (messages_in c) && (is_proved (faults keys) c && list_all (is_all_signed keys) (messages_in c))) certified in
+    let q = and_parts (senders_differ (messages_in c)) (is_proved (faults keys) c && list_all (is_all_signed keys) (messages_in c)) p.1 in
+    let r = and_parts (is_proved (faults keys) c) (list_all (is_all_signed keys) (messages_in c)) q.1 in
+    (and_parts (is_signed keys m) (carried_are_signed keys m.message) (passes_at (is_all_signed keys) (messages_in c) m r.1 j)).0
+
+-- and so is it
+pub change_signed : (keys : Keys) (s : Signed model.ViewChange) → valid_view_change keys s ≡ true → is_signed keys (as_message ViewChange s) ≡ true
+change_signed keys s valid =
+    let change = s.message in
+    let a = and_parts (are_in_order change) (is_signed keys (as_message ViewChange s) && (has_stable keys change && list_all (certifies keys) change.certificates)) valid in
+    (and_parts (is_signed keys (as_message ViewChange s)) (has_stable keys change && list_all (certifies keys) change.certificates) a.1).0
 
 -- What passes -----------------------------------------------------------------------------------------------------------------
 
@@ -272,17 +293,8 @@ module _ (faulty : ℕ → Bool) (w : Replicas) (v : ordered.Replicas) (spoken :
       → valid_view_change keys s ≡ true → FitsViewChange s.message → IsGenuine faulty (histories v) s.message
   genuine_of s authentic proofs valid fits =
       let change = s.message in
-      let a = and_parts (are_in_order change) (is_signed keys (as_message ViewChange s) && (has_stable keys change && list_all (certifies keys) change.certificates)) valid in
-      let b = and_parts (is_signed keys (as_message ViewChange s)) (has_stable keys change && list_all (certifies keys) change.certificates) a.1 in
-      let g = and_parts (has_stable keys change) (list_all (certifies keys) change.certificates) b.1 in
       record {
-        sent = λ correct. change_said change.sender change (authentic change.sender refl b.0 correct);
-        certificates = λ c m i j.
-            let certified = passes_at (certifies keys) change.certificates c g.1 i in
-            let p = and_parts _ (senders_differ (messages_in c) && (is_proved (faults keys) c && list_all (is_all_signed keys) (messages_in c))) certified in
-            let q = and_parts (senders_differ (messages_in c)) (is_proved (faults keys) c && list_all (is_all_signed keys) (messages_in c)) p.1 in
-            let r = and_parts (is_proved (faults keys) c) (list_all (is_all_signed keys) (messages_in c)) q.1 in
-            let signed = (and_parts (is_signed keys m) (carried_are_signed keys m.message) (passes_at (is_all_signed keys) (messages_in c) m r.1 j)).0 in
-            vote_was_sent m (proofs c i m j) signed (kinds_in c m j);
+        sent = λ correct. change_said change.sender change (authentic change.sender refl (change_signed keys s valid) correct);
+        certificates = λ c m i j. vote_was_sent m (proofs c i m j) (proofs_signed keys s valid c i m j) (kinds_in c m j);
         whole = λ c i. (at_place FitsCertificate change.certificates fits.certificates.1 c i).proposal.0.digest;
       }

@@ -4,10 +4,13 @@ mod Begun
 mod Bounds
 mod Doing
 mod Executing
+mod Giving
 mod Hearing
 mod Keeping
+mod Known
 mod Requests
 mod Right
+mod Spelled
 mod States
 mod Steps
 mod Taken

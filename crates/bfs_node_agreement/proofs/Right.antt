@@ -90,7 +90,7 @@ fits_read written bytes m are e = go (signed_from bytes) refl e
         next false f = subst (λ (x : Signed Message). FitsMessage x.message) (some_is read.0 m f) (written bytes read.0 read.1 are is).1.0
 
 -- what is not refused is signed
-taken_signed : (keys : Keys) (s : State) (m : Signed Message) → refusal keys s m ≡ None → is_signed keys m ≡ true
+pub taken_signed : (keys : Keys) (s : State) (m : Signed Message) → refusal keys s m ≡ None → is_signed keys m ≡ true
 taken_signed keys s m none =
     let a = passed (is_ordering (header m)) _ _ none in
     let b = passed (is_authentic keys s m) _ (place_refusal s (header m)) a.1 in
@@ -191,16 +191,29 @@ change_done faulty v who node at bounded me kept s good = go (leads node s.messa
         }
     go false = nothing_done faulty v who node at (IsStill node noted) (still noted) (record { places = kept.places; good = kept.good }) refl refl (record { files = refl; table = refl; last = refl })
 
-checkpoints_heard : (faulty : ℕ → Bool) (h : World) (keys : Keys) (f : ℕ) (ms : Log) → is_certificate keys f ms ≡ true → AllIn (IsHeard faulty h) ms
-checkpoints_heard faulty h keys f [] e = absurd cc
-checkpoints_heard faulty h keys f (m ∷ ms) e = λ x i.
+-- the messages of a certificate are CHECKPOINTs
+pub certificate_tags : (keys : Keys) (f : ℕ) (ms : Log) → is_certificate keys f ms ≡ true → (x : Signed Message) → IsIn x ms → (header x).tag ≡ 5
+certificate_tags keys f [] e x i = absurd i
+certificate_tags keys f (m ∷ ms) e x i =
     let a = and_parts (list_all (vouches keys f (header m).number (header m).digest) (m ∷ ms)) _ e in
     let b = passes_at (vouches keys f (header m).number (header m).digest) (m ∷ ms) x a.0 i in
-    let five = eqb-true (header x).tag 5 (and_parts ((header x).tag == 5) _ b).0 in
+    eqb-true (header x).tag 5 (and_parts ((header x).tag == 5) _ b).0
+
+checkpoints_heard : (faulty : ℕ → Bool) (h : World) (keys : Keys) (f : ℕ) (ms : Log) → is_certificate keys f ms ≡ true → AllIn (IsHeard faulty h) ms
+checkpoints_heard faulty h keys f ms e x i =
+    let five = certificate_tags keys f ms e x i in
     record {
       sent = λ small. absurd (omega (arith, small, five));
       whole = λ q is. let two : (header x).tag ≡ 2 = ap (λ (y : Message). (message_header y).tag) is in absurd (omega (arith, five, two));
     }
+
+-- a VIEW-CHANGE that is taken is valid
+pub change_valid : (node : Node) (s : Signed model.ViewChange) → change_refusal node s ≡ None → valid_view_change node.keys s ≡ true
+change_valid node s none =
+    let a = passed (is_signed node.keys (as_message ViewChange s)) _ _ none in
+    let b = passed (nat_lt node.order.view s.message.view) _ _ a.1 in
+    let c = not_hit (was_asked node.changes s.message) _ _ b.1 in
+    (passed (valid_view_change node.keys s) _ _ c.1).0
 
 -- A message comes ---------------------------------------------------------------------------------------------------------------
 
@@ -265,10 +278,7 @@ module _ (faulty : ℕ → Bool) (w : Replicas) (v : ordered.Replicas) (who : �
   good_change : (s : Signed model.ViewChange) → change_refusal node s ≡ None → IsAuthentic faulty w node.keys (as_message ViewChange s) → ArePartsAuthentic faulty w node.keys (ViewChange s.message)
       → FitsViewChange s.message → IsGood faulty node.order.f (histories v) s
   good_change s none authentic parts fits =
-      let a = passed (is_signed node.keys (as_message ViewChange s)) _ _ none in
-      let b = passed (nat_lt node.order.view s.message.view) _ _ a.1 in
-      let c = not_hit (was_asked node.changes s.message) _ _ b.1 in
-      let valid = (passed (valid_view_change node.keys s) _ _ c.1).0 in
+      let valid = change_valid node s none in
       record {
         proved = valid_proves node.keys node.order.f s.message.view s know.fit refl valid;
         genuine = genuine_of faulty w v know.spoken node.keys s authentic parts valid fits;

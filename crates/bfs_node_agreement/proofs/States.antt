@@ -1,11 +1,11 @@
 -- Replicas that reach a number have one state there, which comes of the batches up to it.
-use Rattle.std.proofs.Common.{◌≡◌, ℕ, zero, suc, ◌+◌, ◌*◌, ◌==◌, Bool, true, false, cond, ◌&&◌, not, List, [], ◌∷◌, ◌++◌, Option, Some, None, option_map, replicate, bytes_eq, inl, inr, refl, sym, ap, ap₂, subst, ◌∙◌, arith}
+use Rattle.std.proofs.Common.{◌≡◌, ℕ, zero, suc, ◌+◌, ◌*◌, ◌==◌, Bool, true, false, cond, ◌&&◌, not, List, [], ◌∷◌, ◌++◌, Option, Some, None, option_map, bytes_eq, inl, inr, refl, sym, ap, ap₂, subst, ◌∙◌, arith}
 use Rattle.std.specs.Prelude.{max, is_some, nat_lt}
 use Rattle.std.specs.List.{find, list_all}
 use Rattle.std.proofs.lemmas.Bool.{and_parts, or_cases, eq-eqb, eqb-true, leb-true, ltb-true}
 use Rattle.std.proofs.lemmas.Slice.Eq.{bytes_eq-Decides}
 use Rattle.sha2.specs.Sha256.{sha256}
-use Rattle.bfs_model.specs.Server.Tree.{FileSystem, new_file_system}
+use Rattle.bfs_model.specs.Server.Tree.{FileSystem}
 use Rattle.bfs_auth.specs.Keys.{Keys}
 use Rattle.bfs_auth.specs.declared.principals.Principal.TheVariants as principal
 use Rattle.bfs_agreement.specs.Laws.{QuorumsMeet}
@@ -34,10 +34,10 @@ use Rattle.bfs_view.specs.Changes.Parts.{as_message}
 use Rattle.bfs_view_agreement.proofs.Public.{out_of_map, passes_at, told_in}
 use Rattle.bfs_node.specs.Adopting.{adopted, is_ahead, may_adopt}
 use Rattle.bfs_node.specs.Executing.{executed_on, is_next, is_ready}
-use Rattle.bfs_node.specs.Nodes.{Node, Outcome, new_node}
+use Rattle.bfs_node.specs.Nodes.{Node, Outcome}
 use Rattle.bfs_node_agreement.specs.Laws.{ComesOfBatches, Executed}
 use Rattle.bfs_node_agreement.specs.Premises.{AreAuthenticIn, ComesAuthentic, HasSaid, StatesDontCollide, offers_in, standing_digest}
-use Rattle.bfs_node_agreement.specs.Replicas.{Replica, Replicas, Standing, NodeTurn, after_step, after_turn, new_replicas, standing_of, standing_with}
+use Rattle.bfs_node_agreement.specs.Replicas.{Beginning, Keyring, Replica, Replicas, Standing, NodeTurn, after_step, after_turn, beginning_node, new_replicas, standing_of, standing_with}
 use Rattle.bfs_node_agreement.specs.Steps.{NodeStep, Delivers, Takes, TakesRequests, Proposes, Executes, Fails, Checkpoints, TimesOut, Adopts, after_execution, executed_by, outcome as result, still}
 use Rattle.bfs_node_agreement.proofs.Doing.{IsOwnCheckpoint, IsStill, StandsBy, Tells}
 use Rattle.bfs_node_agreement.proofs.Executing.{next_follows}
@@ -173,11 +173,11 @@ signed_in keys f (x ∷ xs) e m i =
 
 -- What is known -----------------------------------------------------------------------------------------------------------------
 
-pub comes_on : (clients : ℕ) (faulty : ℕ → Bool) (w after : Replicas) → ((k n : ℕ) (b : model.Batch) → Executed (w k) n b → Executed (after k) n b)
-    → (n : ℕ) (files : FileSystem) (table : Table) → ComesOfBatches clients faulty w n files table → ComesOfBatches clients faulty after n files table
-comes_on clients faulty w after on zero files table c = c
-comes_on clients faulty w after on (suc n) files table c =
-    (c.0, c.1, comes_on clients faulty w after on n c.0 c.1 c.2, c.3, c.4, c.5, on c.3 (suc n) c.5 c.6, c.7, c.8)
+pub comes_on : (start : Beginning) (faulty : ℕ → Bool) (w after : Replicas) → ((k n : ℕ) (b : model.Batch) → Executed (w k) n b → Executed (after k) n b)
+    → (n : ℕ) (files : FileSystem) (table : Table) → ComesOfBatches start faulty w n files table → ComesOfBatches start faulty after n files table
+comes_on start faulty w after on zero files table c = c
+comes_on start faulty w after on (suc n) files table c =
+    (c.0, c.1, comes_on start faulty w after on n c.0 c.1 c.2, c.3, c.4, c.5, on c.3 (suc n) c.5 c.6, c.7, c.8)
 
 -- a CHECKPOINT that a replica has sent tells of a state that it was in
 pub record WasThere (r : Replica) (c : model.Checkpoint) : Type 0 where
@@ -186,9 +186,9 @@ pub record WasThere (r : Replica) (c : model.Checkpoint) : Type 0 where
   pub number : standing.number ≡ c.number
   pub digest : standing_digest standing ≡ c.digest
 
-pub record StatesKnown (clients : ℕ) (faulty : ℕ → Bool) (w : Replicas) : Type 0 where
+pub record StatesKnown (start : Beginning) (faulty : ℕ → Bool) (w : Replicas) : Type 0 where
   pub whole : (i : ℕ) → AllIn (λ (m : Signed Message). IsWhole m.message) (w i).executed
-  pub comes : (i : ℕ) (s : Standing) → faulty i ≡ false → IsIn s (w i).reached → ComesOfBatches clients faulty w s.number s.files s.table
+  pub comes : (i : ℕ) (s : Standing) → faulty i ≡ false → IsIn s (w i).reached → ComesOfBatches start faulty w s.number s.files s.table
   pub here : (i : ℕ) (files : FileSystem) → (w i).node.files ≡ Some files → IsIn (record { number = (w i).node.order.last; files = files; table = (w i).node.table }) (w i).reached
   pub told : (i : ℕ) (s : Signed Message) (c : model.Checkpoint) → IsIn s (w i).sent → s.message ≡ Checkpoint c → WasThere (w i) c
 
@@ -197,7 +197,7 @@ own_told node m c tells e = subst (λ (x : Message). Tells node x) e tells
 
 -- A step --------------------------------------------------------------------------------------------------------------------------
 
-both_at : (w : Replicas) (turn : NodeTurn) (P : ℕ → Replica → Type 0) → P turn.who (after_step (w turn.who) turn.step) → ((i : ℕ) → P i (w i)) → (i : ℕ) → P i (after_turn w turn i)
+pub both_at : (w : Replicas) (turn : NodeTurn) (P : ℕ → Replica → Type 0) → P turn.who (after_step (w turn.who) turn.step) → ((i : ℕ) → P i (w i)) → (i : ℕ) → P i (after_turn w turn i)
 both_at w turn P here all i = go (i == turn.who) refl
   where
     next : Replica
@@ -215,7 +215,7 @@ executed_on_turn : (w : Replicas) (turn : NodeTurn) (i n : ℕ) (b : model.Batch
 executed_on_turn w turn i n b = both_at w turn (λ i r. Executed (w i) n b → Executed r n b)
     (λ x. (x.0, right_in (executed_by (w turn.who).node turn.step) (w turn.who).executed x.0 x.1, x.2)) (λ k x. x) i
 
-here_after : (w : Replicas) (turn : NodeTurn) → after_turn w turn turn.who ≡ after_step (w turn.who) turn.step
+pub here_after : (w : Replicas) (turn : NodeTurn) → after_turn w turn turn.who ≡ after_step (w turn.who) turn.step
 here_after w turn = go (turn.who == turn.who) (eq_itself turn.who)
   where
     eq_itself : (n : ℕ) → (n == n) ≡ true
@@ -225,7 +225,7 @@ here_after w turn = go (turn.who == turn.who) (eq_itself turn.who)
     go true e = refl
     go false e = absurd cc
 
-module _ (meet : QuorumsMeet) (stable : CertificatesMakeStable) (clients f : ℕ) (faulty : ℕ → Bool) (few : FewAreFaulty f faulty) where
+module _ (meet : QuorumsMeet) (stable : CertificatesMakeStable) (start : Beginning) (f : ℕ) (faulty : ℕ → Bool) (few : FewAreFaulty f faulty) where
   -- the state that a certificate tells of is that of a correct replica
   pub record IsVouched (w : Replicas) (certificate : Log) : Type 0 where
     pub who : ℕ
@@ -235,7 +235,7 @@ module _ (meet : QuorumsMeet) (stable : CertificatesMakeStable) (clients f : ℕ
     pub number : standing.number ≡ number_of certificate
     pub digest : standing_digest standing ≡ digest_of certificate
 
-  vouched : (w : Replicas) → StatesKnown clients faulty w → (keys : Keys) (certificate : Log) → is_certificate keys f certificate ≡ true → AreAuthenticIn faulty w keys certificate → IsVouched w certificate
+  vouched : (w : Replicas) → StatesKnown start faulty w → (keys : Keys) (certificate : Log) → is_certificate keys f certificate ≡ true → AreAuthenticIn faulty w keys certificate → IsVouched w certificate
   vouched w known_of keys certificate right authentic =
       let n = number_of certificate in
       let d = digest_of certificate in
@@ -266,10 +266,10 @@ module _ (meet : QuorumsMeet) (stable : CertificatesMakeStable) (clients f : ℕ
       }
 
   abbrev Comes : Replicas → (number : ℕ) → FileSystem → Table → Type 0
-  Comes w number files table = ComesOfBatches clients faulty w number files table
+  Comes w number files table = ComesOfBatches start faulty w number files table
 
   -- What a step leaves: the state of the node that takes it comes of batches too
-  module _ (w : Replicas) (turn : NodeTurn) (known_of : StatesKnown clients faulty w) (correct : faulty turn.who ≡ false) (same_f : (w turn.who).node.order.f ≡ f)
+  module _ (w : Replicas) (turn : NodeTurn) (known_of : StatesKnown start faulty w) (correct : faulty turn.who ≡ false) (same_f : (w turn.who).node.order.f ≡ f)
       (authentic : ComesAuthentic faulty w (w turn.who).node.keys turn.step) (apart : StatesDontCollide faulty (after_turn w turn)) where
     abbrev node : Node
     node = (w turn.who).node
@@ -278,7 +278,7 @@ module _ (meet : QuorumsMeet) (stable : CertificatesMakeStable) (clients f : ℕ
     after = after_turn w turn
 
     grown : (n : ℕ) (files : FileSystem) (table : Table) → Comes w n files table → Comes after n files table
-    grown = comes_on clients faulty w after (executed_on_turn w turn)
+    grown = comes_on start faulty w after (executed_on_turn w turn)
 
     stays : (now : Node) (files : FileSystem) → IsStill node now → now.files ≡ Some files → Comes after now.order.last files now.table
     stays now files still live =
@@ -379,16 +379,16 @@ module _ (meet : QuorumsMeet) (stable : CertificatesMakeStable) (clients f : ℕ
 
   -- All of it stays so ------------------------------------------------------------------------------------------------------------
 
-  pub states_on : (w : Replicas) (turn : NodeTurn) → StatesKnown clients faulty w → (w turn.who).node.order.f ≡ f → AllIn (λ (m : Signed Message). IsWhole m.message) (w turn.who).node.order.log
+  pub states_on : (w : Replicas) (turn : NodeTurn) → StatesKnown start faulty w → (w turn.who).node.order.f ≡ f → AllIn (λ (m : Signed Message). IsWhole m.message) (w turn.who).node.order.log
       → ComesAuthentic faulty w (w turn.who).node.keys turn.step → StandsBy (w turn.who).node turn.step
       → ((s : Signed Message) → IsIn s (result (w turn.who).node turn.step).sent → Tells (w turn.who).node s.message)
-      → StatesDontCollide faulty (after_turn w turn) → StatesKnown clients faulty (after_turn w turn)
+      → StatesDontCollide faulty (after_turn w turn) → StatesKnown start faulty (after_turn w turn)
   states_on w turn known_of same_f whole authentic stands tells apart =
       let who = turn.who in
       let node = (w who).node in
       let now = (result node turn.step).now in
       let sent = (result node turn.step).sent in
-      let on = comes_on clients faulty w (after_turn w turn) (executed_on_turn w turn) in
+      let on = comes_on start faulty w (after_turn w turn) (executed_on_turn w turn) in
       record {
         whole = both_at w turn (λ i r. AllIn (λ (m : Signed Message). IsWhole m.message) r.executed)
             (both_in (λ (m : Signed Message). IsWhole m.message) (executed_by node turn.step) (w who).executed (λ m i. whole m (executed_in node turn.step m i)) (known_of.whole who)) known_of.whole;
@@ -421,26 +421,26 @@ module _ (meet : QuorumsMeet) (stable : CertificatesMakeStable) (clients f : ℕ
       }
 
 -- at the beginning
-pub new_states : (clients f : ℕ) (secret : List ℕ) (faulty : ℕ → Bool) → StatesKnown clients faulty (new_replicas f clients secret)
-new_states clients f secret faulty = record {
+pub new_states : (f : ℕ) (keys : Keyring) (start : Beginning) (faulty : ℕ → Bool) → StatesKnown start faulty (new_replicas f keys start)
+new_states f keys start faulty = record {
   whole = λ i. none_in (λ (m : Signed Message). IsWhole m.message);
   comes = λ i s correct j. elim j [
     | inl e ↦
-        subst (λ (x : Standing). ComesOfBatches clients faulty (new_replicas f clients secret) x.number x.files x.table) (sym e) (refl, refl)
+        subst (λ (x : Standing). ComesOfBatches start faulty (new_replicas f keys start) x.number x.files x.table) (sym e) (refl, refl)
     | inr none ↦ absurd none
   ];
-  here = λ i files e. subst (λ (x : FileSystem). IsIn (record { number = 0; files = x; table = replicate clients None }) (standing_of (new_node f clients secret i))) (some_is new_file_system files e) (inl refl);
+  here = λ i files e. subst (λ (x : FileSystem). IsIn (record { number = 0; files = x; table = start.table }) (standing_of (beginning_node f keys start i))) (some_is start.files files e) (inl refl);
   told = λ i s c j e. absurd j;
 }
 
 -- One state ---------------------------------------------------------------------------------------------------------------------
 
-pub one_state : (clients : ℕ) (faulty : ℕ → Bool) (w : Replicas)
+pub one_state : (start : Beginning) (faulty : ℕ → Bool) (w : Replicas)
     → ((i j number : ℕ) (batch other : model.Batch) → faulty i ≡ false → faulty j ≡ false → Executed (w i) number batch → Executed (w j) number other → batch ≡ other)
-    → (n : ℕ) (files others : FileSystem) (table other : Table) → ComesOfBatches clients faulty w n files table → ComesOfBatches clients faulty w n others other → (files ≡ others) × (table ≡ other)
-one_state clients faulty w agree zero files others table other a b = (a.0 ∙ sym b.0, a.1 ∙ sym b.1)
-one_state clients faulty w agree (suc n) files others table other a b =
-    let before = one_state clients faulty w agree n a.0 b.0 a.1 b.1 a.2 b.2 in
+    → (n : ℕ) (files others : FileSystem) (table other : Table) → ComesOfBatches start faulty w n files table → ComesOfBatches start faulty w n others other → (files ≡ others) × (table ≡ other)
+one_state start faulty w agree zero files others table other a b = (a.0 ∙ sym b.0, a.1 ∙ sym b.1)
+one_state start faulty w agree (suc n) files others table other a b =
+    let before = one_state start faulty w agree n a.0 b.0 a.1 b.1 a.2 b.2 in
     let batch = agree a.3 b.3 (suc n) a.5 b.5 a.4 b.4 a.6 b.6 in
     let made : outcome.outcome a.0 a.1 a.5 ≡ outcome.outcome b.0 b.1 b.5 =
     ap₂ (λ (x : FileSystem) (t : Table). outcome.outcome x t a.5) before.0 before.1 ∙ ap (outcome.outcome b.0 b.1) batch in

@@ -1,5 +1,5 @@
 -- Each call of a node is the turns of its order that stand for it.
-use Rattle.std.proofs.Common.{◌≡◌, ℕ, ◌%◌, ◌^◌, ◌==◌, Bool, true, false, cond, ◌&&◌, ◌||◌, not, List, [], ◌∷◌, ◌++◌, Option, Some, None, option_map, refl, sym, ap, ap₂, subst, ◌∙◌, arith}
+use Rattle.std.proofs.Common.{◌≡◌, ℕ, ◌%◌, ◌==◌, Bool, true, false, cond, ◌&&◌, ◌||◌, not, List, [], ◌∷◌, ◌++◌, Option, Some, None, option_map, refl, sym, ap, ap₂, subst, ◌∙◌, arith}
 use Rattle.std.specs.Prelude.{max, nat_lt, nat_le, bytes_eq}
 use Rattle.std.proofs.lemmas.Bool.{and_parts, or_parts, and_from, ltb-false, le-leb}
 use Rattle.bfs_model.specs.Server.Tree.{FileSystem, Time}
@@ -20,7 +20,7 @@ use Rattle.bfs_order.specs.Replica.Executing.{next_committed, next_order}
 use Rattle.bfs_order.specs.Replica.Installing.{installed, is_certificate, number_of, digest_of, certified}
 use Rattle.bfs_order.specs.Replica.Outcomes as outcomes
 use Rattle.bfs_order.specs.Replica.Proposing as proposing
-use Rattle.bfs_order.specs.Replica.Refusals.{refusal, interval}
+use Rattle.bfs_order.specs.Replica.Refusals.{refusal}
 use Rattle.bfs_order.specs.Replica.States.{State}
 use Rattle.bfs_order.specs.Replica.Views as views
 use Rattle.bfs_order.specs.declared.error.OrderError.{OrderError}
@@ -49,6 +49,7 @@ use Rattle.bfs_node_agreement.specs.Steps.{NodeStep, Delivers, Takes, TakesReque
 use Rattle.bfs_node_agreement.proofs.Bounds.{IsBounded, left_bounded}
 use Rattle.bfs_node_agreement.proofs.Executing.{next_executes}
 use Rattle.bfs_node_agreement.proofs.Requests.{waits}
+use Rattle.bfs_model.specs.Server.Limits.{checkpoint_interval, most_number}
 
 abbrev pub after_deeds : ordered.Replica → List Deed → ordered.Replica
 after_deeds r [] = r
@@ -98,7 +99,7 @@ pub begins_open : (node : Node) → IsBounded node.order → may_begin node ≡ 
 begins_open node bounded e =
     let asked = node.order.asked in
     let above = (and_parts (nat_lt node.order.view asked) _ e).0 in
-    let fits = and_from (nat_le asked asked) (nat_lt asked (2 ^ 63)) (le-leb asked asked (omega (arith))) bounded in
+    let fits = and_from (nat_le asked asked) (nat_le asked most_number) (le-leb asked asked (omega (arith))) bounded in
     may_enter _ (and_from (nat_lt node.order.view asked) _ above fits)
 
 begins : (node : Node) → IsBounded node.order → Lead node.order (begun_deeds node) (begun_if_due node).now.order []
@@ -193,24 +194,25 @@ executes node = go node.files (next_committed node.order) refl
     go (Some files) None e = nothing node.order
     go (Some files) (Some next) e = one node.order (turns.Orders order.Executes) _ (next_executes node.order next e)
 
+-- a CHECKPOINT that it may tell its order takes
+pub may_tell : (node : Node) → checkpoint_refusal node ≡ None → checkpoints.checkpoint_refusal node.order node.order.last ≡ None
+may_tell node = past ((node.order.last % checkpoint_interval) == 0) (checkpoints.checkpoint_refusal node.order node.order.last)
+  where
+    past : (b : Bool) (r : Option OrderError) → cond (not b) (Some error.OutsideMarks) (told_refusal node r) ≡ None → r ≡ None
+    past true None h = refl
+    past true (Some refused) h = absurd cc
+    past false r h = absurd cc
+
 tells : (node : Node) → Lead node.order (deeds_of node Checkpoints) (outcome node Checkpoints).now.order []
 tells node = go (checkpoint_refusal node) refl node.files
   where
-    may : checkpoint_refusal node ≡ None → checkpoints.checkpoint_refusal node.order node.order.last ≡ None
-    may e = past ((node.order.last % interval) == 0) (checkpoints.checkpoint_refusal node.order node.order.last) e
-      where
-        past : (b : Bool) (r : Option OrderError) → cond (not b) (Some error.OutsideMarks) (told_refusal node r) ≡ None → r ≡ None
-        past true None h = refl
-        past true (Some refused) h = absurd cc
-        past false r h = absurd cc
-
     go : (r : Option NodeError) → checkpoint_refusal node ≡ r → (files : Option FileSystem)
         → Lead node.order (where_taken r (checkpoint_deeds node files)) (unless r node (or_still node (option_map (checkpointed node) files))).now.order []
     go (Some refused) e files = nothing node.order
     go None e None = nothing node.order
     go None e (Some files) =
         one node.order (turns.Orders (order.Checkpoints node.keys node.order.last (snapshot_of files node.table).digest)) _
-        (ap (λ (r : Option OrderError). (outcomes.unless r node.order (checkpoints.checkpointed node.keys node.order node.order.last (snapshot_of files node.table).digest)).now) (may e))
+        (ap (λ (r : Option OrderError). (outcomes.unless r node.order (checkpoints.checkpointed node.keys node.order node.order.last (snapshot_of files node.table).digest)).now) (may_tell node e))
 
 times_out : (node : Node) → Lead node.order (deeds_of node TimesOut) (outcome node TimesOut).now.order []
 times_out node = go (timeout_refusal node) refl
@@ -242,7 +244,7 @@ stays s certificate low last =
     ap₂ (λ (x y : ℕ). record s { low = x; last = y }) at_low at_last
     ∙ ap (λ (c : Bool). record s { low = max s.low n; last = max s.last n; log = cond c (certified s.log certificate) s.log }) (sym low)
 
-installs : (s : State) (keys : Keys) (certificate : Log) → is_certificate keys s.f certificate ≡ true → (order.outcome s (order.Installs keys certificate)).now ≡ (installed s certificate).now
+pub installs : (s : State) (keys : Keys) (certificate : Log) → is_certificate keys s.f certificate ≡ true → (order.outcome s (order.Installs keys certificate)).now ≡ (installed s certificate).now
 installs s keys certificate right = go (is_certificate keys s.f certificate) (nat_lt s.low n || nat_lt s.last n) right refl
   where
     n : ℕ

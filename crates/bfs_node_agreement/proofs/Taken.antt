@@ -105,6 +105,15 @@ is_taken node new auth keys_fit taken =
     let leads = eqb-true new.sender (primary (faults keys) new.view) (and_parts (new.sender == primary (faults keys) new.view) (is_signed keys m) b.0).0 in
     record { led = leads ∙ ap (λ (f : ℕ). primary f new.view) keys_fit; of_view = d.0; right = d.1; proposed = chosen_so _ a.1 }
 
+-- each PRE-PREPARE of a NEW-VIEW that is taken is signed
+pub handed_signed : (node : Node) (new : model.NewView) (auth : List (List ℕ)) → faults node.keys ≡ node.order.f → FitsNewView new → view_refusal node (record { message = NewView new; auth = auth }) new ≡ None
+    → AllIn (λ (m : Signed Message). is_signed node.keys m ≡ true) (handed_in new)
+handed_signed node new auth keys_fit fits taken m i =
+    let is = is_taken node new auth keys_fit taken in
+    let p = out_of_map (as_message PrePrepare) new.proposals m i in
+    subst (λ (x : Signed Message). is_signed node.keys x ≡ true) (sym p.2)
+    (proposals_signed node.keys node.order.f new.sender new.view is.led new.proposals (choice (messages_of new.changes)).chosen fits.proposals.1 is.proposed p.0 p.1).0
+
 module _ (faulty : ℕ → Bool) (w : Replicas) (v : ordered.Replicas) (spoken : (k : ℕ) → AllIn (IsSpoken (v k)) (w k).sent) (node : Node) (new : model.NewView) (auth : List (List ℕ))
     (keys_fit : faults node.keys ≡ node.order.f) (fits : FitsNewView new) (taken : view_refusal node (record { message = NewView new; auth = auth }) new ≡ None)
     (authentic : ArePartsAuthentic faulty w node.keys (NewView new)) where

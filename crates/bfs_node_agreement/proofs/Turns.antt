@@ -1,9 +1,6 @@
 -- Whatever nodes do is what turns of their orders do, and these turns may be taken.
-use Rattle.std.proofs.Common.{◌≡◌, ℕ, zero, suc, ◌+◌, ◌*◌, ◌==◌, Bool, true, false, cond, List, [], ◌∷◌, ◌++◌, None, length, map, replicate, inl, refl, sym, ap, subst, ◌∙◌, arith}
+use Rattle.std.proofs.Common.{◌≡◌, ℕ, zero, suc, ◌+◌, ◌==◌, Bool, true, false, cond, List, [], ◌∷◌, ◌++◌, None, length, map, replicate, inl, refl, sym, ap, subst, ◌∙◌, arith}
 use Rattle.std.proofs.lemmas.Bool.{eqb-true}
-use Rattle.std.proofs.lemmas.List.FromFn.{length-map-range_with_len}
-use Rattle.bfs_auth.specs.Keys.{shared_keys}
-use Rattle.bfs_auth.specs.declared.principals.Principal.TheVariants as principal
 use Rattle.bfs_agreement.specs.Votes.{Told, replicas}
 use Rattle.bfs_log.specs.Headers.{header}
 use Rattle.bfs_log.specs.Logs.{Log, headers}
@@ -11,7 +8,6 @@ use Rattle.bfs_codec.specs.Laws.{MessageWasWritten}
 use Rattle.bfs_messages.specs.declared.signed.Signed.{Signed}
 use Rattle.bfs_messages.specs.declared.message.Message.{Message}
 use Rattle.bfs_order.specs.Laws.Calls.{CallsKeepTheReplica, IsKept}
-use Rattle.bfs_order.specs.Laws.Clean.{own_keys}
 use Rattle.bfs_order.specs.Laws.Logs.{HasNoLaterView}
 use Rattle.bfs_order.specs.Replica.States.{State}
 use Rattle.bfs_consensus.specs.Histories.{IsIn, World}
@@ -24,8 +20,8 @@ use Rattle.bfs_view_agreement.specs.Replicas as turns
 use Rattle.bfs_view_agreement.specs.Replicas.{Deed, Turn, ordered_turn}
 use Rattle.bfs_view_agreement.proofs.Public.{in_map}
 use Rattle.bfs_node_agreement.specs.Laws.{Tracks, StepsAreTurns}
-use Rattle.bfs_node_agreement.specs.Premises.{AreAuthentic, ComesAuthentic}
-use Rattle.bfs_node_agreement.specs.Replicas.{Replica, Replicas, NodeTurn, after_step, after_turn, after_turns, new_replicas, turn_of, ordered_turns}
+use Rattle.bfs_node_agreement.specs.Premises.{AreAuthentic, AreShared, ComesAuthentic}
+use Rattle.bfs_node_agreement.specs.Replicas.{Beginning, Keyring, Replica, Replicas, NodeTurn, after_step, after_turn, after_turns, new_replicas, turn_of, ordered_turns}
 use Rattle.bfs_node_agreement.specs.Steps.{NodeStep, deeds_of, executed_by, outcome}
 use Rattle.bfs_node_agreement.proofs.Bounds.{IsBounded, kept}
 use Rattle.bfs_node_agreement.proofs.Doing.{at_who, deeds_keep, elsewhere, extends_deeds, stays_itself, stays_kept, BringAll}
@@ -80,8 +76,8 @@ go_on (turn ∷ steps) w v all i =
     (go_on steps (after_turn w turn) (turns.after_turns v first) (at_each (λ i r o. Goes r o) turn w v (goes_here (w turn.who) (v turn.who) turn.step (all turn.who)) all) i)
 
 pub steps_are_turns : StepsAreTurns
-steps_are_turns f clients secret steps i =
-    (go_on steps (new_replicas f clients secret) (ordered.new_replicas f) (λ k. record { tracks = record { state = refl; executed = refl }; bounded = refl }) i).tracks
+steps_are_turns f keys start steps i =
+    (go_on steps (new_replicas f keys start) (ordered.new_replicas f) (λ k. record { tracks = record { state = refl; executed = refl }; bounded = refl }) i).tracks
 
 -- They may be taken ---------------------------------------------------------------------------------------------------------------
 
@@ -193,17 +189,12 @@ module _ (same : CallsKeepTheReplica) (views : IsKept HasNoLaterView) (written :
   places x zero = refl
   places x (suc n) = ap (λ (m : ℕ). suc m) (places x n)
 
-  fit_of : (secret : List ℕ) (me clients : ℕ) → faults (own_keys secret clients f me) ≡ f
-  fit_of secret me clients =
-      let n = length-map-range_with_len (λ k. shared_keys secret (principal.Replica me) (principal.Replica k)) 0 (3 * f + 1) in
-      omega (arith, n)
-
-  pub new_right : (clients : ℕ) (secret : List ℕ) → AreRight f faulty (new_replicas f clients secret) (ordered.new_replicas f)
-  new_right clients secret i = record {
+  pub new_right : (keys : Keyring) (start : Beginning) → AreShared f keys → AreRight f faulty (new_replicas f keys start) (ordered.new_replicas f)
+  new_right keys start shared i = record {
     tracks = record { state = refl; executed = refl };
     bounded = refl;
     same_f = refl;
-    fit = fit_of secret i clients;
+    fit = omega (arith, shared i);
     me = refl;
     later = views.0 f i;
     log = none_in (IsHeard faulty (histories (ordered.new_replicas f)));

@@ -1,6 +1,7 @@
 -- The statements that are proved of the definitions: contracts of functions of src/laws.rt, which do nothing.
-use Rattle.std.specs.Prelude.{◌≡◌, ℕ, zero, suc, Bool, false, List, Some, None, replicate}
-use Rattle.bfs_model.specs.Server.Tree.{FileSystem, new_file_system}
+use Rattle.std.specs.Prelude.{◌≡◌, ℕ, zero, suc, Bool, false, List, Some}
+use Rattle.bfs_auth.specs.Keys.{Keys}
+use Rattle.bfs_model.specs.Server.Tree.{FileSystem}
 use Rattle.bfs_log.specs.Logs.{batch_in}
 use Rattle.bfs_messages.specs.Messages.{Batch}
 use Rattle.bfs_messages.specs.declared.signed.Signed.{Signed}
@@ -11,8 +12,9 @@ use Rattle.bfs_replies.specs.Tables.{Table}
 use Rattle.bfs_consensus.specs.Histories.{IsIn, FewAreFaulty}
 use Rattle.bfs_order_agreement.specs.Replicas as ordered
 use Rattle.bfs_view_agreement.specs.Replicas as turns
-use Rattle.bfs_node_agreement.specs.Premises.{AreAuthentic, AreSame, StatesDontCollide, standing_digest}
-use Rattle.bfs_node_agreement.specs.Replicas.{Replica, Replicas, Standing, NodeTurn, new_replicas, after_turns, ordered_turns}
+use Rattle.bfs_node_agreement.specs.Giving.{AreFair, IsWhollyFair}
+use Rattle.bfs_node_agreement.specs.Premises.{AreAuthentic, AreSame, AreShared, StatesDontCollide, standing_digest}
+use Rattle.bfs_node_agreement.specs.Replicas.{Beginning, Keyring, Replica, Replicas, Standing, NodeTurn, new_replicas, after_turns, ordered_turns}
 
 -- Nodes and their orders ----------------------------------------------------------------------------------------------------
 
@@ -23,13 +25,13 @@ pub record Tracks (r : Replica) (o : ordered.Replica) : Type 0 where
 
 -- whatever nodes do is what turns of their orders do
 abbrev pub StepsAreTurns : Type 0
-StepsAreTurns = (f clients : ℕ) (secret : List ℕ) (steps : List NodeTurn) (i : ℕ)
-    → Tracks (after_turns (new_replicas f clients secret) steps i) (turns.after_turns (ordered.new_replicas f) (ordered_turns (new_replicas f clients secret) steps) i)
+StepsAreTurns = (f : ℕ) (keys : Keyring) (start : Beginning) (steps : List NodeTurn) (i : ℕ)
+    → Tracks (after_turns (new_replicas f keys start) steps i) (turns.after_turns (ordered.new_replicas f) (ordered_turns (new_replicas f keys start) steps) i)
 
 -- where what passes is authentic these turns may be taken: each NEW-VIEW by which a node enters a view is right, and so is each that it begins
 abbrev pub TurnsMayBeTaken : Type 0
-TurnsMayBeTaken = (f clients : ℕ) (secret : List ℕ) (faulty : ℕ → Bool) (steps : List NodeTurn) → AreAuthentic faulty (new_replicas f clients secret) steps
-    → turns.MayTakeTurns faulty (ordered.new_replicas f) (ordered_turns (new_replicas f clients secret) steps)
+TurnsMayBeTaken = (f : ℕ) (keys : Keyring) (start : Beginning) (faulty : ℕ → Bool) (steps : List NodeTurn) → AreShared f keys → AreAuthentic faulty (new_replicas f keys start) steps
+    → turns.MayTakeTurns faulty (ordered.new_replicas f) (ordered_turns (new_replicas f keys start) steps)
 
 -- Agreement -----------------------------------------------------------------------------------------------------------------
 
@@ -42,26 +44,38 @@ abbrev pub BatchesDontCollide : (faulty : ℕ → Bool) → Replicas → Type 0
 BatchesDontCollide faulty w = (i j number : ℕ) (batch other : Batch) → faulty i ≡ false → faulty j ≡ false
     → Executed (w i) number batch → Executed (w j) number other → batch_digest batch ≡ batch_digest other → batch ≡ other
 
--- the state after batches that correct replicas executed as numbers 1 to n
-abbrev pub ComesOfBatches : (clients : ℕ) (faulty : ℕ → Bool) → Replicas → (number : ℕ) → FileSystem → Table → Type 0
-ComesOfBatches clients faulty w zero files table = (files ≡ new_file_system) × (table ≡ replicate clients None)
-ComesOfBatches clients faulty w (suc number) files table = (before : FileSystem) × (last : Table) × ComesOfBatches clients faulty w number before last
+-- the state after batches that correct replicas executed as numbers 1 to n, behind the one in which all began
+abbrev pub ComesOfBatches : Beginning → (faulty : ℕ → Bool) → Replicas → (number : ℕ) → FileSystem → Table → Type 0
+ComesOfBatches start faulty w zero files table = (files ≡ start.files) × (table ≡ start.table)
+ComesOfBatches start faulty w (suc number) files table = (before : FileSystem) × (last : Table) × ComesOfBatches start faulty w number before last
     × (k : ℕ) × (faulty k ≡ false) × (batch : Batch) × Executed (w k) (suc number) batch
     × (files ≡ (outcome before last batch).files) × (table ≡ (outcome before last batch).table)
 
 -- any two correct replicas that execute a batch as a number, in whatever views, execute the same one; and any two that reach a number, by
 -- executing or by adopting, have the same file system and table there, and the same digest, which come of the batches up to it
-pub record Agree (clients : ℕ) (faulty : ℕ → Bool) (w : Replicas) : Type 0 where
+pub record Agree (start : Beginning) (faulty : ℕ → Bool) (w : Replicas) : Type 0 where
   pub batches : (i j number : ℕ) (batch other : Batch) → faulty i ≡ false → faulty j ≡ false → Executed (w i) number batch → Executed (w j) number other → batch ≡ other
   pub states : (i j : ℕ) (s t : Standing) → faulty i ≡ false → faulty j ≡ false → IsIn s (w i).reached → IsIn t (w j).reached → s.number ≡ t.number
       → AreSame s t × (standing_digest s ≡ standing_digest t)
-  pub comes : (i : ℕ) (s : Standing) → faulty i ≡ false → IsIn s (w i).reached → ComesOfBatches clients faulty w s.number s.files s.table
+  pub comes : (i : ℕ) (s : Standing) → faulty i ≡ false → IsIn s (w i).reached → ComesOfBatches start faulty w s.number s.files s.table
 
--- over every list of calls of nodes and deliveries of bytes
+-- whatever keys they have and whatever state they begin with, over every list of calls of nodes and deliveries of bytes
 abbrev pub NodesAgree : Type 0
-NodesAgree = (f clients : ℕ) (secret : List ℕ) (faulty : ℕ → Bool) (steps : List NodeTurn)
+NodesAgree = (f : ℕ) (keys : Keyring) (start : Beginning) (faulty : ℕ → Bool) (steps : List NodeTurn)
+    → AreShared f keys
     → FewAreFaulty f faulty
-    → AreAuthentic faulty (new_replicas f clients secret) steps
-    → BatchesDontCollide faulty (after_turns (new_replicas f clients secret) steps)
-    → StatesDontCollide faulty (after_turns (new_replicas f clients secret) steps)
-    → Agree clients faulty (after_turns (new_replicas f clients secret) steps)
+    → AreAuthentic faulty (new_replicas f keys start) steps
+    → BatchesDontCollide faulty (after_turns (new_replicas f keys start) steps)
+    → StatesDontCollide faulty (after_turns (new_replicas f keys start) steps)
+    → Agree start faulty (after_turns (new_replicas f keys start) steps)
+
+-- What nodes are given --------------------------------------------------------------------------------------------------------
+
+-- what a correct replica gave to be sent may be given to any node, with all that is within it
+abbrev pub WhatIsSentIsFair : Type 0
+WhatIsSentIsFair = (faulty : ℕ → Bool) (w : Replicas) (keys : Keys) (j : ℕ) (m : Signed Message) → faulty j ≡ false → IsIn m (w j).sent → IsWhollyFair faulty w keys m
+
+-- a run in which nodes are given only what was sent, by whomever it was passed on, is authentic
+abbrev pub FairIsAuthentic : Type 0
+FairIsAuthentic = (f : ℕ) (keys : Keyring) (start : Beginning) (faulty : ℕ → Bool) (steps : List NodeTurn) → AreShared f keys
+    → AreFair faulty (new_replicas f keys start) steps → AreAuthentic faulty (new_replicas f keys start) steps

@@ -1,5 +1,6 @@
 -- What is asked of the network, of authenticators and of digests.
-use Rattle.std.specs.Prelude.{◌≡◌, ℕ, Bool, true, false, List, [], ◌∷◌, Option, Some, None, ◌⊎◌}
+use Rattle.std.specs.Prelude.{◌≡◌, ℕ, Bool, true, false, List, [], ◌∷◌, Option, length, Some, None, ◌⊎◌}
+use Rattle.bfs_agreement.specs.Votes.{replicas}
 use Rattle.bfs_auth.specs.Keys.{Keys}
 use Rattle.bfs_auth.specs.declared.principals.Principal.TheVariants as principal
 use Rattle.bfs_model.specs.Server.Stored.{AreBytes}
@@ -15,8 +16,14 @@ use Rattle.bfs_messages.specs.declared.message.Message.TheVariants.{Request, Pre
 use Rattle.bfs_consensus.specs.Histories.{IsIn}
 use Rattle.bfs_view.specs.Changes.Making.{handed_in}
 use Rattle.bfs_view.specs.Changes.Parts.{as_message, messages_in}
-use Rattle.bfs_node_agreement.specs.Replicas.{Replicas, Standing, NodeTurn, after_turn}
+use Rattle.bfs_node_agreement.specs.Replicas.{Keyring, Replicas, Standing, NodeTurn, after_turn}
 use Rattle.bfs_node_agreement.specs.Steps.{NodeStep, Delivers, Takes, TakesRequests, Proposes, Executes, Fails, Checkpoints, TimesOut, Adopts}
+
+-- Keys ------------------------------------------------------------------------------------------------------------------------
+
+-- each replica shares keys with 3f + 1
+abbrev pub AreShared : (f : ℕ) → Keyring → Type 0
+AreShared f keys = (k : ℕ) → length (keys k).replicas ≡ replicas f
 
 -- Authenticators ------------------------------------------------------------------------------------------------------------
 

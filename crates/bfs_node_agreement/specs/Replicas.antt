@@ -1,10 +1,11 @@
 -- Nodes by what they do, and what of it has been sent and executed (OSDI 1999 sections 4.2 to 4.4).
 use Rattle.std.specs.Prelude.{ℕ, ◌==◌, List, [], ◌∷◌, ◌++◌, map, Option, Some, None, if◌then◌else◌}
 use Rattle.bfs_model.specs.Server.Tree.{FileSystem}
+use Rattle.bfs_auth.specs.Keys.{Keys}
 use Rattle.bfs_log.specs.Logs.{Log}
 use Rattle.bfs_replies.specs.Tables.{Table}
 use Rattle.bfs_view_agreement.specs.Replicas.{Deed, Turn}
-use Rattle.bfs_node.specs.Nodes.{Node, new_node}
+use Rattle.bfs_node.specs.Nodes.{Node, node_with}
 use Rattle.bfs_node_agreement.specs.Steps.{NodeStep, outcome, executed_by, deeds_of}
 
 -- the file system and the last replies after a number
@@ -43,8 +44,21 @@ after_step r step = record {
 abbrev pub Replicas : Type 0
 Replicas = ℕ → Replica
 
-abbrev pub new_replicas : (f clients : ℕ) → (secret : List ℕ) → Replicas
-new_replicas f clients secret = λ k. record { node = new_node f clients secret k; sent = []; executed = []; reached = standing_of (new_node f clients secret k) }
+-- the keys of each replica, by its number: who else has which is not said here
+abbrev pub Keyring : Type 0
+Keyring = ℕ → Keys
+
+-- the file system and the last replies with which all replicas begin, as of number 0
+pub record Beginning : Type 0 where
+  pub files : FileSystem
+  pub table : Table
+
+abbrev pub beginning_node : (f : ℕ) → Keyring → Beginning → (k : ℕ) → Node
+beginning_node f keys start k = node_with f k (keys k) start.files start.table
+
+-- which have done nothing yet
+abbrev pub new_replicas : (f : ℕ) → Keyring → Beginning → Replicas
+new_replicas f keys start = λ k. record { node = beginning_node f keys start k; sent = []; executed = []; reached = standing_of (beginning_node f keys start k) }
 
 -- a step of one replica
 pub record NodeTurn : Type 0 where

@@ -1,5 +1,5 @@
 // Agreement of nodes. The bodies do nothing: what is said is the contracts.
-ghost use Rattle.bfs_node_agreement.specs.Laws.{NodesAgree, StepsAreTurns, TurnsMayBeTaken};
+ghost use Rattle.bfs_node_agreement.specs.Laws.{FairIsAuthentic, NodesAgree, StepsAreTurns, TurnsMayBeTaken, WhatIsSentIsFair};
 
 use bfs_agreement::quorums::quorums_meet;
 use bfs_codec::message_was_written;
@@ -31,6 +31,18 @@ pub fn nodes_agree()
     replicas_agree();
     quorums_meet();
     certificates_make_checkpoints_stable();
+    a_replica_stays_itself();
+    views_are_entered();
+    message_was_written();
+}
+
+/// A run in which nodes are given only what was sent is authentic. Whoever passes a message on, each part of it with a right keyed hash of a correct
+/// sender has to stand in what some correct replica gave to be sent; what one gave itself does, with all that is within it. So who runs
+/// nodes has to show only that what comes is what was sent, or comes of liars who forge no keyed hash.
+pub fn what_was_sent_is_authentic()
+    ensures sent { WhatIsSentIsFair }
+    ensures run { FairIsAuthentic }
+{
     a_replica_stays_itself();
     views_are_entered();
     message_was_written();

@@ -16,7 +16,6 @@ use Rattle.bfs_order.specs.Replica.Answers.{commits_in}
 use Rattle.bfs_order.specs.Replica.Executing.{next_proposal, where_committed}
 use Rattle.bfs_order.specs.Replica.Outcomes.{unless}
 use Rattle.bfs_order.specs.Replica.Proposing.{next_number, leads, proposal_refusal, batch_digest, proposal, proposal_commits, proposed}
-use Rattle.bfs_order.specs.Replica.Refusals.{window}
 use Rattle.bfs_order.specs.Replica.States as order
 use Rattle.bfs_order.specs.Replica.States.{known, with_more, with_message}
 use Rattle.bfs_order.specs.Replica.Views.{leaving_refusal, left}
@@ -24,12 +23,14 @@ use Rattle.bfs_order.specs.Laws.Calls.{execution}
 use Rattle.bfs_consensus.specs.Histories.{ViewChange, State, History, World, Executed}
 use Rattle.bfs_consensus.specs.Moves.{Leaves, Executes, IsOpen, Proposes, MaySay, MayLeave, after_move}
 use Rattle.bfs_consensus.specs.Calls.{with_said, all_said}
-use Rattle.bfs_consensus.proofs.Public.{MaySayAll, Within, said_allowed, more, prepared_more}
+use Rattle.bfs_consensus.proofs.Public.{MaySayAll, Within, said_allowed, prepared_more}
 use Rattle.bfs_order_agreement.specs.Following.{Tracks, Follows}
 use Rattle.bfs_order_agreement.specs.Replicas.{Replica, TellsWhatIsPrepared, message_in, where_taken}
 use Rattle.bfs_order_agreement.proofs.Telling.{slot_same, told_same}
 use Rattle.bfs_order_agreement.proofs.Saying.{commits_may, after_said}
 use Rattle.bfs_order_agreement.proofs.Results.{Result, passed, stays_so, stay_tracks, joined_now, tracks_answers, tracks_one, within, said_follows}
+use Rattle.bfs_model.specs.Server.Limits.{log_size, most_number}
+use Rattle.bfs_agreement.proofs.Public.{more}
 
 -- The primary proposes ----------------------------------------------------------------------------------------------------
 
@@ -95,9 +96,9 @@ proposes faulty w r keys batch follows = go (proposal_refusal r.state) refl
     go (Some e) is = stays_so faulty w r s follows follows.state
     go None is =
         let a = passed (leads s) NotPrimary _ is in
-        let b = passed (nat_le n (s.low + window) && nat_lt n (2 ^ 63)) OutsideMarks None a.1 in
+        let b = passed (nat_le n (s.low + log_size) && nat_le n most_number) OutsideMarks None a.1 in
         let led = and_parts (s.me == primary s.f s.view) (nat_le s.asked s.view) a.0 in
-        let high = leb-true n (s.low + 32) (and_parts (nat_le n (s.low + window)) (nat_lt n (2 ^ 63)) b.0).0 in
+        let high = leb-true n (s.low + 32) (and_parts (nat_le n (s.low + log_size)) (nat_le n most_number) b.0).0 in
         let in_marks = within s p.now s.view n follows.state refl (leb-true s.asked s.view led.1) (omega arith) (omega arith) high in
         let opened : IsOpen p.now h = record { view = in_marks.view; asked = in_marks.asked; low = in_marks.low; min_s = in_marks.min_s; high = in_marks.high; free = free } in
         let over : p.now.handed < n = let e = follows.state.handed in omega (arith, e) in
@@ -195,8 +196,8 @@ leaves faulty w r change follows tells = go (leaving_refusal r.state change.view
     go : (o : Option OrderError) → leaving_refusal s change.view ≡ o → Result faulty w r (unless o s (left s change.view)).now [] [] (where_taken o (change ∷ [])) []
     go (Some e) is = stays_so faulty w r s follows follows.state
     go None is =
-        let a = passed (nat_lt (max s.view s.asked) change.view && nat_lt change.view (2 ^ 63)) WrongView None is in
-        let lt = ltb-true (max s.view s.asked) change.view (and_parts (nat_lt (max s.view s.asked) change.view) (nat_lt change.view (2 ^ 63)) a.0).0 in
+        let a = passed (nat_lt (max s.view s.asked) change.view && nat_le change.view most_number) WrongView None is in
+        let lt = ltb-true (max s.view s.asked) change.view (and_parts (nat_lt (max s.view s.asked) change.view) (nat_le change.view most_number) a.0).0 in
         let tracks = follows.state in
         let may : MayLeave s.f s.me p.now change = record {
           asked = let e = tracks.asked in omega (arith, e, lt);

@@ -18,7 +18,7 @@ use Rattle.bfs_order.specs.declared.error.OrderError.TheVariants.{WrongKind, Wro
 use Rattle.bfs_order.specs.Replica.Accepting.{settled, answers, accepted}
 use Rattle.bfs_order.specs.Replica.Answers.{said_once, own_vote, prepares_in, commits_in, votes_in}
 use Rattle.bfs_order.specs.Replica.Outcomes.{Outcome, unless}
-use Rattle.bfs_order.specs.Replica.Refusals.{interval, is_between, is_inside, is_of_view, is_there, conflicts, place_refusal}
+use Rattle.bfs_order.specs.Replica.Refusals.{is_between, is_inside, is_of_view, is_there, conflicts, place_refusal}
 use Rattle.bfs_order.specs.Replica.States as order
 use Rattle.bfs_order.specs.Replica.States.{known, with_more, with_message}
 use Rattle.bfs_order.specs.Replica.Views.{entering_refusal, opened, handed_refusal, taken_over, all_taken_over, entered}
@@ -32,6 +32,7 @@ use Rattle.bfs_order_agreement.proofs.Telling.{or_false, or_moved, not_equal, fi
 use Rattle.bfs_order_agreement.proofs.Saying.{IsAhead, told_there, ahead_said, votes_may, after_said}
 use Rattle.bfs_order_agreement.proofs.Results.{Result, passed, stays_so, in_said, said_view}
 use Rattle.bfs_order_agreement.proofs.Taking.{unsettled, itself_there}
+use Rattle.bfs_model.specs.Server.Limits.{checkpoint_interval, most_number}
 
 -- What is handed over -----------------------------------------------------------------------------------------------------
 
@@ -159,8 +160,8 @@ none_refused s h handed asked marks free =
     let three = not_equal h.tag 3 (λ e. let t = handed.two in absurd (omega (arith, t, e))) in
     let view : is_of_view s h ≡ true = or_right (h.tag == 5) ((h.view == s.view) && nat_le s.asked s.view)
     (and_from (h.view == s.view) (nat_le s.asked s.view) (eq-eqb h.view s.view handed.of_view) (le-leb s.asked s.view asked)) in
-    let inside : is_inside s h ≡ true = and_from (is_between s h.number) (cond (h.tag == 5) ((h.number % interval) == 0) (nat_lt s.min_s h.number)) marks
-    (when_false (h.tag == 5) ((h.number % interval) == 0) (nat_lt s.min_s h.number) five ∙ lt-ltb s.min_s h.number handed.above) in
+    let inside : is_inside s h ≡ true = and_from (is_between s h.number) (cond (h.tag == 5) ((h.number % checkpoint_interval) == 0) (nat_lt s.min_s h.number)) marks
+    (when_false (h.tag == 5) ((h.number % checkpoint_interval) == 0) (nat_lt s.min_s h.number) five ∙ lt-ltb s.min_s h.number handed.above) in
     let from = eq-eqb h.sender (primary s.f h.view) handed.from in
     let primary_ok : ((h.tag == 2) && not (h.sender == primary s.f h.view)) ≡ false = ap₂ (λ (a b : Bool). a && not b) two from in
     let no_conflict : conflicts s h ≡ false =
@@ -175,7 +176,7 @@ beyond_refused s h handed asked beyond =
     let two = eq-eqb h.tag 2 handed.two in
     let view : is_of_view s h ≡ true = or_right (h.tag == 5) ((h.view == s.view) && nat_le s.asked s.view)
     (and_from (h.view == s.view) (nat_le s.asked s.view) (eq-eqb h.view s.view handed.of_view) (le-leb s.asked s.view asked)) in
-    let inside : is_inside s h ≡ false = ap (λ (b : Bool). b && cond (h.tag == 5) ((h.number % interval) == 0) (nat_lt s.min_s h.number)) beyond in
+    let inside : is_inside s h ≡ false = ap (λ (b : Bool). b && cond (h.tag == 5) ((h.number % checkpoint_interval) == 0) (nat_lt s.min_s h.number)) beyond in
     when_true (h.tag == 2) (place_refusal s h) (Some WrongKind) two ∙ outside (is_of_view s h) (is_inside s h) WrongView OutsideMarks _ view inside
 
 taken : (keys : Keys) (s : order.State) (m : Signed Message) → (header m).tag ≡ 2 → handed_refusal s (header m) ≡ None
@@ -400,10 +401,10 @@ enters faulty w r keys view min_s handed changes follows differ valid = go (ente
         → Result faulty w r (unless o s (entered keys s view min_s handed)).now (unless o s (entered keys s view min_s handed)).sent (where_taken o (cond (s.me == primary s.f view) handed [])) [] []
     go (Some e) is = stays_so faulty w r s follows follows.state
     go None is =
-        let a = passed (nat_lt s.view view && (nat_le s.asked view && nat_lt view (2 ^ 63))) WrongView None is in
-        let b = and_parts (nat_lt s.view view) (nat_le s.asked view && nat_lt view (2 ^ 63)) a.0 in
+        let a = passed (nat_lt s.view view && (nat_le s.asked view && nat_le view most_number)) WrongView None is in
+        let b = and_parts (nat_lt s.view view) (nat_le s.asked view && nat_le view most_number) a.0 in
         let lt = ltb-true s.view view b.0 in
-        let asked = leb-true s.asked view (and_parts (nat_le s.asked view) (nat_lt view (2 ^ 63)) b.1).0 in
+        let asked = leb-true s.asked view (and_parts (nat_le s.asked view) (nat_le view most_number) b.1).0 in
         let all : AreTaken begun then.now out = all_taken keys begun then.now handed (record { view = refl; asked = refl; none_asked = omega arith; low = follows.state.low; min_s = refl })
         (λ x i. handed_so s.f q valid.choice x i) (free lt) differ joined in
         let may : MayEnter s.f faulty w p.now q = record {

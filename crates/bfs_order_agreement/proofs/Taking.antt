@@ -16,7 +16,7 @@ use Rattle.bfs_order.specs.Replica.Answers.{votes_in, commits_in, answers_in}
 use Rattle.bfs_order.specs.Replica.Checkpoints.{checkpoint_refusal, checkpoint, checkpointed}
 use Rattle.bfs_order.specs.Replica.Installing.{is_certificate, vouches, number_of, digest_of, certified, install_refusal, installed}
 use Rattle.bfs_order.specs.Replica.Outcomes.{unless}
-use Rattle.bfs_order.specs.Replica.Refusals.{window, interval, is_between, is_inside, is_of_view, is_there, conflicts, place_refusal, is_ordering, is_authentic, refusal}
+use Rattle.bfs_order.specs.Replica.Refusals.{is_between, is_inside, is_of_view, is_there, conflicts, place_refusal, is_ordering, is_authentic, refusal}
 use Rattle.bfs_order.specs.Replica.States as order
 use Rattle.bfs_order.specs.Replica.States.{known, with_more, with_message}
 use Rattle.bfs_consensus.specs.Histories.{State, History, World, WasSent}
@@ -29,6 +29,7 @@ use Rattle.bfs_order_agreement.proofs.Telling.{or_false, not_equal, any_both, sl
 use Rattle.bfs_order_agreement.proofs.Saying.{commits_may, votes_may, after_said}
 use Rattle.bfs_order_agreement.proofs.Dropping.{dropped, five_pushed, each_five}
 use Rattle.bfs_order_agreement.proofs.Results.{Result, passed, not_hit, stays_so, drops, drop_tracks, stay_tracks, settles, joined_now, tracks_answers, tracks_one, within, said_follows}
+use Rattle.bfs_model.specs.Server.Limits.{checkpoint_interval, log_size, most_number}
 
 -- A message comes ---------------------------------------------------------------------------------------------------------
 
@@ -54,14 +55,14 @@ placed s h none =
     record { of_view = c.0; inside = d.0; primary = e.0; free = k.0 }
 
 between : (s : order.State) (n : ℕ) → is_between s n ≡ true → (s.low < n) × (n ≤ s.low + 32)
-between s n e = let a = and_parts (nat_lt s.low n) (nat_le n (s.low + window)) e in (ltb-true s.low n a.0, leb-true n (s.low + 32) a.1)
+between s n e = let a = and_parts (nat_lt s.low n) (nat_le n (s.low + log_size)) e in (ltb-true s.low n a.0, leb-true n (s.low + 32) a.1)
 
 vote_within : (s : order.State) (t : State) (h : Header) → Tracks s t → IsPlaced s h → (h.tag == 5) ≡ false → Within t h.view h.number
 vote_within s t h tracks at vote =
     let view = and_parts (h.view == s.view) (nat_le s.asked s.view) (sym (ap (λ (b : Bool). b || ((h.view == s.view) && nat_le s.asked s.view)) vote) ∙ at.of_view) in
     let inside = and_parts (is_between s h.number) _ at.inside in
     let low = between s h.number inside.0 in
-    let min_s = ltb-true s.min_s h.number (sym (ap (λ (b : Bool). cond b ((h.number % interval) == 0) (nat_lt s.min_s h.number)) vote) ∙ inside.1) in
+    let min_s = ltb-true s.min_s h.number (sym (ap (λ (b : Bool). cond b ((h.number % checkpoint_interval) == 0) (nat_lt s.min_s h.number)) vote) ∙ inside.1) in
     within s t h.view h.number tracks (eqb-true h.view s.view view.0) (leb-true s.asked s.view view.1) low.0 min_s low.1
 
 -- a PRE-PREPARE is the primary's
@@ -180,8 +181,8 @@ checkpoints faulty w r keys n d follows = go (checkpoint_refusal r.state n) refl
     go : (o : Option OrderError) → checkpoint_refusal s n ≡ o → Result faulty w r (unless o s (checkpointed keys s n d)).now [] [] [] []
     go (Some e) is = stays_so faulty w r s follows follows.state
     go None is =
-        let a = passed (is_between s n && nat_lt n (2 ^ 63)) OutsideMarks _ is in
-        let low = between s n (and_parts (is_between s n) (nat_lt n (2 ^ 63)) a.0).0 in
+        let a = passed (is_between s n && nat_le n most_number) OutsideMarks _ is in
+        let low = between s n (and_parts (is_between s n) (nat_le n most_number) a.0).0 in
         let m = checkpoint keys s n d in
         settles faulty w r (s.log ++ m ∷ []) (header m) follows (five_pushed s.log (w s.me).now.log m refl follows.state.log) low.0
 

@@ -10,6 +10,7 @@ use Rattle.bfs_order.specs.Replica.States as order
 use Rattle.bfs_order.specs.Replica.States.{known}
 use Rattle.bfs_consensus.specs.Histories.{IsIn, State, History, Executed}
 use Rattle.bfs_order_agreement.specs.Replicas.{Replica}
+use Rattle.bfs_agreement.specs.Tags.{checkpoint_tag}
 
 -- every test finds the same in both, in whatever order they have it
 abbrev pub HaveTheSame : List Header → List Header → Type 0
@@ -17,7 +18,7 @@ HaveTheSame one other = (test : Header → Bool) → list_any test one ≡ list_
 
 -- but for CHECKPOINTs
 abbrev pub HaveTheSameVotes : List Header → List Header → Type 0
-HaveTheSameVotes one other = (test : Header → Bool) → ((h : Header) → h.tag ≡ 5 → test h ≡ false) → list_any test one ≡ list_any test other
+HaveTheSameVotes one other = (test : Header → Bool) → ((h : Header) → h.tag ≡ checkpoint_tag → test h ≡ false) → list_any test one ≡ list_any test other
 
 -- what is known of the order
 pub record Tracks (s : order.State) (t : State) : Type 0 where

@@ -14,6 +14,7 @@ use Rattle.bfs_order.specs.Replica.Views.{leaving_refusal, entering_refusal, gre
 use Rattle.bfs_order.specs.Laws.Calls.{Call, Takes, Proposes, Executes, Checkpoints, Installs, Leaves, Enters, outcome}
 use Rattle.bfs_consensus.specs.Histories.{IsIn, Certificate, ViewChange, NewView, World, WasSent, IsValidNewView}
 use Rattle.bfs_consensus.specs.Moves.{new_history}
+use Rattle.bfs_agreement.specs.Tags.{checkpoint_tag}
 
 pub record Replica : Type 0 where
   -- what it knows of the order
@@ -108,7 +109,7 @@ new_view view min_s handed changes =
 -- enters by it, and has one PRE-PREPARE for a number
 abbrev pub MayDo : (faulty : ℕ → Bool) → World → State → Deed → Type 0
 MayDo faulty w s (Orders (Takes keys m)) =
-    refusal keys s m ≡ None → (header m).tag < 5 → WasSent faulty w (header m).tag (header m).sender (header m).view (header m).number (header m).digest
+    refusal keys s m ≡ None → (header m).tag < checkpoint_tag → WasSent faulty w (header m).tag (header m).sender (header m).view (header m).number (header m).digest
 MayDo faulty w s (Orders (Proposes keys batch)) = Unit {0}
 MayDo faulty w s (Orders Executes) = Unit {0}
 MayDo faulty w s (Orders (Checkpoints keys number digest)) = Unit {0}

@@ -12,10 +12,9 @@ use Rattle.bfs_messages.specs.declared.signed.Signed.{Signed}
 use Rattle.bfs_messages.specs.declared.message.Message.{Message}
 use Rattle.bfs_messages.specs.declared.message.Message.TheVariants.{Request, PrePrepare, Prepare, Commit, Checkpoint, ViewChange, NewView, Reply}
 use Rattle.bfs_order.specs.Laws.Logs.{HasNoLaterView}
-use Rattle.bfs_order.specs.Replica.Refusals.{window}
 use Rattle.bfs_order.specs.Replica.States.{State, known}
 use Rattle.bfs_consensus.specs.Histories.{IsIn}
-use Rattle.bfs_consensus.proofs.Public.{Is, in_told, more_below}
+use Rattle.bfs_consensus.proofs.Public.{Is, in_told}
 use Rattle.bfs_order_agreement.proofs.Public.{AllIn, in_filter, in_filter_map, more_in, out_of_filter, out_of_filter_map, some_is}
 use Rattle.bfs_view.specs.Changes.Certificates.{is_proved, view_in}
 use Rattle.bfs_view.specs.Changes.Kinds.{prepare_in, prepares, proposal_in, proposals}
@@ -23,6 +22,8 @@ use Rattle.bfs_view.specs.Changes.Making.{backs, certificate_of, certificates, c
 use Rattle.bfs_view.specs.Changes.Parts.{as_message, messages_in}
 use Rattle.bfs_view_agreement.specs.Changes.{HasProofs}
 use Rattle.bfs_view_agreement.proofs.Lists.{as_it_is, at_in, in_map, out_of_map, told_in}
+use Rattle.bfs_model.specs.Server.Limits.{log_size}
+use Rattle.bfs_agreement.proofs.Public.{more_below}
 
 -- Messages of one kind ----------------------------------------------------------------------------------------------------
 
@@ -83,7 +84,7 @@ record IsMade (s : State) (c : model.Certificate) : Type 0 where
 
 made_of : (s : State) (c : model.Certificate) → IsIn c (certificates s) → IsMade s c
 made_of s c i =
-    let a = out_of_filter_map (λ (n : ℕ). latest (prepared_for s n)) (range_with_len (s.low + 1) window) c i in
+    let a = out_of_filter_map (λ (n : ℕ). latest (prepared_for s n)) (range_with_len (s.low + 1) log_size) c i in
     let test = λ (m : Signed Message). is_prepared_for s a.0 (header m) in
     let b = out_of_map (certificate_of s.f s.log) (proposals (filter test s.log)) c (latest_among (prepared_for s a.0) c a.2) in
     let d = out_of_filter_map (λ (m : Signed Message). proposal_in m.message m.auth) (filter test s.log) b.0 b.1 in

@@ -13,6 +13,7 @@ use Rattle.bfs_consensus.specs.Histories.{IsIn, Certificate, ViewChange, World, 
 use Rattle.bfs_view.specs.Changes.Certificates.{is_proved, view_in}
 use Rattle.bfs_view.specs.Changes.Choice.{Chosen}
 use Rattle.bfs_view.specs.Changes.Parts.{as_message, messages_in, prepares_in}
+use Rattle.bfs_agreement.specs.Tags.{pre_prepare_tag}
 
 abbrev pub told_certificate : model.Certificate → Certificate
 told_certificate c = record { proposal = header (as_message PrePrepare c.proposal); prepares = headers (prepares_in c) }
@@ -23,7 +24,7 @@ told_change change =
 
 -- the PRE-PREPARE of a view for what was chosen
 abbrev pub proposal_of : (f view : ℕ) → Chosen → Header
-proposal_of f view c = record { tag = 2; sender = primary f view; view = view; number = c.number; digest = sha256 (batch_text c.batch) }
+proposal_of f view c = record { tag = pre_prepare_tag; sender = primary f view; view = view; number = c.number; digest = sha256 (batch_text c.batch) }
 
 -- a certificate's PRE-PREPARE tells its batch's digest, as each PRE-PREPARE does
 abbrev pub IsWhole : model.Certificate → Type 0

@@ -1,5 +1,5 @@
 //! One replica's order, as tests: a worked run, each refusal with those before and behind it, certificates, checkpoints and views, among 1, 4 and 31
-//! replicas. And the requests that wait to be ordered.
+//! replicas. And the requests that wait to be ordered, and calls as values.
 #![tactic(auto)]
 
 #[cfg(test)]
@@ -10,6 +10,8 @@ mod normal;
 mod parts;
 #[cfg(test)]
 mod pending;
+#[cfg(test)]
+mod performing;
 #[cfg(test)]
 mod refusals;
 #[cfg(test)]
