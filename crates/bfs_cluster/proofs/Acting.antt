@@ -1,6 +1,8 @@
 -- What a replica does is what becomes of the world.
-use Rattle.std.proofs.Common.{◌≡◌, ◌∙◌, ℕ, ◌<◌, ◌+◌, List, [], ◌∷◌, length, get_or, Option, Some, None, true, refl, sym, ap}
+use Rattle.std.proofs.Common.{◌≡◌, ◌∙◌, ℕ, ◌<◌, ◌≤◌, ◌+◌, zero, suc, List, [], ◌∷◌, length, get_or, Option, Some, None, true, refl, sym, ap, subst, arith}
+use Rattle.std.specs.Prelude.{IsSome}
 use Rattle.std.specs.List.{fold, range_with_len, slice_get, slice_set}
+use Rattle.std.specs.Option.{option_map}
 use Rattle.std.proofs.lemmas.Bool.{lt-ltb}
 use Rattle.std.proofs.lemmas.List.{length-set, set-get_or}
 use Rattle.std.proofs.lemmas.Option.{get_or_from_slice_get, slice_get-get_or}
@@ -8,14 +10,15 @@ use Rattle.bfs_log.specs.Logs.{Log}
 use Rattle.bfs_model.specs.Bytes.Call.{◌>>=◌}
 use Rattle.bfs_messages.specs.declared.message.Message.{Message}
 use Rattle.bfs_messages.specs.declared.signed.Signed.{Signed}
+use Rattle.bfs_node.specs.Advancing.{advancing}
 use Rattle.bfs_node.specs.Nodes.{Node, Outcome}
 use Rattle.bfs_node.specs.Receivers.{receivers_of}
 use Rattle.bfs_node.specs.declared.receivers.Receivers.{Receivers}
 use Rattle.bfs_node.specs.declared.receivers.Receivers.TheVariants.{Replicas, Client}
 use Rattle.bfs_cluster.proofs.Each.{one_more}
 use Rattle.bfs_cluster.specs.Inside.Acts.{Acts, doing, posted_if}
-use Rattle.bfs_cluster.specs.Steps.{executing, turning, turn_taken}
-use Rattle.bfs_cluster.specs.World.{Replica, World, done_if, node_at, node_if_heard, noted, posted, posted_to}
+use Rattle.bfs_cluster.specs.Steps.{turning, turn_taken}
+use Rattle.bfs_cluster.specs.World.{Replica, SomeActs, World, done_if, node_at, node_if_heard, noted, posted, posted_to}
 
 -- the world with a replica as a call left it
 abbrev pub with_replica : World → (number : ℕ) → Replica → World
@@ -37,7 +40,7 @@ pub at_number : (act : Node → Option Outcome) (world : World) (number : ℕ) (
     → (node_at world number >>= act) ≡ doing act old
 at_number act world number old is = ap (λ (replica : Option Replica). node_if_heard replica >>= act) is
 
-pub in_turn : (world : World) (number : ℕ) → number < length world.replicas → turning world number ≡ turn_taken world number (node_at world number >>= executing)
+pub in_turn : (world : World) (number : ℕ) → number < length world.replicas → turning world number ≡ turn_taken world number (node_at world number >>= advancing)
 in_turn world number within = rw (lt-ltb number (length world.replicas) within) refl
 
 -- the replica that stands at a number
@@ -79,3 +82,43 @@ goes_on act first before next n is so_far = (
   is ∙ ap (λ (world : World). done_if n world (node_at world n >>= act)) so_far.0 ∙ sym (one_more (λ world number. done_if number world (node_at world number >>= act)) first n),
   ap (λ (world : World). length world.replicas) is ∙ as_many n before (node_at before n >>= act) ∙ so_far.1,
 )
+
+-- Those whose turn is to come --------------------------------------------------------------------------------------------
+
+elsewhere : {X : Type 0} (xs : List X) (n k : ℕ) (x : X) → n < k → slice_get (slice_set xs n x) k ≡ slice_get xs k
+elsewhere [] zero k x lt = refl
+elsewhere [] (suc n) k x lt = refl
+elsewhere (first ∷ rest) zero zero x lt = absurd (omega (arith, lt))
+elsewhere (first ∷ rest) zero (suc k) x lt = refl
+elsewhere (first ∷ rest) (suc n) zero x lt = absurd (omega (arith, lt))
+elsewhere (first ∷ rest) (suc n) (suc k) x lt = elsewhere rest n k x (omega (arith, lt))
+
+-- what a replica does leaves the others
+others_stay : (number k : ℕ) (world : World) (done : Option Outcome) → number < k → node_at (done_if number world done) k ≡ node_at world k
+others_stay number k world None lt = refl
+others_stay number k world (Some done) lt =
+    ap (λ (replicas : List Replica). node_if_heard (slice_get replicas k)) (all_posted_keep number _ done.sent)
+    ∙ ap node_if_heard (elsewhere world.replicas number k (record { heard = true; node = done.now }) lt)
+
+-- from that number on they are as they were
+abbrev pub IsToCome : (number : ℕ) → (first now : World) → Type 0
+IsToCome number first now = (k : ℕ) → number ≤ k → node_at now k ≡ node_at first k
+
+pub to_come : (act : Node → Option Outcome) (first before next : World) (n : ℕ) → next ≡ done_if n before (node_at before n >>= act)
+    → IsToCome n first before → IsToCome (n + 1) first next
+to_come act first before next n is so_far k le =
+    ap (λ (world : World). node_at world k) is ∙ others_stay n k before (node_at before n >>= act) (omega (arith, le)) ∙ so_far k (omega (arith, le))
+
+-- one that does something now would have done it at first
+pub wanted : (act : Node → Option Outcome) (first before : World) (n : ℕ) → IsToCome n first before → IsSome (node_at before n >>= act) → SomeActs act first
+wanted act first before n so_far some = (n, subst (λ (node : Option Node). IsSome (node >>= act)) (so_far n (omega arith)) some)
+
+pub acts_some : (act : Node → Option Outcome) (world : World) (number : ℕ) (old : Replica) → slice_get world.replicas number ≡ Some old
+    → IsSome (doing act old) → IsSome (node_at world number >>= act)
+acts_some act world number old is some = subst (λ (done : Option Outcome). IsSome done) (sym (at_number act world number old is)) some
+
+-- what sends something was done
+pub sends : {X : Type 0} (view : X → Log) (done : Option Outcome) (old new : Replica) (sent : Option X) → Acts done old new (option_map view sent) → IsSome sent → IsSome done
+sends view None old new None did some = some
+sends view None old new (Some sent) did some = absurd (let none : Some (view sent) ≡ None = did.1 in cc)
+sends view (Some done) old new sent did some = refl

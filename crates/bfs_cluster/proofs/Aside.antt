@@ -1,41 +1,44 @@
 -- Replicas that execute side by side come to what they come to one after another.
-use Rattle.std.proofs.Common.{◌≡◌, ◌∙◌, true, ℕ, ◌<◌, ◌≤◌, ◌+◌, zero, suc, List, [], ◌∷◌, ◌++◌, length, get_or, map, take, drop, Option, Some, None, Result, Ok, Err, All, refl, sym, ap, subst, arith}
-use Rattle.std.specs.Prelude.{OnOk}
+use Rattle.std.proofs.Common.{◌≡◌, ◌∙◌, Bool, true, false, true≢false, is_some, ℕ, ◌<◌, ◌≤◌, ◌+◌, zero, suc, List, [], ◌∷◌, ◌++◌, length, get_or, map, take, drop, Option, Some, None, Result, Ok, Err, All, refl, sym, ap, subst, arith}
+use Rattle.std.specs.Prelude.{IsSome, OnOk, if◌then◌else◌}
 use Rattle.std.specs.List.{AllZip, fold, list_any, slice_get, slice_set}
 use Rattle.std.proofs.lemmas.Bool.{le-ltb}
 use Rattle.std.proofs.lemmas.List.Elements.{All-tail}
 use Rattle.std.proofs.lemmas.List.{append-nil, append_assoc, drop_all, get_or-set_same, length-append, length-set, set-set, set_at, take_all}
-use Rattle.std.proofs.lemmas.Option.{slice_get-get_or}
+use Rattle.std.proofs.lemmas.Option.{same_Some, slice_get-get_or}
 use Rattle.bfs_log.specs.Logs.{Log}
 use Rattle.bfs_messages.specs.declared.message.Message.{Message}
 use Rattle.bfs_messages.specs.declared.signed.Signed.{Signed}
-use Rattle.bfs_node.specs.Nodes.{Outcome}
+use Rattle.bfs_model.specs.Bytes.Call.{◌>>=◌}
+use Rattle.bfs_node.specs.Advancing.{advancing}
+use Rattle.bfs_node.specs.Nodes.{Node, Outcome}
 use Rattle.bfs_node.specs.Receivers.{receivers_of}
 use Rattle.bfs_node.specs.declared.receivers.Receivers.{Receivers}
 use Rattle.bfs_node.specs.declared.receivers.Receivers.TheVariants.{Replicas, Client}
 use Rattle.bfs_cluster.proofs.Acting.{at_number, in_turn, with_itself}
-use Rattle.bfs_cluster.proofs.Settling.{one_step, onwards}
+use Rattle.bfs_cluster.proofs.Settling.{at_delivery, at_turn, by_both, by_one, one_step}
 use Rattle.bfs_cluster.specs.Inside.Acts.{Acts, doing}
-use Rattle.bfs_cluster.specs.Inside.Aside.{AreBack, CameOut, CameTo, Executes, Goes, RunsOut, back, posted_all, sent_by}
+use Rattle.bfs_cluster.specs.Inside.Aside.{AreBack, CameOut, CameTo, Comes, Goes, Ran, RunsOut, back, posted_all, sent_by}
 use Rattle.bfs_cluster.specs.Inside.Requests.{with_requests}
-use Rattle.bfs_cluster.specs.Steps.{after, executing, has_ready, step, turn_taken, turning}
-use Rattle.bfs_cluster.specs.World.{Replica, World, noted, posted, posted_to, with_node}
+use Rattle.bfs_cluster.specs.Steps.{after, has_ready, step, turn_taken, turning}
+use Rattle.bfs_cluster.specs.World.{Replica, World, node_if_heard, noted, posted, posted_to, with_node}
 use Rattle.bfs_cluster.specs.declared.side_by_side.Busy.{Busy}
 
 -- One more batch -------------------------------------------------------------------------------------------------------------
 
-pub executes_more : (all : List Log) (first : Log) (old now next : Replica) → Executes all old now → Acts (doing executing now) now next (Some first)
-    → Executes (all ++ first ∷ []) old next
-executes_more [] first old now next so_far did = subst (λ (from : Replica). Executes (first ∷ []) from next) so_far (next, did, refl)
-executes_more (sent ∷ all) first old now next so_far did = (so_far.0, so_far.1, executes_more all first so_far.0 now next so_far.2 did)
+module _ (Executes : Node → Type 0) where
+  pub ran_more : (all : List Log) (first : Log) (old now next : Replica) → Ran Executes all old now → Acts (doing advancing now) now next (Some first) → Executes now.node
+      → Ran Executes (all ++ first ∷ []) old next
+  ran_more [] first old now next so_far did here = subst (λ (from : Replica). Ran Executes (first ∷ []) from next) so_far (next, did, here, refl)
+  ran_more (sent ∷ all) first old now next so_far did here = (so_far.0, so_far.1, so_far.2, ran_more all first so_far.0 now next so_far.3 did here)
 
--- where nothing is sent, nothing was done
-pub runs_out : (all : List Log) (old now new : Replica) → Executes all old now → Acts (doing executing now) now new None → RunsOut all old new
-runs_out all old now new so_far did = go (doing executing now) refl did
-  where
-    go : (done : Option Outcome) → doing executing now ≡ done → Acts done now new None → RunsOut all old new
-    go (Some done) is did = absurd (let never : None ≡ Some done.sent = did.1 in cc)
-    go None is did = (subst (Executes all old) (sym did.0) so_far, ap (doing executing) did.0 ∙ is)
+  -- where nothing is sent, nothing was done
+  pub runs_out : (all : List Log) (old now new : Replica) → Ran Executes all old now → Acts (doing advancing now) now new None → RunsOut Executes all old new
+  runs_out all old now new so_far did = go (doing advancing now) refl did
+    where
+      go : (done : Option Outcome) → doing advancing now ≡ done → Acts done now new None → RunsOut Executes all old new
+      go (Some done) is did = absurd (let never : None ≡ Some done.sent = did.1 in cc)
+      go None is did = (subst (Ran Executes all old) (sym did.0) so_far, ap (doing advancing) did.0 ∙ is)
 
 -- What is sent does not depend on the replicas ----------------------------------------------------------------------------
 
@@ -64,51 +67,66 @@ module _ (replicas : List Replica) (turn : Option ℕ) where
 
 -- a step of the replica whose turn it is
 takes : (world : World) (n : ℕ) (old : Replica) → world.turn ≡ Some n → n < length world.replicas → slice_get world.replicas n ≡ Some old
-    → (ran : Option Outcome) → doing executing old ≡ ran → after (suc zero) world ≡ turn_taken world n ran
+    → (ran : Option Outcome) → doing advancing old ≡ ran → after (suc zero) world ≡ turn_taken world n ran
 takes world n old turn within is ran did =
     one_step world (turning world n) (rw turn refl)
-    ∙ in_turn world n within ∙ ap (turn_taken world n) (at_number executing world n old is ∙ did)
+    ∙ in_turn world n within ∙ ap (turn_taken world n) (at_number advancing world n old is ∙ did)
 
 there : (replicas : List Replica) (n : ℕ) (replica : Replica) → n < length replicas → slice_get (slice_set replicas n replica) n ≡ Some replica
 there replicas n replica within =
     slice_get-get_or (slice_set replicas n replica) n replica (let long : length (slice_set replicas n replica) ≡ length replicas = length-set replicas n replica in omega (arith, long, within))
     ∙ ap (λ (r : Replica). Some r) (get_or-set_same replicas n replica replica within)
 
-one_turn : (all : List Log) (world : World) (n : ℕ) (old new : Replica) → world.turn ≡ Some n → n < length world.replicas → slice_get world.replicas n ≡ Some old
-    → Executes all old new → doing executing new ≡ None
-    → (steps : ℕ) × (after steps world ≡ beside (slice_set world.replicas n new) (Some (n + 1)) (posted_all n world all))
-one_turn [] world n old new turn within is ran ended = (
-  suc zero,
-  takes world n old turn within is None (ap (doing executing) (sym ran) ∙ ended)
-      ∙ ap (λ (replicas : List Replica). record world { replicas = replicas; turn = Some (n + 1) })
-      (sym (ap (λ (w : World). w.replicas) (with_itself world n new (is ∙ ap (λ (r : Replica). Some r) (sym ran))))),
-)
-one_turn (first ∷ rest) world n old new turn within is ran ended =
-    let long : length (slice_set world.replicas n ran.0) ≡ length world.replicas = length-set world.replicas n ran.0 in
-    go (one_turn rest next n ran.0 new turn (omega (arith, long, within)) (there world.replicas n ran.0 within) ran.2 ended) (doing executing old) refl ran.1
+heard_node : (old : Replica) (node : Node) → node_if_heard (Some old) ≡ Some node → old.node ≡ node
+heard_node old node = go old.heard
   where
-    next : World
-    next = beside (slice_set world.replicas n ran.0) world.turn (fold (posted n) world first)
+    go : (heard : Bool) → (if heard then Some old.node else None) ≡ Some node → old.node ≡ node
+    go true there = same_Some _ _ there
+    go false there = absurd (let never : None ≡ Some node = there in cc)
 
-    end : World
-    end = beside (slice_set world.replicas n new) (Some (n + 1)) (posted_all n world (first ∷ rest))
+module _ (Executes : Node → Type 0) where
+  nothing_left : (old : Replica) → doing advancing old ≡ None → (node : Node) → node_if_heard (Some old) ≡ Some node → IsSome (advancing node) → Executes node
+  nothing_left old ended node there some =
+      let none : advancing node ≡ None = sym (ap (λ (found : Option Node). found >>= advancing) there) ∙ ended in
+      absurd (true≢false (sym some ∙ ap is_some none))
 
-    go : (steps : ℕ) × (after steps next ≡ beside (slice_set next.replicas n new) (Some (n + 1)) (posted_all n next rest))
-        → (done : Option Outcome) → doing executing old ≡ done → Acts done old ran.0 (Some first) → (steps : ℕ) × (after steps world ≡ end)
-    go later None did acts = absurd (let never : Some first ≡ None = acts.1 in cc)
-    go later (Some done) did acts =
-        let sent : done.sent ≡ first = cc in
-        let comes : after (suc zero) world ≡ next =
-        takes world n old turn within is (Some done) did
-        ∙ ap (fold (posted n) (with_node world n done.now)) sent
-        ∙ ap (λ (r : Replica). fold (posted n) (record world { replicas = slice_set world.replicas n r }) first) (sym acts.0)
-        ∙ sent_beside (slice_set world.replicas n ran.0) world.turn n world first in (
-          suc zero + later.0,
-          onwards world (suc zero) later.0 ∙ ap (after later.0) comes ∙ later.1
-              ∙ ap (λ (w : World). beside (slice_set (slice_set world.replicas n ran.0) n new) (Some (n + 1)) w)
-              (all_beside (slice_set world.replicas n ran.0) world.turn n (fold (posted n) world first) rest)
-              ∙ ap (λ (replicas : List Replica). beside replicas (Some (n + 1)) (posted_all n world (first ∷ rest))) (set-set world.replicas n ran.0 new),
-        )
+  one_turn : (all : List Log) (world : World) (n : ℕ) (old new : Replica) → world.turn ≡ Some n → n < length world.replicas → slice_get world.replicas n ≡ Some old
+      → Ran Executes all old new → doing advancing new ≡ None
+      → Comes Executes world (beside (slice_set world.replicas n new) (Some (n + 1)) (posted_all n world all))
+  one_turn [] world n old new turn within is ran ended =
+      let left : doing advancing old ≡ None = ap (doing advancing) (sym ran) ∙ ended in
+      by_one Executes world (beside (slice_set world.replicas n new) (Some (n + 1)) world)
+      (takes world n old turn within is None left
+      ∙ ap (λ (replicas : List Replica). record world { replicas = replicas; turn = Some (n + 1) })
+      (sym (ap (λ (w : World). w.replicas) (with_itself world n new (is ∙ ap (λ (r : Replica). Some r) (sym ran))))))
+      (at_turn Executes world n (node_if_heard (Some old)) turn (ap node_if_heard is) (nothing_left old left))
+  one_turn (first ∷ rest) world n old new turn within is ran ended =
+      let long : length (slice_set world.replicas n ran.0) ≡ length world.replicas = length-set world.replicas n ran.0 in
+      by_both Executes world next end
+      (by_one Executes world next (goes (doing advancing old) refl ran.1)
+      (at_turn Executes world n (node_if_heard (Some old)) turn (ap node_if_heard is) (λ node there some. subst Executes (heard_node old node there) ran.2)))
+      (subst (Comes Executes next) same (one_turn rest next n ran.0 new turn (omega (arith, long, within)) (there world.replicas n ran.0 within) ran.3 ended))
+    where
+      next : World
+      next = beside (slice_set world.replicas n ran.0) world.turn (fold (posted n) world first)
+
+      end : World
+      end = beside (slice_set world.replicas n new) (Some (n + 1)) (posted_all n world (first ∷ rest))
+
+      same : beside (slice_set next.replicas n new) (Some (n + 1)) (posted_all n next rest) ≡ end
+      same =
+          ap (λ (w : World). beside (slice_set (slice_set world.replicas n ran.0) n new) (Some (n + 1)) w)
+          (all_beside (slice_set world.replicas n ran.0) world.turn n (fold (posted n) world first) rest)
+          ∙ ap (λ (replicas : List Replica). beside replicas (Some (n + 1)) (posted_all n world (first ∷ rest))) (set-set world.replicas n ran.0 new)
+
+      goes : (done : Option Outcome) → doing advancing old ≡ done → Acts done old ran.0 (Some first) → after (suc zero) world ≡ next
+      goes None did acts = absurd (let never : Some first ≡ None = acts.1 in cc)
+      goes (Some done) did acts =
+          let sent : done.sent ≡ first = cc in
+          takes world n old turn within is (Some done) did
+          ∙ ap (fold (posted n) (with_node world n done.now)) sent
+          ∙ ap (λ (r : Replica). fold (posted n) (record world { replicas = slice_set world.replicas n r }) first) (sym acts.0)
+          ∙ sent_beside (slice_set world.replicas n ran.0) world.turn n world first
 
 past : (world : World) (n : ℕ) → length world.replicas ≤ n → turning world n ≡ record world { turn = None }
 past world n behind = rw (le-ltb n (length world.replicas) behind) refl
@@ -119,21 +137,27 @@ middle : (front : List Replica) (old : Replica) (olds : List Replica) → slice_
 middle [] old olds = refl
 middle (first ∷ front) old olds = middle front old olds
 
-abbrev pub RanOut : Replica → Busy → Type 0
-RanOut old one = RunsOut (sent_by one) old one.replica
+beyond : (front : List Replica) → slice_get front (length front) ≡ None
+beyond [] = refl
+beyond (first ∷ front) = beyond front
 
-all_turns : (busy : List Busy) (olds front : List Replica) (world : World) → world.replicas ≡ front ++ olds → world.turn ≡ Some (length front)
-    → AllZip RanOut olds busy → (steps : ℕ) × (after steps world ≡ fold back (beside front None world) busy)
-all_turns [] (old ∷ olds) front world are turn ran = absurd ran
-all_turns (one ∷ busy) [] front world are turn ran = absurd ran
-all_turns [] [] front world are turn ran =
-    let all : world.replicas ≡ front = are ∙ append-nil front in (
-      suc zero,
-      one_step world (turning world (length front)) (rw turn refl)
-          ∙ past world (length front) (omega (arith, let long : length world.replicas ≡ length front = ap length all in long))
-          ∙ ap (λ (replicas : List Replica). record world { replicas = replicas; turn = None }) all,
-    )
-all_turns (one ∷ busy) (old ∷ olds) front world are turn ran =
+abbrev pub RanOut : (Executes : Node → Type 0) → Replica → Busy → Type 0
+RanOut Executes old one = RunsOut Executes (sent_by one) old one.replica
+
+all_turns : (Executes : Node → Type 0) (busy : List Busy) (olds front : List Replica) (world : World) → world.replicas ≡ front ++ olds → world.turn ≡ Some (length front)
+    → AllZip (RanOut Executes) olds busy → Comes Executes world (fold back (beside front None world) busy)
+all_turns Executes [] (old ∷ olds) front world are turn ran = absurd ran
+all_turns Executes (one ∷ busy) [] front world are turn ran = absurd ran
+all_turns Executes [] [] front world are turn ran =
+    let all : world.replicas ≡ front = are ∙ append-nil front in
+    by_one Executes world (beside front None world)
+    (one_step world (turning world (length front)) (rw turn refl)
+    ∙ past world (length front) (omega (arith, let long : length world.replicas ≡ length front = ap length all in long))
+    ∙ ap (λ (replicas : List Replica). record world { replicas = replicas; turn = None }) all)
+    (at_turn Executes world (length front) None turn
+    (ap (λ (replicas : List Replica). node_if_heard (slice_get replicas (length front))) all ∙ ap node_if_heard (beyond front))
+    (λ node there some. absurd (let never : None ≡ Some node = there in cc)))
+all_turns Executes (one ∷ busy) (old ∷ olds) front world are turn ran =
     let n : ℕ = length front in
     let sent : List Log = sent_by one in
     let replica : Replica = one.replica in
@@ -142,14 +166,12 @@ all_turns (one ∷ busy) (old ∷ olds) front world are turn ran =
     let within : n < length world.replicas =
     let long : length world.replicas ≡ length front + length (old ∷ olds) = ap length are ∙ length-append front (old ∷ olds) in
     omega (arith, long) in
-    let first = one_turn sent world n old replica turn within (ap (λ (replicas : List Replica). slice_get replicas n) are ∙ middle front old olds) ran.0.0 ran.0.1 in
     let placed : slice_set world.replicas n replica ≡ (front ++ replica ∷ []) ++ olds =
     ap (λ (replicas : List Replica). slice_set replicas n replica) are ∙ set_at front old olds replica n refl ∙ sym (append_assoc front (replica ∷ []) olds) in
-    let later = all_turns busy olds (front ++ replica ∷ []) next placed (ap (λ (k : ℕ). Some k) (sym longer)) ran.1 in (
-      first.0 + later.0,
-      onwards world first.0 later.0 ∙ ap (after later.0) first.1 ∙ later.1
-          ∙ ap (λ (w : World). fold back w busy) (sym (all_beside (front ++ replica ∷ []) None n world sent)),
-    )
+    by_both Executes world next (fold back (beside front None world) (one ∷ busy))
+    (one_turn Executes sent world n old replica turn within (ap (λ (replicas : List Replica). slice_get replicas n) are ∙ middle front old olds) ran.0.0 ran.0.1)
+    (subst (Comes Executes next) (ap (λ (w : World). fold back w busy) (sym (all_beside (front ++ replica ∷ []) None n world sent)))
+    (all_turns Executes busy olds (front ++ replica ∷ []) next placed (ap (λ (k : ℕ). Some k) (sym longer)) ran.1))
 
 -- what was written over a whole vector
 pub written : {X : Type 0} (old new : List X) (n : ℕ) → length new ≡ length old → n ≡ length old → take n (new ++ drop (length new) old) ≡ new
@@ -167,19 +189,20 @@ from_places R (x ∷ xs) [] long each = absurd (let no : zero ≡ suc (length xs
 from_places R (x ∷ xs) (y ∷ ys) long each =
     (each zero x (omega arith), from_places R xs ys (omega (arith, long)) (λ i d within. each (suc i) d (omega (arith, within))))
 
-ran_out : (before now : List Busy) → AllZip CameOut before now → AreBack now → AllZip RanOut (map (λ one. one.replica) before) now
-ran_out [] [] came all = tt
-ran_out [] (one ∷ now) came all = came
-ran_out (old ∷ before) [] came all = came
-ran_out (old ∷ before) (one ∷ now) came all =
-    (subst (λ result. OnOk result (RunsOut (sent_by one) old.replica one.replica)) all.0 came.0, ran_out before now came.1 all.1)
+ran_out : (Executes : Node → Type 0) (before now : List Busy) → AllZip (CameOut Executes) before now → AreBack now
+    → AllZip (RanOut Executes) (map (λ one. one.replica) before) now
+ran_out Executes [] [] came all = tt
+ran_out Executes [] (one ∷ now) came all = came
+ran_out Executes (old ∷ before) [] came all = came
+ran_out Executes (old ∷ before) (one ∷ now) came all =
+    (subst (λ result. OnOk result (RunsOut Executes (sent_by one) old.replica one.replica)) all.0 came.0, ran_out Executes before now came.1 all.1)
 
 -- all have executed what was ready
-pub have_executed : (world : World) (before now : List Busy) → world.turn ≡ None → map (λ one. one.replica) before ≡ world.replicas
-    → AllZip CameOut before now → AreBack now → Goes true (record world { turn = Some 0 }) (fold back (record world { replicas = [] }) now)
-have_executed world before now turn are came all =
-    subst (λ (none : Option ℕ). Goes true (record world { turn = Some 0 }) (fold back (record world { replicas = []; turn = none }) now)) (sym turn)
-    (all_turns now (map (λ one. one.replica) before) [] (record world { turn = Some 0 }) (sym are) refl (ran_out before now came all))
+pub have_executed : (Executes : Node → Type 0) (world : World) (before now : List Busy) → world.turn ≡ None → map (λ one. one.replica) before ≡ world.replicas
+    → AllZip (CameOut Executes) before now → AreBack now → Goes Executes true (record world { turn = Some 0 }) (fold back (record world { replicas = [] }) now)
+have_executed Executes world before now turn are came all =
+    subst (λ (none : Option ℕ). Goes Executes true (record world { turn = Some 0 }) (fold back (record world { replicas = []; turn = none }) now)) (sym turn)
+    (all_turns Executes now (map (λ one. one.replica) before) [] (record world { turn = Some 0 }) (sym are) refl (ran_out Executes before now came all))
 
 pub came_back : {first world end : World} {given now : List Busy} → given ≡ now → first ≡ world → end ≡ fold back first given → end ≡ fold back world now
 came_back {first} {world} {end} {given} {now} all same is = is ∙ ap (fold back first) all ∙ ap (λ (w : World). fold back w now) same
@@ -218,8 +241,9 @@ one_back before (Ok u) first old new all rest left one is put so_far =
 
 -- The turns begin ----------------------------------------------------------------------------------------------------------
 
-pub turns_begin : (world next : World) → world.turn ≡ None → world.queue ≡ [] → list_any has_ready world.replicas ≡ true
-    → Goes true (record world { turn = Some 0 }) next → Goes true world next
-turns_begin world next turn queue ready gone =
+pub turns_begin : (Executes : Node → Type 0) (world next : World) → world.turn ≡ None → world.queue ≡ [] → list_any has_ready world.replicas ≡ true
+    → Goes Executes true (record world { turn = Some 0 }) next → Goes Executes true world next
+turns_begin Executes world next turn queue ready gone =
     let begins : step world ≡ Some (record world { turn = Some 0 }) = rw turn (rw queue (rw ready refl)) in
-    (suc zero + gone.0, onwards world (suc zero) gone.0 ∙ ap (after gone.0) (one_step world (record world { turn = Some 0 }) begins) ∙ gone.1)
+    by_both Executes world (record world { turn = Some 0 }) next
+    (by_one Executes world (record world { turn = Some 0 }) (one_step world (record world { turn = Some 0 }) begins) (at_delivery Executes world turn)) gone

@@ -4,6 +4,7 @@ use Rattle.std.specs.Prelude.{IfOk}
 use Rattle.std.specs.List.{slice_get}
 use Rattle.std.specs.Option.{option_map}
 use Rattle.bfs_log.specs.Logs.{Log}
+use Rattle.bfs_node.specs.Nodes.{Node}
 use Rattle.bfs_cluster.specs.CatchingUp.{AllStay, CatchesUp, HasNoOther, Offer, Times, offer_to}
 use Rattle.bfs_cluster.specs.Inside.Trying.{AllCatchUpIf, CatchesUpIf, TakesIf, Tries}
 use Rattle.bfs_cluster.specs.Steps.{Rests, Round, Settles}
@@ -87,11 +88,13 @@ none_more any went world before now is goes so_far = ended any world before now 
 
 -- Rounds --------------------------------------------------------------------------------------------------------------------
 
-pub one_more_round : (any : Bool) (world before rest now : World) → any ≡ true → Rests before rest → AllCatchUpIf any rest now → (rounds : ℕ) × Times Round rounds world before → (rounds : ℕ) × Times Round rounds world now
-one_more_round any world before rest now is rests goes so_far =
+pub one_more_round : (Executes : Node → Type 0) (any : Bool) (world before rest now : World) → any ≡ true → Rests Executes before rest → AllCatchUpIf any rest now
+    → (rounds : ℕ) × Times (Round Executes) rounds world before → (rounds : ℕ) × Times (Round Executes) rounds world now
+one_more_round Executes any world before rest now is rests goes so_far =
     (suc so_far.0, (before, so_far.1, record { rest = rest; comes = rests; goes_on = subst (λ (a : Bool). AllCatchUpIf a rest now) is goes }))
 
-pub no_more_rounds : (any : Bool) (world before rest now : World) → any ≡ false → Rests before rest → AllCatchUpIf any rest now → (rounds : ℕ) × Times Round rounds world before → Settles world now
-no_more_rounds any world before rest now is rests goes so_far =
+pub no_more_rounds : (Executes : Node → Type 0) (any : Bool) (world before rest now : World) → any ≡ false → Rests Executes before rest → AllCatchUpIf any rest now
+    → (rounds : ℕ) × Times (Round Executes) rounds world before → Settles Executes world now
+no_more_rounds Executes any world before rest now is rests goes so_far =
     let stay : AllCatchUpIf false rest now = subst (λ (a : Bool). AllCatchUpIf a rest now) is goes in
-    record { rounds = so_far.0; last = before; comes = so_far.1; rests = subst (Rests before) (sym stay.1) rests; ended = subst AllStay (sym stay.1) stay.0 }
+    record { rounds = so_far.0; last = before; comes = so_far.1; rests = subst (Rests Executes before) (sym stay.1) rests; ended = subst AllStay (sym stay.1) stay.0 }

@@ -6,3 +6,4 @@ pub mod Once
 pub mod Requesting
 pub mod Settling
 pub mod Turns
+pub mod Wanting

@@ -1,5 +1,6 @@
 -- A world settles to one other: each adoption, each round and the whole leave one world.
 use Rattle.std.proofs.Common.{◌≡◌, ◌∙◌, ℕ, ◌<◌, zero, suc, Bool, true, false, ltb, List, length, refl, sym, ap, ap₂, subst, arith}
+use Rattle.std.specs.Prelude.{⊤}
 use Rattle.std.proofs.lemmas.Bool.{ltb-false, ltb-true}
 use Rattle.std.proofs.lemmas.Option.{same_Some}
 use Rattle.bfs_checkpoints.specs.Laws.{ATextSpellsOneNode, IsReadable, LiveNodesAreReadAgain}
@@ -55,6 +56,23 @@ stops_once Goes once n m world one other a stuck b ended = go (ltb n m) (ltb m n
     go false false is at =
         let same : n ≡ m = omega (arith, ltb-false n m is, ltb-false m n at) in
         same_times Goes once m world one other (subst (λ (k : ℕ). Times Goes k world one) same a) b
+
+-- What is said of batches ----------------------------------------------------------------------------------------------------
+
+abbrev Whatever : Node → Type 0
+Whatever node = ⊤
+
+module _ (Executes : Node → Type 0) where
+  rests_anyhow : (world other : World) → Rests Executes world other → Rests Whatever world other
+  rests_anyhow world other rests = record { steps = rests.steps; comes = rests.comes; executes = λ k lt number node at there some. tt; ended = rests.ended }
+
+  goes_anyhow : (rounds : ℕ) (world other : World) → Times (Round Executes) rounds world other → Times (Round Whatever) rounds world other
+  goes_anyhow zero world other goes = goes
+  goes_anyhow (suc rounds) world other goes = (
+    goes.0,
+    goes_anyhow rounds world goes.0 goes.1,
+    record { rest = goes.2.rest; comes = rests_anyhow goes.0 goes.2.rest goes.2.comes; goes_on = goes.2.goes_on },
+  )
 
 -- Adoptions -----------------------------------------------------------------------------------------------------------------
 
@@ -115,18 +133,22 @@ module _ (one_node : ATextSpellsOneNode) (read_again : LiveNodesAreReadAgain) wh
   all_catch_once world one other a b =
       stops_once CatchesUp catches_once (suc a.times) (suc b.times) world one other a.comes (none_catches one a.ended) b.comes (none_catches other b.ended)
 
-  round_once : LeadsToOne Round
+  round_once : LeadsToOne (Round Whatever)
   round_once world one other a b =
-      all_catch_once b.rest one other (subst (λ (rest : World). AllCatchUp rest one) (rests_once world a.rest b.rest a.comes b.comes) a.goes_on) b.goes_on
+      all_catch_once b.rest one other (subst (λ (rest : World). AllCatchUp rest one) (rests_once Whatever world a.rest b.rest a.comes b.comes) a.goes_on) b.goes_on
 
   -- once none catches up, no round is left
-  no_round : (world rest : World) → Rests world rest → AllStay rest → IsStuck Round world
+  no_round : (world rest : World) → Rests Whatever world rest → AllStay rest → IsStuck (Round Whatever) world
   no_round world rest rests stay next round =
       let first = goes_on CatchesUp zero (suc round.goes_on.times) (omega arith) round.rest next round.goes_on.comes in
-      let same : first.0 ≡ rest = sym first.2 ∙ rests_once world round.rest rest round.comes rests in
+      let same : first.0 ≡ rest = sym first.2 ∙ rests_once Whatever world round.rest rest round.comes rests in
       none_catches rest stay first.1 (subst (λ (w : World). CatchesUp w first.1) same first.3)
 
-  pub settles_once : SettlesToOneWorld
-  settles_once world one other a b =
-      let same : a.last ≡ b.last = stops_once Round round_once a.rounds b.rounds world a.last b.last a.comes (no_round a.last one a.rests a.ended) b.comes (no_round b.last other b.rests b.ended) in
-      rests_once b.last one other (subst (λ (w : World). Rests w one) same a.rests) b.rests
+  pub settles_once : (First Second : Node → Type 0) → SettlesToOneWorld First Second
+  settles_once First Second world one other a b =
+      let first = rests_anyhow First a.last one a.rests in
+      let second = rests_anyhow Second b.last other b.rests in
+      let same : a.last ≡ b.last = stops_once (Round Whatever) round_once a.rounds b.rounds world a.last b.last
+      (goes_anyhow First a.rounds world a.last a.comes) (no_round a.last one first a.ended)
+      (goes_anyhow Second b.rounds world b.last b.comes) (no_round b.last other second b.ended) in
+      rests_once Whatever b.last one other (subst (λ (w : World). Rests Whatever w one) same first) second

@@ -1,23 +1,24 @@
 -- Requests that come to one replica after another are as those that come to all, one after another: none makes a replica send anything.
-use Rattle.std.proofs.Common.{◌≡◌, ◌∙◌, ℕ, zero, suc, ◌+◌, Bool, true, false, List, [], ◌∷◌, length, map, Option, Some, None, true≢false, refl, sym, ap, ap₂, arith}
-use Rattle.std.specs.Prelude.{if◌then◌else◌}
-use Rattle.std.specs.List.{fold, list_all, range_with_len, slice_get, slice_set}
-use Rattle.std.proofs.lemmas.Bool.{and_parts}
+use Rattle.std.proofs.Common.{◌≡◌, ◌∙◌, ℕ, zero, suc, ◌+◌, ◌<◌, Bool, true, false, List, [], ◌∷◌, length, map, Option, Some, None, true≢false, ◌||◌, refl, sym, ap, ap₂, subst, arith}
+use Rattle.std.specs.Prelude.{IsSome, ◌==◌, get_or, if◌then◌else◌, is_some}
+use Rattle.std.specs.List.{fold, list_all, list_any, range_with_len, slice_get, slice_set}
+use Rattle.std.proofs.lemmas.Bool.{and_parts, eqb-true, or_parts}
 use Rattle.bfs_log.specs.Logs.{Log}
 use Rattle.bfs_model.specs.Bytes.Call.{◌>>=◌}
 use Rattle.bfs_messages.specs.Messages as model
 use Rattle.bfs_messages.specs.declared.message.Message.{Message}
 use Rattle.bfs_messages.specs.declared.message.Message.TheVariants.{Request, PrePrepare, Prepare, Commit, Checkpoint, ViewChange, NewView, Reply}
 use Rattle.bfs_messages.specs.declared.signed.Signed.{Signed}
+use Rattle.bfs_node.specs.Advancing.{unless_refused}
 use Rattle.bfs_node.specs.Delivering.{after_request, after_requests, if_taken, message_delivered, message_refusal, request_in, request_refusal, with_request}
 use Rattle.bfs_node.specs.Nodes.{Node}
 use Rattle.bfs_node.specs.declared.error.NodeError.{NodeError}
-use Rattle.bfs_cluster.proofs.Acting.{with_itself}
+use Rattle.bfs_cluster.proofs.Acting.{stands, with_itself}
 use Rattle.bfs_cluster.proofs.Each.{one_more}
-use Rattle.bfs_cluster.specs.Blocks.{requested}
+use Rattle.bfs_cluster.specs.Blocks.{HasRequests, requested}
 use Rattle.bfs_cluster.specs.Inside.Requests.{changed, changing, is_request, is_request_message, with_changed, with_requests}
-use Rattle.bfs_cluster.specs.Steps.{delivery, handed, unless_refused}
-use Rattle.bfs_cluster.specs.World.{Replica, World, done_if, node_if_heard}
+use Rattle.bfs_cluster.specs.Steps.{delivery, handed}
+use Rattle.bfs_cluster.specs.World.{Replica, SomeHeard, World, done_if, node_if_heard}
 
 -- Each replica changes -------------------------------------------------------------------------------------------------------
 
@@ -131,3 +132,64 @@ come (signed ∷ messages) all world =
     ap (λ (w : World). fold requested w messages) (requested_once signed both.0 world)
     ∙ come messages both.1 (record world { replicas = map (with_requests (signed ∷ [])) world.replicas })
     ∙ ap (λ (replicas : List Replica). record world { replicas = replicas }) (all_more signed messages world.replicas)
+
+-- Whether one is heard -----------------------------------------------------------------------------------------------------
+
+abbrev pub is_heard : Replica → Bool
+is_heard replica = replica.heard
+
+-- a replica as it is heard
+hears : (replica : Replica) (heard : Bool) → replica.heard ≡ heard → node_if_heard (Some replica) ≡ (if heard then Some replica.node else None)
+hears replica heard is = ap (λ (h : Bool). node_if_heard (Some (record { heard = h; node = replica.node }))) is
+
+heard_in : (replicas : List Replica) → list_any is_heard replicas ≡ true → (number : ℕ) × IsSome (node_if_heard (slice_get replicas number))
+heard_in [] any = absurd (true≢false (sym any))
+heard_in (replica ∷ rest) any = go replica.heard refl (heard_in rest)
+  where
+    go : (heard : Bool) → replica.heard ≡ heard → (list_any is_heard rest ≡ true → (number : ℕ) × IsSome (node_if_heard (slice_get rest number)))
+        → (number : ℕ) × IsSome (node_if_heard (slice_get (replica ∷ rest) number))
+    go true is later = (zero, ap is_some (hears replica true is))
+    go false is later =
+        let more = later (subst (λ (h : Bool). (h || list_any is_heard rest) ≡ true) is any) in
+        (suc more.0, more.1)
+
+pub some_heard : (world : World) → list_any is_heard world.replicas ≡ true → SomeHeard world
+some_heard world any = heard_in world.replicas any
+
+-- one that stands at a number
+pub heard_at : (world : World) (replicas : List Replica) (number : ℕ) (replica : Replica) → replicas ≡ world.replicas → number < length replicas
+    → replica ≡ get_or replicas number replica → replica.heard ≡ true → SomeHeard world
+heard_at world replicas number replica are within is heard = (
+  number,
+  ap is_some
+      (ap (λ (those : List Replica). node_if_heard (slice_get those number)) (sym are) ∙ ap node_if_heard (stands replicas number replica within is)
+      ∙ hears replica true heard),
+)
+
+silent : (replicas : List Replica) → list_any is_heard replicas ≡ false → (number : ℕ) → node_if_heard (slice_get replicas number) ≡ None
+silent [] none zero = refl
+silent [] none (suc number) = refl
+silent (replica ∷ rest) none zero = hears replica false (or_parts replica.heard (list_any is_heard rest) none).0
+silent (replica ∷ rest) none (suc number) = silent rest (or_parts replica.heard (list_any is_heard rest) none).1 number
+
+-- to a silent cluster no request comes
+module _ (world : World) (none : list_any is_heard world.replicas ≡ false) where
+  lost : (signed : Signed Message) (numbers : List ℕ) → fold (handed signed) world numbers ≡ world
+  lost signed [] = refl
+  lost signed (number ∷ numbers) =
+      ap (λ (node : Option Node). fold (handed signed) (done_if number world (node >>= delivery signed)) numbers) (silent world.replicas none number)
+      ∙ lost signed numbers
+
+  pub none_come : (messages : Log) → fold requested world messages ≡ world
+  none_come [] = refl
+  none_come (signed ∷ messages) =
+      ap (λ (w : World). fold requested w messages) (lost signed (range_with_len 0 (length world.replicas))) ∙ none_come messages
+
+-- Whether there is a request -----------------------------------------------------------------------------------------------
+
+pub none_is_there : (messages : Log) (world : World) → (length messages == 0) ≡ true → world ≡ fold requested world messages
+none_is_there [] world none = refl
+none_is_there (signed ∷ messages) world none = absurd (let never : suc (length messages) ≡ 0 = eqb-true _ _ none in omega (arith, never))
+
+pub has_requests : (messages : Log) (world : World) → (length messages == 0) ≡ false → list_any is_heard world.replicas ≡ true → HasRequests world messages
+has_requests messages world more any = ((λ none. true≢false (sym (ap (λ (all : Log). length all == 0) none) ∙ more)), some_heard world any)

@@ -1,6 +1,6 @@
 -- Replicas that are behind catch up, once nothing is left to be delivered and nothing is ready: each adopts the stable snapshot of one that is
 -- ahead (OSDI 1999 section 4.3).
-use Rattle.std.specs.Prelude.{◌≡◌, ℕ, zero, suc, ◌<◌, List, [], ◌∷◌, Option, Some, None, nat_lt, if◌then◌else◌}
+use Rattle.std.specs.Prelude.{◌≡◌, ℕ, zero, suc, ◌<◌, List, [], ◌∷◌, Option, Some, None, IsSome, nat_lt, if◌then◌else◌}
 use Rattle.bfs_model.specs.Bytes.Call.{◌>>=◌}
 use Rattle.bfs_checkpoints.specs.Keeping.{stable}
 use Rattle.bfs_log.specs.Logs.{Log}
@@ -37,6 +37,10 @@ ahead_of last (replica ∷ rest) = or_else (offered last replica) (ahead_of last
 -- to a replica, if it is heard
 abbrev pub offer_to : World → (number : ℕ) → Option Offer
 offer_to world number = node_at world number >>= (λ node. ahead_of node.order.last world.replicas)
+
+-- some replica is offered one
+abbrev pub HasOffer : World → Type 0
+HasOffer world = (number : ℕ) × IsSome (offer_to world number)
 
 -- What it makes of it ------------------------------------------------------------------------------------------------------
 

@@ -1,24 +1,17 @@
 -- The steps of a run, each of which the world alone tells: messages are delivered in the order in which they were sent, each to all other
 -- replicas by rising number; where none is left, each replica that is heard executes all that is ready, by rising number; and so on, until no
 -- message is left and nothing is ready. Then those that are behind catch up, and all begins anew, until none does.
-use Rattle.std.specs.Prelude.{◌≡◌, ℕ, zero, suc, ◌+◌, ◌==◌, Bool, ◌&&◌, List, [], ◌∷◌, ◌++◌, length, Option, Some, None, nat_lt, if◌then◌else◌}
+use Rattle.std.specs.Prelude.{◌≡◌, ℕ, zero, suc, ◌+◌, ◌<◌, ◌==◌, Bool, ◌&&◌, List, [], ◌∷◌, length, ◌⊎◌, Option, Some, None, IsSome, nat_lt, if◌then◌else◌}
 use Rattle.std.specs.List.{list_any}
-use Rattle.std.specs.Option.{option_map}
 use Rattle.bfs_model.specs.Bytes.Call.{◌>>=◌}
 use Rattle.bfs_messages.specs.declared.message.Message.{Message}
 use Rattle.bfs_messages.specs.declared.signed.Signed.{Signed}
-use Rattle.bfs_node.specs.Checkpoints.{checkpoint, checkpoint_refusal}
+use Rattle.bfs_node.specs.Advancing.{advancing, unless_refused}
 use Rattle.bfs_node.specs.Delivering.{delivered, delivery_refusal}
-use Rattle.bfs_node.specs.Executing.{execution, is_ready}
+use Rattle.bfs_node.specs.Executing.{is_ready}
 use Rattle.bfs_node.specs.Nodes.{Node, Outcome}
-use Rattle.bfs_node.specs.declared.error.NodeError.{NodeError}
-use Rattle.bfs_cluster.specs.CatchingUp.{AllCatchUp, AllStay, Times}
+use Rattle.bfs_cluster.specs.CatchingUp.{AllCatchUp, AllStay, HasOffer, Times}
 use Rattle.bfs_cluster.specs.World.{Broadcast, Replica, World, done_by, done_if, node_at}
-
--- what is done where it is not refused
-abbrev pub unless_refused : Option NodeError → Option Outcome → Option Outcome
-unless_refused None outcome = outcome
-unless_refused (Some refused) outcome = None
 
 -- Delivering ---------------------------------------------------------------------------------------------------------------
 
@@ -41,30 +34,15 @@ delivering world broadcast = if nat_lt broadcast.next (length world.replicas) th
 
 -- Executing ----------------------------------------------------------------------------------------------------------------
 
-abbrev pub followed_by : Outcome → Option Outcome → Outcome
-followed_by done None = done
-followed_by done (Some more) = record { now = more.now; sent = done.sent ++ more.sent }
-
--- a checkpoint is refused but of every 16th number
-abbrev pub with_checkpoint : Outcome → Outcome
-with_checkpoint done = followed_by done (unless_refused (checkpoint_refusal done.now) (checkpoint done.now))
-
-abbrev pub next_of : Option (Option Outcome) → Option Outcome
-next_of None = None
-next_of (Some next) = next
-
--- the next committed batch is executed, and a checkpoint made where one is due
-abbrev pub executing : Node → Option Outcome
-executing node = option_map with_checkpoint (next_of (execution node))
-
 abbrev pub turn_taken : World → (number : ℕ) → Option Outcome → World
 turn_taken world number None = record world { turn = Some (number + 1) }
 turn_taken world number (Some done) = done_by number world done
 
--- the replica executes one batch, or it is the next one's turn; once all had theirs, messages are delivered
+-- the replica executes one batch and makes the checkpoint that is due, or it is the next one's turn; once all had theirs, messages are
+-- delivered
 abbrev pub turning : World → (number : ℕ) → World
 turning world number =
-    if nat_lt number (length world.replicas) then turn_taken world number (node_at world number >>= executing) else record world { turn = None }
+    if nat_lt number (length world.replicas) then turn_taken world number (node_at world number >>= advancing) else record world { turn = None }
 
 -- Steps --------------------------------------------------------------------------------------------------------------------
 
@@ -89,24 +67,34 @@ abbrev pub after : (steps : ℕ) → World → World
 after zero world = world
 after (suc steps) world = onward world (step world) (λ next. after steps next)
 
--- the world comes to the other one by some number of steps, and no step is left there
-pub record Rests (world other : World) : Type 0 where
+-- where a replica executes a batch in the next step, `Executes` holds of its node
+abbrev pub ExecutesAt : (Executes : Node → Type 0) → World → Type 0
+ExecutesAt Executes world =
+    (number : ℕ) (node : Node) → world.turn ≡ Some number → node_at world number ≡ Some node → IsSome (advancing node) → Executes node
+
+-- a step is left, or a replica is offered a snapshot
+abbrev pub HasWork : World → Type 0
+HasWork world = IsSome (step world) ⊎ HasOffer world
+
+-- the world comes to the other one by some number of steps, and no step is left there; `Executes` holds before each batch that is executed
+pub record Rests (Executes : Node → Type 0) (world other : World) : Type 0 where
   pub steps : ℕ
   pub comes : after steps world ≡ other
+  pub executes : (k : ℕ) → k < steps → ExecutesAt Executes (after k world)
   pub ended : step other ≡ None
 
 -- Settling -----------------------------------------------------------------------------------------------------------------
 
 -- the world comes to rest, and then those that are behind catch up
-pub record Round (world other : World) : Type 0 where
+pub record Round (Executes : Node → Type 0) (world other : World) : Type 0 where
   pub rest : World
-  pub comes : Rests world rest
+  pub comes : Rests Executes world rest
   pub goes_on : AllCatchUp rest other
 
 -- so often, until the world comes to rest and none catches up
-pub record Settles (world other : World) : Type 0 where
+pub record Settles (Executes : Node → Type 0) (world other : World) : Type 0 where
   pub rounds : ℕ
   pub last : World
-  pub comes : Times Round rounds world last
-  pub rests : Rests last other
+  pub comes : Times (Round Executes) rounds world last
+  pub rests : Rests Executes last other
   pub ended : AllStay other

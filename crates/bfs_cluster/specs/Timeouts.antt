@@ -2,10 +2,10 @@
 use Rattle.std.specs.Prelude.{ℕ, ◌==◌, length, Option, Some, None, if◌then◌else◌}
 use Rattle.bfs_model.specs.Bytes.Call.{◌>>=◌}
 use Rattle.bfs_model.specs.Server.Tree.{Time}
+use Rattle.bfs_node.specs.Advancing.{unless_refused}
 use Rattle.bfs_node.specs.Changing.{timed_out, timeout_refusal}
 use Rattle.bfs_node.specs.Nodes.{Node, Outcome}
 use Rattle.bfs_cluster.specs.Blocks.{proposal, to_each}
-use Rattle.bfs_cluster.specs.Steps.{unless_refused}
 use Rattle.bfs_cluster.specs.World.{World, done_if, node_at}
 
 abbrev pub timing_out : Node → Option Outcome

@@ -1,11 +1,12 @@
 -- Replicas in one process, the messages between them, and what becomes of what one of them does.
-use Rattle.std.specs.Prelude.{ℕ, Bool, true, List, [], ◌∷◌, ◌++◌, map, slice_get, slice_set, Option, Some, None, if◌then◌else◌}
+use Rattle.std.specs.Prelude.{ℕ, Bool, true, List, [], ◌∷◌, ◌++◌, map, slice_get, slice_set, Option, Some, None, IsSome, if◌then◌else◌}
 use Rattle.std.specs.List.{fold, range_with_len}
 use Rattle.std.specs.Option.{option_map, unwrap_or}
 use Rattle.bfs_log.specs.Logs.{Log}
+use Rattle.bfs_model.specs.Bytes.Call.{◌>>=◌}
 use Rattle.bfs_messages.specs.declared.message.Message.{Message}
 use Rattle.bfs_messages.specs.declared.signed.Signed.{Signed}
-use Rattle.bfs_node.specs.Nodes.{Node, Outcome, new_node}
+use Rattle.bfs_node.specs.Nodes.{Node, Outcome, keys_of_replica, new_node}
 use Rattle.bfs_node.specs.Receivers.{receivers_of}
 use Rattle.bfs_node.specs.declared.receivers.Receivers.{Receivers}
 use Rattle.bfs_node.specs.declared.receivers.Receivers.TheVariants.{Replicas, Client}
@@ -41,7 +42,7 @@ pub record World : Type 0 where
 
 -- all are heard, and have done nothing
 abbrev pub new_replica : Settings → (number : ℕ) → Replica
-new_replica settings number = record { heard = true; node = new_node settings.f settings.clients settings.secret number }
+new_replica settings number = record { heard = true; node = new_node (keys_of_replica settings number) }
 
 abbrev pub new_world : Settings → World
 new_world settings = record {
@@ -51,6 +52,10 @@ new_world settings = record {
   turn = None;
   watched = None;
 }
+
+-- what a call leaves in which memory ran out: no replica, and nothing that was sent
+abbrev pub emptied : World
+emptied = record { replicas = []; queue = []; replies = []; turn = None; watched = None }
 
 -- Who watches ------------------------------------------------------------------------------------------------------------
 
@@ -83,6 +88,10 @@ node_if_heard (Some replica) = if replica.heard then Some replica.node else None
 abbrev pub node_at : World → (number : ℕ) → Option Node
 node_at world number = node_if_heard (slice_get world.replicas number)
 
+-- some replica is
+abbrev pub SomeHeard : World → Type 0
+SomeHeard world = (number : ℕ) × IsSome (node_at world number)
+
 -- What a replica does ------------------------------------------------------------------------------------------------------
 
 abbrev pub posted_to : (sender : ℕ) → World → Signed Message → Receivers → World
@@ -108,3 +117,7 @@ done_by number world done = fold (posted number) (with_node world number done.no
 abbrev pub done_if : (number : ℕ) → World → Option Outcome → World
 done_if number world None = world
 done_if number world (Some done) = done_by number world done
+
+-- some replica that is heard does something then
+abbrev pub SomeActs : (act : Node → Option Outcome) → World → Type 0
+SomeActs act world = (number : ℕ) × IsSome (node_at world number >>= act)

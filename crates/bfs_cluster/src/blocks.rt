@@ -1,7 +1,8 @@
-ghost use Rattle.std.specs.Prelude.{◌≡◌, true, fold, OnOk};
-ghost use Rattle.std.specs.List.{list_all};
-ghost use Rattle.bfs_cluster.specs.Blocks.{requested, with_block};
+ghost use Rattle.std.specs.Prelude.{◌≡◌, true, fold, OnErr, OnOk};
+ghost use Rattle.std.specs.List.{list_all, list_any};
+ghost use Rattle.bfs_cluster.specs.Blocks.{HasBlockWork, HasRequests, requested, with_block};
 ghost use Rattle.bfs_cluster.specs.Inside.Requests.{is_request};
+ghost use Rattle.bfs_cluster.specs.World.{emptied};
 
 use crate::acts::Act;
 use crate::cluster::Cluster;
@@ -11,32 +12,63 @@ use std::thread::Threads;
 
 impl Cluster {
     /// The requests of a block, signed by their clients, come to each replica that is heard; then each that is a primary proposes at that
-    /// time, also where there is no request: the time moves.
+    /// time, also where there is no request: the time moves. `Memory` if memory runs out; the cluster is empty then.
     pub fn send_block<R: Threads + Sync>(
         &mut self,
         rt: &R,
         time: Time,
         requests: &[Signed<Message>],
     ) -> Result<(), Memory>
-        ensures { OnOk result (self.new ≡ with_block self.old time requests.now) }
+        ensures ok { OnOk result (self.new ≡ with_block self.old time requests.now) }
+        ensures memory { OnErr result (HasBlockWork self.old time requests.now) }
+        ensures err { OnErr result (self.new ≡ emptied) }
+    {
+        match self.pass_block(rt, time, requests) {
+            Ok(()) => Ok(()),
+            Err(error) => {
+                self.empty();
+                Err(error)
+            }
+        }
+    }
+
+    fn pass_block<R: Threads + Sync>(
+        &mut self,
+        rt: &R,
+        time: Time,
+        requests: &[Signed<Message>],
+    ) -> Result<(), Memory>
+        ensures ok { OnOk result (self.new ≡ with_block self.old time requests.now) }
+        ensures memory { OnErr result (HasBlockWork self.old time requests.now) }
     {
         self.request_all(rt, time, requests)?;
         self.act(&Act::Propose(time))
     }
 
+    // They come nowhere where none is heard.
     fn request_all<R: Threads + Sync>(
         &mut self,
         rt: &R,
         time: Time,
         messages: &[Signed<Message>],
     ) -> Result<(), Memory>
-        ensures { OnOk result (self.new ≡ fold requested self.old messages.now) }
+        ensures ok { OnOk result (self.new ≡ fold requested self.old messages.now) }
+        ensures memory { OnErr result (HasRequests self.old messages.now) }
     {
+        if messages.is_empty() || !self.is_any_heard() {
+            return Ok(());
+        }
         if are_requests(messages) {
             self.take_requests(rt, time, messages)
         } else {
             self.request_each(rt, messages)
         }
+    }
+
+    fn is_any_heard(&self) -> bool
+        ensures { result ≡ list_any (λ replica. replica.heard) self.now.replicas }
+    {
+        self.replicas.iter().any(|replica| replica.heard)
     }
 
     // None makes a replica send anything.

@@ -1,10 +1,11 @@
 // Replicas that are behind adopt the stable snapshot of one that is ahead.
-ghost use Rattle.std.specs.Prelude.{◌≡◌, ◌<◌, List, ℕ, length, IfOk};
+ghost use Rattle.std.specs.Prelude.{◌≡◌, ◌<◌, List, ℕ, length, IsSome, IfOk, OnErr};
 ghost use Rattle.std.specs.Option.{option_map};
-ghost use Rattle.bfs_cluster.specs.CatchingUp.{Offer as Offered, ahead_of, offer_to};
+ghost use Rattle.bfs_cluster.specs.CatchingUp.{HasOffer, Offer as Offered, ahead_of, offer_to};
 ghost use Rattle.bfs_cluster.specs.Inside.Trying.{AllCatchUpIf, CatchesUpIf, TakesIf};
 
 use crate::cluster::Cluster;
+use bfs_checkpoints::StableSnapshot;
 use bfs_messages::{Message, Signed};
 use bfs_types::Memory;
 use std::sync::Wait;
@@ -21,7 +22,8 @@ impl Cluster {
     /// Each replica that is behind adopts, the lowest first, until none can; `false` where none could. It is asked for once no message is
     /// left and nothing is ready.
     pub(crate) fn catch_up<R: Threads + Wait + Sync>(&mut self, rt: &R) -> Result<bool, Memory>
-        ensures { IfOk result (λ any. AllCatchUpIf any self.old self.new) }
+        ensures caught { IfOk result (λ any. AllCatchUpIf any self.old self.new) }
+        ensures memory { OnErr result (HasOffer self.old) }
     {
         let mut any = false;
         for _ in rt.forever() {
@@ -34,7 +36,8 @@ impl Cluster {
     }
 
     fn adopt_lowest<R: Threads + Sync>(&mut self, rt: &R) -> Result<bool, Memory>
-        ensures { IfOk result (λ caught. CatchesUpIf caught self.old self.new) }
+        ensures caught { IfOk result (λ caught. CatchesUpIf caught self.old self.new) }
+        ensures memory { OnErr result (HasOffer self.old) }
     {
         for number in 0..self.replicas.len() {
             if self.adopt_at(rt, number)? {
@@ -46,7 +49,8 @@ impl Cluster {
 
     fn adopt_at<R: Threads + Sync>(&mut self, rt: &R, number: usize) -> Result<bool, Memory>
         requires { number < length self.old.replicas }
-        ensures { IfOk result (λ took. TakesIf took self.old number self.new) }
+        ensures took { IfOk result (λ took. TakesIf took self.old number self.new) }
+        ensures memory { OnErr result (IsSome (offer_to self.old number)) }
     {
         match self.offer_to(number)? {
             None => Ok(false),
@@ -58,7 +62,8 @@ impl Cluster {
 
     fn offer_to(&self, number: usize) -> Result<Option<Offer>, Memory>
         requires { number < length self.now.replicas }
-        ensures { IfOk result (λ offer. option_map {U = Offered} (λ copy. (copy.text.items, copy.certificate.items)) offer ≡ offer_to self.now number) }
+        ensures offer { IfOk result (λ offer. option_map {U = Offered} (λ copy. (copy.text.items, copy.certificate.items)) offer ≡ offer_to self.now number) }
+        ensures memory { OnErr result (IsSome (offer_to self.now number)) }
     {
         let replica = &self.replicas[number];
         if !replica.heard {
@@ -66,15 +71,15 @@ impl Cluster {
         }
         match self.ahead_of(replica.node.last_executed()) {
             None => Ok(None),
-            Some((text, certificate)) => Ok(Some(Offer {
-                text: self.copy_of(text)?,
-                certificate: self.copies_of(certificate)?,
+            Some(stable) => Ok(Some(Offer {
+                text: self.copy_of(stable.text)?,
+                certificate: self.copies_of(stable.certificate)?,
             })),
         }
     }
 
-    fn ahead_of(&self, last: u64) -> Option<(&[u8], &[Signed<Message>])>
-        ensures { option_map {U = Offered} (λ offer. (offer.0.now, offer.1.now)) result ≡ ahead_of last self.now.replicas }
+    fn ahead_of(&self, last: u64) -> Option<StableSnapshot<'_>>
+        ensures { option_map {U = Offered} (λ stable. (stable.text.now, stable.certificate.now)) result ≡ ahead_of last self.now.replicas }
     {
         for replica in &self.replicas {
             if let Some(offer) = replica.offer(last) {

@@ -1,10 +1,10 @@
 ghost use Rattle.std.specs.Prelude.{◌≡◌, false, true, [], IfOk};
-ghost use Rattle.bfs_cluster.specs.World.{hearing, new_world};
+ghost use Rattle.bfs_cluster.specs.World.{emptied, hearing, new_world};
 
 use crate::replica::Replica;
 use crate::watching::Sent;
 use bfs_messages::{Message, Signed};
-use bfs_node::{Executor, MOST_WORKERS, Node, Workers};
+use bfs_node::Node;
 use bfs_settings::Settings;
 use bfs_types::Memory;
 use std::alloc::Global;
@@ -27,8 +27,8 @@ impl Model for Broadcast {
     ghost view = { λ broadcast. record { sender = broadcast.sender; next = broadcast.next; signed = broadcast.signed } };
 }
 
-/// Replicas of one process, and the messages between them. After a call that answers `Memory`, messages may be lost and file systems
-/// failed: then nothing is said of what further calls leave.
+/// Replicas of one process, and the messages between them. A call that answers `Memory` leaves it empty: no replica, no message on its way
+/// and no reply is left, and nobody watches.
 #[derive(Drop)]
 pub struct Cluster {
     pub(crate) alloc: Global,
@@ -54,18 +54,16 @@ impl Model for Cluster {
 }
 
 impl Cluster {
-    /// As many replicas as the settings ask for, all heard, which have done nothing. Replica 0 executes as `executor` says, and each other
-    /// one with a worker more than the one before it, up to the most there can be and then from one on: nothing else depends on it.
+    /// As many replicas as the settings ask for, all heard, which have done nothing.
     #[tactic(auto, using(crate::proofs::Each::one_more_made))]
-    pub fn new(alloc: Global, settings: &Settings, executor: Executor) -> Result<Cluster, Memory>
+    pub fn new(alloc: Global, settings: &Settings) -> Result<Cluster, Memory>
         ensures { IfOk result (λ cluster. cluster ≡ new_world settings.now) }
     {
         let mut replicas = Vec::new(alloc);
         for number in 0..settings.replicas() {
             replicas.push(Replica {
                 heard: true,
-                node: Node::new(alloc, settings, number)?,
-                executor: executor_of(executor, number),
+                node: Node::of_settings(alloc, settings, number)?,
             })?;
         }
         Ok(Cluster {
@@ -107,16 +105,14 @@ impl Cluster {
     {
         std::mem::replace(&mut self.replies, Vec::new(self.alloc))
     }
-}
 
-// from one to the most there can be
-fn executor_of(executor: Executor, number: u32) -> Executor {
-    let before = (executor.workers.count() - 1 + number % MOST_WORKERS) % MOST_WORKERS;
-    match Workers::new(before + 1) {
-        Some(workers) => Executor {
-            workers,
-            ..executor
-        },
-        None => unreachable!(),
+    /// Once memory ran out, a message may be lost and a file system may have failed: nothing is kept.
+    pub(crate) fn empty(&mut self)
+        ensures { self.new ≡ emptied }
+    {
+        self.replicas = Vec::new(self.alloc);
+        self.queue = VecDeque::new(self.alloc);
+        self.replies = Vec::new(self.alloc);
+        self.watched = None;
     }
 }

@@ -13,7 +13,7 @@ mod stepping;
 mod timeouts;
 mod watching;
 
-pub use bfs_node::{Engine, Executor, Workers};
+pub use bfs_node::{Engine, Executor, Gate, NoGate, Workers};
 pub use cluster::Cluster;
 pub use laws::a_world_settles_once;
 pub use standings::Standing;

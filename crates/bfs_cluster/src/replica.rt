@@ -1,21 +1,23 @@
-ghost use Rattle.std.specs.Prelude.{◌≡◌, ◌≢◌, Some, None, map, IfOk, OnOk};
+ghost use Rattle.std.specs.Prelude.{◌≡◌, true, Some, None, IsSome, map, IfOk, OnErr, OnOk};
 ghost use Rattle.std.specs.Option.{option_map};
 ghost use Rattle.bfs_cluster.specs.Blocks.{proposal};
 ghost use Rattle.bfs_cluster.specs.CatchingUp.{Offer, offered};
-ghost use Rattle.bfs_cluster.specs.Inside.Acts.{Acts, CheckpointsAfter, deed, doing};
+ghost use Rattle.bfs_cluster.specs.Inside.Acts.{Acts, CheckpointsAfter, MayTake, deed, doing};
 ghost use Rattle.bfs_cluster.specs.Inside.Aside.{RunsOut};
 ghost use Rattle.bfs_cluster.specs.Inside.Requests.{with_requests};
 ghost use Rattle.bfs_cluster.specs.Inside.Trying.{Tries};
 ghost use Rattle.bfs_cluster.specs.Standings.{is_in};
-ghost use Rattle.bfs_cluster.specs.Steps.{delivery, executing};
+ghost use Rattle.bfs_cluster.specs.Steps.{delivery, has_ready};
 ghost use Rattle.bfs_cluster.specs.Timeouts.{timing_out, waiting_proposal};
-ghost use Rattle.bfs_node.specs.declared.error.NodeError.TheVariants as refusal;
-ghost use Rattle.bfs_order.specs.Replica.Installing.{number_of};
+ghost use Rattle.bfs_node.specs.Adopting.{may_adopt};
+ghost use Rattle.bfs_node.specs.Advancing.{advancing};
+ghost use Rattle.bfs_node.specs.Checkpoints.{checkpoint_refusal};
+ghost use Rattle.bfs_node.specs.Executing.{Runs};
 
 use crate::acts::Act;
-use bfs_log::header_of;
+use bfs_checkpoints::StableSnapshot;
 use bfs_messages::{Message, Signed};
-use bfs_node::{Executor, NoGate, Node, NodeError};
+use bfs_node::{Executor, Gate, Node, NodeError};
 use bfs_types::{Memory, Time};
 use std::alloc::Global;
 use std::marker::Model;
@@ -27,7 +29,6 @@ use std::thread::Threads;
 pub(crate) struct Replica {
     pub heard: bool,
     pub node: Node,
-    pub executor: Executor,
 }
 
 impl Model for Replica {
@@ -49,14 +50,16 @@ impl Replica {
         rt: &R,
         signed: Signed<Message>,
     ) -> Result<Option<Vec<Signed<Message>>>, Memory>
-        ensures { IfOk result (λ sent. Acts (doing (delivery signed) self.old) self.old self.new (option_map (λ all. all.items) sent)) }
+        ensures done { IfOk result (λ sent. Acts (doing (delivery signed) self.old) self.old self.new (option_map (λ all. all.items) sent)) }
+        ensures memory { OnErr result (MayTake signed self.old) }
     {
         if !self.heard {
             return Ok(None);
         }
         match self.node.take(rt, signed) {
             Ok(sent) => Ok(Some(sent)),
-            Err(error) => lost(error),
+            Err(NodeError::Memory) => Err(Memory),
+            Err(_) => Ok(None),
         }
     }
 
@@ -67,7 +70,8 @@ impl Replica {
         time: Time,
         messages: &[Signed<Message>],
     ) -> Result<(), Memory>
-        ensures { OnOk result (self.new ≡ with_requests messages.now self.old) }
+        ensures ok { OnOk result (self.new ≡ with_requests messages.now self.old) }
+        ensures memory { OnErr result (self.old.heard ≡ true) }
     {
         if self.heard {
             self.node.take_requests_for(rt, time, messages)?;
@@ -77,7 +81,8 @@ impl Replica {
 
     /// What it sends to do that; `None` where it refuses to.
     pub fn act(&mut self, alloc: Global, act: &Act) -> Result<Option<Vec<Signed<Message>>>, Memory>
-        ensures { IfOk result (λ sent. Acts (doing (deed act.now) self.old) self.old self.new (option_map (λ all. all.items) sent)) }
+        ensures done { IfOk result (λ sent. Acts (doing (deed act.now) self.old) self.old self.new (option_map (λ all. all.items) sent)) }
+        ensures memory { OnErr result (IsSome (doing (deed act.now) self.old)) }
     {
         match act {
             Act::Propose(time) => self.propose(alloc, *time),
@@ -88,7 +93,8 @@ impl Replica {
 
     // the requests that wait; `None` where it is no primary, or can't propose now
     fn propose(&mut self, alloc: Global, time: Time) -> Result<Option<Vec<Signed<Message>>>, Memory>
-        ensures { IfOk result (λ sent. Acts (doing (proposal time) self.old) self.old self.new (option_map (λ all. all.items) sent)) }
+        ensures done { IfOk result (λ sent. Acts (doing (proposal time) self.old) self.old self.new (option_map (λ all. all.items) sent)) }
+        ensures memory { OnErr result (IsSome (doing (proposal time) self.old)) }
     {
         if !self.heard {
             return Ok(None);
@@ -99,7 +105,8 @@ impl Replica {
                 sent.push(own)?;
                 Ok(Some(sent))
             }
-            Err(error) => lost(error),
+            Err(NodeError::Memory) => Err(Memory),
+            Err(_) => Ok(None),
         }
     }
 
@@ -108,7 +115,8 @@ impl Replica {
         alloc: Global,
         time: Time,
     ) -> Result<Option<Vec<Signed<Message>>>, Memory>
-        ensures { IfOk result (λ sent. Acts (doing (waiting_proposal time) self.old) self.old self.new (option_map (λ all. all.items) sent)) }
+        ensures done { IfOk result (λ sent. Acts (doing (waiting_proposal time) self.old) self.old self.new (option_map (λ all. all.items) sent)) }
+        ensures memory { OnErr result (IsSome (doing (waiting_proposal time) self.old)) }
     {
         if !self.heard || self.node.pending() == 0 {
             return Ok(None);
@@ -117,29 +125,35 @@ impl Replica {
     }
 
     fn time_out(&mut self) -> Result<Option<Vec<Signed<Message>>>, Memory>
-        ensures { IfOk result (λ sent. Acts (doing timing_out self.old) self.old self.new (option_map (λ all. all.items) sent)) }
+        ensures done { IfOk result (λ sent. Acts (doing timing_out self.old) self.old self.new (option_map (λ all. all.items) sent)) }
+        ensures memory { OnErr result (IsSome (doing timing_out self.old)) }
     {
         if !self.heard {
             return Ok(None);
         }
         let sent = match self.node.timeout() {
             Ok(sent) => sent,
-            Err(error) => return lost(error),
+            Err(NodeError::Memory) => return Err(Memory),
+            Err(_) => return Ok(None),
         };
         Ok(Some(sent))
     }
 
-    /// Executes the next committed batch, and makes the checkpoint that is due; `None` where no batch is next.
-    pub fn execute<R: Threads + Wait + Sync>(
+    /// Executes the next committed batch by the executor and the gate, and makes the checkpoint that is due; `None` where no batch is next.
+    pub fn execute<R: Threads + Wait + Sync, G: Gate + Sync>(
         &mut self,
         rt: &R,
+        executor: &Executor,
+        gate: &G,
     ) -> Result<Option<Vec<Signed<Message>>>, Memory>
-        ensures { IfOk result (λ sent. Acts (doing executing self.old) self.old self.new (option_map (λ all. all.items) sent)) }
+        ensures done { IfOk result (λ sent. Acts (doing advancing self.old) self.old self.new (option_map (λ all. all.items) sent)) }
+        ensures ran { IfOk result (λ sent. IsSome sent → Runs G.ran executor.now.engine self.old.node) }
+        ensures memory { OnErr result (has_ready self.old ≡ true) }
     {
-        if !self.heard {
+        if !self.is_ready() {
             return Ok(None);
         }
-        match self.node.execute_ready(rt, self.executor, &NoGate) {
+        match self.node.execute_ready(rt, *executor, gate) {
             Ok(Some(mut sent)) => {
                 self.make_checkpoint(rt, &mut sent)?;
                 Ok(Some(sent))
@@ -149,17 +163,27 @@ impl Replica {
         }
     }
 
+    /// Whether it is heard, and a batch is next.
+    pub fn is_ready(&self) -> bool
+        ensures { result ≡ has_ready self.now }
+    {
+        self.heard && self.node.is_ready()
+    }
+
     /// Executes all that is ready, as `execute` does one batch. It gives what it sends behind each.
-    pub fn execute_all<R: Threads + Wait + Sync>(
+    pub fn execute_all<R: Threads + Wait + Sync, G: Gate + Sync>(
         &mut self,
         rt: &R,
         alloc: Global,
+        executor: &Executor,
+        gate: &G,
     ) -> Result<Vec<Vec<Signed<Message>>>, Memory>
-        ensures { IfOk result (λ all. RunsOut (map (λ sent. sent.items) all.items) self.old self.new) }
+        ensures done { IfOk result (λ all. RunsOut (Runs G.ran executor.now.engine) (map (λ sent. sent.items) all.items) self.old self.new) }
+        ensures memory { OnErr result (has_ready self.old ≡ true) }
     {
         let mut all = Vec::new(alloc);
         for _ in rt.forever() {
-            match self.execute(rt)? {
+            match self.execute(rt, executor, gate)? {
                 Some(sent) => all.push(sent)?,
                 None => return Ok(all),
             }
@@ -174,16 +198,16 @@ impl Replica {
         self.heard && self.node.view() == view
     }
 
-    /// Its stable snapshot and the certificate, if its number is above that one.
-    pub fn offer(&self, last: u64) -> Option<(&[u8], &[Signed<Message>])>
-        ensures { option_map {U = Offer} (λ offer. (offer.0.now, offer.1.now)) result ≡ offered last self.now }
+    /// Its stable snapshot, if its number is above that one.
+    pub fn offer(&self, last: u64) -> Option<StableSnapshot<'_>>
+        ensures { option_map {U = Offer} (λ stable. (stable.text.now, stable.certificate.now)) result ≡ offered last self.now }
     {
         if !self.heard {
             return None;
         }
-        let (text, certificate) = self.node.stable()?;
-        if last < number_in(certificate) {
-            Some((text, certificate))
+        let stable = self.node.stable()?;
+        if last < stable.number {
+            Some(stable)
         } else {
             None
         }
@@ -196,7 +220,8 @@ impl Replica {
         text: &[u8],
         certificate: &[Signed<Message>],
     ) -> Result<bool, Memory>
-        ensures { IfOk result (λ took. Tries took self.old text.now certificate.now self.new) }
+        ensures tried { IfOk result (λ took. Tries took self.old text.now certificate.now self.new) }
+        ensures memory { OnErr result (may_adopt self.old.node certificate.now ≡ true) }
     {
         match self.node.adopt(rt, text, certificate) {
             Ok(()) => Ok(true),
@@ -211,33 +236,13 @@ impl Replica {
         rt: &R,
         sent: &mut Vec<Signed<Message>>,
     ) -> Result<(), Memory>
-        ensures { OnOk result (CheckpointsAfter self.old sent.old.items self.new sent.new.items) }
+        ensures done { OnOk result (CheckpointsAfter self.old sent.old.items self.new sent.new.items) }
+        ensures memory { OnErr result (checkpoint_refusal self.old.node ≡ None) }
     {
         match self.node.checkpoint(rt) {
             Ok(signed) => Ok(sent.push(signed)?),
-            Err(NodeError::Memory | NodeError::Failed) => Err(Memory),
+            Err(NodeError::Memory) => Err(Memory),
             Err(_) => Ok(()),
         }
-    }
-}
-
-fn number_in(certificate: &[Signed<Message>]) -> u64
-    ensures { result ≡ number_of certificate.now }
-{
-    match certificate.first() {
-        None => 0,
-        Some(first) => header_of(&first.message).number,
-    }
-}
-
-// what a refused call sends
-fn lost(error: NodeError) -> Result<Option<Vec<Signed<Message>>>, Memory>
-    ensures nothing { IfOk result (λ sent. sent ≡ None) }
-    ensures refused { OnOk result (error ≢ refusal.Memory) }
-{
-    match error {
-        // a file system fails only where memory runs out
-        NodeError::Memory | NodeError::Failed => Err(Memory),
-        _ => Ok(None),
     }
 }

@@ -3,10 +3,12 @@ ghost use Rattle.std.specs.Prelude.{◌≡◌, true, [], None, Some, Ok, All, le
 ghost use Rattle.std.specs.List.{AllZip, fold};
 ghost use Rattle.bfs_cluster.specs.Inside.Aside.{AreBack, CameOut, CameTo, Goes, back};
 ghost use Rattle.bfs_cluster.specs.Inside.Requests.{with_requests};
+ghost use Rattle.bfs_node.specs.Executing.{Runs};
 
 use crate::cluster::Cluster;
 use crate::replica::Replica;
 use bfs_messages::{Message, Signed};
+use bfs_node::{Executor, Gate, MOST_WORKERS, Workers};
 use bfs_types::{Memory, Time};
 use rayon::prelude::*;
 use std::alloc::Global;
@@ -39,10 +41,16 @@ impl Busy {
         self.came = self.replica.take_requests(rt, time, messages);
     }
 
-    fn execute_all<R: Threads + Wait + Sync>(&mut self, rt: &R, alloc: Global)
-        ensures { CameOut self.old self.new }
+    fn execute_all<R: Threads + Wait + Sync, G: Gate + Sync>(
+        &mut self,
+        rt: &R,
+        alloc: Global,
+        executor: &Executor,
+        gate: &G,
+    )
+        ensures { CameOut (Runs G.ran executor.now.engine) self.old self.new }
     {
-        match self.replica.execute_all(rt, alloc) {
+        match self.replica.execute_all(rt, alloc, executor, gate) {
             Ok(sent) => {
                 self.sent = sent;
                 self.came = Ok(());
@@ -70,12 +78,17 @@ impl Cluster {
 
     /// Each replica that is heard executes all that is ready, and makes the checkpoints that are due; as many threads as there are processors
     /// share the replicas out among them. Then what each sends is posted, by rising number.
-    pub(crate) fn execute_each<R: Threads + Wait + Sync>(&mut self, rt: &R) -> Result<(), Memory>
+    pub(crate) fn execute_each<R: Threads + Wait + Sync, G: Gate + Sync>(
+        &mut self,
+        rt: &R,
+        executor: &Executor,
+        gate: &G,
+    ) -> Result<(), Memory>
         requires { self.old.turn ≡ None }
-        ensures { OnOk result (Goes true (record self.old { turn = Some 0 }) self.new) }
+        ensures { OnOk result (Goes (Runs G.ran executor.now.engine) true (record self.old { turn = Some 0 }) self.new) }
     {
         let mut all = self.take_out()?;
-        execute_all(rt, self.alloc, all.as_mut_slice());
+        execute_all(rt, self.alloc, all.as_mut_slice(), executor, gate);
         self.put_back(all)
     }
 
@@ -134,15 +147,36 @@ fn take_requests_all<R: Threads + Sync>(
     );
 }
 
-fn execute_all<R: Threads + Wait + Sync>(rt: &R, alloc: Global, all: &mut [Busy])
-    ensures each { AllZip CameOut all.old all.new }
+fn execute_all<R: Threads + Wait + Sync, G: Gate + Sync>(
+    rt: &R,
+    alloc: Global,
+    all: &mut [Busy],
+    executor: &Executor,
+    gate: &G,
+)
+    ensures each { AllZip (CameOut (Runs G.ran executor.now.engine)) all.old all.new }
     ensures len { length all.new ≡ length all.old }
 {
     par_for_each_mut(
         rt,
         all,
-        |_number: usize, one: &mut Busy|
-            ensures { CameOut one.old one.new }
-        { one.execute_all(rt, alloc) },
+        |number: usize, one: &mut Busy|
+            ensures { CameOut (Runs G.ran executor.entry.now.engine) one.old one.new }
+        { one.execute_all(rt, alloc, &executor_of(executor, number), gate) },
     );
+}
+
+// with so many workers more, up to the most there can be and then from one on
+fn executor_of(executor: &Executor, number: usize) -> Executor
+    ensures { result.engine ≡ executor.now.engine }
+{
+    let more = (number % MOST_WORKERS as usize) as u32;
+    let before = (executor.workers.count() - 1 + more) % MOST_WORKERS;
+    match Workers::new(before + 1) {
+        Some(workers) => Executor {
+            workers,
+            engine: executor.engine,
+        },
+        None => unreachable!(),
+    }
 }

@@ -1,5 +1,6 @@
-ghost use Rattle.std.specs.Prelude.{◌≡◌, Some, IfOk, count_by, length};
+ghost use Rattle.std.specs.Prelude.{◌≡◌, None, Some, IfOk, IsErr, OnErr, count_by, length};
 ghost use Rattle.bfs_cluster.specs.Standings.{are_in, common_view, is_in, most_executed, quorum, standing_at, standings};
+ghost use Rattle.bfs_cluster.specs.World.{SomeHeard};
 
 use crate::cluster::Cluster;
 use crate::replica::Replica;
@@ -16,9 +17,12 @@ pub enum Standing {
 }
 
 impl Cluster {
-    /// Where each replica that is heard stands, by rising number.
+    /// Where each replica that is heard stands, by rising number. `Memory` if memory runs out, and where it ran out before: where a replica
+    /// that is heard and has executed the most has a file system that has failed.
     pub fn standings<R: Threads + Sync>(&self, rt: &R) -> Result<Vec<Standing>, Memory>
-        ensures { IfOk result (λ all. standings self.now ≡ Some all.items) }
+        ensures ok { IfOk result (λ all. standings self.now ≡ Some all.items) }
+        ensures failed { standings self.now ≡ None → IsErr result }
+        ensures memory { OnErr result (SomeHeard self.now) }
     {
         let most = self.most_executed();
         let mut all = Vec::new(self.alloc);

@@ -1,27 +1,55 @@
-ghost use Rattle.std.specs.Prelude.{◌≡◌, ◌<◌, ◌+◌, None, [], ◌∷◌, length, map, IfOk, OnOk};
+ghost use Rattle.std.specs.Prelude.{◌≡◌, ◌<◌, ◌+◌, None, [], ◌∷◌, length, map, IfOk, IsSome, OnErr, OnOk};
 ghost use Rattle.std.specs.List.{fold, list_any};
 ghost use Rattle.std.specs.Option.{option_map};
 ghost use Rattle.bfs_cluster.specs.Inside.Acts.{posted_if};
 ghost use Rattle.bfs_cluster.specs.Inside.Aside.{Goes, posted_all};
-ghost use Rattle.bfs_cluster.specs.Steps.{Rests, Settles, delivering, handed, has_ready};
-ghost use Rattle.bfs_cluster.specs.World.{posted};
+ghost use Rattle.bfs_cluster.specs.Steps.{HasWork, Rests, Settles, delivering, handed, has_ready, step};
+ghost use Rattle.bfs_cluster.specs.World.{emptied, posted};
+ghost use Rattle.bfs_node.specs.Executing.{Runs};
 
 use crate::cluster::{Broadcast, Cluster};
 use crate::replica::Replica;
 use bfs_messages::{Message, Signed};
-use bfs_node::{Receivers, receivers_of};
+use bfs_node::{Executor, Gate, Receivers, receivers_of};
 use bfs_types::Memory;
 use std::sync::Wait;
 use std::thread::Threads;
 
 impl Cluster {
     /// Delivers messages and executes what is ready, until no message is left and nothing is ready. Then replicas that are behind catch
-    /// up, and all begins anew, until none does.
-    pub fn settle<R: Threads + Wait + Sync>(&mut self, rt: &R) -> Result<(), Memory>
-        ensures { OnOk result (Settles self.old self.new) }
+    /// up, and all begins anew, until none does. Replica 0 executes as `executor` says, and each other one with a worker more than the one
+    /// before it, up to the most there can be and then from one on; where there is an engine, each new request is run by the gate, but those
+    /// that may touch any inode. `Memory` if memory runs out; the cluster is empty then.
+    pub fn settle<R: Threads + Wait + Sync, G: Gate + Sync>(
+        &mut self,
+        rt: &R,
+        executor: Executor,
+        gate: &G,
+    ) -> Result<(), Memory>
+        ensures ok { OnOk result (Settles (Runs G.ran executor.engine) self.old self.new) }
+        ensures memory { OnErr result (HasWork self.old) }
+        ensures err { OnErr result (self.new ≡ emptied) }
+    {
+        match self.go_on(rt, &executor, gate) {
+            Ok(()) => Ok(()),
+            Err(error) => {
+                self.empty();
+                Err(error)
+            }
+        }
+    }
+
+    fn go_on<R: Threads + Wait + Sync, G: Gate + Sync>(
+        &mut self,
+        rt: &R,
+        executor: &Executor,
+        gate: &G,
+    ) -> Result<(), Memory>
+        ensures ok { OnOk result (Settles (Runs G.ran executor.now.engine) self.old self.new) }
+        ensures memory { OnErr result (HasWork self.old) }
     {
         for _ in rt.forever() {
-            self.rest(rt)?;
+            self.rest(rt, executor, gate)?;
             if !self.catch_up(rt)? {
                 return Ok(());
             }
@@ -29,11 +57,17 @@ impl Cluster {
         unreachable!()
     }
 
-    fn rest<R: Threads + Wait + Sync>(&mut self, rt: &R) -> Result<(), Memory>
-        ensures { OnOk result (Rests self.old self.new) }
+    fn rest<R: Threads + Wait + Sync, G: Gate + Sync>(
+        &mut self,
+        rt: &R,
+        executor: &Executor,
+        gate: &G,
+    ) -> Result<(), Memory>
+        ensures ok { OnOk result (Rests (Runs G.ran executor.now.engine) self.old self.new) }
+        ensures memory { OnErr result (IsSome (step self.old)) }
     {
         for _ in rt.forever() {
-            if !self.go(rt)? {
+            if !self.go(rt, executor, gate)? {
                 return Ok(());
             }
         }
@@ -41,39 +75,47 @@ impl Cluster {
     }
 
     // `false` where no step is left
-    fn go<R: Threads + Wait + Sync>(&mut self, rt: &R) -> Result<bool, Memory>
-        ensures { IfOk result (λ went. Goes went self.old self.new) }
+    fn go<R: Threads + Wait + Sync, G: Gate + Sync>(
+        &mut self,
+        rt: &R,
+        executor: &Executor,
+        gate: &G,
+    ) -> Result<bool, Memory>
+        ensures goes { IfOk result (λ went. Goes (Runs G.ran executor.now.engine) went self.old self.new) }
+        ensures memory { OnErr result (IsSome (step self.old)) }
     {
         match self.queue.pop_front() {
             Some(broadcast) => {
                 self.deliver(rt, broadcast)?;
                 Ok(true)
             }
-            None => self.execute_if_ready(rt),
+            None => self.execute_if_ready(rt, executor, gate),
         }
     }
 
     // `false` where nothing is ready
-    fn execute_if_ready<R: Threads + Wait + Sync>(&mut self, rt: &R) -> Result<bool, Memory>
+    fn execute_if_ready<R: Threads + Wait + Sync, G: Gate + Sync>(
+        &mut self,
+        rt: &R,
+        executor: &Executor,
+        gate: &G,
+    ) -> Result<bool, Memory>
         requires turn { self.old.turn ≡ None }
         requires queue { self.old.queue ≡ [] }
-        ensures { IfOk result (λ went. Goes went self.old self.new) }
+        ensures goes { IfOk result (λ went. Goes (Runs G.ran executor.now.engine) went self.old self.new) }
+        ensures memory { OnErr result (IsSome (step self.old)) }
     {
         if !self.is_any_ready() {
             return Ok(false);
         }
-        self.execute_each(rt)?;
+        self.execute_each(rt, executor, gate)?;
         Ok(true)
     }
 
     fn is_any_ready(&self) -> bool
         ensures { result ≡ list_any has_ready self.now.replicas }
     {
-        self.replicas.iter().any(
-            |replica: &Replica| -> bool
-                ensures { result ≡ has_ready replica.now }
-            { replica.heard && replica.node.is_ready() },
-        )
+        self.replicas.iter().any(|replica| replica.is_ready())
     }
 
     // the next receiver of a broadcast has it
@@ -124,7 +166,8 @@ impl Cluster {
         sender: usize,
         sent: Option<Vec<Signed<Message>>>,
     ) -> Result<(), Memory>
-        ensures { OnOk result (self.new ≡ posted_if sender self.old (option_map (λ all. all.items) sent)) }
+        ensures ok { OnOk result (self.new ≡ posted_if sender self.old (option_map (λ all. all.items) sent)) }
+        ensures memory { OnErr result (IsSome sent) }
     {
         match sent {
             Some(sent) => self.post(sender, sent),

@@ -1,4 +1,5 @@
-//! Replicas in one process, as tests: what they answer, where they stand at the end, their checkpoints, and how they catch up.
+//! Replicas in one process, as tests: what they answer, where they stand at the end, their checkpoints, how they catch up, and that nothing is
+//! left where memory runs out.
 #![tactic(auto)]
 
 #[cfg(test)]
@@ -7,6 +8,8 @@ mod blocks;
 mod catching_up;
 #[cfg(test)]
 mod checkpoints;
+#[cfg(test)]
+mod emptied;
 #[cfg(test)]
 mod run;
 #[cfg(test)]

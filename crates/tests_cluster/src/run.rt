@@ -1,6 +1,6 @@
 //! A run of four replicas, of which one may be faulty, and of two clients.
 use bfs_clients::Clients;
-use bfs_cluster::{Cluster, Executor, Standing, Workers};
+use bfs_cluster::{Cluster, Executor, NoGate, Standing};
 use bfs_messages::{Message, Request, Signed};
 use bfs_settings::{Settings, SettingsError};
 use bfs_testing::words::call;
@@ -22,15 +22,10 @@ pub fn two_clients(alloc: Global) -> Result<Clients, Fail> {
     Ok(Clients::new(alloc, &settings)?)
 }
 
-/// Four replicas, each of which executes one request after another.
+/// Four replicas that have done nothing.
 pub fn four_replicas(alloc: Global) -> Result<Cluster, Fail> {
     let settings = settings(alloc)?;
-    let workers = Workers::new(1).ok_or("one worker")?;
-    let executor = Executor {
-        workers,
-        engine: None,
-    };
-    Ok(Cluster::new(alloc, &settings, executor)?)
+    Ok(Cluster::new(alloc, &settings)?)
 }
 
 // no test needs what the contract says of it
@@ -80,7 +75,7 @@ fn sign(
     Ok(clients.sign(request)?.ok_or("a client")?)
 }
 
-/// Sends a block of that time, in seconds, and delivers messages until there are none.
+/// Sends a block of that time, in seconds, and delivers messages until there are none. Each replica executes one request after another.
 pub fn run_block<R: Threads + Wait + Sync>(
     rt: &R,
     cluster: &mut Cluster,
@@ -89,7 +84,7 @@ pub fn run_block<R: Threads + Wait + Sync>(
 ) -> Result<(), Fail> {
     let time = Time::new(seconds, 0).ok_or("a time")?;
     cluster.send_block(rt, time, requests)?;
-    Ok(cluster.settle(rt)?)
+    Ok(cluster.settle(rt, Executor::serial(), &NoGate)?)
 }
 
 /// How many replies clients were sent.

@@ -2,7 +2,7 @@
 use crate::lines::{Sender, line_of};
 use anyhow::Error;
 use bfs_clients::Clients;
-use bfs_cluster::{Cluster, Executor, Workers};
+use bfs_cluster::{Cluster, Executor, NoGate};
 use bfs_messages::{Message, Request, Signed};
 use bfs_settings::Settings;
 use bfs_trace::{Block, TraceEvent};
@@ -48,13 +48,8 @@ pub fn watch_trace<R: Runtime + AllocGlobal + Threads + Wait + Sync>(
     Ok(())
 }
 
-// one request is executed after another, since that changes no message
 fn begin(alloc: Global, settings: &Settings) -> Result<Watched, Memory> {
-    let executor = Executor {
-        workers: Workers::one(),
-        engine: None,
-    };
-    let mut cluster = Cluster::new(alloc, settings, executor)?;
+    let mut cluster = Cluster::new(alloc, settings)?;
     cluster.watch();
     let mut heard = Vec::new(alloc);
     for _ in 0..settings.replicas() {
@@ -113,11 +108,12 @@ fn watch_timeout<R: Runtime + AllocGlobal + Threads + Wait + Sync>(
     watch_settling(rt, watched)
 }
 
+// one request is executed after another, since that changes no message
 fn watch_settling<R: Runtime + AllocGlobal + Threads + Wait + Sync>(
     rt: &R,
     watched: &mut Watched,
 ) -> Result<(), Error> {
-    watched.cluster.settle(rt)?;
+    watched.cluster.settle(rt, Executor::serial(), &NoGate)?;
     for sent in watched.cluster.take_sent() {
         let sender = Sender::Replica(sent.sender);
         let line = line_of(

@@ -3,10 +3,12 @@ use Rattle.std.specs.Prelude.{◌≡◌, ℕ, true, Option, Some, None}
 use Rattle.std.specs.List.{fold}
 use Rattle.bfs_log.specs.Logs.{Log}
 use Rattle.bfs_model.specs.Bytes.Call.{◌>>=◌}
-use Rattle.bfs_node.specs.Checkpoints.{checkpoint, checkpoint_refusal}
+use Rattle.bfs_messages.specs.declared.message.Message.{Message}
+use Rattle.bfs_messages.specs.declared.signed.Signed.{Signed}
+use Rattle.bfs_node.specs.Advancing.{with_due_checkpoint}
+use Rattle.bfs_node.specs.Delivering.{early_refusal}
 use Rattle.bfs_node.specs.Nodes.{Node, Outcome}
 use Rattle.bfs_cluster.specs.Blocks.{proposal}
-use Rattle.bfs_cluster.specs.Steps.{followed_by, unless_refused}
 use Rattle.bfs_cluster.specs.Timeouts.{timing_out, waiting_proposal}
 use Rattle.bfs_cluster.specs.World.{Replica, World, done_if, node_at, node_if_heard, posted}
 use Rattle.bfs_cluster.specs.declared.acts.Act.{Act}
@@ -18,8 +20,12 @@ deed (act.Propose time) = proposal time
 deed (act.ProposeWaiting time) = waiting_proposal time
 deed act.TimeOut = timing_out
 
+-- as the one of that number, if it is heard
+abbrev pub deed_at : Act → World → (number : ℕ) → Option Outcome
+deed_at act world number = node_at world number >>= deed act
+
 abbrev pub acting : Act → World → (number : ℕ) → World
-acting act world number = done_if number world (node_at world number >>= deed act)
+acting act world number = done_if number world (deed_at act world number)
 
 -- what a replica that is heard does
 abbrev pub doing : (act : Node → Option Outcome) → Replica → Option Outcome
@@ -30,11 +36,14 @@ abbrev pub Acts : (done : Option Outcome) → (old new : Replica) → (sent : Op
 Acts None old new sent = (new ≡ old) × (sent ≡ None)
 Acts (Some done) old new sent = (new ≡ record { heard = true; node = done.now }) × (sent ≡ Some done.sent)
 
+-- it is heard, and refuses that message for nothing but the proposals of a new view
+abbrev pub MayTake : Signed Message → Replica → Type 0
+MayTake signed replica = (replica.heard ≡ true) × (early_refusal replica.node signed ≡ None)
+
 -- a checkpoint was made where one was due, and its message is behind what was to be sent
 abbrev pub CheckpointsAfter : (old : Replica) → (to_send : Log) → (new : Replica) → (sent : Log) → Type 0
 CheckpointsAfter old to_send new sent =
-    (new.heard ≡ old.heard)
-    × (followed_by (record { now = old.node; sent = to_send }) (unless_refused (checkpoint_refusal old.node) (checkpoint old.node)) ≡ record { now = new.node; sent = sent })
+    (new.heard ≡ old.heard) × (with_due_checkpoint (record { now = old.node; sent = to_send }) ≡ record { now = new.node; sent = sent })
 
 -- all that is sent, if anything is
 abbrev pub posted_if : (sender : ℕ) → World → Option Log → World

@@ -1,21 +1,24 @@
 -- What replicas come to that are busy side by side.
-use Rattle.std.specs.Prelude.{◌≡◌, ℕ, Bool, true, false, List, [], ◌∷◌, ◌++◌, length, map, Some, None, Ok, OnOk, ⊤}
+use Rattle.std.specs.Prelude.{◌≡◌, ◌<◌, ℕ, Bool, true, false, List, [], ◌∷◌, ◌++◌, length, map, Some, None, Ok, OnOk, ⊤}
 use Rattle.std.specs.List.{fold}
 use Rattle.bfs_log.specs.Logs.{Log}
+use Rattle.bfs_node.specs.Advancing.{advancing}
+use Rattle.bfs_node.specs.Nodes.{Node}
 use Rattle.bfs_cluster.specs.Inside.Acts.{Acts, doing}
 use Rattle.bfs_cluster.specs.Inside.Requests.{with_requests}
-use Rattle.bfs_cluster.specs.Steps.{after, executing, step}
+use Rattle.bfs_cluster.specs.Steps.{ExecutesAt, after, step}
 use Rattle.bfs_cluster.specs.World.{Replica, World, posted}
 use Rattle.bfs_cluster.specs.declared.side_by_side.Busy.{Busy}
 
--- one batch after the other was executed, and that was sent behind each
-abbrev pub Executes : (sent : List Log) → (old new : Replica) → Type 0
-Executes [] old new = new ≡ old
-Executes (first ∷ rest) old new = (between : Replica) × Acts (doing executing old) old between (Some first) × Executes rest between new
+-- one batch after the other was executed, and that was sent behind each; `Executes` held before each
+abbrev pub Ran : (Executes : Node → Type 0) → (sent : List Log) → (old new : Replica) → Type 0
+Ran Executes [] old new = new ≡ old
+Ran Executes (first ∷ rest) old new =
+    (between : Replica) × Acts (doing advancing old) old between (Some first) × Executes old.node × Ran Executes rest between new
 
 -- all that were ready
-abbrev pub RunsOut : (sent : List Log) → (old new : Replica) → Type 0
-RunsOut sent old new = Executes sent old new × (doing executing new ≡ None)
+abbrev pub RunsOut : (Executes : Node → Type 0) → (sent : List Log) → (old new : Replica) → Type 0
+RunsOut Executes sent old new = Ran Executes sent old new × (doing advancing new ≡ None)
 
 abbrev pub sent_by : Busy → List Log
 sent_by one = map (λ sent. sent.items) one.sent.items
@@ -26,8 +29,8 @@ AreBack [] = ⊤
 AreBack (one ∷ rest) = (one.came ≡ Ok tt) × AreBack rest
 
 -- it has executed, if there was memory
-abbrev pub CameOut : (old new : Busy) → Type 0
-CameOut old new = OnOk new.came (RunsOut (sent_by new) old.replica new.replica)
+abbrev pub CameOut : (Executes : Node → Type 0) → (old new : Busy) → Type 0
+CameOut Executes old new = OnOk new.came (RunsOut Executes (sent_by new) old.replica new.replica)
 
 -- requests came to it, if there was memory, and it sends what it was to send before
 abbrev pub CameTo : Log → (old new : Busy) → Type 0
@@ -40,7 +43,17 @@ posted_all sender world all = fold (fold (posted sender)) world all
 abbrev pub back : World → Busy → World
 back world one = posted_all (length world.replicas) (record world { replicas = world.replicas ++ one.replica ∷ [] }) (sent_by one)
 
+-- `Executes` holds before each batch that is executed in so many steps
+abbrev pub ExecutesIn : (Executes : Node → Type 0) → World → (steps : ℕ) → Type 0
+ExecutesIn Executes world steps = (k : ℕ) → k < steps → ExecutesAt Executes (after k world)
+
+-- the world comes to the other one by some number of steps
+pub record Comes (Executes : Node → Type 0) (world other : World) : Type 0 where
+  pub steps : ℕ
+  pub comes : after steps world ≡ other
+  pub executes : ExecutesIn Executes world steps
+
 -- steps were made, or none is left
-abbrev pub Goes : (went : Bool) → (old new : World) → Type 0
-Goes true old new = (steps : ℕ) × (after steps old ≡ new)
-Goes false old new = (new ≡ old) × (step old ≡ None)
+abbrev pub Goes : (Executes : Node → Type 0) → (went : Bool) → (old new : World) → Type 0
+Goes Executes true old new = Comes Executes old new
+Goes Executes false old new = (new ≡ old) × (step old ≡ None)

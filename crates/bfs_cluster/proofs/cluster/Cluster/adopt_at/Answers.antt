@@ -6,12 +6,12 @@ use Rattle.bfs_cluster.proofs.Acting.{stands, with_replica}
 use Rattle.bfs_cluster.proofs.Catching.{copied, if_tried}
 use Rattle.bfs_cluster.proofs.cluster.Cluster.adopt_at.Goals as goal
 
-pub returns-in-Some : goal.returns-in-Some
-returns-in-Some g c =
+pub returns-in-Some-clause-took : goal.returns-in-Some-clause-took
+returns-in-Some-clause-took g c =
     if_tried c.adopt.result c.args.self.now c.args.number c.index_mut.result.now c.adopt.new.self c.as_slice.result.now c.as_slice-in-Some.result.now _
     (ap (λ (world : World). slice_get world.replicas c.args.number) (sym c.self.view_is)
     ∙ stands c.self.inside.replicas.items c.args.number c.index_mut.result.now (rw (← c.self.view_is) at c.requires) c.index_mut.ensures.value)
     (copied (λ (copy : Copy). (copy.text.items, copy.certificate.items)) c.in_ok-offer_to.field-0 c.in-Some.offer _ c.as_slice.result.now c.as_slice-in-Some.result.now
-    c.in_ok-offer_to.ensures c.in-Some.is c.as_slice.ensures.value c.as_slice-in-Some.ensures.value)
+    c.in_ok-offer_to.ensures.offer c.in-Some.is c.as_slice.ensures.value c.as_slice-in-Some.ensures.value)
     (ap (λ (world : World). with_replica world c.args.number c.adopt.new.self) c.self.view_is)
-    c.adopt.ensures
+    c.adopt.ensures.tried

@@ -1,6 +1,7 @@
 use Rattle.std.proofs.Common.{ap, arith, length, subst, sym, true, List, Some, ◌∙◌, ◌≡◌, []}
 use Rattle.std.specs.List.{AllZip, fold}
 use Rattle.std.proofs.lemmas.Result.{on_ok_weaker}
+use Rattle.bfs_node.specs.Executing.{Runs}
 use Rattle.bfs_cluster.specs.Inside.Aside.{AreBack, CameOut, Goes, back}
 use Rattle.bfs_cluster.specs.declared.side_by_side.Busy.{Busy}
 use Rattle.bfs_cluster.proofs.Aside.{came_back, have_executed, written}
@@ -8,6 +9,7 @@ use Rattle.bfs_cluster.proofs.cluster.Cluster.execute_each.Goals as goal
 
 pub returns : goal.returns
 returns g c =
+    let Executes = Runs g.G.Gate.ran c.args.executor.now.engine in
     let world = c.args.self.now in
     let before = c.in_ok-all.all.items in
     let now = c.execute_all.new.all in
@@ -16,8 +18,8 @@ returns g c =
     (λ both.
     let came : c.put_back.new.self ≡ fold back (record world { replicas = [] }) now =
     came_back is c.in_ok-all.ensures.now both.1 in
-    subst (Goes true (record world { turn = Some 0 })) (sym came)
-    (have_executed world before now c.requires c.in_ok-all.ensures.all
-    (subst (λ (all : List Busy). AllZip CameOut all now) c.as_mut_slice.ensures.value c.execute_all.ensures.each)
+    subst (Goes Executes true (record world { turn = Some 0 })) (sym came)
+    (have_executed Executes world before now c.requires c.in_ok-all.ensures.all
+    (subst (λ (all : List Busy). AllZip (CameOut Executes) all now) c.as_mut_slice.ensures.value c.execute_all.ensures.each)
     (subst AreBack is both.0)))
     c.put_back.ensures

@@ -1,7 +1,0 @@
-use Rattle.std.proofs.Common.{ℕ}
-use Rattle.bfs_cluster.specs.CatchingUp.{Times}
-use Rattle.bfs_cluster.specs.Steps.{Round}
-use Rattle.bfs_cluster.proofs.cluster.Cluster.settle.Given as goal
-
-abbrev pub invariant-loop : goal.invariant-loop
-invariant-loop g l = (rounds : ℕ) × Times Round rounds l.fn.self l.self
