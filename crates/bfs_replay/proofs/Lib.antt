@@ -1,9 +1,10 @@
-pub mod Beginning
 pub mod CommandLine
 pub mod Counts
 pub mod Lines
 pub mod Rows
 pub mod Running
+pub mod Stopping
 pub mod Takes
 pub mod Telling
 pub mod Usages
+pub mod Writes

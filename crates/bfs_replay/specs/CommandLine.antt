@@ -77,8 +77,8 @@ asked_by words = unless_faulty (fault_of replay_app words) (asked_among (matches
 -- the options as a record of text
 abbrev pub as_asked : Options → Asked
 as_asked options = record {
-  workers = options.workers;
-  engine = options.engine;
+  workers = options.executor.workers;
+  engine = options.executor.engine;
   config = option_map (λ path. path.now) options.config;
   trace = options.trace.now;
 }

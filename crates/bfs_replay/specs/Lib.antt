@@ -4,4 +4,5 @@ pub mod CommandLine
 pub mod Errors
 pub mod Outcomes
 pub mod Runs
+pub mod Writing
 pub mod Inside

@@ -3,11 +3,10 @@ use Rattle.std.specs.Prelude.{ℕ, ◌++◌, List, [], ◌∷◌, Option, Some, 
 use Rattle.std.specs.List.{flat_map}
 use Rattle.hex.specs.Hex.{encode_lower}
 use Rattle.bfs_clients.specs.Clients.{Clients}
-use Rattle.bfs_clients.specs.Tallies.{result_to}
+use Rattle.bfs_clients.specs.Tallies.{Tally, agreed, result_to}
 use Rattle.bfs_cluster.specs.declared.standings.Standing.{Standing}
 use Rattle.bfs_cluster.specs.declared.standings.Standing.TheVariants as standing
 use Rattle.bfs_log.specs.Logs.{Log}
-use Rattle.bfs_tally.specs.Tallies.{Tally, agreed}
 use Rattle.bfs_trace.specs.Events.{Request}
 
 -- Results --------------------------------------------------------------------------------------------------------------

@@ -1,9 +1,8 @@
--- The run of a trace: what its events do to replicas and clients, and what is printed.
-use Rattle.std.specs.Prelude.{◌≡◌, ℕ, ◌++◌, max, List, [], ◌∷◌, filter, fold, map, Option, Some, None, true, false}
+-- The run of a trace: what its events do to replicas and clients, and what is printed. `Executes` says by what a node executes.
+use Rattle.std.specs.Prelude.{◌≡◌, ℕ, ◌++◌, max, List, [], ◌∷◌, filter, fold, map, take, ◌⊎◌, Option, Some, None, true, false}
 use Rattle.std.specs.List.{filter_map}
 use Rattle.bfs_clients.specs.Clients.{Clients, clients_of, signed_request}
-use Rattle.bfs_clients.specs.Tallies.{tallied_by, tally_of}
-use Rattle.bfs_clients.specs.Waiting.{waits}
+use Rattle.bfs_clients.specs.Tallies.{Tally, tallied_by, tally_of, waits}
 use Rattle.bfs_cluster.specs.Blocks.{with_block}
 use Rattle.bfs_cluster.specs.Standings.{common_view, standings}
 use Rattle.bfs_cluster.specs.Steps.{Settles}
@@ -14,13 +13,14 @@ use Rattle.bfs_cluster.specs.declared.standings.Standing.TheVariants as standing
 use Rattle.bfs_log.specs.Logs.{Log}
 use Rattle.bfs_messages.specs.Messages as model
 use Rattle.bfs_model.specs.Server.Tree.{Time, epoch}
+use Rattle.bfs_node.specs.Nodes.{Node}
 use Rattle.bfs_settings.specs.Settings.{Settings}
-use Rattle.bfs_tally.specs.Tallies.{Tally}
 use Rattle.bfs_trace.specs.Events.{Block, Request}
 use Rattle.bfs_trace.specs.declared.events.TraceEvent.{TraceEvent}
 use Rattle.bfs_trace.specs.declared.events.TraceEvent.TheVariants as event
 use Rattle.bfs_replay.specs.Outcomes.{outcome_of}
 use Rattle.bfs_replay.specs.Output.{answered_lines, result_lines, standing_lines, view_lines}
+use Rattle.bfs_replay.specs.Writing.{IsBeginning}
 use Rattle.bfs_replay.specs.declared.outcome.Outcome.{Outcome}
 
 pub record Run : Type 0 where
@@ -64,9 +64,9 @@ after_block clients block run settled = record {
 }
 
 -- the requests of a block come to the replicas and all settles; each line says what its client makes of the replies that were sent meanwhile
-pub record BlockRuns (clients : Clients) (block : Block) (run next : Run) (output : List ℕ) : Type 0 where
+pub record BlockRuns (Executes : Node → Type 0) (clients : Clients) (block : Block) (run next : Run) (output : List ℕ) : Type 0 where
   pub settled : World
-  pub settles : Settles (with_block run.world block.time (sent_requests clients block.requests)) settled
+  pub settles : Settles Executes (with_block run.world block.time (sent_requests clients block.requests)) settled
   pub next_is : next ≡ after_block clients block run settled
   pub output_is : output ≡ result_lines clients settled.replies block.requests
 
@@ -85,26 +85,26 @@ after_timeout clients run asked settled = record {
 
 -- replicas ask for the next view and all settles; then primaries propose the requests that wait there, and all settles again. A line tells
 -- the view if it is a new one, and there is one for each request that was waiting and has a result now
-pub record TimeoutRuns (clients : Clients) (run next : Run) (output : List ℕ) : Type 0 where
+pub record TimeoutRuns (Executes : Node → Type 0) (clients : Clients) (run next : Run) (output : List ℕ) : Type 0 where
   pub asked : World
   pub settled : World
-  pub asks : Settles (with_timeout run.world) asked
-  pub settles : Settles (with_waiting asked run.time) settled
+  pub asks : Settles Executes (with_timeout run.world) asked
+  pub settles : Settles Executes (with_waiting asked run.time) settled
   pub next_is : next ≡ after_timeout clients run asked settled
   pub output_is : output ≡ view_lines run.view next.view ++ answered_lines (counted clients settled.replies run.waiting)
 
 -- who falls silent or is heard prints nothing
-abbrev pub EventRuns : Clients → TraceEvent → (run next : Run) → (output : List ℕ) → Type 0
-EventRuns clients (event.Block block) run next output = BlockRuns clients block run next output
-EventRuns clients (event.Silent replica) run next output = (next ≡ record run { world = hearing false run.world replica }) × (output ≡ [])
-EventRuns clients (event.Heard replica) run next output = (next ≡ record run { world = hearing true run.world replica }) × (output ≡ [])
-EventRuns clients event.Timeout run next output = TimeoutRuns clients run next output
+abbrev pub EventRuns : (Executes : Node → Type 0) → Clients → TraceEvent → (run next : Run) → (output : List ℕ) → Type 0
+EventRuns Executes clients (event.Block block) run next output = BlockRuns Executes clients block run next output
+EventRuns Executes clients (event.Silent replica) run next output = (next ≡ record run { world = hearing false run.world replica }) × (output ≡ [])
+EventRuns Executes clients (event.Heard replica) run next output = (next ≡ record run { world = hearing true run.world replica }) × (output ≡ [])
+EventRuns Executes clients event.Timeout run next output = TimeoutRuns Executes clients run next output
 
 -- one after another
-abbrev pub EventsRun : Clients → List TraceEvent → (run last : Run) → (output : List ℕ) → Type 0
-EventsRun clients [] run last output = (last ≡ run) × (output ≡ [])
-EventsRun clients (event ∷ events) run last output =
-    (next : Run) × (first : List ℕ) × (rest : List ℕ) × EventRuns clients event run next first × EventsRun clients events next last rest × (output ≡ first ++ rest)
+abbrev pub EventsRun : (Executes : Node → Type 0) → Clients → List TraceEvent → (run last : Run) → (output : List ℕ) → Type 0
+EventsRun Executes clients [] run last output = (last ≡ run) × (output ≡ [])
+EventsRun Executes clients (event ∷ events) run last output =
+    (next : Run) × (first : List ℕ) × (rest : List ℕ) × EventRuns Executes clients event run next first × EventsRun Executes clients events next last rest × (output ≡ first ++ rest)
 
 -- The end --------------------------------------------------------------------------------------------------------------
 
@@ -113,11 +113,24 @@ digest_in (standing.Digest replica digest) = Some digest
 digest_in (standing.Behind replica last) = None
 
 -- behind what the events print stands where the replicas are; the digests that are printed are those that are compared
-pub record TraceRuns (settings : Settings) (events : List TraceEvent) (output : List ℕ) (outcome : Outcome) : Type 0 where
+pub record TraceRuns (Executes : Node → Type 0) (settings : Settings) (events : List TraceEvent) (output : List ℕ) (outcome : Outcome) : Type 0 where
   pub last : Run
   pub before : List ℕ
   pub stands : List Standing
-  pub events_run : EventsRun (clients_of settings) events (new_run settings) last before
+  pub events_run : EventsRun Executes (clients_of settings) events (new_run settings) last before
   pub stands_are : standings last.world ≡ Some stands
   pub output_is : output ≡ before ++ standing_lines stands
   pub outcome_is : outcome ≡ outcome_of (filter_map digest_in stands)
+
+-- Where it stops ---------------------------------------------------------------------------------------------------------
+
+-- what is written of events of which one stops: a beginning of what the first so many print
+abbrev pub EventsStop : (Executes : Node → Type 0) → Clients → List TraceEvent → (run : Run) → (written : List ℕ) → Type 0
+EventsStop Executes clients events run written =
+    (count : ℕ) × (last : Run) × (output : List ℕ) × EventsRun Executes clients (take count events) run last output × IsBeginning written output
+
+-- what is written of a run that stops: that, or a beginning of its whole output
+abbrev pub TraceStops : (Executes : Node → Type 0) → Settings → List TraceEvent → (written : List ℕ) → Type 0
+TraceStops Executes settings events written =
+    EventsStop Executes (clients_of settings) events (new_run settings) written
+    ⊎ ((output : List ℕ) × (outcome : Outcome) × TraceRuns Executes settings events output outcome × IsBeginning written output)

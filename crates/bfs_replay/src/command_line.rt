@@ -3,8 +3,7 @@ ghost use Rattle.clap.specs.Words.{app_of, fault_of, found_of, kind_of, matches_
 ghost use Rattle.bfs_replay.specs.CommandLine.{Asks, as_asked, asked_among, asked_by, config_rule, engine_named, engine_rule, replay_app, workers_among, workers_rule};
 
 use crate::usage::{Options, UsageError};
-use bfs_parallel::Engine;
-use bfs_workers::{MOST_WORKERS, Workers};
+use bfs_outcome::{Engine, Executor, MOST_WORKERS, Workers};
 use clap::error::ErrorKind;
 use clap::{Arg, ArgMatches, Command};
 use std::alloc::{AllocError, Global};
@@ -111,8 +110,7 @@ fn options_among<'a>(found: &ArgMatches<'a>) -> Option<Options<'a>>
     let config = found.get_str("config");
     let trace = found.get_str("trace")?;
     Some(Options {
-        workers,
-        engine,
+        executor: Executor { workers, engine },
         config,
         trace,
     })

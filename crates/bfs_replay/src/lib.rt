@@ -12,8 +12,9 @@ mod run;
 mod standings;
 mod timeouts;
 mod usage;
+mod writing;
 
-pub use bfs_cluster::{Engine, Executor, Workers};
+pub use bfs_outcome::{Engine, Executor, Gate, NoGate, Workers};
 pub use bfs_settings::{Settings, SettingsError, default_settings, parse_settings};
 pub use bfs_trace::{
     Block, Population, Request, Trace, TraceError, TraceEvent, parse_trace, sent_calls,
@@ -25,3 +26,4 @@ pub use outcome::{Outcome, compare};
 pub use population::population_of;
 pub use run::{ReplayError, run_trace};
 pub use usage::{Options, UsageError};
+pub use writing::Output;

@@ -1,93 +1,61 @@
-ghost use Rattle.std.specs.Prelude.{◌≡◌, ◌↔◌, IfOk, OnOk};
-ghost use Rattle.bfs_clients.specs.Clients.{Clients};
-ghost use Rattle.bfs_log.specs.Logs.{Log};
-ghost use Rattle.std.specs.Io.KnownBytes.{Appends};
-ghost use Rattle.std.specs.IoError.{error_kind};
-ghost use Rattle.std.specs.List.{slice_get};
+ghost use Rattle.std.specs.Prelude.{◌≡◌, string_bytes, IfOk};
 ghost use Rattle.std.specs.Option.{option_map};
-ghost use Rattle.bfs_replay.specs.Inside.Results.{HasResults, line_at};
-ghost use Rattle.bfs_replay.specs.Output.{answered_line, answered_lines, result_line, result_lines};
+ghost use Rattle.bfs_replay.specs.Inside.Results.{tally_line, tally_lines};
+ghost use Rattle.bfs_replay.specs.Output.{answered_line, answered_lines, result_line};
+ghost use Rattle.bfs_replay.specs.Writing.{Prints};
 
 use crate::run::ReplayError;
-use bfs_clients::{Clients, Tallies, WaitingRequests};
-use bfs_messages::{Message, Signed};
-use bfs_tally::Tally;
-use bfs_trace::Request;
+use crate::writing::Output;
+use bfs_clients::Tally;
 use bfs_types::Memory;
 use std::alloc::Global;
-use std::io;
-use std::io::{ErrorKind, Write};
-use std::thread::Threads;
-
-/// What the clients of requests make of replies to them.
-pub(crate) fn tallies_of(
-    rt: &(impl Threads + Sync),
-    alloc: Global,
-    clients: &Clients,
-    requests: &[Request],
-    replies: &[Signed<Message>],
-) -> Result<Tallies, Memory>
-    ensures { IfOk result (λ tallies. HasResults clients.now replies.now tallies requests.now) }
-{
-    let mut tallies = Tallies::new(alloc, clients.f());
-    for request in requests {
-        tallies.begin(request.client(), request.timestamp())?;
-    }
-    tallies.add_all(rt, clients, replies)?;
-    Ok(tallies)
-}
+use std::io::Write;
 
 /// Writes a line for each request, with what its client makes of the replies.
 pub(crate) fn print_results<W: Write>(
     alloc: Global,
-    requests: &[Request],
-    tallies: &Tallies,
-    writer: &mut W,
+    tallies: &[Tally],
+    output: &mut Output<W>,
 ) -> Result<(), ReplayError>
-    ensures { (clients : Clients) (replies : Log) → HasResults clients replies tallies.now requests.now → OnOk result (Appends (W.contents writer.old) (W.contents writer.new) (result_lines clients replies requests.now)) }
+    ensures { Prints result output.old output.new (tally_lines tallies.now) }
 {
-    for request in requests {
-        let (client, timestamp) = (request.client(), request.timestamp());
-        let found = tallies.result(client, timestamp);
-        print_result(alloc, client, timestamp, found, writer)?;
+    for tally in tallies {
+        print_tally(alloc, tally, output)?;
     }
     Ok(())
+}
+
+fn print_tally<W: Write>(
+    alloc: Global,
+    tally: &Tally,
+    output: &mut Output<W>,
+) -> Result<(), ReplayError>
+    ensures { Prints result output.old output.new (tally_line tally.now) }
+{
+    let (client, timestamp) = (tally.client(), tally.timestamp());
+    print_result(alloc, client, timestamp, tally.result(), output)
 }
 
 /// Writes a line for each request that has a result.
 pub(crate) fn print_answered<W: Write>(
     alloc: Global,
-    waiting: &WaitingRequests,
-    writer: &mut W,
+    tallies: &[Tally],
+    output: &mut Output<W>,
 ) -> Result<(), ReplayError>
-    ensures { OnOk result (Appends (W.contents writer.old) (W.contents writer.new) (answered_lines waiting.now)) }
+    ensures { Prints result output.old output.new (answered_lines tallies.now) }
 {
-    for index in 0..waiting.len() {
-        print_at(alloc, waiting, index, writer)?;
+    for tally in tallies {
+        print_if_answered(alloc, tally, output)?;
     }
     Ok(())
-}
-
-fn print_at<W: Write>(
-    alloc: Global,
-    waiting: &WaitingRequests,
-    index: usize,
-    writer: &mut W,
-) -> Result<(), ReplayError>
-    ensures { OnOk result (Appends (W.contents writer.old) (W.contents writer.new) (line_at (slice_get waiting.now index))) }
-{
-    match waiting.get(index) {
-        Some(tally) => print_if_answered(alloc, tally, writer),
-        None => Ok(()),
-    }
 }
 
 fn print_if_answered<W: Write>(
     alloc: Global,
     tally: &Tally,
-    writer: &mut W,
+    output: &mut Output<W>,
 ) -> Result<(), ReplayError>
-    ensures { OnOk result (Appends (W.contents writer.old) (W.contents writer.new) (answered_line tally.now)) }
+    ensures { Prints result output.old output.new (answered_line tally.now) }
 {
     match tally.result() {
         Some(bytes) => print_result(
@@ -95,42 +63,41 @@ fn print_if_answered<W: Write>(
             tally.client(),
             tally.timestamp(),
             Some(bytes),
-            writer,
+            output,
         ),
         None => Ok(()),
     }
 }
 
-#[tactic(auto, unfolding(crate::specs::Output::result_line))]
 fn print_result<W: Write>(
     alloc: Global,
     client: u32,
     timestamp: u64,
     found: Option<&[u8]>,
-    writer: &mut W,
+    output: &mut Output<W>,
 ) -> Result<(), ReplayError>
-    ensures { OnOk result (Appends (W.contents writer.old) (W.contents writer.new) (result_line client timestamp (option_map (λ bytes. bytes.now) found.entry))) }
+    ensures { Prints result output.old output.new (result_line client timestamp (option_map (λ bytes. bytes.now) found.entry)) }
 {
-    let written = match found {
-        None => writeln!(writer, "c{client} t{timestamp} none"),
-        Some([]) => writeln!(writer, "c{client} t{timestamp} -"),
-        Some(bytes) => {
-            let Ok(digits) = hex::encode(alloc, bytes) else {
-                return Err(ReplayError::Memory);
-            };
-            writeln!(writer, "c{client} t{timestamp} {digits}")
-        }
-    };
-    written.map_err(write_error)
+    let line = result_line(alloc, client, timestamp, found)?;
+    output.write(line.as_bytes())
 }
 
-// memory may run out in a writer too
-pub(crate) fn write_error(error: io::Error) -> ReplayError
-    ensures { (result ≡ ReplayError.Memory) ↔ (error_kind error ≡ ErrorKind.OutOfMemory) }
+#[tactic(auto, unfolding(crate::specs::Output::result_line))]
+fn result_line(
+    alloc: Global,
+    client: u32,
+    timestamp: u64,
+    found: Option<&[u8]>,
+) -> Result<String, Memory>
+    ensures { IfOk result (λ line. string_bytes line ≡ result_line client timestamp (option_map (λ bytes. bytes.now) found.entry)) }
 {
-    if error.kind() == ErrorKind::OutOfMemory {
-        ReplayError::Memory
-    } else {
-        ReplayError::WriteFault
-    }
+    let line = match found {
+        None => format!(in alloc; "c{client} t{timestamp} none\n")?,
+        Some([]) => format!(in alloc; "c{client} t{timestamp} -\n")?,
+        Some(bytes) => {
+            let digits = hex::encode(alloc, bytes)?;
+            format!(in alloc; "c{client} t{timestamp} {digits}\n")?
+        }
+    };
+    Ok(line)
 }

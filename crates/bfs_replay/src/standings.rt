@@ -1,11 +1,11 @@
-ghost use Rattle.std.specs.Prelude.{◌≡◌, IfOk, OnOk};
-ghost use Rattle.std.specs.Io.KnownBytes.{Appends};
+ghost use Rattle.std.specs.Prelude.{◌≡◌, string_bytes, IfOk};
 ghost use Rattle.std.specs.List.{filter_map};
 ghost use Rattle.bfs_replay.specs.Output.{standing_line, standing_lines};
 ghost use Rattle.bfs_replay.specs.Runs.{digest_in};
+ghost use Rattle.bfs_replay.specs.Writing.{Prints};
 
-use crate::results::write_error;
 use crate::run::ReplayError;
+use crate::writing::Output;
 use bfs_cluster::Standing;
 use bfs_types::Memory;
 use std::alloc::Global;
@@ -15,35 +15,39 @@ use std::io::Write;
 pub(crate) fn print_standings<W: Write>(
     alloc: Global,
     standings: &[Standing],
-    writer: &mut W,
+    output: &mut Output<W>,
 ) -> Result<(), ReplayError>
-    ensures { OnOk result (Appends (W.contents writer.old) (W.contents writer.new) (standing_lines standings.now)) }
+    ensures { Prints result output.old output.new (standing_lines standings.now) }
 {
     for standing in standings {
-        print_standing(alloc, standing, writer)?;
+        print_standing(alloc, standing, output)?;
     }
     Ok(())
 }
 
-#[tactic(auto, unfolding(crate::specs::Output::digest_line, crate::specs::Output::behind_line))]
 fn print_standing<W: Write>(
     alloc: Global,
     standing: &Standing,
-    writer: &mut W,
+    output: &mut Output<W>,
 ) -> Result<(), ReplayError>
-    ensures { OnOk result (Appends (W.contents writer.old) (W.contents writer.new) (standing_line standing.now)) }
+    ensures { Prints result output.old output.new (standing_line standing.now) }
 {
-    match standing {
+    let line = standing_line(alloc, standing)?;
+    output.write(line.as_bytes())
+}
+
+#[tactic(auto, unfolding(crate::specs::Output::digest_line, crate::specs::Output::behind_line))]
+fn standing_line(alloc: Global, standing: &Standing) -> Result<String, Memory>
+    ensures { IfOk result (λ line. string_bytes line ≡ standing_line standing.now) }
+{
+    let line = match standing {
         Standing::Digest(replica, digest) => {
-            let Ok(digits) = hex::encode(alloc, digest) else {
-                return Err(ReplayError::Memory);
-            };
-            writeln!(writer, "digest {replica} {digits}").map_err(write_error)
+            let digits = hex::encode(alloc, digest)?;
+            format!(in alloc; "digest {replica} {digits}\n")?
         }
-        Standing::Behind(replica, last) => {
-            writeln!(writer, "behind {replica} {last}").map_err(write_error)
-        }
-    }
+        Standing::Behind(replica, last) => format!(in alloc; "behind {replica} {last}\n")?,
+    };
+    Ok(line)
 }
 
 /// The digests among them, which are compared.

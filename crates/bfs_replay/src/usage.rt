@@ -1,17 +1,14 @@
 ghost use Rattle.std.specs.Prelude.{◌≡◌};
 ghost use Rattle.bfs_replay.specs.Errors.{usage_error_code};
 
-use bfs_parallel::Engine;
-use bfs_workers::Workers;
+use bfs_outcome::Executor;
 use thiserror::Error;
 
 /// What the words of the command line ask for.
 #[derive(Clone, Copy, Debug, PartialEq, Eq)]
 pub struct Options<'a> {
-    /// The workers that execute the requests of a block, where there is an engine.
-    pub workers: Workers,
-    /// Which requests they execute at one time, or `None` where requests are executed one after another.
-    pub engine: Option<Engine>,
+    /// By what the requests of a block are executed.
+    pub executor: Executor,
     /// The path of the settings, or `None` where they are the default.
     pub config: Option<&'a str>,
     /// The path of the trace.

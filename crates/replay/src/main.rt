@@ -2,7 +2,7 @@
 #![tactic(auto)]
 
 use bfs_replay::{
-    Executor, Failure, Settings, default_settings, options, parse_settings, parse_trace,
+    Failure, NoGate, Output, Settings, default_settings, options, parse_settings, parse_trace,
     population_of, read_input, run_trace,
 };
 use std::fs::File;
@@ -44,11 +44,14 @@ fn replay<R: Runtime + AllocGlobal + Threads + Wait + Sync, W: Write + Drop>(
     let text = read_file(rt, options.trace)?;
     let trace = parse_trace(alloc, text.as_slice(), population_of(&settings))?;
     let mut out = BufWriter::new(alloc, output).map_err(not_written)?;
-    let executor = Executor {
-        workers: options.workers,
-        engine: options.engine,
-    };
-    let outcome = run_trace(rt, &settings, &trace, executor, &mut out)?;
+    let outcome = run_trace(
+        rt,
+        &settings,
+        &trace,
+        options.executor,
+        &NoGate,
+        &mut Output::new(&mut out),
+    )?;
     out.flush().map_err(not_written)?;
     match outcome.failure() {
         Some(failure) => Err(failure),

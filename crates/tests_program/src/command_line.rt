@@ -64,7 +64,8 @@ fn asks_for(alloc: Global, line: &str, workers: u32, engine: Option<Engine>) -> 
         Err(UsageError::Usage) => return Ok(false),
         Err(UsageError::Memory) => return Err(UsageError::Memory.into()),
     };
-    Ok(asked.workers.count() == workers && asked.engine == engine && asked.trace == "a.trace")
+    let executor = asked.executor;
+    Ok(executor.workers.count() == workers && executor.engine == engine && asked.trace == "a.trace")
 }
 
 #[test]

@@ -3,7 +3,9 @@
 //! What is printed was put together by hand, from the layouts of RFC 5531 section 9 and RFC 1094 section 2.3, and from what each call does;
 //! the digests are SHA-256 of another implementation's digest of the file system, followed by the text of the table of replies.
 use crate::output::parse_alone;
-use bfs_replay::{Engine, Executor, Workers, default_settings, run_trace};
+use bfs_replay::{Engine, Executor, Gate, NoGate, Output, Workers, default_settings, run_trace};
+use bfs_testing::holds;
+use bfs_testing_batches::gates::Counts;
 use std::sync::Wait;
 use std::test::Fail;
 use std::thread::Threads;
@@ -77,12 +79,13 @@ static WORKED: [(&str, &str); 13] = [
     ),
 ];
 
-/// What the run of a trace prints by that engine, with so many workers.
-fn output<R: AllocGlobal + Threads + Wait + Sync>(
+/// What the run of a trace prints by that engine, with so many workers, through that gate.
+fn output_through<R: AllocGlobal + Threads + Wait + Sync, G: Gate + Sync>(
     rt: &R,
     text: &[u8],
     workers: u32,
     engine: Option<Engine>,
+    gate: &G,
 ) -> Result<Vec<u8>, Fail> {
     let trace = parse_alone(rt.alloc(), text)?;
     let settings = default_settings(rt.alloc())?;
@@ -93,9 +96,20 @@ fn output<R: AllocGlobal + Threads + Wait + Sync>(
         &settings,
         &trace,
         Executor { workers, engine },
-        &mut out,
+        gate,
+        &mut Output::new(&mut out),
     )?;
     Ok(out)
+}
+
+/// What it prints, whichever requests run.
+fn output<R: AllocGlobal + Threads + Wait + Sync>(
+    rt: &R,
+    text: &[u8],
+    workers: u32,
+    engine: Option<Engine>,
+) -> Result<Vec<u8>, Fail> {
+    output_through(rt, text, workers, engine, &NoGate)
 }
 
 /// Whether a trace prints that text, whatever executes it.
@@ -122,5 +136,27 @@ fn prints_the_same_by_each_engine(rt: HostRuntime) -> Result<(), Fail> {
     for (text, wanted) in WORKED.iter() {
         assert!(rt; prints(&rt, text.as_bytes(), wanted.as_bytes())?, "{text}");
     }
+    Ok(())
+}
+
+// three requests, each of which may touch few inodes
+const FEW: &[u8] = b"batch 1.000000\n0 1 getattr #2\n0 2 lookup #2 a\n1 1 getattr #2\n";
+
+/// Whether the gate has run so many requests of `FEW`, each once, and no other.
+fn runs_through_gate<R: AllocGlobal + Threads + Wait + Sync>(
+    rt: &R,
+    engine: Option<Engine>,
+    count: usize,
+) -> Result<bool, Fail> {
+    let gate = Counts::of(rt.alloc(), 4)?;
+    output_through(rt, FEW, 4, engine, &gate)?;
+    Ok(gate.are_one_each_below(count))
+}
+
+#[test]
+fn the_engine_that_is_asked_for_runs_the_requests(rt: HostRuntime) -> Result<(), Fail> {
+    holds!(rt; runs_through_gate(&rt, Some(Engine::Levels), 3)?);
+    holds!(rt; runs_through_gate(&rt, Some(Engine::Runs), 3)?);
+    holds!(rt; runs_through_gate(&rt, None, 0)?);
     Ok(())
 }

@@ -1,7 +1,7 @@
 //! What the run of a trace writes, and where it stops.
 use bfs_replay::{
-    Engine, Executor, Failure, Outcome, Population, ReplayError, Trace, TraceError, Workers,
-    default_settings, parse_settings, parse_trace, population_of, run_trace,
+    Engine, Executor, Failure, NoGate, Outcome, Output, Population, ReplayError, Trace, TraceError,
+    Workers, default_settings, parse_settings, parse_trace, population_of, run_trace,
 };
 use bfs_testing::{holds, same};
 use std::alloc::Global;
@@ -39,7 +39,7 @@ const ROOT_OUTPUT: &[u8] =
 fn prints_a_line_for_each_request(rt: HostRuntime) -> Result<(), Fail> {
     let trace = parse_alone(rt.alloc(), ROOT_TRACE)?;
     let mut out = Vec::new(rt.alloc());
-    same!(rt; run_trace(&rt, &default_settings(rt.alloc())?, &trace, alone(None), &mut out)?, Outcome::Agree);
+    same!(rt; run_trace(&rt, &default_settings(rt.alloc())?, &trace, alone(None), &NoGate, &mut Output::new(&mut out))?, Outcome::Agree);
     holds!(rt; out.as_slice() == ROOT_OUTPUT);
     Ok(())
 }
@@ -60,7 +60,8 @@ fn prints_a_dash_for_what_is_no_call(rt: HostRuntime) -> Result<(), Fail> {
         &default_settings(rt.alloc())?,
         &silent,
         alone(None),
-        &mut out,
+        &NoGate,
+        &mut Output::new(&mut out),
     )?;
     holds!(rt; out.as_slice() == SILENT_OUTPUT);
     Ok(())
@@ -79,7 +80,8 @@ fn prints_the_digest_of_a_new_file_system(rt: HostRuntime) -> Result<(), Fail> {
             &default_settings(rt.alloc())?,
             &empty,
             alone(engine),
-            &mut out,
+            &NoGate,
+            &mut Output::new(&mut out),
         )?;
         holds!(rt; out.as_slice() == NEW_OUTPUT);
     }
@@ -94,7 +96,14 @@ fn output_of_four<R: AllocGlobal + Threads + Wait + Sync>(
     let settings = parse_settings(rt.alloc(), b"f = 1\n")?;
     let trace = parse_trace(rt.alloc(), text.as_bytes(), population_of(&settings))?;
     let mut out = Vec::new(rt.alloc());
-    match run_trace(rt, &settings, &trace, alone(None), &mut out)? {
+    match run_trace(
+        rt,
+        &settings,
+        &trace,
+        alone(None),
+        &NoGate,
+        &mut Output::new(&mut out),
+    )? {
         Outcome::Agree => Ok(out),
         Outcome::Differ => Err("replicas differ".into()),
     }
@@ -198,7 +207,8 @@ fn stops_where_the_writer_refuses(rt: HostRuntime) -> Result<(), Fail> {
             &settings,
             &trace,
             alone(Some(Engine::Runs)),
-            &mut writer,
+            &NoGate,
+            &mut Output::new(&mut writer),
         ) {
             Err(error) => {
                 same!(rt; error, ReplayError::WriteFault);
@@ -228,7 +238,8 @@ fn tells_that_the_writer_wants_memory(rt: HostRuntime) -> Result<(), Fail> {
         &settings,
         &trace,
         alone(Some(Engine::Runs)),
-        &mut writer,
+        &NoGate,
+        &mut Output::new(&mut writer),
     );
     same!(rt; refused.err(), Some(ReplayError::Memory));
     Ok(())
@@ -259,7 +270,8 @@ fn output<R: AllocGlobal + Threads + Wait + Sync>(rt: &R, text: &str) -> Result<
         &default_settings(rt.alloc())?,
         &trace,
         alone(None),
-        &mut out,
+        &NoGate,
+        &mut Output::new(&mut out),
     )?;
     Ok(out)
 }

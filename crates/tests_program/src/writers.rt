@@ -1,7 +1,7 @@
 //! Where the run of a trace stops, whichever write of its output is refused.
 use bfs_replay::{
-    Executor, ReplayError, Settings, Trace, Workers, default_settings, parse_settings, parse_trace,
-    population_of, run_trace,
+    Executor, NoGate, Output, ReplayError, Settings, Trace, default_settings, parse_settings,
+    parse_trace, population_of, run_trace,
 };
 use bfs_testing::asserts::compared;
 use bfs_testing::holds;
@@ -34,13 +34,6 @@ impl Write for Failing {
     }
 }
 
-fn executor() -> Executor {
-    Executor {
-        workers: Workers::one(),
-        engine: None,
-    }
-}
-
 // the run before a writer that takes so many writes: whether it ends well. What was written is the beginning of the output, all of it where it
 // ends well
 fn run<R: AllocGlobal + Threads + Wait + Sync>(
@@ -54,7 +47,17 @@ fn run<R: AllocGlobal + Threads + Wait + Sync>(
         writes,
         taken: Vec::new(rt.alloc()),
     };
-    match run_trace(rt, settings, trace, executor(), &mut writer) {
+    let mut output = Output::new(&mut writer);
+    let ended = run_trace(
+        rt,
+        settings,
+        trace,
+        Executor::serial(),
+        &NoGate,
+        &mut output,
+    );
+    compared(output.has_refused(), ended.is_err())?;
+    match ended {
         Ok(_) => {
             compared(writer.taken.as_slice(), wanted)?;
             Ok(true)

@@ -1,11 +1,12 @@
-use Rattle.std.proofs.Common.{◌<◌, ℕ, List, length, subst, sym, arith}
-use Rattle.std.specs.Io.KnownBytes.{Appends}
-use Rattle.std.proofs.KnownBytes.{Appends-trans}
-use Rattle.bfs_replay.proofs.Lines.{one_more_line}
+-- An error at one line, behind those before it.
+use Rattle.std.proofs.Common.{◌<◌, length, sym, arith}
+use Rattle.std.proofs.lemmas.Result.{err_from_is_err_and}
+use Rattle.bfs_replay.specs.Output.{answered_line}
+use Rattle.bfs_replay.proofs.Writes.{stops_within}
 use Rattle.bfs_replay.proofs.results.print_answered.Goals as goal
 
-pub loop-index-preserved : goal.loop-index-preserved
-loop-index-preserved g c =
-    let within : c.loop-index.index < length c.args.waiting.now = omega (arith, c.loop-index-test.true, c.len-index-end.ensures) in
-    subst (λ (lines : List ℕ). Appends (g.W.Write.contents c.args.writer.now) (g.W.Write.contents c.print_at.new.writer) lines) (sym (one_more_line c.args.waiting.now c.loop-index.index within))
-    (Appends-trans _ _ _ _ _ c.loop-index.invariant c.in_ok-print_at.ensures)
+pub returns-in_err-print_if_answered : goal.returns-in_err-print_if_answered
+returns-in_err-print_if_answered g c =
+    let within : c.loop-tally.tally-index < length c.args.tallies.now = omega arith in
+    let p = err_from_is_err_and c.from_residual.result c.from_residual.ensures.1 in
+    rw (p.1, p.2) (stops_within answered_line c.args.tallies.now c.loop-tally.tally-index _ c.tally-item.result _ c.args.output.now c.loop-tally.output _ within (sym c.tally-item.is) c.loop-tally.invariant c.in_err-print_if_answered.ensures)

@@ -1,11 +1,12 @@
-use Rattle.std.proofs.Common.{◌≡◌, ◌∙◌, List, ℕ, take, ap, subst, arith}
-use Rattle.std.specs.Io.KnownBytes.{Appends}
-use Rattle.std.proofs.lemmas.List.{take_all}
-use Rattle.bfs_replay.proofs.Lines.{lines_by, lines_told}
+-- An error at one line, behind those before it.
+use Rattle.std.proofs.Common.{◌<◌, length, sym, arith}
+use Rattle.std.proofs.lemmas.Result.{err_from_is_err_and}
+use Rattle.bfs_replay.specs.Inside.Results.{tally_line}
+use Rattle.bfs_replay.proofs.Writes.{stops_within}
 use Rattle.bfs_replay.proofs.results.print_results.Goals as goal
 
-pub returns : goal.returns
-returns g c = λ clients replies has.
-    let all : take c.loop-request.request-index c.args.requests.now ≡ c.args.requests.now = take_all c.loop-request.request-index c.args.requests.now (omega arith) in
-    subst (λ (lines : List ℕ). Appends (g.W.Write.contents c.args.writer.now) (g.W.Write.contents c.loop-request.writer) lines)
-    (ap (lines_by c.args.tallies.now) all ∙ lines_told clients replies c.args.tallies.now c.args.requests.now has) c.loop-request.invariant
+pub returns-in_err-print_tally : goal.returns-in_err-print_tally
+returns-in_err-print_tally g c =
+    let within : c.loop-tally.tally-index < length c.args.tallies.now = omega arith in
+    let p = err_from_is_err_and c.from_residual.result c.from_residual.ensures.1 in
+    rw (p.1, p.2) (stops_within tally_line c.args.tallies.now c.loop-tally.tally-index _ c.tally-item.result _ c.args.output.now c.loop-tally.output _ within (sym c.tally-item.is) c.loop-tally.invariant c.in_err-print_tally.ensures)

@@ -1,9 +1,9 @@
--- The lines so far are those of the first requests.
+-- The lines so far are those of the first tallies.
 use Rattle.std.proofs.Common.{take}
-use Rattle.std.specs.Io.KnownBytes.{Appends}
-use Rattle.bfs_replay.proofs.Lines.{lines_by}
+use Rattle.bfs_replay.specs.Inside.Results.{tally_lines}
+use Rattle.bfs_replay.specs.Writing.{Writes}
 use Rattle.bfs_replay.proofs.results.print_results.Given as goal
 
-abbrev pub invariant-loop-request : goal.invariant-loop-request
-invariant-loop-request g l =
-    Appends (g.W.Write.contents l.fn.writer) (g.W.Write.contents l.writer) (lines_by l.tallies (take l.request-index l.requests))
+abbrev pub invariant-loop-tally : goal.invariant-loop-tally
+invariant-loop-tally g l =
+    Writes l.fn.output l.output (tally_lines (take l.tally-index l.tallies))
