@@ -1,8 +1,9 @@
 #!/usr/bin/env python3
-"""`measure.py PROGRAM decode|check|hold|vote|change ..` prints, by the program of main.txt: what decoding a PRE-PREPARE of 1,024 requests of 8,192 bytes takes
+"""`measure.py PROGRAM decode|check|hold|vote|change|checkpoint ..` prints, by the program of main.txt: what decoding a PRE-PREPARE of 1,024 requests of 8,192 bytes takes
 beside the SHA-256 of its bytes; what checking its requests takes on one processor and on all; how many bytes of memory each byte of it takes once it is
 decoded; and what a vote takes beside its own keyed hashes, among 4 and 31 replicas, in a log of one number and of 32; and what
-a view change takes beside the hashes that its rules ask for. Medians of ROUNDS runs; of `check` the least.
+a view change takes beside the hashes that its rules ask for; and what a CHECKPOINT with a wrong keyed hash takes beside the check of that, among 4 and
+31 replicas, with an empty log and a full one. Medians of ROUNDS runs; of `check` the least.
 """
 import os
 import statistics
@@ -64,6 +65,13 @@ def change(program):
         print(f"change, {name}: {it / 1000:.1f} ms, its hashes {hashes / 1000:.1f} ms: {it / hashes:.2f}")
 
 
+def checkpoint(program):
+    for faults in (1, 10):
+        for numbers in (0, 32):
+            took, hashed = medians(program, "checkpoint", str(faults), str(numbers))
+            print(f"checkpoint, {3 * faults + 1} replicas, {numbers} numbers: {took} ns, its keyed hash {hashed} ns: {took / hashed:.2f}")
+
+
 if __name__ == "__main__":
     for subject in sys.argv[2:]:
-        {"decode": decode, "check": check, "hold": hold, "vote": vote, "change": change}[subject](sys.argv[1])
+        {"decode": decode, "check": check, "hold": hold, "vote": vote, "change": change, "checkpoint": checkpoint}[subject](sys.argv[1])
