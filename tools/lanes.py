@@ -2,7 +2,7 @@
 import re
 from html import escape
 
-import trace
+import traces
 
 COLUMN, LANE, LEFT, TOP, GAP = 132, 44, 92, 72, 34  # widths and heights in pixels
 INSET = 14  # between the border of a column and its arrows
@@ -38,7 +38,7 @@ def lane_of(name):
 def read(path):
     """The parts of what `watch` printed, and how many lanes they have."""
     parts, silent, lanes = [], set(), 2
-    for line, content in trace.lines(path):
+    for line, content in traces.lines(path):
         if event := re.fullmatch(r"(silent|heard) (\d+)", content):
             (silent.add if event[1] == "silent" else silent.discard)(int(event[2]) + 1)
             lanes = max(lanes, int(event[2]) + 2)
@@ -50,7 +50,7 @@ def read(path):
             lanes = max([lanes, lane_of(sender) + 1, *(lane_of(receiver) + 1 for receiver in receivers)])
             parts[-1].add(kind, sender, receivers, view, number, digest)
         else:
-            raise trace.Fault(f"{path}: line {line}: it is no line of `watch`")
+            raise traces.Fault(f"{path}: line {line}: it is no line of `watch`")
     return parts, lanes
 
 

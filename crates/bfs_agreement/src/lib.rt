@@ -1,4 +1,7 @@
-//! What votes of replicas prove, and that replicas agree by them.
+//! Replicas that execute a batch for a number agree on it, in one view and across all views.
 #![tactic(auto)]
 
-pub mod quorums;
+pub mod agreement;
+pub mod examples;
+pub mod states;
+pub mod views;

@@ -1,3 +1,4 @@
 mod Blocks
 mod Numbered
 mod Passing
+pub mod Public

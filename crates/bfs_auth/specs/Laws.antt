@@ -1,6 +1,6 @@
 -- What holds of keys that are derived from one secret.
 use Rattle.std.specs.Prelude.{◌≡◌, ◌<◌, ◌↔◌, ℕ, List, Some, IsTrue}
-use Rattle.bfs_agreement.specs.Votes.{replicas as replicas_of}
+use Rattle.bfs_votes.specs.Votes.{replicas as replicas_of}
 use Rattle.bfs_auth.specs.Hmac.{hmac_sha256}
 use Rattle.bfs_auth.specs.Keys.{clients_known, key_from_to, keys_of}
 use Rattle.bfs_auth.specs.Authenticators.{entry_for, passes, signature, signature_for_client}

@@ -1,6 +1,6 @@
 -- Keys of one of the replicas of a system.
 use Rattle.std.specs.Prelude.{◌≡◌, ◌<◌, ℕ, length}
-use Rattle.bfs_agreement.specs.Votes.{replicas}
+use Rattle.bfs_votes.specs.Votes.{replicas}
 use Rattle.bfs_auth.specs.Keys.{Keys}
 use Rattle.bfs_auth.specs.declared.principals.Principal.TheVariants.{Replica}
 

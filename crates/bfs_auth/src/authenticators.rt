@@ -1,10 +1,10 @@
-ghost use Rattle.std.specs.Prelude.{◌≡◌, ◌<◌, ◌≤◌, [], ◌∷◌, ◌++◌, length, IfOk, OnOk, OnErr, All};
+ghost use Rattle.std.specs.Prelude.{◌≡◌, ◌<◌, ◌≤◌, [], ◌∷◌, ◌++◌, length, OnOk, OnErr, All};
 ghost use Rattle.std.specs.Option.{option_map};
 ghost use Rattle.bfs_model.specs.Server.Limits.{most_replicas};
 ghost use Rattle.bfs_auth.specs.Authenticators.{IsAuthenticator, entry_for};
 
 use crate::principals::Principal;
-use bfs_types::Memory;
+use bfs_types::{Memory, TryClone};
 use smallvec::SmallVec;
 use std::alloc::Global;
 use std::marker::Model;
@@ -64,11 +64,10 @@ impl Authenticator {
             Principal::Client(_) => self.entries().first(),
         }
     }
+}
 
-    /// An equal one. `Memory` if memory runs out.
-    pub fn copy(&self, alloc: Global) -> Result<Authenticator, Memory>
-        ensures { IfOk result (λ copy. copy ≡ self.now) }
-    {
+impl TryClone for Authenticator {
+    fn try_clone(&self, alloc: Global) -> Result<Authenticator, Memory> {
         Ok(Authenticator {
             entries: SmallVec::from_slice(alloc, self.entries())?,
         })

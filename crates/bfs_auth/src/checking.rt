@@ -2,6 +2,7 @@ ghost use Rattle.std.specs.Prelude.{◌≡◌, IfOk, map};
 ghost use Rattle.bfs_auth.specs.Authenticators.{passes};
 
 use crate::authenticators::Authenticator;
+use crate::gathering::least_items;
 use crate::pairwise::Keys;
 use crate::principals::Principal;
 use crate::texts::Text;
@@ -63,33 +64,11 @@ fn checked(
 {
     items
         .par_iter()
-        .with_min_len(least_texts(mean_length(items)))
+        .with_min_len(least_items(items, |item| item.text.len()))
         .map(
             |item: &Claimed| -> bool
                 ensures { result ≡ passes keys.entry.now item.now.sender item.now.text.items item.now.auth }
             { check(keys, item.sender, item.text.as_slice(), &item.auth) },
         )
         .collect(rt, alloc)
-}
-
-// What a thread hashes at least: in a third of the time that this takes a thread is started.
-const LEAST_BYTES: usize = 32_768;
-
-// What is hashed of an item beside its text: the inner hash, and padding.
-const BYTES_BESIDE: usize = 128;
-
-/// How many texts of that mean length a thread is to hash at least, so that they pay for its start.
-pub fn least_texts(mean_length: usize) -> usize {
-    LEAST_BYTES / mean_length.saturating_add(BYTES_BESIDE) + 1
-}
-
-fn mean_length(items: &[Claimed]) -> usize {
-    let mut bytes = 0usize;
-    for item in items {
-        bytes = bytes.saturating_add(item.text.len());
-    }
-    match items.len() {
-        0 => 0,
-        count => bytes / count,
-    }
 }

@@ -1,22 +1,13 @@
 -- Snapshots that are kept.
 use Rattle.std.proofs.Common.{◌≡◌, ℕ, ◌==◌, ◌-◌, Bool, true, false, cond, List, [], ◌∷◌, ◌++◌, length, take, Option, Some, refl, sym, ap, subst, ◌∙◌, arith}
-use Rattle.std.specs.Prelude.{bytes_eq, filter, find, nat_le}
+use Rattle.std.specs.Prelude.{bytes_eq, find}
 use Rattle.std.proofs.lemmas.Bool.{and_parts}
 use Rattle.std.proofs.lemmas.List.{length_push, take_at}
 use Rattle.std.proofs.lemmas.Option.{same_Some}
 use Rattle.std.proofs.lemmas.Slice.Eq.{bytes_eq-Decides}
-use Rattle.bfs_log.specs.Logs.{Log}
-use Rattle.bfs_checkpoints.specs.Certificates.{IsCertificate, told_by}
-use Rattle.bfs_checkpoints.specs.Keeping.{IsStable, Keeping, Kept, MayBeKept, is_of, settled, settles, stable_in, with_snapshot}
+use Rattle.bfs_log.specs.Certificates.{MakesStable, StableCheckpoint}
+use Rattle.bfs_checkpoints.specs.Keeping.{IsStable, Keeping, Kept, is_of, with_snapshot}
 use Rattle.bfs_checkpoints.specs.Snapshots.{IsSnapshot, Snapshot}
-
-pub may_be_kept : (f : ℕ) (certificate : Log) → IsCertificate f certificate → MayBeKept f certificate
-may_be_kept f [] certified = tt
-may_be_kept f (m ∷ ms) certified = certified
-
-pub settled_here : (keeping : Keeping) (certificate : Log) (kept : List Kept) → settles certificate keeping ≡ true → kept ≡ filter (λ one. nat_le (told_by certificate).number one.number) keeping.kept
-    → record keeping { kept = kept; certificate = certificate } ≡ settled certificate keeping
-settled_here keeping certificate kept h e = rw (h, e)
 
 last_off : (kept : List Kept) (one : Kept) → take (length (kept ++ one ∷ []) - 1) (kept ++ one ∷ []) ≡ kept
 last_off kept one = let n = length_push kept one in take_at kept (one ∷ []) _ (omega (arith, n))
@@ -34,19 +25,14 @@ found_passes : (p : Kept → Bool) (kept : List Kept) (found : Kept) → find p 
 found_passes p [] found h = absurd cc
 found_passes p (one ∷ kept) found h = found_step p (p one) one (find p kept) found refl (found_passes p kept found) h
 
-found_there : (f : ℕ) (certificate : Log) (one : Kept) → IsCertificate f certificate → IsSnapshot one.snapshot → is_of (told_by certificate).number (told_by certificate).digest one ≡ true → IsStable f one.snapshot.text certificate
-found_there f certificate one certified taken h =
-    let parts = and_parts (one.number == (told_by certificate).number) (bytes_eq one.snapshot.digest (told_by certificate).digest) h in
+-- the snapshot that is found by a stable checkpoint is the one that it makes stable
+pub found_is_stable : (f : ℕ) (c : StableCheckpoint) (kept : List Kept) (one : Kept) → MakesStable f c → find (is_of c.number c.digest) kept ≡ Some one → IsSnapshot one.snapshot → IsStable f one.snapshot.text c
+found_is_stable f c kept one certified found taken =
+    let parts = and_parts (one.number == c.number) (bytes_eq one.snapshot.digest c.digest) (found_passes (is_of c.number c.digest) kept one found) in
     record {
       files = taken.files;
       table = taken.table;
       text_is = ap (λ (s : Snapshot). s.text) taken.is;
-      digest_is = sym ((bytes_eq-Decides one.snapshot.digest (told_by certificate).digest).0 parts.1) ∙ ap (λ (s : Snapshot). s.digest) taken.is;
+      digest_is = sym ((bytes_eq-Decides one.snapshot.digest c.digest).0 parts.1) ∙ ap (λ (s : Snapshot). s.digest) taken.is;
       certified = certified;
     }
-
--- the snapshot that is found by a certificate is the one that it makes stable
-pub found_is_stable : (f : ℕ) (certificate : Log) (kept : List Kept) (one : Kept) → MayBeKept f certificate → stable_in certificate kept ≡ Some one → IsSnapshot one.snapshot → IsStable f one.snapshot.text certificate
-found_is_stable f [] kept one certified h taken = absurd cc
-found_is_stable f (m ∷ ms) kept one certified h taken =
-    found_there f (m ∷ ms) one certified taken (found_passes (is_of (told_by (m ∷ ms)).number (told_by (m ∷ ms)).digest) kept one h)

@@ -1,27 +1,22 @@
--- What makes a checkpoint stable (OSDI 1999 section 4.3).
-use Rattle.std.specs.Prelude.{◌≡◌, ℕ, ◌==◌, Bool, true, ◌&&◌, List, [], ◌∷◌, filter, All, bytes_eq}
-use Rattle.bfs_agreement.specs.Votes.{Header, SlotsDiffer, is_stable}
-use Rattle.bfs_log.specs.Headers.{header, other_header}
-use Rattle.bfs_log.specs.Logs.{Log, headers}
+-- The CHECKPOINTs of a log that tell of a checkpoint (OSDI 1999 section 4.3).
+use Rattle.std.specs.Prelude.{ℕ, ◌==◌, ◌&&◌, List, Option, Some, None, bytes_eq, if◌then◌else◌}
+use Rattle.std.specs.List.{filter_map}
+use Rattle.bfs_log.specs.Certificates.{StableCheckpoint}
+use Rattle.bfs_log.specs.Logs.{Log}
+use Rattle.bfs_messages.specs.Messages as model
 use Rattle.bfs_messages.specs.declared.signed.Signed.{Signed}
-use Rattle.bfs_messages.specs.declared.message.Message.{Message}
-use Rattle.bfs_agreement.specs.Tags.{checkpoint_tag}
+use Rattle.bfs_messages.specs.declared.order_messages.OrderMessage.{OrderMessage}
+use Rattle.bfs_messages.specs.declared.order_messages.OrderMessage.TheVariants.{PrePrepare, Prepare, Commit, Checkpoint}
 
--- a CHECKPOINT of that number and digest
-abbrev pub tells : (number : ℕ) → (digest : List ℕ) → Signed Message → Bool
-tells number digest m = ((header m).tag == checkpoint_tag) && (((header m).number == number) && bytes_eq (header m).digest digest)
+-- a message, if it is a CHECKPOINT of that number and digest
+abbrev pub told_as : (number : ℕ) → (digest : List ℕ) → OrderMessage → (auth : List (List ℕ)) → Option (Signed model.Checkpoint)
+told_as number digest (Checkpoint c) auth = if (c.number == number) && bytes_eq c.digest digest then Some (record { message = c; auth = auth }) else None
+told_as number digest (PrePrepare proposal) auth = None
+told_as number digest (Prepare vote) auth = None
+told_as number digest (Commit vote) auth = None
 
--- the CHECKPOINTs of that number and digest
-abbrev pub checkpoints : (number : ℕ) → (digest : List ℕ) → Log → Log
-checkpoints number digest log = filter (tells number digest) log
+abbrev pub checkpoints : (number : ℕ) → (digest : List ℕ) → Log → List (Signed model.Checkpoint)
+checkpoints number digest log = filter_map (λ m. told_as number digest m.message m.auth) log
 
--- what the first of them tells
-abbrev pub told_by : Log → Header
-told_by [] = other_header 0 0
-told_by (m ∷ ms) = header m
-
--- CHECKPOINTs of one number and digest, of which 2f + 1 are of different replicas, and no two are of one
-pub record IsCertificate (f : ℕ) (messages : Log) : Type 0 where
-  pub stable : is_stable f (headers messages) (told_by messages).number (told_by messages).digest ≡ true
-  pub all : All (λ m. tells (told_by messages).number (told_by messages).digest m ≡ true) messages
-  pub differ : SlotsDiffer (headers messages)
+abbrev pub told_checkpoint : (number : ℕ) → (digest : List ℕ) → Log → StableCheckpoint
+told_checkpoint number digest log = record { number = number; digest = digest; checkpoints = checkpoints number digest log }

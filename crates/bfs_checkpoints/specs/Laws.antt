@@ -2,10 +2,11 @@
 use Rattle.std.specs.Prelude.{◌≡◌, ℕ, true, List, length}
 use Rattle.bfs_model.specs.Server.Stored.{IsLive}
 use Rattle.bfs_model.specs.Server.Tree.{FileSystem}
-use Rattle.bfs_agreement.specs.Votes.{SlotsDiffer, is_stable}
+use Rattle.bfs_votes.specs.Votes.{SlotsDiffer, is_stable}
 use Rattle.bfs_log.specs.Logs.{Log, headers}
 use Rattle.bfs_replies.specs.Tables.{Table, IsKept}
-use Rattle.bfs_checkpoints.specs.Certificates.{IsCertificate, checkpoints, told_by}
+use Rattle.bfs_log.specs.Certificates.{MakesStable}
+use Rattle.bfs_checkpoints.specs.Certificates.{told_checkpoint}
 use Rattle.bfs_checkpoints.specs.Texts.{SpellsNode, node_text}
 use Rattle.bfs_checkpoints.specs.Outcomes.{NodeHasOtherVersion, NodeIsMalformed, SpellsIllFormedNode}
 
@@ -28,12 +29,6 @@ pub record IsReadable (clients : ℕ) (bytes : List ℕ) : Type 0 where
 abbrev pub LiveNodesAreReadAgain : Type 0
 LiveNodesAreReadAgain = (files : FileSystem) (table : Table) → IsLive files → IsKept table → SpellsNode (length table) (node_text files table) files table × IsReadable (length table) (node_text files table)
 
--- the CHECKPOINTs of a log that tell a checkpoint, which by them is stable
-pub record Certifies (f number : ℕ) (digest : List ℕ) (messages : Log) : Type 0 where
-  pub certificate : IsCertificate f messages
-  pub number_is : (told_by messages).number ≡ number
-  pub digest_is : (told_by messages).digest ≡ digest
-
--- of a log that tells nothing twice
+-- the CHECKPOINTs of a log that tell a stable checkpoint make it stable, where the log tells nothing twice
 abbrev pub AStableCheckpointHasACertificate : Type 0
-AStableCheckpointHasACertificate = (f number : ℕ) (digest : List ℕ) (log : Log) → SlotsDiffer (headers log) → is_stable f (headers log) number digest ≡ true → Certifies f number digest (checkpoints number digest log)
+AStableCheckpointHasACertificate = (f number : ℕ) (digest : List ℕ) (log : Log) → SlotsDiffer (headers log) → is_stable f (headers log) number digest ≡ true → MakesStable f (told_checkpoint number digest log)

@@ -1,14 +1,12 @@
 ghost use Rattle.std.specs.Prelude.{◌≡◌, ◌==◌, ◌≤◌, ◌-◌, ◌&&◌, ℕ, filter, find, length, take, nat_le, OnOk, OnErr, IfSome};
 ghost use Rattle.std.specs.List.{list_any};
 ghost use Rattle.std.specs.Option.{option_map};
-ghost use Rattle.bfs_log.specs.Logs.{Log};
-ghost use Rattle.bfs_checkpoints.specs.Certificates.{IsCertificate, told_by};
-ghost use Rattle.bfs_checkpoints.specs.Keeping.{IsStable, Keeping, is_of, nothing_kept, settled, settles, stable, stable_in, with_snapshot};
+ghost use Rattle.bfs_log.specs.Certificates.{MakesStable};
+ghost use Rattle.bfs_checkpoints.specs.Keeping.{IsStable, Keeping, is_of, nothing_kept, settled, settles, stable, stable_number, with_snapshot};
 ghost use Rattle.bfs_checkpoints.specs.Snapshots.{Snapshot as Taken};
 
 use crate::snapshots::Snapshot;
-use bfs_log::header_of;
-use bfs_messages::{Message, Signed};
+use bfs_log::StableCheckpoint;
 use bfs_types::Memory;
 use std::alloc::Global;
 use std::marker::Model;
@@ -29,10 +27,10 @@ impl Model for Kept {
 }
 
 impl Kept {
-    fn is_of(&self, number: u64, digest: &[u8]) -> bool
+    fn is_of(&self, number: u64, digest: &[u8; 32]) -> bool
         ensures { result ≡ is_of number digest.now self.now }
     {
-        self.number == number && self.snapshot.digest().as_slice() == digest
+        self.number == number && self.snapshot.digest() == digest
     }
 
     fn is_from(&self, number: u64) -> bool
@@ -45,12 +43,10 @@ impl Kept {
 /// What a replica was after a number, as 2f + 1 replicas have told: by it another one catches up (OSDI 1999 section 4.3).
 #[derive(Clone, Copy)]
 pub struct StableSnapshot<'a> {
-    /// The number of its checkpoint.
-    pub number: u64,
     /// The text of the last replies and of the file system.
     pub text: &'a [u8],
-    /// CHECKPOINTs of 2f + 1 replicas or more that tell its number and the digest of that state.
-    pub certificate: &'a [Signed<Message>],
+    /// The number, and the digest of that state, with CHECKPOINTs of 2f + 1 replicas or more that tell them.
+    pub checkpoint: &'a StableCheckpoint,
 }
 
 /// The snapshots that a replica keeps, in the order in which they came. Once one of them is stable it is kept with the CHECKPOINTs that
@@ -59,7 +55,7 @@ pub struct StableSnapshot<'a> {
 pub struct Snapshots {
     f: u32,
     kept: Vec<Kept>,
-    certificate: Vec<Signed<Message>>,
+    stable: Option<StableCheckpoint>,
 }
 
 impl Model for Snapshots {
@@ -67,9 +63,9 @@ impl Model for Snapshots {
 
     ghost Value = { model.Keeping };
 
-    ghost view = { λ s. record { f = s.f; kept = s.kept.items; certificate = s.certificate.items } };
+    ghost view = { λ s. record { f = s.f; kept = s.kept.items; stable = s.stable } };
 
-    ghost invariant = { λ s. model.MayBeKept s.f s.certificate.items };
+    ghost invariant = { λ s. model.MayBeKept s.f s.stable };
 }
 
 impl Snapshots {
@@ -80,7 +76,7 @@ impl Snapshots {
         Snapshots {
             f,
             kept: Vec::new(alloc),
-            certificate: Vec::new(alloc),
+            stable: None,
         }
     }
 
@@ -109,60 +105,54 @@ impl Snapshots {
 
     /// Has the CHECKPOINTs that make a checkpoint stable kept, and drops the snapshots of lower numbers, where a snapshot of that number
     /// and digest is kept and none as high is stable. It takes no memory: the CHECKPOINTs were copied before.
-    #[tactic(auto, using(crate::proofs::Stable::settled_here))]
-    pub fn settle(&mut self, certificate: Vec<Signed<Message>>)
-        requires { IsCertificate self.old.f certificate.items }
-        ensures { self.new ≡ settled certificate.items self.old }
+    pub fn settle(&mut self, checkpoint: StableCheckpoint)
+        requires { MakesStable self.old.f checkpoint }
+        ensures { self.new ≡ settled checkpoint self.old }
     {
-        if self.settles(&certificate) {
-            drop_below(&mut self.kept, number_in(&certificate));
-            self.certificate = certificate;
+        if self.settles(&checkpoint) {
+            drop_below(&mut self.kept, checkpoint.number());
+            self.stable = Some(checkpoint);
         }
     }
 
-    fn settles(&self, certificate: &[Signed<Message>]) -> bool
-        ensures { result ≡ settles certificate.now self.now }
+    fn settles(&self, checkpoint: &StableCheckpoint) -> bool
+        ensures { result ≡ settles checkpoint.now self.now }
     {
-        let number = number_in(certificate);
-        number_in(&self.certificate) < number && self.has(number, digest_in(certificate))
+        stable_number(&self.stable) < checkpoint.number()
+            && self.has(checkpoint.number(), checkpoint.digest())
     }
 
-    fn has(&self, number: u64, digest: &[u8]) -> bool
+    fn has(&self, number: u64, digest: &[u8; 32]) -> bool
         ensures { result ≡ list_any (is_of number digest.now) self.now.kept }
     {
         self.kept.iter().any(|kept| kept.is_of(number, digest))
     }
 
-    fn find_stable(&self) -> Option<&Kept>
-        ensures { option_map (λ kept. kept.now) result ≡ stable_in self.now.certificate self.now.kept }
-    {
-        match self.certificate.first() {
-            None => None,
-            Some(first) => {
-                let header = header_of(&first.message);
-                find_of(&self.kept, header.number, header.digest)
-            }
-        }
-    }
-
     /// The stable snapshot, and the CHECKPOINTs of 2f + 1 replicas or more that tell its digest. It takes no memory.
     #[tactic(auto, using(crate::proofs::Stable::found_is_stable))]
     pub fn stable(&self) -> Option<StableSnapshot<'_>>
-        ensures value { option_map (λ stable. (stable.text.now, stable.certificate.now)) result ≡ stable self.now }
-        ensures number { IfSome result (λ stable. stable.number ≡ (told_by stable.certificate.now).number) }
-        ensures certified { IfSome result (λ stable. IsStable self.now.f stable.text.now stable.certificate.now) }
+        ensures value { option_map (λ stable. (stable.text.now, stable.checkpoint.now)) result ≡ stable self.now }
+        ensures certified { IfSome result (λ stable. IsStable self.now.f stable.text.now stable.checkpoint.now) }
     {
-        let kept = self.find_stable()?;
-        let certificate = self.certificate.as_slice();
+        let checkpoint = self.stable.as_ref()?;
+        let kept = find_of(&self.kept, checkpoint.number(), checkpoint.digest())?;
         Some(StableSnapshot {
-            number: number_in(certificate),
             text: kept.snapshot.text(),
-            certificate,
+            checkpoint,
         })
     }
 }
 
-fn find_of<'a>(kept: &'a [Kept], number: u64, digest: &[u8]) -> Option<&'a Kept>
+fn stable_number(stable: &Option<StableCheckpoint>) -> u64
+    ensures { result ≡ stable_number stable.now }
+{
+    match stable {
+        None => 0,
+        Some(checkpoint) => checkpoint.number(),
+    }
+}
+
+fn find_of<'a>(kept: &'a [Kept], number: u64, digest: &[u8; 32]) -> Option<&'a Kept>
     ensures { option_map (λ one. one.now) result ≡ find (is_of number digest.now) kept.now }
 {
     kept.iter().find(|one| one.is_of(number, digest))
@@ -172,22 +162,4 @@ fn drop_below(kept: &mut Vec<Kept>, number: u64)
     ensures { kept.new.items ≡ filter (λ one. nat_le number one.number) kept.old.items }
 {
     kept.retain(|one| one.is_from(number));
-}
-
-fn number_in(certificate: &[Signed<Message>]) -> u64
-    ensures { result ≡ (told_by certificate.now).number }
-{
-    match certificate.first() {
-        None => 0,
-        Some(first) => header_of(&first.message).number,
-    }
-}
-
-fn digest_in(certificate: &[Signed<Message>]) -> &[u8]
-    ensures { result.now ≡ (told_by certificate.now).digest }
-{
-    match certificate.first() {
-        None => &[],
-        Some(first) => header_of(&first.message).digest,
-    }
 }

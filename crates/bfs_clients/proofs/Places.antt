@@ -11,7 +11,7 @@ use Rattle.std.proofs.lemmas.Option.{slice_get-get_or}
 use Rattle.std.specs.Global.{Vec}
 use Rattle.bfs_messages.specs.Messages as model
 use Rattle.bfs_messages.specs.declared.message.Message.{Message}
-use Rattle.bfs_messages.specs.declared.message.Message.TheVariants.{Request, PrePrepare, Prepare, Commit, Checkpoint, ViewChange, NewView, Reply}
+use Rattle.bfs_messages.specs.declared.message.Message.TheVariants.{Request, Order, ViewChange, NewView, Reply}
 use Rattle.bfs_messages.specs.declared.signed.Signed.{Signed}
 use Rattle.bfs_clients.specs.Clients.{Clients}
 use Rattle.bfs_clients.specs.Tallies.{Tally, all_tallied, no_replies, is_signed_reply, is_wanted, tallied_as, tallied_by, with_reply}
@@ -89,10 +89,7 @@ at_places change tallies (place ∷ places) now at d within long = go (at == pla
 either_way : (message : Message) (passes : Bool) (tally : Tally)
     → (tallied_as message passes tally ≡ tally) ⊎ ((reply : model.Reply) × (message ≡ Reply reply) × (is_wanted tally reply ≡ true) × (tallied_as message passes tally ≡ with_reply tally reply))
 either_way (Request request) passes tally = inl refl
-either_way (PrePrepare proposal) passes tally = inl refl
-either_way (Prepare vote) passes tally = inl refl
-either_way (Commit vote) passes tally = inl refl
-either_way (Checkpoint checkpoint) passes tally = inl refl
+either_way (Order message) passes tally = inl refl
 either_way (ViewChange change) passes tally = inl refl
 either_way (NewView new) passes tally = inl refl
 either_way (Reply reply) passes tally = go (is_wanted tally reply) passes refl

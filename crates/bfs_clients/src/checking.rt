@@ -3,7 +3,7 @@ ghost use Rattle.std.specs.Prelude.{◌≡◌, map, IfOk};
 ghost use Rattle.bfs_clients.specs.Tallies.{is_signed_reply};
 
 use crate::clients::Clients;
-use bfs_auth::least_texts;
+use bfs_auth::least_items;
 use bfs_messages::{Message, Signed, is_signed};
 use bfs_types::Memory;
 use rayon::prelude::*;
@@ -34,7 +34,7 @@ impl Clients {
     {
         let answers = messages
             .par_iter()
-            .with_min_len(least_texts(mean_length(messages)))
+            .with_min_len(least_items(messages, result_length))
             .map(
                 |signed: &Signed<Message>| -> bool
                     ensures { result ≡ is_signed_reply self.entry.now signed.now }
@@ -45,16 +45,9 @@ impl Clients {
     }
 }
 
-// of the results
-fn mean_length(messages: &[Signed<Message>]) -> usize {
-    let mut bytes = 0usize;
-    for signed in messages {
-        if let Message::Reply(reply) = &signed.message {
-            bytes = bytes.saturating_add(reply.result().len());
-        }
-    }
-    match messages.len() {
-        0 => 0,
-        count => bytes / count,
+fn result_length(signed: &Signed<Message>) -> usize {
+    match &signed.message {
+        Message::Reply(reply) => reply.result().len(),
+        _ => 0,
     }
 }

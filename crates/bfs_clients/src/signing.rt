@@ -4,10 +4,9 @@ ghost use Rattle.std.specs.List.{AllZip, filter_map};
 ghost use Rattle.bfs_clients.specs.Clients.{signed_request};
 
 use crate::clients::Clients;
-use bfs_auth::least_texts;
-use bfs_gather::gather;
+use bfs_auth::{gather, least_items};
 use bfs_messages::{Message, Request, Signed};
-use bfs_types::Memory;
+use bfs_types::{Memory, TryClone};
 use rayon::prelude::*;
 use std::alloc::{AllocError, Global};
 use std::thread::Threads;
@@ -37,27 +36,17 @@ impl Clients {
     ) -> Result<Vec<MaybeSigned>, AllocError>
         ensures { IfOk result (λ each. AllZip (λ request signed. IfOk signed (λ one. one ≡ signed_request self.now request)) requests.now each.items) }
     {
+        let replicas = (self.f as usize).saturating_mul(3).saturating_add(1);
         requests
             .par_iter()
-            .with_min_len(least_texts(self.mean_length(requests)))
+            .with_min_len(least_items(requests, |request| {
+                request.call().len().saturating_mul(replicas)
+            }))
             .map(
                 |request: &Request| -> MaybeSigned
                     ensures { IfOk result (λ one. one ≡ signed_request self.entry.now request.now) }
-                { self.sign(request.try_clone()?) },
+                { self.sign(request.try_clone(self.alloc)?) },
             )
             .collect(rt, self.alloc)
-    }
-
-    // what is hashed of a request, for all replicas together
-    fn mean_length(&self, requests: &[Request]) -> usize {
-        let mut bytes = 0usize;
-        for request in requests {
-            bytes = bytes.saturating_add(request.call().len());
-        }
-        let replicas = (self.f as usize).saturating_mul(3).saturating_add(1);
-        match requests.len() {
-            0 => 0,
-            count => (bytes / count).saturating_mul(replicas),
-        }
     }
 }

@@ -5,7 +5,7 @@ ghost use Rattle.bfs_clients.specs.Tallies.{agreed, has_counted, is_agreed, is_s
 
 use crate::clients::Clients;
 use bfs_messages::{Message, Reply, Signed};
-use bfs_types::{Bytes, MOST_REPLY_BYTES, Memory};
+use bfs_types::{Bytes, MOST_REPLY_BYTES, Memory, TryClone, copies_of};
 use std::alloc::Global;
 use std::marker::Model;
 use std::sync::Arc;
@@ -32,10 +32,10 @@ impl Counted {
     {
         self.result.as_slice()
     }
+}
 
-    fn try_clone(&self) -> Result<Counted, Memory>
-        ensures { IfOk result (λ copy. copy ≡ self.now) }
-    {
+impl TryClone for Counted {
+    fn try_clone(&self, _alloc: Global) -> Result<Counted, Memory> {
         Ok(Counted {
             sender: self.sender,
             result: Arc::try_clone(&self.result)?,
@@ -92,19 +92,6 @@ impl Tally {
         self.timestamp
     }
 
-    /// The same replies to the same request. `Memory` if memory runs out.
-    pub fn try_clone(&self) -> Result<Tally, Memory>
-        ensures { IfOk result (λ copy. copy ≡ self.now) }
-    {
-        Ok(Tally {
-            alloc: self.alloc,
-            f: self.f,
-            client: self.client,
-            timestamp: self.timestamp,
-            counted: copy_of(self.alloc, &self.counted)?,
-        })
-    }
-
     /// Counts a REPLY to this request, the first of its sender, if the client finds it signed. Any other message is passed over. `Memory` if
     /// memory runs out; then nothing changes.
     pub fn add(&mut self, clients: &Clients, signed: &Signed<Message>) -> Result<(), Memory>
@@ -149,7 +136,7 @@ impl Tally {
         requires { passes ≡ is_signed_reply clients.now signed.now }
         ensures { IfOk result (λ tally. tally ≡ tallied_by clients.now self.now signed.now) }
     {
-        let mut tally = self.try_clone()?;
+        let mut tally = self.try_clone(self.alloc)?;
         tally.add_checked(clients, signed, passes)?;
         Ok(tally)
     }
@@ -236,12 +223,14 @@ impl Tally {
     }
 }
 
-fn copy_of(alloc: Global, replies: &[Counted]) -> Result<Vec<Counted>, Memory>
-    ensures { IfOk result (λ copies. copies.items ≡ replies.now) }
-{
-    let mut copies = Vec::with_capacity(alloc, replies.len())?;
-    for one in replies {
-        copies.push(one.try_clone()?)?;
+impl TryClone for Tally {
+    fn try_clone(&self, alloc: Global) -> Result<Tally, Memory> {
+        Ok(Tally {
+            alloc,
+            f: self.f,
+            client: self.client,
+            timestamp: self.timestamp,
+            counted: copies_of(alloc, &self.counted)?,
+        })
     }
-    Ok(copies)
 }

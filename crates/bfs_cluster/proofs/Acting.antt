@@ -6,12 +6,11 @@ use Rattle.std.specs.Option.{option_map}
 use Rattle.std.proofs.lemmas.Bool.{lt-ltb}
 use Rattle.std.proofs.lemmas.List.{length-set, set-get_or}
 use Rattle.std.proofs.lemmas.Option.{get_or_from_slice_get, slice_get-get_or}
-use Rattle.bfs_log.specs.Logs.{Log}
 use Rattle.bfs_model.specs.Bytes.Call.{◌>>=◌}
 use Rattle.bfs_messages.specs.declared.message.Message.{Message}
 use Rattle.bfs_messages.specs.declared.signed.Signed.{Signed}
 use Rattle.bfs_node.specs.Advancing.{advancing}
-use Rattle.bfs_node.specs.Nodes.{Node, Outcome}
+use Rattle.bfs_node.specs.Nodes.{Messages, Node, Outcome}
 use Rattle.bfs_node.specs.Receivers.{receivers_of}
 use Rattle.bfs_node.specs.declared.receivers.Receivers.{Receivers}
 use Rattle.bfs_node.specs.declared.receivers.Receivers.TheVariants.{Replicas, Client}
@@ -29,7 +28,7 @@ with_itself world number replica is =
     ap (λ (replicas : List Replica). record world { replicas = replicas })
     (ap (slice_set world.replicas number) (sym (get_or_from_slice_get world.replicas number replica replica is)) ∙ set-get_or world.replicas number replica)
 
-pub acted : (world : World) (number : ℕ) (old new : Replica) (done : Option Outcome) (sent : Option Log) → slice_get world.replicas number ≡ Some old
+pub acted : (world : World) (number : ℕ) (old new : Replica) (done : Option Outcome) (sent : Option Messages) → slice_get world.replicas number ≡ Some old
     → Acts done old new sent → posted_if number (with_replica world number new) sent ≡ done_if number world done
 acted world number old new None sent is did =
     ap (posted_if number (with_replica world number new)) did.1 ∙ ap (with_replica world number) did.0 ∙ with_itself world number old is
@@ -49,7 +48,7 @@ pub stands : (replicas : List Replica) (number : ℕ) (replica : Replica) → nu
 stands replicas number replica within is = slice_get-get_or replicas number replica within ∙ ap (λ (r : Replica). Some r) (sym is)
 
 -- the same of what the replica of that number does, if it is heard
-pub acted_at : (act : Node → Option Outcome) (world : World) (number : ℕ) (old new : Replica) (sent : Option Log)
+pub acted_at : (act : Node → Option Outcome) (world : World) (number : ℕ) (old new : Replica) (sent : Option Messages)
     → slice_get world.replicas number ≡ Some old → Acts (doing act old) old new sent
     → posted_if number (with_replica world number new) sent ≡ done_if number world (node_at world number >>= act)
 acted_at act world number old new sent is did =
@@ -64,7 +63,7 @@ posted_keeps sender world signed = go (receivers_of signed.message)
     go Replicas = refl
     go (Client client) = refl
 
-all_posted_keep : (sender : ℕ) (world : World) (sent : Log) → (fold (posted sender) world sent).replicas ≡ world.replicas
+all_posted_keep : (sender : ℕ) (world : World) (sent : Messages) → (fold (posted sender) world sent).replicas ≡ world.replicas
 all_posted_keep sender world [] = refl
 all_posted_keep sender world (signed ∷ sent) = all_posted_keep sender (posted sender world signed) sent ∙ posted_keeps sender world signed
 
@@ -118,7 +117,7 @@ pub acts_some : (act : Node → Option Outcome) (world : World) (number : ℕ) (
 acts_some act world number old is some = subst (λ (done : Option Outcome). IsSome done) (sym (at_number act world number old is)) some
 
 -- what sends something was done
-pub sends : {X : Type 0} (view : X → Log) (done : Option Outcome) (old new : Replica) (sent : Option X) → Acts done old new (option_map view sent) → IsSome sent → IsSome done
+pub sends : {X : Type 0} (view : X → Messages) (done : Option Outcome) (old new : Replica) (sent : Option X) → Acts done old new (option_map view sent) → IsSome sent → IsSome done
 sends view None old new None did some = some
 sends view None old new (Some sent) did some = absurd (let none : Some (view sent) ≡ None = did.1 in cc)
 sends view (Some done) old new sent did some = refl

@@ -6,12 +6,11 @@ use Rattle.std.proofs.lemmas.Bool.{le-ltb}
 use Rattle.std.proofs.lemmas.List.Elements.{All-tail}
 use Rattle.std.proofs.lemmas.List.{append-nil, append_assoc, drop_all, get_or-set_same, length-append, length-set, set-set, set_at, take_all}
 use Rattle.std.proofs.lemmas.Option.{same_Some, slice_get-get_or}
-use Rattle.bfs_log.specs.Logs.{Log}
 use Rattle.bfs_messages.specs.declared.message.Message.{Message}
 use Rattle.bfs_messages.specs.declared.signed.Signed.{Signed}
 use Rattle.bfs_model.specs.Bytes.Call.{◌>>=◌}
 use Rattle.bfs_node.specs.Advancing.{advancing}
-use Rattle.bfs_node.specs.Nodes.{Node, Outcome}
+use Rattle.bfs_node.specs.Nodes.{Messages, Node, Outcome}
 use Rattle.bfs_node.specs.Receivers.{receivers_of}
 use Rattle.bfs_node.specs.declared.receivers.Receivers.{Receivers}
 use Rattle.bfs_node.specs.declared.receivers.Receivers.TheVariants.{Replicas, Client}
@@ -27,13 +26,13 @@ use Rattle.bfs_cluster.specs.declared.side_by_side.Busy.{Busy}
 -- One more batch -------------------------------------------------------------------------------------------------------------
 
 module _ (Executes : Node → Type 0) where
-  pub ran_more : (all : List Log) (first : Log) (old now next : Replica) → Ran Executes all old now → Acts (doing advancing now) now next (Some first) → Executes now.node
+  pub ran_more : (all : List Messages) (first : Messages) (old now next : Replica) → Ran Executes all old now → Acts (doing advancing now) now next (Some first) → Executes now.node
       → Ran Executes (all ++ first ∷ []) old next
   ran_more [] first old now next so_far did here = subst (λ (from : Replica). Ran Executes (first ∷ []) from next) so_far (next, did, here, refl)
   ran_more (sent ∷ all) first old now next so_far did here = (so_far.0, so_far.1, so_far.2, ran_more all first so_far.0 now next so_far.3 did here)
 
   -- where nothing is sent, nothing was done
-  pub runs_out : (all : List Log) (old now new : Replica) → Ran Executes all old now → Acts (doing advancing now) now new None → RunsOut Executes all old new
+  pub runs_out : (all : List Messages) (old now new : Replica) → Ran Executes all old now → Acts (doing advancing now) now new None → RunsOut Executes all old new
   runs_out all old now new so_far did = go (doing advancing now) refl did
     where
       go : (done : Option Outcome) → doing advancing now ≡ done → Acts done now new None → RunsOut Executes all old new
@@ -53,12 +52,12 @@ module _ (replicas : List Replica) (turn : Option ℕ) where
       go Replicas = refl
       go (Client client) = refl
 
-  sent_beside : (sender : ℕ) (world : World) (sent : Log) → fold (posted sender) (beside world) sent ≡ beside (fold (posted sender) world sent)
+  sent_beside : (sender : ℕ) (world : World) (sent : Messages) → fold (posted sender) (beside world) sent ≡ beside (fold (posted sender) world sent)
   sent_beside sender world [] = refl
   sent_beside sender world (signed ∷ sent) =
       ap (λ (w : World). fold (posted sender) w sent) (posted_beside sender world signed) ∙ sent_beside sender (posted sender world signed) sent
 
-  all_beside : (sender : ℕ) (world : World) (all : List Log) → posted_all sender (beside world) all ≡ beside (posted_all sender world all)
+  all_beside : (sender : ℕ) (world : World) (all : List Messages) → posted_all sender (beside world) all ≡ beside (posted_all sender world all)
   all_beside sender world [] = refl
   all_beside sender world (sent ∷ all) =
       ap (λ (w : World). posted_all sender w all) (sent_beside sender world sent) ∙ all_beside sender (fold (posted sender) world sent) all
@@ -90,7 +89,7 @@ module _ (Executes : Node → Type 0) where
       let none : advancing node ≡ None = sym (ap (λ (found : Option Node). found >>= advancing) there) ∙ ended in
       absurd (true≢false (sym some ∙ ap is_some none))
 
-  one_turn : (all : List Log) (world : World) (n : ℕ) (old new : Replica) → world.turn ≡ Some n → n < length world.replicas → slice_get world.replicas n ≡ Some old
+  one_turn : (all : List Messages) (world : World) (n : ℕ) (old new : Replica) → world.turn ≡ Some n → n < length world.replicas → slice_get world.replicas n ≡ Some old
       → Ran Executes all old new → doing advancing new ≡ None
       → Comes Executes world (beside (slice_set world.replicas n new) (Some (n + 1)) (posted_all n world all))
   one_turn [] world n old new turn within is ran ended =
@@ -159,7 +158,7 @@ all_turns Executes [] [] front world are turn ran =
     (λ node there some. absurd (let never : None ≡ Some node = there in cc)))
 all_turns Executes (one ∷ busy) (old ∷ olds) front world are turn ran =
     let n : ℕ = length front in
-    let sent : List Log = sent_by one in
+    let sent : List Messages = sent_by one in
     let replica : Replica = one.replica in
     let next : World = beside (slice_set world.replicas n replica) (Some (n + 1)) (posted_all n world sent) in
     let longer : length (front ++ replica ∷ []) ≡ n + 1 = length-append front (replica ∷ []) in
@@ -208,7 +207,7 @@ pub came_back : {first world end : World} {given now : List Busy} → given ≡ 
 came_back {first} {world} {end} {given} {now} all same is = is ∙ ap (fold back first) all ∙ ap (λ (w : World). fold back w now) same
 
 -- all have taken requests, and send nothing
-pub have_received : (messages : Log) (before now : List Busy) (front : List Replica) (world : World) → AllZip (CameTo messages) before now → AreBack now
+pub have_received : (messages : Messages) (before now : List Busy) (front : List Replica) (world : World) → AllZip (CameTo messages) before now → AreBack now
     → All (λ one. one.sent.items ≡ []) before
     → fold back (record world { replicas = front }) now ≡ record world { replicas = front ++ map (with_requests messages) (map (λ one. one.replica) before) }
 have_received messages [] [] front world came all none = ap (λ (replicas : List Replica). record world { replicas = replicas }) (sym (append-nil front))

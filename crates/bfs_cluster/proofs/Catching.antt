@@ -3,13 +3,13 @@ use Rattle.std.proofs.Common.{◌≡◌, ◌∙◌, ℕ, zero, suc, Bool, true, 
 use Rattle.std.specs.Prelude.{IfOk}
 use Rattle.std.specs.List.{slice_get}
 use Rattle.std.specs.Option.{option_map}
-use Rattle.bfs_log.specs.Logs.{Log}
 use Rattle.bfs_node.specs.Nodes.{Node}
 use Rattle.bfs_cluster.specs.CatchingUp.{AllStay, CatchesUp, HasNoOther, Offer, Times, offer_to}
 use Rattle.bfs_cluster.specs.Inside.Trying.{AllCatchUpIf, CatchesUpIf, TakesIf, Tries}
 use Rattle.bfs_cluster.specs.Steps.{Rests, Round, Settles}
 use Rattle.bfs_cluster.specs.World.{Replica, World, node_at, node_if_heard}
 use Rattle.bfs_cluster.proofs.Acting.{with_itself, with_replica}
+use Rattle.bfs_log.specs.Certificates.{StableCheckpoint}
 
 -- One replica ---------------------------------------------------------------------------------------------------------------
 
@@ -48,18 +48,18 @@ tried world number old new offer took is offers tries = go took tries
       ap (with_replica world number) did.1 ∙ with_itself world number old is,
     )
 
-pub if_tried : {E : Type 0} (result : Result Bool E) (world : World) (number : ℕ) (old new : Replica) (text : List ℕ) (certificate : Log) (now : World)
-    → slice_get world.replicas number ≡ Some old → offer_to world number ≡ Some (text, certificate) → now ≡ with_replica world number new
-    → IfOk result (λ took. Tries took old text certificate new) → IfOk result (λ took. TakesIf took world number now)
-if_tried (Err e) world number old new text certificate now is offers comes tries = tries
-if_tried (Ok took) world number old new text certificate now is offers comes tries =
-    subst (TakesIf took world number) (sym comes) (tried world number old new (text, certificate) took is offers tries)
+pub if_tried : {E : Type 0} (result : Result Bool E) (world : World) (number : ℕ) (old new : Replica) (text : List ℕ) (checkpoint : StableCheckpoint) (now : World)
+    → slice_get world.replicas number ≡ Some old → offer_to world number ≡ Some (text, checkpoint) → now ≡ with_replica world number new
+    → IfOk result (λ took. Tries took old text checkpoint new) → IfOk result (λ took. TakesIf took world number now)
+if_tried (Err e) world number old new text checkpoint now is offers comes tries = tries
+if_tried (Ok took) world number old new text checkpoint now is offers comes tries =
+    subst (TakesIf took world number) (sym comes) (tried world number old new (text, checkpoint) took is offers tries)
 
 -- what was copied is what is offered
-pub copied : {X : Type 0} (view : X → Offer) (given : Option X) (copy : X) (offers : Option Offer) (text : List ℕ) (certificate : Log) → option_map view given ≡ offers → given ≡ Some copy
-    → text ≡ (view copy).0 → certificate ≡ (view copy).1 → offers ≡ Some (text, certificate)
-copied view given copy offers text certificate is some first second =
-    sym is ∙ ap (option_map view) some ∙ ap₂ (λ (t : List ℕ) (c : Log). Some (t, c)) (sym first) (sym second)
+pub copied : {X : Type 0} (view : X → Offer) (given : Option X) (copy : X) (offers : Option Offer) (text : List ℕ) (checkpoint : StableCheckpoint) → option_map view given ≡ offers → given ≡ Some copy
+    → text ≡ (view copy).0 → checkpoint ≡ (view copy).1 → offers ≡ Some (text, checkpoint)
+copied view given copy offers text checkpoint is some first second =
+    sym is ∙ ap (option_map view) some ∙ ap₂ (λ (t : List ℕ) (c : StableCheckpoint). Some (t, c)) (sym first) (sym second)
 
 -- One after another ---------------------------------------------------------------------------------------------------------
 

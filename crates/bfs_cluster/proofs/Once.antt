@@ -5,17 +5,16 @@ use Rattle.std.proofs.lemmas.Bool.{ltb-false, ltb-true}
 use Rattle.std.proofs.lemmas.Option.{same_Some}
 use Rattle.bfs_checkpoints.specs.Laws.{ATextSpellsOneNode, IsReadable, LiveNodesAreReadAgain}
 use Rattle.bfs_checkpoints.specs.Texts.{node_digest}
-use Rattle.bfs_log.specs.Logs.{Log}
 use Rattle.bfs_node.specs.Adopting.{Adopts, IsAdoptionRefusal, IsRefusalIf, IsTextRefusal, adopted}
 use Rattle.bfs_node.specs.Nodes.{Node}
 use Rattle.bfs_node.specs.declared.error.NodeError.{NodeError}
 use Rattle.bfs_node.specs.declared.error.NodeError.TheVariants as error
-use Rattle.bfs_order.specs.Replica.Installing.{digest_of}
 use Rattle.bfs_cluster.specs.CatchingUp.{AllCatchUp, AllStay, CatchesUp, HasNoOther, Offer, Refuses, StaysBehind, Takes, Times}
 use Rattle.bfs_cluster.specs.Laws.Settling.{SettlesToOneWorld}
 use Rattle.bfs_cluster.specs.Steps.{Rests, Round}
 use Rattle.bfs_cluster.specs.World.{World, with_node}
 use Rattle.bfs_cluster.proofs.Settling.{rests_once}
+use Rattle.bfs_log.specs.Certificates.{StableCheckpoint}
 
 -- What leads to one world ---------------------------------------------------------------------------------------------------
 
@@ -77,22 +76,22 @@ module _ (Executes : Node → Type 0) where
 -- Adoptions -----------------------------------------------------------------------------------------------------------------
 
 module _ (one_node : ATextSpellsOneNode) (read_again : LiveNodesAreReadAgain) where
-  adopts_once : (node : Node) (text : List ℕ) (certificate : Log) (one other : Node) → Adopts node text certificate one → Adopts node text certificate other → one ≡ other
-  adopts_once node text certificate one other a b =
+  adopts_once : (node : Node) (text : List ℕ) (checkpoint : StableCheckpoint) (one other : Node) → Adopts node text checkpoint one → Adopts node text checkpoint other → one ≡ other
+  adopts_once node text checkpoint one other a b =
       let same = one_node (length node.table) (length node.table) text b.files a.files b.table a.table b.spells a.spells in
-      a.now_is ∙ ap₂ (adopted node certificate) same.0 same.1 ∙ sym b.now_is
+      a.now_is ∙ ap₂ (adopted node checkpoint) same.0 same.1 ∙ sym b.now_is
 
   -- what is adopted is not refused
-  not_refused : (node : Node) (text : List ℕ) (certificate : Log) (now : Node) (e : NodeError) → Adopts node text certificate now → IsAdoptionRefusal node text certificate e → ⊥
-  not_refused node text certificate now e a refusal =
-      go e (subst (λ (may : Bool). IsRefusalIf may (length node.table) text (digest_of certificate) e) a.may refusal)
+  not_refused : (node : Node) (text : List ℕ) (checkpoint : StableCheckpoint) (now : Node) (e : NodeError) → Adopts node text checkpoint now → IsAdoptionRefusal node text checkpoint e → ⊥
+  not_refused node text checkpoint now e a refusal =
+      go e (subst (λ (may : Bool). IsRefusalIf may (length node.table) text checkpoint.digest e) a.may refusal)
     where
       readable : IsReadable (length node.table) text
       readable =
           subst (λ (n : ℕ). IsReadable n text) a.spells.clients_are
           (subst (IsReadable (length a.table)) (sym a.spells.spelled) (read_again a.files a.table a.live a.spells.kept).1)
 
-      go : (e : NodeError) → IsTextRefusal (length node.table) text (digest_of certificate) e → ⊥
+      go : (e : NodeError) → IsTextRefusal (length node.table) text checkpoint.digest e → ⊥
       go error.MalformedText r = r.1 a.files a.table a.spells
       go error.WrongVersion r = readable.not_other r
       go error.NotWellFormed r = readable.not_ill_formed r

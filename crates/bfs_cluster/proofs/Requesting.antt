@@ -3,15 +3,14 @@ use Rattle.std.proofs.Common.{◌≡◌, ◌∙◌, ℕ, zero, suc, ◌+◌, ◌
 use Rattle.std.specs.Prelude.{IsSome, ◌==◌, get_or, if◌then◌else◌, is_some}
 use Rattle.std.specs.List.{fold, list_all, list_any, range_with_len, slice_get, slice_set}
 use Rattle.std.proofs.lemmas.Bool.{and_parts, eqb-true, or_parts}
-use Rattle.bfs_log.specs.Logs.{Log}
 use Rattle.bfs_model.specs.Bytes.Call.{◌>>=◌}
 use Rattle.bfs_messages.specs.Messages as model
 use Rattle.bfs_messages.specs.declared.message.Message.{Message}
-use Rattle.bfs_messages.specs.declared.message.Message.TheVariants.{Request, PrePrepare, Prepare, Commit, Checkpoint, ViewChange, NewView, Reply}
+use Rattle.bfs_messages.specs.declared.message.Message.TheVariants.{Request, Order, ViewChange, NewView, Reply}
 use Rattle.bfs_messages.specs.declared.signed.Signed.{Signed}
 use Rattle.bfs_node.specs.Advancing.{unless_refused}
 use Rattle.bfs_node.specs.Delivering.{after_request, after_requests, if_taken, message_delivered, message_refusal, request_in, request_refusal, with_request}
-use Rattle.bfs_node.specs.Nodes.{Node}
+use Rattle.bfs_node.specs.Nodes.{Messages, Node}
 use Rattle.bfs_node.specs.declared.error.NodeError.{NodeError}
 use Rattle.bfs_cluster.proofs.Acting.{stands, with_itself}
 use Rattle.bfs_cluster.proofs.Each.{one_more}
@@ -74,10 +73,7 @@ module _ (world : World) (number : ℕ) (signed : Signed Message) where
       ≡ placed (record replica { node = after_request replica.node signed message })
   by_message replica (Request request) is heard at =
       by_refusal replica (request_in signed request) (request_refusal replica.node (request_in signed request)) heard at
-  by_message replica (PrePrepare proposal) is heard at = absurd (true≢false (sym is))
-  by_message replica (Prepare vote) is heard at = absurd (true≢false (sym is))
-  by_message replica (Commit vote) is heard at = absurd (true≢false (sym is))
-  by_message replica (Checkpoint checkpoint) is heard at = absurd (true≢false (sym is))
+  by_message replica (Order message) is heard at = absurd (true≢false (sym is))
   by_message replica (ViewChange change) is heard at = absurd (true≢false (sym is))
   by_message replica (NewView new) is heard at = absurd (true≢false (sym is))
   by_message replica (Reply reply) is heard at = absurd (true≢false (sym is))
@@ -107,7 +103,7 @@ requested_once signed is world =
     fold_same (handed signed) (changing (with_requests (signed ∷ []))) (λ w number. comes w number signed is) world (range_with_len 0 (length world.replicas))
     ∙ at_each (with_requests (signed ∷ [])) world
 
-then_more : (signed : Signed Message) (messages : Log) (heard : Bool) (node : Node)
+then_more : (signed : Signed Message) (messages : Messages) (heard : Bool) (node : Node)
     → with_requests messages (with_requests (signed ∷ []) (record { heard = heard; node = node })) ≡ with_requests (signed ∷ messages) (record { heard = heard; node = node })
 then_more signed messages true node = refl
 then_more signed messages false node = refl
@@ -116,7 +112,7 @@ none : (heard : Bool) (node : Node) → with_requests [] (record { heard = heard
 none true node = refl
 none false node = refl
 
-all_more : (signed : Signed Message) (messages : Log) (replicas : List Replica) → map (with_requests messages) (map (with_requests (signed ∷ [])) replicas) ≡ map (with_requests (signed ∷ messages)) replicas
+all_more : (signed : Signed Message) (messages : Messages) (replicas : List Replica) → map (with_requests messages) (map (with_requests (signed ∷ [])) replicas) ≡ map (with_requests (signed ∷ messages)) replicas
 all_more signed messages [] = refl
 all_more signed messages (replica ∷ rest) =
     ap₂ (λ (first : Replica) (more : List Replica). first ∷ more) (then_more signed messages replica.heard replica.node) (all_more signed messages rest)
@@ -125,7 +121,7 @@ all_none : (replicas : List Replica) → map (with_requests []) replicas ≡ rep
 all_none [] = refl
 all_none (replica ∷ rest) = ap₂ (λ (first : Replica) (more : List Replica). first ∷ more) (none replica.heard replica.node) (all_none rest)
 
-pub come : (messages : Log) → list_all is_request messages ≡ true → (world : World) → fold requested world messages ≡ record world { replicas = map (with_requests messages) world.replicas }
+pub come : (messages : Messages) → list_all is_request messages ≡ true → (world : World) → fold requested world messages ≡ record world { replicas = map (with_requests messages) world.replicas }
 come [] all world = ap (λ (replicas : List Replica). record world { replicas = replicas }) (sym (all_none world.replicas))
 come (signed ∷ messages) all world =
     let both = and_parts (is_request signed) (list_all is_request messages) all in
@@ -180,16 +176,16 @@ module _ (world : World) (none : list_any is_heard world.replicas ≡ false) whe
       ap (λ (node : Option Node). fold (handed signed) (done_if number world (node >>= delivery signed)) numbers) (silent world.replicas none number)
       ∙ lost signed numbers
 
-  pub none_come : (messages : Log) → fold requested world messages ≡ world
+  pub none_come : (messages : Messages) → fold requested world messages ≡ world
   none_come [] = refl
   none_come (signed ∷ messages) =
       ap (λ (w : World). fold requested w messages) (lost signed (range_with_len 0 (length world.replicas))) ∙ none_come messages
 
 -- Whether there is a request -----------------------------------------------------------------------------------------------
 
-pub none_is_there : (messages : Log) (world : World) → (length messages == 0) ≡ true → world ≡ fold requested world messages
+pub none_is_there : (messages : Messages) (world : World) → (length messages == 0) ≡ true → world ≡ fold requested world messages
 none_is_there [] world none = refl
 none_is_there (signed ∷ messages) world none = absurd (let never : suc (length messages) ≡ 0 = eqb-true _ _ none in omega (arith, never))
 
-pub has_requests : (messages : Log) (world : World) → (length messages == 0) ≡ false → list_any is_heard world.replicas ≡ true → HasRequests world messages
-has_requests messages world more any = ((λ none. true≢false (sym (ap (λ (all : Log). length all == 0) none) ∙ more)), some_heard world any)
+pub has_requests : (messages : Messages) (world : World) → (length messages == 0) ≡ false → list_any is_heard world.replicas ≡ true → HasRequests world messages
+has_requests messages world more any = ((λ none. true≢false (sym (ap (λ (all : Messages). length all == 0) none) ∙ more)), some_heard world any)

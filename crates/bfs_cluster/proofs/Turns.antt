@@ -1,10 +1,9 @@
 -- What a replica does at its turn.
 use Rattle.std.proofs.Common.{◌≡◌, ◌∙◌, Bool, ◌&&◌, List, [], ◌∷◌, Option, Some, None, true, false, refl, sym, ap, subst}
 use Rattle.std.specs.Option.{option_map}
-use Rattle.bfs_log.specs.Logs.{Log}
 use Rattle.bfs_node.specs.Advancing.{advancing, next_of, unless_refused, with_due_checkpoint}
 use Rattle.bfs_node.specs.Executing.{after_execution, execution, is_next, is_ready}
-use Rattle.bfs_node.specs.Nodes.{Node, Outcome}
+use Rattle.bfs_node.specs.Nodes.{Messages, Node, Outcome}
 use Rattle.bfs_node.specs.declared.error.NodeError.{NodeError}
 use Rattle.bfs_cluster.specs.Inside.Acts.{Acts, CheckpointsAfter, doing}
 use Rattle.bfs_cluster.specs.Inside.Aside.{Ran}
@@ -16,11 +15,11 @@ pub if_heard : (act : Node → Option Outcome) (old : Replica) → old.heard ≡
 if_heard act old heard =
     ap (λ (h : Bool). doing act (record { heard = h; node = old.node })) heard
 
-same_outcome : (outcome : Outcome) (now : Node) (sent : Log) → outcome.now ≡ now → outcome.sent ≡ sent → outcome ≡ record { now = now; sent = sent }
+same_outcome : (outcome : Outcome) (now : Node) (sent : Messages) → outcome.now ≡ now → outcome.sent ≡ sent → outcome ≡ record { now = now; sent = sent }
 same_outcome outcome now sent first second =
-    ap (λ (node : Node). record { now = node; sent = outcome.sent }) first ∙ ap (λ (log : Log). record { now = now; sent = log }) second
+    ap (λ (node : Node). record { now = node; sent = outcome.sent }) first ∙ ap (λ (log : Messages). record { now = now; sent = log }) second
 
-came : (new : Replica) (sent : Log) (outcome : Outcome) → new.heard ≡ true → outcome ≡ record { now = new.node; sent = sent }
+came : (new : Replica) (sent : Messages) (outcome : Outcome) → new.heard ≡ true → outcome ≡ record { now = new.node; sent = sent }
     → (new ≡ record { heard = true; node = outcome.now }) × (Some sent ≡ Some outcome.sent)
 came new sent outcome heard is = (
   ap (λ (h : Bool). record { heard = h; node = new.node }) heard ∙ ap (λ (o : Outcome). record { heard = true; node = o.now }) (sym is),
@@ -28,7 +27,7 @@ came new sent outcome heard is = (
 )
 
 -- a batch is executed, and then a checkpoint made where one is due
-pub executed : (old between new : Replica) (before sent : Log) → old.heard ≡ true → between.heard ≡ true
+pub executed : (old between new : Replica) (before sent : Messages) → old.heard ≡ true → between.heard ≡ true
     → option_map (option_map (λ (outcome : Outcome). outcome.sent)) (execution old.node) ≡ Some (Some before)
     → option_map (after_execution old.node) (execution old.node) ≡ Some between.node → CheckpointsAfter between before new sent
     → Acts (doing advancing old) old new (Some sent)
@@ -47,13 +46,13 @@ executed old between new before sent heard stays told now after =
 -- Calls that are refused or done -------------------------------------------------------------------------------------------
 
 -- it did that
-pub did : (refusal : Node → Option NodeError) (done : Node → Outcome) (old new : Replica) (sent : Log) → old.heard ≡ true → refusal old.node ≡ None
+pub did : (refusal : Node → Option NodeError) (done : Node → Outcome) (old new : Replica) (sent : Messages) → old.heard ≡ true → refusal old.node ≡ None
     → new.heard ≡ old.heard → new.node ≡ (done old.node).now → sent ≡ (done old.node).sent
     → Acts (doing (λ node. unless_refused (refusal node) (Some (done node))) old) old new (Some sent)
 did refusal done old new sent heard none same now said =
     subst (λ (ran : Option Outcome). Acts ran old new (Some sent))
     (sym (if_heard (λ node. unless_refused (refusal node) (Some (done node))) old heard ∙ ap (λ (r : Option NodeError). unless_refused r (Some (done old.node))) none))
-    (ap (λ (h : Bool). record { heard = h; node = new.node }) (same ∙ heard) ∙ ap (λ (n : Node). record { heard = true; node = n }) now, ap (λ (log : Log). Some log) said)
+    (ap (λ (h : Bool). record { heard = h; node = new.node }) (same ∙ heard) ∙ ap (λ (n : Node). record { heard = true; node = n }) now, ap (λ (log : Messages). Some log) said)
 
 -- Whether a batch is next ---------------------------------------------------------------------------------------------------
 
@@ -80,7 +79,7 @@ pub none_ready : (old : Replica) → has_ready old ≡ false → Acts (doing adv
 none_ready old none = subst (λ (done : Option Outcome). Acts done old old None) (sym (nothing_ready old none)) (refl, refl)
 
 -- where something is sent, one was
-pub was_ready : (old new : Replica) (sent : Log) → Acts (doing advancing old) old new (Some sent) → has_ready old ≡ true
+pub was_ready : (old new : Replica) (sent : Messages) → Acts (doing advancing old) old new (Some sent) → has_ready old ≡ true
 was_ready old new sent did = go (has_ready old) refl
   where
     go : (ready : Bool) → has_ready old ≡ ready → ready ≡ true
@@ -89,6 +88,6 @@ was_ready old new sent did = go (has_ready old) refl
         let never : Some sent ≡ None = (subst (λ (done : Option Outcome). Acts done old new (Some sent)) (nothing_ready old e) did).1 in
         absurd (cc)
 
-pub first_ready : (Executes : Node → Type 0) (all : List Log) (old now : Replica) → Ran Executes all old now → has_ready now ≡ true → has_ready old ≡ true
+pub first_ready : (Executes : Node → Type 0) (all : List Messages) (old now : Replica) → Ran Executes all old now → has_ready now ≡ true → has_ready old ≡ true
 first_ready Executes [] old now so_far ready = subst (λ (r : Replica). has_ready r ≡ true) so_far ready
 first_ready Executes (first ∷ rest) old now so_far ready = was_ready old so_far.0 first so_far.1

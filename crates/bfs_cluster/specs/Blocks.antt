@@ -1,13 +1,12 @@
 -- The requests of a block come to the replicas.
 use Rattle.std.specs.Prelude.{◌≢◌, ℕ, [], length, ◌⊎◌, Option, Some}
 use Rattle.std.specs.List.{fold, range_with_len}
-use Rattle.bfs_log.specs.Logs.{Log}
 use Rattle.bfs_model.specs.Bytes.Call.{◌>>=◌}
 use Rattle.bfs_model.specs.Server.Tree.{Time}
 use Rattle.bfs_messages.specs.declared.message.Message.{Message}
 use Rattle.bfs_messages.specs.declared.signed.Signed.{Signed}
 use Rattle.bfs_node.specs.Advancing.{unless_refused}
-use Rattle.bfs_node.specs.Nodes.{Node, Outcome}
+use Rattle.bfs_node.specs.Nodes.{Messages, Node, Outcome}
 use Rattle.bfs_node.specs.Proposing.{proposal_refusal, proposed}
 use Rattle.bfs_cluster.specs.Steps.{handed}
 use Rattle.bfs_cluster.specs.World.{SomeActs, SomeHeard, World, done_if, node_at}
@@ -28,13 +27,13 @@ abbrev pub proposing : Time → World → (number : ℕ) → World
 proposing time world number = done_if number world (node_at world number >>= proposal time)
 
 -- requests, already signed by their clients, come to each replica, one after another; then each proposes at that time
-abbrev pub with_block : World → Time → Log → World
+abbrev pub with_block : World → Time → Messages → World
 with_block world time requests = to_each (proposing time) (fold requested world requests)
 
 -- a request comes to some replica that is heard
-abbrev pub HasRequests : World → Log → Type 0
+abbrev pub HasRequests : World → Messages → Type 0
 HasRequests world requests = (requests ≢ []) × SomeHeard world
 
 -- or one that is heard proposes then
-abbrev pub HasBlockWork : World → Time → Log → Type 0
+abbrev pub HasBlockWork : World → Time → Messages → Type 0
 HasBlockWork world time requests = HasRequests world requests ⊎ SomeActs (proposal time) (fold requested world requests)

@@ -3,23 +3,22 @@
 use Rattle.std.specs.Prelude.{◌≡◌, ℕ, zero, suc, ◌<◌, List, [], ◌∷◌, Option, Some, None, IsSome, nat_lt, if◌then◌else◌}
 use Rattle.bfs_model.specs.Bytes.Call.{◌>>=◌}
 use Rattle.bfs_checkpoints.specs.Keeping.{stable}
-use Rattle.bfs_log.specs.Logs.{Log}
 use Rattle.bfs_node.specs.Adopting.{Adopts, IsAdoptionRefusal}
 use Rattle.bfs_node.specs.Nodes.{Node}
 use Rattle.bfs_node.specs.declared.error.NodeError.{NodeError}
-use Rattle.bfs_order.specs.Replica.Installing.{number_of}
+use Rattle.bfs_log.specs.Certificates.{StableCheckpoint}
 use Rattle.bfs_cluster.specs.World.{Replica, World, node_at, with_node}
 
 -- What is offered ----------------------------------------------------------------------------------------------------------
 
--- the text of a stable snapshot, and its certificate
+-- the text of a stable snapshot, and what makes it stable
 abbrev pub Offer : Type 0
-Offer = List ℕ × Log
+Offer = List ℕ × StableCheckpoint
 
 -- above the number last executed
 abbrev pub if_above : (last : ℕ) → Option Offer → Option Offer
 if_above last None = None
-if_above last (Some offer) = if nat_lt last (number_of offer.1) then Some offer else None
+if_above last (Some offer) = if nat_lt last offer.1.number then Some offer else None
 
 -- a silent replica offers nothing
 abbrev pub offered : (last : ℕ) → Replica → Option Offer

@@ -2,11 +2,10 @@
 use Rattle.std.specs.Prelude.{ℕ, Bool, true, List, [], ◌∷◌, ◌++◌, map, slice_get, slice_set, Option, Some, None, IsSome, if◌then◌else◌}
 use Rattle.std.specs.List.{fold, range_with_len}
 use Rattle.std.specs.Option.{option_map, unwrap_or}
-use Rattle.bfs_log.specs.Logs.{Log}
 use Rattle.bfs_model.specs.Bytes.Call.{◌>>=◌}
 use Rattle.bfs_messages.specs.declared.message.Message.{Message}
 use Rattle.bfs_messages.specs.declared.signed.Signed.{Signed}
-use Rattle.bfs_node.specs.Nodes.{Node, Outcome, keys_of_replica, new_node}
+use Rattle.bfs_node.specs.Nodes.{keys_of_replica, Messages, new_node, Node, Outcome}
 use Rattle.bfs_node.specs.Receivers.{receivers_of}
 use Rattle.bfs_node.specs.declared.receivers.Receivers.{Receivers}
 use Rattle.bfs_node.specs.declared.receivers.Receivers.TheVariants.{Replicas, Client}
@@ -34,7 +33,7 @@ pub record World : Type 0 where
   -- by the order in which they were sent
   pub queue : List Broadcast
   -- what was sent to clients, in that order
-  pub replies : Log
+  pub replies : Messages
   -- whose turn it is to execute; none while messages are delivered
   pub turn : Option ℕ
   -- what replicas sent since it was asked for last, in that order; none as long as nobody watches

@@ -7,7 +7,7 @@ ghost use Rattle.bfs_cluster.specs.World.{emptied};
 use crate::acts::Act;
 use crate::cluster::Cluster;
 use bfs_messages::{Message, Signed};
-use bfs_types::{Memory, Time};
+use bfs_types::{Memory, Time, TryClone};
 use std::thread::Threads;
 
 impl Cluster {

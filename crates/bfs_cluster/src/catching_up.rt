@@ -6,16 +6,16 @@ ghost use Rattle.bfs_cluster.specs.Inside.Trying.{AllCatchUpIf, CatchesUpIf, Tak
 
 use crate::cluster::Cluster;
 use bfs_checkpoints::StableSnapshot;
-use bfs_messages::{Message, Signed};
-use bfs_types::Memory;
+use bfs_log::StableCheckpoint;
+use bfs_types::{Memory, TryClone};
 use std::sync::Wait;
 use std::thread::Threads;
 
-/// A copy of a stable snapshot's text, and of its certificate.
+/// A copy of a stable snapshot's text, and of what makes it stable.
 #[derive(Drop)]
 struct Offer {
     text: Vec<u8>,
-    certificate: Vec<Signed<Message>>,
+    checkpoint: StableCheckpoint,
 }
 
 impl Cluster {
@@ -55,14 +55,14 @@ impl Cluster {
         match self.offer_to(number)? {
             None => Ok(false),
             Some(offer) => {
-                self.replicas[number].adopt(rt, offer.text.as_slice(), offer.certificate.as_slice())
+                self.replicas[number].adopt(rt, offer.text.as_slice(), &offer.checkpoint)
             }
         }
     }
 
     fn offer_to(&self, number: usize) -> Result<Option<Offer>, Memory>
         requires { number < length self.now.replicas }
-        ensures offer { IfOk result (λ offer. option_map {U = Offered} (λ copy. (copy.text.items, copy.certificate.items)) offer ≡ offer_to self.now number) }
+        ensures offer { IfOk result (λ offer. option_map {U = Offered} (λ copy. (copy.text.items, copy.checkpoint)) offer ≡ offer_to self.now number) }
         ensures memory { OnErr result (IsSome (offer_to self.now number)) }
     {
         let replica = &self.replicas[number];
@@ -73,13 +73,13 @@ impl Cluster {
             None => Ok(None),
             Some(stable) => Ok(Some(Offer {
                 text: self.copy_of(stable.text)?,
-                certificate: self.copies_of(stable.certificate)?,
+                checkpoint: stable.checkpoint.try_clone(self.alloc)?,
             })),
         }
     }
 
     fn ahead_of(&self, last: u64) -> Option<StableSnapshot<'_>>
-        ensures { option_map {U = Offered} (λ stable. (stable.text.now, stable.certificate.now)) result ≡ ahead_of last self.now.replicas }
+        ensures { option_map {U = Offered} (λ stable. (stable.text.now, stable.checkpoint.now)) result ≡ ahead_of last self.now.replicas }
     {
         for replica in &self.replicas {
             if let Some(offer) = replica.offer(last) {
@@ -95,15 +95,5 @@ impl Cluster {
         let mut copy = Vec::new(self.alloc);
         copy.extend_from_slice(text)?;
         Ok(copy)
-    }
-
-    fn copies_of(&self, messages: &[Signed<Message>]) -> Result<Vec<Signed<Message>>, Memory>
-        ensures { IfOk result (λ copies. copies.items ≡ messages.now) }
-    {
-        let mut copies = Vec::new(self.alloc);
-        for message in messages {
-            copies.push(message.try_clone(self.alloc)?)?;
-        }
-        Ok(copies)
     }
 }

@@ -16,6 +16,7 @@ ghost use Rattle.bfs_node.specs.Executing.{Runs};
 
 use crate::acts::Act;
 use bfs_checkpoints::StableSnapshot;
+use bfs_log::StableCheckpoint;
 use bfs_messages::{Message, Signed};
 use bfs_node::{Executor, Gate, Node, NodeError};
 use bfs_types::{Memory, Time};
@@ -200,13 +201,13 @@ impl Replica {
 
     /// Its stable snapshot, if its number is above that one.
     pub fn offer(&self, last: u64) -> Option<StableSnapshot<'_>>
-        ensures { option_map {U = Offer} (λ stable. (stable.text.now, stable.certificate.now)) result ≡ offered last self.now }
+        ensures { option_map {U = Offer} (λ stable. (stable.text.now, stable.checkpoint.now)) result ≡ offered last self.now }
     {
         if !self.heard {
             return None;
         }
         let stable = self.node.stable()?;
-        if last < stable.number {
+        if last < stable.checkpoint.number() {
             Some(stable)
         } else {
             None
@@ -218,12 +219,12 @@ impl Replica {
         &mut self,
         rt: &R,
         text: &[u8],
-        certificate: &[Signed<Message>],
+        checkpoint: &StableCheckpoint,
     ) -> Result<bool, Memory>
-        ensures tried { IfOk result (λ took. Tries took self.old text.now certificate.now self.new) }
-        ensures memory { OnErr result (may_adopt self.old.node certificate.now ≡ true) }
+        ensures tried { IfOk result (λ took. Tries took self.old text.now checkpoint.now self.new) }
+        ensures memory { OnErr result (may_adopt self.old.node checkpoint.now ≡ true) }
     {
-        match self.node.adopt(rt, text, certificate) {
+        match self.node.adopt(rt, text, checkpoint) {
             Ok(()) => Ok(true),
             Err(NodeError::Memory) => Err(Memory),
             Err(_) => Ok(false),

@@ -11,7 +11,7 @@ use crate::cluster::{Broadcast, Cluster};
 use crate::replica::Replica;
 use bfs_messages::{Message, Signed};
 use bfs_node::{Executor, Gate, Receivers, receivers_of};
-use bfs_types::Memory;
+use bfs_types::{Memory, TryClone};
 use std::sync::Wait;
 use std::thread::Threads;
 

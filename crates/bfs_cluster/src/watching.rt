@@ -4,7 +4,7 @@ ghost use Rattle.bfs_cluster.specs.World.{noted, sent_in, sent_taken, watching};
 
 use crate::cluster::Cluster;
 use bfs_messages::{Message, Signed};
-use bfs_types::Memory;
+use bfs_types::{Memory, TryClone};
 use std::marker::Model;
 
 /// A message that a replica sent, to all other replicas or to a client.

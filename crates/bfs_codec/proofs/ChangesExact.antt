@@ -2,9 +2,9 @@
 use Rattle.std.proofs.Common.{refl, arith}
 use Rattle.bfs_model.specs.Server.Limits.{log_size, most_replicas}
 use Rattle.bfs_model.proofs.Public.{IsExact, as_exact, list_exact, then_exact, with_exact, word_exact}
-use Rattle.bfs_messages.specs.Changes.{behind_proposal_text, certificate_text, new_view_text, proposal_text, view_change_text}
-use Rattle.bfs_messages.specs.Limits.{FitsCertificate, FitsNewView, FitsPrePrepare, FitsSigned, FitsViewChange}
-use Rattle.bfs_codec.specs.ChangeReading.{behind_proposal_from, certificate_from, new_view_from, proposal_from, view_change_from}
+use Rattle.bfs_messages.specs.Changes.{behind_proposal_text, prepared_batch_text, new_view_text, proposal_text, view_change_text}
+use Rattle.bfs_messages.specs.Limits.{FitsPreparedBatch, FitsNewView, FitsPrePrepare, FitsSigned, FitsViewChange}
+use Rattle.bfs_codec.specs.ChangeReading.{behind_proposal_from, prepared_batch_from, new_view_from, proposal_from, view_change_from}
 use Rattle.bfs_codec.proofs.PartsExact.{auth_exact, checkpoint_exact, number_exact, signed_as_exact, tagged_as_exact, vote_exact}
 use Rattle.bfs_codec.proofs.BatchesExact.{IsBatchOf, batch_of_exact}
 
@@ -18,9 +18,9 @@ behind_proposal_exact =
 proposal_exact : IsExact proposal_text (FitsSigned FitsPrePrepare) proposal_from
 proposal_exact = tagged_as_exact 2 (omega arith) refl behind_proposal_exact
 
-certificate_exact : IsExact certificate_text FitsCertificate certificate_from
-unfolding certificate_from
-certificate_exact =
+prepared_batch_exact : IsExact prepared_batch_text FitsPreparedBatch prepared_batch_from
+unfolding prepared_batch_from
+prepared_batch_exact =
     as_exact _ (then_exact proposal_exact (list_exact most_replicas (omega arith) (signed_as_exact 3 (omega arith) refl vote_exact)))
     (λ p h. (refl, record { proposal = h.0; prepares = h.1 }))
     (λ c h. ((c.proposal, c.prepares), refl, (h.proposal, h.prepares)))
@@ -29,7 +29,7 @@ pub view_change_exact : IsExact view_change_text FitsViewChange view_change_from
 unfolding view_change_from view_change_text
 view_change_exact =
     as_exact _
-    (then_exact (then_exact (then_exact (then_exact word_exact number_exact) number_exact) (list_exact most_replicas (omega arith) (signed_as_exact 5 (omega arith) refl checkpoint_exact))) (list_exact log_size (omega arith) certificate_exact))
+    (then_exact (then_exact (then_exact (then_exact word_exact number_exact) number_exact) (list_exact most_replicas (omega arith) (signed_as_exact 5 (omega arith) refl checkpoint_exact))) (list_exact log_size (omega arith) prepared_batch_exact))
     (λ p h. (refl, record { sender = h.0.0.0.0; view = h.0.0.0.1; stable = h.0.0.1; checkpoints = h.0.1; certificates = h.1 }))
     (λ v h. (((((v.sender, v.view), v.stable), v.checkpoints), v.certificates), refl, ((((h.sender, h.view), h.stable), h.checkpoints), h.certificates)))
 

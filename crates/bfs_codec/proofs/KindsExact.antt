@@ -8,7 +8,10 @@ use Rattle.bfs_messages.specs.Messages as model
 use Rattle.bfs_messages.specs.Messages.{Vote}
 use Rattle.bfs_messages.specs.declared.signed.Signed.{Signed}
 use Rattle.bfs_messages.specs.declared.message.Message.{Message}
-use Rattle.bfs_messages.specs.declared.message.Message.TheVariants.{Request, PrePrepare, Prepare, Commit, Checkpoint, ViewChange, NewView, Reply}
+use Rattle.bfs_messages.specs.declared.message.Message.TheVariants.{Request, Order, ViewChange, NewView, Reply}
+use Rattle.bfs_messages.specs.OrderMessages.{order_tag}
+use Rattle.bfs_messages.specs.declared.order_messages.OrderMessage.{OrderMessage}
+use Rattle.bfs_messages.specs.declared.order_messages.OrderMessage.TheVariants.{PrePrepare, Prepare, Commit, Checkpoint}
 use Rattle.bfs_messages.specs.Batches.{auth_text, behind_text}
 use Rattle.bfs_messages.specs.Spelling.{tag_of, fields_text, attached_text, signed_text}
 use Rattle.bfs_messages.specs.Limits.{FitsSigned, FitsRequest, FitsPrePrepare, FitsVote, FitsCheckpoint, FitsViewChange, FitsNewView, FitsReply}
@@ -46,39 +49,49 @@ plain_exact {A} {text} {to = to} plain exact =
 abbrev Only : {A : Type 0} → (Fits : A → Type 0) → (k : ℕ) → (to : A → Message) → Type 0
 Only {A} Fits k to = (m : Message) → tag_of m ≡ k → FitsMessage m → (a : A) × (m ≡ to a) × Fits a
 
+order_tags : (m : OrderMessage) → (1 < order_tag m) × (order_tag m < 6)
+order_tags (PrePrepare x) = (omega arith, omega arith)
+order_tags (Prepare x) = (omega arith, omega arith)
+order_tags (Commit x) = (omega arith, omega arith)
+order_tags (Checkpoint x) = (omega arith, omega arith)
+
 a_request : Only FitsRequest 1 Request
 a_request (Request x) e h = (x, refl, h)
+a_request (Order o) e h = absurd (omega (arith, order_tags o, e))
 a_request other e h = absurd (omega (arith, e))
 
-a_prepare : Only FitsVote 3 Prepare
-a_prepare (Prepare x) e h = (x, refl, h)
+a_prepare : Only FitsVote 3 (λ m. Order (Prepare m))
+a_prepare (Order (Prepare x)) e h = (x, refl, h)
 a_prepare other e h = absurd (omega (arith, e))
 
-a_commit : Only FitsVote 4 Commit
-a_commit (Commit x) e h = (x, refl, h)
+a_commit : Only FitsVote 4 (λ m. Order (Commit m))
+a_commit (Order (Commit x)) e h = (x, refl, h)
 a_commit other e h = absurd (omega (arith, e))
 
-a_checkpoint : Only FitsCheckpoint 5 Checkpoint
-a_checkpoint (Checkpoint x) e h = (x, refl, h)
+a_checkpoint : Only FitsCheckpoint 5 (λ m. Order (Checkpoint m))
+a_checkpoint (Order (Checkpoint x)) e h = (x, refl, h)
 a_checkpoint other e h = absurd (omega (arith, e))
 
 a_view_change : Only FitsViewChange 6 ViewChange
 a_view_change (ViewChange x) e h = (x, refl, h)
+a_view_change (Order o) e h = absurd (omega (arith, order_tags o, e))
 a_view_change other e h = absurd (omega (arith, e))
 
 a_new_view : Only FitsNewView 7 NewView
 a_new_view (NewView x) e h = (x, refl, h)
+a_new_view (Order o) e h = absurd (omega (arith, order_tags o, e))
 a_new_view other e h = absurd (omega (arith, e))
 
 a_reply : Only FitsReply 8 Reply
 a_reply (Reply x) e h = (x, refl, h)
+a_reply (Order o) e h = absurd (omega (arith, order_tags o, e))
 a_reply other e h = absurd (omega (arith, e))
 
-proposed : (s : Signed Message) → FitsTag 2 s → (p : Signed model.PrePrepare) × (s ≡ record { message = PrePrepare p.message; auth = p.auth }) × FitsSigned FitsPrePrepare p
+proposed : (s : Signed Message) → FitsTag 2 s → (p : Signed model.PrePrepare) × (s ≡ record { message = Order (PrePrepare p.message); auth = p.auth }) × FitsSigned FitsPrePrepare p
 proposed s h = go s.message h.0 h.1.0
   where
-    go : (m : Message) → tag_of m ≡ 2 → FitsMessage m → (p : Signed model.PrePrepare) × (◌≡◌ {A = Signed Message} (record { message = m; auth = s.auth }) (record { message = PrePrepare p.message; auth = p.auth })) × FitsSigned FitsPrePrepare p
-    go (PrePrepare p) e fits = (record { message = p; auth = s.auth }, refl, (fits, h.1.1))
+    go : (m : Message) → tag_of m ≡ 2 → FitsMessage m → (p : Signed model.PrePrepare) × (◌≡◌ {A = Signed Message} (record { message = m; auth = s.auth }) (record { message = Order (PrePrepare p.message); auth = p.auth })) × FitsSigned FitsPrePrepare p
+    go (Order (PrePrepare p)) e fits = (record { message = p; auth = s.auth }, refl, (fits, h.1.1))
     go other e fits = absurd (omega (arith, e))
 
 -- One of the eight ---------------------------------------------------------------------------------------------------
@@ -88,20 +101,20 @@ IsOther k = (eqb k 1 ≡ false) × (eqb k 2 ≡ false) × (eqb k 3 ≡ false) ×
 
 no_other : (m : Message) → IsOther (tag_of m) → ⊥
 no_other (Request x) h = not_false h.0
-no_other (PrePrepare x) h = not_false h.1
-no_other (Prepare x) h = not_false h.2
-no_other (Commit x) h = not_false h.3
-no_other (Checkpoint x) h = not_false h.4
+no_other (Order (PrePrepare x)) h = not_false h.1
+no_other (Order (Prepare x)) h = not_false h.2
+no_other (Order (Commit x)) h = not_false h.3
+no_other (Order (Checkpoint x)) h = not_false h.4
 no_other (ViewChange x) h = not_false h.5
 no_other (NewView x) h = not_false h.6
 no_other (Reply x) h = not_false h.7
 
 small_tag : (m : Message) → tag_of m < 2 ^ 32
 small_tag (Request x) = omega arith
-small_tag (PrePrepare x) = omega arith
-small_tag (Prepare x) = omega arith
-small_tag (Commit x) = omega arith
-small_tag (Checkpoint x) = omega arith
+small_tag (Order (PrePrepare x)) = omega arith
+small_tag (Order (Prepare x)) = omega arith
+small_tag (Order (Commit x)) = omega arith
+small_tag (Order (Checkpoint x)) = omega arith
 small_tag (ViewChange x) = omega arith
 small_tag (NewView x) = omega arith
 small_tag (Reply x) = omega arith
@@ -114,9 +127,9 @@ unfolding behind_tag_from
 any_tag k =
     if_exact (eqb k 1) _ _ (at_tag k 1 _ (plain_exact {to = Request} (record { tag = λ a. refl; fields = λ a. refl; attached = λ a. refl; fits = λ a h. h; only = a_request }) request_exact)) (λ n1.
     if_exact (eqb k 2) _ _ (at_tag k 2 _ (as_exact _ behind_proposal_exact (λ p h. (refl, (refl, h))) proposed)) (λ n2.
-    if_exact (eqb k 3) _ _ (at_tag k 3 _ (plain_exact {to = Prepare} (record { tag = λ a. refl; fields = λ a. refl; attached = λ a. refl; fits = λ a h. h; only = a_prepare }) vote_exact)) (λ n3.
-    if_exact (eqb k 4) _ _ (at_tag k 4 _ (plain_exact {to = Commit} (record { tag = λ a. refl; fields = λ a. refl; attached = λ a. refl; fits = λ a h. h; only = a_commit }) vote_exact)) (λ n4.
-    if_exact (eqb k 5) _ _ (at_tag k 5 _ (plain_exact {to = Checkpoint} (record { tag = λ a. refl; fields = λ a. refl; attached = λ a. refl; fits = λ a h. h; only = a_checkpoint }) checkpoint_exact)) (λ n5.
+    if_exact (eqb k 3) _ _ (at_tag k 3 _ (plain_exact {to = λ m. Order (Prepare m)} (record { tag = λ a. refl; fields = λ a. refl; attached = λ a. refl; fits = λ a h. h; only = a_prepare }) vote_exact)) (λ n3.
+    if_exact (eqb k 4) _ _ (at_tag k 4 _ (plain_exact {to = λ m. Order (Commit m)} (record { tag = λ a. refl; fields = λ a. refl; attached = λ a. refl; fits = λ a h. h; only = a_commit }) vote_exact)) (λ n4.
+    if_exact (eqb k 5) _ _ (at_tag k 5 _ (plain_exact {to = λ m. Order (Checkpoint m)} (record { tag = λ a. refl; fields = λ a. refl; attached = λ a. refl; fits = λ a h. h; only = a_checkpoint }) checkpoint_exact)) (λ n5.
     if_exact (eqb k 6) _ _ (at_tag k 6 _ (plain_exact {to = ViewChange} (record { tag = λ a. refl; fields = λ a. refl; attached = λ a. refl; fits = λ a h. h; only = a_view_change }) view_change_exact)) (λ n6.
     if_exact (eqb k 7) _ _ (at_tag k 7 _ (plain_exact {to = NewView} (record { tag = λ a. refl; fields = λ a. refl; attached = λ a. refl; fits = λ a h. h; only = a_new_view }) new_view_exact)) (λ n7.
     if_exact (eqb k 8) _ _ (at_tag k 8 _ (plain_exact {to = Reply} (record { tag = λ a. refl; fields = λ a. refl; attached = λ a. refl; fits = λ a h. h; only = a_reply }) reply_exact)) (λ n8.

@@ -9,7 +9,7 @@ use Rattle.bfs_messages.specs.Messages as model
 use Rattle.bfs_messages.specs.Messages.{Requests, Batch, Vote}
 use Rattle.bfs_messages.specs.Batches.{batch_text}
 use Rattle.bfs_messages.specs.declared.signed.Signed.{Signed}
-use Rattle.bfs_agreement.specs.Tags.{request_tag}
+use Rattle.bfs_votes.specs.Tags.{request_tag}
 
 -- of a view, or of a batch in the order
 abbrev pub number_from : List ℕ → Reading ℕ

@@ -6,8 +6,9 @@ use Rattle.bfs_codec.specs.Parts.{behind_from, request_from, vote_from, checkpoi
 use Rattle.bfs_codec.specs.ChangeReading.{behind_proposal_from, view_change_from, new_view_from}
 use Rattle.bfs_messages.specs.declared.signed.Signed.{Signed}
 use Rattle.bfs_messages.specs.declared.message.Message.{Message}
-use Rattle.bfs_messages.specs.declared.message.Message.TheVariants.{Request, PrePrepare, Prepare, Commit, Checkpoint, ViewChange, NewView, Reply}
-use Rattle.bfs_agreement.specs.Tags.{checkpoint_tag, commit_tag, new_view_tag, pre_prepare_tag, prepare_tag, reply_tag, request_tag, view_change_tag}
+use Rattle.bfs_messages.specs.declared.message.Message.TheVariants.{Request, Order, ViewChange, NewView, Reply}
+use Rattle.bfs_messages.specs.declared.order_messages.OrderMessage.TheVariants.{PrePrepare, Prepare, Commit, Checkpoint}
+use Rattle.bfs_votes.specs.Tags.{checkpoint_tag, commit_tag, new_view_tag, pre_prepare_tag, prepare_tag, reply_tag, request_tag, view_change_tag}
 
 -- a message of some kind
 abbrev pub message_from : {A : Type 0} → (A → Message) → (List ℕ → Reading (Signed A)) → List ℕ → Reading (Signed Message)
@@ -17,10 +18,10 @@ message_from to from bytes = as_from (λ signed. record { message = to signed.me
 unfoldable pub behind_tag_from : (tag : ℕ) → List ℕ → Reading (Signed Message)
 behind_tag_from tag bytes =
     if tag == request_tag then message_from Request (behind_from request_from) bytes else
-    (if tag == pre_prepare_tag then message_from PrePrepare behind_proposal_from bytes else
-    (if tag == prepare_tag then message_from Prepare (behind_from vote_from) bytes else
-    (if tag == commit_tag then message_from Commit (behind_from vote_from) bytes else
-    (if tag == checkpoint_tag then message_from Checkpoint (behind_from checkpoint_from) bytes else
+    (if tag == pre_prepare_tag then message_from (λ m. Order (PrePrepare m)) behind_proposal_from bytes else
+    (if tag == prepare_tag then message_from (λ m. Order (Prepare m)) (behind_from vote_from) bytes else
+    (if tag == commit_tag then message_from (λ m. Order (Commit m)) (behind_from vote_from) bytes else
+    (if tag == checkpoint_tag then message_from (λ m. Order (Checkpoint m)) (behind_from checkpoint_from) bytes else
     (if tag == view_change_tag then message_from ViewChange (behind_from view_change_from) bytes else
     (if tag == new_view_tag then message_from NewView (behind_from new_view_from) bytes else
     (if tag == reply_tag then message_from Reply (behind_from reply_from) bytes else None)))))))

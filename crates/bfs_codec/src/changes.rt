@@ -1,23 +1,23 @@
 // What replicas say of a change of the view (OSDI 1999 section 4.4).
-ghost use Rattle.bfs_codec.specs.ChangeReading.{certificate_from, new_view_from, view_change_from};
+ghost use Rattle.bfs_codec.specs.ChangeReading.{prepared_batch_from, new_view_from, view_change_from};
 
 use crate::error::{DecodeError, Malformed};
 use crate::parts::Read;
 use crate::reader::MessageReader;
-use bfs_messages::{Certificate, Checkpoint, NewView, PrePrepare, Signed, ViewChange, Vote};
+use bfs_messages::{Checkpoint, NewView, PrePrepare, PreparedBatch, Signed, ViewChange, Vote};
 use bfs_types::{LOG_SIZE, MOST_REPLICAS};
 
-impl Read for Certificate {
-    ghost from = { certificate_from };
+impl Read for PreparedBatch {
+    ghost from = { prepared_batch_from };
 
-    #[tactic(auto, unfolding(crate::specs::ChangeReading::certificate_from))]
-    fn read(reader: &mut MessageReader<'_>) -> Result<Certificate, DecodeError> {
+    #[tactic(auto, unfolding(crate::specs::ChangeReading::prepared_batch_from))]
+    fn read(reader: &mut MessageReader<'_>) -> Result<PreparedBatch, DecodeError> {
         let proposal = Signed::<PrePrepare>::read(reader)?;
         let prepares = reader.list(MOST_REPLICAS as u32)?;
-        Ok(Certificate::new(proposal, prepares))
+        Ok(PreparedBatch::new(proposal, prepares))
     }
 
-    #[tactic(auto, unfolding(crate::specs::ChangeReading::certificate_from))]
+    #[tactic(auto, unfolding(crate::specs::ChangeReading::prepared_batch_from))]
     fn skip(reader: &mut MessageReader<'_>) -> Result<(), Malformed> {
         Signed::<PrePrepare>::skip(reader)?;
         reader.skip_list::<Signed<Vote>>(MOST_REPLICAS as u32)
@@ -43,7 +43,7 @@ impl Read for ViewChange {
         reader.number()?;
         reader.number()?;
         reader.skip_list::<Signed<Checkpoint>>(MOST_REPLICAS as u32)?;
-        reader.skip_list::<Certificate>(LOG_SIZE as u32)
+        reader.skip_list::<PreparedBatch>(LOG_SIZE as u32)
     }
 }
 

@@ -12,8 +12,9 @@ use crate::error::{DecodeError, Malformed};
 use crate::parts::{read_behind, skip_behind};
 use crate::reader::MessageReader;
 use bfs_messages::{
-    CHECKPOINT_TAG, COMMIT_TAG, Checkpoint, Message, NEW_VIEW_TAG, NewView, PRE_PREPARE_TAG,
-    PREPARE_TAG, REPLY_TAG, REQUEST_TAG, Reply, Request, Signed, VIEW_CHANGE_TAG, ViewChange, Vote,
+    CHECKPOINT_TAG, COMMIT_TAG, Checkpoint, Message, NEW_VIEW_TAG, NewView, OrderMessage,
+    PRE_PREPARE_TAG, PREPARE_TAG, REPLY_TAG, REQUEST_TAG, Reply, Request, Signed, VIEW_CHANGE_TAG,
+    ViewChange, Vote,
 };
 use std::alloc::Global;
 
@@ -103,19 +104,31 @@ fn read_behind_tag(tag: u32, reader: &mut MessageReader<'_>) -> Result<Signed<Me
         }
         PRE_PREPARE_TAG => {
             let signed = read_behind_proposal(reader)?;
-            (Message::PrePrepare(signed.message), signed.auth)
+            (
+                Message::Order(OrderMessage::PrePrepare(signed.message)),
+                signed.auth,
+            )
         }
         PREPARE_TAG => {
             let signed = read_behind(reader)?;
-            (Message::Prepare(signed.message), signed.auth)
+            (
+                Message::Order(OrderMessage::Prepare(signed.message)),
+                signed.auth,
+            )
         }
         COMMIT_TAG => {
             let signed = read_behind(reader)?;
-            (Message::Commit(signed.message), signed.auth)
+            (
+                Message::Order(OrderMessage::Commit(signed.message)),
+                signed.auth,
+            )
         }
         CHECKPOINT_TAG => {
             let signed = read_behind(reader)?;
-            (Message::Checkpoint(signed.message), signed.auth)
+            (
+                Message::Order(OrderMessage::Checkpoint(signed.message)),
+                signed.auth,
+            )
         }
         VIEW_CHANGE_TAG => {
             let signed = read_behind(reader)?;

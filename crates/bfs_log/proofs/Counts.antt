@@ -5,7 +5,7 @@ use Rattle.std.specs.List.{list_any}
 use Rattle.std.proofs.lemmas.Bool.{eqb-true, eqb-false, lt-ltb, le-ltb, ltb-true}
 use Rattle.std.proofs.lemmas.List.Sums.{sum_by-cons}
 use Rattle.std.specs.Cmp.{both_ways}
-use Rattle.bfs_agreement.specs.Votes.{count_below}
+use Rattle.bfs_votes.specs.Votes.{count_below}
 use Rattle.bfs_log.specs.Batches.{Said}
 use Rattle.bfs_log.specs.Rows.{SendersDiffer, is_from, tells}
 

@@ -1,11 +1,11 @@
 -- A slot of a log is free in what stands before it.
 use Rattle.std.proofs.Common.{◌≡◌, ℕ, zero, suc, ◌<◌, Bool, true, false, ◌&&◌, ◌||◌, [], ◌∷◌, length, take, get_or, refl, sym, ap, subst, ◌∙◌, arith}
 use Rattle.std.specs.Prelude.{◌==◌}
-use Rattle.bfs_agreement.specs.Votes.{Header, SlotsDiffer, is_slot, is_taken}
+use Rattle.bfs_votes.specs.Votes.{Header, SlotsDiffer, is_slot, is_taken}
 use Rattle.bfs_log.specs.Headers.{header}
 use Rattle.bfs_log.specs.Logs.{Log, headers}
 use Rattle.bfs_messages.specs.declared.signed.Signed.{Signed}
-use Rattle.bfs_messages.specs.declared.message.Message.{Message}
+use Rattle.bfs_messages.specs.declared.order_messages.OrderMessage.{OrderMessage}
 
 either_left : (a b : Bool) → (a || b) ≡ false → a ≡ false
 either_left true b e = absurd cc
@@ -32,12 +32,12 @@ same_again g h =
     ∙ ap (λ a. (h.tag == g.tag) && ((h.sender == g.sender) && ((h.view == g.view) && a))) (swap g.number h.number)
 
 -- who is not among a list is none of its items
-none_at : (h : Header) (messages : Log) (i : ℕ) (d : Signed Message) → is_taken (headers messages) h ≡ false → i < length messages → same_slot (header (get_or messages i d)) h ≡ false
+none_at : (h : Header) (messages : Log) (i : ℕ) (d : Signed OrderMessage) → is_taken (headers messages) h ≡ false → i < length messages → same_slot (header (get_or messages i d)) h ≡ false
 none_at h [] i d free lt = absurd (omega (arith, lt))
 none_at h (m ∷ ms) zero d free lt = either_left (same_slot (header m) h) (is_taken (headers ms) h) free
 none_at h (m ∷ ms) (suc i) d free lt = none_at h ms i d (either_right (same_slot (header m) h) (is_taken (headers ms) h) free) (omega (arith, lt))
 
-pub free_before : (messages : Log) (i : ℕ) (d : Signed Message) → SlotsDiffer (headers messages) → i < length messages → is_taken (headers (take i messages)) (header (get_or messages i d)) ≡ false
+pub free_before : (messages : Log) (i : ℕ) (d : Signed OrderMessage) → SlotsDiffer (headers messages) → i < length messages → is_taken (headers (take i messages)) (header (get_or messages i d)) ≡ false
 free_before [] i d differ lt = absurd (omega (arith, lt))
 free_before (m ∷ ms) zero d differ lt = refl
 free_before (m ∷ ms) (suc i) d differ lt =
@@ -45,7 +45,7 @@ free_before (m ∷ ms) (suc i) d differ lt =
     (same_again (header m) (header (get_or ms i d)) ∙ none_at (header m) ms i d differ.0 (omega (arith, lt)))
     (free_before ms i d differ.1 (omega (arith, lt)))
 
-pub free_in_copy : (messages copy : Log) (i : ℕ) (m d : Signed Message) → copy ≡ take i messages → m ≡ get_or messages i d → SlotsDiffer (headers messages) → i < length messages → is_taken (headers copy) (header m) ≡ false
+pub free_in_copy : (messages copy : Log) (i : ℕ) (m d : Signed OrderMessage) → copy ≡ take i messages → m ≡ get_or messages i d → SlotsDiffer (headers messages) → i < length messages → is_taken (headers copy) (header m) ≡ false
 free_in_copy messages copy i m d so_far is differ lt =
     subst (λ (l : Log). is_taken (headers l) (header m) ≡ false) (sym so_far)
-    (subst (λ (n : Signed Message). is_taken (headers (take i messages)) (header n) ≡ false) (sym is) (free_before messages i d differ lt))
+    (subst (λ (n : Signed OrderMessage). is_taken (headers (take i messages)) (header n) ≡ false) (sym is) (free_before messages i d differ lt))

@@ -10,7 +10,7 @@ use Rattle.std.specs.Ordering.{is_eq}
 use Rattle.std.specs.declared.cmp.Ordering.TheVariants.{Less}
 use Rattle.std.proofs.lemmas.Bool.{and_parts, and_from, eq-eqb, ne_eqb}
 use Rattle.bfs_messages.specs.declared.signed.Signed.{Signed}
-use Rattle.bfs_messages.specs.declared.message.Message.{Message}
+use Rattle.bfs_messages.specs.declared.order_messages.OrderMessage.{OrderMessage}
 use Rattle.bfs_log.specs.Batches.{Said}
 use Rattle.bfs_log.specs.Headers.{header}
 use Rattle.bfs_log.specs.Logs.{Log, greatest_proposed, headers, said_in}
@@ -45,7 +45,7 @@ bounded false n r t at rest = rest
 
 -- A place at which something is said counts -----------------------------------------------------------------------------
 
-log_step : (view : ℕ) (p : Place) (m : Signed Message) (kept : Log) (r : ℕ) (a : Bool) → is_at p (header m) ≡ a → proposes view p ≡ true
+log_step : (view : ℕ) (p : Place) (m : Signed OrderMessage) (kept : Log) (r : ℕ) (a : Bool) → is_at p (header m) ≡ a → proposes view p ≡ true
     → (some (map (λ m. said_in m.message) kept) ≡ true → p.number ≤ r) → some (map (λ m. said_in m.message) (cond a (m ∷ kept) kept)) ≡ true
     → p.number ≤ cond (proposes view (place_of (header m))) (max (header m).number r) r
 log_step view p m kept r true at holds rest said =
@@ -74,11 +74,11 @@ in_index view p (e ∷ es) holds said =
 
 -- Nothing else counts ----------------------------------------------------------------------------------------------------
 
-still_step : (a : Bool) (m : Signed Message) (kept : Log) → some (map (λ m. said_in m.message) kept) ≡ true → some (map (λ m. said_in m.message) (cond a (m ∷ kept) kept)) ≡ true
+still_step : (a : Bool) (m : Signed OrderMessage) (kept : Log) → some (map (λ m. said_in m.message) kept) ≡ true → some (map (λ m. said_in m.message) (cond a (m ∷ kept) kept)) ≡ true
 still_step true m kept h = some_more (said_in m.message) (map (λ m. said_in m.message) kept)
 still_step false m kept h = h
 
-here_step : (a : Bool) (m : Signed Message) (kept : Log) → a ≡ true → some (map (λ m. said_in m.message) (cond a (m ∷ kept) kept)) ≡ true
+here_step : (a : Bool) (m : Signed OrderMessage) (kept : Log) → a ≡ true → some (map (λ m. said_in m.message) (cond a (m ∷ kept) kept)) ≡ true
 here_step true m kept h = some_more (said_in m.message) (map (λ m. said_in m.message) kept)
 here_step false m kept h = absurd cc
 

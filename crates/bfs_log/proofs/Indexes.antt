@@ -6,8 +6,8 @@ use Rattle.std.specs.Option.{option_map}
 use Rattle.std.proofs.Math.Bool.{and_comm, and_assoc}
 use Rattle.std.proofs.lemmas.Bool.{and_parts, eqb-true}
 use Rattle.bfs_messages.specs.declared.signed.Signed.{Signed}
-use Rattle.bfs_messages.specs.declared.message.Message.{Message}
-use Rattle.bfs_agreement.specs.Votes.{Header, SlotsDiffer, is_slot, has_slot, is_taken, says, told, tellers, backups, primary, replicas}
+use Rattle.bfs_messages.specs.declared.order_messages.OrderMessage.{OrderMessage}
+use Rattle.bfs_votes.specs.Votes.{Header, SlotsDiffer, is_slot, has_slot, is_taken, says, told, tellers, backups, primary, replicas}
 use Rattle.bfs_log.specs.Batches.{Said}
 use Rattle.bfs_log.specs.Headers.{header}
 use Rattle.bfs_log.specs.Logs.{Log, headers, said_in, said_of}
@@ -15,7 +15,7 @@ use Rattle.bfs_log.specs.Places.{is_at, said_at, same_place, place_of}
 use Rattle.bfs_log.specs.Rows.{SendersDiffer, is_from, tells}
 use Rattle.bfs_log.specs.declared.places.Place.{Place}
 use Rattle.bfs_log.proofs.Counts.{tellers_counted}
-use Rattle.bfs_agreement.proofs.Public.{same_count}
+use Rattle.bfs_votes.proofs.Public.{same_count}
 
 abbrev pub slot_place : (tag view number : ℕ) → Place
 slot_place tag view number = record { number = number; view = view; tag = tag }
@@ -41,12 +41,12 @@ in_slot tag sender view number h = reorder (h.tag == tag) (h.sender == sender) (
         ap (λ b. t && b) (and_comm s (v && n)) ∙ sym (and_assoc t (v && n) s)
         ∙ ap (λ b. b && s) (and_comm t (v && n) ∙ ap (λ b. b && t) (and_comm v n) ∙ and_assoc n v t)
 
-any_step : (a t : Bool) (q : Said → Bool) (m : Signed Message) (kept : Log) (rest : Bool) → t ≡ (a && q (said_in m.message)) → rest ≡ list_any q (rows_of kept)
+any_step : (a t : Bool) (q : Said → Bool) (m : Signed OrderMessage) (kept : Log) (rest : Bool) → t ≡ (a && q (said_in m.message)) → rest ≡ list_any q (rows_of kept)
     → (t || rest) ≡ list_any q (rows_of (cond a (m ∷ kept) kept))
 any_step true t q m kept rest e h = rw (e, h)
 any_step false t q m kept rest e h = rw (e, h)
 
-any_at : (place : Place) (test : Header → Bool) (q : Said → Bool) → ((m : Signed Message) → test (header m) ≡ (is_at place (header m) && q (said_in m.message)))
+any_at : (place : Place) (test : Header → Bool) (q : Said → Bool) → ((m : Signed OrderMessage) → test (header m) ≡ (is_at place (header m) && q (said_in m.message)))
     → (log : Log) → list_any test (headers log) ≡ list_any q (said_at place log)
 any_at place test q same [] = refl
 any_at place test q same (m ∷ log) =
@@ -62,14 +62,14 @@ told_at log tag sender view number digest =
     (λ m. ap (λ b. b && bytes_eq (header m).digest digest) (in_slot tag sender view number (header m)) ∙ and_assoc (is_at (slot_place tag view number) (header m)) ((header m).sender == sender) (bytes_eq (header m).digest digest))
     log
 
-abbrev said_by : Option (Signed Message) → Option Said
+abbrev said_by : Option (Signed OrderMessage) → Option Said
 said_by found = option_map (λ m. said_in m.message) found
 
-found_step : (s : Bool) (m : Signed Message) (rest : Option (Signed Message)) (found : Option Said) → said_by rest ≡ found → said_by (cond s (Some m) rest) ≡ cond s (Some (said_in m.message)) found
+found_step : (s : Bool) (m : Signed OrderMessage) (rest : Option (Signed OrderMessage)) (found : Option Said) → said_by rest ≡ found → said_by (cond s (Some m) rest) ≡ cond s (Some (said_in m.message)) found
 found_step true m rest found h = refl
 found_step false m rest found h = h
 
-find_step : (a t : Bool) (sender : ℕ) (m : Signed Message) (kept : Log) (rest : Option (Signed Message)) → t ≡ (a && ((header m).sender == sender))
+find_step : (a t : Bool) (sender : ℕ) (m : Signed OrderMessage) (kept : Log) (rest : Option (Signed OrderMessage)) → t ≡ (a && ((header m).sender == sender))
     → said_by rest ≡ find (is_from sender) (rows_of kept) → said_by (cond t (Some m) rest) ≡ find (is_from sender) (rows_of (cond a (m ∷ kept) kept))
 find_step true t sender m kept rest e h = rw e (found_step ((header m).sender == sender) m rest (find (is_from sender) (rows_of kept)) h)
 find_step false t sender m kept rest e h = rw e h
@@ -80,7 +80,7 @@ found_at (m ∷ log) tag sender view number =
     find_step (is_at (slot_place tag view number) (header m)) (is_slot tag sender view number (header m)) sender m (filter (λ m. is_at (slot_place tag view number) (header m)) log)
     (find (λ m. is_slot tag sender view number (header m)) log) (in_slot tag sender view number (header m)) (found_at log tag sender view number)
 
-senders_step : (place : Place) (m : Signed Message) (log : Log) (a : Bool) → is_at place (header m) ≡ a → is_taken (headers log) (header m) ≡ false
+senders_step : (place : Place) (m : Signed OrderMessage) (log : Log) (a : Bool) → is_at place (header m) ≡ a → is_taken (headers log) (header m) ≡ false
     → SendersDiffer (said_at place log) → SendersDiffer (rows_of (cond a (m ∷ filter (λ m. is_at place (header m)) log) (filter (λ m. is_at place (header m)) log)))
 senders_step place m log true here free differ =
     let at = one_place (place_of (header m)) place here in

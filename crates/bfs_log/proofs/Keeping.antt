@@ -8,9 +8,9 @@ use Rattle.std.proofs.lemmas.List.{map-append}
 use Rattle.std.proofs.lemmas.List.Elements.{All-push, All-filter, All-take, filter-append}
 use Rattle.bfs_model.specs.Server.Limits.{most_replicas}
 use Rattle.bfs_messages.specs.declared.signed.Signed.{Signed}
-use Rattle.bfs_messages.specs.declared.message.Message.{Message}
-use Rattle.bfs_messages.specs.declared.message.Message.TheVariants.{Request, PrePrepare, Prepare, Commit, Checkpoint, ViewChange, NewView, Reply}
-use Rattle.bfs_agreement.specs.Votes.{Header, is_taken}
+use Rattle.bfs_messages.specs.declared.order_messages.OrderMessage.{OrderMessage}
+use Rattle.bfs_messages.specs.declared.order_messages.OrderMessage.TheVariants.{PrePrepare, Prepare, Commit, Checkpoint}
+use Rattle.bfs_votes.specs.Votes.{Header, is_taken}
 use Rattle.bfs_log.specs.Batches.{Said}
 use Rattle.bfs_log.specs.Headers.{header, message_header}
 use Rattle.bfs_log.specs.Logs.{Log, headers, kept_after, said_in, stays}
@@ -20,7 +20,7 @@ use Rattle.bfs_log.proofs.Indexes.{one_place}
 use Rattle.bfs_log.proofs.Slots.{differ_pushed, differ_before, differ_kept}
 use Rattle.bfs_log.proofs.Maps.{undone}
 
-abbrev said_of : Signed Message → Said
+abbrev said_of : Signed OrderMessage → Said
 said_of m = said_in m.message
 
 abbrev one_at : (b : Bool) → Said → List Said
@@ -28,17 +28,17 @@ one_at b said = if b then said ∷ [] else []
 
 -- One message more -----------------------------------------------------------------------------------------------------
 
-one_step : (b : Bool) (m : Signed Message) → map said_of (cond b (m ∷ []) []) ≡ one_at b (said_of m)
+one_step : (b : Bool) (m : Signed OrderMessage) → map said_of (cond b (m ∷ []) []) ≡ one_at b (said_of m)
 one_step true m = refl
 one_step false m = refl
 
-said_pushed : (place : Place) (log : Log) (m : Signed Message) → said_at place (log ++ m ∷ []) ≡ said_at place log ++ one_at (is_at place (header m)) (said_of m)
+said_pushed : (place : Place) (log : Log) (m : Signed OrderMessage) → said_at place (log ++ m ∷ []) ≡ said_at place log ++ one_at (is_at place (header m)) (said_of m)
 said_pushed place log m =
     ap (map said_of) (filter-append (λ m. is_at place (header m)) log (m ∷ []))
     ∙ map-append said_of (filter (λ m. is_at place (header m)) log) (filter (λ m. is_at place (header m)) (m ∷ []))
     ∙ ap (λ xs. said_at place log ++ xs) (one_step (is_at place (header m)) m)
 
-pub pushed : (log : Log) (m : Signed Message) (before after : Index) → IsIndexed log before → is_taken (headers log) (header m) ≡ false → (header m).sender < most_replicas
+pub pushed : (log : Log) (m : Signed OrderMessage) (before after : Index) → IsIndexed log before → is_taken (headers log) (header m) ≡ false → (header m).sender < most_replicas
     → ((p : Place) → row_at after p ≡ row_at before p ++ (if same_place (place_of (header m)) p then said_in m.message ∷ [] else [])) → IsIndexed (log ++ m ∷ []) after
 pushed log m before after was free sender put = record {
   differ = differ_pushed log m was.differ free;
@@ -53,7 +53,7 @@ unchanged log before after was same = record {
   index = λ p. same p ∙ was.index p;
 }
 
-pub popped : (log : Log) (m : Signed Message) (before after : Index) → IsIndexed (log ++ m ∷ []) before
+pub popped : (log : Log) (m : Signed OrderMessage) (before after : Index) → IsIndexed (log ++ m ∷ []) before
     → ((row : List Said) (said : Said) → row_at before (place_of (header m)) ≡ row ++ said ∷ [] → row_at after (place_of (header m)) ≡ row)
     → ((q : Place) → same_place (place_of (header m)) q ≡ false → row_at after q ≡ row_at before q) → IsIndexed log after
 popped log m before after was last others = record {
@@ -67,14 +67,14 @@ popped log m before after was last others = record {
 abbrev rows_at : Place → Log → Log
 rows_at place log = filter (λ m. is_at place (header m)) log
 
-kept_step : (place : Place) (q : Said → Bool) (m : Signed Message) (kept rows : Log) (a k : Bool) → is_at place (header m) ≡ a → (a ≡ true → k ≡ q (said_of m))
+kept_step : (place : Place) (q : Said → Bool) (m : Signed OrderMessage) (kept rows : Log) (a k : Bool) → is_at place (header m) ≡ a → (a ≡ true → k ≡ q (said_of m))
     → said_at place kept ≡ filter q (map said_of rows) → said_at place (cond k (m ∷ kept) kept) ≡ filter q (map said_of (cond a (m ∷ rows) rows))
 kept_step place q m kept rows true true at same h = rw (at, sym (same refl)) (ap (λ xs. said_of m ∷ xs) h)
 kept_step place q m kept rows true false at same h = rw (sym (same refl)) h
 kept_step place q m kept rows false true at same h = rw at h
 kept_step place q m kept rows false false at same h = h
 
-said_kept : (place : Place) (keep : Header → Bool) (q : Said → Bool) → ((m : Signed Message) → is_at place (header m) ≡ true → keep (header m) ≡ q (said_of m))
+said_kept : (place : Place) (keep : Header → Bool) (q : Said → Bool) → ((m : Signed OrderMessage) → is_at place (header m) ≡ true → keep (header m) ≡ q (said_of m))
     → (log : Log) → said_at place (filter (λ m. keep (header m)) log) ≡ filter q (said_at place log)
 said_kept place keep q same [] = refl
 said_kept place keep q same (m ∷ log) =
@@ -89,15 +89,11 @@ none_kept [] = refl
 none_kept (said ∷ row) = none_kept row
 
 -- a CHECKPOINT has view 0
-no_view : (m : Message) → ((message_header m).tag == 5) ≡ true → ((message_header m).view == 0) ≡ true
-no_view (Request request) h = refl
+no_view : (m : OrderMessage) → ((message_header m).tag == 5) ≡ true → ((message_header m).view == 0) ≡ true
 no_view (PrePrepare proposal) h = absurd cc
 no_view (Prepare vote) h = absurd cc
 no_view (Commit vote) h = absurd cc
 no_view (Checkpoint checkpoint) h = refl
-no_view (ViewChange change) h = refl
-no_view (NewView new) h = refl
-no_view (Reply reply) h = refl
 
 stays_told : (lt t n b : Bool) → lt ≡ false → t ≡ true → n ≡ true → (lt || (t && (n && b))) ≡ b
 stays_told lt t n b d e f = rw (d, e, f) refl

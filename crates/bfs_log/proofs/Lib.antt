@@ -7,3 +7,6 @@ mod Maps
 mod Keeping
 mod Greatest
 pub mod Public
+mod Certifying
+mod Folds
+mod Proposed

@@ -1,2 +1,5 @@
 -- What the crates above may cite.
 pub use Rattle.bfs_log.proofs.Slots.{differ_pushed, differ_kept}
+pub use Rattle.bfs_log.proofs.Certifying.{IsVoucher, Vouched, senders_counted, vouched}
+pub use Rattle.bfs_log.proofs.Folds.{all_map, any_map}
+pub use Rattle.bfs_log.proofs.Proposed.{proposed_by}

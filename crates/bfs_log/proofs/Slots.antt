@@ -7,8 +7,8 @@ use Rattle.std.proofs.lemmas.Bool.{or_parts, or_from}
 use Rattle.std.proofs.lemmas.List.{map-append}
 use Rattle.std.proofs.lemmas.List.Folds.{list_any-append}
 use Rattle.bfs_messages.specs.declared.signed.Signed.{Signed}
-use Rattle.bfs_messages.specs.declared.message.Message.{Message}
-use Rattle.bfs_agreement.specs.Votes.{Header, SlotsDiffer, is_slot, is_taken}
+use Rattle.bfs_messages.specs.declared.order_messages.OrderMessage.{OrderMessage}
+use Rattle.bfs_votes.specs.Votes.{Header, SlotsDiffer, is_slot, is_taken}
 use Rattle.bfs_log.specs.Headers.{header}
 use Rattle.bfs_log.specs.Logs.{Log, headers}
 
@@ -51,7 +51,7 @@ kept : (keep : Header → Bool) (hs : List Header) → SlotsDiffer hs → SlotsD
 kept keep [] differ = tt
 kept keep (h ∷ hs) differ = kept_step (keep h) h (filter keep hs) (none_kept keep (is_slot h.tag h.sender h.view h.number) hs differ.0) (kept keep hs differ.1)
 
-headers_step : (k : Bool) (m : Signed Message) (xs : Log) (hs : List Header) → headers xs ≡ hs → headers (cond k (m ∷ xs) xs) ≡ cond k (header m ∷ hs) hs
+headers_step : (k : Bool) (m : Signed OrderMessage) (xs : Log) (hs : List Header) → headers xs ≡ hs → headers (cond k (m ∷ xs) xs) ≡ cond k (header m ∷ hs) hs
 headers_step true m xs hs e = ap (λ ts. header m ∷ ts) e
 headers_step false m xs hs e = e
 
@@ -59,7 +59,7 @@ headers_kept : (keep : Header → Bool) (log : Log) → headers (filter (λ m. k
 headers_kept keep [] = refl
 headers_kept keep (m ∷ log) = headers_step (keep (header m)) m (filter (λ m. keep (header m)) log) (filter keep (headers log)) (headers_kept keep log)
 
-pub differ_pushed : (log : Log) (m : Signed Message) → SlotsDiffer (headers log) → is_taken (headers log) (header m) ≡ false → SlotsDiffer (headers (log ++ m ∷ []))
+pub differ_pushed : (log : Log) (m : Signed OrderMessage) → SlotsDiffer (headers log) → is_taken (headers log) (header m) ≡ false → SlotsDiffer (headers (log ++ m ∷ []))
 differ_pushed log m differ free = subst SlotsDiffer (sym (map-append header log (m ∷ []))) (pushed (headers log) (header m) differ free)
 
 pub differ_before : (log rest : Log) → SlotsDiffer (headers (log ++ rest)) → SlotsDiffer (headers log)

@@ -1,5 +1,6 @@
 -- What the contracts of bfs_log and of the crates above it cite.
 pub mod Batches
+pub mod Certificates
 pub mod Headers
 pub mod Logs
 pub mod Places

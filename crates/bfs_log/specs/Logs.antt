@@ -1,34 +1,37 @@
 -- Logs of messages: what is found in them, and what of them is dropped (OSDI 1999 sections 4.2 and 4.3).
 use Rattle.std.specs.Prelude.{ℕ, ◌==◌, Bool, ◌&&◌, ◌||◌, max, List, [], ◌∷◌, map, filter, find, Option, Some, None, nat_lt, bytes_eq, if◌then◌else◌}
 use Rattle.std.specs.Option.{option_map}
+use Rattle.bfs_messages.specs.Signing.{as_message}
 use Rattle.bfs_messages.specs.declared.signed.Signed.{Signed}
 use Rattle.bfs_messages.specs.declared.message.Message.{Message}
-use Rattle.bfs_messages.specs.declared.message.Message.TheVariants.{Request, PrePrepare, Prepare, Commit, Checkpoint, ViewChange, NewView, Reply}
-use Rattle.bfs_agreement.specs.Votes.{Header, is_slot}
+use Rattle.bfs_messages.specs.declared.message.Message.TheVariants.{Order}
+use Rattle.bfs_messages.specs.declared.order_messages.OrderMessage.{OrderMessage}
+use Rattle.bfs_messages.specs.declared.order_messages.OrderMessage.TheVariants.{PrePrepare, Prepare, Commit, Checkpoint}
+use Rattle.bfs_votes.specs.Votes.{Header, is_slot}
 use Rattle.bfs_log.specs.Batches.{Committed, Said}
 use Rattle.bfs_log.specs.Headers.{header, message_header}
-use Rattle.bfs_agreement.specs.Tags.{checkpoint_tag, pre_prepare_tag}
+use Rattle.bfs_votes.specs.Tags.{checkpoint_tag, pre_prepare_tag}
 
 -- the messages that a replica has accepted and not dropped, its own among them, in the order in which they came
 abbrev pub Log : Type 0
-Log = List (Signed Message)
+Log = List (Signed OrderMessage)
+
+-- as they are sent
+abbrev pub as_messages : Log → List (Signed Message)
+as_messages log = map (as_message Order) log
 
 abbrev pub headers : Log → List Header
 headers log = map header log
 
 -- the number and the batch of a PRE-PREPARE
-abbrev pub batch_in : Message → Option Committed
-batch_in (Request request) = None
+abbrev pub batch_in : OrderMessage → Option Committed
 batch_in (PrePrepare proposal) = Some (record { number = proposal.vote.number; batch = proposal.batch })
 batch_in (Prepare vote) = None
 batch_in (Commit vote) = None
 batch_in (Checkpoint checkpoint) = None
-batch_in (ViewChange change) = None
-batch_in (NewView new) = None
-batch_in (Reply reply) = None
 
 -- what a message says at its place: its sender, its digest, and the batch of a PRE-PREPARE
-abbrev pub said_in : Message → Said
+abbrev pub said_in : OrderMessage → Said
 said_in m = record { sender = (message_header m).sender; digest = (message_header m).digest; batch = batch_in m }
 
 -- what the first message of a kind, sender, view and number says

@@ -4,13 +4,13 @@ use Rattle.std.specs.declared.cmp.Ordering.{Ordering}
 use Rattle.std.specs.Global.{Vec}
 use Rattle.std.specs.BTreeMap.{BTreeMap, get}
 use Rattle.bfs_model.specs.Server.Limits.{most_replicas}
-use Rattle.bfs_agreement.specs.Votes.{Header, SlotsDiffer}
+use Rattle.bfs_votes.specs.Votes.{Header, SlotsDiffer}
 use Rattle.bfs_log.specs.Batches.{Said}
 use Rattle.bfs_log.specs.Headers.{header}
 use Rattle.bfs_log.specs.Logs.{Log, headers, said_in}
 use Rattle.bfs_log.specs.declared.places.Place.{Place}
 use Rattle.bfs_log.specs.contracts.places.PlaceOrd.TheImpl as place_ord
-use Rattle.bfs_agreement.specs.Tags.{checkpoint_tag, pre_prepare_tag}
+use Rattle.bfs_votes.specs.Tags.{checkpoint_tag, pre_prepare_tag}
 
 abbrev pub place_cmp : Place → Place → Ordering
 place_cmp = (place_ord.ghosts).cmp

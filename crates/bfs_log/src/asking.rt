@@ -1,7 +1,7 @@
 // What is asked of a log.
 ghost use Rattle.std.specs.Prelude.{◌≡◌};
 ghost use Rattle.std.specs.Option.{option_map};
-ghost use Rattle.bfs_agreement.specs.Votes.{has_slot, told};
+ghost use Rattle.bfs_votes.specs.Votes.{has_slot, told};
 ghost use Rattle.bfs_log.specs.Logs.{headers, said_of};
 
 use crate::headers::Slot;
@@ -18,7 +18,7 @@ impl Log {
     }
 
     /// Whether the sender has told that digest by a message of that kind, view and number.
-    pub fn is_told(&self, slot: Slot, digest: &[u8]) -> bool
+    pub fn is_told(&self, slot: Slot, digest: &[u8; 32]) -> bool
         ensures { result ≡ told (headers self.now) slot.tag slot.sender slot.view slot.number digest.now }
     {
         does_tell(self.row(slot.place()), digest, slot.sender)

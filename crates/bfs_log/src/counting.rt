@@ -1,7 +1,7 @@
 // What a log proves: prepared, committed, stable.
 ghost use Rattle.std.specs.Prelude.{◌≡◌, ◌≤◌};
-ghost use Rattle.bfs_agreement.specs.Tags.{checkpoint_tag};
-ghost use Rattle.bfs_agreement.specs.Votes.{backups, committed, is_backed, is_stable, prepared, primary, tellers};
+ghost use Rattle.bfs_votes.specs.Tags.{checkpoint_tag};
+ghost use Rattle.bfs_votes.specs.Votes.{backups, committed, is_backed, is_stable, prepared, primary, tellers};
 ghost use Rattle.bfs_log.specs.Logs.{headers};
 ghost use Rattle.bfs_model.specs.Server.Limits.{most_faults};
 
@@ -20,7 +20,7 @@ pub fn primary_of(f: u32, view: u64) -> u32
 }
 
 impl Log {
-    fn count_backups(&self, f: u32, view: u64, number: u64, digest: &[u8]) -> usize
+    fn count_backups(&self, f: u32, view: u64, number: u64, digest: &[u8; 32]) -> usize
         requires { f ≤ most_faults }
         ensures { result ≡ backups f (headers self.now) view number digest.now }
     {
@@ -33,7 +33,7 @@ impl Log {
         count_others(self.row(place), digest, 3 * f + 1, primary_of(f, view))
     }
 
-    fn count_tellers(&self, f: u32, tag: u32, view: u64, number: u64, digest: &[u8]) -> usize
+    fn count_tellers(&self, f: u32, tag: u32, view: u64, number: u64, digest: &[u8; 32]) -> usize
         requires { f ≤ most_faults }
         ensures { result ≡ tellers f (headers self.now) tag view number digest.now }
     {
@@ -43,7 +43,7 @@ impl Log {
     }
 
     /// Whether the log has the primary's PRE-PREPARE and 2f matching PREPAREs of different backups.
-    pub fn is_backed(&self, f: u32, view: u64, number: u64, digest: &[u8]) -> bool
+    pub fn is_backed(&self, f: u32, view: u64, number: u64, digest: &[u8; 32]) -> bool
         requires { f ≤ most_faults }
         ensures { result ≡ is_backed f (headers self.now) view number digest.now }
     {
@@ -57,7 +57,7 @@ impl Log {
     }
 
     /// Whether a batch is prepared at the replica `me`: backed, and by its own PREPARE, which a primary has none of.
-    pub fn is_prepared(&self, f: u32, me: u32, view: u64, number: u64, digest: &[u8]) -> bool
+    pub fn is_prepared(&self, f: u32, me: u32, view: u64, number: u64, digest: &[u8; 32]) -> bool
         requires { f ≤ most_faults }
         ensures { result ≡ prepared f me (headers self.now) view number digest.now }
     {
@@ -72,7 +72,7 @@ impl Log {
     }
 
     /// Whether a batch is committed at the replica `me`: prepared, and told by 2f + 1 COMMITs, its own among them.
-    pub fn is_committed(&self, f: u32, me: u32, view: u64, number: u64, digest: &[u8]) -> bool
+    pub fn is_committed(&self, f: u32, me: u32, view: u64, number: u64, digest: &[u8; 32]) -> bool
         requires { f ≤ most_faults }
         ensures { result ≡ committed f me (headers self.now) view number digest.now }
     {
@@ -88,7 +88,7 @@ impl Log {
     }
 
     /// How many replicas have told that digest of a number by a CHECKPOINT.
-    pub fn checkpoint_votes(&self, f: u32, number: u64, digest: &[u8]) -> usize
+    pub fn checkpoint_votes(&self, f: u32, number: u64, digest: &[u8; 32]) -> usize
         requires { f ≤ most_faults }
         ensures { result ≡ tellers f (headers self.now) checkpoint_tag 0 number digest.now }
     {
@@ -96,7 +96,7 @@ impl Log {
     }
 
     /// Whether 2f + 1 CHECKPOINTs tell that digest of a number.
-    pub fn is_checkpoint_stable(&self, f: u32, number: u64, digest: &[u8]) -> bool
+    pub fn is_checkpoint_stable(&self, f: u32, number: u64, digest: &[u8; 32]) -> bool
         requires { f ≤ most_faults }
         ensures { result ≡ is_stable f (headers self.now) number digest.now }
     {

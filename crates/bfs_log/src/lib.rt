@@ -1,7 +1,8 @@
-//! The messages that a replica has accepted: what they tell of a batch or a checkpoint, found without a walk through all of them.
+//! The messages that a replica has accepted: what they tell of a batch or a checkpoint, found without a walk through all of them, and what shows it to others.
 #![tactic(auto)]
 
 mod asking;
+mod certificates;
 mod committed;
 mod copies;
 mod counting;
@@ -10,9 +11,14 @@ mod logs;
 mod places;
 mod rows;
 mod said;
+mod senders;
 
+pub use certificates::{
+    StableCheckpoint, does_certify, does_match, faults_of, is_proved, is_stable_shown, is_told_by,
+    vote_in,
+};
 pub use committed::Committed;
 pub use counting::primary_of;
-pub use headers::{Header, Slot, header_of};
+pub use headers::Slot;
 pub use logs::Log;
 pub use said::Said;

@@ -1,14 +1,14 @@
 ghost use Rattle.std.specs.Prelude.{◌≡◌, ◌<◌, [], ◌∷◌, ◌++◌, false, take, length, ◌-◌, OnOk, OnErr, All};
 ghost use Rattle.bfs_model.specs.Server.Limits.{most_replicas};
-ghost use Rattle.bfs_agreement.specs.Votes.{SlotsDiffer, is_taken};
+ghost use Rattle.bfs_votes.specs.Votes.{SlotsDiffer, is_taken};
 ghost use Rattle.bfs_log.specs.Headers.{header};
 ghost use Rattle.bfs_log.specs.Logs.{greatest_proposed, headers, kept_after};
 ghost use Rattle.bfs_log.specs.Places.{place_of, said_at};
 
-use crate::headers::header_of;
+use crate::headers::{does_stay, place_of};
 use crate::places::{Place, drop_up_to, greatest_in, pop_at, put_at, row_at};
 use crate::said::Said;
-use bfs_messages::{Message, Signed};
+use bfs_messages::{OrderMessage, Signed};
 use bfs_types::Memory;
 use std::alloc::Global;
 use std::collections::BTreeMap;
@@ -21,7 +21,7 @@ use std::marker::Model;
 #[derive(Drop)]
 pub struct Log {
     alloc: Global,
-    messages: Vec<Signed<Message>>,
+    messages: Vec<Signed<OrderMessage>>,
     places: BTreeMap<Place, Vec<Said>>,
 }
 
@@ -49,7 +49,7 @@ impl Log {
     }
 
     /// The messages, in the order in which they came.
-    pub fn messages(&self) -> &[Signed<Message>]
+    pub fn messages(&self) -> &[Signed<OrderMessage>]
         ensures { result.now ≡ self.now }
     {
         self.messages.as_slice()
@@ -81,13 +81,13 @@ impl Log {
 
 impl Log {
     /// Puts a message behind the others. `Memory` if memory runs out; then nothing changes.
-    pub fn push(&mut self, signed: Signed<Message>) -> Result<(), Memory>
+    pub fn push(&mut self, signed: Signed<OrderMessage>) -> Result<(), Memory>
         requires free { is_taken (headers self.old) (header signed) ≡ false }
         requires sender { (header signed).sender < most_replicas }
         ensures ok { OnOk result (self.new ≡ self.old ++ signed ∷ []) }
         ensures err { OnErr result (self.new ≡ self.old) }
     {
-        let place = header_of(&signed.message).place();
+        let place = place_of(&signed.message);
         let said = Said::in_message(&signed.message)?;
         put_at(self.alloc, &mut self.places, place, said)?;
         match self.messages.push(signed) {
@@ -118,17 +118,18 @@ impl Log {
     }
 
     /// Drops the messages up to a checkpoint, but for the CHECKPOINTs that tell it (OSDI 1999 section 4.3). It takes no memory.
-    pub fn drop_up_to(&mut self, number: u64, digest: &[u8])
+    pub fn drop_up_to(&mut self, number: u64, digest: &[u8; 32])
         ensures { self.new ≡ kept_after number digest.now self.old }
     {
-        self.messages.retain(|signed| header_of(&signed.message).does_stay(number, digest));
+        self.messages
+            .retain(|signed| does_stay(&signed.message, number, digest));
         drop_up_to(&mut self.places, number, digest);
     }
 }
 
 // where it stood
-fn place_in(signed: Signed<Message>) -> Place
+fn place_in(signed: Signed<OrderMessage>) -> Place
     ensures { result ≡ place_of (header signed) }
 {
-    header_of(&signed.message).place()
+    place_of(&signed.message)
 }

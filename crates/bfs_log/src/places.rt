@@ -84,7 +84,7 @@ fn checkpoint_place(number: u64) -> Place
 }
 
 /// Drops what was said up to a checkpoint, but for the CHECKPOINTs that tell it. It takes no memory.
-pub(crate) fn drop_up_to(places: &mut BTreeMap<Place, Vec<Said>>, number: u64, digest: &[u8])
+pub(crate) fn drop_up_to(places: &mut BTreeMap<Place, Vec<Said>>, number: u64, digest: &[u8; 32])
     ensures { (p : declared.Place) → row_at places.new p ≡ row_kept number digest.now p (row_at places.old p) }
 {
     drop_places(places, number);
@@ -98,7 +98,7 @@ fn drop_places(places: &mut BTreeMap<Place, Vec<Said>>, number: u64)
     places.retain(|place, _| *place == told || number < place.number);
 }
 
-fn drop_other_checkpoints(places: &mut BTreeMap<Place, Vec<Said>>, number: u64, digest: &[u8])
+fn drop_other_checkpoints(places: &mut BTreeMap<Place, Vec<Said>>, number: u64, digest: &[u8; 32])
     ensures { (p : declared.Place) → row_at places.new p ≡ if same_place (checkpoint_place number) p then filter (λ said. bytes_eq said.digest digest.now) (row_at places.old p) else row_at places.old p }
 {
     if let Some(row) = places.get_mut(&checkpoint_place(number)) {
@@ -106,7 +106,7 @@ fn drop_other_checkpoints(places: &mut BTreeMap<Place, Vec<Said>>, number: u64, 
     }
 }
 
-fn keep_told(row: &mut Vec<Said>, digest: &[u8])
+fn keep_told(row: &mut Vec<Said>, digest: &[u8; 32])
     ensures { row.new.items ≡ filter (λ said. bytes_eq said.digest digest.now) row.old.items }
 {
     row.retain(|said| said.digest() == digest);

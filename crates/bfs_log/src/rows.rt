@@ -18,7 +18,7 @@ pub(crate) fn has_from(row: &[Said], sender: u32) -> bool
     row.iter().any(|said| said.sender() == sender)
 }
 
-pub(crate) fn does_tell(row: &[Said], digest: &[u8], sender: u32) -> bool
+pub(crate) fn does_tell(row: &[Said], digest: &[u8; 32], sender: u32) -> bool
     ensures { result ≡ tells row.now digest.now sender }
 {
     row.iter()
@@ -26,7 +26,7 @@ pub(crate) fn does_tell(row: &[Said], digest: &[u8], sender: u32) -> bool
 }
 
 /// How many of the senders below a number tell a digest.
-pub(crate) fn count_tellers(row: &[Said], digest: &[u8], senders: u32) -> usize
+pub(crate) fn count_tellers(row: &[Said], digest: &[u8; 32], senders: u32) -> usize
     ensures { result ≡ count_by (λ said. nat_lt said.sender senders && bytes_eq said.digest digest.now) row.now }
 {
     row.iter()
@@ -35,7 +35,7 @@ pub(crate) fn count_tellers(row: &[Said], digest: &[u8], senders: u32) -> usize
 }
 
 /// How many of the senders below a number, but for one of them, tell a digest.
-pub(crate) fn count_others(row: &[Said], digest: &[u8], senders: u32, one: u32) -> usize
+pub(crate) fn count_others(row: &[Said], digest: &[u8; 32], senders: u32, one: u32) -> usize
     ensures { result ≡ count_by (λ said. nat_lt said.sender senders && (not (said.sender == one) && bytes_eq said.digest digest.now)) row.now }
 {
     row.iter()

@@ -6,7 +6,7 @@ use Rattle.bfs_model.specs.Server.Tree.{Time}
 use Rattle.bfs_messages.specs.Messages as model
 use Rattle.bfs_messages.specs.Messages.{Requests, Batch, Vote}
 use Rattle.bfs_messages.specs.declared.signed.Signed.{Signed}
-use Rattle.bfs_agreement.specs.Tags.{request_tag}
+use Rattle.bfs_votes.specs.Tags.{request_tag}
 
 -- keyed hashes
 abbrev pub auth_text : List (List ℕ) → List ℕ

@@ -47,7 +47,7 @@ pub record Reply : Type 0 where
   pub result : List ℕ
 
 -- that a batch was prepared: its PRE-PREPARE, and PREPAREs that match it
-pub record Certificate : Type 0 where
+pub record PreparedBatch : Type 0 where
   pub proposal : Signed PrePrepare
   pub prepares : List (Signed Vote)
 
@@ -57,7 +57,7 @@ pub record ViewChange : Type 0 where
   pub view : ℕ
   pub stable : ℕ
   pub checkpoints : List (Signed Checkpoint)
-  pub certificates : List Certificate
+  pub certificates : List PreparedBatch
 
 pub record NewView : Type 0 where
   pub sender : ℕ

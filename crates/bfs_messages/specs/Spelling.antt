@@ -5,37 +5,43 @@ use Rattle.bfs_messages.specs.Batches.{auth_text, request_text, vote_text, check
 use Rattle.bfs_messages.specs.Changes.{view_change_text, new_view_text}
 use Rattle.bfs_messages.specs.declared.signed.Signed.{Signed}
 use Rattle.bfs_messages.specs.declared.message.Message.{Message}
-use Rattle.bfs_messages.specs.declared.message.Message.TheVariants.{Request, PrePrepare, Prepare, Commit, Checkpoint, ViewChange, NewView, Reply}
-use Rattle.bfs_agreement.specs.Tags.{checkpoint_tag, commit_tag, new_view_tag, pre_prepare_tag, prepare_tag, reply_tag, request_tag, view_change_tag}
+use Rattle.bfs_messages.specs.declared.message.Message.TheVariants.{Request, Order, ViewChange, NewView, Reply}
+use Rattle.bfs_messages.specs.declared.order_messages.OrderMessage.{OrderMessage}
+use Rattle.bfs_messages.specs.declared.order_messages.OrderMessage.TheVariants.{PrePrepare, Prepare, Commit, Checkpoint}
+use Rattle.bfs_messages.specs.OrderMessages.{order_tag}
+use Rattle.bfs_votes.specs.Tags.{new_view_tag, reply_tag, request_tag, view_change_tag}
 
 abbrev pub tag_of : Message → ℕ
 tag_of (Request request) = request_tag
-tag_of (PrePrepare proposal) = pre_prepare_tag
-tag_of (Prepare vote) = prepare_tag
-tag_of (Commit vote) = commit_tag
-tag_of (Checkpoint checkpoint) = checkpoint_tag
+tag_of (Order message) = order_tag message
 tag_of (ViewChange change) = view_change_tag
 tag_of (NewView new) = new_view_tag
 tag_of (Reply reply) = reply_tag
 
+abbrev pub order_fields_text : OrderMessage → List ℕ
+order_fields_text (PrePrepare proposal) = vote_text proposal.vote
+order_fields_text (Prepare vote) = vote_text vote
+order_fields_text (Commit vote) = vote_text vote
+order_fields_text (Checkpoint checkpoint) = checkpoint_text checkpoint
+
 -- what stands behind the tag of a message's body
 abbrev pub fields_text : Message → List ℕ
 fields_text (Request request) = request_text request
-fields_text (PrePrepare proposal) = vote_text proposal.vote
-fields_text (Prepare vote) = vote_text vote
-fields_text (Commit vote) = vote_text vote
-fields_text (Checkpoint checkpoint) = checkpoint_text checkpoint
+fields_text (Order message) = order_fields_text message
 fields_text (ViewChange change) = view_change_text change
 fields_text (NewView new) = new_view_text new
 fields_text (Reply reply) = reply_text reply
 
+abbrev pub order_attached_text : OrderMessage → List ℕ
+order_attached_text (PrePrepare proposal) = batch_text proposal.batch
+order_attached_text (Prepare vote) = []
+order_attached_text (Commit vote) = []
+order_attached_text (Checkpoint checkpoint) = []
+
 -- what follows the keyed hashes
 abbrev pub attached_text : Message → List ℕ
-attached_text (PrePrepare proposal) = batch_text proposal.batch
+attached_text (Order message) = order_attached_text message
 attached_text (Request request) = []
-attached_text (Prepare vote) = []
-attached_text (Commit vote) = []
-attached_text (Checkpoint checkpoint) = []
 attached_text (ViewChange change) = []
 attached_text (NewView new) = []
 attached_text (Reply reply) = []
@@ -43,6 +49,9 @@ attached_text (Reply reply) = []
 -- a message's body, of which the keyed hashes are made
 abbrev pub body_text : Message → List ℕ
 body_text message = word (tag_of message) ++ fields_text message
+
+abbrev pub order_body_text : OrderMessage → List ℕ
+order_body_text message = word (order_tag message) ++ order_fields_text message
 
 unfoldable pub signed_text : Signed Message → List ℕ
 signed_text signed = body_text signed.message ++ auth_text signed.auth ++ attached_text signed.message

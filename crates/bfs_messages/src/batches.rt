@@ -1,4 +1,4 @@
-ghost use Rattle.std.specs.Prelude.{◌≡◌, ◌≤◌, [], None, Some, vec_len, length, IfOk, OnOk};
+ghost use Rattle.std.specs.Prelude.{◌≡◌, ◌≤◌, [], None, Some, vec_len, length, OnOk};
 ghost use Rattle.std.specs.Arc.{arc_value};
 ghost use Rattle.std.specs.Option.{option_map};
 ghost use Rattle.sha2.specs.Sha256.{sha256};
@@ -11,9 +11,10 @@ ghost use Rattle.bfs_messages.specs.Messages.{requests_of};
 use crate::parts::put_list;
 use crate::requests::Request;
 use crate::signed::Signed;
-use bfs_types::{Memory, Time};
+use bfs_types::{Memory, Time, TryClone};
 use bfs_xdr::Sink;
 use sha2::{Digest, Sha256};
+use std::alloc::Global;
 use std::marker::Model;
 use std::sync::Arc;
 
@@ -146,16 +147,6 @@ impl HashedBatch {
         &self.batch
     }
 
-    /// An equal one, which shares the batch. `Memory` if memory runs out.
-    pub fn try_clone(&self) -> Result<HashedBatch, Memory>
-        ensures { IfOk result (λ copy. copy ≡ self.now) }
-    {
-        Ok(HashedBatch {
-            batch: Arc::try_clone(&self.batch)?,
-            digest: self.digest,
-        })
-    }
-
     /// The batch and its digest.
     pub fn into_parts(self) -> (Arc<OrderedBatch>, [u8; 32])
         ensures batch { arc_value result.0 ≡ self }
@@ -163,6 +154,15 @@ impl HashedBatch {
     {
         let HashedBatch { batch, digest } = self;
         (batch, digest)
+    }
+}
+
+impl TryClone for HashedBatch {
+    fn try_clone(&self, _alloc: Global) -> Result<HashedBatch, Memory> {
+        Ok(HashedBatch {
+            batch: Arc::try_clone(&self.batch)?,
+            digest: self.digest,
+        })
     }
 }
 

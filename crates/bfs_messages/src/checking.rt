@@ -2,16 +2,21 @@
 ghost use Rattle.std.specs.Prelude.{◌≡◌, ◌++◌};
 ghost use Rattle.bfs_auth.specs.Authenticators.{passes};
 ghost use Rattle.bfs_model.specs.Bytes.Items.{word};
-ghost use Rattle.bfs_messages.specs.Signing.{is_signed, request_is_signed};
+ghost use Rattle.bfs_messages.specs.Signing.{as_message, is_signed, order_is_signed, request_is_signed};
+ghost use Rattle.bfs_messages.specs.declared.message.Message.TheVariants as kind;
+ghost use Rattle.bfs_messages.specs.declared.order_messages.OrderMessage.TheVariants as order;
 
-use crate::changes::ViewChange;
+use crate::changes::{NewView, ViewChange};
 use crate::message::Message;
+use crate::order_messages::OrderMessage;
 use crate::parts::Part;
 use crate::proposals::PrePrepare;
 use crate::requests::Request;
 use crate::signed::Signed;
 use crate::signing::Body;
-use crate::tags::{CHECKPOINT_TAG, PRE_PREPARE_TAG, PREPARE_TAG, REQUEST_TAG, VIEW_CHANGE_TAG};
+use crate::tags::{
+    CHECKPOINT_TAG, NEW_VIEW_TAG, PRE_PREPARE_TAG, PREPARE_TAG, REQUEST_TAG, VIEW_CHANGE_TAG,
+};
 use crate::votes::{Checkpoint, Vote};
 use bfs_auth::{Authenticator, Keys, Principal, check_text};
 
@@ -20,6 +25,14 @@ pub fn is_signed(keys: &Keys, signed: &Signed<Message>) -> bool
     ensures { result ≡ is_signed keys.now signed.now }
 {
     check_text(keys, signed.message.sender(), &signed.message, &signed.auth)
+}
+
+/// Whether a message of the order is its sender's. The REQUESTs that it carries are another thing.
+pub fn is_order_signed(keys: &Keys, signed: &Signed<OrderMessage>) -> bool
+    ensures { result ≡ order_is_signed keys.now signed.now }
+{
+    let sender = Principal::Replica(signed.message.sender());
+    check_text(keys, sender, &signed.message, &signed.auth)
 }
 
 /// Whether a REQUEST is its client's.
@@ -32,7 +45,7 @@ pub fn is_request_signed(keys: &Keys, signed: &Signed<Request>) -> bool
 
 /// Whether a PREPARE is its sender's.
 pub fn is_prepare_signed(keys: &Keys, signed: &Signed<Vote>) -> bool
-    ensures { result ≡ is_signed keys.now (record { message = Message.Prepare signed.now.message; auth = signed.now.auth }) }
+    ensures { result ≡ order_is_signed keys.now (as_message order.Prepare signed.now) }
 {
     let sender = Principal::Replica(signed.message.sender());
     check_fields(keys, sender, PREPARE_TAG, &signed.message, &signed.auth)
@@ -40,7 +53,7 @@ pub fn is_prepare_signed(keys: &Keys, signed: &Signed<Vote>) -> bool
 
 /// Whether a PRE-PREPARE is its sender's. The REQUESTs of its batch are another thing.
 pub fn is_proposal_signed(keys: &Keys, signed: &Signed<PrePrepare>) -> bool
-    ensures { result ≡ is_signed keys.now (record { message = Message.PrePrepare signed.now.message; auth = signed.now.auth }) }
+    ensures { result ≡ order_is_signed keys.now (as_message order.PrePrepare signed.now) }
 {
     let vote = signed.message.vote();
     check_fields(
@@ -54,7 +67,7 @@ pub fn is_proposal_signed(keys: &Keys, signed: &Signed<PrePrepare>) -> bool
 
 /// Whether a CHECKPOINT is its sender's.
 pub fn is_checkpoint_signed(keys: &Keys, signed: &Signed<Checkpoint>) -> bool
-    ensures { result ≡ is_signed keys.now (record { message = Message.Checkpoint signed.now.message; auth = signed.now.auth }) }
+    ensures { result ≡ order_is_signed keys.now (as_message order.Checkpoint signed.now) }
 {
     let sender = Principal::Replica(signed.message.sender());
     check_fields(keys, sender, CHECKPOINT_TAG, &signed.message, &signed.auth)
@@ -62,10 +75,18 @@ pub fn is_checkpoint_signed(keys: &Keys, signed: &Signed<Checkpoint>) -> bool
 
 /// Whether a VIEW-CHANGE is its sender's. The messages within it are another thing.
 pub fn is_view_change_signed(keys: &Keys, signed: &Signed<ViewChange>) -> bool
-    ensures { result ≡ is_signed keys.now (record { message = Message.ViewChange signed.now.message; auth = signed.now.auth }) }
+    ensures { result ≡ is_signed keys.now (as_message kind.ViewChange signed.now) }
 {
     let sender = Principal::Replica(signed.message.sender());
     check_fields(keys, sender, VIEW_CHANGE_TAG, &signed.message, &signed.auth)
+}
+
+/// Whether a NEW-VIEW is its sender's. The messages within it are another thing.
+pub fn is_new_view_signed(keys: &Keys, signed: &Signed<NewView>) -> bool
+    ensures { result ≡ is_signed keys.now (as_message kind.NewView signed.now) }
+{
+    let sender = Principal::Replica(signed.message.sender());
+    check_fields(keys, sender, NEW_VIEW_TAG, &signed.message, &signed.auth)
 }
 
 fn check_fields<T: Part>(

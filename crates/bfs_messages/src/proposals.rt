@@ -1,4 +1,4 @@
-ghost use Rattle.std.specs.Prelude.{◌≡◌, ◌≤◌, IfOk};
+ghost use Rattle.std.specs.Prelude.{◌≡◌, ◌≤◌};
 ghost use Rattle.std.specs.Arc.{arc_value};
 ghost use Rattle.sha2.specs.Sha256.{sha256};
 ghost use Rattle.bfs_model.specs.Server.Limits.{most_number};
@@ -11,7 +11,7 @@ use crate::parts::Part;
 use crate::signed::Signed;
 use crate::tags::PRE_PREPARE_TAG;
 use crate::votes::Vote;
-use bfs_types::Memory;
+use bfs_types::{Memory, TryClone};
 use bfs_xdr::Sink;
 use std::alloc::Global;
 use std::marker::Model;
@@ -84,11 +84,10 @@ impl PrePrepare {
     {
         &self.batch
     }
+}
 
-    /// An equal one, which shares the batch. `Memory` if memory runs out.
-    pub fn try_clone(&self) -> Result<PrePrepare, Memory>
-        ensures { IfOk result (λ copy. copy ≡ self.now) }
-    {
+impl TryClone for PrePrepare {
+    fn try_clone(&self, _alloc: Global) -> Result<PrePrepare, Memory> {
         Ok(PrePrepare {
             vote: self.vote,
             batch: Arc::try_clone(&self.batch)?,
@@ -106,12 +105,5 @@ impl Part for Signed<PrePrepare> {
         self.message.vote.put(out)?;
         self.auth.put(out)?;
         put_batch(&self.message.batch, out)
-    }
-
-    fn try_clone(&self, alloc: Global) -> Result<Signed<PrePrepare>, Memory> {
-        Ok(Signed {
-            message: self.message.try_clone()?,
-            auth: self.auth.copy(alloc)?,
-        })
     }
 }

@@ -5,7 +5,7 @@ ghost use Rattle.bfs_messages.specs.Batches.{reply_text};
 ghost use Rattle.bfs_messages.specs.Limits.{FitsReply};
 
 use crate::parts::Part;
-use bfs_types::{Bytes, MOST_REPLY_BYTES, Memory};
+use bfs_types::{Bytes, MOST_REPLY_BYTES, Memory, TryClone};
 use bfs_xdr::Sink;
 use std::alloc::Global;
 use std::marker::Model;
@@ -130,7 +130,9 @@ impl Part for Reply {
         out.u64(self.timestamp)?;
         out.opaque(self.result.as_slice())
     }
+}
 
+impl TryClone for Reply {
     fn try_clone(&self, _alloc: Global) -> Result<Reply, Memory> {
         Ok(Reply {
             sender: self.sender,

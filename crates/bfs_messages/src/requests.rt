@@ -3,12 +3,11 @@ ghost use Rattle.std.specs.Arc.{arc_value};
 ghost use Rattle.bfs_model.specs.Server.Limits.{most_request_bytes};
 ghost use Rattle.bfs_messages.specs.Batches.{request_text};
 ghost use Rattle.bfs_messages.specs.Limits.{FitsRequest};
-ghost use Rattle.bfs_agreement.specs.Tags.{request_tag};
+ghost use Rattle.bfs_votes.specs.Tags.{request_tag};
 
 use crate::parts::{Kind, Part};
-use crate::signed::Signed;
 use crate::tags::REQUEST_TAG;
-use bfs_types::{Bytes, MOST_REQUEST_BYTES, Memory};
+use bfs_types::{Bytes, MOST_REQUEST_BYTES, Memory, TryClone};
 use bfs_xdr::Sink;
 use std::alloc::Global;
 use std::marker::Model;
@@ -66,11 +65,10 @@ impl Request {
     {
         self.call.as_slice()
     }
+}
 
-    /// An equal one, which shares the call. `Memory` if memory runs out.
-    pub fn try_clone(&self) -> Result<Request, Memory>
-        ensures { IfOk result (λ copy. copy ≡ self.now) }
-    {
+impl TryClone for Request {
+    fn try_clone(&self, _alloc: Global) -> Result<Request, Memory> {
         Ok(Request {
             client: self.client,
             timestamp: self.timestamp,
@@ -89,26 +87,10 @@ impl Part for Request {
         out.u64(self.timestamp)?;
         out.opaque(self.call.as_slice())
     }
-
-    fn try_clone(&self, _alloc: Global) -> Result<Request, Memory> {
-        Request::try_clone(self)
-    }
 }
 
 impl Kind for Request {
     ghost TAG = { request_tag };
 
     const TAG: u32 = REQUEST_TAG;
-}
-
-impl Signed<Request> {
-    /// An equal one, which shares the call. `Memory` if memory runs out.
-    pub fn try_clone(&self, alloc: Global) -> Result<Signed<Request>, Memory>
-        ensures { IfOk result (λ copy. copy ≡ self.now) }
-    {
-        Ok(Signed {
-            message: self.message.try_clone()?,
-            auth: self.auth.copy(alloc)?,
-        })
-    }
 }

@@ -3,19 +3,20 @@ ghost use Rattle.std.specs.Prelude.{◌≡◌, ◌++◌, IfOk};
 ghost use Rattle.bfs_auth.specs.Authenticators.{signature};
 ghost use Rattle.bfs_model.specs.Bytes.Items.{word};
 ghost use Rattle.bfs_messages.specs.Batches.{checkpoint_text, vote_text};
-ghost use Rattle.bfs_messages.specs.Changes.{view_change_text};
-ghost use Rattle.bfs_messages.specs.Signing.{signed_by};
-ghost use Rattle.bfs_messages.specs.Spelling.{body_text};
-ghost use Rattle.bfs_agreement.specs.Tags.{checkpoint_tag, pre_prepare_tag, prepare_tag, view_change_tag};
+ghost use Rattle.bfs_messages.specs.Changes.{new_view_text, view_change_text};
+ghost use Rattle.bfs_messages.specs.Signing.{order_signed_by, signed_by};
+ghost use Rattle.bfs_messages.specs.Spelling.{body_text, order_body_text};
+ghost use Rattle.bfs_votes.specs.Tags.{checkpoint_tag, new_view_tag, pre_prepare_tag, prepare_tag, view_change_tag};
 
-use crate::changes::ViewChange;
+use crate::changes::{NewView, ViewChange};
 use crate::message::Message;
+use crate::order_messages::OrderMessage;
 use crate::parts::Part;
 use crate::proposals::PrePrepare;
 use crate::signed::Signed;
-use crate::tags::{CHECKPOINT_TAG, PRE_PREPARE_TAG, PREPARE_TAG, VIEW_CHANGE_TAG};
+use crate::tags::{CHECKPOINT_TAG, NEW_VIEW_TAG, PRE_PREPARE_TAG, PREPARE_TAG, VIEW_CHANGE_TAG};
 use crate::votes::{Checkpoint, Vote};
-use crate::writing::{put_body, put_tagged};
+use crate::writing::{put_body, put_order_body, put_tagged};
 use bfs_auth::{Authenticator, Keys, Text, sign_text};
 use bfs_types::Memory;
 use sha2::Sha256;
@@ -26,6 +27,17 @@ impl Text for Message {
 
     fn hash(&self, hasher: &mut Sha256) {
         match put_body(self, hasher) {
+            Ok(()) => (),
+            Err(never) => match never {},
+        }
+    }
+}
+
+impl Text for OrderMessage {
+    ghost text = { order_body_text };
+
+    fn hash(&self, hasher: &mut Sha256) {
+        match put_order_body(self, hasher) {
             Ok(()) => (),
             Err(never) => match never {},
         }
@@ -53,6 +65,18 @@ impl<'a, T: Part> Text for Body<'a, T> {
 /// Signs a message. `Memory` if memory runs out.
 pub fn sign(alloc: Global, keys: &Keys, message: Message) -> Result<Signed<Message>, Memory>
     ensures { IfOk result (λ signed. signed ≡ signed_by keys.now message) }
+{
+    let auth = sign_text(alloc, keys, &message)?;
+    Ok(Signed { message, auth })
+}
+
+/// Signs a message of the order. `Memory` if memory runs out.
+pub fn sign_order(
+    alloc: Global,
+    keys: &Keys,
+    message: OrderMessage,
+) -> Result<Signed<OrderMessage>, Memory>
+    ensures { IfOk result (λ signed. signed ≡ order_signed_by keys.now message) }
 {
     let auth = sign_text(alloc, keys, &message)?;
     Ok(Signed { message, auth })
@@ -112,6 +136,14 @@ pub fn sign_view_change(
         message: change,
         auth,
     })
+}
+
+/// Signs a NEW-VIEW. `Memory` if memory runs out.
+pub fn sign_new_view(alloc: Global, keys: &Keys, new: NewView) -> Result<Signed<NewView>, Memory>
+    ensures { IfOk result (λ signed. signed ≡ record { message = new; auth = signature keys.now (word new_view_tag ++ new_view_text new) }) }
+{
+    let auth = sign_fields(alloc, keys, NEW_VIEW_TAG, &new)?;
+    Ok(Signed { message: new, auth })
 }
 
 fn sign_fields<T: Part>(

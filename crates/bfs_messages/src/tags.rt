@@ -1,6 +1,6 @@
 //! The kinds of messages, each by the number that its text begins with.
 ghost use Rattle.std.specs.Prelude.{◌≡◌};
-ghost use Rattle.bfs_agreement.specs.Tags as tag;
+ghost use Rattle.bfs_votes.specs.Tags as tag;
 
 pub const REQUEST_TAG: u32 = 1;
 

@@ -1,12 +1,12 @@
-ghost use Rattle.std.specs.Prelude.{◌≡◌, ◌≤◌, IfOk};
+ghost use Rattle.std.specs.Prelude.{◌≡◌, ◌≤◌};
 ghost use Rattle.bfs_model.specs.Server.Limits.{most_number};
 ghost use Rattle.bfs_messages.specs.Batches.{checkpoint_text, vote_text};
 ghost use Rattle.bfs_messages.specs.Limits.{FitsCheckpoint, FitsVote};
-ghost use Rattle.bfs_agreement.specs.Tags.{checkpoint_tag, prepare_tag};
+ghost use Rattle.bfs_votes.specs.Tags.{checkpoint_tag, prepare_tag};
 
 use crate::parts::{Kind, Part};
 use crate::tags::{CHECKPOINT_TAG, PREPARE_TAG};
-use bfs_types::Memory;
+use bfs_types::{Memory, TryClone};
 use bfs_xdr::Sink;
 use std::alloc::Global;
 use std::marker::Model;
@@ -92,7 +92,9 @@ impl Part for Vote {
         out.u64(self.number)?;
         out.fixed(&self.digest)
     }
+}
 
+impl TryClone for Vote {
     fn try_clone(&self, _alloc: Global) -> Result<Vote, Memory> {
         Ok(*self)
     }
@@ -172,7 +174,9 @@ impl Part for Checkpoint {
         out.u64(self.number)?;
         out.fixed(&self.digest)
     }
+}
 
+impl TryClone for Checkpoint {
     fn try_clone(&self, _alloc: Global) -> Result<Checkpoint, Memory> {
         Ok(*self)
     }

@@ -3,12 +3,13 @@ ghost use Rattle.std.specs.Prelude.{◌≡◌, ◌++◌, IfOk, OnOk};
 ghost use Rattle.bfs_model.specs.Bytes.Items.{word};
 ghost use Rattle.bfs_messages.specs.Batches.{batch_text};
 ghost use Rattle.bfs_xdr.specs.Sinks.{Takes};
-ghost use Rattle.bfs_messages.specs.Fits.{FieldsFit, FitsMessage};
+ghost use Rattle.bfs_messages.specs.Fits.{FieldsFit, FitsMessage, OrderFieldsFit};
 ghost use Rattle.bfs_messages.specs.Limits.{FitsSigned};
-ghost use Rattle.bfs_messages.specs.Spelling.{attached_text, body_text, signed_text};
+ghost use Rattle.bfs_messages.specs.Spelling.{attached_text, body_text, order_body_text, signed_text};
 
 use crate::batches::{OrderedBatch, put_batch};
 use crate::message::Message;
+use crate::order_messages::OrderMessage;
 use crate::parts::Part;
 use crate::signed::Signed;
 use crate::tags::{
@@ -53,13 +54,22 @@ pub(crate) fn put_body<S: Sink>(message: &Message, out: &mut S) -> Result<(), S:
 {
     match message {
         Message::Request(request) => put_tagged(REQUEST_TAG, request, out),
-        Message::PrePrepare(proposal) => put_tagged(PRE_PREPARE_TAG, proposal.vote(), out),
-        Message::Prepare(vote) => put_tagged(PREPARE_TAG, vote, out),
-        Message::Commit(vote) => put_tagged(COMMIT_TAG, vote, out),
-        Message::Checkpoint(checkpoint) => put_tagged(CHECKPOINT_TAG, checkpoint, out),
+        Message::Order(message) => put_order_body(message, out),
         Message::ViewChange(change) => put_tagged(VIEW_CHANGE_TAG, change, out),
         Message::NewView(new) => put_tagged(NEW_VIEW_TAG, new, out),
         Message::Reply(reply) => put_tagged(REPLY_TAG, reply, out),
+    }
+}
+
+pub(crate) fn put_order_body<S: Sink>(message: &OrderMessage, out: &mut S) -> Result<(), S::Error>
+    ensures text { OnOk result (Takes S.holds out.old out.new (order_body_text message.now)) }
+    ensures fits { OnOk result (OrderFieldsFit message.now) }
+{
+    match message {
+        OrderMessage::PrePrepare(proposal) => put_tagged(PRE_PREPARE_TAG, proposal.vote(), out),
+        OrderMessage::Prepare(vote) => put_tagged(PREPARE_TAG, vote, out),
+        OrderMessage::Commit(vote) => put_tagged(COMMIT_TAG, vote, out),
+        OrderMessage::Checkpoint(checkpoint) => put_tagged(CHECKPOINT_TAG, checkpoint, out),
     }
 }
 
@@ -82,7 +92,7 @@ fn put_attached<S: Sink>(message: &Message, out: &mut S) -> Result<(), S::Error>
     ensures fits { OnOk result (FieldsFit message.now → FitsMessage message.now) }
 {
     match message {
-        Message::PrePrepare(proposal) => {
+        Message::Order(OrderMessage::PrePrepare(proposal)) => {
             let _vote = proposal.vote();
             put_batch(proposal.batch(), out)
         }

@@ -2,22 +2,21 @@
 use Rattle.std.proofs.Common.{Bool, true, false, ◌≡◌, ◌∙◌, ◌<◌, ◌⊎◌, ℕ, zero, suc, List, [], ◌++◌, Option, Some, None, refl, sym, ap, ap₂, subst, arith, inl, inr}
 use Rattle.std.proofs.Math.Dec.{ltb}
 use Rattle.std.proofs.lemmas.Bool.{ltb-true, ltb-false}
-use Rattle.bfs_log.specs.Logs.{Log}
 use Rattle.bfs_node.specs.Advancing.{Advances, StopsAt, StopsShort, advanced, advancing, followed_by}
 use Rattle.bfs_node.specs.Inside.Acting.{Acts, CheckpointsAfter, HasAdvanced}
-use Rattle.bfs_node.specs.Nodes.{Node, Outcome}
+use Rattle.bfs_node.specs.Nodes.{Messages, Node, Outcome}
 
-abbrev outcome : Node → Log → Outcome
+abbrev outcome : Node → Messages → Outcome
 outcome now sent = record { now = now; sent = sent }
 
-pub not_yet : (Executes : Node → Type 0) (node now : Node) (sent : Log) → CheckpointsAfter node [] now sent → HasAdvanced Executes node sent now
+pub not_yet : (Executes : Node → Type 0) (node now : Node) (sent : Messages) → CheckpointsAfter node [] now sent → HasAdvanced Executes node sent now
 not_yet Executes node now sent at_first = record {
   batches = 0;
   comes = at_first;
   executes = λ k lt. absurd (omega (arith, lt));
 }
 
-further : (Executes : Node → Type 0) (node now : Node) (sent : Log) (done : Outcome) → HasAdvanced Executes node sent now → Executes now → advancing now ≡ Some done
+further : (Executes : Node → Type 0) (node now : Node) (sent : Messages) (done : Outcome) → HasAdvanced Executes node sent now → Executes now → advancing now ≡ Some done
     → HasAdvanced Executes node (sent ++ done.sent) done.now
 further Executes node now sent done so_far here is = record {
   batches = suc so_far.batches;
@@ -36,7 +35,7 @@ further Executes node now sent done so_far here is = record {
     below k (inl lt) = so_far.executes k lt
     below k (inr same) = subst (λ (n : ℕ). Executes (advanced n node).now) (sym same) (subst Executes (sym (ap (λ (all : Outcome). all.now) so_far.comes)) here)
 
-pub goes_further : (Executes : Node → Type 0) (node now next : Node) (sent more : Log) → HasAdvanced Executes node sent now → Executes now → Acts (advancing now) now next (Some more)
+pub goes_further : (Executes : Node → Type 0) (node now next : Node) (sent more : Messages) → HasAdvanced Executes node sent now → Executes now → Acts (advancing now) now next (Some more)
     → HasAdvanced Executes node (sent ++ more) next
 goes_further Executes node now next sent more so_far here did = go (advancing now) refl did
   where
@@ -45,15 +44,15 @@ goes_further Executes node now next sent more so_far here did = go (advancing no
     go (Some done) is did =
         let same : more ≡ done.sent = let e : Some more ≡ Some done.sent = did.1 in cc in
         subst (λ (n : Node). HasAdvanced Executes node (sent ++ more) n) (sym did.0)
-        (subst (λ (all : Log). HasAdvanced Executes node (sent ++ all) done.now) (sym same) (further Executes node now sent done so_far here is))
+        (subst (λ (all : Messages). HasAdvanced Executes node (sent ++ all) done.now) (sym same) (further Executes node now sent done so_far here is))
 
-pub ends : (Executes : Node → Type 0) (node now next : Node) (sent : Log) → HasAdvanced Executes node sent now → Acts (advancing now) now next None → Advances Executes node sent next
+pub ends : (Executes : Node → Type 0) (node now next : Node) (sent : Messages) → HasAdvanced Executes node sent now → Acts (advancing now) now next None → Advances Executes node sent next
 ends Executes node now next sent so_far did = go (advancing now) refl did
   where
     go : (done : Option Outcome) → advancing now ≡ done → Acts done now next None → Advances Executes node sent next
     go (Some done) is did = absurd (let never : None ≡ Some done.sent = did.1 in cc)
     go None is did = subst (λ (n : Node). Advances Executes node sent n) (sym did.0) (record { batches = so_far.batches; comes = so_far.comes; executes = so_far.executes; ended = is })
 
-pub stops : (Executes : Node → Type 0) (node now next : Node) (sent : Log) → HasAdvanced Executes node sent now → StopsAt now next → StopsShort node next
+pub stops : (Executes : Node → Type 0) (node now next : Node) (sent : Messages) → HasAdvanced Executes node sent now → StopsAt now next → StopsShort node next
 stops Executes node now next sent so_far at =
     record { batches = so_far.batches; stops = inr (subst (λ (n : Node). StopsAt n next) (sym (ap (λ (all : Outcome). all.now) so_far.comes)) at) }

@@ -5,24 +5,10 @@ use Rattle.std.specs.Option.{option_map}
 use Rattle.std.proofs.lemmas.Option.{same_Some}
 use Rattle.bfs_model.specs.Server.Tree.{FileSystem}
 use Rattle.bfs_checkpoints.specs.Snapshots.{Snapshot, snapshot_of}
-use Rattle.bfs_log.specs.Logs.{Log}
-use Rattle.bfs_messages.specs.Messages as model
 use Rattle.bfs_messages.specs.declared.signed.Signed.{Signed}
 use Rattle.bfs_messages.specs.declared.message.Message.{Message}
-use Rattle.bfs_messages.specs.declared.message.Message.TheVariants.{PrePrepare, Prepare}
 use Rattle.bfs_node.specs.Checkpoints.{checkpoint, checkpointed, with_checkpoint}
-use Rattle.bfs_node.specs.Delivering.{delivered, ordered}
-use Rattle.bfs_node.specs.Nodes.{Node, Outcome}
-
--- Messages of the order -------------------------------------------------------------------------------------------------------
-
-pub proposal_delivered : (node : Node) (signed : Signed Message) (proposal : model.PrePrepare) → signed.message ≡ PrePrepare proposal
-    → delivered node signed ≡ ordered node (record { message = PrePrepare proposal; auth = signed.auth })
-proposal_delivered node signed proposal is = ap (λ (message : Message). delivered node (record { message = message; auth = signed.auth })) is
-
-pub vote_delivered : (node : Node) (signed : Signed Message) (vote : model.Vote) → signed.message ≡ Prepare vote
-    → delivered node signed ≡ ordered node (record { message = Prepare vote; auth = signed.auth })
-vote_delivered node signed vote is = ap (λ (message : Message). delivered node (record { message = message; auth = signed.auth })) is
+use Rattle.bfs_node.specs.Nodes.{Messages, Node, Outcome}
 
 -- Checkpoints -----------------------------------------------------------------------------------------------------------------
 
@@ -49,4 +35,4 @@ now_told node other snapshot new same value is =
 pub sent_told : (node other : Node) (snapshot : Snapshot) (own : Signed Message) → other ≡ node → option_map (λ live. snapshot_of live node.table) node.files ≡ Some snapshot
     → (with_checkpoint other snapshot).sent ≡ own ∷ [] → option_map (λ (outcome : Outcome). outcome.sent) (checkpoint node) ≡ Some (own ∷ [])
 sent_told node other snapshot own same value is =
-    ap (option_map (λ (outcome : Outcome). outcome.sent)) (told node snapshot value) ∙ ap (λ (n : Node). Some (with_checkpoint n snapshot).sent) (sym same) ∙ ap (λ (all : Log). Some all) is
+    ap (option_map (λ (outcome : Outcome). outcome.sent)) (told node snapshot value) ∙ ap (λ (n : Node). Some (with_checkpoint n snapshot).sent) (sym same) ∙ ap (λ (all : Messages). Some all) is

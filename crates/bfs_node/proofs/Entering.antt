@@ -1,7 +1,6 @@
 -- What a step of a view change comes to.
-use Rattle.std.proofs.Common.{◌≡◌, ◌∙◌, ℕ, true, Bool, [], Option, None, sym, ap, if◌then◌else◌}
+use Rattle.std.proofs.Common.{◌≡◌, ◌∙◌, ℕ, true, Bool, List, [], Option, None, sym, ap, if◌then◌else◌}
 use Rattle.bfs_auth.specs.Keys.{Keys}
-use Rattle.bfs_log.specs.Logs.{Log}
 use Rattle.bfs_messages.specs.Messages as model
 use Rattle.bfs_messages.specs.declared.signed.Signed.{Signed}
 use Rattle.bfs_order.specs.Laws.Calls.{CallsKeepTheReplica, Enters}
@@ -9,12 +8,12 @@ use Rattle.bfs_order.specs.Replica.Outcomes.{unless}
 use Rattle.bfs_order.specs.Replica.States.{State}
 use Rattle.bfs_order.specs.Replica.Views.{entered, entering_refusal}
 use Rattle.bfs_order.specs.declared.error.OrderError.{OrderError}
-use Rattle.bfs_view.specs.Changes.Keeping.{with_asked, with_change}
+use Rattle.bfs_view_change.specs.Changes.Keeping.{with_asked, with_change}
 use Rattle.bfs_node.specs.Changing.{begun_if_due, leads, with_view_change}
 use Rattle.bfs_node.specs.Nodes.{Node}
 
 -- as many replicas may be faulty in a view that is entered
-pub same_faults : CallsKeepTheReplica → (keys : Keys) (s now : State) (view min_s : ℕ) (handed : Log) → entering_refusal s view ≡ None → now ≡ (entered keys s view min_s handed).now → now.f ≡ s.f
+pub same_faults : CallsKeepTheReplica → (keys : Keys) (s now : State) (view min_s : ℕ) (handed : List (Signed model.PrePrepare)) → entering_refusal s view ≡ None → now ≡ (entered keys s view min_s handed).now → now.f ≡ s.f
 same_faults stay keys s now view min_s handed taken is =
     ap (λ (t : State). t.f) is ∙ ap (λ (r : Option OrderError). (unless r s (entered keys s view min_s handed)).now.f) (sym taken) ∙ (stay s (Enters keys view min_s handed)).0
 

@@ -6,17 +6,16 @@ use Rattle.bfs_checkpoints.specs.Adoption.{HasDigest}
 use Rattle.bfs_checkpoints.specs.Outcomes.{IsRead}
 use Rattle.bfs_checkpoints.specs.Snapshots.{Snapshot, snapshot_of}
 use Rattle.bfs_checkpoints.specs.Texts.{SpellsNode, node_digest}
-use Rattle.bfs_log.specs.Logs.{Log}
-use Rattle.bfs_order.specs.Replica.Installing.{digest_of}
+use Rattle.bfs_log.specs.Certificates.{StableCheckpoint}
 use Rattle.bfs_replies.specs.Tables.{Table}
 use Rattle.bfs_node.specs.Adopting.{Adopts, holding, may_adopt}
 use Rattle.bfs_node.specs.Nodes.{Node}
 
-pub read_is_adopted : (node : Node) (clients : ℕ) (text digest : List ℕ) (certificate : Log) (files : Option FileSystem) (table : Table) (snapshot : Snapshot) (now : Node)
-    → may_adopt node certificate ≡ true → clients ≡ length node.table → digest ≡ digest_of certificate → IsRead clients text files table → HasDigest files table digest
-    → snapshot ≡ record { text = text; digest = digest } → now ≡ holding node certificate files table snapshot → Adopts node text certificate now
-read_is_adopted node clients text digest certificate None table snapshot now may all told read hashed taken is = absurd read
-read_is_adopted node clients text digest certificate (Some live) table snapshot now may all told read hashed taken is =
+pub read_is_adopted : (node : Node) (clients : ℕ) (text digest : List ℕ) (checkpoint : StableCheckpoint) (files : Option FileSystem) (table : Table) (snapshot : Snapshot) (now : Node)
+    → may_adopt node checkpoint ≡ true → clients ≡ length node.table → digest ≡ checkpoint.digest → IsRead clients text files table → HasDigest files table digest
+    → snapshot ≡ record { text = text; digest = digest } → now ≡ holding node checkpoint files table snapshot → Adopts node text checkpoint now
+read_is_adopted node clients text digest checkpoint None table snapshot now may all told read hashed taken is = absurd read
+read_is_adopted node clients text digest checkpoint (Some live) table snapshot now may all told read hashed taken is =
     let same : node_digest live table ≡ digest = same_Some _ _ hashed in
     let spelled : snapshot ≡ snapshot_of live table = taken ∙ ap₂ (λ (t d : List ℕ). record { text = t; digest = d }) read.0.spelled (sym same) in
     record {
@@ -26,5 +25,5 @@ read_is_adopted node clients text digest certificate (Some live) table snapshot 
       spells = subst (λ (n : ℕ). SpellsNode n text live table) all read.0;
       live = read.1;
       digest = same ∙ told;
-      now_is = is ∙ ap (holding node certificate (Some live) table) spelled;
+      now_is = is ∙ ap (holding node checkpoint (Some live) table) spelled;
     }

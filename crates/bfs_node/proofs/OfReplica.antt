@@ -1,6 +1,6 @@
 -- What keys and texts tell of a replica that begins.
 use Rattle.std.proofs.Common.{◌≡◌, ◌∙◌, ◌<◌, ℕ, List, Option, Some, None, length, refl, sym, ap, subst, arith}
-use Rattle.bfs_agreement.specs.Votes.{replicas}
+use Rattle.bfs_votes.specs.Votes.{replicas}
 use Rattle.bfs_auth.specs.Keys.{Keys}
 use Rattle.bfs_auth.specs.Principals.{number_of}
 use Rattle.bfs_auth.specs.Replicas.{AreOfReplica}
@@ -11,7 +11,7 @@ use Rattle.bfs_digest.specs.declared.errors.RestoreError.{RestoreError}
 use Rattle.bfs_digest.specs.declared.errors.RestoreError.TheVariants as restoring
 use Rattle.bfs_model.specs.Server.Tree.{FileSystem}
 use Rattle.bfs_replies.specs.Tables.{Table}
-use Rattle.bfs_view.specs.Changes.Certificates.{faults}
+use Rattle.bfs_log.specs.Certificates.{faults}
 use Rattle.bfs_node.specs.Errors.{of_restoring}
 use Rattle.bfs_node.specs.Nodes.{BeginsWith, Node, beginning_with}
 use Rattle.bfs_node.specs.declared.error.NodeError.TheVariants as node

@@ -7,39 +7,35 @@ use Rattle.std.proofs.lemmas.Bool.{and_parts, false_from_ne_true, leb-true}
 use Rattle.std.proofs.lemmas.List.{append-nil, append_assoc, length-append}
 use Rattle.bfs_auth.specs.Authenticators.{passes}
 use Rattle.bfs_auth.specs.Keys.{Keys}
-use Rattle.bfs_log.specs.Logs.{Log}
 use Rattle.bfs_model.specs.Server.Limits.{most_requests}
 use Rattle.bfs_messages.specs.Messages as model
 use Rattle.bfs_messages.specs.Signing.{is_signed, request_is_signed, sender_of}
 use Rattle.bfs_messages.specs.Spelling.{body_text}
 use Rattle.bfs_messages.specs.declared.message.Message.{Message}
-use Rattle.bfs_messages.specs.declared.message.Message.TheVariants.{Request, PrePrepare, Prepare, Commit, Checkpoint, ViewChange, NewView, Reply}
+use Rattle.bfs_messages.specs.declared.message.Message.TheVariants.{Request, Order, ViewChange, NewView, Reply}
 use Rattle.bfs_messages.specs.declared.signed.Signed.{Signed}
 use Rattle.bfs_node.specs.Delivering.{SomeCame, after_request, after_requests, if_taken, request_in, with_request}
 use Rattle.bfs_node.specs.Inside.Taking.{Came, HasAll, asked, requests_among, with_message, with_messages}
-use Rattle.bfs_node.specs.Nodes.{Node}
+use Rattle.bfs_node.specs.Nodes.{Messages, Node}
 use Rattle.bfs_node.specs.declared.error.NodeError.TheVariants as error
 
 -- How many there are ---------------------------------------------------------------------------------------------------------
 
 one_at_most : (signed : Signed Message) (message : Message) → length (asked signed message) ≤ 1
 one_at_most signed (Request request) = omega arith
-one_at_most signed (PrePrepare proposal) = omega arith
-one_at_most signed (Prepare vote) = omega arith
-one_at_most signed (Commit vote) = omega arith
-one_at_most signed (Checkpoint checkpoint) = omega arith
+one_at_most signed (Order message) = omega arith
 one_at_most signed (ViewChange change) = omega arith
 one_at_most signed (NewView new) = omega arith
 one_at_most signed (Reply reply) = omega arith
 
-pub no_more : (messages : Log) → length (requests_among messages) ≤ length messages
+pub no_more : (messages : Messages) → length (requests_among messages) ≤ length messages
 no_more [] = omega arith
 no_more (signed ∷ messages) =
     let one : length (asked signed signed.message) ≤ 1 = one_at_most signed signed.message in
     let more : length (requests_among messages) ≤ length messages = no_more messages in
     omega (arith, one, more, length-append (asked signed signed.message) (requests_among messages))
 
-pub among_more : (front : Log) (signed : Signed Message) → requests_among (front ++ signed ∷ []) ≡ requests_among front ++ asked signed signed.message
+pub among_more : (front : Messages) (signed : Signed Message) → requests_among (front ++ signed ∷ []) ≡ requests_among front ++ asked signed signed.message
 among_more [] signed = append-nil (asked signed signed.message)
 among_more (first ∷ front) signed =
     ap (λ (more : List (Signed model.Request)). asked first first.message ++ more) (among_more front signed)
@@ -55,15 +51,12 @@ one_came keys waiting signed (Request request) passed few =
     (λ full. let le : most_requests ≤ length waiting = leb-true most_requests (length waiting) full in omega (arith, le, few, length-append waiting (request_in signed request ∷ []))) in
     let its : request_is_signed keys (request_in signed request) ≡ true = passed in
     rw its (rw room refl)
-one_came keys waiting signed (PrePrepare proposal) passed few = sym (append-nil waiting)
-one_came keys waiting signed (Prepare vote) passed few = sym (append-nil waiting)
-one_came keys waiting signed (Commit vote) passed few = sym (append-nil waiting)
-one_came keys waiting signed (Checkpoint checkpoint) passed few = sym (append-nil waiting)
+one_came keys waiting signed (Order message) passed few = sym (append-nil waiting)
 one_came keys waiting signed (ViewChange change) passed few = sym (append-nil waiting)
 one_came keys waiting signed (NewView new) passed few = sym (append-nil waiting)
 one_came keys waiting signed (Reply reply) passed few = sym (append-nil waiting)
 
-pub all_came : (keys : Keys) (waiting : List (Signed model.Request)) (messages : Log) → list_all (λ answer. answer) (map (is_signed keys) messages) ≡ true
+pub all_came : (keys : Keys) (waiting : List (Signed model.Request)) (messages : Messages) → list_all (λ answer. answer) (map (is_signed keys) messages) ≡ true
     → length (waiting ++ requests_among messages) ≤ most_requests → with_messages keys waiting messages ≡ waiting ++ requests_among messages
 all_came keys waiting [] passed few = sym (append-nil waiting)
 all_came keys waiting (signed ∷ messages) passed few =
@@ -89,15 +82,12 @@ taken_or_not node signed request false full = refl
 
 one_taken : (node : Node) (signed : Signed Message) (message : Message) → after_request node signed message ≡ waiting_in node (with_message node.keys node.pending signed message)
 one_taken node signed (Request request) = taken_or_not node signed request (request_is_signed node.keys (request_in signed request)) (nat_le most_requests (length node.pending))
-one_taken node signed (PrePrepare proposal) = refl
-one_taken node signed (Prepare vote) = refl
-one_taken node signed (Commit vote) = refl
-one_taken node signed (Checkpoint checkpoint) = refl
+one_taken node signed (Order message) = refl
 one_taken node signed (ViewChange change) = refl
 one_taken node signed (NewView new) = refl
 one_taken node signed (Reply reply) = refl
 
-pub all_taken : (node : Node) (messages : Log) → after_requests node messages ≡ waiting_in node (with_messages node.keys node.pending messages)
+pub all_taken : (node : Node) (messages : Messages) → after_requests node messages ≡ waiting_in node (with_messages node.keys node.pending messages)
 all_taken node [] = refl
 all_taken node (signed ∷ messages) =
     ap (λ (n : Node). after_requests n messages) (one_taken node signed signed.message)
@@ -109,7 +99,7 @@ whatever (Err e) P p = p
 
 -- What it comes to -----------------------------------------------------------------------------------------------------------
 
-module _ {E : Type 0} (node : Node) (messages : Log) (after : List (Signed model.Request)) (all_passed : Result Bool E) (came : Came node.keys node.pending messages after all_passed) where
+module _ {E : Type 0} (node : Node) (messages : Messages) (after : List (Signed model.Request)) (all_passed : Result Bool E) (came : Came node.keys node.pending messages after all_passed) where
   pub came_to : (all : Bool) → all_passed ≡ Ok all → waiting_in node after ≡ after_requests node messages
   came_to all is =
       let done : (after ≡ with_messages node.keys node.pending messages) × (all ≡ list_all (λ answer. answer) (map (is_signed node.keys) messages)) =

@@ -7,8 +7,8 @@ use Rattle.bfs_checkpoints.specs.Keeping.{settled, with_snapshot}
 use Rattle.bfs_checkpoints.specs.Outcomes.{NodeHasOtherVersion, NodeIsMalformed, SpellsIllFormedNode}
 use Rattle.bfs_checkpoints.specs.Snapshots.{Snapshot, snapshot_of}
 use Rattle.bfs_checkpoints.specs.Texts.{SpellsNode, node_digest}
-use Rattle.bfs_log.specs.Logs.{Log}
-use Rattle.bfs_order.specs.Replica.Installing.{digest_of, installed, is_certificate, number_of}
+use Rattle.bfs_log.specs.Certificates.{StableCheckpoint, is_shown}
+use Rattle.bfs_order.specs.Replica.Installing.{installed}
 use Rattle.bfs_replies.specs.Tables.{Table}
 use Rattle.bfs_node.specs.Nodes.{Node}
 use Rattle.bfs_node.specs.declared.error.NodeError.{NodeError}
@@ -20,9 +20,9 @@ use Rattle.bfs_node.specs.declared.error.NodeError.TheVariants as error
 abbrev pub is_ahead : Node → (number : ℕ) → Bool
 is_ahead node number = nat_lt node.order.last number || ((number == node.order.last) && not (is_some node.files))
 
--- by a certificate of a checkpoint that is ahead
-abbrev pub may_adopt : Node → Log → Bool
-may_adopt node certificate = is_certificate node.keys node.order.f certificate && is_ahead node (number_of certificate)
+-- by a checkpoint that is shown to be stable, and is ahead
+abbrev pub may_adopt : Node → StableCheckpoint → Bool
+may_adopt node checkpoint = is_shown node.keys node.order.f checkpoint && is_ahead node checkpoint.number
 
 -- why a text is not taken over that is to have that digest: it spells no live file system and table, or others
 abbrev pub IsTextRefusal : (clients : ℕ) → (text digest : List ℕ) → NodeError → Type 0
@@ -36,31 +36,31 @@ abbrev pub IsRefusalIf : (may : Bool) → (clients : ℕ) → (text digest : Lis
 IsRefusalIf true clients text digest e = IsTextRefusal clients text digest e
 IsRefusalIf false clients text digest e = e ≡ error.NoCertificate
 
--- why an adoption is refused: the certificate is looked at before the text
-abbrev pub IsAdoptionRefusal : Node → (text : List ℕ) → Log → NodeError → Type 0
-IsAdoptionRefusal node text certificate e = IsRefusalIf (may_adopt node certificate) (length node.table) text (digest_of certificate) e
+-- why an adoption is refused: the CHECKPOINTs are looked at before the text
+abbrev pub IsAdoptionRefusal : Node → (text : List ℕ) → StableCheckpoint → NodeError → Type 0
+IsAdoptionRefusal node text checkpoint e = IsRefusalIf (may_adopt node checkpoint) (length node.table) text checkpoint.digest e
 
 -- What it leaves -----------------------------------------------------------------------------------------------------------
 
--- the marks rise to the certificate's number, each where it is below; requests stay pending; the snapshot is kept, and it is stable
-abbrev pub holding : Node → Log → Option FileSystem → Table → Snapshot → Node
-holding node certificate files table snapshot = record node {
-  order = (installed node.order certificate).now;
+-- the marks rise to the checkpoint's number, each where it is below; requests stay pending; the snapshot is kept, and it is stable
+abbrev pub holding : Node → StableCheckpoint → Option FileSystem → Table → Snapshot → Node
+holding node checkpoint files table snapshot = record node {
+  order = (installed node.order checkpoint).now;
   files = files;
   table = table;
-  snapshots = settled certificate (with_snapshot node.snapshots (number_of certificate) snapshot);
+  snapshots = settled checkpoint (with_snapshot node.snapshots checkpoint.number snapshot);
 }
 
 -- it holds just that file system and that table
-abbrev pub adopted : Node → Log → FileSystem → Table → Node
-adopted node certificate files table = holding node certificate (Some files) table (snapshot_of files table)
+abbrev pub adopted : Node → StableCheckpoint → FileSystem → Table → Node
+adopted node checkpoint files table = holding node checkpoint (Some files) table (snapshot_of files table)
 
--- it may adopt by the certificate, and holds what the text spells, which has the certificate's digest
-pub record Adopts (node : Node) (text : List ℕ) (certificate : Log) (now : Node) : Type 0 where
-  pub may : may_adopt node certificate ≡ true
+-- it may adopt by the checkpoint, and holds what the text spells, which has the checkpoint's digest
+pub record Adopts (node : Node) (text : List ℕ) (checkpoint : StableCheckpoint) (now : Node) : Type 0 where
+  pub may : may_adopt node checkpoint ≡ true
   pub files : FileSystem
   pub table : Table
   pub spells : SpellsNode (length node.table) text files table
   pub live : IsLive files
-  pub digest : node_digest files table ≡ digest_of certificate
-  pub now_is : now ≡ adopted node certificate files table
+  pub digest : node_digest files table ≡ checkpoint.digest
+  pub now_is : now ≡ adopted node checkpoint files table

@@ -2,10 +2,9 @@
 -- sections 4.2 and 4.3).
 use Rattle.std.specs.Prelude.{◌≡◌, ◌⊎◌, ◌<◌, ℕ, zero, suc, [], ◌++◌, Option, Some, None}
 use Rattle.std.specs.Option.{option_map}
-use Rattle.bfs_log.specs.Logs.{Log}
 use Rattle.bfs_node.specs.Checkpoints.{checkpoint, checkpoint_refusal}
 use Rattle.bfs_node.specs.Executing.{after_execution, execution}
-use Rattle.bfs_node.specs.Nodes.{Node, Outcome}
+use Rattle.bfs_node.specs.Nodes.{Messages, Node, Outcome}
 use Rattle.bfs_node.specs.declared.error.NodeError.{NodeError}
 
 -- what is done where it is not refused
@@ -36,7 +35,7 @@ advanced zero node = with_due_checkpoint (record { now = node; sent = [] })
 advanced (suc batches) node = followed_by (advanced batches node) (advancing (advanced batches node).now)
 
 -- it has executed all that was committed, and that is sent; `Executes` holds of it before each batch
-pub record Advances (Executes : Node → Type 0) (node : Node) (sent : Log) (now : Node) : Type 0 where
+pub record Advances (Executes : Node → Type 0) (node : Node) (sent : Messages) (now : Node) : Type 0 where
   pub batches : ℕ
   pub comes : advanced batches node ≡ record { now = now; sent = sent }
   pub executes : (k : ℕ) → k < batches → Executes (advanced k node).now

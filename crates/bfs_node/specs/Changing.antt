@@ -1,20 +1,20 @@
 -- Views change: a replica leaves its view, the primary of the next one begins it, and the others enter it (OSDI 1999 section 4.4).
 use Rattle.std.specs.Prelude.{ℕ, ◌+◌, ◌*◌, ◌==◌, Bool, ◌&&◌, not, max, [], ◌∷◌, length, Option, Some, None, nat_lt, nat_le, if◌then◌else◌}
 use Rattle.std.specs.Option.{option_map}
-use Rattle.bfs_agreement.specs.Votes.{primary}
+use Rattle.bfs_votes.specs.Votes.{primary}
+use Rattle.bfs_log.specs.Logs.{as_messages}
 use Rattle.bfs_messages.specs.Messages as model
-use Rattle.bfs_messages.specs.Signing.{is_signed, signed_by}
+use Rattle.bfs_messages.specs.Signing.{as_message, is_signed}
 use Rattle.bfs_messages.specs.declared.signed.Signed.{Signed}
 use Rattle.bfs_messages.specs.declared.message.Message.{Message}
 use Rattle.bfs_messages.specs.declared.message.Message.TheVariants.{NewView, ViewChange}
 use Rattle.bfs_order.specs.Replica.States.{State}
 use Rattle.bfs_order.specs.Replica.Views as order
-use Rattle.bfs_view.specs.Changes.Choice.{choice}
-use Rattle.bfs_view.specs.Changes.Keeping.{above_view, changes_for, least_asked, was_asked, with_asked, with_change}
-use Rattle.bfs_view.specs.Changes.Making.{change_of, handed_in, new_view_from, signed_change}
-use Rattle.bfs_view.specs.Changes.NewViews.{choice_in, new_view_refusal}
-use Rattle.bfs_view.specs.Changes.Parts.{as_message, messages_of}
-use Rattle.bfs_view.specs.Changes.ViewChanges.{valid_view_change}
+use Rattle.bfs_view_change.specs.Changes.Choice.{choice}
+use Rattle.bfs_view_change.specs.Changes.Keeping.{above_view, changes_for, least_asked, was_asked, with_asked, with_change}
+use Rattle.bfs_view_change.specs.Changes.Making.{change_of, new_view_from, signed_change, signed_new_view}
+use Rattle.bfs_view_change.specs.Changes.NewViews.{choice_in, new_view_refusal}
+use Rattle.bfs_view_change.specs.Changes.ViewChanges.{messages_of, valid_view_change}
 use Rattle.bfs_node.specs.Errors.{of_order, of_view}
 use Rattle.bfs_node.specs.Nodes.{Node, Outcome}
 use Rattle.bfs_node.specs.declared.error.NodeError.{NodeError}
@@ -33,8 +33,8 @@ may_begin node =
 
 abbrev pub entered_by : Node → model.NewView → (min_s : ℕ) → Outcome
 entered_by node new min_s =
-    let done = order.entered node.keys node.order new.view min_s (handed_in new) in
-    record { now = record node { order = done.now; changes = above_view new.view node.changes }; sent = done.sent }
+    let done = order.entered node.keys node.order new.view min_s new.proposals in
+    record { now = record node { order = done.now; changes = above_view new.view node.changes }; sent = as_messages done.sent }
 
 -- from all that it keeps for the view
 abbrev pub own_new_view : Node → model.NewView
@@ -47,7 +47,7 @@ abbrev pub begun : Node → Outcome
 begun node =
     let new = own_new_view node in
     let done = entered_by node new (choice (messages_of new.changes)).min_s in
-    record { now = done.now; sent = signed_by node.keys (NewView new) ∷ done.sent }
+    record { now = done.now; sent = as_message NewView (signed_new_view node.keys new) ∷ done.sent }
 
 abbrev pub begun_if_due : Node → Outcome
 begun_if_due node = if may_begin node then begun node else record { now = node; sent = [] }
@@ -105,9 +105,12 @@ abbrev pub first_of : Option NodeError → Option NodeError → Option NodeError
 first_of None second = second
 first_of (Some refused) second = Some refused
 
--- one that is not right, or of a view that is not entered any more
-abbrev pub view_refusal : Node → Signed Message → model.NewView → Option NodeError
-view_refusal node signed new = first_of (option_map of_view (new_view_refusal node.keys signed)) (entering_refusal node new)
+abbrev pub new_view_in : Signed Message → model.NewView → Signed model.NewView
+new_view_in signed new = record { message = new; auth = signed.auth }
 
-abbrev pub with_new_view : Node → Signed Message → model.NewView → Outcome
-with_new_view node signed new = entered_by node new (choice_in signed.message).min_s
+-- one that is not right, or of a view that is not entered any more
+abbrev pub view_refusal : Node → Signed model.NewView → Option NodeError
+view_refusal node s = first_of (option_map of_view (new_view_refusal node.keys s)) (entering_refusal node s.message)
+
+abbrev pub with_new_view : Node → Signed model.NewView → Outcome
+with_new_view node s = entered_by node s.message (choice_in s.message).min_s

@@ -5,6 +5,8 @@ use Rattle.bfs_model.specs.Server.Tree.{FileSystem}
 use Rattle.bfs_checkpoints.specs.Keeping.{with_snapshot}
 use Rattle.bfs_checkpoints.specs.Snapshots.{Snapshot, snapshot_of}
 use Rattle.bfs_log.specs.Headers.{header}
+use Rattle.bfs_messages.specs.Signing.{as_message}
+use Rattle.bfs_messages.specs.declared.message.Message.TheVariants.{Order}
 use Rattle.bfs_order.specs.Replica.Checkpoints as order
 use Rattle.bfs_order.specs.Replica.States.{with_message}
 use Rattle.bfs_order.specs.declared.error.OrderError.{OrderError}
@@ -39,7 +41,7 @@ with_checkpoint node snapshot =
         order = (order.checkpointed node.keys node.order number snapshot.digest).now;
         snapshots = settled_by (with_message node.order own) (header own) (with_snapshot node.snapshots number snapshot);
       };
-      sent = own ∷ [];
+      sent = as_message Order own ∷ [];
     }
 
 abbrev pub checkpointed : Node → FileSystem → Outcome

@@ -10,14 +10,13 @@ use Rattle.bfs_order.specs.declared.error.OrderError.{OrderError}
 use Rattle.bfs_order.specs.declared.error.OrderError.TheVariants as order
 use Rattle.bfs_serial.specs.declared.executor.ExecError.{ExecError}
 use Rattle.bfs_serial.specs.declared.executor.ExecError.TheVariants as executing
-use Rattle.bfs_view.specs.declared.error.ViewError.{ViewError}
-use Rattle.bfs_view.specs.declared.error.ViewError.TheVariants as view
+use Rattle.bfs_view_change.specs.declared.error.ViewError.{ViewError}
+use Rattle.bfs_view_change.specs.declared.error.ViewError.TheVariants as view
 use Rattle.bfs_node.specs.declared.error.NodeError.{NodeError}
 use Rattle.bfs_node.specs.declared.error.NodeError.TheVariants as node
 
 -- a refusal of the order, as one of the replica
 abbrev pub of_order : OrderError → NodeError
-of_order order.WrongKind = node.WrongKind
 of_order order.BadAuthenticator = node.BadAuthenticator
 of_order order.WrongView = node.WrongView
 of_order order.OutsideMarks = node.OutsideMarks
@@ -49,7 +48,6 @@ of_restoring restoring.NotWellFormed = node.NotWellFormed
 of_restoring restoring.Memory = node.Memory
 
 abbrev pub of_view : ViewError → NodeError
-of_view view.WrongKind = node.WrongKind
 of_view view.BadAuthenticator = node.BadAuthenticator
 of_view view.BadCertificate = node.BadCertificate
 of_view view.TooFew = node.TooFew

@@ -6,7 +6,6 @@ use Rattle.bfs_model.specs.Server.Tree.{FileSystem}
 use Rattle.bfs_auth.specs.Authenticators.{signature_for_client}
 use Rattle.bfs_auth.specs.Keys.{Keys}
 use Rattle.bfs_log.specs.Batches.{Committed}
-use Rattle.bfs_log.specs.Logs.{Log}
 use Rattle.bfs_messages.specs.Messages as model
 use Rattle.bfs_messages.specs.Spelling.{body_text}
 use Rattle.bfs_messages.specs.declared.signed.Signed.{Signed}
@@ -19,7 +18,7 @@ use Rattle.bfs_outcome.specs.Ran.{RanNew}
 use Rattle.bfs_parallel.specs.declared.engine.Engine.{Engine}
 use Rattle.bfs_pending.specs.Requests.{without}
 use Rattle.bfs_replies.specs.Answers.{Answer}
-use Rattle.bfs_node.specs.Nodes.{Node, Outcome}
+use Rattle.bfs_node.specs.Nodes.{Messages, Node, Outcome}
 
 -- Replies ---------------------------------------------------------------------------------------------------------------
 
@@ -34,7 +33,7 @@ signed_reply reply auth = record { message = Reply reply; auth = auth }
 abbrev pub told : Keys → model.Reply → Option (Signed Message)
 told keys reply = option_map (signed_reply reply) (signature_for_client keys reply.client (body_text (Reply reply)))
 
-abbrev pub replies_to : Keys → State → List Answer → Log
+abbrev pub replies_to : Keys → State → List Answer → Messages
 replies_to keys state answers = filter_map (λ answer. told keys (reply_to state answer)) answers
 
 -- A batch --------------------------------------------------------------------------------------------------------------

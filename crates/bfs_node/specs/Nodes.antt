@@ -7,14 +7,14 @@ use Rattle.bfs_auth.specs.declared.principals.Principal.TheVariants.{Replica}
 use Rattle.bfs_auth.specs.Principals.{number_of}
 use Rattle.bfs_checkpoints.specs.Keeping.{Keeping, nothing_kept}
 use Rattle.bfs_checkpoints.specs.Texts.{SpellsNode}
-use Rattle.bfs_log.specs.Logs.{Log}
 use Rattle.bfs_messages.specs.Messages.{Request}
+use Rattle.bfs_messages.specs.declared.message.Message.{Message}
 use Rattle.bfs_messages.specs.declared.signed.Signed.{Signed}
 use Rattle.bfs_order.specs.Replica.States.{State, fresh}
 use Rattle.bfs_replies.specs.Tables.{Table}
 use Rattle.bfs_settings.specs.Settings.{Settings, replicas_for}
-use Rattle.bfs_view.specs.Changes.Certificates.{faults}
-use Rattle.bfs_view.specs.Changes.Keeping as views
+use Rattle.bfs_log.specs.Certificates.{faults}
+use Rattle.bfs_view_change.specs.Changes.Keeping as views
 
 pub record Node : Type 0 where
   pub keys : Keys
@@ -62,7 +62,11 @@ pub record BeginsWith (keys : Keys) (text : List ℕ) (node : Node) : Type 0 whe
   pub live : IsLive files
   pub node_is : node ≡ beginning_with keys files table
 
+-- what is sent and comes
+abbrev pub Messages : Type 0
+Messages = List (Signed Message)
+
 -- what a call leaves, and what is to be sent
 pub record Outcome : Type 0 where
   pub now : Node
-  pub sent : Log
+  pub sent : Messages

@@ -3,6 +3,8 @@ use Rattle.std.specs.Prelude.{[], ◌∷◌, Option, Some}
 use Rattle.std.specs.Option.{option_map}
 use Rattle.bfs_model.specs.Server.Tree.{Time}
 use Rattle.bfs_messages.specs.Messages.{Batch}
+use Rattle.bfs_messages.specs.Signing.{as_message}
+use Rattle.bfs_messages.specs.declared.message.Message.TheVariants.{Order}
 use Rattle.bfs_order.specs.Replica.Proposing as order
 use Rattle.bfs_node.specs.Errors.{of_order}
 use Rattle.bfs_node.specs.Nodes.{Node, Outcome}
@@ -19,4 +21,4 @@ proposal_refusal node = option_map of_order (order.proposal_refusal node.order)
 abbrev pub proposed : Node → Time → Outcome
 proposed node time =
     let batch = pending_batch node time in
-    record { now = record node { order = (order.proposed node.keys node.order batch).now }; sent = order.proposal node.keys node.order batch ∷ [] }
+    record { now = record node { order = (order.proposed node.keys node.order batch).now }; sent = as_message Order (order.proposal node.keys node.order batch) ∷ [] }

@@ -7,21 +7,19 @@ ghost use Rattle.bfs_node.specs.Errors.{of_view};
 ghost use Rattle.bfs_node.specs.Inside.Asking.{asking, MayAsk};
 ghost use Rattle.bfs_node.specs.declared.error.NodeError.TheVariants as error;
 ghost use Rattle.bfs_order.specs.Replica.Views.{entering_refusal, leaving_refusal};
-ghost use Rattle.bfs_view.specs.Changes.NewViews.{ground_refusal};
-ghost use Rattle.bfs_view.specs.Changes.Parts.{as_message};
-ghost use Rattle.bfs_view.specs.Inside.Near.{IsNear};
+ghost use Rattle.bfs_view_change.specs.Changes.NewViews.{ground_refusal};
+ghost use Rattle.bfs_messages.specs.Signing.{as_message};
+ghost use Rattle.bfs_view_change.specs.Inside.Near.{IsNear};
 ghost use Rattle.bfs_model.specs.Server.Limits.{most_number};
 
 use crate::error::NodeError;
 use crate::node::Node;
-use bfs_auth::Authenticator;
 use bfs_log::primary_of;
 use bfs_messages::{Message, NewView, Signed, ViewChange, is_view_change_signed};
 use bfs_order::a_replica_stays_itself;
-use bfs_types::Memory;
-use bfs_view::{
-    Begun, begin_view, check_new_view, handed_in, make_view_change, valid_signed_view_change,
-    view_change_message,
+use bfs_types::{Memory, TryClone, copies_of};
+use bfs_view_change::{
+    Begun, begin_view, check_new_view, make_view_change, valid_signed_view_change,
 };
 use std::alloc::Global;
 
@@ -195,7 +193,10 @@ impl Node {
             min_s,
             handed,
         } = begun;
-        first.push(new_view)?;
+        first.push(Signed {
+            message: Message::NewView(new_view.message),
+            auth: new_view.auth,
+        })?;
         let sent = self
             .order
             .enter_view_behind(&self.keys, view, min_s, handed, first);
@@ -211,30 +212,23 @@ impl Node {
     /// A NEW-VIEW comes: its view is entered. It is refused as `check_new_view` refuses it, and then as `Order::enter_view` does.
     pub(crate) fn take_new_view(
         &mut self,
-        new: NewView,
-        auth: Authenticator,
+        signed: &Signed<NewView>,
     ) -> Result<Vec<Signed<Message>>, NodeError>
-        ensures taken { OnOk result (view_refusal self.old (record { message = kind.NewView new; auth = auth }) new ≡ None) }
-        ensures now { OnOk result (self.new ≡ (with_new_view self.old (record { message = kind.NewView new; auth = auth }) new).now) }
-        ensures sent { IfOk result (λ sent. sent.items ≡ (with_new_view self.old (record { message = kind.NewView new; auth = auth }) new).sent) }
-        ensures refused { IfErr result (λ e. e ≢ error.Memory → view_refusal self.old (record { message = kind.NewView new; auth = auth }) new ≡ Some e) }
-        ensures memory { IfErr result (λ e. e ≡ error.Memory → option_map of_view (ground_refusal self.old.keys (record { message = kind.NewView new; auth = auth })) ≡ None) }
+        ensures taken { OnOk result (view_refusal self.old signed.now ≡ None) }
+        ensures now { OnOk result (self.new ≡ (with_new_view self.old signed.now).now) }
+        ensures sent { IfOk result (λ sent. sent.items ≡ (with_new_view self.old signed.now).sent) }
+        ensures refused { IfErr result (λ e. e ≢ error.Memory → view_refusal self.old signed.now ≡ Some e) }
+        ensures memory { IfErr result (λ e. e ≡ error.Memory → option_map of_view (ground_refusal self.old.keys signed.now) ≡ None) }
         ensures err { OnErr result (self.new ≡ self.old) }
     {
         a_replica_stays_itself();
-        let signed = Signed {
-            message: Message::NewView(new),
-            auth,
-        };
-        let choice = check_new_view(self.alloc, &self.keys, &signed)?;
-        let Message::NewView(new) = &signed.message else {
-            unreachable!()
-        };
+        let choice = check_new_view(self.alloc, &self.keys, signed)?;
+        let new = &signed.message;
         let view = new.view();
         if let Some(error) = self.order.entering_refusal(view) {
             return Err(NodeError::from(error));
         }
-        let handed = handed_in(self.alloc, new)?;
+        let handed = copies_of(self.alloc, new.proposals())?;
         let sent = self
             .order
             .enter_view(&self.keys, view, choice.min_s(), handed)?;
@@ -247,6 +241,10 @@ fn sent_first(alloc: Global, own: &Signed<ViewChange>) -> Result<Vec<Signed<Mess
     ensures { IfOk result (λ sent. sent.items ≡ as_message kind.ViewChange own.now ∷ []) }
 {
     let mut sent = Vec::new(alloc);
-    sent.push(view_change_message(alloc, own)?)?;
+    let own = own.try_clone(alloc)?;
+    sent.push(Signed {
+        message: Message::ViewChange(own.message),
+        auth: own.auth,
+    })?;
     Ok(sent)
 }

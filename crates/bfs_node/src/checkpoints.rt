@@ -8,7 +8,7 @@ ghost use Rattle.bfs_node.specs.declared.error.NodeError.TheVariants as error;
 use crate::error::NodeError;
 use crate::node::Node;
 use bfs_checkpoints::{Snapshot, take_snapshot};
-use bfs_messages::{Checkpoint, Message, Signed, sign};
+use bfs_messages::{Checkpoint, Message, OrderMessage, Signed, sign_order};
 use bfs_types::CHECKPOINT_INTERVAL;
 use std::thread::Threads;
 
@@ -46,13 +46,13 @@ impl Node {
     {
         let digest = *snapshot.digest();
         let own = Checkpoint::new(self.order.me(), number, digest);
-        let signed = sign(self.alloc, &self.keys, Message::Checkpoint(own))?;
-        let certificate = self.certificate_if_due(&signed)?;
+        let signed = sign_order(self.alloc, &self.keys, OrderMessage::Checkpoint(own))?;
+        let stable = self.stable_if_due(&signed)?;
         self.snapshots.push(number, snapshot)?;
         match self.order.on_checkpoint(&self.keys, number, digest) {
             Ok(sent) => {
-                self.settle_at(number, certificate);
-                Ok(sent)
+                self.settle_at(number, stable);
+                Ok(sent.into_message())
             }
             Err(error) => {
                 self.snapshots.pop();

@@ -1,21 +1,21 @@
 // A message comes.
-ghost use Rattle.std.specs.Prelude.{◌≡◌, ◌≢◌, ◌==◌, ◌++◌, [], ◌∷◌, true, false, None, Some, IfOk, IfErr, IsSome, OnOk, OnErr};
-ghost use Rattle.bfs_checkpoints.specs.Certificates.{IsCertificate};
+ghost use Rattle.std.specs.Prelude.{◌≡◌, ◌≢◌, ◌==◌, ◌++◌, [], ◌∷◌, true, false, None, Some, IfOk, IfErr, IfSome, IsSome, OnOk, OnErr};
+ghost use Rattle.bfs_log.specs.Certificates.{MakesStable};
 ghost use Rattle.bfs_log.specs.Headers.{header};
 ghost use Rattle.bfs_log.specs.Logs.{headers};
-ghost use Rattle.bfs_agreement.specs.Votes.{SlotsDiffer};
+ghost use Rattle.bfs_votes.specs.Votes.{SlotsDiffer};
 ghost use Rattle.bfs_codec.specs.Reading.{message_of};
 ghost use Rattle.bfs_node.specs.Delivering.{bytes_delivered, bytes_refusal, delivered, delivery_refusal, early_refusal, order_refusal, ordered, request_refusal, with_request};
 ghost use Rattle.bfs_node.specs.Inside.Settling.{Certifies, settled_at};
 ghost use Rattle.bfs_node.specs.declared.error.NodeError.TheVariants as error;
-ghost use Rattle.bfs_agreement.specs.Tags.{checkpoint_tag};
+ghost use Rattle.bfs_votes.specs.Tags.{checkpoint_tag};
 
 use crate::error::NodeError;
 use crate::node::Node;
 use bfs_checkpoints::certificate_with;
 use bfs_codec::decode;
-use bfs_log::header_of;
-use bfs_messages::{Message, Request, Signed, is_request_signed};
+use bfs_log::StableCheckpoint;
+use bfs_messages::{CHECKPOINT_TAG, Message, OrderMessage, Request, Signed, is_request_signed};
 use bfs_types::Memory;
 use std::thread::Threads;
 
@@ -63,39 +63,12 @@ impl Node {
                 message: request,
                 auth,
             }),
-            Message::PrePrepare(proposal) => self.take_vote(
-                rt,
-                Signed {
-                    message: Message::PrePrepare(proposal),
-                    auth,
-                },
-            ),
-            Message::Prepare(vote) => self.take_vote(
-                rt,
-                Signed {
-                    message: Message::Prepare(vote),
-                    auth,
-                },
-            ),
-            Message::Commit(vote) => self.take_vote(
-                rt,
-                Signed {
-                    message: Message::Commit(vote),
-                    auth,
-                },
-            ),
-            Message::Checkpoint(checkpoint) => self.take_checkpoint(
-                rt,
-                Signed {
-                    message: Message::Checkpoint(checkpoint),
-                    auth,
-                },
-            ),
+            Message::Order(message) => self.take_order(rt, Signed { message, auth }),
             Message::ViewChange(change) => self.take_view_change(Signed {
                 message: change,
                 auth,
             }),
-            Message::NewView(new) => self.take_new_view(new, auth),
+            Message::NewView(new) => self.take_new_view(&Signed { message: new, auth }),
             Message::Reply(_) => Err(NodeError::WrongKind),
         }
     }
@@ -118,11 +91,30 @@ impl Node {
         Ok(Vec::new(self.alloc))
     }
 
+    fn take_order(
+        &mut self,
+        rt: &(impl Threads + Sync),
+        signed: Signed<OrderMessage>,
+    ) -> Result<Vec<Signed<Message>>, NodeError>
+        ensures taken { OnOk result (order_refusal self.old signed ≡ None) }
+        ensures now { OnOk result (self.new ≡ (ordered self.old signed).now) }
+        ensures sent { IfOk result (λ sent. sent.items ≡ (ordered self.old signed).sent) }
+        ensures refused { IfErr result (λ e. e ≢ error.Memory → order_refusal self.old signed ≡ Some e) }
+        ensures memory { IfErr result (λ e. e ≡ error.Memory → order_refusal self.old signed ≡ None) }
+        ensures err { OnErr result (self.new ≡ self.old) }
+    {
+        if signed.message.tag() == CHECKPOINT_TAG {
+            self.take_checkpoint(rt, signed)
+        } else {
+            self.take_vote(rt, signed)
+        }
+    }
+
     // no CHECKPOINT
     fn take_vote(
         &mut self,
         rt: &(impl Threads + Sync),
-        signed: Signed<Message>,
+        signed: Signed<OrderMessage>,
     ) -> Result<Vec<Signed<Message>>, NodeError>
         requires { ((header signed).tag == checkpoint_tag) ≡ false }
         ensures taken { OnOk result (order_refusal self.old signed ≡ None) }
@@ -143,7 +135,7 @@ impl Node {
     fn take_checkpoint(
         &mut self,
         rt: &(impl Threads + Sync),
-        signed: Signed<Message>,
+        signed: Signed<OrderMessage>,
     ) -> Result<Vec<Signed<Message>>, NodeError>
         requires { ((header signed).tag == checkpoint_tag) ≡ true }
         ensures taken { OnOk result (order_refusal self.old signed ≡ None) }
@@ -157,37 +149,39 @@ impl Node {
         if let Some(error) = refused {
             return Err(NodeError::from(error));
         }
-        let number = header_of(&signed.message).number;
-        let certificate = self.certificate_if_due(&signed)?;
+        let number = signed.message.number();
+        let stable = self.stable_if_due(&signed)?;
         let sent = self.order.accept(&self.keys, signed)?;
-        self.settle_at(number, certificate);
+        self.settle_at(number, stable);
         Ok(sent)
     }
 
-    /// The CHECKPOINTs that make a number stable once this one stands in the log; none where too few have told it. `Memory` if memory runs
-    /// out.
-    pub(crate) fn certificate_if_due(
+    /// What makes a number stable once this CHECKPOINT of it stands in the log; none where too few have told it. `Memory` if memory runs out.
+    pub(crate) fn stable_if_due(
         &self,
-        signed: &Signed<Message>,
-    ) -> Result<Vec<Signed<Message>>, Memory>
-        ensures made { IfOk result (λ certificate. Certifies self.now.order signed.now certificate.items) }
+        signed: &Signed<OrderMessage>,
+    ) -> Result<Option<StableCheckpoint>, Memory>
+        ensures made { IfOk result (λ stable. Certifies self.now.order signed.now stable) }
         ensures differ { SlotsDiffer (headers self.now.order.log) }
     {
         let log = self.order.log();
-        let header = header_of(&signed.message);
-        if !self.order.is_nearly_stable(header.number, header.digest) {
-            return Ok(Vec::new(self.alloc));
+        let (number, digest) = (signed.message.number(), signed.message.digest());
+        if !self.order.is_nearly_stable(number, digest) {
+            return Ok(None);
         }
-        certificate_with(self.alloc, log, signed)
+        Ok(Some(certificate_with(self.alloc, log, signed)?))
     }
 
-    /// Settles the snapshots by the CHECKPOINTs of a number, where the low mark is at it. It takes no memory.
-    pub(crate) fn settle_at(&mut self, number: u64, certificate: Vec<Signed<Message>>)
-        requires { self.old.order.low ≡ number → IsCertificate self.old.order.f certificate.items }
-        ensures { self.new ≡ settled_at self.old number certificate.items }
+    /// Settles the snapshots by what makes a number stable, where the low mark is at it. It takes no memory.
+    pub(crate) fn settle_at(&mut self, number: u64, stable: Option<StableCheckpoint>)
+        requires { self.old.order.low ≡ number → IfSome stable (MakesStable self.old.order.f) }
+        ensures { self.new ≡ settled_at self.old number stable }
     {
-        if self.order.low() == number {
-            self.snapshots.settle(certificate);
+        if self.order.low() != number {
+            return;
+        }
+        if let Some(stable) = stable {
+            self.snapshots.settle(stable);
         }
     }
 }

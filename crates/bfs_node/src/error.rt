@@ -7,12 +7,12 @@ use bfs_digest::RestoreError;
 use bfs_order::OrderError;
 use bfs_serial::ExecError;
 use bfs_types::Memory;
-use bfs_view::ViewError;
+use bfs_view_change::ViewError;
 use std::alloc::AllocError;
 use thiserror::Error;
 
-/// Why a replica refuses a message or a call. Nothing has changed then, but that a file system fails where memory runs out while it is
-/// executed on.
+/// Why a replica refuses a message or a call. Nothing has changed then but what the call names: where memory runs out, a file system that is
+/// executed on fails, of several requests the first ones stay, and batches stay executed.
 #[derive(Clone, Copy, Debug, PartialEq, Eq, Error)]
 pub enum NodeError {
     /// There are as many requests waiting as a batch can have.
@@ -27,7 +27,7 @@ pub enum NodeError {
     /// The file system's text is of another version.
     #[error("the text is of another version")]
     WrongVersion,
-    /// The bytes spell no message of a kind that is taken.
+    /// The bytes spell no message.
     #[error("the bytes spell no message")]
     Malformed,
     /// The authenticator of the message, or of a request in its batch, is not the sender's, or there is no such sender.
@@ -108,7 +108,6 @@ impl From<OrderError> for NodeError {
 
     fn from(error: OrderError) -> NodeError {
         match error {
-            OrderError::WrongKind => NodeError::WrongKind,
             OrderError::BadAuthenticator => NodeError::BadAuthenticator,
             OrderError::WrongView => NodeError::WrongView,
             OrderError::OutsideMarks => NodeError::OutsideMarks,
@@ -126,7 +125,6 @@ impl From<ViewError> for NodeError {
 
     fn from(error: ViewError) -> NodeError {
         match error {
-            ViewError::WrongKind => NodeError::WrongKind,
             ViewError::BadAuthenticator => NodeError::BadAuthenticator,
             ViewError::BadCertificate => NodeError::BadCertificate,
             ViewError::TooFew => NodeError::TooFew,

@@ -2,16 +2,15 @@ ghost use Rattle.std.specs.Prelude.{◌≡◌, ◌≢◌, ◌↔◌, ◌<◌, �
 ghost use Rattle.std.specs.Option.{option_map};
 ghost use Rattle.bfs_model.specs.Server.Limits.{most_clients, most_requests};
 ghost use Rattle.bfs_model.specs.Server.Tree.{FileSystem as Files};
-ghost use Rattle.bfs_agreement.specs.Votes.{replicas};
+ghost use Rattle.bfs_votes.specs.Votes.{replicas};
 ghost use Rattle.bfs_auth.specs.Principals.{number_of as number_in};
 ghost use Rattle.bfs_auth.specs.Replicas.{AreOfReplica};
 ghost use Rattle.bfs_checkpoints.specs.Keeping.{IsStable, stable};
 ghost use Rattle.bfs_checkpoints.specs.Outcomes.{NodeHasOtherVersion, NodeIsMalformed, SpellsIllFormedNode};
 ghost use Rattle.bfs_checkpoints.specs.Texts.{node_digest};
 ghost use Rattle.bfs_order.specs.Replica.Behind.{is_behind};
-ghost use Rattle.bfs_order.specs.Replica.Installing.{number_of};
 ghost use Rattle.bfs_order.specs.Replica.Proposing.{leads};
-ghost use Rattle.bfs_view.specs.Changes.Certificates.{faults};
+ghost use Rattle.bfs_log.specs.Certificates.{faults};
 ghost use Rattle.bfs_node.specs.Changing.{view_to_follow};
 ghost use Rattle.bfs_node.specs.Errors.{IsTextError};
 ghost use Rattle.bfs_node.specs.Nodes.{BeginsWith, beginning_with, keys_of_replica, new_node};
@@ -20,13 +19,14 @@ ghost use Rattle.bfs_node.specs.declared.error.NodeError.TheVariants as error;
 use crate::error::NodeError;
 use bfs_auth::{Keys, Principal, derived_keys_are_of_replicas};
 use bfs_checkpoints::{Snapshots, StableSnapshot, digest_node, read_node};
+use bfs_log::faults_of;
 use bfs_order::Order;
 use bfs_pending::PendingRequests;
 use bfs_replies::ReplyTable;
 use bfs_serial::FileSystem;
 use bfs_settings::Settings;
 use bfs_types::Memory;
-use bfs_view::{KeptViewChanges, faults_of};
+use bfs_view_change::KeptViewChanges;
 use std::alloc::Global;
 use std::marker::Model;
 use std::thread::Threads;
@@ -235,9 +235,8 @@ impl Node {
     /// The stable snapshot, by which another replica catches up. None as long as no checkpoint is stable of which this replica has a
     /// snapshot.
     pub fn stable(&self) -> Option<StableSnapshot<'_>>
-        ensures value { option_map (λ stable. (stable.text.now, stable.certificate.now)) result ≡ stable self.now.snapshots }
-        ensures number { IfSome result (λ stable. stable.number ≡ number_of stable.certificate.now) }
-        ensures certified { IfSome result (λ stable. IsStable self.now.order.f stable.text.now stable.certificate.now) }
+        ensures value { option_map (λ stable. (stable.text.now, stable.checkpoint.now)) result ≡ stable self.now.snapshots }
+        ensures certified { IfSome result (λ stable. IsStable self.now.order.f stable.text.now stable.checkpoint.now) }
     {
         self.snapshots.stable()
     }

@@ -24,6 +24,7 @@ impl Node {
             return Err(NodeError::from(error));
         }
         let batch = self.pending.batch(self.alloc, time)?;
-        Ok(self.order.propose(&self.keys, batch)?)
+        let own = self.order.propose(&self.keys, batch)?;
+        Ok(own.into_message())
     }
 }

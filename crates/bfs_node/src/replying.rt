@@ -4,8 +4,7 @@ ghost use Rattle.std.specs.List.{AllZip};
 ghost use Rattle.bfs_node.specs.Executing.{replies_to, reply_to, told};
 
 use crate::node::Node;
-use bfs_auth::{Keys, least_texts, sign_text_for_client};
-use bfs_gather::gather;
+use bfs_auth::{Keys, gather, least_items, sign_text_for_client};
 use bfs_messages::{Message, Reply, Signed};
 use bfs_order::Order;
 use bfs_replies::Answer;
@@ -44,7 +43,7 @@ fn tell_each(
 {
     answers
         .par_iter()
-        .with_min_len(least_texts(mean_length(answers)))
+        .with_min_len(least_items(answers, |answer| answer.reply().len()))
         .map(
             |answer: &Answer| -> MaybeTold
                 ensures { IfOk result (λ signed. signed ≡ told keys.entry.now (reply_to order.entry.now answer.now)) }
@@ -69,16 +68,4 @@ fn tell(alloc: Global, keys: &Keys, order: &Order, answer: &Answer) -> MaybeTold
     ));
     let auth = sign_text_for_client(alloc, keys, client, &message)?;
     Ok(Some(Signed { message, auth }))
-}
-
-// of the replies
-fn mean_length(answers: &[Answer]) -> usize {
-    let mut bytes = 0usize;
-    for answer in answers {
-        bytes = bytes.saturating_add(answer.reply().len());
-    }
-    match answers.len() {
-        0 => 0,
-        count => bytes / count,
-    }
 }

@@ -10,10 +10,10 @@ ghost use Rattle.bfs_node.specs.Inside.Taking.{Came, HasAll, asked, requests_amo
 ghost use Rattle.bfs_pending.specs.Passed.{HavePassed};
 
 use crate::node::Node;
-use bfs_auth::{Authenticator, Keys, least_texts};
+use bfs_auth::{Authenticator, Keys, least_items};
 use bfs_messages::{HashedBatch, Message, OrderedBatch, Request, Signed, is_signed};
 use bfs_pending::PendingRequests;
-use bfs_types::{MOST_REQUESTS, Memory, Time};
+use bfs_types::{MOST_REQUESTS, Memory, Time, TryClone};
 use rayon::join;
 use rayon::prelude::*;
 use std::alloc::{AllocError, Global};
@@ -84,12 +84,12 @@ impl Node {
         ensures { IfOk result (λ found. IfSome found (λ batch. HasAll self.now messages.now (arc_value batch))) }
     {
         if self.order.proposal_refusal().is_some()
-            || messages.len() < least_texts(mean_length(messages))
+            || messages.len() < least_items(messages, call_length)
             || messages.len() > MOST_REQUESTS - self.pending.len() as usize
         {
             return Ok(None);
         }
-        let mut requests = self.pending.try_clone(self.alloc)?;
+        let mut requests = self.pending.to_vec(self.alloc)?;
         put_requests(self.alloc, &mut requests, messages)?;
         let batch = OrderedBatch::new(time, requests);
         Ok(Some(Arc::new(self.alloc, batch)?))
@@ -193,8 +193,8 @@ fn copy_of(
     ensures { IfOk result (λ copy. copy ≡ record { message = request.now; auth = auth.now }) }
 {
     Ok(Signed {
-        message: request.try_clone()?,
-        auth: auth.copy(alloc)?,
+        message: request.try_clone(alloc)?,
+        auth: auth.try_clone(alloc)?,
     })
 }
 
@@ -242,7 +242,7 @@ fn are_signed<R: Threads + Sync>(
 {
     messages
         .par_iter()
-        .with_min_len(least_texts(mean_length(messages)))
+        .with_min_len(least_items(messages, call_length))
         .map(
             |signed: &Signed<Message>| -> bool
                 ensures { result ≡ is_signed keys.entry.now signed.now }
@@ -251,16 +251,9 @@ fn are_signed<R: Threads + Sync>(
         .collect(rt, alloc)
 }
 
-// of the calls
-fn mean_length(messages: &[Signed<Message>]) -> usize {
-    let mut bytes = 0usize;
-    for signed in messages {
-        if let Message::Request(request) = &signed.message {
-            bytes = bytes.saturating_add(request.call().len());
-        }
-    }
-    match messages.len() {
-        0 => 0,
-        count => bytes / count,
+fn call_length(signed: &Signed<Message>) -> usize {
+    match &signed.message {
+        Message::Request(request) => request.call().len(),
+        _ => 0,
     }
 }

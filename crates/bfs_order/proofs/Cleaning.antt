@@ -7,23 +7,25 @@ use Rattle.bfs_auth.specs.Authenticators.{passes, signature}
 use Rattle.bfs_auth.specs.Keys.{Keys}
 use Rattle.bfs_auth.specs.Laws.{PassesAtReplicas}
 use Rattle.bfs_auth.specs.declared.principals.Principal.TheVariants.{Replica}
-use Rattle.bfs_agreement.specs.Votes.{replicas, primary}
+use Rattle.bfs_votes.specs.Votes.{replicas, primary}
 use Rattle.bfs_log.specs.Headers.{header, message_header}
 use Rattle.bfs_log.specs.Logs.{Log, stays, kept_after}
 use Rattle.bfs_messages.specs.Messages.{Batch}
 use Rattle.bfs_messages.specs.Signing.{requests_are_signed}
 use Rattle.bfs_messages.specs.declared.signed.Signed.{Signed}
-use Rattle.bfs_messages.specs.declared.message.Message.{Message}
-use Rattle.bfs_messages.specs.declared.message.Message.TheVariants.{Request, PrePrepare, Prepare, Commit, Checkpoint, ViewChange, NewView, Reply}
-use Rattle.bfs_messages.specs.Signing.{is_signed, carried_are_signed}
-use Rattle.bfs_order.specs.Replica.Installing.{number_of, digest_of, is_certificate}
+use Rattle.bfs_messages.specs.declared.order_messages.OrderMessage.{OrderMessage}
+use Rattle.bfs_messages.specs.declared.order_messages.OrderMessage.TheVariants.{PrePrepare, Prepare, Commit, Checkpoint}
+use Rattle.bfs_messages.specs.Signing.{order_is_signed, carried_are_signed}
+use Rattle.bfs_log.specs.Certificates.{StableCheckpoint, checkpoints_in, is_shown}
 use Rattle.bfs_order.specs.Replica.Proposing.{proposal_refusal, proposal}
 use Rattle.bfs_order.specs.Replica.Refusals.{refusal}
 use Rattle.bfs_order.specs.Replica.States.{State, fresh}
+use Rattle.bfs_order.specs.Replica.Views.{as_proposals}
 use Rattle.bfs_order.specs.Laws.Calls.{Call, Takes, Proposes, Executes, Checkpoints, Installs, Leaves, Enters, outcome, after}
 use Rattle.bfs_order.specs.Laws.Clean.{IsClean, IsAllSigned, IsProper, own_keys, HasCleanLog, ProperCallsKeepLogsClean, LogsAreClean}
 use Rattle.bfs_order.proofs.Moving.{Fact, Moves, Speaks, Handed, Fits, call_goes, placed, unrefused, only_backups, leading}
-use Rattle.bfs_order.proofs.Certifying.{IsVoucher, vouched, each_keeps}
+use Rattle.bfs_log.proofs.Public.{IsVoucher, vouched}
+use Rattle.bfs_order.proofs.Putting.{each_keeps}
 use Rattle.bfs_order.proofs.KeptLogs.{same_replica}
 
 module _ (keys : Keys) (f : ℕ) where
@@ -36,23 +38,19 @@ module _ (keys : Keys) (f : ℕ) where
     say = λ g me view low log sent m kept can own good. All-push (IsClean keys f) log m kept good;
     settle = λ g me view low log sent n d kept above is. All-filter (λ m. stays n d (header m)) (IsClean keys f) log kept;
     enter = λ g me view later low log sent kept above. kept;
-    install = λ by g me view low log sent ms kept above is good.
-        each_keeps (All (IsClean keys f)) (IsClean keys f) (λ l m all clean free. All-push (IsClean keys f) l m all clean) (kept_after (number_of ms) (digest_of ms) log) ms good
-        (All-filter (λ m. stays (number_of ms) (digest_of ms) (header m)) (IsClean keys f) log kept);
+    install = λ by g me view low log sent c kept above is good.
+        each_keeps (All (IsClean keys f)) (IsClean keys f) (λ l m all clean free. All-push (IsClean keys f) l m all clean) (kept_after c.number c.digest log) (checkpoints_in c) good
+        (All-filter (λ m. stays c.number c.digest (header m)) (IsClean keys f) log kept);
   }
 
   -- a CHECKPOINT carries nothing
-  nothing_carried : (m : Message) → (message_header m).tag ≡ 5 → carried_are_signed keys m ≡ true
-  nothing_carried (Request request) five = refl
+  nothing_carried : (m : OrderMessage) → (message_header m).tag ≡ 5 → carried_are_signed keys m ≡ true
   nothing_carried (PrePrepare proposal) five = absurd (omega (arith, five))
   nothing_carried (Prepare vote) five = refl
   nothing_carried (Commit vote) five = refl
   nothing_carried (Checkpoint checkpoint) five = refl
-  nothing_carried (ViewChange change) five = refl
-  nothing_carried (NewView new) five = refl
-  nothing_carried (Reply reply) five = refl
 
-  clean_voucher : (n : ℕ) (d : List ℕ) (m : Signed Message) → IsVoucher keys f n d m → IsClean keys f m
+  clean_voucher : (n : ℕ) (d : List ℕ) (m : Signed OrderMessage) → IsVoucher keys f n d m → IsClean keys f m
   clean_voucher n d m is = record {
     signed = is.signed;
     sender = is.sender;
@@ -61,10 +59,10 @@ module _ (keys : Keys) (f : ℕ) where
     backup = λ three same. absurd (omega (arith, is.tag, three));
   }
 
-  clean_certificate : (ms : Log) → is_certificate keys f ms ≡ true → All (IsClean keys f) ms
-  clean_certificate ms is = All-weaker (IsVoucher keys f (number_of ms) (digest_of ms)) (IsClean keys f) (λ m v. clean_voucher (number_of ms) (digest_of ms) m v) ms (vouched keys f ms is).each
+  clean_certificate : (c : StableCheckpoint) → is_shown keys f c ≡ true → All (IsClean keys f) (checkpoints_in c)
+  clean_certificate c is = All-weaker (IsVoucher keys f c.number c.digest) (IsClean keys f) (λ m v. clean_voucher c.number c.digest m v) (checkpoints_in c) (vouched keys f c is).each
 
-  clean_handed : (m : Signed Message) → IsAllSigned keys m → (header m).tag ≡ 2 → (header m).sender ≡ primary f (header m).view → IsClean keys f m
+  clean_handed : (m : Signed OrderMessage) → IsAllSigned keys m → (header m).tag ≡ 2 → (header m).sender ≡ primary f (header m).view → IsClean keys f m
   clean_handed m is two led = record {
     signed = is.signed;
     sender = omega (arith, led);
@@ -74,24 +72,24 @@ module _ (keys : Keys) (f : ℕ) where
   }
 
 -- what is not refused
-clean_taken : (keys : Keys) (s : State) (m : Signed Message) → refusal keys s m ≡ None → IsClean keys s.f m
+clean_taken : (keys : Keys) (s : State) (m : Signed OrderMessage) → refusal keys s m ≡ None → IsClean keys s.f m
 clean_taken keys s m none =
     let free = unrefused keys s m none in
-    let a = and_parts (ltb (header m).sender (replicas s.f)) (is_signed keys m && carried_are_signed keys m.message) free.1 in
-    let b = and_parts (is_signed keys m) (carried_are_signed keys m.message) a.1 in
+    let a = and_parts (ltb (header m).sender (replicas s.f)) (order_is_signed keys m && carried_are_signed keys m.message) free.0 in
+    let b = and_parts (order_is_signed keys m) (carried_are_signed keys m.message) a.1 in
     record {
       signed = b.0;
       sender = ltb-true (header m).sender (replicas s.f) a.0;
       carried = b.1;
-      led = (placed s m free.0 free.2).led;
-      backup = only_backups s (header m) free.2;
+      led = (placed s m free.1).led;
+      backup = only_backups s (header m) free.1;
     }
 
 module _ (passes_at : PassesAtReplicas) (secret : List ℕ) (clients : ℕ) (s : State) (there : s.me < replicas s.f) where
   abbrev mine : Keys
   mine = own_keys secret clients s.f s.me
 
-  abbrev Clean : Signed Message → Type 0
+  abbrev Clean : Signed OrderMessage → Type 0
   Clean = IsClean mine s.f
 
   -- what it signs passes at itself
@@ -140,10 +138,10 @@ module _ (passes_at : PassesAtReplicas) (secret : List ℕ) (clients : ℕ) (s :
   proper_fits (Proposes by batch) proper = with_keys (λ k. Proposes k batch) by proper.0 (clean_proposal batch proper.1, speaks_clean)
   proper_fits Executes proper = tt
   proper_fits (Checkpoints by n d) proper = with_keys (λ k. Checkpoints k n d) by proper speaks_clean
-  proper_fits (Installs by ms) proper = with_keys (λ k. Installs k ms) by proper (clean_certificate mine s.f ms)
+  proper_fits (Installs by c) proper = with_keys (λ k. Installs k c) by proper (clean_certificate mine s.f c)
   proper_fits (Leaves v) proper = tt
-  proper_fits (Enters by v n ms) proper = with_keys (λ k. Enters k v n ms) by proper.0
-      (All-weaker (IsAllSigned mine) (Handed Clean s.f) (λ m is. clean_handed mine s.f m is) ms proper.1, speaks_clean)
+  proper_fits (Enters by v n ps) proper = with_keys (λ k. Enters k v n ps) by proper.0
+      (All-weaker (IsAllSigned mine) (Handed Clean s.f) (λ m is. clean_handed mine s.f m is) (as_proposals ps) proper.1, speaks_clean)
 
 pub clean_kept : PassesAtReplicas → ProperCallsKeepLogsClean
 clean_kept passes_at secret clients s call there proper clean =

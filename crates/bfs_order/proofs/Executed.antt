@@ -4,13 +4,13 @@ use Rattle.std.specs.Prelude.{Option, Some, None, unwrap_or}
 use Rattle.std.specs.List.{Contains, find}
 use Rattle.std.proofs.lemmas.Bool.{and_parts, leb-true}
 use Rattle.std.proofs.lemmas.List.Elements.{Contains-append_right}
-use Rattle.bfs_agreement.specs.Votes.{Told, backups, committed, is_backed, is_slot, prepared, primary, tellers, told}
+use Rattle.bfs_votes.specs.Votes.{Told, backups, committed, is_backed, is_slot, prepared, primary, tellers, told}
 use Rattle.bfs_log.specs.Batches.{Committed}
 use Rattle.bfs_log.specs.Headers.{header, message_header}
 use Rattle.bfs_log.specs.Logs.{Log, batch_in}
 use Rattle.bfs_messages.specs.declared.signed.Signed.{Signed}
-use Rattle.bfs_messages.specs.declared.message.Message.{Message}
-use Rattle.bfs_messages.specs.declared.message.Message.TheVariants.{Request, PrePrepare, Prepare, Commit, Checkpoint, ViewChange, NewView, Reply}
+use Rattle.bfs_messages.specs.declared.order_messages.OrderMessage.{OrderMessage}
+use Rattle.bfs_messages.specs.declared.order_messages.OrderMessage.TheVariants.{PrePrepare, Prepare, Commit, Checkpoint}
 use Rattle.bfs_order.specs.Laws.Calls.{execution}
 use Rattle.bfs_order.specs.Laws.Executed.{HasItsCertificate, NextHasItsCertificate, OnlyTheNextIsExecuted, going_on}
 use Rattle.bfs_order.specs.Replica.Executing.{batch_of, executed, next_proposal, where_committed}
@@ -20,17 +20,17 @@ use Rattle.bfs_order.proofs.Telling.{slot_is}
 -- What is found -----------------------------------------------------------------------------------------------------------
 
 -- it is in the log, and passes
-pub record Found (test : Signed Message → Bool) (log : Log) (m : Signed Message) : Type 0 where
+pub record Found (test : Signed OrderMessage → Bool) (log : Log) (m : Signed OrderMessage) : Type 0 where
   pub there : Contains log m
   pub passes : test m ≡ true
 
-found : (test : Signed Message → Bool) (log : Log) (m : Signed Message) → find test log ≡ Some m → Found test log m
+found : (test : Signed OrderMessage → Bool) (log : Log) (m : Signed OrderMessage) → find test log ≡ Some m → Found test log m
 found test [] m e = absurd cc
 found test (x ∷ xs) m e = go (test x) refl (found test xs m) e
   where
     go : (b : Bool) → test x ≡ b → (find test xs ≡ Some m → Found test xs m) → cond b (Some x) (find test xs) ≡ Some m → Found test (x ∷ xs) m
     go true is later this =
-        let same : x ≡ m = ap (λ (o : Option (Signed Message)). unwrap_or o x) this in
+        let same : x ≡ m = ap (λ (o : Option (Signed OrderMessage)). unwrap_or o x) this in
         record { there = (0, omega arith, same); passes = ap test (sym same) ∙ is }
     go false is later this =
         let rest = later this in
@@ -39,15 +39,11 @@ found test (x ∷ xs) m e = go (test x) refl (found test xs m) e
 -- The certificate -----------------------------------------------------------------------------------------------------------
 
 -- what bears a batch is a PRE-PREPARE of its number
-numbered : (m : Message) (next : Committed) → batch_in m ≡ Some next → (message_header m).number ≡ next.number
-numbered (Request request) next e = absurd cc
+numbered : (m : OrderMessage) (next : Committed) → batch_in m ≡ Some next → (message_header m).number ≡ next.number
 numbered (PrePrepare proposal) next e = ap (λ (o : Option Committed). (unwrap_or o next).number) e
 numbered (Prepare vote) next e = absurd cc
 numbered (Commit vote) next e = absurd cc
 numbered (Checkpoint checkpoint) next e = absurd cc
-numbered (ViewChange change) next e = absurd cc
-numbered (NewView new) next e = absurd cc
-numbered (Reply reply) next e = absurd cc
 
 pub record Counted (s : State) (number : ℕ) (digest : List ℕ) : Type 0 where
   pub prepares : 2 * s.f ≤ backups s.f (known s) s.view number digest
@@ -66,7 +62,7 @@ counted s n d e =
       own = t.1;
     }
 
-certified : (s : State) (next : Committed) (p : Option (Signed Message)) → next_proposal s ≡ p → batch_of (where_committed s p) ≡ Some next → HasItsCertificate s next
+certified : (s : State) (next : Committed) (p : Option (Signed OrderMessage)) → next_proposal s ≡ p → batch_of (where_committed s p) ≡ Some next → HasItsCertificate s next
 certified s next None is e = absurd cc
 certified s next (Some m) is e = go (committed s.f s.me (known s) s.view (s.last + 1) (header m).digest) refl e
   where
@@ -94,17 +90,13 @@ next_has_its_certificate s next e = certified s next (next_proposal s) refl e
 -- What is executed ----------------------------------------------------------------------------------------------------------
 
 -- a PRE-PREPARE bears a batch
-bears : (m : Message) → (message_header m).tag ≡ 2 → (next : Committed) × (batch_in m ≡ Some next)
-bears (Request request) e = absurd cc
+bears : (m : OrderMessage) → (message_header m).tag ≡ 2 → (next : Committed) × (batch_in m ≡ Some next)
 bears (PrePrepare proposal) e = (record { number = proposal.vote.number; batch = proposal.batch }, refl)
 bears (Prepare vote) e = absurd cc
 bears (Commit vote) e = absurd cc
 bears (Checkpoint checkpoint) e = absurd cc
-bears (ViewChange change) e = absurd cc
-bears (NewView new) e = absurd cc
-bears (Reply reply) e = absurd cc
 
-goes_on : (s : State) (p : Option (Signed Message)) → next_proposal s ≡ p → (execution s (where_committed s p)).now ≡ going_on s (batch_of (where_committed s p))
+goes_on : (s : State) (p : Option (Signed OrderMessage)) → next_proposal s ≡ p → (execution s (where_committed s p)).now ≡ going_on s (batch_of (where_committed s p))
 goes_on s None is = refl
 goes_on s (Some m) is = go (committed s.f s.me (known s) s.view (s.last + 1) (header m).digest)
   where

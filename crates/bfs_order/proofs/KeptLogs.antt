@@ -6,26 +6,28 @@ use Rattle.std.proofs.lemmas.List.{map-append}
 use Rattle.std.proofs.lemmas.List.Elements.{All-nil, All-cons, All-head, All-tail, All-push, All-same, All-weaker}
 use Rattle.std.proofs.lemmas.Slice.Eq.{bytes_eq-Decides}
 use Rattle.bfs_auth.specs.Keys.{Keys}
-use Rattle.bfs_agreement.specs.Votes.{Header, SlotsDiffer, is_slot, has_slot, is_taken, says, told, Told, tellers, is_stable, replicas}
+use Rattle.bfs_votes.specs.Votes.{Header, SlotsDiffer, is_slot, has_slot, is_taken, says, told, Told, tellers, is_stable, replicas}
 use Rattle.bfs_log.specs.Headers.{header, message_header}
 use Rattle.bfs_log.specs.Logs.{Log, headers, stays, kept_after}
 use Rattle.bfs_log.proofs.Public.{differ_pushed, differ_kept}
 use Rattle.bfs_messages.specs.declared.signed.Signed.{Signed}
-use Rattle.bfs_messages.specs.declared.message.Message.{Message}
-use Rattle.bfs_messages.specs.declared.message.Message.TheVariants.{Request, PrePrepare, Prepare, Commit, Checkpoint, ViewChange, NewView, Reply}
-use Rattle.bfs_order.specs.Replica.Installing.{number_of, digest_of, has_sender, with_new, with_each, certified}
+use Rattle.bfs_messages.specs.declared.order_messages.OrderMessage.{OrderMessage}
+use Rattle.bfs_messages.specs.declared.order_messages.OrderMessage.TheVariants.{PrePrepare, Prepare, Commit, Checkpoint}
+use Rattle.bfs_log.specs.Certificates.{StableCheckpoint, checkpoints_in, has_sender}
+use Rattle.bfs_order.specs.Replica.Installing.{with_new, with_each, certified}
 use Rattle.bfs_order.specs.Replica.Refusals.{is_ordering}
 use Rattle.bfs_order.specs.Replica.States.{State, fresh}
 use Rattle.bfs_order.specs.Laws.Calls.{Call, Takes, Proposes, Executes, Checkpoints, Installs, Leaves, Enters, outcome, after, CallsKeepTheReplica, IsKept, IsAlways}
 use Rattle.bfs_order.specs.Laws.Logs.{HasDistinctSlots, IsInWindow, IsWindowed, IsCertified, HasCertificate}
 use Rattle.bfs_order.proofs.Telling.{says_is, is_said, slot_is, told_left, told_right, is_one, found_kept}
 use Rattle.bfs_order.proofs.Moving.{Fact, Moves, Speaks, Fits, CanTake, call_goes}
-use Rattle.bfs_order.proofs.Certifying.{IsVoucher, Vouched, vouched, each_keeps, senders_counted}
-use Rattle.bfs_agreement.proofs.Public.{more}
+use Rattle.bfs_log.proofs.Public.{IsVoucher, Vouched, senders_counted, vouched}
+use Rattle.bfs_order.proofs.Putting.{each_keeps}
+use Rattle.bfs_votes.proofs.Public.{more}
 
 -- Whatever is let in ------------------------------------------------------------------------------------------------------
 
-abbrev pub Anything : Signed Message → Type 0
+abbrev pub Anything : Signed OrderMessage → Type 0
 Anything m = Unit {0}
 
 pub anything : (ms : Log) → All Anything ms
@@ -39,7 +41,7 @@ fits_anything s (Takes keys m) = (λ none. tt, speaks_anything keys s.f s.me)
 fits_anything s (Proposes keys batch) = (λ none. tt, speaks_anything keys s.f s.me)
 fits_anything s Executes = tt
 fits_anything s (Checkpoints keys n d) = speaks_anything keys s.f s.me
-fits_anything s (Installs keys ms) = λ is. anything ms
+fits_anything s (Installs keys c) = λ is. anything (checkpoints_in c)
 fits_anything s (Leaves v) = tt
 fits_anything s (Enters keys v n ms) = (λ k d lt two led. tt, speaks_anything keys s.f s.me)
 
@@ -50,7 +52,7 @@ same_replica s call =
       say = λ f me view low log sent m kept can own good. tt;
       settle = λ f me view low log sent n d kept above is. tt;
       enter = λ f me view later low log sent kept above. tt;
-      install = λ keys f me view low log sent ms kept above is good. tt;
+      install = λ keys f me view low log sent c kept above is good. tt;
     }) s [] call tt (fits_anything s call) in
     (goes.same_f, goes.same_me)
 
@@ -63,7 +65,7 @@ always P kept f me calls = after_calls P kept.1 (fresh f me) calls (kept.0 f me)
 
 -- Headers of a log --------------------------------------------------------------------------------------------------------
 
-pub all_more : (P : Header → Type 0) (log : Log) (m : Signed Message) → All P (headers log) → P (header m) → All P (headers (log ++ m ∷ []))
+pub all_more : (P : Header → Type 0) (log : Log) (m : Signed OrderMessage) → All P (headers log) → P (header m) → All P (headers (log ++ m ∷ []))
 all_more P log m all one = All-same P (headers (log ++ m ∷ [])) (headers log ++ header m ∷ []) (map-append header log (m ∷ [])) (All-push P (headers log) (header m) all one)
 
 pub all_kept : (P Q : Header → Type 0) (keep : Header → Bool) → ((h : Header) → keep h ≡ true → P h → Q h) → (log : Log) → All P (headers log) → All Q (headers (filter (λ m. keep (header m)) log))
@@ -99,9 +101,9 @@ slots_move = record {
   say = λ f me view low log sent m kept can own good. differ_pushed log m kept can.free;
   settle = λ f me view low log sent n d kept above is. differ_kept (stays n d) log kept;
   enter = λ f me view later low log sent kept above. kept;
-  install = λ keys f me view low log sent ms kept above is good.
-      each_keeps (λ l. SlotsDiffer (headers l)) Anything (λ l m differ good free. differ_pushed l m differ free) (kept_after (number_of ms) (digest_of ms) log) ms good
-      (differ_kept (stays (number_of ms) (digest_of ms)) log kept);
+  install = λ keys f me view low log sent c kept above is good.
+      each_keeps (λ l. SlotsDiffer (headers l)) Anything (λ l m differ good free. differ_pushed l m differ free) (kept_after c.number c.digest log) (checkpoints_in c) good
+      (differ_kept (stays c.number c.digest) log kept);
 }
 
 pub slots_kept : IsKept HasDistinctSlots
@@ -115,7 +117,7 @@ slots_always = always HasDistinctSlots slots_kept
 abbrev Window : Fact
 Window f me view low log sent = All (IsInWindow low) (headers log)
 
-in_window : (f view low : ℕ) (log : Log) (m : Signed Message) → CanTake f view low log m → IsInWindow low (header m)
+in_window : (f view low : ℕ) (log : Log) (m : Signed OrderMessage) → CanTake f view low log m → IsInWindow low (header m)
 in_window f view low log m can = record { kind = can.kind; from = omega (arith, can.above); above = λ small. can.above; to = can.to }
 
 risen : (low n : ℕ) (d : List ℕ) (h : Header) → low < n → stays n d h ≡ true → IsInWindow low h → IsInWindow n h
@@ -131,7 +133,7 @@ raised low log n d above kept = all_kept (IsInWindow low) (IsInWindow n) (stays 
 ordering_five : (h : Header) → h.tag ≡ 5 → is_ordering h ≡ true
 ordering_five h five = rw five refl
 
-voucher_in : (keys : Keys) (f n : ℕ) (d : List ℕ) (m : Signed Message) → IsVoucher keys f n d m → IsInWindow n (header m)
+voucher_in : (keys : Keys) (f n : ℕ) (d : List ℕ) (m : Signed OrderMessage) → IsVoucher keys f n d m → IsInWindow n (header m)
 voucher_in keys f n d m is = record {
   kind = ordering_five (header m) is.tag;
   from = omega (arith, is.number);
@@ -145,10 +147,10 @@ window_move = record {
   say = λ f me view low log sent m kept can own good. all_more (IsInWindow low) log m kept (in_window f view low log m can);
   settle = λ f me view low log sent n d kept above is. raised low log n d above kept;
   enter = λ f me view later low log sent kept above. kept;
-  install = λ keys f me view low log sent ms kept above is good.
-      each_keeps (λ l. All (IsInWindow (number_of ms)) (headers l)) (IsVoucher keys f (number_of ms) (digest_of ms))
-      (λ l m all is free. all_more (IsInWindow (number_of ms)) l m all (voucher_in keys f (number_of ms) (digest_of ms) m is))
-      (kept_after (number_of ms) (digest_of ms) log) ms (vouched keys f ms is).each (raised low log (number_of ms) (digest_of ms) above kept);
+  install = λ keys f me view low log sent c kept above is good.
+      each_keeps (λ l. All (IsInWindow c.number) (headers l)) (IsVoucher keys f c.number c.digest)
+      (λ l m all is free. all_more (IsInWindow c.number) l m all (voucher_in keys f c.number c.digest m is))
+      (kept_after c.number c.digest log) (checkpoints_in c) (vouched keys f c is).each (raised low log c.number c.digest above kept);
 }
 
 pub window_kept : IsKept IsWindowed
@@ -171,7 +173,7 @@ stable_more f hs later n d tells is =
     let most = more (λ k. told hs 5 k 0 n d) (λ k. told later 5 k 0 n d) (replicas f) tells in
     le-leb (2 * f + 1) (tellers f later 5 0 n d) (omega (arith, enough, most))
 
-certificate_more : (f me view low : ℕ) (log sent : Log) (m : Signed Message) → Certificate f me view low log sent → low < (header m).number → Certificate f me view low (log ++ m ∷ []) sent
+certificate_more : (f me view low : ℕ) (log sent : Log) (m : Signed OrderMessage) → Certificate f me view low log sent → low < (header m).number → Certificate f me view low (log ++ m ∷ []) sent
 certificate_more f me view low log sent m (inl none) above = inl none
 certificate_more f me view low log sent m (inr (d, is)) above = inr (
   d,
@@ -203,15 +205,11 @@ settled_certificate f log n d is = record {
 }
 
 -- a CHECKPOINT has no view
-pub no_view : (m : Message) → (message_header m).tag ≡ 5 → (message_header m).view ≡ 0
-no_view (Request request) five = refl
+pub no_view : (m : OrderMessage) → (message_header m).tag ≡ 5 → (message_header m).view ≡ 0
 no_view (PrePrepare proposal) five = absurd (omega (arith, five))
 no_view (Prepare vote) five = absurd (omega (arith, five))
 no_view (Commit vote) five = absurd (omega (arith, five))
 no_view (Checkpoint checkpoint) five = refl
-no_view (ViewChange change) five = refl
-no_view (NewView new) five = refl
-no_view (Reply reply) five = refl
 
 -- where no CHECKPOINT tells another digest, who has the place tells that one
 slot_tells : (hs : List Header) (k v n : ℕ) (d : List ℕ) → All (TellsOne n d) hs → has_slot hs 5 k v n ≡ true → Told hs 5 k v n d
@@ -226,20 +224,20 @@ slot_tells (h ∷ hs) k v n d one e = go (slot_tells hs k v n d (All-tail (Tells
     go later (inr there) = or_right (says 5 k v n d h) (told hs 5 k v n d) (later there)
 
 module _ (keys : Keys) (f n : ℕ) (d : List ℕ) where
-  abbrev Vouches : Signed Message → Type 0
+  abbrev Vouches : Signed OrderMessage → Type 0
   Vouches = IsVoucher keys f n d
 
-  voucher_one : (log : Log) (m : Signed Message) → All (TellsOne n d) (headers log) → Vouches m → is_taken (headers log) (header m) ≡ false → All (TellsOne n d) (headers (log ++ m ∷ []))
+  voucher_one : (log : Log) (m : Signed OrderMessage) → All (TellsOne n d) (headers log) → Vouches m → is_taken (headers log) (header m) ≡ false → All (TellsOne n d) (headers (log ++ m ∷ []))
   voucher_one log m one is free = all_more (TellsOne n d) log m one (λ five same. is.digest)
 
-  new_one : (log : Log) (m : Signed Message) → All (TellsOne n d) (headers log) → Vouches m → All (TellsOne n d) (headers (with_new log m))
+  new_one : (log : Log) (m : Signed OrderMessage) → All (TellsOne n d) (headers log) → Vouches m → All (TellsOne n d) (headers (with_new log m))
   new_one log m one is = go (is_taken (headers log) (header m)) refl
     where
       go : (b : Bool) → is_taken (headers log) (header m) ≡ b → All (TellsOne n d) (headers (cond b log (log ++ m ∷ [])))
       go true e = one
       go false e = voucher_one log m one is e
 
-  new_told : (log : Log) (m : Signed Message) → All (TellsOne n d) (headers log) → Vouches m → Told (headers (with_new log m)) 5 (header m).sender 0 n d
+  new_told : (log : Log) (m : Signed OrderMessage) → All (TellsOne n d) (headers log) → Vouches m → Told (headers (with_new log m)) 5 (header m).sender 0 n d
   new_told log m one is = go (is_taken (headers log) (header m)) refl
     where
       view : (header m).view ≡ 0
@@ -264,16 +262,17 @@ module _ (keys : Keys) (f n : ℕ) (d : List ℕ) where
           (subst (λ (j : ℕ). Told (headers (with_new log m)) 5 j 0 n d) (eqb-true (header m).sender k same) (new_told log m one (All-head Vouches m ms all)))
       go (inr there) later = later there
 
-installed_certificate : (keys : Keys) (f : ℕ) (log ms : Log) → Vouched keys f ms → IsCertified f (headers (certified log ms)) (number_of ms) (digest_of ms)
-installed_certificate keys f log ms is =
-    let n = number_of ms in
-    let d = digest_of ms in
+installed_certificate : (keys : Keys) (f : ℕ) (log : Log) (c : StableCheckpoint) → Vouched keys f c → IsCertified f (headers (certified log c)) c.number c.digest
+installed_certificate keys f log c is =
+    let ms = checkpoints_in c in
+    let n = c.number in
+    let d = c.digest in
     let left = kept_after n d log in
     let enough = is.enough in
     let counted = senders_counted (replicas f) ms (All-weaker (IsVoucher keys f n d) (λ m. (header m).sender < replicas f) (λ m v. v.sender) ms is.each) is.differ in
-    let most = more (has_sender ms) (λ k. told (headers (certified log ms)) 5 k 0 n d) (replicas f) (λ k e. each_told keys f n d left ms is.each (one_left n d log) k e) in
+    let most = more (has_sender ms) (λ k. told (headers (certified log c)) 5 k 0 n d) (replicas f) (λ k e. each_told keys f n d left ms is.each (one_left n d log) k e) in
     record {
-      stable = le-leb (2 * f + 1) (tellers f (headers (certified log ms)) 5 0 n d) (omega (arith, enough, counted, most));
+      stable = le-leb (2 * f + 1) (tellers f (headers (certified log c)) 5 0 n d) (omega (arith, enough, counted, most));
       one = each_keeps (λ l. All (TellsOne n d) (headers l)) (IsVoucher keys f n d) (λ l m one v free. voucher_one keys f n d l m one v free) left ms is.each (one_left n d log);
     }
 
@@ -283,7 +282,7 @@ certificate_move = record {
   say = λ f me view low log sent m kept can own good. certificate_more f me view low log sent m kept can.above;
   settle = λ f me view low log sent n d kept above is. inr (d, settled_certificate f log n d is);
   enter = λ f me view later low log sent kept above. kept;
-  install = λ keys f me view low log sent ms kept above is good. inr (digest_of ms, installed_certificate keys f log ms (vouched keys f ms is));
+  install = λ keys f me view low log sent c kept above is good. inr (c.digest, installed_certificate keys f log c (vouched keys f c is));
 }
 
 pub certificate_kept : IsKept HasCertificate

@@ -2,9 +2,8 @@
 mod Telling
 mod Moving
 mod Nearly
-mod Certifying
+mod Putting
 mod KeptLogs
-mod Certificates
 mod Entering
 mod Executed
 mod Fronts

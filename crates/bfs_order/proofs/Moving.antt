@@ -5,32 +5,33 @@ use Rattle.std.proofs.lemmas.Bool.{and_parts, and_from, or_parts, or_cases, eqb-
 use Rattle.std.proofs.lemmas.List.{append-nil}
 use Rattle.std.proofs.lemmas.List.Elements.{All-head, All-tail}
 use Rattle.bfs_auth.specs.Keys.{Keys}
-use Rattle.bfs_agreement.specs.Votes.{Header, is_slot, has_slot, is_taken, told, Told, primary, prepared, is_stable}
+use Rattle.bfs_votes.specs.Votes.{Header, is_slot, has_slot, is_taken, told, Told, primary, prepared, is_stable}
 use Rattle.bfs_log.specs.Headers.{header, message_header}
 use Rattle.bfs_log.specs.Logs.{Log, headers, kept_after, greatest_proposed}
+use Rattle.bfs_messages.specs.Messages as model
 use Rattle.bfs_messages.specs.Messages.{Batch}
 use Rattle.bfs_messages.specs.declared.signed.Signed.{Signed}
-use Rattle.bfs_messages.specs.declared.message.Message.{Message}
-use Rattle.bfs_messages.specs.declared.message.Message.TheVariants.{Prepare, Commit, Checkpoint}
+use Rattle.bfs_messages.specs.declared.order_messages.OrderMessage.{OrderMessage}
+use Rattle.bfs_messages.specs.declared.order_messages.OrderMessage.TheVariants.{PrePrepare, Prepare, Commit, Checkpoint}
 use Rattle.bfs_order.specs.Replica.Accepting.{makes_stable, settled, answers, accepted, on_message}
 use Rattle.bfs_order.specs.Replica.Answers.{said_once, own_vote, prepares_in, commits_in, votes_in, answers_in}
-use Rattle.bfs_messages.specs.Signing.{signed_by}
+use Rattle.bfs_messages.specs.Signing.{as_message, order_signed_by}
 use Rattle.bfs_order.specs.Replica.Checkpoints.{checkpoint_refusal, checkpoint, checkpointed}
 use Rattle.bfs_order.specs.Replica.Executing.{next_order}
-use Rattle.bfs_order.specs.Replica.Installing.{number_of, is_certificate, certified, install_refusal, installed}
+use Rattle.bfs_log.specs.Certificates.{StableCheckpoint, checkpoints_in, is_shown}
+use Rattle.bfs_order.specs.Replica.Installing.{certified, install_refusal, installed}
 use Rattle.bfs_order.specs.Replica.Outcomes.{Outcome, quiet, unless}
 use Rattle.bfs_order.specs.Replica.Proposing.{next_number, leads, proposal_refusal, proposal, proposal_commits, proposed, batch_digest}
 use Rattle.bfs_order.specs.Replica.Refusals.{is_between, is_inside, is_of_view, is_there, conflicts, is_ordering, is_authentic, place_refusal, refusal}
 use Rattle.bfs_order.specs.Replica.States.{State, known, with_more, with_message}
-use Rattle.bfs_order.specs.Replica.Views.{leaving_refusal, left, entering_refusal, opened, handed_refusal, taken_over, all_taken_over, entered}
+use Rattle.bfs_order.specs.Replica.Views.{leaving_refusal, left, entering_refusal, opened, as_proposals, taken_over, all_taken_over, entered}
 use Rattle.bfs_order.specs.Laws.Calls.{Call, Takes, Proposes, Executes, Checkpoints, Installs, Leaves, Enters, execution, outcome}
 use Rattle.bfs_order.specs.declared.error.OrderError.{OrderError}
-use Rattle.bfs_order.specs.declared.error.OrderError.TheVariants.{WrongKind}
 use Rattle.bfs_order.proofs.Telling.{slot_is, told_left, told_right, is_one}
 use Rattle.bfs_model.specs.Server.Limits.{log_size}
 
 -- a message may go into a log
-pub record CanTake (f view low : ℕ) (log : Log) (m : Signed Message) : Type 0 where
+pub record CanTake (f view low : ℕ) (log : Log) (m : Signed OrderMessage) : Type 0 where
   pub free : is_taken (headers log) (header m) ≡ false
   pub kind : is_ordering (header m) ≡ true
   pub above : low < (header m).number
@@ -39,7 +40,7 @@ pub record CanTake (f view low : ℕ) (log : Log) (m : Signed Message) : Type 0 
   pub of_view : (header m).tag < 5 → (header m).view ≡ view
 
 -- a message of its own, of a PRE-PREPARE unless it is a CHECKPOINT
-pub record IsOwn (f me : ℕ) (log : Log) (m : Signed Message) : Type 0 where
+pub record IsOwn (f me : ℕ) (log : Log) (m : Signed OrderMessage) : Type 0 where
   pub mine : (header m).sender ≡ me
   pub backed : (header m).tag < 5 → Told (headers (log ++ m ∷ [])) 2 (primary f (header m).view) (header m).view (header m).number (header m).digest
 
@@ -47,44 +48,40 @@ abbrev pub Fact : Type 1
 Fact = (f me view low : ℕ) → (log sent : Log) → Type 0
 
 -- the small changes: a message is taken, one is sent, a checkpoint becomes stable, one is installed, a later view is entered
-pub record Moves (Good : Signed Message → Type 0) (P : Fact) : Type 0 where
-  pub take : (f me view low : ℕ) (log sent : Log) (m : Signed Message) → P f me view low log sent → CanTake f view low log m → Good m → P f me view low (log ++ m ∷ []) sent
-  pub say : (f me view low : ℕ) (log sent : Log) (m : Signed Message) → P f me view low log sent → CanTake f view low log m → IsOwn f me log m → Good m → P f me view low (log ++ m ∷ []) (sent ++ m ∷ [])
+pub record Moves (Good : Signed OrderMessage → Type 0) (P : Fact) : Type 0 where
+  pub take : (f me view low : ℕ) (log sent : Log) (m : Signed OrderMessage) → P f me view low log sent → CanTake f view low log m → Good m → P f me view low (log ++ m ∷ []) sent
+  pub say : (f me view low : ℕ) (log sent : Log) (m : Signed OrderMessage) → P f me view low log sent → CanTake f view low log m → IsOwn f me log m → Good m → P f me view low (log ++ m ∷ []) (sent ++ m ∷ [])
   pub settle : (f me view low : ℕ) (log sent : Log) (number : ℕ) (digest : List ℕ) → P f me view low log sent → low < number → is_stable f (headers log) number digest ≡ true
       → P f me view number (kept_after number digest log) sent
-  pub install : (keys : Keys) (f me view low : ℕ) (log sent ms : Log) → P f me view low log sent → low < number_of ms → is_certificate keys f ms ≡ true → All Good ms
-      → P f me view (number_of ms) (certified log ms) sent
+  pub install : (keys : Keys) (f me view low : ℕ) (log sent : Log) (c : StableCheckpoint) → P f me view low log sent → low < c.number → is_shown keys f c ≡ true → All Good (checkpoints_in c)
+      → P f me view c.number (certified log c) sent
   pub enter : (f me view later low : ℕ) (log sent : Log) → P f me view low log sent → view < later → P f me later low log sent
 
 -- what a replica says by its keys is good
-pub record Speaks (Good : Signed Message → Type 0) (keys : Keys) (f me : ℕ) : Type 0 where
-  pub prepare : (v n : ℕ) (d : List ℕ) → eqb me (primary f v) ≡ false → Good (signed_by keys (Prepare (record { sender = me; view = v; number = n; digest = d })))
-  pub commit : (v n : ℕ) (d : List ℕ) → Good (signed_by keys (Commit (record { sender = me; view = v; number = n; digest = d })))
-  pub checkpoint : (n : ℕ) (d : List ℕ) → Good (signed_by keys (Checkpoint (record { sender = me; number = n; digest = d })))
+pub record Speaks (Good : Signed OrderMessage → Type 0) (keys : Keys) (f me : ℕ) : Type 0 where
+  pub prepare : (v n : ℕ) (d : List ℕ) → eqb me (primary f v) ≡ false → Good (order_signed_by keys (Prepare (record { sender = me; view = v; number = n; digest = d })))
+  pub commit : (v n : ℕ) (d : List ℕ) → Good (order_signed_by keys (Commit (record { sender = me; view = v; number = n; digest = d })))
+  pub checkpoint : (n : ℕ) (d : List ℕ) → Good (order_signed_by keys (Checkpoint (record { sender = me; number = n; digest = d })))
 
 -- a PRE-PREPARE that is handed over, of its view's primary, is good
-abbrev pub Handed : (Good : Signed Message → Type 0) → (f : ℕ) → Signed Message → Type 0
+abbrev pub Handed : (Good : Signed OrderMessage → Type 0) → (f : ℕ) → Signed OrderMessage → Type 0
 Handed Good f m = (header m).tag ≡ 2 → (header m).sender ≡ primary f (header m).view → Good m
 
 -- what a call lets in is good
-abbrev pub Fits : (Good : Signed Message → Type 0) → State → Call → Type 0
+abbrev pub Fits : (Good : Signed OrderMessage → Type 0) → State → Call → Type 0
 Fits Good s (Takes keys m) = (refusal keys s m ≡ None → Good m) × Speaks Good keys s.f s.me
 Fits Good s (Proposes keys batch) = (proposal_refusal s ≡ None → Good (proposal keys s batch)) × Speaks Good keys s.f s.me
 Fits Good s Executes = Unit {0}
 Fits Good s (Checkpoints keys n d) = Speaks Good keys s.f s.me
-Fits Good s (Installs keys ms) = is_certificate keys s.f ms ≡ true → All Good ms
+Fits Good s (Installs keys c) = is_shown keys s.f c ≡ true → All Good (checkpoints_in c)
 Fits Good s (Leaves v) = Unit {0}
-Fits Good s (Enters keys v n ms) = All (Handed Good s.f) ms × Speaks Good keys s.f s.me
+Fits Good s (Enters keys v n ps) = All (Handed Good s.f) (as_proposals ps) × Speaks Good keys s.f s.me
 
 -- Tests passed ------------------------------------------------------------------------------------------------------------
 
 pub passed : {A : Type 0} (b : Bool) (x : A) (r : Option A) → cond b (Some x) r ≡ None → (b ≡ false) × (r ≡ None)
 passed true x r e = absurd cc
 passed false x r e = (refl, e)
-
-turned : {A : Type 0} (b : Bool) (x : A) (r : Option A) → cond b r (Some x) ≡ None → (b ≡ true) × (r ≡ None)
-turned true x r e = (refl, e)
-turned false x r e = absurd cc
 
 led_by : (a b : Bool) → (a && not b) ≡ false → a ≡ true → b ≡ true
 led_by true true e is = refl
@@ -103,8 +100,14 @@ viewed s h e small = go (or_cases (eqb h.tag 5) (eqb h.view s.view && leb s.aske
     go (inl five) = absurd (omega (arith, small, eqb-true h.tag 5 five))
     go (inr both) = eqb-true h.view s.view (and_parts (eqb h.view s.view) (leb s.asked s.view) both).0
 
-pub placed : (s : State) (m : Signed Message) → is_ordering (header m) ≡ true → place_refusal s (header m) ≡ None → CanTake s.f s.view s.low s.log m
-placed s m kind e =
+ordering : (m : OrderMessage) → is_ordering (message_header m) ≡ true
+ordering (PrePrepare proposal) = refl
+ordering (Prepare vote) = refl
+ordering (Commit vote) = refl
+ordering (Checkpoint checkpoint) = refl
+
+pub placed : (s : State) (m : Signed OrderMessage) → place_refusal s (header m) ≡ None → CanTake s.f s.view s.low s.log m
+placed s m e =
     let h = header m in
     let p1 = passed (not (is_of_view s h)) _ _ e in
     let p2 = passed (not (is_inside s h)) _ _ p1.1 in
@@ -115,7 +118,7 @@ placed s m kind e =
     let marks = between s h.number inside.0 in
     record {
       free = p5.0;
-      kind = kind;
+      kind = ordering m.message;
       above = marks.0;
       to = marks.1;
       of_view = viewed s h (not-false (is_of_view s h) p1.0);
@@ -139,12 +142,11 @@ later_view s v none = ltb-true s.view v (and_parts (ltb s.view v) _ (not-false _
 pub leading : (s : State) → proposal_refusal s ≡ None → s.me ≡ primary s.f s.view
 leading s none = eqb-true s.me (primary s.f s.view) (and_parts (eqb s.me (primary s.f s.view)) _ (not-false (leads s) (passed (not (leads s)) _ _ none).0)).0
 
-pub unrefused : (keys : Keys) (s : State) (m : Signed Message) → refusal keys s m ≡ None
-    → (is_ordering (header m) ≡ true) × (is_authentic keys s m ≡ true) × (place_refusal s (header m) ≡ None)
+pub unrefused : (keys : Keys) (s : State) (m : Signed OrderMessage) → refusal keys s m ≡ None
+    → (is_authentic keys s m ≡ true) × (place_refusal s (header m) ≡ None)
 unrefused keys s m none =
-    let p1 = passed (not (is_ordering (header m))) _ _ none in
-    let p2 = passed (not (is_authentic keys s m)) _ _ p1.1 in
-    (not-false (is_ordering (header m)) p1.0, not-false (is_authentic keys s m) p2.0, p2.1)
+    let p = passed (not (is_authentic keys s m)) _ _ none in
+    (not-false (is_authentic keys s m) p.0, p.1)
 
 below_greatest : (hs : List Header) (k v n : ℕ) → has_slot hs 2 k v n ≡ true → n ≤ greatest_proposed v hs
 below_greatest [] k v n e = absurd cc
@@ -165,7 +167,7 @@ below_greatest (h ∷ hs) k v n e = go (below_greatest hs k v n) (or_cases (is_s
 
 -- Calls -------------------------------------------------------------------------------------------------------------------
 
-module _ (Good : Signed Message → Type 0) (P : Fact) (moves : Moves Good P) where
+module _ (Good : Signed OrderMessage → Type 0) (P : Fact) (moves : Moves Good P) where
   abbrev pub Keeps : State → Log → Type 0
   Keeps s sent = P s.f s.me s.view s.low s.log sent
 
@@ -189,18 +191,18 @@ module _ (Good : Signed Message → Type 0) (P : Fact) (moves : Moves Good P) wh
   unless_goes s sent None o kept goes = goes refl
   unless_goes s sent (Some e) o kept goes = quiet_goes s s sent refl refl kept
 
-  said_more : (keys : Keys) (s : State) (sent : Log) (m : Message) → Keeps s sent → is_ordering (message_header m) ≡ true → ((message_header m).tag ≡ 2 → ⊥)
+  said_more : (keys : Keys) (s : State) (sent : Log) (m : OrderMessage) → Keeps s sent → is_ordering (message_header m) ≡ true → ((message_header m).tag ≡ 2 → ⊥)
       → s.low < (message_header m).number → (message_header m).number ≤ s.low + log_size → (message_header m).sender ≡ s.me → (message_header m).view ≡ s.view
       → Told (known s) 2 (primary s.f (message_header m).view) (message_header m).view (message_header m).number (message_header m).digest
-      → Good (signed_by keys m) → More s sent (said_once keys s m)
+      → Good (order_signed_by keys m) → More s sent (said_once keys s m)
   said_more keys s sent m kept kind other above to mine of_view backed good = go (is_there s (message_header m)) refl
     where
-      go : (b : Bool) → is_there s (message_header m) ≡ b → More s sent (cond b [] (signed_by keys m ∷ []))
+      go : (b : Bool) → is_there s (message_header m) ≡ b → More s sent (cond b [] (order_signed_by keys m ∷ []))
       go true is = none_more s sent kept
       go false is =
-          moves.say s.f s.me s.view s.low s.log sent (signed_by keys m) kept
+          moves.say s.f s.me s.view s.low s.log sent (order_signed_by keys m) kept
           (record { free = is; kind = kind; above = above; to = to; led = λ two. absurd (other two); of_view = λ small. of_view })
-          (record { mine = mine; backed = λ _. told_left s.log (signed_by keys m ∷ []) _ _ _ _ _ backed }) good
+          (record { mine = mine; backed = λ _. told_left s.log (order_signed_by keys m ∷ []) _ _ _ _ _ backed }) good
 
   prepares_more : (keys : Keys) (s : State) (sent : Log) (v n : ℕ) (d : List ℕ) → v ≡ s.view → Speaks Good keys s.f s.me → Keeps s sent → s.low < n → n ≤ s.low + log_size
       → Told (known s) 2 (primary s.f v) v n d → More s sent (prepares_in keys s v n d)
@@ -246,7 +248,7 @@ module _ (Good : Signed Message → Type 0) (P : Fact) (moves : Moves Good P) wh
       go true is = moves.settle s.f s.me s.view s.low s.log sent h.number h.digest kept above (and_parts (eqb h.tag 5) _ is).1
       go false is = kept
 
-  accepted_goes : (keys : Keys) (s : State) (sent : Log) (m : Signed Message) → Speaks Good keys s.f s.me → Keeps s sent → CanTake s.f s.view s.low s.log m → Good m → Goes s sent (accepted keys s m)
+  accepted_goes : (keys : Keys) (s : State) (sent : Log) (m : Signed OrderMessage) → Speaks Good keys s.f s.me → Keeps s sent → CanTake s.f s.view s.low s.log m → Good m → Goes s sent (accepted keys s m)
   accepted_goes keys s sent m speaks kept can good =
       let h = header m in
       let backed : h.tag ≡ 2 → Told (headers (s.log ++ m ∷ [])) 2 (primary s.f h.view) h.view h.number h.digest =
@@ -256,10 +258,10 @@ module _ (Good : Signed Message → Type 0) (P : Fact) (moves : Moves Good P) wh
       let said = answers_more keys (with_message s m) sent h can.of_view speaks taken can.above can.to backed in
       record { same_f = refl; same_me = refl; kept = settled_more (with_more (with_message s m) (answers keys s m)) (sent ++ answers keys s m) h said can.above }
 
-  message_goes : (keys : Keys) (s : State) (sent : Log) (m : Signed Message) → Speaks Good keys s.f s.me → Keeps s sent → (refusal keys s m ≡ None → Good m) → Goes s sent (on_message keys s m)
+  message_goes : (keys : Keys) (s : State) (sent : Log) (m : Signed OrderMessage) → Speaks Good keys s.f s.me → Keeps s sent → (refusal keys s m ≡ None → Good m) → Goes s sent (on_message keys s m)
   message_goes keys s sent m speaks kept good = unless_goes s sent (refusal keys s m) (accepted keys s m) kept (λ none.
       let free = unrefused keys s m none in
-      accepted_goes keys s sent m speaks kept (placed s m free.0 free.2) (good none))
+      accepted_goes keys s sent m speaks kept (placed s m free.1) (good none))
 
   proposal_goes : (keys : Keys) (s : State) (sent : Log) (batch : Batch) → Speaks Good keys s.f s.me → Keeps s sent → Good (proposal keys s batch) → proposal_refusal s ≡ None → Goes s sent (proposed keys s batch)
   proposal_goes keys s sent batch speaks kept good none = record { same_f = refl; same_me = refl; kept = both }
@@ -303,48 +305,50 @@ module _ (Good : Signed Message → Type 0) (P : Fact) (moves : Moves Good P) wh
       (record { mine = refl; backed = λ lt. absurd (omega (arith, lt)) }) (speaks.checkpoint n d) in
       record { same_f = refl; same_me = refl; kept = settled_more (with_message s m) (sent ++ m ∷ []) (header m) said marks.0 }
 
-  install_goes : (keys : Keys) (s : State) (sent ms : Log) → Keeps s sent → (is_certificate keys s.f ms ≡ true → All Good ms) → install_refusal keys s ms ≡ None → Goes s sent (installed s ms)
-  install_goes keys s sent ms kept good none = quiet_goes s (installed s ms).now sent refl refl (go (ltb s.low (number_of ms)) refl)
+  install_goes : (keys : Keys) (s : State) (sent : Log) (c : StableCheckpoint) → Keeps s sent → (is_shown keys s.f c ≡ true → All Good (checkpoints_in c)) → install_refusal keys s c ≡ None → Goes s sent (installed s c)
+  install_goes keys s sent c kept good none = quiet_goes s (installed s c).now sent refl refl (go (ltb s.low c.number) refl)
     where
-      is : is_certificate keys s.f ms ≡ true
-      is = not-false (is_certificate keys s.f ms) (passed (not (is_certificate keys s.f ms)) _ _ none).0
+      is : is_shown keys s.f c ≡ true
+      is = not-false (is_shown keys s.f c) (passed (not (is_shown keys s.f c)) _ _ none).0
 
-      go : (b : Bool) → ltb s.low (number_of ms) ≡ b → P s.f s.me s.view (max s.low (number_of ms)) (cond b (certified s.log ms) s.log) sent
+      go : (b : Bool) → ltb s.low c.number ≡ b → P s.f s.me s.view (max s.low c.number) (cond b (certified s.log c) s.log) sent
       go true e =
-          let lt : s.low < number_of ms = ltb-true s.low (number_of ms) e in
-          let high : number_of ms ≡ max s.low (number_of ms) = omega (arith, lt) in
-          subst (λ (low : ℕ). P s.f s.me s.view low (certified s.log ms) sent) high (moves.install keys s.f s.me s.view s.low s.log sent ms kept lt is (good is))
+          let lt : s.low < c.number = ltb-true s.low c.number e in
+          let high : c.number ≡ max s.low c.number = omega (arith, lt) in
+          subst (λ (low : ℕ). P s.f s.me s.view low (certified s.log c) sent) high (moves.install keys s.f s.me s.view s.low s.log sent c kept lt is (good is))
       go false e =
-          let le : number_of ms ≤ s.low = ltb-false s.low (number_of ms) e in
-          let same : s.low ≡ max s.low (number_of ms) = omega (arith, le) in
+          let le : c.number ≤ s.low = ltb-false s.low c.number e in
+          let same : s.low ≡ max s.low c.number = omega (arith, le) in
           subst (λ (low : ℕ). P s.f s.me s.view low s.log sent) same kept
 
-  ordering_two : (h : Header) → h.tag ≡ 2 → is_ordering h ≡ true
-  ordering_two h two = rw two refl
+  taken_over_goes : (keys : Keys) (s : State) (sent : Log) (p : Signed model.PrePrepare) → Speaks Good keys s.f s.me → Keeps s sent → Handed Good s.f (as_message PrePrepare p)
+      → Goes s sent (taken_over keys s (as_message PrePrepare p))
+  taken_over_goes keys s sent p speaks kept good = unless_goes s sent (place_refusal s (header m)) (accepted keys s m) kept (λ none.
+      let can = placed s m none in
+      accepted_goes keys s sent m speaks kept can (good refl (can.led refl)))
+    where
+      m : Signed OrderMessage
+      m = as_message PrePrepare p
 
-  taken_over_goes : (keys : Keys) (s : State) (sent : Log) (m : Signed Message) → Speaks Good keys s.f s.me → Keeps s sent → Handed Good s.f m → Goes s sent (taken_over keys s m)
-  taken_over_goes keys s sent m speaks kept good = unless_goes s sent (handed_refusal s (header m)) (accepted keys s m) kept (λ none.
-      let t = turned (eqb (header m).tag 2) WrongKind (place_refusal s (header m)) none in
-      let two = eqb-true (header m).tag 2 t.0 in
-      let can = placed s m (ordering_two (header m) two) t.1 in
-      accepted_goes keys s sent m speaks kept can (good two (can.led two)))
-
-  all_taken_goes : (keys : Keys) (s : State) (sent ms : Log) → Speaks Good keys s.f s.me → Keeps s sent → All (Handed Good s.f) ms → Goes s sent (all_taken_over keys s ms)
+  all_taken_goes : (keys : Keys) (s : State) (sent : Log) (ps : List (Signed model.PrePrepare)) → Speaks Good keys s.f s.me → Keeps s sent → All (Handed Good s.f) (as_proposals ps)
+      → Goes s sent (all_taken_over keys s (as_proposals ps))
   all_taken_goes keys s sent [] speaks kept good = quiet_goes s s sent refl refl kept
-  all_taken_goes keys s sent (m ∷ ms) speaks kept good =
+  all_taken_goes keys s sent (p ∷ ps) speaks kept good =
+      let m = as_message PrePrepare p in
+      let ms = as_proposals ps in
       let first = taken_over keys s m in
       let rest = all_taken_over keys first.now ms in
-      let a = taken_over_goes keys s sent m speaks kept (All-head (Handed Good s.f) m ms good) in
+      let a = taken_over_goes keys s sent p speaks kept (All-head (Handed Good s.f) m ms good) in
       let speaks_on = subst (λ (f : ℕ). Speaks Good keys f first.now.me) (sym a.same_f) (subst (λ (me : ℕ). Speaks Good keys s.f me) (sym a.same_me) speaks) in
       let good_on = subst (λ (f : ℕ). All (Handed Good f) ms) (sym a.same_f) (All-tail (Handed Good s.f) m ms good) in
-      let b = all_taken_goes keys first.now (sent ++ first.sent) ms speaks_on a.kept good_on in
+      let b = all_taken_goes keys first.now (sent ++ first.sent) ps speaks_on a.kept good_on in
       record {
         same_f = b.same_f ∙ a.same_f;
         same_me = b.same_me ∙ a.same_me;
         kept = subst (λ (l : Log). Keeps rest.now l) (append_assoc sent first.sent rest.sent) b.kept;
       }
 
-  execution_goes : (s : State) (sent : Log) (o : Option (Signed Message)) → Keeps s sent → Goes s sent (execution s o)
+  execution_goes : (s : State) (sent : Log) (o : Option (Signed OrderMessage)) → Keeps s sent → Goes s sent (execution s o)
   execution_goes s sent None kept = quiet_goes s s sent refl refl kept
   execution_goes s sent (Some m) kept = quiet_goes s (record s { last = s.last + 1 }) sent refl refl kept
 
@@ -353,8 +357,8 @@ module _ (Good : Signed Message → Type 0) (P : Fact) (moves : Moves Good P) wh
   call_goes s sent (Proposes keys batch) kept fits = unless_goes s sent (proposal_refusal s) (proposed keys s batch) kept (λ none. proposal_goes keys s sent batch fits.1 kept (fits.0 none) none)
   call_goes s sent Executes kept fits = execution_goes s sent (next_order s) kept
   call_goes s sent (Checkpoints keys n d) kept fits = unless_goes s sent (checkpoint_refusal s n) (checkpointed keys s n d) kept (checkpoint_goes keys s sent n d fits kept)
-  call_goes s sent (Installs keys ms) kept fits = unless_goes s sent (install_refusal keys s ms) (installed s ms) kept (install_goes keys s sent ms kept fits)
+  call_goes s sent (Installs keys c) kept fits = unless_goes s sent (install_refusal keys s c) (installed s c) kept (install_goes keys s sent c kept fits)
   call_goes s sent (Leaves v) kept fits = unless_goes s sent (leaving_refusal s v) (left s v) kept (λ none. quiet_goes s (left s v).now sent refl refl kept)
-  call_goes s sent (Enters keys v n ms) kept fits = unless_goes s sent (entering_refusal s v) (entered keys s v n ms) kept (λ none.
-      let goes = all_taken_goes keys (opened s v n ms) sent ms fits.1 (moves.enter s.f s.me s.view v s.low s.log sent kept (later_view s v none)) fits.0 in
+  call_goes s sent (Enters keys v n ps) kept fits = unless_goes s sent (entering_refusal s v) (entered keys s v n ps) kept (λ none.
+      let goes = all_taken_goes keys (opened s v n ps) sent ps fits.1 (moves.enter s.f s.me s.view v s.low s.log sent kept (later_view s v none)) fits.0 in
       record { same_f = goes.same_f; same_me = goes.same_me; kept = goes.kept })

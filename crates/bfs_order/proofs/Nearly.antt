@@ -1,18 +1,18 @@
 -- One message more tells for one sender more at most.
 use Rattle.std.proofs.Common.{◌≡◌, ℕ, ◌+◌, ◌*◌, ◌≤◌, Bool, true, false, ◌&&◌, ◌||◌, inl, inr, eqb, leb, List, [], ◌∷◌, ◌++◌, refl, subst, ◌∙◌, arith}
 use Rattle.std.proofs.lemmas.Bool.{and_parts, eq-eqb, leb-true, leb-false, or_cases, or_left, or_right}
-use Rattle.bfs_agreement.specs.Votes.{count_below, is_stable, replicas, says, tellers, told}
-use Rattle.bfs_agreement.proofs.Public.{either_below, more, once_below}
+use Rattle.bfs_votes.specs.Votes.{count_below, is_stable, replicas, says, tellers, told}
+use Rattle.bfs_votes.proofs.Public.{either_below, more, once_below}
 use Rattle.bfs_log.specs.Headers.{header}
 use Rattle.bfs_log.specs.Logs.{Log, headers}
 use Rattle.bfs_messages.specs.declared.signed.Signed.{Signed}
-use Rattle.bfs_messages.specs.declared.message.Message.{Message}
+use Rattle.bfs_messages.specs.declared.order_messages.OrderMessage.{OrderMessage}
 use Rattle.bfs_order.specs.Replica.Accepting.{makes_stable}
 use Rattle.bfs_order.specs.Replica.Checkpoints.{OneMoreIsTooFew, is_nearly_stable}
 use Rattle.bfs_order.specs.Replica.States.{State, known, with_message}
 use Rattle.bfs_order.proofs.Telling.{says_is, told_cases}
 
-told_or_sent : (log : Log) (m : Signed Message) (t k v n : ℕ) (d : List ℕ) → told (headers (log ++ m ∷ [])) t k v n d ≡ true
+told_or_sent : (log : Log) (m : Signed OrderMessage) (t k v n : ℕ) (d : List ℕ) → told (headers (log ++ m ∷ [])) t k v n d ≡ true
     → (told (headers log) t k v n d || eqb (header m).sender k) ≡ true
 told_or_sent log m t k v n d e = elim (told_cases log (m ∷ []) t k v n d e) [
   | inl before ↦ or_left (told (headers log) t k v n d) (eqb (header m).sender k) before
@@ -23,7 +23,7 @@ told_or_sent log m t k v n d e = elim (told_cases log (m ∷ []) t k v n d e) [
 ]
 
 -- tellers of a log with one message more
-pub one_teller_more : (f : ℕ) (log : Log) (m : Signed Message) (t v n : ℕ) (d : List ℕ) → tellers f (headers (log ++ m ∷ [])) t v n d ≤ tellers f (headers log) t v n d + 1
+pub one_teller_more : (f : ℕ) (log : Log) (m : Signed OrderMessage) (t v n : ℕ) (d : List ℕ) → tellers f (headers (log ++ m ∷ [])) t v n d ≤ tellers f (headers log) t v n d + 1
 one_teller_more f log m t v n d =
     let wider = more (λ k. told (headers (log ++ m ∷ [])) t k v n d) (λ k. told (headers log) t k v n d || eqb (header m).sender k) (replicas f)
     (λ k e. told_or_sent log m t k v n d e) in

@@ -3,12 +3,12 @@ use Rattle.std.proofs.Common.{◌≡◌, ℕ, ◌<◌, Bool, true, false, ◌&&�
 use Rattle.std.specs.Prelude.{◌==◌}
 use Rattle.std.proofs.lemmas.Bool.{ne_eqb}
 use Rattle.bfs_auth.specs.Keys.{Keys}
-use Rattle.bfs_agreement.specs.Votes.{Header, has_slot}
+use Rattle.bfs_votes.specs.Votes.{Header, has_slot}
 use Rattle.bfs_log.specs.Headers.{header}
 use Rattle.bfs_log.specs.Logs.{greatest_proposed}
 use Rattle.bfs_messages.specs.Messages.{Batch}
 use Rattle.bfs_messages.specs.declared.signed.Signed.{Signed}
-use Rattle.bfs_messages.specs.declared.message.Message.{Message}
+use Rattle.bfs_messages.specs.declared.order_messages.OrderMessage.{OrderMessage}
 use Rattle.bfs_order.specs.Replica.Proposing.{next_number, proposal}
 use Rattle.bfs_order.specs.Replica.Refusals.{is_there}
 use Rattle.bfs_order.specs.Replica.States.{State, known}
@@ -30,6 +30,6 @@ none_above view sender n [] lt = refl
 none_above view sender n (h ∷ hs) lt =
     step (h.tag == 2) (h.sender == sender) (h.view == view) h.number (greatest_proposed view hs) n (has_slot hs 2 sender view n) lt (none_above view sender n hs)
 
-pub next_is_free : (keys : Keys) (s : State) (batch : Batch) (m : Signed Message) → m ≡ proposal keys s batch → is_there s (header m) ≡ false
+pub next_is_free : (keys : Keys) (s : State) (batch : Batch) (m : Signed OrderMessage) → m ≡ proposal keys s batch → is_there s (header m) ≡ false
 next_is_free keys s batch m e =
-    subst (λ (p : Signed Message). is_there s (header p) ≡ false) (sym e) (none_above s.view s.me (next_number s) (known s) (omega arith))
+    subst (λ (p : Signed OrderMessage). is_there s (header p) ≡ false) (sym e) (none_above s.view s.me (next_number s) (known s) (omega arith))

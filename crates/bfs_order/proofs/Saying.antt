@@ -2,19 +2,19 @@
 use Rattle.std.proofs.Common.{◌≡◌, ◌⊎◌, inl, inr, ℕ, ◌<◌, ◌≤◌, true, false, ltb, List, [], ◌∷◌, ◌++◌, refl, sym, subst, ◌∙◌, append_assoc, arith}
 use Rattle.std.proofs.lemmas.Bool.{or_cases, or_left, lt-ltb, cases_lt}
 use Rattle.std.proofs.lemmas.List.{append-nil}
-use Rattle.bfs_agreement.specs.Votes.{Header, SlotsDiffer, is_taken, says, told, Told, primary}
+use Rattle.bfs_votes.specs.Votes.{Header, SlotsDiffer, is_taken, says, told, Told, primary}
 use Rattle.bfs_log.specs.Headers.{header}
 use Rattle.bfs_log.specs.Logs.{Log, headers, stays, kept_after}
 use Rattle.bfs_log.proofs.Public.{differ_pushed, differ_kept}
 use Rattle.bfs_messages.specs.declared.signed.Signed.{Signed}
-use Rattle.bfs_messages.specs.declared.message.Message.{Message}
-use Rattle.bfs_order.specs.Replica.Installing.{number_of, digest_of}
+use Rattle.bfs_messages.specs.declared.order_messages.OrderMessage.{OrderMessage}
+use Rattle.bfs_log.specs.Certificates.{checkpoints_in}
 use Rattle.bfs_order.specs.Replica.States.{State, fresh}
 use Rattle.bfs_order.specs.Laws.Calls.{Call, outcome, after, sent_by, IsSameReplica}
 use Rattle.bfs_order.specs.Laws.Sent.{SpeaksForItself, SaysOneDigest, KeepsWhatItSaid}
 use Rattle.bfs_order.proofs.Telling.{says_is, told_cases, told_left, told_right, one_is, slot_not_told, found_kept}
 use Rattle.bfs_order.proofs.Moving.{Fact, Moves, CanTake, IsOwn, call_goes}
-use Rattle.bfs_order.proofs.Certifying.{each_keeps}
+use Rattle.bfs_order.proofs.Putting.{each_keeps}
 use Rattle.bfs_order.proofs.KeptLogs.{Anything, fits_anything, same_replica}
 
 record Said (f me low : ℕ) (log sent : Log) : Type 0 where
@@ -57,7 +57,7 @@ single (h ∷ hs) t k v n d e differ x y =
     go later (inr a) (inr b) = later a b
 
 -- what is told or no longer above the low mark, in a log that has more
-still : (low : ℕ) (log : Log) (m : Signed Message) (t k v n : ℕ) (d : List ℕ) → (n ≤ low) ⊎ Told (headers log) t k v n d → (n ≤ low) ⊎ Told (headers (log ++ m ∷ [])) t k v n d
+still : (low : ℕ) (log : Log) (m : Signed OrderMessage) (t k v n : ℕ) (d : List ℕ) → (n ≤ low) ⊎ Told (headers log) t k v n d → (n ≤ low) ⊎ Told (headers (log ++ m ∷ [])) t k v n d
 still low log m t k v n d (inl le) = inl le
 still low log m t k v n d (inr x) = inr (told_left log (m ∷ []) t k v n d x)
 
@@ -75,7 +75,7 @@ left_over low number digest log t k v n d rises (inr x) = go (cases_lt number n)
     go (inr le) = inl le
 
 -- a message of another sender
-free_said : (f me low : ℕ) (sent log : Log) (m : Signed Message) → Said f me low log sent → is_taken (headers log) (header m) ≡ false → Said f me low (log ++ m ∷ []) sent
+free_said : (f me low : ℕ) (sent log : Log) (m : Signed OrderMessage) → Said f me low log sent → is_taken (headers log) (header m) ≡ false → Said f me low (log ++ m ∷ []) sent
 free_said f me low sent log m said free = record {
   slots = differ_pushed log m said.slots free;
   names = said.names;
@@ -85,7 +85,7 @@ free_said f me low sent log m said free = record {
 }
 
 -- one of its own
-say_said : (f me view low : ℕ) (log sent : Log) (m : Signed Message) → Said f me low log sent → CanTake f view low log m → IsOwn f me log m → Said f me low (log ++ m ∷ []) (sent ++ m ∷ [])
+say_said : (f me view low : ℕ) (log sent : Log) (m : Signed OrderMessage) → Said f me low log sent → CanTake f view low log m → IsOwn f me log m → Said f me low (log ++ m ∷ []) (sent ++ m ∷ [])
 say_said f me view low log sent m said can own = record {
   slots = slots;
   names = λ t k v n d x. name t k v n d (told_cases sent (m ∷ []) t k v n d x);
@@ -148,9 +148,9 @@ said_move = record {
   say = λ f me view low log sent m said can own good. say_said f me view low log sent m said can own;
   settle = λ f me view low log sent n d said above is. raise_said f me low log sent n d said above;
   enter = λ f me view later low log sent kept above. kept;
-  install = λ keys f me view low log sent ms said above is good.
-      each_keeps (λ l. Said f me (number_of ms) l sent) Anything (λ l m kept any free. free_said f me (number_of ms) sent l m kept free) (kept_after (number_of ms) (digest_of ms) log) ms good
-      (raise_said f me low log sent (number_of ms) (digest_of ms) said above);
+  install = λ keys f me view low log sent c said above is good.
+      each_keeps (λ l. Said f me c.number l sent) Anything (λ l m kept any free. free_said f me c.number sent l m kept free) (kept_after c.number c.digest log) (checkpoints_in c) good
+      (raise_said f me low log sent c.number c.digest said above);
 }
 
 abbrev SaidIn : State → Log → Type 0

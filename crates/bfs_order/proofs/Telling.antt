@@ -6,11 +6,11 @@ use Rattle.std.proofs.lemmas.Bool.{and_parts, and_from, or_cases, or_left, or_ri
 use Rattle.std.proofs.lemmas.List.{map-append}
 use Rattle.std.proofs.lemmas.List.Folds.{list_any-append}
 use Rattle.std.proofs.lemmas.Slice.Eq.{bytes_eq-Decides}
-use Rattle.bfs_agreement.specs.Votes.{Header, is_slot, has_slot, says, told, Told}
+use Rattle.bfs_votes.specs.Votes.{Header, is_slot, has_slot, says, told, Told}
 use Rattle.bfs_log.specs.Headers.{header}
 use Rattle.bfs_log.specs.Logs.{Log, headers}
 use Rattle.bfs_messages.specs.declared.signed.Signed.{Signed}
-use Rattle.bfs_messages.specs.declared.message.Message.{Message}
+use Rattle.bfs_messages.specs.declared.order_messages.OrderMessage.{OrderMessage}
 
 -- what a header says, field by field
 pub record Is (h : Header) (t k v n : ℕ) (d : List ℕ) : Type 0 where
@@ -59,10 +59,10 @@ or_nothing true = refl
 or_nothing false = refl
 
 -- one message
-pub one_is : (m : Signed Message) (t k v n : ℕ) (d : List ℕ) → Told (headers (m ∷ [])) t k v n d → Is (header m) t k v n d
+pub one_is : (m : Signed OrderMessage) (t k v n : ℕ) (d : List ℕ) → Told (headers (m ∷ [])) t k v n d → Is (header m) t k v n d
 one_is m t k v n d e = says_is (header m) t k v n d (sym (or_nothing (says t k v n d (header m))) ∙ e)
 
-pub is_one : (m : Signed Message) (t k v n : ℕ) (d : List ℕ) → Is (header m) t k v n d → Told (headers (m ∷ [])) t k v n d
+pub is_one : (m : Signed OrderMessage) (t k v n : ℕ) (d : List ℕ) → Is (header m) t k v n d → Told (headers (m ∷ [])) t k v n d
 is_one m t k v n d i = or_left (says t k v n d (header m)) false (is_said (header m) t k v n d i)
 
 -- who tells a digest takes the place

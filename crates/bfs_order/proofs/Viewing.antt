@@ -3,16 +3,17 @@ use Rattle.std.proofs.Common.{◌⊎◌, inl, inr, ℕ, ◌<◌, ◌≤◌, leb,
 use Rattle.std.specs.Prelude.{All}
 use Rattle.std.proofs.lemmas.Bool.{and_parts, leb-true, cases_lt}
 use Rattle.std.proofs.lemmas.List.Elements.{All-nil, All-weaker}
-use Rattle.bfs_agreement.specs.Votes.{Header}
+use Rattle.bfs_votes.specs.Votes.{Header}
 use Rattle.bfs_log.specs.Headers.{header}
 use Rattle.bfs_log.specs.Logs.{Log, headers, stays, kept_after}
 use Rattle.bfs_messages.specs.declared.signed.Signed.{Signed}
-use Rattle.bfs_messages.specs.declared.message.Message.{Message}
-use Rattle.bfs_order.specs.Replica.Installing.{number_of, digest_of}
+use Rattle.bfs_messages.specs.declared.order_messages.OrderMessage.{OrderMessage}
+use Rattle.bfs_log.specs.Certificates.{checkpoints_in}
 use Rattle.bfs_order.specs.Laws.Calls.{IsKept, IsAlways}
 use Rattle.bfs_order.specs.Laws.Logs.{HasNoLaterView}
 use Rattle.bfs_order.proofs.Moving.{Fact, Moves, CanTake, call_goes}
-use Rattle.bfs_order.proofs.Certifying.{IsVoucher, vouched, each_keeps}
+use Rattle.bfs_log.proofs.Public.{IsVoucher, vouched}
+use Rattle.bfs_order.proofs.Putting.{each_keeps}
 use Rattle.bfs_order.proofs.KeptLogs.{Anything, fits_anything, always, all_more, all_kept, no_view}
 
 abbrev IsNoLater : (view : ℕ) → Header → Type 0
@@ -22,7 +23,7 @@ abbrev Views : Fact
 Views f me view low log sent = All (IsNoLater view) (headers log)
 
 -- a CHECKPOINT has no view
-can_no_later : (f view low : ℕ) (log : Log) (m : Signed Message) → CanTake f view low log m → (header m).view ≤ view
+can_no_later : (f view low : ℕ) (log : Log) (m : Signed OrderMessage) → CanTake f view low log m → (header m).view ≤ view
 can_no_later f view low log m can = go (cases_lt (header m).tag 5)
   where
     most : (header m).tag ≤ 5
@@ -41,10 +42,10 @@ views_move = record {
   say = λ f me view low log sent m kept can own good. all_more (IsNoLater view) log m kept (can_no_later f view low log m can);
   settle = λ f me view low log sent n d kept above is. left_no_later view n d log kept;
   enter = λ f me view later low log sent kept above. All-weaker (IsNoLater view) (IsNoLater later) (λ h is. omega (arith, is, above)) (headers log) kept;
-  install = λ keys f me view low log sent ms kept above is good.
-      each_keeps (λ l. All (IsNoLater view) (headers l)) (IsVoucher keys f (number_of ms) (digest_of ms))
+  install = λ keys f me view low log sent c kept above is good.
+      each_keeps (λ l. All (IsNoLater view) (headers l)) (IsVoucher keys f c.number c.digest)
       (λ l m all is free. all_more (IsNoLater view) l m all (omega (arith, no_view m.message is.tag)))
-      (kept_after (number_of ms) (digest_of ms) log) ms (vouched keys f ms is).each (left_no_later view (number_of ms) (digest_of ms) log kept);
+      (kept_after c.number c.digest log) (checkpoints_in c) (vouched keys f c is).each (left_no_later view c.number c.digest log kept);
 }
 
 pub views_kept : IsKept HasNoLaterView

@@ -4,15 +4,15 @@ use Rattle.std.specs.Prelude.{All}
 use Rattle.std.proofs.lemmas.Bool.{and_parts, or_cases, or_left, or_right, eqb-true, eq-eqb, le-leb, not-true, false_from_ne_true}
 use Rattle.std.proofs.lemmas.List.Elements.{All-head, All-tail, All-weaker}
 use Rattle.bfs_auth.specs.Keys.{Keys}
-use Rattle.bfs_agreement.specs.Votes.{SlotsDiffer, has_slot, is_slot, is_taken, replicas, tellers, Told, told, says}
+use Rattle.bfs_votes.specs.Votes.{SlotsDiffer, has_slot, is_slot, is_taken, replicas, tellers, Told, told, says}
 use Rattle.bfs_log.specs.Headers.{header}
 use Rattle.bfs_log.specs.Logs.{Log, headers}
-use Rattle.bfs_order.proofs.Certifying.{IsVoucher, senders_counted, vouched}
+use Rattle.bfs_log.proofs.Public.{IsVoucher, senders_counted, vouched}
 use Rattle.bfs_order.proofs.KeptLogs.{no_view}
 use Rattle.bfs_order.proofs.Telling.{is_said, slot_is}
-use Rattle.bfs_order.specs.Laws.Certificates.{CertificatesMakeStable, IsCheckpointOf}
-use Rattle.bfs_order.specs.Replica.Installing.{digest_of, has_sender, number_of, senders_differ}
-use Rattle.bfs_agreement.proofs.Public.{more}
+use Rattle.bfs_order.specs.Laws.Certificates.{CertificatesMakeStable}
+use Rattle.bfs_log.specs.Certificates.{IsCheckpointOf, checkpoints_in, has_sender, senders_differ}
+use Rattle.bfs_votes.proofs.Public.{more}
 
 -- each sender tells it
 sender_tells : (keys : Keys) (f n : ℕ) (d : List ℕ) (ms : Log) → All (IsVoucher keys f n d) ms → (k : ℕ) → has_sender ms k ≡ true → Told (headers ms) 5 k 0 n d
@@ -50,10 +50,11 @@ slots_differ (m ∷ ms) e =
         (λ taken. let sent = slot_sent ms (header m).tag (header m).sender (header m).view (header m).number taken in absurd (cc (none, sent)))
 
 pub makes_stable : CertificatesMakeStable
-makes_stable keys f ms e =
-    let is = vouched keys f ms e in
-    let n = number_of ms in
-    let d = digest_of ms in
+makes_stable keys f c e =
+    let is = vouched keys f c e in
+    let ms = checkpoints_in c in
+    let n = c.number in
+    let d = c.digest in
     let enough = is.enough in
     let counted = senders_counted (replicas f) ms (All-weaker (IsVoucher keys f n d) (λ m. (header m).sender < replicas f) (λ m v. v.sender) ms is.each) is.differ in
     let most = more (has_sender ms) (λ k. told (headers ms) 5 k 0 n d) (replicas f) (λ k sent. sender_tells keys f n d ms is.each k sent) in

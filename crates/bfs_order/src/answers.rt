@@ -1,7 +1,8 @@
 // What a replica answers to a message that it accepts: messages of its own, which stand in its log too.
 ghost use Rattle.std.specs.Prelude.{◌≡◌, ◌<◌, ◌++◌, false, IfOk, OnOk, OnErr};
-ghost use Rattle.bfs_agreement.specs.Votes.{prepared};
+ghost use Rattle.bfs_votes.specs.Votes.{prepared};
 ghost use Rattle.bfs_log.specs.Headers.{header, message_header};
+ghost use Rattle.bfs_log.specs.Logs.{as_messages};
 ghost use Rattle.bfs_order.specs.Inside.Asking.{asked_answers, asked_settled};
 ghost use Rattle.bfs_order.specs.Replica.Accepting.{accepted};
 ghost use Rattle.bfs_order.specs.Replica.Answers.{commits_in, own_vote, prepares_in, said_once, votes_in};
@@ -12,29 +13,28 @@ ghost use Rattle.bfs_model.specs.Server.Limits.{most_replicas};
 use crate::asking::{Asked, asked_by};
 use crate::order::Order;
 use bfs_auth::Keys;
-use bfs_log::header_of;
-use bfs_messages::{Message, Signed, Vote, sign};
-use bfs_types::Memory;
+use bfs_messages::{Message, OrderMessage, Signed, Vote, sign_order};
+use bfs_types::{Memory, TryClone};
 
 impl Order {
     // Signs a message of its own, and puts it in the log and among what is sent, unless it has said one of that kind there.
     fn say_once(
         &mut self,
         keys: &Keys,
-        message: Message,
+        message: OrderMessage,
         sent: &mut Vec<Signed<Message>>,
     ) -> Result<(), Memory>
         requires { (message_header message).sender ≡ self.old.me }
         ensures now { OnOk result (self.new ≡ with_more self.old (said_once keys.now self.old message)) }
-        ensures sent { OnOk result (sent.new.items ≡ sent.old.items ++ said_once keys.now self.old message) }
+        ensures sent { OnOk result (sent.new.items ≡ sent.old.items ++ as_messages (said_once keys.now self.old message)) }
         ensures err { OnErr result (self.new ≡ self.old) }
     {
-        if self.is_there(&header_of(&message)) {
+        if self.is_there(&message) {
             return Ok(());
         }
-        let signed = sign(self.alloc, keys, message)?;
+        let signed = sign_order(self.alloc, keys, message)?;
         let kept = signed.try_clone(self.alloc)?;
-        sent.push(signed)?;
+        sent.push(signed.into_message())?;
         self.log.push(kept)
     }
 
@@ -45,14 +45,14 @@ impl Order {
         sent: &mut Vec<Signed<Message>>,
     ) -> Result<(), Memory>
         ensures now { OnOk result (self.new ≡ with_more self.old (prepares_in keys.now self.old vote.now.view vote.now.number vote.now.digest)) }
-        ensures sent { OnOk result (sent.new.items ≡ sent.old.items ++ prepares_in keys.now self.old vote.now.view vote.now.number vote.now.digest) }
+        ensures sent { OnOk result (sent.new.items ≡ sent.old.items ++ as_messages (prepares_in keys.now self.old vote.now.view vote.now.number vote.now.digest)) }
         ensures err { OnErr result (self.new ≡ self.old) }
     {
         if self.me == self.leader(vote.view()) {
             return Ok(());
         }
         let own = self.own_vote(vote);
-        self.say_once(keys, Message::Prepare(own), sent)
+        self.say_once(keys, OrderMessage::Prepare(own), sent)
     }
 
     pub(crate) fn add_commit(
@@ -62,14 +62,14 @@ impl Order {
         sent: &mut Vec<Signed<Message>>,
     ) -> Result<(), Memory>
         ensures now { OnOk result (self.new ≡ with_more self.old (commits_in keys.now self.old vote.now.view vote.now.number vote.now.digest)) }
-        ensures sent { OnOk result (sent.new.items ≡ sent.old.items ++ commits_in keys.now self.old vote.now.view vote.now.number vote.now.digest) }
+        ensures sent { OnOk result (sent.new.items ≡ sent.old.items ++ as_messages (commits_in keys.now self.old vote.now.view vote.now.number vote.now.digest)) }
         ensures err { OnErr result (self.new ≡ self.old) }
     {
         if !self.is_prepared(vote) {
             return Ok(());
         }
         let own = self.own_vote(vote);
-        self.say_once(keys, Message::Commit(own), sent)
+        self.say_once(keys, OrderMessage::Commit(own), sent)
     }
 
     // The same from this replica.
@@ -94,7 +94,7 @@ impl Order {
         sent: &mut Vec<Signed<Message>>,
     ) -> Result<(), Memory>
         ensures now { OnOk result (self.new ≡ with_more self.old (votes_in keys.now self.old vote.now.view vote.now.number vote.now.digest)) }
-        ensures sent { OnOk result (sent.new.items ≡ sent.old.items ++ votes_in keys.now self.old vote.now.view vote.now.number vote.now.digest) }
+        ensures sent { OnOk result (sent.new.items ≡ sent.old.items ++ as_messages (votes_in keys.now self.old vote.now.view vote.now.number vote.now.digest)) }
         ensures err { OnErr result (self.new ≡ self.old) }
     {
         let before = self.log.messages().len();
@@ -113,7 +113,7 @@ impl Order {
         sent: &mut Vec<Signed<Message>>,
     ) -> Result<(), Memory>
         ensures now { OnOk result (self.new ≡ with_more self.old (asked_answers keys.now self.old asked.now)) }
-        ensures sent { OnOk result (sent.new.items ≡ sent.old.items ++ asked_answers keys.now self.old asked.now) }
+        ensures sent { OnOk result (sent.new.items ≡ sent.old.items ++ as_messages (asked_answers keys.now self.old asked.now)) }
         ensures err { OnErr result (self.new ≡ self.old) }
     {
         match asked {
@@ -127,13 +127,13 @@ impl Order {
     fn add_with_answers(
         &mut self,
         keys: &Keys,
-        signed: Signed<Message>,
+        signed: Signed<OrderMessage>,
         asked: &Asked,
     ) -> Result<Vec<Signed<Message>>, Memory>
         requires free { is_there self.old (header signed) ≡ false }
         requires sender { (header signed).sender < most_replicas }
         ensures now { OnOk result (self.new ≡ with_more (with_message self.old signed) (asked_answers keys.now (with_message self.old signed) asked.now)) }
-        ensures sent { IfOk result (λ sent. sent.items ≡ asked_answers keys.now (with_message self.old signed) asked.now) }
+        ensures sent { IfOk result (λ sent. sent.items ≡ as_messages (asked_answers keys.now (with_message self.old signed) asked.now)) }
         ensures err { OnErr result (self.new ≡ self.old) }
     {
         let mut sent = Vec::new(self.alloc);
@@ -151,12 +151,12 @@ impl Order {
     pub fn accept(
         &mut self,
         keys: &Keys,
-        signed: Signed<Message>,
+        signed: Signed<OrderMessage>,
     ) -> Result<Vec<Signed<Message>>, Memory>
         requires free { is_there self.old (header signed) ≡ false }
         requires sender { (header signed).sender < most_replicas }
         ensures now { OnOk result (self.new ≡ (accepted keys.now self.old signed).now) }
-        ensures sent { IfOk result (λ sent. sent.items ≡ (accepted keys.now self.old signed).sent) }
+        ensures sent { IfOk result (λ sent. sent.items ≡ as_messages ((accepted keys.now self.old signed).sent)) }
         ensures err { OnErr result (self.new ≡ self.old) }
     {
         let asked = asked_by(&signed.message);

@@ -1,7 +1,7 @@
 ghost use Rattle.bfs_log.specs.Headers.{message_header};
 ghost use Rattle.bfs_order.specs.Inside.Asking.{Asks};
 
-use bfs_messages::{Checkpoint, Message, Vote};
+use bfs_messages::{Checkpoint, OrderMessage, Vote};
 
 /// What an accepted message asks for.
 #[derive(Drop)]
@@ -15,13 +15,13 @@ pub(crate) enum Asked {
     Nothing,
 }
 
-pub(crate) fn asked_by(message: &Message) -> Asked
+pub(crate) fn asked_by(message: &OrderMessage) -> Asked
     ensures { Asks result (message_header message.now) }
 {
     match message {
-        Message::PrePrepare(proposal) => Asked::Proposal(*proposal.vote()),
-        Message::Prepare(vote) => Asked::Prepared(*vote),
-        Message::Checkpoint(checkpoint) => Asked::Stable(*checkpoint),
-        _ => Asked::Nothing,
+        OrderMessage::PrePrepare(proposal) => Asked::Proposal(*proposal.vote()),
+        OrderMessage::Prepare(vote) => Asked::Prepared(*vote),
+        OrderMessage::Checkpoint(checkpoint) => Asked::Stable(*checkpoint),
+        OrderMessage::Commit(_) => Asked::Nothing,
     }
 }

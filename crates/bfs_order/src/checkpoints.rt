@@ -9,8 +9,8 @@ use crate::error::OrderError;
 use crate::order::Order;
 use bfs_auth::Keys;
 use bfs_log::Slot;
-use bfs_messages::{CHECKPOINT_TAG, Checkpoint, Message, Signed, sign};
-use bfs_types::MOST_NUMBER;
+use bfs_messages::{CHECKPOINT_TAG, Checkpoint, OrderMessage, Signed, sign_order};
+use bfs_types::{MOST_NUMBER, TryClone};
 
 impl Order {
     /// Raises the low mark, and drops what stands up to it, where enough replicas tell that a checkpoint is stable.
@@ -31,7 +31,7 @@ impl Order {
     }
 
     /// Whether one more CHECKPOINT of that number and digest may make it stable: 2f replicas have told it. It takes no memory.
-    pub fn is_nearly_stable(&self, number: u64, digest: &[u8]) -> bool
+    pub fn is_nearly_stable(&self, number: u64, digest: &[u8; 32]) -> bool
         ensures value { result ≡ is_nearly_stable self.now number digest.now }
         ensures only { result ≡ false → OneMoreIsTooFew self.now number digest.now }
     {
@@ -68,7 +68,7 @@ impl Order {
         keys: &Keys,
         number: u64,
         digest: [u8; 32],
-    ) -> Result<Signed<Message>, OrderError>
+    ) -> Result<Signed<OrderMessage>, OrderError>
         ensures taken { OnOk result (checkpoint_refusal self.old number ≡ None) }
         ensures now { OnOk result (self.new ≡ (checkpointed keys.now self.old number digest).now) }
         ensures sent { IfOk result (λ sent. sent ≡ checkpoint keys.now self.old number digest) }
@@ -81,7 +81,7 @@ impl Order {
         }
         let own = Checkpoint::new(self.me, number, digest);
         let asked = Asked::Stable(own);
-        let sent = sign(self.alloc, keys, Message::Checkpoint(own))?;
+        let sent = sign_order(self.alloc, keys, OrderMessage::Checkpoint(own))?;
         self.log.push(sent.try_clone(self.alloc)?)?;
         self.settle(&asked);
         Ok(sent)

@@ -9,9 +9,6 @@ use thiserror::Error;
 /// Why a call on the order of one replica is refused. Nothing has changed then.
 #[derive(Clone, Copy, Debug, PartialEq, Eq, Error)]
 pub enum OrderError {
-    /// The message is no PRE-PREPARE, PREPARE, COMMIT or CHECKPOINT.
-    #[error("the message is not one of the order")]
-    WrongKind,
     /// Its authenticator, or that of a request in its batch, is not the sender's, or the sender is no replica.
     #[error("the authenticator is not the sender's")]
     BadAuthenticator,
@@ -44,7 +41,6 @@ impl OrderError {
         ensures { result ≡ code_of self }
     {
         match self {
-            OrderError::WrongKind => 36,
             OrderError::BadAuthenticator => 24,
             OrderError::WrongView => 25,
             OrderError::OutsideMarks => 26,

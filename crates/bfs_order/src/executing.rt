@@ -1,11 +1,11 @@
 // The next batch to be executed.
 ghost use Rattle.std.specs.Prelude.{◌≡◌, ◌+◌, None, Some, if◌then◌else◌};
 ghost use Rattle.std.specs.Option.{option_map};
-ghost use Rattle.bfs_agreement.specs.Votes.{committed, primary};
+ghost use Rattle.bfs_votes.specs.Votes.{committed, primary};
 ghost use Rattle.bfs_log.specs.Logs.{said_of};
 ghost use Rattle.bfs_order.specs.Replica.Executing.{executed, next_committed};
 ghost use Rattle.bfs_order.specs.Replica.States.{known};
-ghost use Rattle.bfs_agreement.specs.Tags.{pre_prepare_tag};
+ghost use Rattle.bfs_votes.specs.Tags.{pre_prepare_tag};
 
 use crate::order::Order;
 use bfs_log::{Committed, Said, Slot};

@@ -1,6 +1,6 @@
 ghost use Rattle.std.specs.Prelude.{◌≡◌, ◌≢◌, ◌<◌, ◌≤◌, ◌+◌, ◌*◌, ◌^◌, None, Some, IfOk, IfErr, OnOk, OnErr};
-ghost use Rattle.bfs_agreement.specs.Votes.{SlotsDiffer};
-ghost use Rattle.bfs_log.specs.Logs.{headers};
+ghost use Rattle.bfs_votes.specs.Votes.{SlotsDiffer};
+ghost use Rattle.bfs_log.specs.Logs.{as_messages, headers};
 ghost use Rattle.bfs_pending.specs.Passed.{HavePassed};
 ghost use Rattle.bfs_order.specs.Replica.Accepting.{accepted};
 ghost use Rattle.bfs_order.specs.Replica.Refusals.{refusal};
@@ -11,7 +11,7 @@ ghost use Rattle.bfs_model.specs.Server.Limits.{log_size, most_faults, most_numb
 use crate::error::OrderError;
 use bfs_auth::Keys;
 use bfs_log::Log;
-use bfs_messages::{Message, Signed};
+use bfs_messages::{Message, OrderMessage, Signed};
 use bfs_pending::PendingRequests;
 use bfs_types::LOG_SIZE;
 use std::alloc::Global;
@@ -124,7 +124,7 @@ impl Order {
 
     /// The messages that were accepted and not dropped, its own among them, in the order in which they came. No two of them are of one
     /// kind, sender, view and number.
-    pub fn log(&self) -> &[Signed<Message>]
+    pub fn log(&self) -> &[Signed<OrderMessage>]
         ensures value { result.now ≡ self.now.log }
         ensures differ { SlotsDiffer (headers self.now.log) }
     {
@@ -132,8 +132,8 @@ impl Order {
         self.log.messages()
     }
 
-    /// Takes a message that came, and gives what is to be sent to all other replicas. It is refused, in this order: `WrongKind`,
-    /// `BadAuthenticator`, `WrongView`, `OutsideMarks`, `NotPrimary`, `Conflicting`, `AlreadyHave`, `Memory`. Nothing changes then.
+    /// Takes a message that came, and gives what is to be sent to all other replicas. It is refused, in this order: `BadAuthenticator`,
+    /// `WrongView`, `OutsideMarks`, `NotPrimary`, `Conflicting`, `AlreadyHave`, `Memory`. Nothing changes then.
     ///
     /// Requests that have passed are not hashed again where a batch has them: that saves time, and changes no answer.
     pub fn on_message(
@@ -141,12 +141,12 @@ impl Order {
         rt: &(impl Threads + Sync),
         keys: &Keys,
         passed: &PendingRequests,
-        signed: Signed<Message>,
+        signed: Signed<OrderMessage>,
     ) -> Result<Vec<Signed<Message>>, OrderError>
         requires { HavePassed keys.now passed.now }
         ensures taken { OnOk result (refusal keys.now self.old signed ≡ None) }
         ensures now { OnOk result (self.new ≡ (accepted keys.now self.old signed).now) }
-        ensures sent { IfOk result (λ sent. sent.items ≡ (accepted keys.now self.old signed).sent) }
+        ensures sent { IfOk result (λ sent. sent.items ≡ as_messages (accepted keys.now self.old signed).sent) }
         ensures refused { IfErr result (λ e. e ≢ error.Memory → refusal keys.now self.old signed ≡ Some e) }
         ensures memory { IfErr result (λ e. e ≡ error.Memory → refusal keys.now self.old signed ≡ None) }
         ensures err { OnErr result (self.new ≡ self.old) }

@@ -10,8 +10,8 @@ ghost use Rattle.bfs_model.specs.Server.Limits.{most_replicas};
 use crate::error::OrderError;
 use crate::order::Order;
 use bfs_auth::Keys;
-use bfs_messages::{HashedBatch, Message, PrePrepare, Signed, Vote, sign};
-use bfs_types::{LOG_SIZE, MOST_NUMBER, Memory};
+use bfs_messages::{HashedBatch, OrderMessage, PrePrepare, Signed, Vote, sign_order};
+use bfs_types::{LOG_SIZE, MOST_NUMBER, Memory, TryClone};
 
 impl Order {
     fn greatest_taken(&self) -> u64
@@ -60,7 +60,7 @@ impl Order {
         &mut self,
         keys: &Keys,
         batch: HashedBatch,
-    ) -> Result<Signed<Message>, OrderError>
+    ) -> Result<Signed<OrderMessage>, OrderError>
         ensures taken { OnOk result (proposal_refusal self.old ≡ None) }
         ensures now { OnOk result (self.new ≡ (proposed keys.now self.old batch).now) }
         ensures sent { IfOk result (λ sent. sent ≡ proposal keys.now self.old batch) }
@@ -73,7 +73,7 @@ impl Order {
         }
         let own = self.own_proposal(batch);
         let vote = *own.vote();
-        let sent = sign(self.alloc, keys, Message::PrePrepare(own))?;
+        let sent = sign_order(self.alloc, keys, OrderMessage::PrePrepare(own))?;
         self.add_proposal(keys, sent.try_clone(self.alloc)?, &vote)?;
         Ok(sent)
     }
@@ -82,7 +82,7 @@ impl Order {
     fn add_proposal(
         &mut self,
         keys: &Keys,
-        signed: Signed<Message>,
+        signed: Signed<OrderMessage>,
         vote: &Vote,
     ) -> Result<(), Memory>
         requires free { is_there self.old (header signed) ≡ false }

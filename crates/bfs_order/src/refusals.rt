@@ -1,19 +1,21 @@
 // Why a message is not taken.
 ghost use Rattle.std.specs.Prelude.{◌≡◌, ◌≢◌, ◌<◌, ◌==◌, ◌&&◌, not, true, false, IfNone, IfSome};
-ghost use Rattle.bfs_log.specs.Headers.{header};
-ghost use Rattle.bfs_agreement.specs.Votes.{primary};
+ghost use Rattle.bfs_log.specs.Headers.{header, message_header};
+ghost use Rattle.bfs_votes.specs.Votes.{primary};
 ghost use Rattle.bfs_messages.specs.Signing.{carried_are_signed};
 ghost use Rattle.bfs_pending.specs.Passed.{HavePassed};
-ghost use Rattle.bfs_order.specs.Replica.Refusals.{conflicts, is_authentic, is_between, is_inside, is_of_view, is_ordering, is_there, place_refusal, refusal};
+ghost use Rattle.bfs_order.specs.Replica.Refusals.{conflicts, is_authentic, is_between, is_inside, is_of_view, is_there, place_refusal, refusal};
 ghost use Rattle.bfs_order.specs.declared.error.OrderError.TheVariants as error;
-ghost use Rattle.bfs_agreement.specs.Tags.{pre_prepare_tag};
+ghost use Rattle.bfs_votes.specs.Tags.{pre_prepare_tag};
 ghost use Rattle.bfs_model.specs.Server.Limits.{most_replicas};
 
 use crate::error::OrderError;
 use crate::order::Order;
 use bfs_auth::Keys;
-use bfs_log::{Header, Slot, header_of, primary_of};
-use bfs_messages::{CHECKPOINT_TAG, Message, PRE_PREPARE_TAG, PREPARE_TAG, Signed, is_signed};
+use bfs_log::{Slot, primary_of};
+use bfs_messages::{
+    CHECKPOINT_TAG, OrderMessage, PRE_PREPARE_TAG, PREPARE_TAG, Signed, is_order_signed,
+};
 use bfs_pending::PendingRequests;
 use bfs_types::{CHECKPOINT_INTERVAL, LOG_SIZE};
 use std::thread::Threads;
@@ -25,27 +27,27 @@ impl Order {
         self.low < number && number <= self.low + LOG_SIZE as u64
     }
 
-    fn is_inside(&self, header: &Header<'_>) -> bool
-        ensures { result ≡ is_inside self.now header.now }
+    fn is_inside(&self, message: &OrderMessage) -> bool
+        ensures { result ≡ is_inside self.now (message_header message.now) }
     {
-        self.is_between(header.number)
-            && if header.tag == CHECKPOINT_TAG {
-                header.number % CHECKPOINT_INTERVAL == 0
+        self.is_between(message.number())
+            && if message.tag() == CHECKPOINT_TAG {
+                message.number() % CHECKPOINT_INTERVAL == 0
             } else {
-                self.min_s < header.number
+                self.min_s < message.number()
             }
     }
 
-    fn is_of_view(&self, header: &Header<'_>) -> bool
-        ensures { result ≡ is_of_view self.now header.now }
+    fn is_of_view(&self, message: &OrderMessage) -> bool
+        ensures { result ≡ is_of_view self.now (message_header message.now) }
     {
-        header.tag == CHECKPOINT_TAG || (header.view == self.view && self.asked <= self.view)
+        message.tag() == CHECKPOINT_TAG || (message.view() == self.view && self.asked <= self.view)
     }
 
-    pub(crate) fn is_there(&self, header: &Header<'_>) -> bool
-        ensures { result ≡ is_there self.now header.now }
+    pub(crate) fn is_there(&self, message: &OrderMessage) -> bool
+        ensures { result ≡ is_there self.now (message_header message.now) }
     {
-        self.log.has(slot_of(header))
+        self.log.has(Slot::of(message))
     }
 
     // The primary of a view.
@@ -58,42 +60,42 @@ impl Order {
     }
 
     // A PRE-PREPARE is the primary's.
-    fn is_led(&self, header: &Header<'_>) -> bool
-        ensures value { result ≡ not ((header.now.tag == pre_prepare_tag) && not (header.now.sender == primary self.now.f header.now.view)) }
-        ensures few { result ≡ true → header.now.tag ≡ pre_prepare_tag → header.now.sender < most_replicas }
+    fn is_led(&self, message: &OrderMessage) -> bool
+        ensures value { result ≡ not (((message_header message.now).tag == pre_prepare_tag) && not ((message_header message.now).sender == primary self.now.f (message_header message.now).view)) }
+        ensures few { result ≡ true → (message_header message.now).tag ≡ pre_prepare_tag → (message_header message.now).sender < most_replicas }
     {
-        if header.tag != PRE_PREPARE_TAG {
+        if message.tag() != PRE_PREPARE_TAG {
             return true;
         }
-        header.sender == self.leader(header.view)
+        message.sender() == self.leader(message.view())
     }
 
-    fn conflicts(&self, header: &Header<'_>) -> bool
-        ensures { result ≡ conflicts self.now header.now }
+    fn conflicts(&self, message: &OrderMessage) -> bool
+        ensures { result ≡ conflicts self.now (message_header message.now) }
     {
-        (header.tag == PREPARE_TAG && header.sender == self.leader(header.view))
-            || (self.is_there(header) && !self.log.is_told(slot_of(header), header.digest))
+        (message.tag() == PREPARE_TAG && message.sender() == self.leader(message.view()))
+            || (self.is_there(message) && !self.log.is_told(Slot::of(message), message.digest()))
     }
 
-    pub(crate) fn place_refusal(&self, header: &Header<'_>) -> Option<OrderError>
-        ensures value { result ≡ place_refusal self.now header.now }
-        ensures free { IfNone result (is_there self.now header.now ≡ false) }
-        ensures leader { IfNone result (header.now.tag ≡ pre_prepare_tag → header.now.sender < most_replicas) }
+    pub(crate) fn place_refusal(&self, message: &OrderMessage) -> Option<OrderError>
+        ensures value { result ≡ place_refusal self.now (message_header message.now) }
+        ensures free { IfNone result (is_there self.now (message_header message.now) ≡ false) }
+        ensures leader { IfNone result ((message_header message.now).tag ≡ pre_prepare_tag → (message_header message.now).sender < most_replicas) }
         ensures one { IfSome result (λ e. e ≢ error.Memory) }
     {
-        if !self.is_of_view(header) {
+        if !self.is_of_view(message) {
             return Some(OrderError::WrongView);
         }
-        if !self.is_inside(header) {
+        if !self.is_inside(message) {
             return Some(OrderError::OutsideMarks);
         }
-        if !self.is_led(header) {
+        if !self.is_led(message) {
             return Some(OrderError::NotPrimary);
         }
-        if self.conflicts(header) {
+        if self.conflicts(message) {
             return Some(OrderError::Conflicting);
         }
-        if self.is_there(header) {
+        if self.is_there(message) {
             return Some(OrderError::AlreadyHave);
         }
         None
@@ -104,16 +106,16 @@ impl Order {
         rt: &(impl Threads + Sync),
         keys: &Keys,
         passed: &PendingRequests,
-        signed: &Signed<Message>,
+        signed: &Signed<OrderMessage>,
     ) -> bool
         requires { HavePassed keys.now passed.now }
         ensures value { result ≡ is_authentic keys.now self.now signed.now }
         ensures sender { result ≡ true → (header signed.now).sender < most_replicas }
     {
-        if 3 * self.f + 1 <= header_of(&signed.message).sender {
+        if 3 * self.f + 1 <= signed.message.sender() {
             return false;
         }
-        is_signed(keys, signed) && are_carried_signed(rt, keys, passed, &signed.message)
+        is_order_signed(keys, signed) && are_carried_signed(rt, keys, passed, &signed.message)
     }
 
     /// Why a message is not taken, if it isn't: what `on_message` refuses it with, in the same order. Its keyed hashes are looked at before
@@ -123,7 +125,7 @@ impl Order {
         rt: &(impl Threads + Sync),
         keys: &Keys,
         passed: &PendingRequests,
-        signed: &Signed<Message>,
+        signed: &Signed<OrderMessage>,
     ) -> Option<OrderError>
         requires { HavePassed keys.now passed.now }
         ensures value { result ≡ refusal keys.now self.now signed.now }
@@ -131,14 +133,10 @@ impl Order {
         ensures sender { IfNone result ((header signed.now).sender < most_replicas) }
         ensures one { IfSome result (λ e. e ≢ error.Memory) }
     {
-        let header = header_of(&signed.message);
-        if !is_ordering(&header) {
-            return Some(OrderError::WrongKind);
-        }
         if !self.is_authentic(rt, keys, passed, signed) {
             return Some(OrderError::BadAuthenticator);
         }
-        self.place_refusal(&header)
+        self.place_refusal(&signed.message)
     }
 }
 
@@ -147,30 +145,13 @@ fn are_carried_signed(
     rt: &(impl Threads + Sync),
     keys: &Keys,
     passed: &PendingRequests,
-    message: &Message,
+    message: &OrderMessage,
 ) -> bool
     requires { HavePassed keys.now passed.now }
     ensures { result ≡ carried_are_signed keys.now message.now }
 {
     match message {
-        Message::PrePrepare(proposal) => passed.are_signed(rt, keys, proposal.batch()),
+        OrderMessage::PrePrepare(proposal) => passed.are_signed(rt, keys, proposal.batch()),
         _ => true,
     }
-}
-
-pub(crate) fn slot_of(header: &Header<'_>) -> Slot
-    ensures { result ≡ record { tag = header.now.tag; sender = header.now.sender; view = header.now.view; number = header.now.number } }
-{
-    Slot {
-        tag: header.tag,
-        sender: header.sender,
-        view: header.view,
-        number: header.number,
-    }
-}
-
-fn is_ordering(header: &Header<'_>) -> bool
-    ensures { result ≡ is_ordering header.now }
-{
-    PRE_PREPARE_TAG <= header.tag && header.tag <= CHECKPOINT_TAG
 }

@@ -1,24 +1,25 @@
 // A view is left for a later one, and entered.
 ghost use Rattle.std.specs.Prelude.{◌≡◌, ◌≢◌, ◌<◌, ◌≤◌, ◌++◌, false, length, take, reverse, None, Some, IfNone, IfSome, IfOk, IfErr, OnOk, OnErr};
 ghost use Rattle.bfs_order.specs.Inside.Growing.{Grown};
-ghost use Rattle.bfs_order.specs.Replica.Refusals.{is_there};
-ghost use Rattle.bfs_order.specs.Replica.Views.{all_taken_over, entered, entering_refusal, greatest_number, handed_refusal, left, leaving_refusal, taken_over};
+ghost use Rattle.bfs_log.specs.Logs.{as_messages};
+ghost use Rattle.bfs_messages.specs.Signing.{as_message};
+ghost use Rattle.bfs_messages.specs.declared.order_messages.OrderMessage.TheVariants as kind;
+ghost use Rattle.bfs_order.specs.Replica.Views.{all_taken_over, as_proposals, entered, entering_refusal, greatest_number, left, leaving_refusal, taken_over};
 ghost use Rattle.bfs_order.specs.declared.error.OrderError.TheVariants as error;
-ghost use Rattle.bfs_model.specs.Server.Limits.{most_number, most_replicas};
+ghost use Rattle.bfs_model.specs.Server.Limits.{most_number};
 
 use crate::error::OrderError;
 use crate::order::Order;
 use bfs_auth::Keys;
-use bfs_log::{Header, header_of};
-use bfs_messages::{Message, PRE_PREPARE_TAG, Signed};
+use bfs_messages::{Message, PrePrepare, Signed};
 use bfs_types::{MOST_NUMBER, Memory};
 
-fn greatest_of(handed: &[Signed<Message>]) -> u64
-    ensures value { result ≡ greatest_number handed.now }
+fn greatest_of(handed: &[Signed<PrePrepare>]) -> u64
+    ensures value { result ≡ greatest_number (as_proposals handed.now) }
 {
     let mut greatest = 0;
     for signed in handed {
-        greatest = header_of(&signed.message).number.max(greatest);
+        greatest = signed.message.vote().number().max(greatest);
     }
     greatest
 }
@@ -50,19 +51,18 @@ impl Order {
     }
 
     /// Enters a view, in which no number up to `min_s` is given, with the PRE-PREPAREs that the new primary chose, and gives what is to
-    /// be sent to all other replicas. Those whose place is not free in the view are passed over, and so is every other kind of message;
-    /// authenticators are not looked at again. `WrongView` unless the view is above the one entered, not below the one asked for, and
+    /// be sent to all other replicas. Those whose place is not free in the view are passed over; authenticators are not looked at again. `WrongView` unless the view is above the one entered, not below the one asked for, and
     /// below 2^63; then `Memory`. Nothing changes then.
     pub fn enter_view(
         &mut self,
         keys: &Keys,
         view: u64,
         min_s: u64,
-        handed: Vec<Signed<Message>>,
+        handed: Vec<Signed<PrePrepare>>,
     ) -> Result<Vec<Signed<Message>>, OrderError>
         ensures taken { OnOk result (entering_refusal self.old view ≡ None) }
         ensures now { OnOk result (self.new ≡ (entered keys.now self.old view min_s handed.items).now) }
-        ensures sent { IfOk result (λ sent. sent.items ≡ (entered keys.now self.old view min_s handed.items).sent) }
+        ensures sent { IfOk result (λ sent. sent.items ≡ as_messages (entered keys.now self.old view min_s handed.items).sent) }
         ensures refused { IfErr result (λ e. e ≢ error.Memory → entering_refusal self.old view ≡ Some e) }
         ensures memory { IfErr result (λ e. e ≡ error.Memory → entering_refusal self.old view ≡ None) }
         ensures err { OnErr result (self.new ≡ self.old) }
@@ -77,12 +77,12 @@ impl Order {
         keys: &Keys,
         view: u64,
         min_s: u64,
-        handed: Vec<Signed<Message>>,
+        handed: Vec<Signed<PrePrepare>>,
         first: Vec<Signed<Message>>,
     ) -> Result<Vec<Signed<Message>>, OrderError>
         ensures taken { OnOk result (entering_refusal self.old view ≡ None) }
         ensures now { OnOk result (self.new ≡ (entered keys.now self.old view min_s handed.items).now) }
-        ensures sent { IfOk result (λ sent. sent.items ≡ first.items ++ (entered keys.now self.old view min_s handed.items).sent) }
+        ensures sent { IfOk result (λ sent. sent.items ≡ first.items ++ as_messages (entered keys.now self.old view min_s handed.items).sent) }
         ensures refused { IfErr result (λ e. e ≢ error.Memory → entering_refusal self.old view ≡ Some e) }
         ensures memory { IfErr result (λ e. e ≡ error.Memory → entering_refusal self.old view ≡ None) }
         ensures err { OnErr result (self.new ≡ self.old) }
@@ -159,27 +159,17 @@ impl Order {
         self.handed = handed;
     }
 
-    fn handed_refusal(&self, header: &Header<'_>) -> Option<OrderError>
-        ensures value { result ≡ handed_refusal self.now header.now }
-        ensures free { IfNone result (is_there self.now header.now ≡ false) }
-        ensures sender { IfNone result (header.now.sender < most_replicas) }
-    {
-        if header.tag != PRE_PREPARE_TAG {
-            return Some(OrderError::WrongKind);
-        }
-        self.place_refusal(header)
-    }
-
     fn take_over(
         &mut self,
         keys: &Keys,
-        signed: Signed<Message>,
+        proposal: Signed<PrePrepare>,
     ) -> Result<Vec<Signed<Message>>, Memory>
-        ensures now { OnOk result (self.new ≡ (taken_over keys.now self.old signed).now) }
-        ensures sent { IfOk result (λ sent. sent.items ≡ (taken_over keys.now self.old signed).sent) }
+        ensures now { OnOk result (self.new ≡ (taken_over keys.now self.old (as_message kind.PrePrepare proposal)).now) }
+        ensures sent { IfOk result (λ sent. sent.items ≡ as_messages (taken_over keys.now self.old (as_message kind.PrePrepare proposal)).sent) }
         ensures err { OnErr result (self.new ≡ self.old) }
     {
-        let refused = self.handed_refusal(&header_of(&signed.message));
+        let signed = proposal.into_order();
+        let refused = self.place_refusal(&signed.message);
         match refused {
             Some(_) => Ok(Vec::new(self.alloc)),
             None => self.accept(keys, signed),
@@ -190,16 +180,16 @@ impl Order {
     fn take_over_all(
         &mut self,
         keys: &Keys,
-        mut handed: Vec<Signed<Message>>,
+        mut handed: Vec<Signed<PrePrepare>>,
         mut sent: Vec<Signed<Message>>,
     ) -> Result<Vec<Signed<Message>>, Memory>
-        ensures now { OnOk result (self.new ≡ (all_taken_over keys.now self.old handed.items).now) }
-        ensures sent { IfOk result (λ all. all.items ≡ sent.items ++ (all_taken_over keys.now self.old handed.items).sent) }
+        ensures now { OnOk result (self.new ≡ (all_taken_over keys.now self.old (as_proposals handed.items)).now) }
+        ensures sent { IfOk result (λ all. all.items ≡ sent.items ++ as_messages (all_taken_over keys.now self.old (as_proposals handed.items)).sent) }
         ensures err { OnErr result (Grown self.old self.new) }
     {
         handed.reverse();
-        while let Some(signed) = handed.pop() {
-            let mut more = self.take_over(keys, signed)?;
+        while let Some(proposal) = handed.pop() {
+            let mut more = self.take_over(keys, proposal)?;
             sent.append(&mut more)?;
         }
         Ok(sent)

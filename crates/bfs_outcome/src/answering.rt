@@ -10,7 +10,7 @@ use crate::execution::Executed;
 use bfs_messages::{Request, Signed};
 use bfs_replies::{Answer, Class, ReplyTable};
 use bfs_serial::Replies;
-use bfs_types::Memory;
+use bfs_types::{Memory, TryClone};
 use std::alloc::Global;
 
 /// What is recorded and answered, where those are the replies to the new requests. The table stays as it is.
@@ -67,7 +67,7 @@ fn answer_new(
     ensures to_answer { OnOk result (executed.new.to_answer.items ≡ executed.old.to_answer.items ++ to_record_as Class.New request.now (drop (length executed.old.to_record.items) replies.now)) }
 {
     let answer = answer(alloc, request, replies.get(executed.to_record.len()))?;
-    executed.to_answer.push(answer.try_clone()?)?;
+    executed.to_answer.push(answer.try_clone(alloc)?)?;
     executed.to_record.push(answer)?;
     Ok(())
 }

@@ -7,8 +7,8 @@ ghost use Rattle.bfs_outcome.specs.Ran.{RanNew};
 
 use crate::answering::answer_all;
 use crate::news::new_requests;
-use bfs_executor::Executor;
 use bfs_messages::OrderedBatch;
+use bfs_parallel::Executor;
 use bfs_replies::{Answer, ReplyTable};
 use bfs_serial::{Batch, ExecError, FileSystem, Replies};
 use bfs_types::{Memory, Time};

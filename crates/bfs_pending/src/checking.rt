@@ -6,7 +6,7 @@ ghost use Rattle.bfs_messages.specs.Signing.{request_is_signed, requests_are_sig
 ghost use Rattle.bfs_pending.specs.Passed.{HavePassed, are_equal, is_alike, waits};
 
 use crate::waiting::PendingRequests;
-use bfs_auth::{Keys, Principal, least_texts};
+use bfs_auth::{Keys, Principal, least_items};
 use bfs_messages::{OrderedBatch, Request, Signed, is_request_signed};
 use rayon::prelude::*;
 use std::thread::Threads;
@@ -60,7 +60,7 @@ fn are_all_signed(
 {
     requests
         .par_iter()
-        .with_min_len(least_texts(mean_length(requests)))
+        .with_min_len(least_items(requests, |signed| signed.message.call().len()))
         .all(
             rt,
             |signed: &Signed<Request>| -> bool
@@ -75,16 +75,4 @@ fn is_signed(keys: &Keys, waiting: &PendingRequests, signed: &Signed<Request>) -
     ensures { result ≡ request_is_signed keys.now signed.now }
 {
     waiting.waits(keys.me(), signed) || is_request_signed(keys, signed)
-}
-
-// of the calls
-fn mean_length(requests: &[Signed<Request>]) -> usize {
-    let mut bytes = 0usize;
-    for signed in requests {
-        bytes = bytes.saturating_add(signed.message.call().len());
-    }
-    match requests.len() {
-        0 => 0,
-        count => bytes / count,
-    }
 }

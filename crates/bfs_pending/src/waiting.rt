@@ -15,7 +15,7 @@ use crate::checking::is_alike;
 use crate::names::{Name, name_of};
 use bfs_auth::Principal;
 use bfs_messages::{HashedBatch, OrderedBatch, Request, Signed};
-use bfs_types::{MOST_REQUESTS, Memory, Time};
+use bfs_types::{MOST_REQUESTS, Memory, Time, TryClone, copies_of};
 use std::alloc::Global;
 use std::collections::BTreeMap;
 use std::marker::Model;
@@ -126,25 +126,21 @@ impl PendingRequests {
         ensures { IfOk result (λ batch. batch ≡ Some (record { time = time; requests = self.now })) }
     {
         match &self.hashed {
-            Some(hashed) if hashed.batch().time() == Some(time) => hashed.try_clone(),
+            Some(hashed) if hashed.batch().time() == Some(time) => hashed.try_clone(alloc),
             _ => {
-                let batch = OrderedBatch::new(time, self.try_clone(alloc)?);
+                let batch = OrderedBatch::new(time, self.to_vec(alloc)?);
                 Ok(HashedBatch::new(Arc::new(alloc, batch)?))
             }
         }
     }
 
-    /// Equal ones, which share the calls. `Memory` if memory runs out.
-    pub fn try_clone(&self, alloc: Global) -> Result<Vec<Signed<Request>>, Memory>
+    /// Those that wait, in copies, which share the calls. `Memory` if memory runs out.
+    pub fn to_vec(&self, alloc: Global) -> Result<Vec<Signed<Request>>, Memory>
         ensures value { IfOk result (λ copies. copies.items ≡ self.now) }
         ensures within { IfOk result (λ copies. vec_len copies ≤ most_requests) }
     {
         let requests = self.requests.as_slice();
-        let mut copies = Vec::with_capacity(alloc, requests.len())?;
-        for signed in requests {
-            copies.push(signed.try_clone(alloc)?)?;
-        }
-        Ok(copies)
+        copies_of(alloc, requests)
     }
 
     /// Those leave of whose client and timestamp one stands in the batch; the others stay in their order. It takes no memory.

@@ -8,8 +8,7 @@ use Rattle.bfs_cluster.specs.Blocks.{with_block}
 use Rattle.bfs_cluster.specs.Standings.{standings}
 use Rattle.bfs_cluster.specs.World.{World}
 use Rattle.bfs_cluster.specs.declared.standings.Standing.{Standing}
-use Rattle.bfs_log.specs.Logs.{Log}
-use Rattle.bfs_node.specs.Nodes.{Node}
+use Rattle.bfs_node.specs.Nodes.{Messages, Node}
 use Rattle.bfs_settings.specs.Settings.{Settings}
 use Rattle.bfs_trace.specs.Events.{Block, Request}
 use Rattle.bfs_trace.specs.declared.events.TraceEvent.{TraceEvent}
@@ -25,7 +24,7 @@ signed_alike clients [] = refl
 signed_alike clients (request ∷ requests) = ap (cons_option (signed_request clients (as_message request))) (signed_alike clients requests)
 
 -- a block, once all has settled
-pub block_run : {Executes : Node → Type 0} (clients : Clients) (block : Block) (run next : Run) (world : World) (replies : Log) → SettlesAnd Executes (with_block run.world block.time (sent_requests clients block.requests)) world replies
+pub block_run : {Executes : Node → Type 0} (clients : Clients) (block : Block) (run next : Run) (world : World) (replies : Messages) → SettlesAnd Executes (with_block run.world block.time (sent_requests clients block.requests)) world replies
     → next ≡ record { world = world; waiting = counted clients replies run.waiting ++ unanswered clients replies block.requests; time = block.time; view = run.view }
     → BlockRuns Executes clients block run next (result_lines clients replies block.requests)
 block_run clients block run next world replies sends next_is =
@@ -34,17 +33,17 @@ block_run clients block run next world replies sends next_is =
       settles = sends.settles;
       next_is = next_is
           ∙ ap (λ (w : World). record { world = w; waiting = counted clients replies run.waiting ++ unanswered clients replies block.requests; time = block.time; view = run.view }) sends.next_is
-          ∙ ap (λ (those : Log). record {
+          ∙ ap (λ (those : Messages). record {
             world = record sends.settled { replies = [] };
             waiting = counted clients those run.waiting ++ unanswered clients those block.requests;
             time = block.time;
             view = run.view;
           }) sends.replies_are;
-      output_is = ap (λ (those : Log). result_lines clients those block.requests) sends.replies_are;
+      output_is = ap (λ (those : Messages). result_lines clients those block.requests) sends.replies_are;
     }
 
 -- a timeout, once all has settled twice
-pub timeout_run : {Executes : Node → Type 0} (clients : Clients) (run next : Run) (world : World) (view : Option ℕ) (replies : Log) → TimesOut Executes run.time run.world world view replies
+pub timeout_run : {Executes : Node → Type 0} (clients : Clients) (run next : Run) (world : World) (view : Option ℕ) (replies : Messages) → TimesOut Executes run.time run.world world view replies
     → next ≡ record { world = world; waiting = filter waits (counted clients replies run.waiting); time = run.time; view = higher_view run.view view }
     → TimeoutRuns Executes clients run next (view_lines run.view (higher_view run.view view) ++ answered_lines (counted clients replies run.waiting))
 timeout_run clients run next world view replies out next_is =
@@ -55,7 +54,7 @@ timeout_run clients run next world view replies out next_is =
       settles = out.goes_on.settles;
       next_is = next_is
           ∙ ap (λ (w : World). record { world = w; waiting = filter waits (counted clients replies run.waiting); time = run.time; view = higher_view run.view view }) out.goes_on.next_is
-          ∙ ap (λ (those : Log). record {
+          ∙ ap (λ (those : Messages). record {
             world = record out.goes_on.settled { replies = [] };
             waiting = filter waits (counted clients those run.waiting);
             time = run.time;
@@ -68,7 +67,7 @@ timeout_run clients run next world view replies out next_is =
             view = higher_view run.view in_view;
           }) out.view_is;
       output_is = ap (λ (now : ℕ). view_lines run.view now ++ answered_lines (counted clients replies run.waiting)) (sym (ap (λ (one : Run). one.view) next_is))
-          ∙ ap (λ (those : Log). view_lines run.view next.view ++ answered_lines (counted clients those run.waiting)) out.goes_on.replies_are;
+          ∙ ap (λ (those : Messages). view_lines run.view next.view ++ answered_lines (counted clients those run.waiting)) out.goes_on.replies_are;
     }
 
 -- an event behind others

@@ -6,7 +6,7 @@ use Rattle.bfs_clients.specs.Clients.{Clients}
 use Rattle.bfs_clients.specs.Tallies.{Tally, agreed, result_to}
 use Rattle.bfs_cluster.specs.declared.standings.Standing.{Standing}
 use Rattle.bfs_cluster.specs.declared.standings.Standing.TheVariants as standing
-use Rattle.bfs_log.specs.Logs.{Log}
+use Rattle.bfs_node.specs.Nodes.{Messages}
 use Rattle.bfs_trace.specs.Events.{Request}
 
 -- Results --------------------------------------------------------------------------------------------------------------
@@ -22,7 +22,7 @@ unfoldable pub result_line : (client timestamp : ℕ) → Option (List ℕ) → 
 result_line client timestamp result = codes "c" ++ decimal client ++ codes " t" ++ decimal timestamp ++ codes " " ++ result_text result ++ codes "\n"
 
 -- a line for each request, with what its client makes of replies
-abbrev pub result_lines : Clients → (replies : Log) → List Request → List ℕ
+abbrev pub result_lines : Clients → (replies : Messages) → List Request → List ℕ
 result_lines clients replies requests = flat_map (λ request. result_line request.client request.timestamp (result_to clients replies request.client request.timestamp)) requests
 
 abbrev pub line_if_answered : (client timestamp : ℕ) → Option (List ℕ) → List ℕ

@@ -10,10 +10,9 @@ use Rattle.bfs_cluster.specs.Timeouts.{with_timeout, with_waiting}
 use Rattle.bfs_cluster.specs.World.{World, hearing, new_world}
 use Rattle.bfs_cluster.specs.declared.standings.Standing.{Standing}
 use Rattle.bfs_cluster.specs.declared.standings.Standing.TheVariants as standing
-use Rattle.bfs_log.specs.Logs.{Log}
 use Rattle.bfs_messages.specs.Messages as model
 use Rattle.bfs_model.specs.Server.Tree.{Time, epoch}
-use Rattle.bfs_node.specs.Nodes.{Node}
+use Rattle.bfs_node.specs.Nodes.{Messages, Node}
 use Rattle.bfs_settings.specs.Settings.{Settings}
 use Rattle.bfs_trace.specs.Events.{Block, Request}
 use Rattle.bfs_trace.specs.declared.events.TraceEvent.{TraceEvent}
@@ -39,11 +38,11 @@ new_run settings = record { world = new_world settings; waiting = []; time = epo
 -- Requests that wait ---------------------------------------------------------------------------------------------------
 
 -- tallies once replies have come too
-abbrev pub counted : Clients → (replies : Log) → List Tally → List Tally
+abbrev pub counted : Clients → (replies : Messages) → List Tally → List Tally
 counted clients replies tallies = map (λ tally. fold (tallied_by clients) tally replies) tallies
 
 -- of requests whose clients make no result of the replies
-abbrev pub unanswered : Clients → (replies : Log) → List Request → List Tally
+abbrev pub unanswered : Clients → (replies : Messages) → List Request → List Tally
 unanswered clients replies requests = filter waits (map (λ request. tally_of clients replies request.client request.timestamp) requests)
 
 -- Events ---------------------------------------------------------------------------------------------------------------
@@ -52,7 +51,7 @@ abbrev pub as_message : Request → model.Request
 as_message request = record { client = request.client; timestamp = request.timestamp; call = request.call }
 
 -- as their clients send them
-abbrev pub sent_requests : Clients → List Request → Log
+abbrev pub sent_requests : Clients → List Request → Messages
 sent_requests clients requests = filter_map (λ request. signed_request clients (as_message request)) requests
 
 abbrev pub after_block : Clients → Block → Run → (settled : World) → Run

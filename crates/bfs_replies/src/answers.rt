@@ -6,7 +6,7 @@ ghost use Rattle.bfs_replies.specs.Answers.{recorded_all};
 ghost use Rattle.bfs_replies.specs.Tables.{last_of, recorded};
 
 use crate::tables::{Last, ReplyTable};
-use bfs_types::{Bytes, MOST_REPLY_BYTES, Memory};
+use bfs_types::{Bytes, MOST_REPLY_BYTES, Memory, TryClone};
 use std::alloc::Global;
 use std::marker::Model;
 use std::sync::Arc;
@@ -59,17 +59,6 @@ impl Answer {
         self.timestamp
     }
 
-    /// An equal one, which shares the reply. `Memory` if memory runs out.
-    pub fn try_clone(&self) -> Result<Answer, Memory>
-        ensures { IfOk result (λ copy. copy ≡ self.now) }
-    {
-        Ok(Answer {
-            client: self.client,
-            timestamp: self.timestamp,
-            reply: Arc::try_clone(&self.reply)?,
-        })
-    }
-
     /// The reply to it, to be shared.
     pub fn shared(&self) -> &Arc<Bytes<MOST_REPLY_BYTES>>
         ensures { arc_value result.now ≡ self.now.reply }
@@ -83,6 +72,16 @@ impl Answer {
         ensures short { length result.now ≤ most_reply_bytes }
     {
         self.reply.as_slice()
+    }
+}
+
+impl TryClone for Answer {
+    fn try_clone(&self, _alloc: Global) -> Result<Answer, Memory> {
+        Ok(Answer {
+            client: self.client,
+            timestamp: self.timestamp,
+            reply: Arc::try_clone(&self.reply)?,
+        })
     }
 }
 

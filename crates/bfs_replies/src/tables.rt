@@ -6,7 +6,7 @@ ghost use Rattle.bfs_replies.specs.Errors.{record_code_of};
 ghost use Rattle.bfs_replies.specs.Tables.{IsKept, last_of, recorded};
 
 use crate::timestamps::{Timestamps, timestamps_in};
-use bfs_types::{Bytes, MOST_REPLY_BYTES, Memory};
+use bfs_types::{Bytes, MOST_REPLY_BYTES, Memory, TryClone, copies_of};
 use std::alloc::Global;
 use std::marker::Model;
 use std::sync::Arc;
@@ -185,14 +185,23 @@ impl ReplyTable {
         self.clients[client as usize] = Some(last);
         Ok(())
     }
+}
 
-    /// An equal table. `Memory` if memory runs out.
-    pub fn copy(&self) -> Result<ReplyTable, Memory>
-        ensures { IfOk result (λ table. table ≡ self.now) }
-    {
+impl TryClone for ReplyTable {
+    fn try_clone(&self, alloc: Global) -> Result<ReplyTable, Memory> {
         Ok(ReplyTable {
-            alloc: self.alloc,
-            clients: copy_of_all(self.alloc, &self.clients)?,
+            alloc,
+            clients: copies_of(alloc, &self.clients)?,
+        })
+    }
+}
+
+// they share the reply
+impl TryClone for Last {
+    fn try_clone(&self, _alloc: Global) -> Result<Last, Memory> {
+        Ok(Last {
+            timestamp: self.timestamp,
+            reply: Arc::try_clone(&self.reply)?,
         })
     }
 }
@@ -215,27 +224,4 @@ fn none_yet(alloc: Global, clients: u32) -> Result<Vec<Option<Last>>, Memory>
         all.push(None)?;
     }
     Ok(all)
-}
-
-fn copy_of_all(alloc: Global, clients: &[Option<Last>]) -> Result<Vec<Option<Last>>, Memory>
-    ensures { IfOk result (λ copies. copies.items ≡ clients.now) }
-{
-    let mut copies = Vec::new(alloc);
-    for last in clients {
-        copies.push(copy_of(last)?)?;
-    }
-    Ok(copies)
-}
-
-// they share the reply
-fn copy_of(last: &Option<Last>) -> Result<Option<Last>, Memory>
-    ensures { IfOk result (λ copy. copy ≡ last.now) }
-{
-    match last {
-        None => Ok(None),
-        Some(last) => Ok(Some(Last {
-            timestamp: last.timestamp,
-            reply: Arc::try_clone(&last.reply)?,
-        })),
-    }
 }

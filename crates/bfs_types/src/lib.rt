@@ -1,10 +1,11 @@
-//! The vocabulary that every crate above shares: bytes, fileids, times, ordinals, attributes, credentials, settings, limits, and
-//! the error for memory that runs out.
+//! The vocabulary that every crate above shares: bytes, fileids, times, ordinals, attributes, credentials, settings, limits,
+//! copies, and the error for memory that runs out.
 #![tactic(auto)]
 
 mod attributes;
 mod bytes;
 mod context;
+mod copies;
 mod cred;
 mod file_id;
 mod gids;
@@ -18,6 +19,7 @@ mod time;
 pub use attributes::{Attributes, FileType};
 pub use bytes::{Bytes, LinkPath, Name};
 pub use context::Context;
+pub use copies::{TryClone, copies_of};
 pub use cred::Cred;
 pub use file_id::FileId;
 pub use gids::{Gids, MOST_GIDS};

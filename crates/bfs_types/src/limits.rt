@@ -1,4 +1,5 @@
-//! How large things may be, each limit once: code and contracts cite these constants by name, and each is tied to the model's here.
+//! How large things may be that more than one crate knows: code and contracts cite these constants by name, and each is tied to the model's
+//! here.
 ghost use Rattle.std.specs.Prelude.{◌≡◌, ℕ, ◌+◌, ◌%◌};
 ghost use Rattle.bfs_model.specs.Bytes.Attributes.{block_size, total_blocks, transfer_size};
 ghost use Rattle.bfs_model.specs.Server.Changes.{permission_bits};

@@ -1,4 +1,4 @@
-//! A run of four replicas, of which one may be faulty, and of two clients.
+//! A run of four replicas, of which one may be faulty, and of some clients.
 use bfs_clients::Clients;
 use bfs_cluster::{Cluster, Executor, NoGate, Standing};
 use bfs_messages::{Message, Request, Signed};
@@ -10,21 +10,27 @@ use std::sync::Wait;
 use std::test::Fail;
 use std::thread::Threads;
 
-const SECRET: &[u8] = b"a secret";
+pub const SECRET: &[u8] = b"a secret";
 
-fn settings(alloc: Global) -> Result<Settings, SettingsError> {
-    Settings::new(alloc, 1, 2, SECRET)
+// where there are so many clients
+fn settings(alloc: Global, clients: u32) -> Result<Settings, SettingsError> {
+    Settings::new(alloc, 1, clients, SECRET)
 }
 
-/// The two clients.
-pub fn two_clients(alloc: Global) -> Result<Clients, Fail> {
-    let settings = settings(alloc)?;
+/// So many clients.
+pub fn clients(alloc: Global, count: u32) -> Result<Clients, Fail> {
+    let settings = settings(alloc, count)?;
     Ok(Clients::new(alloc, &settings)?)
+}
+
+/// The two clients of the replicas.
+pub fn two_clients(alloc: Global) -> Result<Clients, Fail> {
+    clients(alloc, 2)
 }
 
 /// Four replicas that have done nothing.
 pub fn four_replicas(alloc: Global) -> Result<Cluster, Fail> {
-    let settings = settings(alloc)?;
+    let settings = settings(alloc, 2)?;
     Ok(Cluster::new(alloc, &settings)?)
 }
 

@@ -2,7 +2,7 @@
 use crate::files::{
     batch_of, copied, digest_of, execute, execute_by, refreshed, restored, text_of,
 };
-use bfs_executor::Engine;
+use bfs_parallel::Engine;
 use bfs_serial::{Batch, FileSystem, Replies};
 use bfs_testing::asserts::compared;
 use bfs_testing::numbers::{CREATE, GETATTR};

@@ -1,6 +1,6 @@
 //! What is done to file systems. None of it has a contract, so that the proofs of tests carry none.
 use bfs_digest::{RestoreError, digest_parallel, digest_serial, refresh, restore, snapshot};
-use bfs_executor::{Engine, Executor};
+use bfs_parallel::{Engine, Executor};
 use bfs_serial::{Batch, ExecError, FileSystem, Replies, execute_serial};
 use bfs_testing::asserts::compared;
 use bfs_testing::steps::Step;

@@ -3,8 +3,8 @@ use crate::files::{
     batch_at, batch_of, copied, digest_of, digest_on_threads, execute, execute_by, execute_steps,
     made, push, refreshed, text_of,
 };
-use bfs_executor::Engine;
 use bfs_inode::{Body, FileData, Inode};
+use bfs_parallel::Engine;
 use bfs_serial::{ExecError, FileSystem};
 use bfs_testing::asserts::compared;
 use bfs_testing::holds;

@@ -5,14 +5,13 @@ use bfs_testing::asked::Asked;
 use bfs_testing::meetings::Meeting;
 use bfs_testing::{holds, same};
 use bfs_testing_batches::batches::{batch_of, creates, large_reads, same_replies, writes};
+use bfs_testing_batches::engines::ON_THREADS;
 use bfs_testing_batches::gates::{AllAtOnce, Counts, OneAfterOthers};
 use bfs_workers::{Gate, Workers};
 use std::alloc::AllocGlobal;
 use std::sync::Wait;
 use std::test::Fail;
 use std::thread::Threads;
-
-static ENGINES: &[Engine] = &[Engine::Runs, Engine::Levels];
 
 // executes a batch by an engine, on so many files, and compares the replies with those of one request after another
 fn overlaps<R: Threads + Wait + AllocGlobal + Sync, G: Gate + Sync>(
@@ -52,7 +51,7 @@ fn ends_after<R: Threads + Wait + AllocGlobal + Sync>(
 #[test]
 fn second_of_two_writes_ends_first(rt: HostRuntime) -> Result<(), Fail> {
     let batch = writes(rt.alloc(), 2)?;
-    for engine in ENGINES {
+    for engine in ON_THREADS {
         holds!(rt; ends_after(&rt, *engine, 2, 2, &batch, OneAfterOthers::new(0, &[1]))?);
     }
     Ok(())
@@ -68,7 +67,7 @@ static WRITES: &[Asked] = &[
 #[test]
 fn third_of_three_writes_ends_before_another(rt: HostRuntime) -> Result<(), Fail> {
     let batch = batch_of(rt.alloc(), 2, WRITES)?;
-    for engine in ENGINES {
+    for engine in ON_THREADS {
         holds!(rt; ends_after(&rt, *engine, 2, 2, &batch, OneAfterOthers::new(1, &[2]))?);
     }
     // it overtakes the second too, which has to wait for the first
@@ -80,7 +79,7 @@ fn third_of_three_writes_ends_before_another(rt: HostRuntime) -> Result<(), Fail
 #[test]
 fn much_to_read_overlaps(rt: HostRuntime) -> Result<(), Fail> {
     let batch = large_reads(rt.alloc(), 520)?;
-    for engine in ENGINES {
+    for engine in ON_THREADS {
         holds!(rt; ends_after(&rt, *engine, 3, 1, &batch, OneAfterOthers::new(0, &[519]))?);
     }
     Ok(())
@@ -88,7 +87,7 @@ fn much_to_read_overlaps(rt: HostRuntime) -> Result<(), Fail> {
 
 #[test]
 fn as_many_writes_as_workers_overlap(rt: HostRuntime) -> Result<(), Fail> {
-    for engine in ENGINES {
+    for engine in ON_THREADS {
         for count in [2, 3, 64] {
             let gate = AllAtOnce {
                 all: Meeting::of(count as u64),
@@ -104,7 +103,7 @@ fn as_many_writes_as_workers_overlap(rt: HostRuntime) -> Result<(), Fail> {
 #[test]
 fn each_of_many_writes_is_run_once(rt: HostRuntime) -> Result<(), Fail> {
     let batch = writes(rt.alloc(), 1024)?;
-    for engine in ENGINES {
+    for engine in ON_THREADS {
         for count in [1, 2, 3, 64] {
             let gate = Counts::of(rt.alloc(), 1024)?;
             let replies = overlaps(&rt, *engine, count, 1024, &batch, &gate)?;

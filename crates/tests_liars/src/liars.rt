@@ -1,15 +1,14 @@
 //! What liars sign, under their own names and under others'.
 use crate::checks::Set;
-use crate::replica::keys_of;
-use crate::world::{Head, World};
-use bfs_auth::{Authenticator, Keys, Principal};
+use crate::world::{Head, World, members};
+use bfs_auth::{Authenticator, Keys};
 use bfs_codec::decode;
 use bfs_messages::{
-    Certificate, Checkpoint, Message, NewView, OrderedBatch, PrePrepare, Signed, ViewChange, Vote,
-    sign, sign_prepare, sign_proposal, sign_view_change,
+    Checkpoint, Message, NewView, OrderMessage, OrderedBatch, PrePrepare, PreparedBatch, Signed,
+    ViewChange, Vote, sign_new_view, sign_order, sign_prepare, sign_proposal, sign_view_change,
 };
 use bfs_types::{Memory, Time};
-use bfs_view::{choice_of, make_new_view};
+use bfs_view_change::{choice_of, make_new_view};
 use std::alloc::Global;
 use std::sync::Arc;
 
@@ -31,11 +30,7 @@ pub fn batch_of(alloc: Global, second: u32) -> Result<Arc<OrderedBatch>, Memory>
 }
 
 /// The message with entries that are wrong for some receivers.
-pub fn spoiled(
-    alloc: Global,
-    signed: Signed<Message>,
-    wrong: Set,
-) -> Result<Signed<Message>, Memory> {
+pub fn spoiled<T: Drop>(alloc: Global, signed: Signed<T>, wrong: Set) -> Result<Signed<T>, Memory> {
     let Signed { message, auth } = signed;
     let mut made = Authenticator::new(alloc);
     for (place, entry) in auth.entries().iter().enumerate() {
@@ -58,12 +53,12 @@ impl Liar {
         Ok(Liar {
             alloc,
             number,
-            keys: keys_of(alloc, f, Principal::Replica(number))?,
+            keys: members(f).keys_of(alloc, number)?,
         })
     }
 
-    fn sign(&self, message: Message) -> Result<Signed<Message>, Memory> {
-        sign(self.alloc, &self.keys, message)
+    fn sign(&self, message: OrderMessage) -> Result<Signed<Message>, Memory> {
+        Ok(sign_order(self.alloc, &self.keys, message)?.into_message())
     }
 
     /// A PRE-PREPARE, whoever leads the view.
@@ -75,25 +70,25 @@ impl Liar {
     ) -> Result<Signed<Message>, Memory> {
         let batch = Arc::try_clone(batch)?;
         let proposal = PrePrepare::new(self.number, view % (1 << 63), number % (1 << 63), batch);
-        self.sign(Message::PrePrepare(proposal))
+        self.sign(OrderMessage::PrePrepare(proposal))
     }
 
     /// A PREPARE in somebody's name.
     pub fn prepare(&self, sender: u32, on: &Vote) -> Result<Signed<Message>, Memory> {
         let vote = Vote::new(sender, on.view(), on.number(), *on.digest());
-        self.sign(Message::Prepare(vote))
+        self.sign(OrderMessage::Prepare(vote))
     }
 
     /// A COMMIT in somebody's name.
     pub fn commit(&self, sender: u32, on: &Vote) -> Result<Signed<Message>, Memory> {
         let vote = Vote::new(sender, on.view(), on.number(), *on.digest());
-        self.sign(Message::Commit(vote))
+        self.sign(OrderMessage::Commit(vote))
     }
 
     /// A CHECKPOINT with that digest.
     pub fn checkpoint(&self, number: u64, digest: [u8; 32]) -> Result<Signed<Message>, Memory> {
         let checkpoint = Checkpoint::new(self.number, number % (1 << 63), digest);
-        self.sign(Message::Checkpoint(checkpoint))
+        self.sign(OrderMessage::Checkpoint(checkpoint))
     }
 
     fn change(
@@ -101,7 +96,7 @@ impl Liar {
         view: u64,
         stable: u64,
         checkpoints: Vec<Signed<Checkpoint>>,
-        certificates: Vec<Certificate>,
+        certificates: Vec<PreparedBatch>,
     ) -> Result<Signed<ViewChange>, Memory> {
         if checkpoints.len() > 31 || certificates.len() > 32 {
             return Err(Memory);
@@ -125,7 +120,7 @@ impl Liar {
     pub fn change_with(
         &self,
         view: u64,
-        certificate: Certificate,
+        certificate: PreparedBatch,
     ) -> Result<Signed<ViewChange>, Memory> {
         let mut certificates = Vec::new(self.alloc);
         certificates.push(certificate)?;
@@ -150,7 +145,7 @@ impl Liar {
         world: &World,
         on: &Vote,
         is_forged: bool,
-    ) -> Result<Option<Certificate>, Memory> {
+    ) -> Result<Option<PreparedBatch>, Memory> {
         let Some(proposal) = proposal_on(world, on)? else {
             return Ok(None);
         };
@@ -167,7 +162,7 @@ impl Liar {
         if prepares.len() > 31 {
             return Ok(None);
         }
-        Ok(Some(Certificate::new(proposal, prepares)))
+        Ok(Some(PreparedBatch::new(proposal, prepares)))
     }
 
     /// A NEW-VIEW from VIEW-CHANGEs, with what they choose.
@@ -188,7 +183,7 @@ impl Liar {
             changes,
             &choice,
         )?;
-        Ok(Some(new))
+        Ok(Some(new_as_message(new)))
     }
 
     /// A NEW-VIEW from VIEW-CHANGEs, which proposes batches without requests of that second, or null requests at 0, for the numbers that
@@ -213,7 +208,8 @@ impl Liar {
             return Err(Memory);
         }
         let new = NewView::new(self.number, view % (1 << 63), changes, proposals);
-        self.sign(Message::NewView(new))
+        let new = sign_new_view(self.alloc, &self.keys, new)?;
+        Ok(new_as_message(new))
     }
 }
 
@@ -243,7 +239,7 @@ fn read(alloc: Global, bytes: &[u8]) -> Result<Signed<Message>, Memory> {
 fn proposal_in(signed: Signed<Message>) -> Option<Signed<PrePrepare>> {
     let Signed { message, auth } = signed;
     match message {
-        Message::PrePrepare(message) => Some(Signed { message, auth }),
+        Message::Order(OrderMessage::PrePrepare(message)) => Some(Signed { message, auth }),
         _ => None,
     }
 }
@@ -251,7 +247,7 @@ fn proposal_in(signed: Signed<Message>) -> Option<Signed<PrePrepare>> {
 fn prepare_in(signed: Signed<Message>) -> Option<Signed<Vote>> {
     let Signed { message, auth } = signed;
     match message {
-        Message::Prepare(message) => Some(Signed { message, auth }),
+        Message::Order(OrderMessage::Prepare(message)) => Some(Signed { message, auth }),
         _ => None,
     }
 }
@@ -259,7 +255,7 @@ fn prepare_in(signed: Signed<Message>) -> Option<Signed<Vote>> {
 fn checkpoint_in(signed: Signed<Message>) -> Option<Signed<Checkpoint>> {
     let Signed { message, auth } = signed;
     match message {
-        Message::Checkpoint(message) => Some(Signed { message, auth }),
+        Message::Order(OrderMessage::Checkpoint(message)) => Some(Signed { message, auth }),
         _ => None,
     }
 }
@@ -346,6 +342,14 @@ fn add_changes(
         }
     }
     Ok(seen)
+}
+
+fn new_as_message(new: Signed<NewView>) -> Signed<Message> {
+    let Signed { message, auth } = new;
+    Signed {
+        message: Message::NewView(message),
+        auth,
+    }
 }
 
 /// A VIEW-CHANGE as a message.

@@ -8,8 +8,6 @@ mod liars;
 #[cfg(test)]
 mod lies;
 #[cfg(test)]
-mod replica;
-#[cfg(test)]
 mod schedules;
 #[cfg(test)]
 mod scripts;

@@ -3,7 +3,7 @@ use crate::checks::Set;
 use crate::liars::{Liar, as_message, batch_of, changes_with, spoiled};
 use crate::steps::{any_of, below, happens, some};
 use crate::world::World;
-use bfs_messages::{Message, Signed, ViewChange, Vote};
+use bfs_messages::{Message, OrderMessage, Signed, ViewChange, Vote};
 use bfs_testing::generated::Generator;
 use bfs_types::Memory;
 use std::alloc::Global;
@@ -115,7 +115,7 @@ fn propose(
     let batch = batch_of(world.alloc, second)?;
     let proposal = liar.proposal(view, number, &batch)?;
     let on = match &proposal.message {
-        Message::PrePrepare(proposal) => *proposal.vote(),
+        Message::Order(OrderMessage::PrePrepare(proposal)) => *proposal.vote(),
         _ => return Ok(()),
     };
     tell(world, draws, proposal, to)?;
@@ -124,7 +124,7 @@ fn propose(
 
 // a number that is next for some replica, or near it
 fn number_near(world: &World, draws: &mut Generator, one: usize) -> u64 {
-    let last = world.standing(one).last;
+    let last = world.last(one);
     match below(draws, 4) {
         0 => last.saturating_add(2),
         1 => last,
@@ -135,7 +135,7 @@ fn number_near(world: &World, draws: &mut Generator, one: usize) -> u64 {
 // the primary proposes two batches for a number
 fn equivocate(world: &mut World, draws: &mut Generator, lying: &Lying) -> Result<(), Memory> {
     let one = any_of(draws, world.nodes.len());
-    let view = world.standing(one).view;
+    let view = world.view(one);
     let number = number_near(world, draws, one);
     let Some(liar) = lying.of(world.primary(view)) else {
         return support(world, draws, lying);
@@ -238,7 +238,7 @@ fn begin(
         };
     }
     let one = any_of(draws, world.nodes.len());
-    let (behind, count) = (world.standing(one).last, below(draws, 4) as u64);
+    let (behind, count) = (world.last(one), below(draws, 4) as u64);
     let second = if happens(draws, 50) { 0 } else { world.tick() };
     let new = liar.wrong_view(view, changes, behind, count, second)?;
     tell(world, draws, new, to)

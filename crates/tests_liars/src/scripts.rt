@@ -1,13 +1,15 @@
 //! Two worked scripts among four replicas: a primary that proposes two batches for a number, and a checkpoint with an entry that is wrong for its receiver.
 use crate::checks::Set;
 use crate::liars::{Liar, batch_of, spoiled};
-use crate::replica::{Snapshot, adopt, deliver, snapshot_of};
 use crate::steps::{draws_of, run_up};
 use crate::world::World;
 use bfs_codec::encode;
+use bfs_log::StableCheckpoint;
 use bfs_messages::{Message, Signed, Vote};
 use bfs_testing::same;
-use bfs_types::Memory;
+use bfs_testing_nodes::calls::deliver;
+use bfs_testing_nodes::snapshots::{adopt, snapshot_of};
+use bfs_types::{Memory, TryClone};
 use std::alloc::Global;
 use std::sync::Wait;
 use std::test::Fail;
@@ -80,7 +82,7 @@ fn refusal<R: Threads + Sync>(
     };
     match deliver(rt, node, &bytes) {
         Ok(_) => Ok(0),
-        Err(code) => Ok(code),
+        Err(error) => Ok(error.code()),
     }
 }
 
@@ -98,7 +100,7 @@ fn happens<R: Threads + Wait + Sync>(
         Step::Commit(second, to) => world.put(&commit(world.alloc, liar, second)?, to, true)?,
         Step::Settle => settle(rt, world)?,
         Step::Executes(number, wanted) => return Ok(world.execute(rt, number)? == wanted),
-        Step::Last(number, wanted) => return Ok(world.standing(number).last == wanted),
+        Step::Last(number, wanted) => return Ok(world.last(number) == wanted),
         Step::Refused(second, number, wanted) => {
             let signed = proposal(world.alloc, liar, second)?;
             return Ok(refusal(rt, world, number, &signed)? == wanted);
@@ -129,21 +131,22 @@ fn of_two_batches_for_a_number_one_is_executed(rt: HostRuntime) -> Result<(), Fa
     Ok(())
 }
 
-// the CHECKPOINTs of a snapshot, of which the second has entries that are wrong for some
+// a stable checkpoint, of whose CHECKPOINTs the second has entries that are wrong for some
 fn with_wrong_entries(
     alloc: Global,
-    certificate: Vec<Signed<Message>>,
+    stable: &StableCheckpoint,
     wrong: Set,
-) -> Result<Vec<Signed<Message>>, Memory> {
+) -> Result<StableCheckpoint, Memory> {
     let mut changed = Vec::new(alloc);
-    for signed in certificate {
+    for signed in stable.checkpoints() {
+        let copy = signed.try_clone(alloc)?;
         if changed.len() == 1 {
-            changed.push(spoiled(alloc, signed, wrong)?)?;
+            changed.push(spoiled(alloc, copy, wrong)?)?;
         } else {
-            changed.push(signed)?;
+            changed.push(copy)?;
         }
     }
-    Ok(changed)
+    Ok(StableCheckpoint::new(stable.number(), *stable.digest(), changed))
 }
 
 // the number of the refusal, 0 where there is none, at replica 3, which has heard nothing
@@ -151,16 +154,16 @@ fn adopted<R: Threads + Sync>(rt: &R, world: &mut World, wrong: Set) -> Result<u
     let Some(node) = world.nodes.get(0) else {
         return Err(Memory);
     };
-    let Some(Snapshot { text, certificate }) = snapshot_of(world.alloc, node)? else {
+    let Some(snapshot) = snapshot_of(world.alloc, node)? else {
         return Err(Memory);
     };
-    let certificate = with_wrong_entries(world.alloc, certificate, wrong)?;
+    let checkpoint = with_wrong_entries(world.alloc, &snapshot.checkpoint, wrong)?;
     let Some(node) = world.nodes.get_mut(3) else {
         return Err(Memory);
     };
-    match adopt(rt, node, &Snapshot { text, certificate }) {
+    match adopt(rt, node, &snapshot.text, &checkpoint) {
         Ok(()) => Ok(0),
-        Err(code) => Ok(code),
+        Err(error) => Ok(error.code()),
     }
 }
 
@@ -173,9 +176,9 @@ fn two_adoptions<R: Threads + Wait + Sync>(
     let mut world = World::new(alloc, 1, Set(0))?;
     run_up(rt, &mut world, &mut draws, Set(0b0111), 17)?;
     let first = adopted(rt, &mut world, Set(0b1000))?;
-    let before = world.standing(3).last;
+    let before = world.last(3);
     let second = adopted(rt, &mut world, Set(0b0111))?;
-    Ok((first, before, second, world.standing(3).last))
+    Ok((first, before, second, world.last(3)))
 }
 
 #[test]

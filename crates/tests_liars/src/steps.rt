@@ -164,7 +164,7 @@ fn ask(world: &mut World, draws: &mut Generator) -> Result<(), Memory> {
 // the primary of some replica's view proposes
 fn propose(world: &mut World, draws: &mut Generator) -> Result<(), Memory> {
     let one = any_of(draws, world.nodes.len());
-    let primary = world.primary(world.standing(one).view);
+    let primary = world.primary(world.view(one));
     world.propose(primary)
 }
 

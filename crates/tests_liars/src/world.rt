@@ -1,17 +1,25 @@
 //! Replicas, some of which lie, and bytes on their way between them.
 use crate::checks::{Record, Set};
-use crate::replica::{
-    CLIENTS, Said, Standing, adopt, checkpoint, deliver, digest_of, execute, keys_of, propose,
-    replica, snapshot_of, standing_of, time_out,
-};
-use bfs_auth::Principal;
 use bfs_codec::encode;
-use bfs_messages::{Message, Request, Signed, Vote, sign};
+use bfs_messages::{Message, OrderMessage, Signed, Vote};
 use bfs_node::Node;
+use bfs_testing_nodes::calls::{Given, checkpoint, deliver, digest_of, execute, propose, time_out};
+use bfs_testing_nodes::members::{Members, request, request_message};
+use bfs_testing_nodes::snapshots::{adopt, snapshot_of};
 use bfs_types::Memory;
 use std::alloc::Global;
 use std::sync::Wait;
 use std::thread::Threads;
+
+const CLIENTS: u32 = 2;
+
+/// 3f + 1 replicas, and their clients.
+pub fn members(f: u32) -> Members {
+    Members {
+        f,
+        clients: CLIENTS,
+    }
+}
 
 /// What a message says of itself: its kind by the tag of its text, its sender, view, number and digest. What a kind has not is 0.
 #[derive(Clone, Copy, Debug, PartialEq, Eq)]
@@ -46,29 +54,20 @@ fn head_without_number(kind: u32, sender: u32, view: u64) -> Head {
     }
 }
 
-fn head_of_vote(kind: u32, vote: &Vote) -> Head {
+fn head_of_order(message: &OrderMessage) -> Head {
     Head {
-        kind,
-        sender: vote.sender(),
-        view: vote.view(),
-        number: vote.number(),
-        digest: *vote.digest(),
+        kind: message.tag(),
+        sender: message.sender(),
+        view: message.view(),
+        number: message.number(),
+        digest: *message.digest(),
     }
 }
 
 fn head_of(message: &Message) -> Head {
     match message {
         Message::Request(request) => head_without_number(1, request.client(), 0),
-        Message::PrePrepare(proposal) => head_of_vote(2, proposal.vote()),
-        Message::Prepare(vote) => head_of_vote(3, vote),
-        Message::Commit(vote) => head_of_vote(4, vote),
-        Message::Checkpoint(checkpoint) => Head {
-            kind: 5,
-            sender: checkpoint.sender(),
-            view: 0,
-            number: checkpoint.number(),
-            digest: *checkpoint.digest(),
-        },
+        Message::Order(message) => head_of_order(message),
         Message::ViewChange(change) => head_without_number(6, change.sender(), change.view()),
         Message::NewView(new) => head_without_number(7, new.sender(), new.view()),
         Message::Reply(reply) => head_without_number(8, reply.sender(), reply.view()),
@@ -118,7 +117,7 @@ impl World {
         let mut nodes = Vec::new(alloc);
         let mut asked = Vec::new(alloc);
         for me in 0..3 * f + 1 {
-            nodes.push(replica(alloc, f, me)?)?;
+            nodes.push(members(f).replica(alloc, me)?)?;
             asked.push(0)?;
         }
         Ok(World {
@@ -141,11 +140,19 @@ impl World {
         self.clock
     }
 
-    /// Where a replica stands.
-    pub fn standing(&self, number: usize) -> Standing {
+    /// The view that a replica has entered.
+    pub fn view(&self, number: usize) -> u64 {
         match self.nodes.get(number) {
-            Some(node) => standing_of(node),
-            None => Standing { view: 0, last: 0 },
+            Some(node) => node.view(),
+            None => 0,
+        }
+    }
+
+    /// The number that a replica has executed last.
+    pub fn last(&self, number: usize) -> u64 {
+        match self.nodes.get(number) {
+            Some(node) => node.last_executed(),
+            None => 0,
         }
     }
 
@@ -155,7 +162,7 @@ impl World {
             Some(asked) => *asked,
             None => 0,
         };
-        asked.max(self.standing(number).view)
+        asked.max(self.view(number))
     }
 
     fn note_asked(&mut self, number: usize, view: u64) {
@@ -171,7 +178,9 @@ impl World {
 
     fn note_proposals(&mut self, message: &Message) -> Result<(), Memory> {
         match message {
-            Message::PrePrepare(proposal) => self.proposed.push(*proposal.vote())?,
+            Message::Order(OrderMessage::PrePrepare(proposal)) => {
+                self.proposed.push(*proposal.vote())?;
+            }
             Message::NewView(new) => {
                 for proposal in new.proposals() {
                     self.proposed.push(*proposal.message.vote())?;
@@ -224,12 +233,12 @@ impl World {
         Ok(())
     }
 
-    // what a call came to, which a replica did that stood so before
-    fn follow(&mut self, number: usize, before: Standing, said: &Said) -> Result<(), Memory> {
-        let Ok(messages) = said else {
+    // what a call came to, which a replica did that was in that view before
+    fn follow(&mut self, number: usize, before: u64, given: &Given) -> Result<(), Memory> {
+        let Ok(messages) = given else {
             return Ok(());
         };
-        if self.standing(number).view != before.view && !self.liars.has(number) {
+        if self.view(number) != before && !self.liars.has(number) {
             self.record.note_view();
         }
         self.send(number, messages)
@@ -237,17 +246,17 @@ impl World {
 
     /// A message that was sent once comes to a replica.
     pub fn deliver<R: Threads + Sync>(&mut self, rt: &R, flight: Flight) -> Result<(), Memory> {
-        let before = self.standing(flight.to);
+        let before = self.view(flight.to);
         let (Some(node), Some(sent)) = (self.nodes.get_mut(flight.to), self.sent.get(flight.which))
         else {
             return Ok(());
         };
-        let said = deliver(rt, node, &sent.bytes);
+        let given = deliver(rt, node, &sent.bytes);
         let (head, is_lie) = (sent.head, sent.is_lie);
-        if said.is_ok() && !self.liars.has(flight.to) {
+        if given.is_ok() && !self.liars.has(flight.to) {
             self.note_taken(flight.to, head, is_lie)?;
         }
-        self.follow(flight.to, before, &said)
+        self.follow(flight.to, before, &given)
     }
 
     fn note_taken(&mut self, number: usize, head: Head, is_lie: bool) -> Result<(), Memory> {
@@ -263,12 +272,12 @@ impl World {
 
     /// Time runs out at a replica.
     pub fn time_out(&mut self, number: usize) -> Result<(), Memory> {
-        let before = self.standing(number);
+        let before = self.view(number);
         let Some(node) = self.nodes.get_mut(number) else {
             return Ok(());
         };
-        let said = time_out(node);
-        self.follow(number, before, &said)
+        let given = time_out(node);
+        self.follow(number, before, &given)
     }
 
     /// Some replicas leave for a view, if it isn't too far away.
@@ -290,8 +299,8 @@ impl World {
             return Ok(());
         };
         match propose(node, second) {
-            Some(signed) => self.send_one(number, &signed),
-            None => Ok(()),
+            Ok(signed) => self.send_one(number, &signed),
+            Err(_) => Ok(()),
         }
     }
 
@@ -309,7 +318,7 @@ impl World {
 
     // it has executed the batch that the others have
     fn note_batch(&mut self, number: usize) -> Result<(), Memory> {
-        let last = self.standing(number).last;
+        let last = self.last(number);
         match self.committed(number, last) {
             Some(batch) if !self.liars.has(number) => self.record.note_batch(last, batch),
             _ => Ok(()),
@@ -324,8 +333,10 @@ impl World {
         let Some(node) = self.nodes.get(number) else {
             return Ok(());
         };
-        let (last, digest) = (standing_of(node).last, digest_of(rt, node)?);
-        self.record.note(number, last, digest)
+        match digest_of(rt, node) {
+            Ok(digest) => self.record.note(number, node.last_executed(), digest),
+            Err(_) => Err(Memory),
+        }
     }
 
     /// A replica executes the next batch, if there is one, and tells a checkpoint where it is due. It gives whether it did.
@@ -337,10 +348,10 @@ impl World {
         let Some(node) = self.nodes.get_mut(number) else {
             return Ok(false);
         };
-        let Some(mut messages) = execute(rt, node) else {
+        let Ok(Some(mut messages)) = execute(rt, node) else {
             return Ok(false);
         };
-        if let Some(signed) = checkpoint(rt, node) {
+        if let Ok(signed) = checkpoint(rt, node) {
             messages.push(signed)?;
         }
         self.note_batch(number)?;
@@ -365,7 +376,7 @@ impl World {
         let Some(node) = self.nodes.get_mut(number) else {
             return Ok(());
         };
-        if adopt(rt, node, &snapshot).is_err() {
+        if adopt(rt, node, &snapshot.text, &snapshot.checkpoint).is_err() {
             return Ok(());
         }
         if !self.liars.has(number) {
@@ -376,13 +387,9 @@ impl World {
 
     /// A client's call goes to some replicas.
     pub fn ask(&mut self, client: u32, call: &[u8], to: Set) -> Result<(), Memory> {
-        if call.len() > 1_000 {
-            return Err(Memory);
-        }
-        let timestamp = self.tick();
-        let keys = keys_of(self.alloc, self.f, Principal::Client(client % CLIENTS))?;
-        let request = Request::new(self.alloc, client % CLIENTS, timestamp as u64, call)?;
-        let signed = sign(self.alloc, &keys, Message::Request(request))?;
-        self.put(&signed, to, false)
+        let (client, timestamp) = (client % CLIENTS, self.tick());
+        let request = request(self.alloc, client, timestamp as u64, call)?;
+        let signed = members(self.f).request(self.alloc, client, request)?;
+        self.put(&request_message(signed), to, false)
     }
 }

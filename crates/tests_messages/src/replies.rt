@@ -5,7 +5,7 @@ ghost use Rattle.bfs_model.specs.Server.Limits.{most_reply_bytes};
 use bfs_replies::{Class, MOST_CLIENTS, ReadError, RecordError, ReplyTable};
 use bfs_testing::words::{same_bytes, spells};
 use bfs_testing::{holds, same};
-use bfs_types::MOST_REPLY_BYTES;
+use bfs_types::{MOST_REPLY_BYTES, TryClone};
 use sha2::{Digest, Sha256};
 use std::test::Fail;
 
@@ -39,7 +39,7 @@ fn a_copy_answers_alike(rt: HostRuntime) -> Result<(), Fail> {
     let alloc = rt.alloc();
     let mut table = ReplyTable::new(alloc, 2)?;
     table.record(1, 7, b"seven")?;
-    let copy = table.copy()?;
+    let copy = table.try_clone(alloc)?;
     table.record(1, 8, b"eight")?;
     same!(rt; copy.clients(), 2);
     same!(rt; copy.classify(0, 0), Class::New);
@@ -140,7 +140,7 @@ fn replies_grow_to_the_most(rt: HostRuntime) -> Result<(), Fail> {
         put(&mut table, client, reply.as_slice())?;
         holds!(rt; length_of_last(&table, client) == Some(size));
     }
-    let copy = table.copy()?;
+    let copy = table.try_clone(alloc)?;
     same!(rt; length_of_last(&copy, 0), Some(16));
     same!(rt; length_of_last(&copy, 1_023), Some(MOST_REPLY_BYTES));
     Ok(())

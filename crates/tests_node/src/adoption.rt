@@ -1,8 +1,8 @@
 //! A replica that is behind adopts the stable snapshot of another one.
 use crate::behind::{Step, plays};
 use crate::parts::Told;
-use crate::replica::{Said, Standing};
 use crate::texts::{ANOTHER_LINK, ANOTHER_OWNER, EARLIER_VERSION, LATER_VERSION, Text};
+use bfs_testing_nodes::calls::{Said, Standing};
 use std::test::Fail;
 
 const OF_THREE: &[Told] = &[Told(0, 0), Told(1, 1), Told(2, 2)];

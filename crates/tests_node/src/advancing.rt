@@ -1,8 +1,8 @@
 //! A replica that is alone executes all that is committed, makes the checkpoints that are due, and fails where memory runs out meanwhile.
 use crate::parts::Asked;
 use crate::replica::Kind::{Checkpoint, Reply};
-use crate::replica::{Said, Standing};
 use crate::script::{Step, plays};
+use bfs_testing_nodes::calls::{Said, Standing};
 use std::test::Fail;
 
 const REQUEST: Asked = Asked {
@@ -16,7 +16,7 @@ static THREE_BATCHES: [Step; 8] = [
     Step::Advance(&[]),
     Step::Take(REQUEST, Said::Sent(0)),
     Step::Proposals(3),
-    Step::Stands(Standing(1, 0, 0)),
+    Step::Stands(Standing(0, 0, 1)),
     Step::Advance(&[Reply, Reply, Reply]),
     Step::Stands(Standing(0, 3, 0)),
     Step::IsReady(false),
@@ -100,13 +100,13 @@ static NO_ROOM: [Step; 11] = [
     Step::Take(REQUEST, Said::Sent(0)),
     Step::Propose(Said::Sent(1)),
     Step::AdvanceWithoutRoom(Said::Refused(40)),
-    Step::Stands(Standing(1, 2, 0)),
+    Step::Stands(Standing(0, 2, 1)),
     Step::IsReady(false),
     Step::HasDigest(false),
     Step::AdvanceRefused(41),
     Step::AdvanceWithoutRoom(Said::Refused(41)),
     Step::Execute(Said::Refused(41)),
-    Step::Stands(Standing(1, 2, 0)),
+    Step::Stands(Standing(0, 2, 1)),
 ];
 
 #[test]
@@ -121,7 +121,7 @@ static NO_ROOM_BEHIND_16: [Step; 9] = [
     Step::ExecuteWithoutRoom(Said::Refused(40)),
     Step::ExecuteWithoutRoom(Said::Refused(41)),
     Step::Checkpoint(Said::Refused(41)),
-    Step::Stands(Standing(1, 16, 0)),
+    Step::Stands(Standing(0, 16, 1)),
     Step::StableAt(0, None),
     Step::HasDigest(false),
 ];

@@ -1,7 +1,7 @@
 //! A replica that is alone orders what comes at once.
 use crate::parts::Asked;
-use crate::replica::{Said, Standing};
 use crate::script::{Step, plays};
+use bfs_testing_nodes::calls::{Said, Standing};
 use std::test::Fail;
 
 const REQUEST: Asked = Asked {
@@ -12,10 +12,10 @@ const REQUEST: Asked = Asked {
 
 static A_REQUEST: [Step; 9] = [
     Step::TakeBytesOf(REQUEST, Said::Sent(0)),
-    Step::Stands(Standing(1, 0, 0)),
+    Step::Stands(Standing(0, 0, 1)),
     Step::Execute(Said::Nothing),
     Step::Propose(Said::Sent(1)),
-    Step::Stands(Standing(1, 0, 0)),
+    Step::Stands(Standing(0, 0, 1)),
     Step::IsReady(true),
     Step::Execute(Said::Sent(1)),
     Step::Stands(Standing(0, 1, 0)),

@@ -1,13 +1,13 @@
 //! With what a replica begins: its keys, which the settings may give too, and a backup's text.
 use crate::replica::{
-    CLIENTS, Standing, digest_of, keys_of, place_of, replica, replica_from, replica_with,
-    said_first, stable_numbers, standing_of,
+    CLIENTS, members, place_of, replica_from, replica_with, said_first, stable_numbers,
 };
 use crate::texts::{
     ANOTHER_LINK, ANOTHER_OWNER, EARLIER_VERSION, LATER_VERSION, Snapshot, Text, of_sixteen_batches,
 };
 use bfs_node::Node;
 use bfs_testing::asserts::compared;
+use bfs_testing_nodes::calls::{Standing, digest_of, standing_of};
 use bfs_types::Memory;
 use std::alloc::Global;
 use std::sync::Wait;
@@ -39,7 +39,7 @@ fn are_alike<R: Threads + Sync>(
     Ok(
         place_of(one) == place
             && place_of(other) == place
-            && digest.is_some()
+            && digest.is_ok()
             && digest == digest_of(rt, other)
             && !said.is_empty()
             && said == said_first(alloc, other)?,
@@ -48,8 +48,8 @@ fn are_alike<R: Threads + Sync>(
 
 fn are_alike_at<R: Threads + Sync>(rt: &R, alloc: Global, place: &Place) -> Result<bool, Memory> {
     let Place(f, me) = *place;
-    let mut one = replica(alloc, f, me)?;
-    let mut other = replica_with(alloc, keys_of(alloc, f, me, CLIENTS)?)?;
+    let mut one = members(f).replica(alloc, me)?;
+    let mut other = replica_with(alloc, members(f).keys_of(alloc, me)?)?;
     are_alike(rt, alloc, (f, me, CLIENTS), &mut one, &mut other)
 }
 
@@ -108,9 +108,9 @@ fn begun_of<R: Threads + Sync>(rt: &R, node: &Node, clients: u32, wanted: &[u8; 
         return Begun::Wrong;
     }
     match digest_of(rt, node) {
-        Some(digest) if digest == *wanted => Begun::Same,
-        Some(_) => Begun::Other,
-        None => Begun::Wrong,
+        Ok(digest) if digest == *wanted => Begun::Same,
+        Ok(_) => Begun::Other,
+        Err(_) => Begun::Wrong,
     }
 }
 

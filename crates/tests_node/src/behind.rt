@@ -1,12 +1,11 @@
 //! A replica that is behind, and the stable snapshot of another one, as tables of steps.
-use crate::parts::{Told, checkpoints};
-use crate::replica::{
-    Said, Standing, adopt, digest_of, is_behind, replica, stable_numbers, stable_of, standing_of,
-    take,
-};
+use crate::parts::{Told, stable_by};
+use crate::replica::{is_behind, members, stable_numbers};
 use crate::texts::{Snapshot, Text, of_sixteen_batches};
-use bfs_node::Node;
+use bfs_node::{Node, NodeError};
 use bfs_testing::asserts::compared;
+use bfs_testing_nodes::calls::{Said, Standing, digest_of, standing_of, take};
+use bfs_testing_nodes::snapshots::{adopt, sizes_of};
 use bfs_types::Memory;
 use std::alloc::Global;
 use std::sync::Wait;
@@ -37,14 +36,14 @@ pub enum Step {
 struct Behind {
     alloc: Global,
     node: Node,
-    before: Option<[u8; 32]>,
+    before: Result<[u8; 32], NodeError>,
     snapshot: Snapshot,
 }
 
 impl Behind {
     fn new<R: Threads + Wait + Sync>(rt: &R, alloc: Global) -> Result<Behind, Memory> {
         let snapshot = of_sixteen_batches(rt, alloc)?;
-        let node = replica(alloc, 1, 3)?;
+        let node = members(1).replica(alloc, 3)?;
         let before = digest_of(rt, &node);
         Ok(Behind {
             alloc,
@@ -56,7 +55,7 @@ impl Behind {
 
     fn tell<R: Threads + Sync>(&mut self, rt: &R, told: Told) -> Result<Said, Memory> {
         let signed = told.message(self.alloc, self.snapshot.digest)?;
-        Ok(take(rt, &mut self.node, signed))
+        Ok(Said::of_all(&take(rt, &mut self.node, signed)))
     }
 
     fn adopt<R: Threads + Sync>(
@@ -65,20 +64,20 @@ impl Behind {
         text: Text,
         told: &[Told],
     ) -> Result<Said, Memory> {
-        let certificate = checkpoints(self.alloc, told, self.snapshot.digest)?;
+        let checkpoint = stable_by(self.alloc, told, self.snapshot.digest)?;
         let text = self.snapshot.bytes(self.alloc, text)?;
-        Ok(adopt(rt, &mut self.node, &text, &certificate))
+        Ok(Said::of_none(adopt(rt, &mut self.node, &text, &checkpoint)))
     }
 
     fn has_adopted<R: Threads + Sync>(&self, rt: &R) -> bool {
-        digest_of(rt, &self.node) == Some(self.snapshot.digest)
-            && stable_of(&self.node) == Some((3, self.snapshot.text.len()))
+        digest_of(rt, &self.node) == Ok(self.snapshot.digest)
+            && sizes_of(&self.node) == Some((3, self.snapshot.text.len()))
     }
 
     fn is_as_before<R: Threads + Sync>(&self, rt: &R) -> bool {
-        self.before.is_some()
+        self.before.is_ok()
             && digest_of(rt, &self.node) == self.before
-            && stable_of(&self.node).is_none()
+            && sizes_of(&self.node).is_none()
     }
 
     // whether it comes as it is told

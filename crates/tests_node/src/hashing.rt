@@ -1,9 +1,9 @@
 //! A primary hashes a batch while the requests in it come, and proposes that one.
-use crate::replica::{CLIENTS, SECRET, replica};
-use bfs_auth::{Keys, Principal};
-use bfs_messages::{Message, Request, Signed, sign};
+use crate::replica::members;
+use bfs_messages::{Message, OrderMessage, Signed};
 use bfs_node::Node;
 use bfs_testing::same;
+use bfs_testing_nodes::members::{request, request_message};
 use bfs_types::{Memory, Time};
 use std::alloc::Global;
 use std::sync::Arc;
@@ -13,19 +13,11 @@ use std::thread::Threads;
 // so long that a few are enough for a thread
 const CALL: &[u8] = &[0; 8_192];
 
-fn request(alloc: Global, keys: &Keys, timestamp: u64) -> Result<Signed<Message>, Memory> {
-    if CALL.len() > 10_000 {
-        return Err(Memory);
-    }
-    let request = Request::new(alloc, 3, timestamp, CALL)?;
-    sign(alloc, keys, Message::Request(request))
-}
-
 fn requests(alloc: Global, count: u64) -> Result<Vec<Signed<Message>>, Memory> {
-    let keys = Keys::derive(alloc, SECRET, Principal::Client(3), 4, CLIENTS)?;
     let mut all = Vec::new(alloc);
     for timestamp in 0..count {
-        all.push(request(alloc, &keys, timestamp)?)?;
+        let request = request(alloc, 3, timestamp, CALL)?;
+        all.push(request_message(members(1).request(alloc, 3, request)?))?;
     }
     Ok(all)
 }
@@ -45,7 +37,9 @@ fn propose(node: &mut Node, time: Time) -> Result<usize, Memory> {
         return Err(Memory);
     };
     match &signed.message {
-        Message::PrePrepare(proposal) => Ok(Arc::strong_count(proposal.batch())),
+        Message::Order(OrderMessage::PrePrepare(proposal)) => {
+            Ok(Arc::strong_count(proposal.batch()))
+        }
         _ => Err(Memory),
     }
 }
@@ -57,7 +51,7 @@ fn sharers<R: Threads + Sync>(
     count: u64,
     seconds: u32,
 ) -> Result<usize, Memory> {
-    let mut node = replica(alloc, 1, 0)?;
+    let mut node = members(1).replica(alloc, 0)?;
     let before = Time::new(1, 0).ok_or(Memory)?;
     take(rt, &mut node, before, &requests(alloc, count)?)?;
     propose(&mut node, Time::new(seconds, 0).ok_or(Memory)?)

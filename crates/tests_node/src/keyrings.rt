@@ -1,13 +1,14 @@
 //! Four replicas and two clients whose keys are drawn at random, and told by no secret that they share.
-use crate::replica::{Standing, advance, digest_of, proposed, replica_with, sent_for, standing_of};
+use crate::replica::replica_with;
 use bfs_auth::{Keys, Pair, Principal};
 use bfs_codec::encode;
-use bfs_messages::{Message, Request, Signed, is_signed, sign};
+use bfs_messages::{Message, Signed, is_signed, sign};
 use bfs_node::{Node, Receivers, receivers_of};
 use bfs_testing::asserts::compared;
 use bfs_testing::generated::Generator;
 use bfs_testing::numbers::NULL;
-use bfs_testing::words::call;
+use bfs_testing_nodes::calls::{Standing, advance, deliver, digest_of, propose, standing_of};
+use bfs_testing_nodes::members::null_request;
 use bfs_types::Memory;
 use std::alloc::Global;
 use std::sync::Wait;
@@ -91,15 +92,7 @@ impl Keyring {
 }
 
 fn request(alloc: Global, client: &Keys) -> Result<Signed<Message>, Memory> {
-    let bytes = call(alloc, 7, NULL)?;
-    if bytes.len() > 1_000 {
-        return Err(Memory);
-    }
-    sign(
-        alloc,
-        client,
-        Message::Request(Request::new(alloc, 1, 7, &bytes)?),
-    )
+    sign(alloc, client, Message::Request(null_request(alloc, 1, 7)?))
 }
 
 /// The replicas, what is on its way to them, and what goes to the client.
@@ -150,8 +143,8 @@ impl Four {
         let Some(node) = self.nodes.get_mut(number) else {
             return Ok(());
         };
-        let sent = sent_for(rt, node, bytes);
-        let more = advance(rt, node).ok();
+        let sent = deliver(rt, node, bytes);
+        let more = advance(rt, node);
         self.send(sent.unwrap_or(Vec::new(self.alloc)))?;
         self.send(more.unwrap_or(Vec::new(self.alloc)))
     }
@@ -181,7 +174,7 @@ impl Four {
         let Some(primary) = self.nodes.get_mut(0) else {
             return Ok(());
         };
-        if let Some(signed) = proposed(primary) {
+        if let Ok(signed) = propose(primary, 1) {
             self.on_their_way.push(signed)?;
         }
         Ok(())
@@ -206,7 +199,7 @@ impl Four {
         let mut count = 0usize;
         let mut first = None;
         for node in &self.nodes {
-            let digest = digest_of(rt, node);
+            let digest = digest_of(rt, node).ok();
             first = first.or(digest);
             if digest.is_some() && digest == first && standing_of(node) == Standing(0, 1, 0) {
                 count = usize::saturating_add(count, 1);

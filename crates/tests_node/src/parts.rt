@@ -1,9 +1,10 @@
 //! The messages that tests make in the name of clients and replicas.
-use crate::replica::{CLIENTS, SECRET};
-use bfs_auth::{Authenticator, Keys, Principal};
+use crate::replica::members;
+use bfs_auth::Authenticator;
 use bfs_codec::encode;
-use bfs_messages::{Checkpoint, Message, Reply, Request, Signed, sign};
-use bfs_testing::words::call;
+use bfs_log::StableCheckpoint;
+use bfs_messages::{Checkpoint, Message, Reply, Signed, sign_checkpoint};
+use bfs_testing_nodes::members::{null_request, request_message};
 use bfs_types::Memory;
 use std::alloc::Global;
 
@@ -18,19 +19,10 @@ pub struct Asked {
 }
 
 impl Asked {
-    fn request(self, alloc: Global) -> Result<Request, Memory> {
-        let bytes = call(alloc, self.timestamp, 0)?;
-        if bytes.len() > 1_000 {
-            return Err(Memory);
-        }
-        Request::new(alloc, self.client, self.timestamp as u64, &bytes)
-    }
-
     /// The request as a message.
     pub fn message(self, alloc: Global) -> Result<Signed<Message>, Memory> {
-        let signer = Principal::Client(self.signer % CLIENTS);
-        let keys = Keys::derive(alloc, SECRET, signer, 1, CLIENTS)?;
-        sign(alloc, &keys, Message::Request(self.request(alloc)?))
+        let request = null_request(alloc, self.client, self.timestamp)?;
+        Ok(request_message(members(0).request(alloc, self.signer, request)?))
     }
 
     /// The bytes of the message.
@@ -52,25 +44,28 @@ pub fn reply(alloc: Global) -> Result<Signed<Message>, Memory> {
 pub struct Told(pub u32, pub u32);
 
 impl Told {
+    fn checkpoint(self, alloc: Global, digest: [u8; 32]) -> Result<Signed<Checkpoint>, Memory> {
+        let Told(signer, sender) = self;
+        let keys = members(1).keys_of(alloc, signer)?;
+        sign_checkpoint(alloc, &keys, Checkpoint::new(sender, 16, digest))
+    }
+
     /// The CHECKPOINT as a message.
     pub fn message(self, alloc: Global, digest: [u8; 32]) -> Result<Signed<Message>, Memory> {
-        let Told(signer, sender) = self;
-        let signer = Principal::Replica(signer % 4);
-        let keys = Keys::derive(alloc, SECRET, signer, 4, CLIENTS)?;
-        let checkpoint = Checkpoint::new(sender, 16, digest);
-        sign(alloc, &keys, Message::Checkpoint(checkpoint))
+        let checkpoint = self.checkpoint(alloc, digest)?;
+        Ok(checkpoint.to_order(alloc)?.into_message())
     }
 }
 
-/// CHECKPOINTs that tell a digest.
-pub fn checkpoints(
+/// Number 16 with a digest, which CHECKPOINTs tell.
+pub fn stable_by(
     alloc: Global,
     told: &[Told],
     digest: [u8; 32],
-) -> Result<Vec<Signed<Message>>, Memory> {
+) -> Result<StableCheckpoint, Memory> {
     let mut all = Vec::new(alloc);
     for one in told {
-        all.push(one.message(alloc, digest)?)?;
+        all.push(one.checkpoint(alloc, digest)?)?;
     }
-    Ok(all)
+    Ok(StableCheckpoint::new(16, digest, all))
 }

@@ -1,9 +1,11 @@
 //! Calls as values: what a replica performs comes to what its calls come to.
-use crate::parts::Asked;
-use crate::replica::{Said, Standing, replica, standing_of};
+use crate::parts::{Asked, stable_by};
+use crate::replica::members;
+use bfs_log::StableCheckpoint;
 use bfs_node::{Executor, NoGate, Node, NodeError};
-use bfs_node_agreement::performing::{NodeCall, Sent, perform};
+use bfs_nodes_agree::node_calls::performing::{NodeCall, Sent, perform};
 use bfs_testing::asserts::compared;
+use bfs_testing_nodes::calls::{Said, Standing, standing_of};
 use bfs_types::{Memory, Time};
 use std::alloc::Global;
 use std::sync::Wait;
@@ -42,6 +44,21 @@ fn performs<R: Threads + Wait + Sync>(rt: &R, node: &mut Node, call: NodeCall<'_
     said(&perform(node, rt, Executor::serial(), &NoGate, call))
 }
 
+fn adopts<R: Threads + Wait + Sync>(
+    rt: &R,
+    node: &mut Node,
+    certificate: &StableCheckpoint,
+) -> Said {
+    performs(
+        rt,
+        node,
+        NodeCall::Adopt {
+            text: &[],
+            certificate,
+        },
+    )
+}
+
 fn performed<R: Threads + Wait + Sync>(
     rt: &R,
     alloc: Global,
@@ -55,10 +72,10 @@ fn performed<R: Threads + Wait + Sync>(
         Call::Propose => NodeCall::Propose(Time::epoch()),
         Call::Execute => NodeCall::Execute,
         Call::Checkpoint => NodeCall::Checkpoint,
-        Call::Adopt => NodeCall::Adopt {
-            text: &[],
-            certificate: &[],
-        },
+        Call::Adopt => {
+            let none = stable_by(alloc, &[], [0; 32])?;
+            return Ok(adopts(rt, node, &none));
+        }
     };
     Ok(performs(rt, node, call))
 }
@@ -104,9 +121,9 @@ static CALLS: &[(Call, Said)] = &[
 #[test]
 fn a_call_that_is_performed_does_what_it_does(rt: HostRuntime) -> Result<(), Fail> {
     let alloc = rt.alloc();
-    let mut node = replica(alloc, 0, 0)?;
+    let mut node = members(0).replica(alloc, 0)?;
     compared(first_wrong(&rt, alloc, &mut node, CALLS)?, None)?;
     compared(leaves(&rt, &mut node), true)?;
-    compared(standing_of(&node), Standing(0, 1, 1))?;
+    compared(standing_of(&node), Standing(1, 1, 0))?;
     Ok(())
 }

@@ -1,7 +1,7 @@
 //! What a replica refuses.
 use crate::parts::Asked;
-use crate::replica::{Said, Standing};
 use crate::script::{Step, plays};
+use bfs_testing_nodes::calls::{Said, Standing};
 use std::test::Fail;
 
 static NO_MESSAGE: [Step; 2] = [
@@ -46,7 +46,7 @@ const ONE_TOO_MANY: Asked = Asked {
 static FULL: [Step; 3] = [
     Step::Fill(1_024),
     Step::Take(ONE_TOO_MANY, Said::Refused(13)),
-    Step::Stands(Standing(1_024, 0, 0)),
+    Step::Stands(Standing(0, 0, 1_024)),
 ];
 
 #[test]

@@ -1,12 +1,15 @@
 //! What happens to one replica, step after step, as tables. The proof of a test that tells it by calls takes many times as long.
 use crate::parts::{Asked, reply};
 use crate::replica::{
-    Kind, Said, Standing, advance, advance_without_room, are_of, checkpoint, deliver, digest_of,
-    execute, execute_without_room, is_ready, propose, replica, stable_numbers, stable_of,
-    standing_of, take,
+    Kind, advance_without_room, are_of, execute_without_room, is_ready, members, stable_numbers,
 };
+use bfs_messages::{Message, Signed};
 use bfs_node::Node;
 use bfs_testing::asserts::compared;
+use bfs_testing_nodes::calls::{
+    Said, Standing, advance, checkpoint, deliver, digest_of, execute, propose, standing_of, take,
+};
+use bfs_testing_nodes::snapshots::sizes_of;
 use bfs_types::Memory;
 use std::alloc::Global;
 use std::sync::Wait;
@@ -58,6 +61,26 @@ pub enum Step {
     HasStable(usize, usize),
 }
 
+fn took<R: Threads + Sync>(rt: &R, node: &mut Node, signed: Signed<Message>) -> Said {
+    Said::of_all(&take(rt, node, signed))
+}
+
+fn heard<R: Threads + Sync>(rt: &R, node: &mut Node, bytes: &[u8]) -> Said {
+    Said::of_all(&deliver(rt, node, bytes))
+}
+
+fn proposed(node: &mut Node) -> Said {
+    Said::of_one(&propose(node, 1))
+}
+
+fn executed<R: Threads + Wait + Sync>(rt: &R, node: &mut Node) -> Said {
+    Said::of_some(&execute(rt, node))
+}
+
+fn told<R: Threads + Sync>(rt: &R, node: &mut Node) -> Said {
+    Said::of_one(&checkpoint(rt, node))
+}
+
 fn fill<R: Threads + Sync>(
     rt: &R,
     alloc: Global,
@@ -70,7 +93,7 @@ fn fill<R: Threads + Sync>(
             client: 3,
             timestamp,
         };
-        if take(rt, node, asked.message(alloc)?) != Said::Sent(0) {
+        if took(rt, node, asked.message(alloc)?) != Said::Sent(0) {
             return Ok(false);
         }
     }
@@ -78,9 +101,9 @@ fn fill<R: Threads + Sync>(
 }
 
 fn batch<R: Threads + Wait + Sync>(rt: &R, node: &mut Node) -> bool {
-    checkpoint(rt, node) == Said::Refused(26)
-        && propose(node) == Said::Sent(1)
-        && execute(rt, node) == Said::Sent(0)
+    told(rt, node) == Said::Refused(26)
+        && proposed(node) == Said::Sent(1)
+        && executed(rt, node) == Said::Sent(0)
 }
 
 fn batches<R: Threads + Wait + Sync>(rt: &R, node: &mut Node, count: u32) -> bool {
@@ -94,7 +117,7 @@ fn batches<R: Threads + Wait + Sync>(rt: &R, node: &mut Node, count: u32) -> boo
 
 fn proposals(node: &mut Node, count: u32) -> bool {
     for _ in 0..count {
-        if propose(node) != Said::Sent(1) {
+        if proposed(node) != Said::Sent(1) {
             return false;
         }
     }
@@ -109,7 +132,7 @@ fn advances<R: Threads + Wait + Sync>(rt: &R, node: &mut Node, wanted: &[Kind]) 
 }
 
 fn has_stable(node: &Node, checkpoints: usize, bytes: usize) -> bool {
-    match stable_of(node) {
+    match sizes_of(node) {
         Some((certificate, text)) => certificate == checkpoints && text > bytes,
         None => false,
     }
@@ -123,25 +146,25 @@ fn happens<R: Threads + Wait + Sync>(
     step: Step,
 ) -> Result<bool, Memory> {
     Ok(match step {
-        Step::Take(asked, wanted) => take(rt, node, asked.message(alloc)?) == wanted,
-        Step::TakeBytesOf(asked, wanted) => deliver(rt, node, &asked.bytes(alloc)?) == wanted,
-        Step::Deliver(bytes, wanted) => deliver(rt, node, bytes) == wanted,
-        Step::TakeReply(wanted) => take(rt, node, reply(alloc)?) == wanted,
+        Step::Take(asked, wanted) => took(rt, node, asked.message(alloc)?) == wanted,
+        Step::TakeBytesOf(asked, wanted) => heard(rt, node, &asked.bytes(alloc)?) == wanted,
+        Step::Deliver(bytes, wanted) => heard(rt, node, bytes) == wanted,
+        Step::TakeReply(wanted) => took(rt, node, reply(alloc)?) == wanted,
         Step::Fill(count) => fill(rt, alloc, node, count)?,
-        Step::Propose(wanted) => propose(node) == wanted,
-        Step::Execute(wanted) => execute(rt, node) == wanted,
+        Step::Propose(wanted) => proposed(node) == wanted,
+        Step::Execute(wanted) => executed(rt, node) == wanted,
         Step::ExecuteWithoutRoom(wanted) => execute_without_room(rt, node) == wanted,
         Step::Advance(wanted) => advances(rt, node, wanted),
-        Step::AdvanceRefused(code) => advance(rt, node).err() == Some(code),
+        Step::AdvanceRefused(code) => { Said::of_all(&advance(rt, node)) == Said::Refused(code) }
         Step::AdvanceWithoutRoom(wanted) => advance_without_room(rt, node) == wanted,
         Step::Proposals(count) => proposals(node, count),
-        Step::Checkpoint(wanted) => checkpoint(rt, node) == wanted,
+        Step::Checkpoint(wanted) => told(rt, node) == wanted,
         Step::Batches(count) => batches(rt, node, count),
         Step::Stands(wanted) => standing_of(node) == wanted,
         Step::IsReady(wanted) => is_ready(node) == wanted,
-        Step::HasDigest(wanted) => digest_of(rt, node).is_some() == wanted,
+        Step::HasDigest(wanted) => digest_of(rt, node).is_ok() == wanted,
         Step::StableAt(low, snapshot) => stable_numbers(node) == (low, snapshot),
-        Step::HasNoneStable => stable_of(node).is_none(),
+        Step::HasNoneStable => sizes_of(node).is_none(),
         Step::HasStable(checkpoints, bytes) => has_stable(node, checkpoints, bytes),
     })
 }
@@ -169,7 +192,7 @@ pub fn plays<R: Threads + Wait + Sync>(
     me: u32,
     steps: &[Step],
 ) -> Result<(), Fail> {
-    let mut node = replica(alloc, f, me)?;
+    let mut node = members(f).replica(alloc, me)?;
     compared(first_wrong(rt, alloc, &mut node, steps)?, None)?;
     Ok(())
 }

@@ -1,6 +1,8 @@
 //! The text of a replica's stable snapshot, and other texts.
-use crate::replica::{checkpoint, digest_of, execute, propose, replica, stable_text};
-use bfs_node::Node;
+use crate::replica::members;
+use bfs_node::{Node, NodeError};
+use bfs_testing_nodes::calls::{checkpoint, digest_of, execute, propose};
+use bfs_testing_nodes::snapshots::snapshot_of;
 use bfs_types::Memory;
 use std::alloc::Global;
 use std::sync::Wait;
@@ -43,19 +45,23 @@ pub struct Snapshot {
 }
 
 // 16 batches without requests, and a checkpoint
-fn execute_sixteen<R: Threads + Wait + Sync>(rt: &R, node: &mut Node) {
+fn execute_sixteen<R: Threads + Wait + Sync>(rt: &R, node: &mut Node) -> Result<(), NodeError> {
     for _ in 0u32..16 {
-        propose(node);
-        execute(rt, node);
+        propose(node, 1)?;
+        execute(rt, node)?;
     }
-    checkpoint(rt, node);
+    checkpoint(rt, node)?;
+    Ok(())
 }
 
-fn snapshot_of<R: Threads + Sync>(rt: &R, alloc: Global, node: &Node) -> Result<Snapshot, Memory> {
-    let text = stable_text(alloc, node)?;
-    match digest_of(rt, node) {
-        Some(digest) => Ok(Snapshot { text, digest }),
-        None => Err(Memory),
+fn stable_in<R: Threads + Sync>(rt: &R, alloc: Global, node: &Node) -> Result<Snapshot, Memory> {
+    let stable = snapshot_of(alloc, node)?;
+    match (stable, digest_of(rt, node)) {
+        (Some(stable), Ok(digest)) => Ok(Snapshot {
+            text: stable.text,
+            digest,
+        }),
+        _ => Err(Memory),
     }
 }
 
@@ -64,9 +70,9 @@ pub fn of_sixteen_batches<R: Threads + Wait + Sync>(
     rt: &R,
     alloc: Global,
 ) -> Result<Snapshot, Memory> {
-    let mut node = replica(alloc, 0, 0)?;
-    execute_sixteen(rt, &mut node);
-    snapshot_of(rt, alloc, &node)
+    let mut node = members(0).replica(alloc, 0)?;
+    execute_sixteen(rt, &mut node).map_err(|_| Memory)?;
+    stable_in(rt, alloc, &node)
 }
 
 fn copy_of(alloc: Global, text: &[u8]) -> Result<Vec<u8>, Memory> {

@@ -1,11 +1,12 @@
 //! A PRE-PREPARE comes while a request waits of the same client and timestamp: it is taken where its own request is the client's.
-use crate::replica::{CLIENTS, SECRET, Said, deliver, replica};
-use bfs_auth::{Authenticator, Keys, Principal};
+use crate::replica::members;
 use bfs_codec::encode;
-use bfs_messages::{Message, OrderedBatch, PrePrepare, Request, Signed, sign};
+use bfs_messages::{OrderMessage, OrderedBatch, PrePrepare, Request, Signed, sign_order};
 use bfs_node::Node;
 use bfs_testing::asserts::compared;
-use bfs_testing_messages::with_changed_entry;
+use bfs_testing_nodes::calls::{Said, deliver};
+use bfs_testing_nodes::hashes::with_changed_entry;
+use bfs_testing_nodes::members::{request, request_message};
 use bfs_types::{Memory, Time};
 use std::alloc::Global;
 use std::sync::Arc;
@@ -23,36 +24,25 @@ struct Form {
     spoiled: Option<usize>,
 }
 
-fn request(alloc: Global, call: u8) -> Result<Request, Memory> {
-    Request::new(alloc, 3, 5, &[call])
+// a request of the client with a call of one byte, which it has signed
+fn signed(alloc: Global, call: u8) -> Result<Signed<Request>, Memory> {
+    members(1).request(alloc, 3, request(alloc, 3, 5, &[call])?)
 }
 
 impl Form {
-    fn signature(self, alloc: Global) -> Result<Authenticator, Memory> {
-        let keys = Keys::derive(alloc, SECRET, Principal::Client(3), 4, CLIENTS)?;
-        let signed = sign(alloc, &keys, Message::Request(request(alloc, self.signed)?))?;
-        Ok(signed.auth)
-    }
-
-    fn auth(self, alloc: Global) -> Result<Authenticator, Memory> {
-        let auth = self.signature(alloc)?;
-        match self.spoiled {
-            None => Ok(auth),
-            Some(replica) => with_changed_entry(alloc, &auth, replica),
-        }
-    }
-
     fn request(self, alloc: Global) -> Result<Signed<Request>, Memory> {
-        let message = request(alloc, self.call)?;
-        let auth = self.auth(alloc)?;
+        let message = request(alloc, 3, 5, &[self.call])?;
+        let auth = signed(alloc, self.signed)?.auth;
+        let auth = match self.spoiled {
+            None => auth,
+            Some(replica) => with_changed_entry(alloc, &auth, replica)?,
+        };
         Ok(Signed { message, auth })
     }
 
     // the bytes of the REQUEST
     fn bytes(self, alloc: Global) -> Result<Vec<u8>, Memory> {
-        let message = Message::Request(request(alloc, self.call)?);
-        let auth = self.auth(alloc)?;
-        encode(alloc, &Signed { message, auth })
+        encode(alloc, &request_message(self.request(alloc)?))
     }
 
     // the batch of it alone
@@ -65,10 +55,10 @@ impl Form {
 
     // the bytes of the primary's PRE-PREPARE of that batch
     fn proposed(self, alloc: Global) -> Result<Vec<u8>, Memory> {
-        let keys = Keys::derive(alloc, SECRET, Principal::Replica(0), 4, CLIENTS)?;
+        let keys = members(1).keys_of(alloc, 0)?;
         let proposal = PrePrepare::new(0, 0, 1, self.batch(alloc)?);
-        let signed = sign(alloc, &keys, Message::PrePrepare(proposal))?;
-        encode(alloc, &signed)
+        let signed = sign_order(alloc, &keys, OrderMessage::PrePrepare(proposal))?;
+        encode(alloc, &signed.into_message())
     }
 }
 
@@ -116,14 +106,14 @@ fn said_at<R: Threads + Sync>(
     node: &mut Node,
     proposed: Form,
 ) -> Result<Said, Memory> {
-    if deliver(rt, node, &WAITS.bytes(alloc)?) != Said::Sent(0) {
+    if Said::of_all(&deliver(rt, node, &WAITS.bytes(alloc)?)) != Said::Sent(0) {
         return Ok(Said::Nothing);
     }
-    Ok(deliver(rt, node, &proposed.proposed(alloc)?))
+    Ok(Said::of_all(&deliver(rt, node, &proposed.proposed(alloc)?)))
 }
 
 fn said_of<R: Threads + Sync>(rt: &R, alloc: Global, proposed: Form) -> Result<Said, Memory> {
-    let mut node = replica(alloc, 1, 1)?;
+    let mut node = members(1).replica(alloc, 1)?;
     said_at(rt, alloc, &mut node, proposed)
 }
 

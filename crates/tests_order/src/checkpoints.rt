@@ -137,6 +137,15 @@ static CERTIFICATES: Script = Script {
         // of one that is no replica
         Step(Event::Install(&[(0, 1), (2, 1), (4, 1)]), Refused(34)),
         Step(Event::Install(&[]), Refused(34)),
+        // another number, and another digest, than they tell
+        Step(
+            Event::InstallAs(32, 1, &[(0, 1), (2, 1), (3, 1)]),
+            Refused(34),
+        ),
+        Step(
+            Event::InstallAs(16, 2, &[(0, 1), (2, 1), (3, 1)]),
+            Refused(34),
+        ),
         Step(Event::Marks, Marks(0, 32)),
         Step(Event::LastExecuted, Number(0)),
         Step(Event::Install(&[(0, 1), (2, 1), (3, 1)]), Done),

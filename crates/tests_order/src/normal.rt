@@ -1,5 +1,5 @@
 //! Batches are proposed, prepared, committed and executed in one view.
-use crate::parts::Told::{Batch, Commit, OtherCommit, OtherPrepare, Prepare, Proposal, Request};
+use crate::parts::Told::{Batch, Commit, OtherCommit, OtherPrepare, Prepare, Proposal};
 use crate::replica::Answer::{
     Answered, Done, Executed, Itself, Kept, Marks, Number, Proposed, Refused, Sent,
 };
@@ -21,7 +21,6 @@ static A_NUMBER: Script = Script {
         Step(Event::Take(2, Proposal(2, 0, 1)), Refused(28)),
         Step(Event::TakeSpoiled((0, 1), Proposal(0, 0, 1)), Refused(24)),
         Step(Event::TakeSpoiled((0, 2), Proposal(0, 0, 1)), Refused(29)),
-        Step(Event::TakeUnsigned(Request), Refused(36)),
         Step(Event::Take(2, Prepare(2, 0, 1)), Sent(1)),
         Step(Event::Take(0, Commit(0, 0, 1)), Sent(0)),
         Step(Event::Next, Number(0)),

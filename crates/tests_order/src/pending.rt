@@ -44,7 +44,7 @@ fn waiting(alloc: Global, names: &[Name]) -> Result<PendingRequests, Memory> {
 }
 
 fn batch(alloc: Global, names: &[Name]) -> Result<OrderedBatch, Memory> {
-    let requests = waiting(alloc, names)?.try_clone(alloc)?;
+    let requests = waiting(alloc, names)?.to_vec(alloc)?;
     Ok(OrderedBatch::new(at(1)?, requests))
 }
 

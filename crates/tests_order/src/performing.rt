@@ -1,10 +1,11 @@
 //! Calls as values: two orders come to the same where each call is made of one, and performed on the other.
-use crate::parts::{Told, keys_of, null};
-use bfs_auth::{Keys, Principal};
+use crate::parts::{Told, members, null, told_by};
+use bfs_auth::Keys;
 use bfs_codec::encode;
-use bfs_messages::{HashedBatch, Message, Signed};
+use bfs_log::StableCheckpoint;
+use bfs_messages::{HashedBatch, Message, OrderMessage, Signed};
+use bfs_nodes_agree::order_calls::performing::{OrderCall, Sent, perform};
 use bfs_order::{Order, OrderError};
-use bfs_order_agreement::performing::{OrderCall, Sent, perform};
 use bfs_pending::PendingRequests;
 use bfs_testing::asserts::compared;
 use bfs_types::Memory;
@@ -33,16 +34,12 @@ enum Call {
 
 const DIGEST: [u8; 32] = [7; 32];
 
-fn certificate(
-    alloc: Global,
-    faults: u32,
-    senders: &[u32],
-) -> Result<Vec<Signed<Message>>, Memory> {
-    let mut all = Vec::new(alloc);
+fn stable_by(alloc: Global, faults: u32, senders: &[u32]) -> Result<StableCheckpoint, Memory> {
+    let mut told = Vec::new(alloc);
     for sender in senders {
-        all.push(Told::Checkpoint(*sender, 16, 7).signed_by(alloc, faults, *sender)?)?;
+        told.push(told_by(alloc, faults, *sender, 7)?)?;
     }
-    Ok(all)
+    Ok(StableCheckpoint::new(16, DIGEST, told))
 }
 
 fn alone(alloc: Global, signed: Signed<Message>) -> Result<Vec<Signed<Message>>, Memory> {
@@ -54,9 +51,9 @@ fn alone(alloc: Global, signed: Signed<Message>) -> Result<Vec<Signed<Message>>,
 // what is sent, or why nothing is
 type Given = Result<Vec<Signed<Message>>, OrderError>;
 
-fn one(alloc: Global, given: Result<Signed<Message>, OrderError>) -> Result<Given, Memory> {
+fn one(alloc: Global, given: Result<Signed<OrderMessage>, OrderError>) -> Result<Given, Memory> {
     match given {
-        Ok(signed) => Ok(Ok(alone(alloc, signed)?)),
+        Ok(signed) => Ok(Ok(alone(alloc, signed.into_message())?)),
         Err(error) => Ok(Err(error)),
     }
 }
@@ -74,7 +71,7 @@ fn take<R: Threads + Sync>(
     alloc: Global,
     order: &mut Order,
     keys: &Keys,
-    signed: Signed<Message>,
+    signed: Signed<OrderMessage>,
 ) -> Given {
     order.on_message(rt, keys, &PendingRequests::new(alloc), signed)
 }
@@ -96,13 +93,8 @@ fn checkpoint(alloc: Global, order: &mut Order, keys: &Keys, number: u64) -> Res
     one(alloc, order.on_checkpoint(keys, number, DIGEST))
 }
 
-fn install(
-    alloc: Global,
-    order: &mut Order,
-    keys: &Keys,
-    certificate: &[Signed<Message>],
-) -> Given {
-    nothing(alloc, order.install(keys, certificate))
+fn install(alloc: Global, order: &mut Order, keys: &Keys, stable: &StableCheckpoint) -> Given {
+    nothing(alloc, order.install(keys, stable))
 }
 
 fn leave(alloc: Global, order: &mut Order, view: u64) -> Given {
@@ -155,17 +147,17 @@ impl Two {
         Ok(Two {
             alloc,
             faults,
-            keys: keys_of(alloc, faults, Principal::Replica(me))?,
+            keys: members(faults).keys_of(alloc, me)?,
             made: Order::new(alloc, faults, me),
             performed: Order::new(alloc, faults, me),
         })
     }
 
     // what a call installs
-    fn brought(&self, call: Call) -> Result<Vec<Signed<Message>>, Memory> {
+    fn brought(&self, call: Call) -> Result<StableCheckpoint, Memory> {
         match call {
-            Call::Install(senders) => certificate(self.alloc, self.faults, senders),
-            _ => Ok(Vec::new(self.alloc)),
+            Call::Install(senders) => stable_by(self.alloc, self.faults, senders),
+            _ => stable_by(self.alloc, self.faults, &[]),
         }
     }
 

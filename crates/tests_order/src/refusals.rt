@@ -1,21 +1,8 @@
 //! Each refusal of a message, with the ones before and behind it: a message with two faults gets the first.
-use crate::parts::Told::{
-    Batch, Checkpoint, Commit, OtherCommit, OtherPrepare, Prepare, Proposal, Request,
-};
+use crate::parts::Told::{Batch, Checkpoint, Commit, OtherCommit, OtherPrepare, Prepare, Proposal};
 use crate::replica::Answer::{Done, Kept, Number, Refused, Sent};
 use crate::script::{Event, Script, Step};
 use std::test::Fail;
-
-static A_REQUEST: Script = Script {
-    faults: 1,
-    me: 1,
-    steps: &[Step(Event::TakeUnsigned(Request), Refused(36))],
-};
-
-#[test]
-fn a_request_is_no_message_of_the_order(rt: HostRuntime) -> Result<(), Fail> {
-    A_REQUEST.plays(&rt, rt.alloc())
-}
 
 // in a later view: without entries, by another one, and by one that is no replica
 static NOT_SIGNED: Script = Script {
@@ -96,7 +83,6 @@ static AMONG_31: Script = Script {
     faults: 10,
     me: 30,
     steps: &[
-        Step(Event::TakeUnsigned(Request), Refused(36)),
         Step(Event::Take(31, Prepare(31, 1, 1)), Refused(24)),
         Step(Event::TakeSpoiled((0, 30), Proposal(0, 1, 1)), Refused(24)),
         Step(Event::Take(0, Batch(0, 1, 1, 2)), Refused(24)),
@@ -157,7 +143,6 @@ static ALONE: Script = Script {
     faults: 0,
     me: 0,
     steps: &[
-        Step(Event::TakeUnsigned(Request), Refused(36)),
         Step(Event::Take(1, Commit(1, 1, 1)), Refused(24)),
         Step(Event::TakeSpoiled((0, 0), Proposal(0, 1, 33)), Refused(24)),
         Step(Event::Take(0, Batch(0, 1, 33, 2)), Refused(24)),

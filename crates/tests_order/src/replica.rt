@@ -1,7 +1,8 @@
 //! A replica among 3f + 1, with its keys. What is done to it comes to an answer, and to nothing that a contract says.
-use crate::parts::{Told, keys_of, null};
-use bfs_auth::{Keys, Principal};
-use bfs_messages::{HashedBatch, Message, Signed};
+use crate::parts::{Told, handed_by, members, null, told_by};
+use bfs_auth::Keys;
+use bfs_log::StableCheckpoint;
+use bfs_messages::{Checkpoint, HashedBatch, Message, OrderMessage, PrePrepare, Signed};
 use bfs_order::{Order, OrderError};
 use bfs_pending::PendingRequests;
 use bfs_types::Memory;
@@ -54,15 +55,10 @@ fn sent(given: Result<Vec<Signed<Message>>, OrderError>) -> Answer {
     }
 }
 
-fn proposed(given: Result<Signed<Message>, OrderError>) -> Answer {
+fn proposed(given: Result<Signed<OrderMessage>, OrderError>) -> Answer {
     match given {
         Err(error) => Answer::Refused(error.code()),
-        Ok(signed) => match &signed.message {
-            Message::PrePrepare(proposal) => {
-                Answer::Proposed(proposal.vote().view(), proposal.vote().number())
-            }
-            _ => Answer::Done,
-        },
+        Ok(signed) => Answer::Proposed(signed.message.view(), signed.message.number()),
     }
 }
 
@@ -83,12 +79,12 @@ impl Replica {
         Ok(Replica {
             alloc,
             faults,
-            keys: keys_of(alloc, faults, Principal::Replica(me))?,
+            keys: members(faults).keys_of(alloc, me)?,
             order: Order::new(alloc, faults, me),
         })
     }
 
-    fn take_signed<R: Threads + Sync>(&mut self, rt: &R, signed: Signed<Message>) -> Answer {
+    fn take_signed<R: Threads + Sync>(&mut self, rt: &R, signed: Signed<OrderMessage>) -> Answer {
         let none = PendingRequests::new(self.alloc);
         sent(self.order.on_message(rt, &self.keys, &none, signed))
     }
@@ -213,19 +209,19 @@ impl Replica {
     }
 
     // CHECKPOINTs of number 16, each of a sender and with a digest of one byte
-    fn certificate(&self, told: &[(u32, u8)]) -> Result<Vec<Signed<Message>>, Memory> {
+    fn told(&self, told: &[(u32, u8)]) -> Result<Vec<Signed<Checkpoint>>, Memory> {
         let mut all = Vec::new(self.alloc);
         for (sender, byte) in told {
-            let checkpoint = Told::Checkpoint(*sender, 16, *byte);
-            all.push(checkpoint.signed_by(self.alloc, self.faults, *sender)?)?;
+            all.push(told_by(self.alloc, self.faults, *sender, *byte)?)?;
         }
         Ok(all)
     }
 
-    /// It installs a certificate: CHECKPOINTs of number 16, each of a sender and with a digest of one byte.
-    pub fn install(&mut self, told: &[(u32, u8)]) -> Result<Answer, Memory> {
-        let certificate = self.certificate(told)?;
-        Ok(done(self.order.install(&self.keys, &certificate)))
+    /// It installs a number with a digest of one byte, by CHECKPOINTs of number 16, each of a sender and with a digest of one byte.
+    pub fn install(&mut self, number: u64, byte: u8, told: &[(u32, u8)]) -> Result<Answer, Memory> {
+        let told = self.told(told)?;
+        let stable = StableCheckpoint::new(number % (1 << 63), [byte; 32], told);
+        Ok(done(self.order.install(&self.keys, &stable)))
     }
 
     /// It leaves its view for that one.
@@ -234,11 +230,10 @@ impl Replica {
     }
 
     // PRE-PREPAREs of the null request, each of a sender for a number of view 1
-    fn handed(&self, chosen: &[(u32, u64)]) -> Result<Vec<Signed<Message>>, Memory> {
+    fn handed(&self, chosen: &[(u32, u64)]) -> Result<Vec<Signed<PrePrepare>>, Memory> {
         let mut all = Vec::new(self.alloc);
         for (sender, number) in chosen {
-            let proposal = Told::Proposal(*sender, 1, *number);
-            all.push(proposal.signed_by(self.alloc, self.faults, *sender)?)?;
+            all.push(handed_by(self.alloc, self.faults, *sender, *number)?)?;
         }
         Ok(all)
     }

@@ -32,8 +32,10 @@ pub enum Event {
     MayTell(u64),
     /// It tells a checkpoint of that number, with a digest of that byte.
     Tell(u64, u8),
-    /// It installs CHECKPOINTs of number 16, each of a sender and with a digest of that byte.
+    /// It installs number 16 with a digest of the byte 1, by CHECKPOINTs of that number, each of a sender and with a digest of that byte.
     Install(&'static [(u32, u8)]),
+    /// It installs that number with a digest of that byte, by CHECKPOINTs as before.
+    InstallAs(u64, u8, &'static [(u32, u8)]),
     /// It leaves its view for that one.
     Leave(u64),
     /// It enters a view behind min-s. PRE-PREPAREs are handed over, each of a sender for a number of view 1.
@@ -77,7 +79,8 @@ fn happens<R: Threads + Sync>(
         Event::ProposeMany(count) => replica.propose_many(count),
         Event::Execute => Ok(replica.execute()),
         Event::Tell(number, byte) => Ok(replica.tell(number, byte)),
-        Event::Install(told) => replica.install(told),
+        Event::Install(told) => replica.install(16, 1, told),
+        Event::InstallAs(number, byte, told) => replica.install(number, byte, told),
         Event::Leave(view) => Ok(replica.leave(view)),
         Event::Enter(view, min_s, chosen) => replica.enter(view, min_s, chosen),
         Event::MayPropose => Ok(replica.may_propose()),

@@ -1,6 +1,6 @@
 -- A CHECKPOINT that makes a checkpoint stable: what was copied before it came is its certificate.
 use Rattle.std.proofs.Common.{◌≡◌, ℕ, Bool, true, List, [], ◌∷◌, ◌++◌, sym, ap, subst, ◌∙◌}
-use Rattle.bfs_agreement.specs.Votes.{SlotsDiffer, is_stable}
+use Rattle.bfs_votes.specs.Votes.{SlotsDiffer, is_stable}
 use Rattle.bfs_log.specs.Headers.{header}
 use Rattle.bfs_log.specs.Logs.{Log, headers}
 use Rattle.bfs_messages.specs.declared.signed.Signed.{Signed}

@@ -1,8 +1,8 @@
 //! Ordered batches, executed on a file system through a table of replies by each executor.
 use crate::batches::{Round, Told, are_told, batch};
-use bfs_executor::{Engine, Executor, Workers};
 use bfs_messages::OrderedBatch;
 use bfs_outcome::{Executed, Gate, Means, execute_ordered};
+use bfs_parallel::{Engine, Executor, Workers};
 use bfs_replies::ReplyTable;
 use bfs_serial::FileSystem;
 use std::alloc::Global;

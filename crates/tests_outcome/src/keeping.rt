@@ -6,7 +6,7 @@ use crate::nodes::{fuller_table, snapshot, table};
 use bfs_auth::Authenticator;
 use bfs_checkpoints::{Snapshots, certificate_with};
 use bfs_log::{Log, Slot};
-use bfs_messages::{Checkpoint, Message, Signed};
+use bfs_messages::{Checkpoint, OrderMessage, Signed};
 use bfs_replies::ReplyTable;
 use bfs_testing::same;
 use bfs_types::Memory;
@@ -36,7 +36,7 @@ fn tell(
         return Err(Memory);
     }
     let signed = Signed {
-        message: Message::Checkpoint(Checkpoint::new(sender, number, *digest)),
+        message: OrderMessage::Checkpoint(Checkpoint::new(sender, number, *digest)),
         auth: Authenticator::new(alloc),
     };
     let certificate = certificate_with(alloc, log.messages(), &signed)?;
@@ -51,7 +51,12 @@ fn tell(
 // the number of the stable checkpoint, how many bytes its text has, and of how many replicas there are CHECKPOINTs
 fn stable(kept: &Snapshots) -> Option<(u64, usize, usize)> {
     let stable = kept.stable()?;
-    Some((stable.number, stable.text.len(), stable.certificate.len()))
+    let checkpoint = stable.checkpoint;
+    Some((
+        checkpoint.number(),
+        stable.text.len(),
+        checkpoint.checkpoints().len(),
+    ))
 }
 
 // puts the snapshot of a replica with that table behind the others, and gives its digest

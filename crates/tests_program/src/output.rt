@@ -292,7 +292,7 @@ fn sends_what_is_longer_than_the_server_takes(rt: HostRuntime) -> Result<(), Fai
 }
 
 #[test]
-fn tells_the_line_at_fault(rt: HostRuntime) -> Result<(), Fail> {
+fn a_failure_tells_the_line_at_fault(rt: HostRuntime) -> Result<(), Fail> {
     let failure = Failure::from(TraceError::BadLine(2));
     let text = format!(in rt.alloc(); "{failure}")?;
     same!(rt; text.as_str(), "trace line 2");

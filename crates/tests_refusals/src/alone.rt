@@ -1,8 +1,10 @@
 //! A replica that is alone executes all that is committed, beyond a checkpoint. Where memory runs out meanwhile, it goes on from where it was, or
 //! has failed and adopts the checkpoint of another one.
-use crate::replica::{Call, Replica, Snapshot, Standing};
+use crate::replica::{Call, Replica};
 use crate::requests::request;
 use bfs_testing::same;
+use bfs_testing_nodes::calls::Standing;
+use bfs_testing_nodes::snapshots::Snapshot;
 use bfs_types::Memory;
 use std::alloc::Global;
 use std::sync::Wait;
@@ -61,7 +63,7 @@ struct Two {
 }
 
 fn both<R: Threads + Wait + Sync>(rt: &R, alloc: Global) -> Result<Two, Memory> {
-    let request = request(alloc, 1, 7)?;
+    let request = request(alloc, 0, 7)?;
     let mut other = ordered(rt, alloc, &request)?;
     execute_all(rt, &mut other)?;
     let snapshot = other.snapshot()?.ok_or(Memory)?;

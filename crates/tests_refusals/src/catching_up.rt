@@ -1,7 +1,7 @@
 //! Checkpoints, and replicas that adopt one. Where `.ci/refusals` runs these, only what comes behind the first batches is refused.
-use crate::replica::Standing;
 use crate::script::{ALL, Event, wrong_in};
 use bfs_testing::same;
+use bfs_testing_nodes::calls::Standing;
 use std::test::Fail;
 
 static FIFTEEN: [Event; 1] = [Event::Batches(ALL, 15)];

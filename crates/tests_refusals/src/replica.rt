@@ -1,15 +1,21 @@
 //! One replica, which is looked at where memory runs out, and then asked again.
 use bfs_messages::{Message, Signed};
-use bfs_node::{Executor, NoGate, Node, NodeError};
-use bfs_settings::Settings;
-use bfs_types::{Memory, Time};
+use bfs_node::{Node, NodeError};
+use bfs_testing_nodes::calls::{
+    Given, Standing, advance, checkpoint, deliver, digest_of, execute, propose, standing_of,
+    time_out,
+};
+use bfs_testing_nodes::members::Members;
+use bfs_testing_nodes::snapshots::{Snapshot, adopt, sizes_of, snapshot_of};
+use bfs_types::Memory;
 use std::alloc::Global;
 use std::sync::Wait;
 use std::thread::Threads;
 
-pub const SECRET: &[u8] = &[0; 32];
-
-pub const CLIENTS: u32 = 2;
+/// 3f + 1 replicas, and their clients.
+pub fn members(f: u32) -> Members {
+    Members { f, clients: 2 }
+}
 
 /// What is asked of a replica.
 #[derive(Clone, Copy)]
@@ -37,10 +43,6 @@ pub enum Silence {
     IsWrong,
 }
 
-/// How a replica stands: its view, the number last executed, and how many requests wait.
-#[derive(Clone, Copy, Debug, PartialEq, Eq)]
-pub struct Standing(pub u64, pub u64, pub u32);
-
 // what shows of it: besides, how many CHECKPOINTs and bytes its stable snapshot has
 type Shown = (Standing, Option<(usize, usize)>);
 
@@ -52,29 +54,8 @@ pub struct Replica {
     digest: Option<[u8; 32]>,
 }
 
-/// A stable snapshot, and the CHECKPOINTs that tell its digest.
-#[derive(Drop)]
-pub struct Snapshot {
-    text: Vec<u8>,
-    certificate: Vec<Signed<Message>>,
-}
-
-fn node(alloc: Global, f: u32, me: u32) -> Result<Node, Memory> {
-    let Ok(settings) = Settings::new(alloc, f, CLIENTS, SECRET) else {
-        return Err(Memory);
-    };
-    if me < settings.replicas() {
-        Node::of_settings(alloc, &settings, me)
-    } else {
-        Err(Memory)
-    }
-}
-
 // a list with room for it
-fn one_in(
-    mut room: Vec<Signed<Message>>,
-    given: Result<Signed<Message>, NodeError>,
-) -> Result<Vec<Signed<Message>>, NodeError> {
+fn one_in(mut room: Vec<Signed<Message>>, given: Result<Signed<Message>, NodeError>) -> Given {
     match room.push(given?) {
         Ok(()) => Ok(room),
         Err(_) => Err(NodeError::Memory),
@@ -91,7 +72,7 @@ impl Replica {
     ) -> Result<Replica, Memory> {
         let mut replica = Replica {
             alloc,
-            node: node(alloc, f, me)?,
+            node: members(f).replica(alloc, me)?,
             digest: None,
         };
         replica.digest = Some(replica.digest(rt).ok_or(Memory)?);
@@ -100,45 +81,33 @@ impl Replica {
 
     /// How it stands.
     pub fn standing(&self) -> Standing {
-        Standing(
-            self.node.view(),
-            self.node.last_executed(),
-            self.node.pending(),
-        )
+        standing_of(&self.node)
     }
 
     fn shown(&self) -> Shown {
-        let stable = match self.node.stable() {
-            Some(stable) => Some((stable.certificate.len(), stable.text.len())),
-            None => None,
-        };
-        (self.standing(), stable)
+        (self.standing(), sizes_of(&self.node))
     }
 
     /// Its digest, if it has not failed. Where memory runs out, it is asked again.
     pub fn digest<R: Threads + Sync>(&self, rt: &R) -> Option<[u8; 32]> {
-        match self.node.digest(rt) {
-            Err(NodeError::Memory) => self.node.digest(rt).ok(),
+        match digest_of(rt, &self.node) {
+            Err(NodeError::Memory) => digest_of(rt, &self.node).ok(),
             given => given.ok(),
         }
     }
 
     /// Whether it has a stable snapshot that so many CHECKPOINTs tell.
     pub fn has_stable(&self, checkpoints: usize) -> bool {
-        match self.node.stable() {
-            Some(stable) => stable.certificate.len() == checkpoints,
+        match sizes_of(&self.node) {
+            Some((told, _)) => told == checkpoints,
             None => false,
         }
     }
 
-    fn once<R: Threads + Wait + Sync>(
-        &mut self,
-        rt: &R,
-        call: Call<'_>,
-    ) -> Result<Vec<Signed<Message>>, NodeError> {
+    fn once<R: Threads + Wait + Sync>(&mut self, rt: &R, call: Call<'_>) -> Given {
         match call {
-            Call::Deliver(bytes) => self.node.deliver(rt, bytes),
-            Call::TimeOut => self.node.timeout(),
+            Call::Deliver(bytes) => deliver(rt, &mut self.node, bytes),
+            Call::TimeOut => time_out(&mut self.node),
             Call::Propose => self.propose(),
             Call::Checkpoint => self.checkpoint(rt),
             Call::Execute => self.execute(rt),
@@ -146,22 +115,18 @@ impl Replica {
     }
 
     // the list for a message that is given alone is made before the call
-    fn propose(&mut self) -> Result<Vec<Signed<Message>>, NodeError> {
+    fn propose(&mut self) -> Given {
         let room = Vec::with_capacity(self.alloc, 1)?;
-        let time = Time::new(1, 0).unwrap_or(Time::epoch());
-        one_in(room, self.node.propose(time))
+        one_in(room, propose(&mut self.node, 1))
     }
 
-    fn checkpoint<R: Threads + Sync>(&mut self, rt: &R) -> Result<Vec<Signed<Message>>, NodeError> {
+    fn checkpoint<R: Threads + Sync>(&mut self, rt: &R) -> Given {
         let room = Vec::with_capacity(self.alloc, 1)?;
-        one_in(room, self.node.checkpoint(rt))
+        one_in(room, checkpoint(rt, &mut self.node))
     }
 
-    fn execute<R: Threads + Wait + Sync>(
-        &mut self,
-        rt: &R,
-    ) -> Result<Vec<Signed<Message>>, NodeError> {
-        match self.node.execute_ready(rt, Executor::serial(), &NoGate)? {
+    fn execute<R: Threads + Wait + Sync>(&mut self, rt: &R) -> Given {
+        match execute(rt, &mut self.node)? {
             Some(replies) => Ok(replies),
             None => Ok(Vec::new(self.alloc)),
         }
@@ -223,17 +188,7 @@ impl Replica {
 
     /// A copy of its stable snapshot, if it has one.
     pub fn snapshot(&self) -> Result<Option<Snapshot>, Memory> {
-        let Some(stable) = self.node.stable() else {
-            return Ok(None);
-        };
-        let mut copies = Vec::new(self.alloc);
-        for signed in stable.certificate {
-            copies.push(signed.try_clone(self.alloc)?)?;
-        }
-        Ok(Some(Snapshot {
-            text: stable.text.to_vec(self.alloc)?,
-            certificate: copies,
-        }))
+        snapshot_of(self.alloc, &self.node)
     }
 
     fn adopts_once<R: Threads + Sync>(
@@ -241,11 +196,7 @@ impl Replica {
         rt: &R,
         snapshot: &Snapshot,
     ) -> Result<(), NodeError> {
-        self.node.adopt(
-            rt,
-            snapshot.text.as_slice(),
-            snapshot.certificate.as_slice(),
-        )
+        adopt(rt, &mut self.node, &snapshot.text, &snapshot.checkpoint)
     }
 
     /// It adopts the stable snapshot of another replica. Where memory runs out, it is to be as it was, and is asked again. It gives whether all
@@ -263,7 +214,7 @@ impl Replica {
     }
 
     fn advances_once<R: Threads + Wait + Sync>(&mut self, rt: &R) -> Result<(), NodeError> {
-        self.node.advance(rt, Executor::serial(), &NoGate)?;
+        advance(rt, &mut self.node)?;
         Ok(())
     }
 

@@ -1,8 +1,9 @@
 //! Four replicas, of which one may be faulty, and bytes on their way between them.
-use crate::replica::{Call, Replica, Silence, Standing};
+use crate::replica::{Call, Replica, Silence};
 use crate::requests::{large_request, request};
 use bfs_codec::encode;
 use bfs_messages::{Message, Signed};
+use bfs_testing_nodes::calls::Standing;
 use bfs_types::Memory;
 use std::alloc::Global;
 use std::sync::Wait;
@@ -142,7 +143,7 @@ impl Replicas {
         numbers: &[usize],
         timestamp: u32,
     ) -> Result<bool, Memory> {
-        let bytes = request(self.alloc, 4, timestamp)?;
+        let bytes = request(self.alloc, 1, timestamp)?;
         self.ask_each(rt, numbers, Call::Deliver(bytes.as_slice()))
     }
 

@@ -1,6 +1,7 @@
 //! What happens to four replicas, one event after another, as tables. The proof of a test that tells them by calls takes many times as long.
-use crate::replica::{Call, Standing};
+use crate::replica::Call;
 use crate::replicas::Replicas;
+use bfs_testing_nodes::calls::Standing;
 use bfs_types::Memory;
 use std::alloc::Global;
 use std::sync::Wait;

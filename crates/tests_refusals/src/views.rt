@@ -1,8 +1,8 @@
 //! A request is ordered, and views change, whatever call finds no memory: the replica that found none does it again, and then says what it says
 //! where nothing was refused.
-use crate::replica::Standing;
 use crate::script::{ALL, BACKUPS, Event, PRIMARY, wrong_in_both};
 use bfs_testing::same;
+use bfs_testing_nodes::calls::Standing;
 use std::test::Fail;
 
 static THE_PRIMARY_IS_SILENT: [Event; 9] = [

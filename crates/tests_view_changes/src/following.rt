@@ -1,14 +1,11 @@
 //! Which view a replica leads, has asked for, and is to follow.
-use crate::parts::{Asked, FOR_ANOTHER_VIEW, OF_ONE, OF_THREE, OF_TWO};
-use crate::replica::{Outlook, Said, Standing};
-use crate::steps::{Step, plays};
+use crate::asked::{FOR_ANOTHER_VIEW, OF_ONE, OF_THREE, OF_TWO, PROPOSED};
+use crate::parts::{Asked, Begun};
+use crate::steps::{Outlook, Step, plays};
+use bfs_testing_nodes::calls::{Said, Standing};
 use std::test::Fail;
 
-const OF_TWO_FOR_FIVE: Asked = Asked {
-    sender: 2,
-    view: 5,
-    backups: &[1, 2],
-};
+const OF_TWO_FOR_FIVE: Asked<'static> = Asked { view: 5, ..OF_TWO };
 
 static TWO_ASK: [Step; 9] = [
     Step::Looks(Outlook(true, 0, None)),
@@ -43,24 +40,24 @@ fn the_primary_of_the_view_that_it_begins_leads(rt: HostRuntime) -> Result<(), F
     plays(&rt, rt.alloc(), 1, 1, &THE_NEXT_PRIMARY)
 }
 
-const RIGHT: &[Asked] = &[OF_ONE, OF_TWO, OF_THREE];
+const RIGHT: Begun = Begun(1, &[OF_ONE, OF_TWO, OF_THREE], PROPOSED);
 
 static A_BACKUP: [Step; 8] = [
     Step::TimeOut(Said::Sent(1)),
     Step::TimeOut(Said::Sent(1)),
     // it has asked for view 2, and comes back to none below
     Step::Looks(Outlook(false, 2, None)),
-    Step::NewView(1, RIGHT, true, Said::Refused(25)),
+    Step::NewView(RIGHT, Said::Refused(25)),
     Step::Change(OF_TWO_FOR_FIVE, 2, Said::Sent(0)),
     Step::Change(FOR_SIX, 0, Said::Sent(0)),
     Step::Looks(Outlook(false, 2, Some(5))),
     Step::Stands(Standing(0, 0, 0)),
 ];
 
-const FOR_SIX: Asked = Asked {
+const FOR_SIX: Asked<'static> = Asked {
     sender: 0,
     view: 6,
-    backups: &[1, 2],
+    ..OF_ONE
 };
 
 #[test]
@@ -71,7 +68,7 @@ fn what_is_followed_is_above_what_was_asked_for(rt: HostRuntime) -> Result<(), F
 static ENTERED: [Step; 4] = [
     Step::TimeOut(Said::Sent(1)),
     // its PREPARE for number 1
-    Step::NewView(1, RIGHT, true, Said::Sent(1)),
+    Step::NewView(RIGHT, Said::Sent(1)),
     Step::Stands(Standing(1, 0, 0)),
     Step::Looks(Outlook(false, 1, None)),
 ];

@@ -1,6 +1,6 @@
 //! What was prepared, executed or made stable stands in the new view.
-use crate::replica::Standing;
 use crate::script::{ALL, BACKUPS, Event, four_play};
+use bfs_testing_nodes::calls::Standing;
 use std::test::Fail;
 
 static PREPARED: [Event; 12] = [

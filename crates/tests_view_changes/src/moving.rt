@@ -1,7 +1,7 @@
 //! A view is left, and the next one is entered.
-use crate::replica::{Said, Standing};
 use crate::script::{ALL, BACKUPS, Event, four_play};
 use crate::steps::{Step, plays};
+use bfs_testing_nodes::calls::{Said, Standing};
 use std::test::Fail;
 
 static THE_PRIMARY_IS_SILENT: [Event; 14] = [

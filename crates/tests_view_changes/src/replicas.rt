@@ -1,11 +1,12 @@
 //! Four replicas, of which one may be faulty, and messages on their way between them.
-use crate::parts::request;
-use crate::replica::{
-    Standing, advance, digest_of, proposed, replica, sent_for, sent_late, standing_of,
-};
+use crate::parts::members;
 use bfs_messages::{Message, Signed};
 use bfs_node::Node;
-use bfs_types::Memory;
+use bfs_testing_nodes::calls::{
+    Standing, advance, digest_of, propose, standing_of, take, time_out,
+};
+use bfs_testing_nodes::members::{null_request, request_message};
+use bfs_types::{Memory, TryClone};
 use std::alloc::Global;
 use std::sync::Wait;
 use std::thread::Threads;
@@ -21,7 +22,7 @@ pub struct Replicas {
 
 fn four(alloc: Global, nodes: &mut Vec<Node>) -> Result<(), Memory> {
     for me in 0..4 {
-        nodes.push(replica(alloc, 1, me)?)?;
+        nodes.push(members(1).replica(alloc, me)?)?;
     }
     Ok(())
 }
@@ -66,7 +67,7 @@ impl Replicas {
 
     fn digest<R: Threads + Sync>(&self, rt: &R, number: usize) -> Option<[u8; 32]> {
         match self.nodes.get(number) {
-            Some(node) => digest_of(rt, node),
+            Some(node) => digest_of(rt, node).ok(),
             None => None,
         }
     }
@@ -121,8 +122,9 @@ impl Replicas {
         numbers: &[usize],
         timestamp: u32,
     ) -> Result<(), Memory> {
-        let signed = request(self.alloc, timestamp)?;
-        self.tell(rt, numbers, &signed)
+        let request = null_request(self.alloc, 1, timestamp)?;
+        let signed = members(1).request(self.alloc, 1, request)?;
+        self.tell(rt, numbers, &request_message(signed))
     }
 
     fn tell<R: Threads + Sync>(
@@ -147,9 +149,9 @@ impl Replicas {
         let Some(node) = self.nodes.get_mut(number) else {
             return Ok(());
         };
-        match sent_for(rt, node, copy) {
-            Some(sent) => self.send(number, sent),
-            None => Ok(()),
+        match take(rt, node, copy) {
+            Ok(sent) => self.send(number, sent),
+            Err(_) => Ok(()),
         }
     }
 
@@ -158,12 +160,12 @@ impl Replicas {
         let Some(node) = self.nodes.get_mut(number) else {
             return Ok(false);
         };
-        match proposed(node) {
-            Some(signed) => {
+        match propose(node, 1) {
+            Ok(signed) => {
                 self.on_their_way.push((number, signed))?;
                 Ok(true)
             }
-            None => Ok(false),
+            Err(_) => Ok(false),
         }
     }
 
@@ -179,9 +181,9 @@ impl Replicas {
         let Some(node) = self.nodes.get_mut(number) else {
             return Ok(());
         };
-        match sent_late(node) {
-            Some(sent) => self.send(number, sent),
-            None => Ok(()),
+        match time_out(node) {
+            Ok(sent) => self.send(number, sent),
+            Err(_) => Ok(()),
         }
     }
 
@@ -236,8 +238,8 @@ impl Replicas {
             return Ok(());
         };
         match advance(rt, node) {
-            Some(sent) => self.send(number, sent),
-            None => Ok(()),
+            Ok(sent) => self.send(number, sent),
+            Err(_) => Ok(()),
         }
     }
 

@@ -1,7 +1,7 @@
 //! What happens to four replicas, one event after another, as tables.
-use crate::replica::Standing;
 use crate::replicas::Replicas;
 use bfs_testing::asserts::compared;
+use bfs_testing_nodes::calls::Standing;
 use bfs_types::Memory;
 use std::alloc::Global;
 use std::sync::Wait;

@@ -1,23 +1,31 @@
 //! What comes to one replica, step after step, as tables.
-use crate::parts::{Asked, new_view};
-use crate::replica::{Outlook, Said, Standing, outlook_of, replica, standing_of, take, time_out};
+use crate::parts::{Asked, Begun, members};
 use bfs_messages::{Message, Signed};
 use bfs_node::Node;
 use bfs_testing::asserts::compared;
+use bfs_testing_nodes::calls::{Said, Standing, standing_of, take, time_out};
 use bfs_types::Memory;
 use std::alloc::Global;
 use std::test::Fail;
 use std::thread::Threads;
 
+/// How a replica looks at views: whether it leads the one that it has entered, the one last asked for, and the one to follow.
+#[derive(Clone, Copy, Debug, PartialEq, Eq)]
+pub struct Outlook(pub bool, pub u64, pub Option<u64>);
+
+fn outlook_of(node: &Node) -> Outlook {
+    Outlook(node.leads(), node.view_asked(), node.view_to_follow())
+}
+
 /// What happens to the replica and what it comes to, or what is to hold then.
 #[derive(Clone, Copy)]
 pub enum Step {
     /// A VIEW-CHANGE comes that this replica has signed.
-    Change(Asked, u32, Said),
+    Change(Asked<'static>, u32, Said),
     /// A VIEW-CHANGE comes that its sender has signed, with a changed entry for a receiver.
-    Spoiled(Asked, usize, Said),
-    /// A NEW-VIEW of a replica comes for view 1, with these VIEW-CHANGEs, and whether it proposes what was prepared.
-    NewView(u32, &'static [Asked], bool, Said),
+    Spoiled(Asked<'static>, usize, Said),
+    /// A NEW-VIEW comes.
+    NewView(Begun, Said),
     /// Time runs out.
     TimeOut(Said),
     /// It stands so.
@@ -33,7 +41,7 @@ fn comes<R: Threads + Sync>(
     signed: Result<Signed<Message>, Memory>,
     wanted: Said,
 ) -> Result<bool, Memory> {
-    Ok(take(rt, node, signed?) == wanted)
+    Ok(Said::of_all(&take(rt, node, signed?)) == wanted)
 }
 
 fn happens<R: Threads + Sync>(
@@ -49,10 +57,8 @@ fn happens<R: Threads + Sync>(
         Step::Spoiled(asked, receiver, wanted) => {
             comes(rt, node, asked.spoiled_for(alloc, receiver), wanted)
         }
-        Step::NewView(sender, asked, proposes, wanted) => {
-            comes(rt, node, new_view(alloc, sender, asked, proposes), wanted)
-        }
-        Step::TimeOut(wanted) => Ok(time_out(node) == wanted),
+        Step::NewView(begun, wanted) => comes(rt, node, begun.message(alloc), wanted),
+        Step::TimeOut(wanted) => Ok(Said::of_all(&time_out(node)) == wanted),
         Step::Stands(wanted) => Ok(standing_of(node) == wanted),
         Step::Looks(wanted) => Ok(outlook_of(node) == wanted),
     }
@@ -81,7 +87,7 @@ pub fn plays<R: Threads + Sync>(
     me: u32,
     steps: &[Step],
 ) -> Result<(), Fail> {
-    let mut node = replica(alloc, f, me)?;
+    let mut node = members(f).replica(alloc, me)?;
     compared(first_wrong(rt, alloc, &mut node, steps)?, None)?;
     Ok(())
 }

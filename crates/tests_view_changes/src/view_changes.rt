@@ -1,19 +1,18 @@
 //! Which VIEW-CHANGEs are kept, and which are refused.
-use crate::parts::{A_PREPARE_LESS, Asked, FOR_ANOTHER_VIEW, OF_THREE, OF_TWO};
-use crate::replica::{Said, Standing};
+use crate::asked::{A_PREPARE_LESS, FOR_ANOTHER_VIEW, OF_THREE, OF_TWO};
+use crate::parts::Asked;
 use crate::steps::{Step, plays};
+use bfs_testing_nodes::calls::{Said, Standing};
 use std::test::Fail;
 
-const FOR_VIEW_ZERO: Asked = Asked {
-    sender: 3,
+const FOR_VIEW_ZERO: Asked<'static> = Asked {
     view: 0,
-    backups: &[1, 2],
+    ..OF_THREE
 };
 
-const FOR_VIEW_FIVE: Asked = Asked {
-    sender: 3,
+const FOR_VIEW_FIVE: Asked<'static> = Asked {
     view: 5,
-    backups: &[1, 2],
+    ..OF_THREE
 };
 
 static AT_THE_NEXT_PRIMARY: [Step; 8] = [
@@ -29,7 +28,7 @@ static AT_THE_NEXT_PRIMARY: [Step; 8] = [
 ];
 
 #[test]
-fn each_is_refused_for_its_first_fault(rt: HostRuntime) -> Result<(), Fail> {
+fn a_view_change_is_refused_for_its_first_fault(rt: HostRuntime) -> Result<(), Fail> {
     plays(&rt, rt.alloc(), 1, 1, &AT_THE_NEXT_PRIMARY)
 }
 

@@ -1,6 +1,6 @@
 //! A message as a line: its kind, its sender, its receivers, and what it says of view, number, digest and timestamp, `-` where it says nothing.
 use anyhow::Error;
-use bfs_messages::{Checkpoint, Message, Signed, Vote};
+use bfs_messages::{Message, OrderMessage, Signed};
 use std::alloc::Global;
 
 /// Who sent a message, as far as the message doesn't tell.
@@ -41,10 +41,10 @@ pub fn line_of(
 fn kind_of(message: &Message) -> &'static str {
     match message {
         Message::Request(_) => "REQUEST",
-        Message::PrePrepare(_) => "PRE-PREPARE",
-        Message::Prepare(_) => "PREPARE",
-        Message::Commit(_) => "COMMIT",
-        Message::Checkpoint(_) => "CHECKPOINT",
+        Message::Order(OrderMessage::PrePrepare(_)) => "PRE-PREPARE",
+        Message::Order(OrderMessage::Prepare(_)) => "PREPARE",
+        Message::Order(OrderMessage::Commit(_)) => "COMMIT",
+        Message::Order(OrderMessage::Checkpoint(_)) => "CHECKPOINT",
         Message::ViewChange(_) => "VIEW-CHANGE",
         Message::NewView(_) => "NEW-VIEW",
         Message::Reply(_) => "REPLY",
@@ -136,10 +136,7 @@ fn push_timestamp(
 fn said_in(message: &Message) -> Said {
     match message {
         Message::Request(request) => of_client(None, request.client(), request.timestamp()),
-        Message::PrePrepare(proposal) => of_vote(proposal.vote()),
-        Message::Prepare(vote) => of_vote(vote),
-        Message::Commit(vote) => of_vote(vote),
-        Message::Checkpoint(checkpoint) => of_checkpoint(checkpoint),
+        Message::Order(message) => of_order(message),
         Message::ViewChange(change) => of_view(change.view()),
         Message::NewView(new) => of_view(new.view()),
         Message::Reply(reply) => of_client(Some(reply.view()), reply.client(), reply.timestamp()),
@@ -155,20 +152,16 @@ fn of_client(view: Option<u64>, client: u32, timestamp: u64) -> Said {
     }
 }
 
-fn of_vote(vote: &Vote) -> Said {
+// a CHECKPOINT is of no view
+fn of_order(message: &OrderMessage) -> Said {
+    let view = match message {
+        OrderMessage::Checkpoint(_) => None,
+        _ => Some(message.view()),
+    };
     Said {
-        view: Some(vote.view()),
-        number: Some(vote.number()),
-        digest: Some(*vote.digest()),
-        client: None,
-    }
-}
-
-fn of_checkpoint(checkpoint: &Checkpoint) -> Said {
-    Said {
-        view: None,
-        number: Some(checkpoint.number()),
-        digest: Some(*checkpoint.digest()),
+        view,
+        number: Some(message.number()),
+        digest: Some(*message.digest()),
         client: None,
     }
 }

@@ -1,13 +1,12 @@
 -- What a replica's calls and a cluster's steps come to.
 use Rattle.std.specs.Prelude.{◌≡◌, ℕ, true, Option, Some, None}
 use Rattle.std.specs.List.{fold}
-use Rattle.bfs_log.specs.Logs.{Log}
 use Rattle.bfs_model.specs.Bytes.Call.{◌>>=◌}
 use Rattle.bfs_messages.specs.declared.message.Message.{Message}
 use Rattle.bfs_messages.specs.declared.signed.Signed.{Signed}
 use Rattle.bfs_node.specs.Advancing.{with_due_checkpoint}
 use Rattle.bfs_node.specs.Delivering.{early_refusal}
-use Rattle.bfs_node.specs.Nodes.{Node, Outcome}
+use Rattle.bfs_node.specs.Nodes.{Messages, Node, Outcome}
 use Rattle.bfs_cluster.specs.Blocks.{proposal}
 use Rattle.bfs_cluster.specs.Timeouts.{timing_out, waiting_proposal}
 use Rattle.bfs_cluster.specs.World.{Replica, World, done_if, node_at, node_if_heard, posted}
@@ -32,7 +31,7 @@ abbrev pub doing : (act : Node → Option Outcome) → Replica → Option Outcom
 doing act replica = node_if_heard (Some replica) >>= act
 
 -- a replica that is heard has done that and sent that; or it did nothing
-abbrev pub Acts : (done : Option Outcome) → (old new : Replica) → (sent : Option Log) → Type 0
+abbrev pub Acts : (done : Option Outcome) → (old new : Replica) → (sent : Option Messages) → Type 0
 Acts None old new sent = (new ≡ old) × (sent ≡ None)
 Acts (Some done) old new sent = (new ≡ record { heard = true; node = done.now }) × (sent ≡ Some done.sent)
 
@@ -41,11 +40,11 @@ abbrev pub MayTake : Signed Message → Replica → Type 0
 MayTake signed replica = (replica.heard ≡ true) × (early_refusal replica.node signed ≡ None)
 
 -- a checkpoint was made where one was due, and its message is behind what was to be sent
-abbrev pub CheckpointsAfter : (old : Replica) → (to_send : Log) → (new : Replica) → (sent : Log) → Type 0
+abbrev pub CheckpointsAfter : (old : Replica) → (to_send : Messages) → (new : Replica) → (sent : Messages) → Type 0
 CheckpointsAfter old to_send new sent =
     (new.heard ≡ old.heard) × (with_due_checkpoint (record { now = old.node; sent = to_send }) ≡ record { now = new.node; sent = sent })
 
 -- all that is sent, if anything is
-abbrev pub posted_if : (sender : ℕ) → World → Option Log → World
+abbrev pub posted_if : (sender : ℕ) → World → Option Messages → World
 posted_if sender world None = world
 posted_if sender world (Some sent) = fold (posted sender) world sent

@@ -1,9 +1,8 @@
 -- What replicas come to that are busy side by side.
 use Rattle.std.specs.Prelude.{◌≡◌, ◌<◌, ℕ, Bool, true, false, List, [], ◌∷◌, ◌++◌, length, map, Some, None, Ok, OnOk, ⊤}
 use Rattle.std.specs.List.{fold}
-use Rattle.bfs_log.specs.Logs.{Log}
 use Rattle.bfs_node.specs.Advancing.{advancing}
-use Rattle.bfs_node.specs.Nodes.{Node}
+use Rattle.bfs_node.specs.Nodes.{Messages, Node}
 use Rattle.bfs_cluster.specs.Inside.Acts.{Acts, doing}
 use Rattle.bfs_cluster.specs.Inside.Requests.{with_requests}
 use Rattle.bfs_cluster.specs.Steps.{ExecutesAt, after, step}
@@ -11,16 +10,16 @@ use Rattle.bfs_cluster.specs.World.{Replica, World, posted}
 use Rattle.bfs_cluster.specs.declared.side_by_side.Busy.{Busy}
 
 -- one batch after the other was executed, and that was sent behind each; `Executes` held before each
-abbrev pub Ran : (Executes : Node → Type 0) → (sent : List Log) → (old new : Replica) → Type 0
+abbrev pub Ran : (Executes : Node → Type 0) → (sent : List Messages) → (old new : Replica) → Type 0
 Ran Executes [] old new = new ≡ old
 Ran Executes (first ∷ rest) old new =
     (between : Replica) × Acts (doing advancing old) old between (Some first) × Executes old.node × Ran Executes rest between new
 
 -- all that were ready
-abbrev pub RunsOut : (Executes : Node → Type 0) → (sent : List Log) → (old new : Replica) → Type 0
+abbrev pub RunsOut : (Executes : Node → Type 0) → (sent : List Messages) → (old new : Replica) → Type 0
 RunsOut Executes sent old new = Ran Executes sent old new × (doing advancing new ≡ None)
 
-abbrev pub sent_by : Busy → List Log
+abbrev pub sent_by : Busy → List Messages
 sent_by one = map (λ sent. sent.items) one.sent.items
 
 -- there was memory for all
@@ -33,10 +32,10 @@ abbrev pub CameOut : (Executes : Node → Type 0) → (old new : Busy) → Type 
 CameOut Executes old new = OnOk new.came (RunsOut Executes (sent_by new) old.replica new.replica)
 
 -- requests came to it, if there was memory, and it sends what it was to send before
-abbrev pub CameTo : Log → (old new : Busy) → Type 0
+abbrev pub CameTo : Messages → (old new : Busy) → Type 0
 CameTo messages old new = OnOk new.came (new.replica ≡ with_requests messages old.replica) × (new.sent ≡ old.sent)
 
-abbrev pub posted_all : (sender : ℕ) → World → List Log → World
+abbrev pub posted_all : (sender : ℕ) → World → List Messages → World
 posted_all sender world all = fold (fold (posted sender)) world all
 
 -- a replica is in the world again, behind the others, and what it sends is posted

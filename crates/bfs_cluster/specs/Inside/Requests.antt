@@ -1,11 +1,11 @@
 -- Many requests come to a replica.
 use Rattle.std.specs.Prelude.{ℕ, Bool, true, false, List, slice_get, slice_set, Option, Some, None, if◌then◌else◌}
-use Rattle.bfs_log.specs.Logs.{Log}
 use Rattle.bfs_messages.specs.declared.message.Message.{Message}
 use Rattle.bfs_messages.specs.declared.message.Message.TheVariants.{Request}
 use Rattle.bfs_messages.specs.declared.signed.Signed.{Signed}
 use Rattle.bfs_node.specs.Delivering.{after_requests}
 use Rattle.bfs_cluster.specs.World.{Replica, World}
+use Rattle.bfs_node.specs.Nodes.{Messages}
 
 abbrev pub is_request_message : Message → Bool
 is_request_message (Request request) = true
@@ -15,7 +15,7 @@ abbrev pub is_request : Signed Message → Bool
 is_request signed = is_request_message signed.message
 
 -- to one that is heard
-abbrev pub with_requests : Log → Replica → Replica
+abbrev pub with_requests : Messages → Replica → Replica
 with_requests messages replica = if replica.heard then record replica { node = after_requests replica.node messages } else replica
 
 abbrev pub with_changed : (change : Replica → Replica) → List Replica → (number : ℕ) → Option Replica → List Replica

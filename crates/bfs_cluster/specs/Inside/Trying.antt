@@ -1,15 +1,15 @@
 -- What comes of a try to catch up.
 use Rattle.std.specs.Prelude.{◌≡◌, ℕ, Bool, true, false, List}
-use Rattle.bfs_log.specs.Logs.{Log}
 use Rattle.bfs_node.specs.Adopting.{Adopts, IsAdoptionRefusal}
 use Rattle.bfs_node.specs.declared.error.NodeError.{NodeError}
 use Rattle.bfs_cluster.specs.CatchingUp.{AllCatchUp, AllStay, CatchesUp, StaysBehind, Takes}
 use Rattle.bfs_cluster.specs.World.{Replica, World}
+use Rattle.bfs_log.specs.Certificates.{StableCheckpoint}
 
 -- a replica adopts, or refuses to
-abbrev pub Tries : (took : Bool) → (old : Replica) → (text : List ℕ) → Log → (new : Replica) → Type 0
-Tries true old text certificate new = Adopts old.node text certificate new.node × (new.heard ≡ old.heard)
-Tries false old text certificate new = ((error : NodeError) × IsAdoptionRefusal old.node text certificate error) × (new ≡ old)
+abbrev pub Tries : (took : Bool) → (old : Replica) → (text : List ℕ) → StableCheckpoint → (new : Replica) → Type 0
+Tries true old text checkpoint new = Adopts old.node text checkpoint new.node × (new.heard ≡ old.heard)
+Tries false old text checkpoint new = ((error : NodeError) × IsAdoptionRefusal old.node text checkpoint error) × (new ≡ old)
 
 -- the replica of that number adopts what it is offered, or stays behind
 abbrev pub TakesIf : (took : Bool) → World → (number : ℕ) → World → Type 0

@@ -1,20 +1,19 @@
 -- What comes of a call by which a replica may go on.
 use Rattle.std.specs.Prelude.{◌≡◌, ◌<◌, ℕ, Option, Some, None}
-use Rattle.bfs_log.specs.Logs.{Log}
 use Rattle.bfs_node.specs.Advancing.{advanced, with_due_checkpoint}
-use Rattle.bfs_node.specs.Nodes.{Node, Outcome}
+use Rattle.bfs_node.specs.Nodes.{Messages, Node, Outcome}
 
 -- it has done that and gives what is sent, or it did nothing
-abbrev pub Acts : Option Outcome → (old new : Node) → (sent : Option Log) → Type 0
+abbrev pub Acts : Option Outcome → (old new : Node) → (sent : Option Messages) → Type 0
 Acts None old new sent = (new ≡ old) × (sent ≡ None)
 Acts (Some done) old new sent = (new ≡ done.now) × (sent ≡ Some done.sent)
 
 -- a checkpoint was made where one was due, and its message is behind what was to be sent
-abbrev pub CheckpointsAfter : (old : Node) → (to_send : Log) → (new : Node) → (sent : Log) → Type 0
+abbrev pub CheckpointsAfter : (old : Node) → (to_send : Messages) → (new : Node) → (sent : Messages) → Type 0
 CheckpointsAfter old to_send new sent = with_due_checkpoint (record { now = old; sent = to_send }) ≡ record { now = new; sent = sent }
 
 -- some batches were executed, and that is sent so far
-pub record HasAdvanced (Executes : Node → Type 0) (node : Node) (sent : Log) (now : Node) : Type 0 where
+pub record HasAdvanced (Executes : Node → Type 0) (node : Node) (sent : Messages) (now : Node) : Type 0 where
   pub batches : ℕ
   pub comes : advanced batches node ≡ record { now = now; sent = sent }
   pub executes : (k : ℕ) → k < batches → Executes (advanced k node).now

@@ -1,7 +1,7 @@
 -- What an accepted message asks for, in the code: a copy of what is asked of it.
 use Rattle.std.specs.Prelude.{◌≡◌, [], if◌then◌else◌}
 use Rattle.bfs_auth.specs.Keys.{Keys}
-use Rattle.bfs_agreement.specs.Votes.{Header, is_stable}
+use Rattle.bfs_votes.specs.Votes.{Header, is_stable}
 use Rattle.bfs_log.specs.Logs.{Log, kept_after}
 use Rattle.bfs_order.specs.Replica.Accepting.{settled}
 use Rattle.bfs_order.specs.Replica.Answers.{votes_in, commits_in, answers_in}

@@ -1,10 +1,12 @@
 -- Calls on the order of one replica, one after another.
 use Rattle.std.specs.Prelude.{◌≡◌, ℕ, ◌+◌, List, [], ◌∷◌, ◌++◌, Option, Some, None}
 use Rattle.bfs_auth.specs.Keys.{Keys}
+use Rattle.bfs_log.specs.Certificates.{StableCheckpoint}
 use Rattle.bfs_log.specs.Logs.{Log}
+use Rattle.bfs_messages.specs.Messages as model
 use Rattle.bfs_messages.specs.Messages.{Batch}
 use Rattle.bfs_messages.specs.declared.signed.Signed.{Signed}
-use Rattle.bfs_messages.specs.declared.message.Message.{Message}
+use Rattle.bfs_messages.specs.declared.order_messages.OrderMessage.{OrderMessage}
 use Rattle.bfs_order.specs.Replica.Accepting.{on_message}
 use Rattle.bfs_order.specs.Replica.Checkpoints.{checkpoint_refusal, checkpointed}
 use Rattle.bfs_order.specs.Replica.Executing.{next_order, executed}
@@ -16,16 +18,16 @@ use Rattle.bfs_order.specs.Replica.Views.{leaving_refusal, left, entering_refusa
 
 -- a call, with whatever keys it is made
 pub data Call : Type 0 where
-  Takes : Keys → Signed Message → Call
+  Takes : Keys → Signed OrderMessage → Call
   Proposes : Keys → Batch → Call
   Executes : Call
   Checkpoints : Keys → (number : ℕ) → (digest : List ℕ) → Call
-  Installs : Keys → (certificate : Log) → Call
+  Installs : Keys → (certificate : StableCheckpoint) → Call
   Leaves : (view : ℕ) → Call
-  Enters : Keys → (view min_s : ℕ) → (handed : Log) → Call
+  Enters : Keys → (view min_s : ℕ) → (handed : List (Signed model.PrePrepare)) → Call
 
 -- the number after the last executed, where its batch may be executed
-abbrev pub execution : State → Option (Signed Message) → Outcome
+abbrev pub execution : State → Option (Signed OrderMessage) → Outcome
 execution s None = quiet s
 execution s (Some m) = executed s (s.last + 1)
 

@@ -1,19 +1,19 @@
 -- What a replica executes is committed (OSDI 1999 section 4.2).
 use Rattle.std.specs.Prelude.{◌≡◌, ◌≤◌, ◌+◌, ◌*◌, Option, Some, None}
 use Rattle.std.specs.List.{Contains}
-use Rattle.bfs_agreement.specs.Votes.{Told, backups, primary, tellers}
+use Rattle.bfs_votes.specs.Votes.{Told, backups, primary, tellers}
 use Rattle.bfs_log.specs.Batches.{Committed}
 use Rattle.bfs_log.specs.Headers.{header}
 use Rattle.bfs_log.specs.Logs.{batch_in}
 use Rattle.bfs_messages.specs.declared.signed.Signed.{Signed}
-use Rattle.bfs_messages.specs.declared.message.Message.{Message}
+use Rattle.bfs_messages.specs.declared.order_messages.OrderMessage.{OrderMessage}
 use Rattle.bfs_order.specs.Laws.Calls.{Executes, outcome}
 use Rattle.bfs_order.specs.Replica.Executing.{executed, next_committed}
 use Rattle.bfs_order.specs.Replica.States.{State, known}
-use Rattle.bfs_agreement.specs.Tags.{commit_tag, pre_prepare_tag}
+use Rattle.bfs_votes.specs.Tags.{commit_tag, pre_prepare_tag}
 
 -- it is the PRE-PREPARE of that batch by the primary of the view entered
-pub record IsProposalOf (s : State) (next : Committed) (m : Signed Message) : Type 0 where
+pub record IsProposalOf (s : State) (next : Committed) (m : Signed OrderMessage) : Type 0 where
   pub tag : (header m).tag ≡ pre_prepare_tag
   pub sender : (header m).sender ≡ primary s.f s.view
   pub view : (header m).view ≡ s.view
@@ -24,7 +24,7 @@ pub record IsProposalOf (s : State) (next : Committed) (m : Signed Message) : Ty
 -- one view, number and digest
 pub record HasItsCertificate (s : State) (next : Committed) : Type 0 where
   pub follows : next.number ≡ s.last + 1
-  pub proposal : Signed Message
+  pub proposal : Signed OrderMessage
   pub in_log : Contains s.log proposal
   pub proposes : IsProposalOf s next proposal
   pub prepares : 2 * s.f ≤ backups s.f (known s) s.view next.number (header proposal).digest

@@ -1,9 +1,9 @@
 -- What holds of the log of a replica after any calls.
 use Rattle.std.specs.Prelude.{◌≡◌, ◌<◌, ◌≤◌, ◌⊎◌, ℕ, ◌+◌, true, List, All}
-use Rattle.bfs_agreement.specs.Votes.{Header, SlotsDiffer, is_stable}
+use Rattle.bfs_votes.specs.Votes.{Header, SlotsDiffer, is_stable}
 use Rattle.bfs_order.specs.Replica.Refusals.{is_ordering}
 use Rattle.bfs_order.specs.Replica.States.{State, known}
-use Rattle.bfs_agreement.specs.Tags.{checkpoint_tag}
+use Rattle.bfs_votes.specs.Tags.{checkpoint_tag}
 use Rattle.bfs_model.specs.Server.Limits.{log_size}
 
 -- no two messages of the log have one kind, sender, view and number

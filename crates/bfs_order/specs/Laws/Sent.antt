@@ -1,10 +1,10 @@
 -- What a replica sends over any calls.
 use Rattle.std.specs.Prelude.{◌≡◌, ◌<◌, ◌≤◌, ◌⊎◌, ℕ, List}
-use Rattle.bfs_agreement.specs.Votes.{Told}
+use Rattle.bfs_votes.specs.Votes.{Told}
 use Rattle.bfs_log.specs.Logs.{headers}
 use Rattle.bfs_order.specs.Laws.Calls.{Call, after, sent_by}
 use Rattle.bfs_order.specs.Replica.States.{fresh, known}
-use Rattle.bfs_agreement.specs.Tags.{checkpoint_tag}
+use Rattle.bfs_votes.specs.Tags.{checkpoint_tag}
 
 -- it is the sender of all of it
 abbrev pub SpeaksForItself : Type 0

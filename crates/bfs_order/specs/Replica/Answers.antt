@@ -1,20 +1,20 @@
 -- What a replica answers to what is in its log: messages of its own (OSDI 1999 section 4.2).
 use Rattle.std.specs.Prelude.{ℕ, ◌==◌, List, [], ◌∷◌, ◌++◌, if◌then◌else◌}
 use Rattle.bfs_auth.specs.Keys.{Keys}
-use Rattle.bfs_agreement.specs.Votes.{Header, primary, prepared}
+use Rattle.bfs_votes.specs.Votes.{Header, primary, prepared}
 use Rattle.bfs_log.specs.Headers.{header}
 use Rattle.bfs_log.specs.Logs.{Log}
 use Rattle.bfs_messages.specs.Messages.{Vote}
-use Rattle.bfs_messages.specs.declared.message.Message.{Message}
-use Rattle.bfs_messages.specs.declared.message.Message.TheVariants.{Prepare, Commit}
-use Rattle.bfs_messages.specs.Signing.{signed_by}
+use Rattle.bfs_messages.specs.declared.order_messages.OrderMessage.{OrderMessage}
+use Rattle.bfs_messages.specs.declared.order_messages.OrderMessage.TheVariants.{Prepare, Commit}
+use Rattle.bfs_messages.specs.Signing.{order_signed_by}
 use Rattle.bfs_order.specs.Replica.Refusals.{is_there}
 use Rattle.bfs_order.specs.Replica.States.{State, known, with_more}
-use Rattle.bfs_agreement.specs.Tags.{pre_prepare_tag, prepare_tag}
+use Rattle.bfs_votes.specs.Tags.{pre_prepare_tag, prepare_tag}
 
 -- a message of its own, where it has said none of that kind in that view and of that number
-abbrev pub said_once : Keys → State → Message → Log
-said_once keys s m = if is_there s (header (signed_by keys m)) then [] else (signed_by keys m ∷ [])
+abbrev pub said_once : Keys → State → OrderMessage → Log
+said_once keys s m = if is_there s (header (order_signed_by keys m)) then [] else (order_signed_by keys m ∷ [])
 
 abbrev pub own_vote : State → (view number : ℕ) → List ℕ → Vote
 own_vote s view number digest = record { sender = s.me; view = view; number = number; digest = digest }

@@ -1,8 +1,8 @@
 -- Whether others have gone on: by the CHECKPOINTs in the log (OSDI 1999 section 4.3).
 use Rattle.std.specs.Prelude.{ℕ, ◌+◌, ◌*◌, ◌==◌, Bool, ◌&&◌, not, List, [], ◌∷◌, nat_lt, nat_le}
 use Rattle.std.specs.List.{list_any}
-use Rattle.bfs_agreement.specs.Tags.{checkpoint_tag}
-use Rattle.bfs_agreement.specs.Votes.{count_below, has_slot, replicas}
+use Rattle.bfs_votes.specs.Tags.{checkpoint_tag}
+use Rattle.bfs_votes.specs.Votes.{count_below, has_slot, replicas}
 use Rattle.bfs_model.specs.Server.Limits.{checkpoint_interval}
 use Rattle.bfs_order.specs.Replica.States.{State, known}
 

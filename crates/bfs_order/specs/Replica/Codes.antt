@@ -1,10 +1,9 @@
 -- The numbers of refusals.
 use Rattle.std.specs.Prelude.{ℕ}
 use Rattle.bfs_order.specs.declared.error.OrderError.{OrderError}
-use Rattle.bfs_order.specs.declared.error.OrderError.TheVariants.{WrongKind, BadAuthenticator, WrongView, OutsideMarks, NotPrimary, Conflicting, AlreadyHave, NoCertificate, Memory}
+use Rattle.bfs_order.specs.declared.error.OrderError.TheVariants.{BadAuthenticator, WrongView, OutsideMarks, NotPrimary, Conflicting, AlreadyHave, NoCertificate, Memory}
 
 abbrev pub code_of : OrderError → ℕ
-code_of WrongKind = 36
 code_of BadAuthenticator = 24
 code_of WrongView = 25
 code_of OutsideMarks = 26

@@ -2,16 +2,16 @@
 use Rattle.std.specs.Prelude.{ℕ, ◌+◌, ◌^◌, ◌==◌, Bool, ◌&&◌, not, max, List, [], ◌∷◌, Option, Some, None, nat_lt, nat_le, if◌then◌else◌}
 use Rattle.sha2.specs.Sha256.{sha256}
 use Rattle.bfs_auth.specs.Keys.{Keys}
-use Rattle.bfs_agreement.specs.Votes.{primary}
+use Rattle.bfs_votes.specs.Votes.{primary}
 use Rattle.bfs_log.specs.Logs.{Log, greatest_proposed}
 use Rattle.bfs_messages.specs.Messages as model
 use Rattle.bfs_messages.specs.Messages.{Batch}
 use Rattle.bfs_messages.specs.Batches.{batch_text}
 use Rattle.bfs_messages.specs.declared.signed.Signed.{Signed}
-use Rattle.bfs_messages.specs.declared.message.Message.{Message}
-use Rattle.bfs_messages.specs.declared.message.Message.TheVariants.{PrePrepare}
+use Rattle.bfs_messages.specs.declared.order_messages.OrderMessage.{OrderMessage}
+use Rattle.bfs_messages.specs.declared.order_messages.OrderMessage.TheVariants.{PrePrepare}
 use Rattle.bfs_order.specs.Replica.Answers.{own_vote, commits_in}
-use Rattle.bfs_messages.specs.Signing.{signed_by}
+use Rattle.bfs_messages.specs.Signing.{order_signed_by}
 use Rattle.bfs_order.specs.Replica.Outcomes.{Outcome}
 use Rattle.bfs_order.specs.Replica.States.{State, known, with_more, with_message}
 use Rattle.bfs_order.specs.declared.error.OrderError.{OrderError}
@@ -40,8 +40,8 @@ batch_digest batch = sha256 (batch_text batch)
 abbrev pub own_proposal : State → Batch → model.PrePrepare
 own_proposal s batch = record { vote = own_vote s s.view (next_number s) (batch_digest batch); batch = batch }
 
-abbrev pub proposal : Keys → State → Batch → Signed Message
-proposal keys s batch = signed_by keys (PrePrepare (own_proposal s batch))
+abbrev pub proposal : Keys → State → Batch → Signed OrderMessage
+proposal keys s batch = order_signed_by keys (PrePrepare (own_proposal s batch))
 
 -- where there is no other replica, it is prepared at once
 abbrev pub lone_commits : Keys → State → (view number : ℕ) → List ℕ → Log

@@ -1,15 +1,15 @@
 -- Why a message is not taken (OSDI 1999 section 4.2).
 use Rattle.std.specs.Prelude.{ℕ, ◌+◌, ◌%◌, ◌==◌, Bool, ◌&&◌, ◌||◌, not, Option, Some, None, nat_lt, nat_le, if◌then◌else◌}
 use Rattle.bfs_auth.specs.Keys.{Keys}
-use Rattle.bfs_agreement.specs.Votes.{Header, is_taken, told, primary, replicas}
+use Rattle.bfs_votes.specs.Votes.{Header, is_taken, told, primary, replicas}
 use Rattle.bfs_log.specs.Headers.{header}
 use Rattle.bfs_messages.specs.declared.signed.Signed.{Signed}
-use Rattle.bfs_messages.specs.declared.message.Message.{Message}
-use Rattle.bfs_messages.specs.Signing.{is_signed, carried_are_signed}
+use Rattle.bfs_messages.specs.declared.order_messages.OrderMessage.{OrderMessage}
+use Rattle.bfs_messages.specs.Signing.{order_is_signed, carried_are_signed}
 use Rattle.bfs_order.specs.Replica.States.{State, known}
 use Rattle.bfs_order.specs.declared.error.OrderError.{OrderError}
-use Rattle.bfs_order.specs.declared.error.OrderError.TheVariants.{WrongKind, BadAuthenticator, WrongView, OutsideMarks, NotPrimary, Conflicting, AlreadyHave}
-use Rattle.bfs_agreement.specs.Tags.{checkpoint_tag, pre_prepare_tag, prepare_tag}
+use Rattle.bfs_order.specs.declared.error.OrderError.TheVariants.{BadAuthenticator, WrongView, OutsideMarks, NotPrimary, Conflicting, AlreadyHave}
+use Rattle.bfs_votes.specs.Tags.{checkpoint_tag, pre_prepare_tag, prepare_tag}
 use Rattle.bfs_model.specs.Server.Limits.{checkpoint_interval, log_size}
 
 -- above the low mark, and not above the high one
@@ -32,7 +32,7 @@ is_there s h = is_taken (known s) h
 abbrev pub conflicts : State → Header → Bool
 conflicts s h = ((h.tag == prepare_tag) && (h.sender == primary s.f h.view)) || (is_there s h && not (told (known s) h.tag h.sender h.view h.number h.digest))
 
--- of what is signed, and of a kind that is taken
+-- of what is signed
 abbrev pub place_refusal : State → Header → Option OrderError
 place_refusal s h =
     if not (is_of_view s h) then Some WrongView else
@@ -46,11 +46,10 @@ abbrev pub is_ordering : Header → Bool
 is_ordering h = nat_le pre_prepare_tag h.tag && nat_le h.tag checkpoint_tag
 
 -- by a replica, and the requests in its batch by their clients
-abbrev pub is_authentic : Keys → State → Signed Message → Bool
-is_authentic keys s m = nat_lt (header m).sender (replicas s.f) && (is_signed keys m && carried_are_signed keys m.message)
+abbrev pub is_authentic : Keys → State → Signed OrderMessage → Bool
+is_authentic keys s m = nat_lt (header m).sender (replicas s.f) && (order_is_signed keys m && carried_are_signed keys m.message)
 
-abbrev pub refusal : Keys → State → Signed Message → Option OrderError
+abbrev pub refusal : Keys → State → Signed OrderMessage → Option OrderError
 refusal keys s m =
-    if not (is_ordering (header m)) then Some WrongKind else
-    (if not (is_authentic keys s m) then Some BadAuthenticator else
-    place_refusal s (header m))
+    if not (is_authentic keys s m) then Some BadAuthenticator else
+    place_refusal s (header m)

@@ -1,9 +1,9 @@
 -- What a replica knows of the order.
 use Rattle.std.specs.Prelude.{ℕ, List, [], ◌∷◌, ◌++◌}
-use Rattle.bfs_agreement.specs.Votes.{Header}
+use Rattle.bfs_votes.specs.Votes.{Header}
 use Rattle.bfs_log.specs.Logs.{Log, headers}
 use Rattle.bfs_messages.specs.declared.signed.Signed.{Signed}
-use Rattle.bfs_messages.specs.declared.message.Message.{Message}
+use Rattle.bfs_messages.specs.declared.order_messages.OrderMessage.{OrderMessage}
 
 pub record State : Type 0 where
   -- at most so many of 3f + 1 replicas are faulty
@@ -36,5 +36,5 @@ known s = headers s.log
 abbrev pub with_more : State → Log → State
 with_more s more = record s { log = s.log ++ more }
 
-abbrev pub with_message : State → Signed Message → State
+abbrev pub with_message : State → Signed OrderMessage → State
 with_message s m = with_more s (m ∷ [])

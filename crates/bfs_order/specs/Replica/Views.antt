@@ -1,18 +1,19 @@
 -- A view is left, and a later one is entered (OSDI 1999 section 4.4).
-use Rattle.std.specs.Prelude.{ℕ, ◌^◌, ◌==◌, ◌&&◌, not, max, [], ◌∷◌, ◌++◌, Option, Some, None, nat_lt, nat_le, if◌then◌else◌}
+use Rattle.std.specs.Prelude.{ℕ, ◌^◌, ◌==◌, ◌&&◌, not, max, [], ◌∷◌, ◌++◌, List, map, Option, Some, None, nat_lt, nat_le, if◌then◌else◌}
 use Rattle.bfs_auth.specs.Keys.{Keys}
-use Rattle.bfs_agreement.specs.Votes.{Header}
 use Rattle.bfs_log.specs.Headers.{header}
 use Rattle.bfs_log.specs.Logs.{Log}
+use Rattle.bfs_messages.specs.Messages as model
+use Rattle.bfs_messages.specs.Signing.{as_message}
+use Rattle.bfs_messages.specs.declared.order_messages.OrderMessage.TheVariants.{PrePrepare}
 use Rattle.bfs_messages.specs.declared.signed.Signed.{Signed}
-use Rattle.bfs_messages.specs.declared.message.Message.{Message}
+use Rattle.bfs_messages.specs.declared.order_messages.OrderMessage.{OrderMessage}
 use Rattle.bfs_order.specs.Replica.Accepting.{accepted}
 use Rattle.bfs_order.specs.Replica.Outcomes.{Outcome, quiet, unless}
 use Rattle.bfs_order.specs.Replica.Refusals.{place_refusal}
 use Rattle.bfs_order.specs.Replica.States.{State}
 use Rattle.bfs_order.specs.declared.error.OrderError.{OrderError}
-use Rattle.bfs_order.specs.declared.error.OrderError.TheVariants.{WrongKind, WrongView}
-use Rattle.bfs_agreement.specs.Tags.{pre_prepare_tag}
+use Rattle.bfs_order.specs.declared.error.OrderError.TheVariants.{WrongView}
 use Rattle.bfs_model.specs.Server.Limits.{most_number}
 
 -- only for a view above the one entered and the one asked for
@@ -26,20 +27,21 @@ left s view = quiet (record s { asked = view })
 abbrev pub entering_refusal : State → (view : ℕ) → Option OrderError
 entering_refusal s view = if not (nat_lt s.view view && (nat_le s.asked view && nat_le view most_number)) then Some WrongView else None
 
+-- what is handed over
+abbrev pub as_proposals : List (Signed model.PrePrepare) → Log
+as_proposals proposals = map (as_message PrePrepare) proposals
+
 abbrev pub greatest_number : Log → ℕ
 greatest_number [] = 0
 greatest_number (m ∷ ms) = max (header m).number (greatest_number ms)
 
 -- the view, before anything is taken in it
-abbrev pub opened : State → (view min_s : ℕ) → Log → State
-opened s view min_s handed = record s { view = view; asked = view; min_s = min_s; handed = greatest_number handed }
+abbrev pub opened : State → (view min_s : ℕ) → List (Signed model.PrePrepare) → State
+opened s view min_s handed = record s { view = view; asked = view; min_s = min_s; handed = greatest_number (as_proposals handed) }
 
--- what is handed over was checked when it was chosen: a PRE-PREPARE whose place is free is taken, and the rest is passed over
-abbrev pub handed_refusal : State → Header → Option OrderError
-handed_refusal s h = if h.tag == pre_prepare_tag then place_refusal s h else Some WrongKind
-
-abbrev pub taken_over : Keys → State → Signed Message → Outcome
-taken_over keys s m = unless (handed_refusal s (header m)) s (accepted keys s m)
+-- it was checked when it was chosen: what has a free place is taken, and the rest is passed over
+abbrev pub taken_over : Keys → State → Signed OrderMessage → Outcome
+taken_over keys s m = unless (place_refusal s (header m)) s (accepted keys s m)
 
 -- one after another
 abbrev pub all_taken_over : Keys → State → Log → Outcome
@@ -49,5 +51,5 @@ all_taken_over keys s (m ∷ ms) =
     let rest = all_taken_over keys first.now ms in
     record { now = rest.now; sent = first.sent ++ rest.sent }
 
-abbrev pub entered : Keys → State → (view min_s : ℕ) → Log → Outcome
-entered keys s view min_s handed = all_taken_over keys (opened s view min_s handed) handed
+abbrev pub entered : Keys → State → (view min_s : ℕ) → List (Signed model.PrePrepare) → Outcome
+entered keys s view min_s handed = all_taken_over keys (opened s view min_s handed) (as_proposals handed)

@@ -1,7 +1,7 @@
 use Rattle.std.proofs.Common.{◌∙◌}
 use Rattle.rayon.proofs.ListFacts.{IfOk-then}
 use Rattle.bfs_clients.specs.Clients.{signed_request}
-use Rattle.bfs_gather.proofs.Public.{all_given}
+use Rattle.bfs_auth.proofs.Public.{all_given}
 use Rattle.bfs_clients.proofs.clients.Clients.sign_all.Goals as goal
 
 pub returns : goal.returns

@@ -1,5 +1,5 @@
 use Rattle.std.proofs.Common.{◌∙◌, ◌++◌, sym, ap}
-use Rattle.bfs_view.specs.Changes.Keeping.{Kept, with_change}
+use Rattle.bfs_view_change.specs.Changes.Keeping.{Kept, with_change}
 use Rattle.bfs_node.specs.Changing.{begun_if_due}
 use Rattle.bfs_node.specs.Inside.Asking.{asking}
 use Rattle.bfs_node.specs.Nodes.{Node, Outcome}

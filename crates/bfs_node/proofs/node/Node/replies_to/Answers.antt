@@ -1,6 +1,6 @@
 use Rattle.std.proofs.Common.{◌∙◌}
 use Rattle.rayon.proofs.ListFacts.{IfOk-then}
-use Rattle.bfs_gather.proofs.Public.{all_given}
+use Rattle.bfs_auth.proofs.Public.{all_given}
 use Rattle.bfs_node.specs.Executing.{reply_to, told}
 use Rattle.bfs_node.proofs.node.Node.replies_to.Goals as goal
 

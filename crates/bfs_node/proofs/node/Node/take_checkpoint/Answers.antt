@@ -1,7 +1,5 @@
 -- The CHECKPOINTs that were copied are those that may make its number stable.
-use Rattle.std.proofs.Common.{◌∙◌, sym, ap}
-use Rattle.bfs_agreement.specs.Votes.{Header}
-use Rattle.bfs_log.specs.Headers.{header}
+use Rattle.std.proofs.Common.{◌∙◌, sym}
 use Rattle.bfs_node.specs.Nodes.{Node}
 use Rattle.bfs_node.proofs.Stable.{accepted_checkpoint, certificate_at, checkpoint_now, news_taken}
 use Rattle.bfs_node.proofs.node.Node.take_checkpoint.Goals as goal
@@ -11,10 +9,10 @@ settle_at-requires g c low =
     let order = c.self.inside.order in
     let signed = c.args.signed in
     let news = news_taken c.self.inside.keys order signed c.requires (sym c.refusal-refused.ensures.value ∙ c.in_default.is) in
-    certificate_at order signed c.accept.new.self c.number.inside.number c.in_ok-certificate.certificate.items
-    (c.in_ok-sent.ensures.now ∙ accepted_checkpoint c.self.inside.keys order signed news.checkpoint) news (rw (← c.self.view_is) at c.certificate_if_due.ensures.differ)
-    (ap (λ (h : Header). h.number) (c.number.view_is ∙ c.header_of.ensures))
-    (rw (← c.self.view_is) at c.in_ok-certificate.ensures.made) low
+    certificate_at order signed c.accept.new.self c.number-number.result c.in_ok-stable.stable
+    (c.in_ok-sent.ensures.now ∙ accepted_checkpoint c.self.inside.keys order signed news.checkpoint) news (rw (← c.self.view_is) at c.stable_if_due.ensures.differ)
+    c.number-number.ensures.value
+    (rw (← c.self.view_is) at c.in_ok-stable.ensures.made) low
 
 pub returns-clause-now : goal.returns-clause-now
 returns-clause-now g c =
@@ -22,6 +20,6 @@ returns-clause-now g c =
     let signed = c.args.signed in
     rw (← c.self.view_is)
     (c.settle_at.ensures
-    ∙ checkpoint_now node signed c.accept.new.self c.number.inside.number c.in_ok-certificate.certificate.items c.in_ok-sent.ensures.now
-    (news_taken node.keys node.order signed c.requires (sym c.refusal-refused.ensures.value ∙ c.in_default.is)) (ap (λ (h : Header). h.number) (c.number.view_is ∙ c.header_of.ensures))
-    (rw (← c.self.view_is) at c.in_ok-certificate.ensures.made))
+    ∙ checkpoint_now node signed c.accept.new.self c.number-number.result c.in_ok-stable.stable c.in_ok-sent.ensures.now
+    (news_taken node.keys node.order signed c.requires (sym c.refusal-refused.ensures.value ∙ c.in_default.is)) c.number-number.ensures.value
+    (rw (← c.self.view_is) at c.in_ok-stable.ensures.made))

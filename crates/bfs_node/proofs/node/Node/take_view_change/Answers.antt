@@ -1,8 +1,7 @@
 use Rattle.std.proofs.Common.{◌∙◌, ◌++◌, ℕ, ap}
-use Rattle.bfs_log.specs.Logs.{Log}
 use Rattle.bfs_node.specs.Changing.{with_view_change}
 use Rattle.bfs_node.specs.Inside.Asking.{asking}
-use Rattle.bfs_node.specs.Nodes.{Node}
+use Rattle.bfs_node.specs.Nodes.{Messages, Node}
 use Rattle.bfs_node.proofs.node.Node.take_view_change.Goals as goal
 
 pub returns-clause-now : goal.returns-clause-now
@@ -11,5 +10,5 @@ returns-clause-now c =
 
 pub returns-clause-sent : goal.returns-clause-sent
 returns-clause-sent c =
-    c.in_ok-keep.ensures.sent ∙ ap (λ (first : Log). first ++ (with_view_change (asking c.args.self.now c.asked-asked.result) c.args.signed).sent) c.new-first.ensures.items
+    c.in_ok-keep.ensures.sent ∙ ap (λ (first : Messages). first ++ (with_view_change (asking c.args.self.now c.asked-asked.result) c.args.signed).sent) c.new-first.ensures.items
     ∙ ap (λ (view : ℕ). (with_view_change (asking c.args.self.now view) c.args.signed).sent) (c.asked-asked.ensures.value ∙ ap (λ (n : Node). n.order.asked) c.self.view_is)

@@ -1,13 +1,12 @@
 use Rattle.std.proofs.Common.{◌≡◌, ◌∙◌, ◌++◌, ◌∷◌, ℕ, ap}
-use Rattle.bfs_log.specs.Logs.{Log}
 use Rattle.bfs_messages.specs.Messages as model
 use Rattle.bfs_messages.specs.declared.signed.Signed.{Signed}
 use Rattle.bfs_messages.specs.declared.message.Message.TheVariants.{ViewChange}
-use Rattle.bfs_view.specs.Changes.Making.{change_of, signed_change}
-use Rattle.bfs_view.specs.Changes.Parts.{as_message}
+use Rattle.bfs_view_change.specs.Changes.Making.{change_of, signed_change}
+use Rattle.bfs_messages.specs.Signing.{as_message}
 use Rattle.bfs_node.specs.Changing.{next_view, own_change, with_view_change}
 use Rattle.bfs_node.specs.Inside.Asking.{asking}
-use Rattle.bfs_node.specs.Nodes.{Node}
+use Rattle.bfs_node.specs.Nodes.{Messages, Node}
 use Rattle.bfs_node.proofs.node.Node.timeout.Goals as goal
 
 -- the VIEW-CHANGE that was made is its own
@@ -23,6 +22,6 @@ returns-clause-now c =
 
 pub returns-clause-sent : goal.returns-clause-sent
 returns-clause-sent c =
-    c.in_ok-keep.ensures.sent ∙ ap (λ (first : Log). first ++ (with_view_change (asking c.args.self.now c.next_view-view.result) c.in_ok-own.own).sent) c.in_ok-sent.ensures
+    c.in_ok-keep.ensures.sent ∙ ap (λ (first : Messages). first ++ (with_view_change (asking c.args.self.now c.next_view-view.result) c.in_ok-own.own).sent) c.in_ok-sent.ensures
     ∙ ap (λ (view : ℕ). as_message ViewChange c.in_ok-own.own ∷ (with_view_change (asking c.args.self.now view) c.in_ok-own.own).sent) c.next_view-view.ensures
     ∙ ap (λ (own : Signed model.ViewChange). as_message ViewChange own ∷ (with_view_change (asking c.args.self.now (next_view c.args.self.now.order)) own).sent) (made_own c)

@@ -1,6 +1,6 @@
 use Rattle.std.proofs.Common.{◌≡◌, ◌≤◌}
 use Rattle.std.specs.Prelude.{◌==◌, ◌&&◌, not}
-use Rattle.bfs_agreement.specs.Votes.{count_below}
+use Rattle.bfs_votes.specs.Votes.{count_below}
 use Rattle.bfs_order.specs.Replica.Behind.{is_ahead}
 use Rattle.bfs_order.proofs.order.Order.is_behind.Given as goal
 

@@ -1,5 +1,0 @@
-use Rattle.bfs_consensus.proofs.Calls.{batches_agree}
-use Rattle.bfs_consensus.proofs.agreement.batches_agree.Goals as goal
-
-pub returns : goal.returns
-returns c = batches_agree c.calls_agree.ensures

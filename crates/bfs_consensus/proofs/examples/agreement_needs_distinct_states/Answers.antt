@@ -1,5 +1,0 @@
-use Rattle.bfs_consensus.proofs.Splitting.{needs_distinct_states}
-use Rattle.bfs_consensus.proofs.examples.agreement_needs_distinct_states.Goals as goal
-
-pub returns : goal.returns
-returns c = needs_distinct_states

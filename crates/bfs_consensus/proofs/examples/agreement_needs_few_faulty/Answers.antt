@@ -1,5 +1,0 @@
-use Rattle.bfs_consensus.proofs.Splitting.{needs_few_faulty}
-use Rattle.bfs_consensus.proofs.examples.agreement_needs_few_faulty.Goals as goal
-
-pub returns : goal.returns
-returns c = needs_few_faulty

@@ -1,5 +1,0 @@
-use Rattle.bfs_consensus.proofs.Nodes.{states_agree}
-use Rattle.bfs_consensus.proofs.states.states_agree.Goals as goal
-
-pub returns : goal.returns
-returns c = states_agree c.quorums_meet.ensures

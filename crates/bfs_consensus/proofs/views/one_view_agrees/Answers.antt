@@ -1,5 +1,0 @@
-use Rattle.bfs_consensus.proofs.Calls.{agrees_in_view}
-use Rattle.bfs_consensus.proofs.views.one_view_agrees.Goals as goal
-
-pub returns : goal.returns
-returns c = agrees_in_view c.calls_agree.ensures

@@ -1,5 +1,0 @@
-use Rattle.bfs_consensus.proofs.Calls.{executes_committed}
-use Rattle.bfs_consensus.proofs.views.what_is_executed_is_committed.Goals as goal
-
-pub returns : goal.returns
-returns c = executes_committed

@@ -1,2 +1,0 @@
--- What is gathered.
-pub mod Gathered

@@ -1,0 +1,4 @@
+-- What proofs share.
+pub mod Orders
+pub mod Views
+pub mod Nodes

@@ -1,0 +1,69 @@
+-- Nodes agree.
+use Rattle.std.proofs.Common.{◌≡◌, ℕ, Bool, false, List, [], ◌∷◌, map, sym, ap₂, subst, ◌∙◌}
+use Rattle.bfs_votes.specs.Laws.{QuorumsMeet}
+use Rattle.bfs_checkpoints.specs.Texts.{node_digest}
+use Rattle.bfs_log.specs.Logs.{Log}
+use Rattle.bfs_codec.specs.Laws.{MessageWasWritten}
+use Rattle.bfs_messages.specs.Messages as model
+use Rattle.bfs_order.specs.Laws.Calls.{CallsKeepTheReplica, IsKept}
+use Rattle.bfs_order.specs.Laws.Certificates.{CertificatesMakeStable}
+use Rattle.bfs_order.specs.Laws.Logs.{HasNoLaterView}
+use Rattle.bfs_agreement.specs.Histories.{IsIn, FewAreFaulty}
+use Rattle.bfs_nodes_agree.specs.Orders.Replicas as ordered
+use Rattle.bfs_nodes_agree.specs.Views.Laws.{ReplicasAgree}
+use Rattle.bfs_nodes_agree.specs.Views.Replicas as turns
+use Rattle.bfs_nodes_agree.specs.Nodes.Laws.{ComesOfBatches, Executed, NodesAgree, StepsAreTurns, TurnsMayBeTaken}
+use Rattle.bfs_nodes_agree.specs.Nodes.Premises.{AreAuthentic, StatesDontCollide}
+use Rattle.bfs_nodes_agree.specs.Nodes.Replicas.{Beginning, NodeReplicas, Standing, NodeTurn, after_node_turn, after_node_turns, new_node_replicas, turn_of, ordered_turns}
+use Rattle.bfs_nodes_agree.specs.Nodes.Steps.{deeds_of}
+use Rattle.bfs_nodes_agree.proofs.Nodes.Right.{step_done}
+use Rattle.bfs_nodes_agree.proofs.Nodes.States.{StatesKnown, digest_tells, new_states, one_state, reached_on, states_on}
+use Rattle.bfs_nodes_agree.proofs.Nodes.Turns.{AreRight, may_be_taken, new_right, right_on, stands_of}
+
+pub turns_may_be_taken : CallsKeepTheReplica → IsKept HasNoLaterView → MessageWasWritten → TurnsMayBeTaken
+turns_may_be_taken same views written f keys start faulty steps shared comes =
+    may_be_taken same views written f faulty steps (new_node_replicas f keys start) (ordered.new_order_replicas f) (new_right same views written f faulty keys start shared) comes
+
+reached_later : (steps : List NodeTurn) (w : NodeReplicas) (i : ℕ) (s : Standing) → IsIn s (w i).reached → IsIn s (after_node_turns w steps i).reached
+reached_later [] w i s j = j
+reached_later (turn ∷ steps) w i s j = reached_later steps (after_node_turn w turn) i s (reached_on w turn i s j)
+
+module _ (same : CallsKeepTheReplica) (views : IsKept HasNoLaterView) (written : MessageWasWritten) (meet : QuorumsMeet) (stable : CertificatesMakeStable)
+    (start : Beginning) (f : ℕ) (faulty : ℕ → Bool) (few : FewAreFaulty f faulty) where
+  states_known : (steps : List NodeTurn) (w : NodeReplicas) (v : ordered.OrderReplicas) → AreRight f faulty w v → StatesKnown start faulty w → AreAuthentic faulty w steps
+      → StatesDontCollide faulty (after_node_turns w steps) → StatesKnown start faulty (after_node_turns w steps)
+  states_known [] w v right known_of comes apart = known_of
+  states_known (turn ∷ steps) w v right known_of comes apart =
+      let who = turn.who in
+      let node = (w who).node in
+      let done = step_done faulty w v who node (stands_of f faulty w v right who) written turn.step comes.0 in
+      let next = after_node_turn w turn in
+      let apart_now : StatesDontCollide faulty next = λ i j s t a b x y. apart i j s t a b (reached_later steps next i s x) (reached_later steps next j t y) in
+      let known_now = states_on meet stable start f faulty few w turn known_of (right who).same_f (λ m i. ((right who).log m i).whole) comes.0 done.stands done.tells apart_now in
+      states_known steps next (turns.after_view_turns v (map (turn_of who) (deeds_of node turn.step))) (right_on same views written f faulty w v right turn comes.0) known_now comes.1 apart
+
+pub nodes_agree : StepsAreTurns → TurnsMayBeTaken → ReplicasAgree → CallsKeepTheReplica → IsKept HasNoLaterView → MessageWasWritten → QuorumsMeet → CertificatesMakeStable → NodesAgree
+nodes_agree are may agree same views written meet stable f keys start faulty steps shared few comes batches_apart states_apart =
+    let begun = new_node_replicas f keys start in
+    let w = after_node_turns begun steps in
+    let list = ordered_turns begun steps in
+    let taken = may f keys start faulty steps shared comes in
+    let known_of = states_known same views written meet stable start f faulty few steps begun (ordered.new_order_replicas f) (new_right same views written f faulty keys start shared)
+    (new_states f keys start faulty) comes states_apart in
+    let batches : (i j number : ℕ) (batch other : model.Batch) → faulty i ≡ false → faulty j ≡ false → Executed (w i) number batch → Executed (w j) number other → batch ≡ other =
+    λ i j number batch other a b x y.
+    let one = digest_tells x.0.message (record { number = number; batch = batch }) (known_of.whole i x.0 x.1) x.2 in
+    let two = digest_tells y.0.message (record { number = number; batch = other }) (known_of.whole j y.0 y.1) y.2 in
+    let digests = agree f faulty list few taken i j x.0 y.0
+    (subst (λ (l : Log). IsIn x.0 l) (sym (are f keys start steps i).executed) x.1)
+    (subst (λ (l : Log). IsIn y.0 l) (sym (are f keys start steps j).executed) y.1) (one.0 ∙ sym two.0) in
+    batches_apart i j number batch other a b x y (sym one.1 ∙ digests ∙ two.1) in
+    record {
+      batches = batches;
+      states = λ i j s t a b x y number.
+          let at = known_of.comes i s a x in
+          let there = subst (λ (n : ℕ). ComesOfBatches start faulty w n t.files t.table) (sym number) (known_of.comes j t b y) in
+          let equal = one_state start faulty w batches s.number s.files t.files s.table t.table at there in
+          (equal, ap₂ node_digest equal.0 equal.1);
+      comes = known_of.comes;
+    }

@@ -1,0 +1,11 @@
+-- What proofs share.
+pub mod Telling
+pub mod Saying
+pub mod Dropping
+pub mod Results
+pub mod Taking
+pub mod Deeds
+pub mod Entering
+pub mod Worlds
+pub mod Lists
+pub mod Logs

@@ -1,0 +1,7 @@
+-- What proofs share.
+pub mod Lists
+pub mod Made
+pub mod Chosen
+pub mod Worlds
+pub mod Proved
+pub mod OfLog

@@ -1,0 +1,7 @@
+-- Whole replicas, by the calls of their nodes and deliveries of bytes.
+pub mod Steps
+pub mod Replicas
+pub mod Premises
+pub mod Giving
+pub mod Performing
+pub mod Laws

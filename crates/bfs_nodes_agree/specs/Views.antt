@@ -1,0 +1,4 @@
+-- Replicas by the calls of their orders, and the VIEW-CHANGEs and NEW-VIEWs that they make and take.
+pub mod Changes
+pub mod Replicas
+pub mod Laws

@@ -1,0 +1,49 @@
+// Agreement of nodes. The bodies do nothing: what is said is the contracts.
+ghost use Rattle.bfs_nodes_agree.specs.Nodes.Laws.{FairIsAuthentic, NodesAgree, StepsAreTurns, TurnsMayBeTaken, WhatIsSentIsFair};
+
+use crate::view_calls::laws::replicas_agree;
+use bfs_codec::message_was_written;
+use bfs_order::{a_replica_stays_itself, certificates_make_checkpoints_stable, views_are_entered};
+use bfs_votes::quorums::quorums_meet;
+
+/// Whatever nodes do is what turns of their orders do.
+pub fn steps_are_turns()
+    ensures { StepsAreTurns }
+{}
+
+/// Where what passes is authentic, the NEW-VIEWs by which nodes enter views, and those that they begin, are ones of which agreement is proved.
+pub fn turns_may_be_taken()
+    ensures { TurnsMayBeTaken }
+{
+    a_replica_stays_itself();
+    views_are_entered();
+    message_was_written();
+}
+
+/// Over every list of calls of 3f + 1 nodes and deliveries of bytes to them, of which at most f are faulty: any two correct ones that execute
+/// a batch as a number, in whatever views, execute the same one, and any two that reach a number, by executing or by adopting, have the same
+/// file system and table there, and the same digest.
+pub fn nodes_agree()
+    ensures { NodesAgree }
+{
+    steps_are_turns();
+    turns_may_be_taken();
+    replicas_agree();
+    quorums_meet();
+    certificates_make_checkpoints_stable();
+    a_replica_stays_itself();
+    views_are_entered();
+    message_was_written();
+}
+
+/// A run in which nodes are given only what was sent is authentic. Whoever passes a message on, each part of it with a right keyed hash of a correct
+/// sender has to stand in what some correct replica gave to be sent; what one gave itself does, with all that is within it. So who runs
+/// nodes has to show only that what comes is what was sent, or comes of liars who forge no keyed hash.
+pub fn what_was_sent_is_authentic()
+    ensures sent { WhatIsSentIsFair }
+    ensures run { FairIsAuthentic }
+{
+    a_replica_stays_itself();
+    views_are_entered();
+    message_was_written();
+}

@@ -1,5 +1,0 @@
-use Rattle.bfs_view.proofs.Right.{right}
-use Rattle.bfs_view.proofs.laws.made_new_view_is_right.Goals as goal
-
-pub returns : goal.returns
-returns c = right c.what_is_signed_passes.ensures.replicas

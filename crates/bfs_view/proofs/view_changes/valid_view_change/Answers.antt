@@ -1,6 +1,0 @@
-use Rattle.std.proofs.Common.{◌∙◌, sym}
-use Rattle.bfs_view.proofs.Prepared.{valid_near}
-use Rattle.bfs_view.proofs.view_changes.valid_view_change.Goals as goal
-
-pub returns-clause-near : goal.returns-clause-near
-returns-clause-near c = λ valid. valid_near c.args.keys.now c.args.signed.now (sym c.is_valid.ensures ∙ valid)

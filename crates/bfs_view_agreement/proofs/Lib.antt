@@ -1,8 +1,0 @@
--- What proofs share.
-mod Lists
-mod Made
-mod Chosen
-mod Worlds
-mod Proved
-mod OfLog
-pub mod Public

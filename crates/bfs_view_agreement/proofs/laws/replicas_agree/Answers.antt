@@ -1,5 +1,0 @@
-use Rattle.bfs_view_agreement.proofs.Worlds.{replicas_agree}
-use Rattle.bfs_view_agreement.proofs.laws.replicas_agree.Goals as goal
-
-pub returns : goal.returns
-returns c = replicas_agree c.numbers_lie_in_the_window.ensures.kept c.orders_agree.ensures c.made_tells_what_is_prepared.ensures c.right_new_views_are_valid.ensures

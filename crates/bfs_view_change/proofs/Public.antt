@@ -1,0 +1,3 @@
+-- What the crates above may cite.
+pub use Rattle.bfs_view_change.proofs.Certified.{backed_alike, messages_made}
+pub use Rattle.bfs_view_change.proofs.Made.{Made, in_window}

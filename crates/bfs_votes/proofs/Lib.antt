@@ -1,0 +1,3 @@
+mod Below
+mod Counts
+pub mod Public
