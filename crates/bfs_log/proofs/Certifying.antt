@@ -94,7 +94,7 @@ senders_counted n (m ∷ ms) all differ =
     let one = one_more (header m).sender (has_sender ms) n (All-head (λ m. (header m).sender < n) m ms all) (not-true (has_sender ms (header m).sender) parts.0) in
     omega (arith, rest, one)
 
-count_within : (p : ℕ → Bool) (n : ℕ) → count_below p n ≤ n
+pub count_within : (p : ℕ → Bool) (n : ℕ) → count_below p n ≤ n
 count_within p zero = omega arith
 count_within p (suc n) = go (p n) (count_within p n)
   where

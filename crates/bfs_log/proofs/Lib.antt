@@ -10,3 +10,4 @@ pub mod Public
 mod Certifying
 mod Folds
 mod Proposed
+mod Shown

@@ -13,11 +13,9 @@ use Rattle.bfs_messages.specs.declared.order_messages.OrderMessage.{OrderMessage
 use Rattle.bfs_messages.specs.declared.order_messages.OrderMessage.TheVariants.{PrePrepare, Prepare, Commit, Checkpoint}
 use Rattle.bfs_order.specs.Replica.States.{State, known}
 use Rattle.bfs_log.specs.Certificates.{is_proved, messages_in, prepares_in}
-use Rattle.bfs_view_change.specs.Changes.Kinds.{checkpoint_in, prepare_in, proposal_in}
-use Rattle.bfs_view_change.specs.Changes.Making.{backs, certificate_of}
+use Rattle.bfs_log.specs.Showing.{backs, certificate_of, checkpoint_in, prepare_in, proposal_in}
 use Rattle.bfs_messages.specs.Signing.{as_message}
-use Rattle.bfs_view_change.proofs.Few.{backed_by, passing}
-use Rattle.bfs_log.proofs.Public.{proposed_by}
+use Rattle.bfs_log.proofs.Public.{backed_by, passing, proposed_by}
 use Rattle.bfs_votes.proofs.Public.{same_below}
 
 -- Messages of one kind are those messages again --------------------------------------------------------------------------
@@ -151,15 +149,3 @@ backed_alike f log p among led =
   where
     alike : (a b : Bool) (x y k : ℕ) → a ≡ true → b ≡ true → x ≡ y → (a && leb k x) ≡ (b && leb k y)
     alike a b x y k e g h = rw (e, g, h) refl
-
-pub prepared_alike : (s : State) (p : Signed model.PrePrepare) → Contains s.log (as_message PrePrepare p) → eqb p.message.vote.sender (primary s.f p.message.vote.view) ≡ true → s.me < replicas s.f
-    → (is_proved s.f (certificate_of s.f s.log p) && (eqb s.me (primary s.f p.message.vote.view) || told (headers (messages_in (certificate_of s.f s.log p))) 3 s.me p.message.vote.view p.message.vote.number p.message.vote.digest))
-    ≡ prepared s.f s.me (known s) p.message.vote.view p.message.vote.number p.message.vote.digest
-prepared_alike s p among led me = go (eqb s.me (primary s.f p.message.vote.view)) refl
-  where
-    go : (b : Bool) → eqb s.me (primary s.f p.message.vote.view) ≡ b
-        → (is_proved s.f (certificate_of s.f s.log p) && (b || told (headers (messages_in (certificate_of s.f s.log p))) 3 s.me p.message.vote.view p.message.vote.number p.message.vote.digest))
-        ≡ (is_backed s.f (known s) p.message.vote.view p.message.vote.number p.message.vote.digest && (b || told (known s) 3 s.me p.message.vote.view p.message.vote.number p.message.vote.digest))
-    go true e = ap (λ x. x && true) (backed_alike s.f s.log p among led)
-    go false e = ap (λ x. x && told (headers (messages_in (certificate_of s.f s.log p))) 3 s.me p.message.vote.view p.message.vote.number p.message.vote.digest) (backed_alike s.f s.log p among led)
-        ∙ ap (λ y. is_backed s.f (known s) p.message.vote.view p.message.vote.number p.message.vote.digest && y) (told_in s.f s.log p s.me me e)

@@ -1,17 +1,14 @@
--- Lists: a fold over one after another, one number more, and the least of some.
+-- Lists: one number more, and the least of some.
 use Rattle.std.proofs.Common.{◌≡◌, ℕ, ◌+◌, ◌-◌, ◌<◌, List, [], ◌∷◌, ◌++◌, Some, map, min, refl, sym, ap, ◌∙◌, arith}
-use Rattle.std.specs.List.{fold, range_with_len}
+use Rattle.std.specs.List.{range_with_len}
 use Rattle.std.specs.Option.{unwrap_or}
+use Rattle.std.proofs.lemmas.List.Sums.{fold-append}
 use Rattle.std.proofs.lemmas.List.FromFn.{map-range_with_len_more}
 use Rattle.bfs_view_change.specs.Changes.Keeping.{least_of}
 
-pub fold_append : {A B : Type 0} (f : B → A → B) (b : B) (xs ys : List A) → fold f b (xs ++ ys) ≡ fold f (fold f b xs) ys
-fold_append f b [] ys = refl
-fold_append f b (x ∷ xs) ys = fold_append f (f b x) xs ys
-
 pub least_of_more : (views : List ℕ) (view : ℕ) → Some (min (unwrap_or (least_of views) view) view) ≡ least_of (views ++ view ∷ [])
 least_of_more [] view = ap Some (let same : min view view ≡ view = omega arith in same)
-least_of_more (first ∷ views) view = ap Some (sym (fold_append min first views (view ∷ [])))
+least_of_more (first ∷ views) view = ap Some (sym (fold-append min first views (view ∷ [])))
 
 pub one_number_more : {A : Type 0} (f : ℕ → A) (low n : ℕ) → low < n → map f (range_with_len (low + 1) (n + 1 - (low + 1))) ≡ map f (range_with_len (low + 1) (n - (low + 1))) ++ f n ∷ []
 one_number_more f low n lt =
