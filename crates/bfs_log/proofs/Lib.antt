@@ -11,3 +11,4 @@ mod Certifying
 mod Folds
 mod Proposed
 mod Shown
+mod Telling

@@ -1,7 +1,7 @@
 -- What a log shows: of each kind, view and number at most one message of each sender, so at most as many as there are replicas; and with one message more.
-use Rattle.std.proofs.Common.{◌≡◌, ℕ, ◌+◌, ◌<◌, ◌≤◌, Bool, true, false, cond, ◌&&◌, not, eqb, ltb, List, [], ◌∷◌, ◌++◌, length, get_or, take, bytes_eq, Option, Some, None, refl, sym, ap, ◌∙◌, arith}
+use Rattle.std.proofs.Common.{◌≡◌, ℕ, ◌+◌, ◌<◌, ◌≤◌, Bool, true, false, ◌&&◌, not, eqb, ltb, List, [], ◌∷◌, ◌++◌, length, get_or, take, bytes_eq, Option, Some, None, inl, inr, refl, sym, ap, ◌∙◌, arith}
 use Rattle.std.specs.List.{All, cons_option, filter, filter_map, fold}
-use Rattle.std.proofs.lemmas.Bool.{and_parts, and_from, or_parts, or_from, eqb-true, eq-eqb, ltb-true, not-true, not_from_false}
+use Rattle.std.proofs.lemmas.Bool.{and_parts, and_from, or_cases, or_left, or_right, eqb-true, eq-eqb, false_from_ne_true, ltb-true, not-true, not_from_false}
 use Rattle.std.proofs.lemmas.List.{take_more}
 use Rattle.std.proofs.lemmas.List.Elements.{All-head, All-tail, All-weaker, filter-append, filter_map-append, filter_passes}
 use Rattle.std.proofs.lemmas.List.Sums.{fold-append}
@@ -24,23 +24,15 @@ pub record IsAt (t v n : ℕ) (m : Signed OrderMessage) : Type 0 where
   pub view : (header m).view ≡ v
   pub number : (header m).number ≡ n
 
-other_sender : (a b c d : Bool) → a ≡ true → c ≡ true → d ≡ true → (a && (b && (c && d))) ≡ false → b ≡ false
-other_sender true false true true p q r e = refl
-other_sender true true true true p q r e = e
-other_sender false b c d p q r e = absurd cc
-other_sender true b false d p q r e = absurd cc
-other_sender true b true false p q r e = absurd cc
-
-at_place : (t v n s : ℕ) (m : Signed OrderMessage) → IsAt t v n m → is_slot t s v n (header m) ≡ false → eqb (header m).sender s ≡ false
-at_place t v n s m at e =
-    other_sender (eqb (header m).tag t) (eqb (header m).sender s) (eqb (header m).view v) (eqb (header m).number n)
-    (eq-eqb (header m).tag t at.tag) (eq-eqb (header m).view v at.view) (eq-eqb (header m).number n at.number) e
-
-no_sender : (t v n s : ℕ) (ms : Log) → All (IsAt t v n) ms → has_slot (headers ms) t s v n ≡ false → has_sender ms s ≡ false
-no_sender t v n s [] all e = refl
-no_sender t v n s (m ∷ ms) all e =
-    let parts = or_parts (is_slot t s v n (header m)) (has_slot (headers ms) t s v n) e in
-    or_from (eqb (header m).sender s) (has_sender ms s) (at_place t v n s m (All-head (IsAt t v n) m ms all) parts.0) (no_sender t v n s ms (All-tail (IsAt t v n) m ms all) parts.1)
+-- who sends one of them has the place
+slot_at : (t v n s : ℕ) (ms : Log) → All (IsAt t v n) ms → has_sender ms s ≡ true → has_slot (headers ms) t s v n ≡ true
+slot_at t v n s [] all e = absurd cc
+slot_at t v n s (m ∷ ms) all e = elim (or_cases (eqb (header m).sender s) (has_sender ms s) e) [
+  | inl same ↦
+      let at = All-head (IsAt t v n) m ms all in
+      or_left _ (has_slot (headers ms) t s v n) (and_from _ _ (eq-eqb (header m).tag t at.tag) (and_from _ _ same (and_from _ _ (eq-eqb (header m).view v at.view) (eq-eqb (header m).number n at.number))))
+  | inr there ↦ or_right (is_slot t s v n (header m)) _ (slot_at t v n s ms (All-tail (IsAt t v n) m ms all) there)
+]
 
 free_there : (hs : List Header) (t v n a b c s : ℕ) → a ≡ t → b ≡ v → c ≡ n → has_slot hs a s b c ≡ false → has_slot hs t s v n ≡ false
 free_there hs t v n a b c s p q r e = rw (sym p, sym q, sym r) e
@@ -51,7 +43,8 @@ senders_apart t v n (m ∷ ms) all differ =
     let here = All-head (IsAt t v n) m ms all in
     let rest = All-tail (IsAt t v n) m ms all in
     let free = free_there (headers ms) t v n (header m).tag (header m).view (header m).number (header m).sender here.tag here.view here.number differ.0 in
-    and_from (not (has_sender ms (header m).sender)) (senders_differ ms) (not_from_false _ (no_sender t v n (header m).sender ms rest free)) (senders_apart t v n ms rest differ.1)
+    let none = false_from_ne_true (has_sender ms (header m).sender) (λ sent. let taken = slot_at t v n (header m).sender ms rest sent in absurd (cc (free, taken))) in
+    and_from (not (has_sender ms (header m).sender)) (senders_differ ms) (not_from_false _ none) (senders_apart t v n ms rest differ.1)
 
 -- At most as many as there are replicas --------------------------------------------------------------------------------
 
@@ -72,7 +65,7 @@ pub passing : {A : Type 0} (p : A → Bool) (Q : A → Type 0) → ((x : A) → 
 passing p Q each xs = All-weaker (λ x. p x ≡ true) Q each (filter p xs) (filter_passes p xs)
 
 -- a CHECKPOINT has no view
-no_view : (m : OrderMessage) → (message_header m).tag ≡ 5 → (message_header m).view ≡ 0
+pub no_view : (m : OrderMessage) → (message_header m).tag ≡ 5 → (message_header m).view ≡ 0
 no_view (Checkpoint checkpoint) e = refl
 no_view (PrePrepare proposal) e = absurd (omega (arith, e))
 no_view (Prepare vote) e = absurd (omega (arith, e))

@@ -1,12 +1,12 @@
 // What a log shows to others.
 ghost use Rattle.std.specs.Prelude.{◌≡◌, ◌≤◌, ◌==◌, ◌&&◌, ◌∷◌, [], ◌++◌, length, nat_lt, option_to_list, IfOk, OnOk};
-ghost use Rattle.std.specs.List.{filter, fold};
+ghost use Rattle.std.specs.List.{fold};
 ghost use Rattle.bfs_model.specs.Server.Limits.{most_faults, most_replicas};
 ghost use Rattle.bfs_votes.specs.Tags.{prepare_tag};
 ghost use Rattle.bfs_votes.specs.Votes.{prepared, primary, replicas};
-ghost use Rattle.bfs_log.specs.Headers.{header, vote_header};
+ghost use Rattle.bfs_log.specs.Headers.{vote_header};
 ghost use Rattle.bfs_log.specs.Logs.{headers};
-ghost use Rattle.bfs_log.specs.Showing.{backing, backs, certificate_for, checkpoints, checkpoints_of, is_of, later, latest, prepared_among, prepares};
+ghost use Rattle.bfs_log.specs.Showing.{backing, backs, certificate_for, checkpoints_of, is_of, later, latest, prepared_among, prepares};
 
 use crate::certificates::does_match;
 use crate::counting::primary_of;

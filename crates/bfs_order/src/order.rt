@@ -1,4 +1,4 @@
-ghost use Rattle.std.specs.Prelude.{◌≡◌, ◌≢◌, ◌<◌, ◌≤◌, ◌+◌, ◌*◌, ◌^◌, length, None, Some, IfOk, IfErr, OnOk, OnErr};
+ghost use Rattle.std.specs.Prelude.{◌≡◌, ◌≢◌, ◌<◌, ◌≤◌, ◌+◌, ◌*◌, length, None, Some, IfOk, IfErr, OnOk, OnErr};
 ghost use Rattle.bfs_votes.specs.Votes.{SlotsDiffer};
 ghost use Rattle.bfs_log.specs.Logs.{as_messages, headers};
 ghost use Rattle.bfs_log.specs.Showing.{certificate_for, checkpoints_of};

@@ -1,5 +1,5 @@
 -- The first of a list in an order: a fold that keeps the better of two ends with it.
-use Rattle.std.proofs.Common.{◌≡◌, Bool, false, List, ◌∷◌, get_or, sym, ◌∙◌}
+use Rattle.std.proofs.Common.{◌≡◌, Bool, false, List, ◌∷◌, sym, ◌∙◌}
 use Rattle.std.specs.Cmp.{IsStrictWeakOrder}
 use Rattle.std.specs.List.{Contains, best_of}
 use Rattle.std.proofs.lemmas.List.{get_or_default}

@@ -1,5 +1,5 @@
 -- What a replica says of its log is valid by its own keys, and leaves out nothing that is prepared.
-use Rattle.std.proofs.Common.{◌≡◌, ℕ, zero, suc, ◌+◌, ◌*◌, ◌<◌, ◌≤◌, Bool, true, false, cond, ◌&&◌, not, eqb, ltb, leb, List, [], ◌∷◌, length, map, bytes_eq, Option, Some, None, refl, sym, ap, subst, ◌∙◌, ⊎_elim, arith}
+use Rattle.std.proofs.Common.{◌≡◌, ℕ, zero, suc, ◌+◌, ◌*◌, ◌<◌, ◌≤◌, Bool, true, false, cond, ◌&&◌, not, eqb, ltb, leb, List, [], ◌∷◌, length, map, Option, Some, None, refl, sym, ap, subst, ◌∙◌, ⊎_elim, arith}
 use Rattle.std.specs.Option.{option_map}
 use Rattle.std.specs.List.{All, Contains, cons_option, filter, filter_map, list_all, range_with_len}
 use Rattle.std.proofs.lemmas.Bool.{and_parts, and_from, or_from, eqb-true, eqb-false, eq-eqb, leb-true, le-leb, lt-ltb}
@@ -10,7 +10,7 @@ use Rattle.std.proofs.lemmas.Slice.Eq.{bytes_eq-Decides}
 use Rattle.bfs_auth.specs.Keys.{Keys, shared_keys}
 use Rattle.bfs_auth.specs.Laws.{PassesAtReplicas}
 use Rattle.bfs_auth.specs.declared.principals.Principal.TheVariants.{Replica}
-use Rattle.bfs_votes.specs.Votes.{is_backed, is_slot, is_stable, prepared, primary, replicas, says, tellers, told}
+use Rattle.bfs_votes.specs.Votes.{is_backed, is_stable, prepared, primary, replicas, says, tellers, told}
 use Rattle.bfs_log.specs.Headers.{header}
 use Rattle.bfs_log.specs.Logs.{Log}
 use Rattle.bfs_messages.specs.Messages as model
@@ -33,7 +33,7 @@ use Rattle.bfs_view_change.specs.Inside.Near.{IsNear}
 use Rattle.bfs_view_change.specs.Laws.Made.{MadeHasPrepared, MadeIsValid, MadeIsValidAfterCalls}
 use Rattle.bfs_view_change.proofs.Certified.{again, backed_alike, checkpoint_kind, messages_made, prepares_made, proposal_kind}
 use Rattle.bfs_view_change.proofs.Counting.{senders_fit}
-use Rattle.bfs_log.proofs.Public.{any_map, backed_by, backups_apart, checkpoints_apart, of_number, passing}
+use Rattle.bfs_log.proofs.Public.{any_map, backed_by, backups_apart, checkpoints_apart, of_number, passing, says_is}
 use Rattle.bfs_view_change.proofs.Latest.{latest_in, latest_is}
 use Rattle.bfs_view_change.proofs.Members.{all_from, any_at, any_from, greatest_at_most, in_filter, in_filter_map, in_front, in_map, in_range, of_filter, of_filter_map, of_map, of_range, some_is}
 use Rattle.bfs_model.specs.Server.Limits.{log_size}
@@ -148,12 +148,10 @@ module _ (keys : Keys) (s : State) (view : ℕ) (fs : faults keys ≡ s.f) (befo
       let each : (k : ℕ) → k < replicas s.f → told_by k ≡ true → has_sender kept_low k ≡ true = λ k low e.
       (let at = any_at (λ m. says 5 k 0 s.low digest (header m)) s.log (sym (any_map (says 5 k 0 s.low digest) header s.log) ∙ e) in
       let h = header at.0 in
-      let a = and_parts (is_slot 5 k 0 s.low h) (bytes_eq h.digest digest) at.2 in
-      let b = and_parts (eqb h.tag 5) (eqb h.sender k && (eqb h.view 0 && eqb h.number s.low)) a.0 in
-      let c = and_parts (eqb h.sender k) (eqb h.view 0 && eqb h.number s.low) b.1 in
-      let d = and_parts (eqb h.view 0) (eqb h.number s.low) c.1 in
-      let few : ltb h.sender (replicas s.f) ≡ true = lt-ltb h.sender (replicas s.f) (omega (arith, low, eqb-true h.sender k c.0)) in
-      any_from (λ m. eqb (header m).sender k) at.0 kept_low (in_filter (λ m. is_of s.f s.low (header m)) at.0 s.log at.1 (and_from _ _ b.0 (and_from _ _ d.1 few))) c.0) in
+      let is = says_is h 5 k 0 s.low digest at.2 in
+      let known_k : ltb h.sender (replicas s.f) ≡ true = lt-ltb h.sender (replicas s.f) (omega (arith, low, is.sender)) in
+      let passed = and_from _ _ (eq-eqb h.tag 5 is.tag) (and_from _ _ (eq-eqb h.number s.low is.number) known_k) in
+      any_from (λ m. eqb (header m).sender k) at.0 kept_low (in_filter (λ m. is_of s.f s.low (header m)) at.0 s.log at.1 passed) (eq-eqb h.sender k is.sender)) in
       let enough = leb-true (2 * s.f + 1) (tellers s.f (known s) 5 0 s.low digest) stable in
       let count = more_below told_by (has_sender kept_low) (replicas s.f) each in
       let fit = senders_fit kept_low (replicas s.f) in
@@ -231,25 +229,19 @@ made_has s view number digest is low high =
     let proposed = (and_parts (told (known s) 2 lead view number digest) _ backed).0 in
     let at = any_at (λ m. says 2 lead view number digest (header m)) s.log (sym (any_map (says 2 lead view number digest) header s.log) ∙ proposed) in
     let h = header at.0 in
-    let a = and_parts (is_slot 2 lead view number h) (bytes_eq h.digest digest) at.2 in
-    let b = and_parts (eqb h.tag 2) (eqb h.sender lead && (eqb h.view view && eqb h.number number)) a.0 in
-    let c = and_parts (eqb h.sender lead) (eqb h.view view && eqb h.number number) b.1 in
-    let d = and_parts (eqb h.view view) (eqb h.number number) c.1 in
-    let v = eqb-true h.view view d.0 in
-    let n = eqb-true h.number number d.1 in
-    let digest_is = (bytes_eq-Decides h.digest digest).0 a.1 in
-    let led : eqb h.sender (primary s.f h.view) ≡ true = rw v c.0 in
-    let still : prepared s.f s.me (known s) h.view h.number h.digest ≡ true = rw (v, n, digest_is) is in
+    let it = says_is h 2 lead view number digest at.2 in
+    let led : eqb h.sender (primary s.f h.view) ≡ true = rw it.view (eq-eqb h.sender lead it.sender) in
+    let still : prepared s.f s.me (known s) h.view h.number h.digest ≡ true = rw (it.view, it.number, it.digest) is in
     let test = λ (m : Signed OrderMessage). is_prepared_for s.f s.me s.log number (header m) in
-    let passed : test at.0 ≡ true = and_from _ _ b.0 (and_from _ _ d.1 (and_from _ _ led still)) in
-    let kind = proposal_kind at.0 (eqb-true h.tag 2 b.0) in
+    let passed : test at.0 ≡ true = and_from _ _ (eq-eqb h.tag 2 it.tag) (and_from _ _ (eq-eqb h.number number it.number) (and_from _ _ led still)) in
+    let kind = proposal_kind at.0 it.tag in
     let p = kind.signed in
     let among = in_filter_map (λ (m : Signed OrderMessage). proposal_in m.message m.auth) at.0 p (filter test s.log) (in_filter test at.0 s.log at.1 passed) kind.is in
     let last = latest_in (prepared_among s.f s.me s.log number s.log) p among in
     let made = certificate_of s.f s.log last.0 in
     let is : certificate_for s.f s.me s.log number ≡ Some made = ap (option_map (certificate_of s.f s.log)) last.1 in
     let from = made_of s number made is in
-    let seen : p.message.vote.view ≡ view = ap (λ (m : Signed OrderMessage). (header m).view) kind.same ∙ v in (
+    let seen : p.message.vote.view ≡ view = ap (λ (m : Signed OrderMessage). (header m).view) kind.same ∙ it.view in (
       made,
       in_filter_map (certificate_for s.f s.me s.log) number made (range_with_len (s.low + 1) log_size) (in_range (s.low + 1) log_size number (omega (arith, low)) (omega (arith, high))) is,
       ap number_in (sym from.is) ∙ from.number,
