@@ -77,3 +77,15 @@ static ENTERED: [Step; 4] = [
 fn a_view_that_is_entered_was_asked_for(rt: HostRuntime) -> Result<(), Fail> {
     plays(&rt, rt.alloc(), 1, 3, &ENTERED)
 }
+
+static ALONE: [Step; 3] = [
+    // its VIEW-CHANGE and its NEW-VIEW
+    Step::TimeOut(Said::Sent(2)),
+    Step::TimeOut(Said::Sent(2)),
+    Step::Stands(Standing(2, 0, 0)),
+];
+
+#[test]
+fn a_replica_that_is_alone_begins_the_next_view_at_once(rt: HostRuntime) -> Result<(), Fail> {
+    plays(&rt, rt.alloc(), 0, 0, &ALONE)
+}

@@ -1,6 +1,5 @@
 //! The view change, as tests: which VIEW-CHANGEs are valid, what is chosen from them, which NEW-VIEWs are right, and what a replica makes of its log. Then
-//! replicas that change their view: a silent primary is replaced, what was prepared or executed stands in the new view, which view a replica is to follow,
-//! and which VIEW-CHANGEs and NEW-VIEWs it refuses.
+//! one replica that changes its view: which view it is to follow, and which VIEW-CHANGEs and NEW-VIEWs it refuses.
 #![tactic(auto)]
 
 #[cfg(test)]
@@ -14,19 +13,11 @@ mod entering;
 #[cfg(test)]
 mod following;
 #[cfg(test)]
-mod keeping;
-#[cfg(test)]
 mod making;
-#[cfg(test)]
-mod moving;
 #[cfg(test)]
 mod new_views;
 #[cfg(test)]
 mod parts;
-#[cfg(test)]
-mod replicas;
-#[cfg(test)]
-mod script;
 #[cfg(test)]
 mod steps;
 #[cfg(test)]

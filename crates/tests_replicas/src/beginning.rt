@@ -1,28 +1,8 @@
-//! What was prepared, executed or made stable stands in the new view.
-use crate::script::{ALL, BACKUPS, Event, four_play};
+//! What a view begins with: what was proposed, executed or made stable before.
+use crate::script::{ALL, BACKUPS, Event, wrong_in};
+use bfs_testing::same;
 use bfs_testing_nodes::calls::Standing;
 use std::test::Fail;
-
-static PREPARED: [Event; 12] = [
-    Event::Ask(ALL, 7),
-    Event::Propose(0),
-    // PRE-PREPARE and PREPAREs come, and no COMMIT
-    Event::HandOver(ALL),
-    Event::HandOver(ALL),
-    Event::Lose,
-    Event::TimeOut(BACKUPS),
-    Event::HandOver(BACKUPS),
-    Event::NewView(3, 1),
-    Event::Settle(BACKUPS),
-    Event::Stand(BACKUPS, Standing(1, 1, 0)),
-    Event::Note(1),
-    Event::AsNoted(BACKUPS),
-];
-
-#[test]
-fn what_was_prepared_is_executed_in_the_new_view(rt: HostRuntime) -> Result<(), Fail> {
-    four_play(&rt, rt.alloc(), &PREPARED)
-}
 
 static ONLY_PROPOSED: [Event; 12] = [
     Event::Ask(ALL, 7),
@@ -41,7 +21,8 @@ static ONLY_PROPOSED: [Event; 12] = [
 
 #[test]
 fn what_was_only_proposed_waits_on(rt: HostRuntime) -> Result<(), Fail> {
-    four_play(&rt, rt.alloc(), &ONLY_PROPOSED)
+    same!(rt; wrong_in(&rt, rt.alloc(), &ONLY_PROPOSED)?, None);
+    Ok(())
 }
 
 static EXECUTED: [Event; 15] = [
@@ -65,11 +46,12 @@ static EXECUTED: [Event; 15] = [
 
 #[test]
 fn what_was_executed_is_not_executed_again(rt: HostRuntime) -> Result<(), Fail> {
-    four_play(&rt, rt.alloc(), &EXECUTED)
+    same!(rt; wrong_in(&rt, rt.alloc(), &EXECUTED)?, None);
+    Ok(())
 }
 
 static BEHIND_A_CHECKPOINT: [Event; 8] = [
-    Event::Batches(16),
+    Event::Batches(ALL, 16),
     Event::Stand(ALL, Standing(0, 16, 0)),
     Event::TimeOut(BACKUPS),
     Event::HandOver(BACKUPS),
@@ -81,5 +63,20 @@ static BEHIND_A_CHECKPOINT: [Event; 8] = [
 
 #[test]
 fn a_view_begins_behind_a_checkpoint(rt: HostRuntime) -> Result<(), Fail> {
-    four_play(&rt, rt.alloc(), &BEHIND_A_CHECKPOINT)
+    same!(rt; wrong_in(&rt, rt.alloc(), &BEHIND_A_CHECKPOINT)?, None);
+    Ok(())
+}
+
+static TWO_HAVE_LEFT: [Event; 5] = [
+    Event::TimeOut(&[2, 3]),
+    Event::Lose,
+    Event::Propose(0),
+    Event::Settle(ALL),
+    Event::Stand(ALL, Standing(0, 0, 0)),
+];
+
+#[test]
+fn a_replica_that_has_left_takes_nothing_of_its_view(rt: HostRuntime) -> Result<(), Fail> {
+    same!(rt; wrong_in(&rt, rt.alloc(), &TWO_HAVE_LEFT)?, None);
+    Ok(())
 }

@@ -5,12 +5,17 @@ use bfs_testing::same;
 use bfs_testing_nodes::calls::Standing;
 use std::test::Fail;
 
-static THE_PRIMARY_IS_SILENT: [Event; 9] = [
+static THE_PRIMARY_IS_SILENT: [Event; 13] = [
     Event::Ask(BACKUPS, 7),
     Event::TimeOut(BACKUPS),
     Event::HandOver(BACKUPS),
+    Event::NewView(3, 0),
+    Event::Stand(&[1], Standing(1, 0, 1)),
+    Event::Stand(&[2, 3], Standing(0, 0, 1)),
     Event::HandOver(BACKUPS),
     Event::Stand(BACKUPS, Standing(1, 0, 1)),
+    // the new primary proposes what waits
+    Event::MayNotPropose(2),
     Event::Propose(1),
     Event::Settle(BACKUPS),
     Event::Stand(BACKUPS, Standing(1, 1, 0)),
@@ -23,7 +28,7 @@ fn a_view_is_changed(rt: HostRuntime) -> Result<(), Fail> {
     Ok(())
 }
 
-static PREPARED: [Event; 10] = [
+static PREPARED: [Event; 11] = [
     Event::Ask(ALL, 7),
     Event::Propose(0),
     // PRE-PREPARE and PREPAREs come, and no COMMIT
@@ -32,6 +37,7 @@ static PREPARED: [Event; 10] = [
     Event::Lose,
     Event::TimeOut(BACKUPS),
     Event::HandOver(BACKUPS),
+    Event::NewView(3, 1),
     Event::Settle(BACKUPS),
     Event::Stand(BACKUPS, Standing(1, 1, 0)),
     Event::Agree(BACKUPS),

@@ -1,7 +1,7 @@
 //! Four replicas, of which one may be faulty, and bytes on their way between them.
 use crate::replica::{Call, Replica, Silence};
 use crate::requests::{large_request, request};
-use bfs_codec::encode;
+use bfs_codec::{decode, encode};
 use bfs_messages::{Message, Signed};
 use bfs_testing_nodes::calls::Standing;
 use bfs_types::Memory;
@@ -16,6 +16,22 @@ pub struct Replicas {
     all: Vec<Replica>,
     on_their_way: Vec<(usize, Vec<u8>)>,
     said: Vec<u8>,
+    noted: Option<[u8; 32]>,
+}
+
+// how many VIEW-CHANGEs and PRE-PREPAREs a NEW-VIEW has
+fn sizes_of(message: &Message) -> Option<(usize, usize)> {
+    match message {
+        Message::NewView(new) => Some((new.changes().len(), new.proposals().len())),
+        _ => None,
+    }
+}
+
+fn sizes_in(alloc: Global, bytes: &[u8]) -> Result<Option<(usize, usize)>, Memory> {
+    match decode(alloc, bytes) {
+        Ok(signed) => Ok(sizes_of(&signed.message)),
+        Err(_) => Err(Memory),
+    }
 }
 
 // where memory runs out, it is asked again
@@ -38,6 +54,7 @@ impl Replicas {
             all,
             on_their_way: Vec::new(alloc),
             said: Vec::new(alloc),
+            noted: None,
         })
     }
 
@@ -83,6 +100,46 @@ impl Replicas {
             }
         }
         true
+    }
+
+    /// A replica's digest is noted. It gives whether there is one.
+    pub fn note<R: Threads + Sync>(&mut self, rt: &R, number: usize) -> bool {
+        self.noted = self.digest(rt, number);
+        self.noted.is_some()
+    }
+
+    /// Whether each of these has the digest that was noted.
+    pub fn are_as_noted<R: Threads + Sync>(&self, rt: &R, numbers: &[usize]) -> bool {
+        for number in numbers {
+            if self.digest(rt, *number) != self.noted {
+                return false;
+            }
+        }
+        true
+    }
+
+    /// How many VIEW-CHANGEs and PRE-PREPAREs the first NEW-VIEW has that is on its way.
+    pub fn new_view(&self) -> Result<Option<(usize, usize)>, Memory> {
+        for (_, bytes) in &self.on_their_way {
+            let sizes = sizes_in(self.alloc, bytes.as_slice())?;
+            if sizes.is_some() {
+                return Ok(sizes);
+            }
+        }
+        Ok(None)
+    }
+
+    /// Whether a replica refuses what it is asked.
+    pub fn refuses<R: Threads + Wait + Sync>(
+        &mut self,
+        rt: &R,
+        number: usize,
+        call: Call<'_>,
+    ) -> bool {
+        match self.all.get_mut(number) {
+            Some(replica) => matches!(replica.does(rt, call), Err(Silence::Refused(_))),
+            None => false,
+        }
     }
 
     /// What is on its way is lost.

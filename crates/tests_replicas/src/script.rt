@@ -24,6 +24,8 @@ pub enum Event {
     AskMuch(&'static [usize], u32),
     /// A replica proposes what waits.
     Propose(usize),
+    /// A replica may propose nothing.
+    MayNotPropose(usize),
     /// Time runs out at each of these.
     TimeOut(&'static [usize]),
     /// What is on its way comes to these, and what they send then is on its way.
@@ -40,12 +42,18 @@ pub enum Event {
     Mend(&'static [usize]),
     /// A replica adopts the stable snapshot of another one.
     Adopt(usize, usize),
+    /// A NEW-VIEW is on its way that has so many VIEW-CHANGEs and PRE-PREPAREs.
+    NewView(usize, usize),
     /// Each of these stands so.
     Stand(&'static [usize], Standing),
     /// Each of these has a stable snapshot that so many CHECKPOINTs tell.
     HaveStable(&'static [usize], usize),
     /// These have the same digest.
     Agree(&'static [usize]),
+    /// A replica's digest is noted.
+    Note(usize),
+    /// Each of these has the digest that was noted.
+    AsNoted(&'static [usize]),
 }
 
 fn batches<R: Threads + Wait + Sync>(
@@ -77,6 +85,7 @@ fn happens<R: Threads + Wait + Sync>(
         Event::Ask(numbers, timestamp) => all.request(rt, numbers, timestamp),
         Event::AskMuch(numbers, timestamp) => all.large_request(rt, numbers, timestamp),
         Event::Propose(number) => all.ask(rt, number, Call::Propose),
+        Event::MayNotPropose(number) => Ok(all.refuses(rt, number, Call::Propose)),
         Event::TimeOut(numbers) => all.ask_each(rt, numbers, Call::TimeOut),
         Event::HandOver(numbers) => all.hand_over(rt, numbers),
         Event::Lose => Ok(lose(all)),
@@ -85,9 +94,12 @@ fn happens<R: Threads + Wait + Sync>(
         Event::Batches(numbers, count) => batches(rt, all, numbers, count),
         Event::Mend(numbers) => all.mend(rt, numbers),
         Event::Adopt(number, from) => all.adopt(rt, number, from),
+        Event::NewView(changes, proposals) => Ok(all.new_view()? == Some((changes, proposals))),
         Event::Stand(numbers, wanted) => Ok(all.stand(numbers, wanted)),
         Event::HaveStable(numbers, count) => Ok(all.have_stable(numbers, count)),
         Event::Agree(numbers) => Ok(all.agree(rt, numbers)),
+        Event::Note(number) => Ok(all.note(rt, number)),
+        Event::AsNoted(numbers) => Ok(all.are_as_noted(rt, numbers)),
     }
 }
 
