@@ -1,7 +1,7 @@
 -- A proposal, an execution and a timeout are lists of moves.
 use Rattle.std.proofs.Common.{◌≡◌, ℕ, ◌+◌, ◌*◌, ◌<◌, ◌≤◌, ◌==◌, max, Bool, true, false, ◌&&◌, List, [], ◌∷◌, ◌++◌, Option, Some, None, inl, inr, refl, sym, ap, subst, ◌∙◌, arith}
 use Rattle.std.specs.Prelude.{nat_lt, nat_le}
-use Rattle.std.proofs.lemmas.Bool.{and_parts, and_from, or_cases, cond_both, cases_Bool, eq-eqb, eqb-true, ltb-true, leb-true, le-leb}
+use Rattle.std.proofs.lemmas.Bool.{and_parts, and_from, or_cases, cond_both, false_from_ne_true, eq-eqb, eqb-true, ltb-true, leb-true, le-leb}
 use Rattle.bfs_auth.specs.Keys.{Keys}
 use Rattle.bfs_votes.specs.Votes.{Header, is_slot, has_slot, told, Told, tellers, replicas, primary, prepared, committed}
 use Rattle.bfs_log.specs.Headers.{header}
@@ -28,7 +28,7 @@ use Rattle.bfs_nodes_agree.specs.Orders.Replicas.{OrderReplica, TellsWhatIsPrepa
 use Rattle.bfs_nodes_agree.proofs.Orders.Lists.{found}
 use Rattle.bfs_nodes_agree.proofs.Orders.Telling.{not_both, slot_is, slot_same, told_same}
 use Rattle.bfs_nodes_agree.proofs.Orders.Saying.{commits_may, after_said}
-use Rattle.bfs_nodes_agree.proofs.Orders.Results.{Result, passed, stays_so, stay_tracks, joined_now, tracks_answers, tracks_one, within, said_follows}
+use Rattle.bfs_nodes_agree.proofs.Orders.Results.{Result, either_way, passed, stays_so, stay_tracks, joined_now, tracks_answers, tracks_one, within, said_follows}
 use Rattle.bfs_model.specs.Server.Limits.{log_size, most_number}
 use Rattle.bfs_votes.proofs.Public.{more}
 
@@ -50,7 +50,7 @@ number_below v k n (h ∷ hs) e =
 
 pub proposes : (faulty : ℕ → Bool) (w : World) (r : OrderReplica) (keys : Keys) (batch : Batch) → Follows r (w r.state.me)
     → let out = unless (proposal_refusal r.state) r.state (proposed keys r.state batch) in Result faulty w r out.now out.sent [] [] []
-proposes faulty w r keys batch follows = go (proposal_refusal r.state) refl
+proposes faulty w r keys batch follows = either_way (λ out. Result faulty w r out.now out.sent [] [] []) (proposal_refusal s) s (proposed keys s batch) taken (stays_so faulty w r s follows follows.state)
   where
     s : order.State
     s = r.state
@@ -77,14 +77,12 @@ proposes faulty w r keys batch follows = go (proposal_refusal r.state) refl
     last = record then { log = with_said (headers vs) then.log }
 
     free : has_slot p.now.log 2 s.me s.view n ≡ false
-    free = elim (cases_Bool (has_slot p.now.log 2 s.me s.view n)) [
-      | inl e ↦ let le = number_below s.view s.me n (known s) (slot_same (known s) p.now.log follows.state.log 2 s.me s.view n (omega arith) ∙ e) in absurd (omega (arith, le))
-      | inr e ↦ e
-    ]
+    free = false_from_ne_true (has_slot p.now.log 2 s.me s.view n) (λ e.
+        let le = number_below s.view s.me n (known s) (slot_same (known s) p.now.log follows.state.log 2 s.me s.view n (omega arith) ∙ e) in
+        absurd (omega (arith, le)))
 
-    go : (o : Option OrderError) → proposal_refusal s ≡ o → Result faulty w r (unless o s (proposed keys s batch)).now (unless o s (proposed keys s batch)).sent [] [] []
-    go (Some e) is = stays_so faulty w r s follows follows.state
-    go None is =
+    taken : proposal_refusal s ≡ None → Result faulty w r (proposed keys s batch).now (proposed keys s batch).sent [] [] []
+    taken is =
         let a = passed (leads s) NotPrimary _ is in
         let b = passed (nat_le n (s.low + log_size) && nat_le n most_number) OutsideMarks None a.1 in
         let led = and_parts (s.me == primary s.f s.view) (nat_le s.asked s.view) a.0 in

@@ -2,7 +2,8 @@
 use Rattle.std.proofs.Common.{◌≡◌, ℕ, ◌+◌, ◌%◌, ◌<◌, ◌≤◌, ◌==◌, max, Bool, true, false, cond, ◌&&◌, ◌||◌, not, List, [], ◌∷◌, ◌++◌, Option, Some, None, ◌⊎◌, inl, inr, refl, sym, ap, ap₂, subst, ◌∙◌, arith}
 use Rattle.std.specs.Prelude.{nat_lt, nat_le}
 use Rattle.std.specs.List.{list_any}
-use Rattle.std.proofs.lemmas.Bool.{and_parts, and_from, or_right, cond_both, cases_Bool, eq-eqb, ltb-true, lt-ltb, leb-true, le-leb}
+use Rattle.std.proofs.lemmas.Bool.{and_parts, and_from, or_right, cond_both, cond-false, false_from_ne_true, eq-eqb, ltb-true, lt-ltb, leb-true, le-leb}
+use Rattle.std.proofs.Math.Bool.{or-false, or_assoc}
 use Rattle.std.proofs.lemmas.List.{map-append}
 use Rattle.std.proofs.lemmas.List.Folds.{list_any-append}
 use Rattle.bfs_auth.specs.Keys.{Keys}
@@ -30,7 +31,7 @@ use Rattle.bfs_agreement.proofs.Public.{MaySayAll, Within, in_told, say_join, th
 use Rattle.bfs_nodes_agree.specs.Orders.Following.{HaveTheSameVotes, Follows}
 use Rattle.bfs_nodes_agree.specs.Orders.Replicas.{OrderReplica, new_view, where_taken}
 use Rattle.bfs_nodes_agree.proofs.Orders.Lists.{any_in}
-use Rattle.bfs_nodes_agree.proofs.Orders.Telling.{or_false, or_moved, not_both, not_equal, finds_none, no_slot, slot_is, any_both, any_said, slot_same}
+use Rattle.bfs_nodes_agree.proofs.Orders.Telling.{or_moved, not_both, not_equal, finds_none, no_slot, slot_is, any_both, any_said, slot_same}
 use Rattle.bfs_nodes_agree.proofs.Orders.Saying.{IsAhead, told_there, ahead_said, votes_may, after_said}
 use Rattle.bfs_nodes_agree.proofs.Orders.Results.{Result, passed, stays_so, in_said, said_view}
 use Rattle.bfs_nodes_agree.proofs.Orders.Taking.{unsettled, itself_there}
@@ -38,18 +39,15 @@ use Rattle.bfs_model.specs.Server.Limits.{checkpoint_interval, most_number}
 
 -- What is handed over -----------------------------------------------------------------------------------------------------
 
-or_behind : (a b c : Bool) → (a || (b || c)) ≡ ((a || b) || c)
-or_behind true b c = refl
-or_behind false b c = refl
-
 any_taken : (test : Header → Bool) (low : ℕ) (hs log : List Header) → list_any test (taken_in low hs log) ≡ (list_any test (taken_in low hs []) || list_any test log)
 any_taken test low [] log = refl
-any_taken test low (h ∷ hs) log = go (nat_lt low h.number && nat_le h.number (low + 32)) (any_taken test low hs log)
-  where
-    go : (b : Bool) → list_any test (taken_in low hs log) ≡ (list_any test (taken_in low hs []) || list_any test log)
-        → list_any test (cond b (h ∷ taken_in low hs log) (taken_in low hs log)) ≡ (list_any test (cond b (h ∷ taken_in low hs []) (taken_in low hs [])) || list_any test log)
-    go true e = ap (λ (b : Bool). test h || b) e ∙ or_behind (test h) (list_any test (taken_in low hs [])) (list_any test log)
-    go false e = e
+any_taken test low (h ∷ hs) log =
+    let e = any_taken test low hs log in
+    elim (nat_lt low h.number && nat_le h.number (low + 32)) as
+        (λ b. list_any test (cond b (h ∷ taken_in low hs log) (taken_in low hs log)) ≡ (list_any test (cond b (h ∷ taken_in low hs []) (taken_in low hs [])) || list_any test log)) [
+      | true ↦ ap (λ (b : Bool). test h || b) e ∙ sym (or_assoc (test h) (list_any test (taken_in low hs [])) (list_any test log))
+      | false ↦ e
+    ]
 
 in_taken : (low : ℕ) (hs log : List Header) (x : Header) → IsIn x (taken_in low hs log) → IsIn x hs ⊎ IsIn x log
 in_taken low [] log x = λ i. inr i
@@ -75,17 +73,14 @@ turned x h e =
     (and_from (x.view == h.view) (x.number == h.number) (eq-eqb x.view h.view (sym at.view)) (eq-eqb x.number h.number (sym at.number))))
 
 differs : (hs : List Header) (h x : Header) → is_taken hs h ≡ false → IsIn x hs → is_slot x.tag x.sender x.view x.number h ≡ false
-differs hs h x free i = elim (cases_Bool (is_slot x.tag x.sender x.view x.number h)) [
-  | inl e ↦ absurd (not_both (any_in (is_slot h.tag h.sender h.view h.number) hs x i (turned x h e)) free)
-  | inr e ↦ e
-]
+differs hs h x free i = false_from_ne_true (is_slot x.tag x.sender x.view x.number h) (λ e. not_both (any_in (is_slot h.tag h.sender h.view h.number) hs x i (turned x h e)) free)
 
 -- of a later view
 later_free : (log : List Header) (x : Header) → ((y : Header) → IsIn y log → y.view < x.view) → is_taken log x ≡ false
-later_free log x earlier = finds_none (is_slot x.tag x.sender x.view x.number) log (λ y i. elim (cases_Bool (is_slot x.tag x.sender x.view x.number y)) [
-  | inl e ↦ let same = (slot_is x.tag x.sender x.view x.number y e).view in let lt = earlier y i in absurd (omega (arith, same, lt))
-  | inr e ↦ e
-])
+later_free log x earlier = finds_none (is_slot x.tag x.sender x.view x.number) log (λ y i. false_from_ne_true (is_slot x.tag x.sender x.view x.number y) (λ e.
+    let same = (slot_is x.tag x.sender x.view x.number y e).view in
+    let lt = earlier y i in
+    absurd (omega (arith, same, lt))))
 
 -- answers are no PRE-PREPAREs
 once_other : (keys : Keys) (s : order.State) (m : OrderMessage) (k v n : ℕ) → ((message_header m).tag ≡ 2 → ⊥) → has_slot (headers (said_once keys s m)) 2 k v n ≡ false
@@ -112,20 +107,11 @@ votes_other keys s v n d k u j =
 chain : (a b c d e : Bool) (v w x y z : OrderError) → a ≡ true → b ≡ true → c ≡ false → d ≡ false → e ≡ false
     → cond (not a) (Some v) (cond (not b) (Some w) (cond c (Some x) (cond d (Some y) (cond e (Some z) None)))) ≡ None
 chain true true false false false v w x y z p q r s t = refl
-chain false b c d e v w x y z p q r s t = absurd cc
-chain true false c d e v w x y z p q r s t = absurd cc
-chain true true true d e v w x y z p q r s t = absurd cc
-chain true true false true e v w x y z p q r s t = absurd cc
-chain true true false false true v w x y z p q r s t = absurd cc
+chain a b c d e v w x y z p q r s t = absurd cc
 
 outside : (a b : Bool) (v w : OrderError) (o : Option OrderError) → a ≡ true → b ≡ false → cond (not a) (Some v) (cond (not b) (Some w) o) ≡ Some w
 outside true false v w o p q = refl
-outside false b v w o p q = absurd cc
-outside true true v w o p q = absurd cc
-
-when_false : {A : Type 0} (b : Bool) (x y : A) → b ≡ false → cond b x y ≡ y
-when_false true x y e = absurd cc
-when_false false x y e = refl
+outside a b v w o p q = absurd cc
 
 -- within the marks, in a free place
 none_refused : (s : order.State) (h : Header) → IsHanded s.f s.view s.min_s h → s.asked ≤ s.view → is_between s h.number ≡ true → is_taken (known s) h ≡ false → place_refusal s h ≡ None
@@ -136,7 +122,7 @@ none_refused s h handed asked marks free =
     let view : is_of_view s h ≡ true = or_right (h.tag == 5) ((h.view == s.view) && nat_le s.asked s.view)
     (and_from (h.view == s.view) (nat_le s.asked s.view) (eq-eqb h.view s.view handed.of_view) (le-leb s.asked s.view asked)) in
     let inside : is_inside s h ≡ true = and_from (is_between s h.number) (cond (h.tag == 5) ((h.number % checkpoint_interval) == 0) (nat_lt s.min_s h.number)) marks
-    (when_false (h.tag == 5) ((h.number % checkpoint_interval) == 0) (nat_lt s.min_s h.number) five ∙ lt-ltb s.min_s h.number handed.above) in
+    (cond-false (h.tag == 5) ((h.number % checkpoint_interval) == 0) (nat_lt s.min_s h.number) five ∙ lt-ltb s.min_s h.number handed.above) in
     let from = eq-eqb h.sender (primary s.f h.view) handed.from in
     let primary_ok : ((h.tag == 2) && not (h.sender == primary s.f h.view)) ≡ false = ap₂ (λ (a b : Bool). a && not b) two from in
     let no_conflict : conflicts s h ≡ false =
@@ -197,7 +183,7 @@ one_less ahead s log m joined =
       same = λ test votes.
           list_any-append test ahead (headers (s.log ++ m ∷ [])) ∙ ap (λ (b : Bool). list_any test ahead || b) (any_both test s.log (m ∷ []))
           ∙ or_moved (list_any test ahead) (list_any test (known s)) (test (header m) || false)
-          ∙ ap₂ (λ (a b : Bool). a || b) (or_false (test (header m))) (sym (list_any-append test ahead (known s))) ∙ joined.same test votes;
+          ∙ ap₂ (λ (a b : Bool). a || b) (or-false (test (header m))) (sym (list_any-append test ahead (known s))) ∙ joined.same test votes;
       proposals = λ h i. joined.proposals h (inr i);
     }
 

@@ -6,9 +6,11 @@ use Rattle.bfs_log.specs.Headers.{header}
 use Rattle.bfs_log.specs.Logs.{Log, headers, kept_after}
 use Rattle.bfs_messages.specs.declared.signed.Signed.{Signed}
 use Rattle.bfs_messages.specs.declared.order_messages.OrderMessage.{OrderMessage}
+use Rattle.bfs_order.specs.declared.error.OrderError.{OrderError}
 use Rattle.bfs_order.specs.Replica.Accepting.{makes_stable, settled}
+use Rattle.bfs_order.specs.Replica.Outcomes.{Outcome, quiet, unless}
 use Rattle.bfs_order.specs.Replica.States as order
-use Rattle.bfs_order.specs.Replica.States.{known, with_more, with_message}
+use Rattle.bfs_order.specs.Replica.States.{with_more, with_message}
 use Rattle.bfs_agreement.specs.Histories.{IsIn, ViewChange, State, History, World}
 use Rattle.bfs_agreement.specs.Moves.{Move, Drops, kept_above, AreAllowed}
 use Rattle.bfs_agreement.specs.Calls.{with_said, steps_of}
@@ -35,6 +37,10 @@ passed false e o h = absurd cc
 pub not_hit : {E : Type 0} (b : Bool) (e : E) (o : Option E) → cond b (Some e) o ≡ None → (b ≡ false) × (o ≡ None)
 not_hit true e o h = absurd cc
 not_hit false e o h = (refl, h)
+
+-- what holds of a call that is taken, and of one that is refused
+pub either_way : (P : Outcome → Type 0) (r : Option OrderError) (s : order.State) (out : Outcome) → (r ≡ None → P out) → P (quiet s) → P (unless r s out)
+either_way P r s out taken refused = (elim r as (λ x. r ≡ x → P (unless x s out)) [ None ↦ taken | Some e ↦ λ _. refused ]) refl
 
 -- Nothing but the state changes -------------------------------------------------------------------------------------------
 
@@ -80,18 +86,15 @@ stay_tracks s t low last log tracks same votes =
 -- a CHECKPOINT stands in the log, and may make its number stable
 pub settles : (faulty : ℕ → Bool) (w : World) (r : OrderReplica) (log : Log) (h : Header) → Follows r (w r.state.me) → HaveTheSameVotes (headers log) (w r.state.me).now.log → r.state.low < h.number
     → Result faulty w r (settled (record r.state { log = log }) h) [] [] [] []
-settles faulty w r log h follows votes lt = go (makes_stable held h)
-  where
-    held : order.State
-    held = record r.state { log = log }
-
-    t : State
-    t = (w r.state.me).now
-
-    go : (b : Bool) → Result faulty w r (record held { low = cond b h.number held.low; log = cond b (kept_after h.number h.digest held.log) held.log }) [] [] [] []
-    go true = drops faulty w r (record held { low = h.number; log = kept_after h.number h.digest log }) h.number follows (let e = follows.state.low in omega (arith, e, lt))
-        (drop_tracks r.state t h.number r.state.last h.number (kept_after h.number h.digest log) follows.state refl (dropped h.number h.digest log t.log votes))
-    go false = stays_so faulty w r held follows (stay_tracks r.state t r.state.low r.state.last log follows.state refl votes)
+settles faulty w r log h follows votes lt =
+    let held : order.State = record r.state { log = log } in
+    let t = (w r.state.me).now in
+    let low = follows.state.low in
+    elim (makes_stable held h) as (λ b. Result faulty w r (record held { low = cond b h.number held.low; log = cond b (kept_after h.number h.digest held.log) held.log }) [] [] [] []) [
+      | true ↦ drops faulty w r (record held { low = h.number; log = kept_after h.number h.digest log }) h.number follows (omega (arith, low, lt))
+          (drop_tracks r.state t h.number r.state.last h.number (kept_after h.number h.digest log) follows.state refl (dropped h.number h.digest log t.log votes))
+      | false ↦ stays_so faulty w r held follows (stay_tracks r.state t r.state.low r.state.last log follows.state refl votes)
+    ]
 
 -- Saying ------------------------------------------------------------------------------------------------------------------
 
