@@ -64,19 +64,19 @@ module _ (Good : Signed model.ViewChange → Type 0) where
   -- each stands at its sender's place, so as many senders pass
   many_pass : (v : ℕ) (p : ℕ → Bool) (k n : ℕ) (xs : List (Option (Signed model.ViewChange))) → AreGoodFrom k xs → k + length xs ≡ n
       → ((s : Signed model.ViewChange) → IsIn s (filter_map (if_for v) xs) → p s.message.sender ≡ true) → length (filter_map (if_for v) xs) + count_below p k ≤ count_below p n
-  many_pass v p k n [] all e passes = subst (λ (m : ℕ). 0 + count_below p k ≤ count_below p m) (omega (arith, e)) (omega arith)
+  many_pass v p k n [] all e passes = let at : k ≡ n = omega (arith, e) in subst (λ (m : ℕ). 0 + count_below p k ≤ count_below p m) at (omega arith)
   many_pass v p k n (None ∷ xs) all e passes = let le = many_pass v p (suc k) n xs all.1 (omega (arith, e)) passes in let low = no_less p k in omega (arith, le, low)
-  many_pass v p k n (Some s ∷ xs) all e =
+  many_pass v p k n (Some s ∷ xs) all e passes =
       let later = many_pass v p (suc k) n xs all.1 (omega (arith, e)) in
       cond_both (s.message.view == v) (Some s) None
       (λ (o : Option (Signed model.ViewChange)). ((t : Signed model.ViewChange) → IsIn t (cons_option o (filter_map (if_for v) xs)) → p t.message.sender ≡ true)
-          → length (cons_option o (filter_map (if_for v) xs)) + count_below p k ≤ count_below p n)
+      → length (cons_option o (filter_map (if_for v) xs)) + count_below p k ≤ count_below p n)
       (λ _ each.
-          let le = later (λ t i. each t (inr i)) in
-          let here : p k ≡ true = subst (λ (j : ℕ). p j ≡ true) all.0.0 (each s (inl refl)) in
-          let next : count_below p (suc k) ≡ 1 + count_below p k = ap (λ (b : Bool). cond b (1 + count_below p k) (count_below p k)) here in
-          omega (arith, le, next))
-      (λ _ each. let le = later each in let low = no_less p k in omega (arith, le, low))
+      let le = later (λ t i. each t (inr i)) in
+      let here : p k ≡ true = subst (λ (j : ℕ). p j ≡ true) all.0.0 (each s (inl refl)) in
+      let next : count_below p (suc k) ≡ 1 + count_below p k = ap (λ (b : Bool). cond b (1 + count_below p k) (count_below p k)) here in
+      omega (arith, le, next))
+      (λ _ each. let le = later each in let low = no_less p k in omega (arith, le, low)) passes
 
   pub enough_for : (f v : ℕ) (kept : Kept) → AreKept f kept → length (changes_for v kept) ≤ senders f (changes_for v kept)
   enough_for f v kept are =

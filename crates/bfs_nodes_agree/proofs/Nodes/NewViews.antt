@@ -115,7 +115,7 @@ module _ (keys : Keys) (f sender view : ℕ) (led : sender ≡ primary f view) w
       let g = and_parts (bytes_eq (batch_text p.message.batch) (batch_text c.batch)) (order_is_signed keys (as_message PrePrepare p)) a.1 in
       let text = (bytes_eq-Decides (batch_text p.message.batch) (batch_text c.batch)).0 g.0 in (
         ap₂ (λ (k v : ℕ). record { tag = 2; sender = k; view = v; number = vote.number; digest = vote.digest }) (eqb-true vote.sender sender b.0 ∙ led) (eqb-true vote.view view d.0)
-        ∙ ap₂ (λ (n : ℕ) (g : List ℕ). record { tag = 2; sender = primary f view; view = view; number = n; digest = g }) (eqb-true vote.number c.number d.1) (fits.digest ∙ ap sha256 text),
+            ∙ ap₂ (λ (n : ℕ) (g : List ℕ). record { tag = 2; sender = primary f view; view = view; number = n; digest = g }) (eqb-true vote.number c.number d.1) (fits.digest ∙ ap sha256 text),
         g.1,
       )
 

@@ -322,8 +322,8 @@ module _ (faulty : ℕ → Bool) (after : NodeReplicas) (who : ℕ) where
     tells_done = go (checkpoint_refusal node) node.files refl
       where
         go : (r : Option NodeError) (files : Option FileSystem) → node.files ≡ files → DoneBy (where_taken r (checkpoint_deeds node files)) (unless r node (or_still node (option_map (checkpointed node) files)))
-        go (Some refused) files is = nothing_is
-        go None None is = nothing_is
+        go (Some refused) files is goes = nothing_is goes
+        go None None is goes = nothing_is goes
         go None (Some files) is goes =
             let deed = turns.Orders (order.Checkpoints node.keys node.order.last (snapshot_of files node.table).digest) in
             deed_done faulty after who v node know (IsStill node (checkpointed node files).now) deed (checkpointed node files) [] refl tt refl know.kept
@@ -397,8 +397,11 @@ module _ (faulty : ℕ → Bool) (after : NodeReplicas) (who : ℕ) where
           me = know.me;
           later = know.later;
           log = heard_in;
-          kept = (know.kept.0, good_on (IsGood faulty node.order.f (histories v) after) (IsGood faulty node.order.f (histories u) after)
-              (change_on faulty node.order.f (histories v) (histories u) after after (grown (turn_of who (turns.TimesOut view) ∷ []) v) (λ k s j. j)) 0 node.changes.changes know.kept.1);
+          kept = (
+            know.kept.0,
+            good_on (IsGood faulty node.order.f (histories v) after) (IsGood faulty node.order.f (histories u) after)
+                (change_on faulty node.order.f (histories v) (histories u) after after (grown (turn_of who (turns.TimesOut view) ∷ []) v) (λ k s j. j)) 0 node.changes.changes know.kept.1,
+          );
         }
 
         good : views.leaving_refusal node.order view ≡ None → IsWhollySaid faulty after (as_message ViewChange own) → IsGood faulty node.order.f (histories u) after own
@@ -413,7 +416,7 @@ module _ (faulty : ℕ → Bool) (after : NodeReplicas) (who : ℕ) where
         }
 
         go : (r : Option NodeError) → timeout_refusal node ≡ r → DoneBy (where_taken r (timeout_deeds node)) (unless r node (timed_out node))
-        go (Some refused) e = nothing_is
+        go (Some refused) e goes = nothing_is goes
         go None e goes =
             let may = not_refused (views.leaving_refusal node.order view) e in
             let said = said_whole (goes (as_message ViewChange own) (inl refl)) in

@@ -188,8 +188,8 @@ module _ (meet : QuorumsMeet) (stable : CertificatesMakeStable) (start : Beginni
       let by = told_by certificate got.0 got.2 in
       vouched_for w known_of keys certificate right authentic got.0 got.4 by.0 by.1 by.2
 
-  abbrev Comes : NodeReplicas → (number : ℕ) → FileSystem → Table → Type 0
-  Comes w number files table = ComesOfBatches start faulty w number files table
+  abbrev IsReached : NodeReplicas → (number : ℕ) → FileSystem → Table → Type 0
+  IsReached w number files table = ComesOfBatches start faulty w number files table
 
   -- What a step leaves: the state of the node that takes it comes of batches too
   module _ (w : NodeReplicas) (turn : NodeTurn) (known_of : StatesKnown start faulty w) (correct : faulty turn.who ≡ false) (same_f : (w turn.who).node.order.f ≡ f)
@@ -200,16 +200,16 @@ module _ (meet : QuorumsMeet) (stable : CertificatesMakeStable) (start : Beginni
     abbrev after : NodeReplicas
     after = after_node_turn w turn
 
-    grown : (n : ℕ) (files : FileSystem) (table : Table) → Comes w n files table → Comes after n files table
+    grown : (n : ℕ) (files : FileSystem) (table : Table) → IsReached w n files table → IsReached after n files table
     grown = comes_on start faulty w after (executed_on_turn w turn)
 
-    stays : (now : Node) (files : FileSystem) → IsStill node now → now.files ≡ Some files → Comes after now.order.last files now.table
+    stays : (now : Node) (files : FileSystem) → IsStill node now → now.files ≡ Some files → IsReached after now.order.last files now.table
     stays now files still live =
         let before = known_of.here turn.who files (sym still.0 ∙ live) in
-        subst (λ (n : ℕ). Comes after n files now.table) (sym still.2) (subst (λ (t : Table). Comes after node.order.last files t) (sym still.1)
+        subst (λ (n : ℕ). IsReached after n files now.table) (sym still.2) (subst (λ (t : Table). IsReached after node.order.last files t) (sym still.1)
         (grown node.order.last files node.table (known_of.comes turn.who (record { number = node.order.last; files = files; table = node.table }) correct before)))
 
-    executes : turn.step ≡ Executes → (files : FileSystem) → (result node Executes).now.files ≡ Some files → Comes after (result node Executes).now.order.last files (result node Executes).now.table
+    executes : turn.step ≡ Executes → (files : FileSystem) → (result node Executes).now.files ≡ Some files → IsReached after (result node Executes).now.order.last files (result node Executes).now.table
     executes is files = go node.files (next_committed node.order) refl refl
       where
         found : Option FileSystem → Option Committed → Option (Option Outcome)
@@ -230,7 +230,7 @@ module _ (meet : QuorumsMeet) (stable : CertificatesMakeStable) (start : Beginni
             subst (λ (r : NodeReplica). Executed r next.number next.batch) (sym (here_after w turn)) (m.0, left_in (executed_by node turn.step) (w turn.who).executed m.0 by_step, m.2)
 
         go : (o : Option FileSystem) (next : Option Committed) → node.files ≡ o → next_committed node.order ≡ next → (after_execution node (found o next)).now.files ≡ Some files
-            → Comes after (after_execution node (found o next)).now.order.last files (after_execution node (found o next)).now.table
+            → IsReached after (after_execution node (found o next)).now.order.last files (after_execution node (found o next)).now.table
         go None next e n live = stays node files (refl, refl, refl) live
         go (Some before) None e n live = stays node files (refl, refl, refl) live
         go (Some before) (Some next) e n live =
@@ -238,7 +238,7 @@ module _ (meet : QuorumsMeet) (stable : CertificatesMakeStable) (start : Beginni
             let number : next.number ≡ suc node.order.last = next_follows node.order next n ∙ one_more node.order.last in
             let was = grown node.order.last before node.table (known_of.comes turn.who (record { number = node.order.last; files = before; table = node.table }) correct (known_of.here turn.who before e)) in
             let by = subst (λ (k : ℕ). Executed (after turn.who) k next.batch) number (executed before next e n) in
-            subst (λ (k : ℕ). Comes after k files made.table) (sym number)
+            subst (λ (k : ℕ). IsReached after k files made.table) (sym number)
             (before, node.table, was, turn.who, correct, next.batch, by, sym (some_is made.files files live), refl)
           where
             one_more : (n : ℕ) → n + 1 ≡ suc n
@@ -246,7 +246,7 @@ module _ (meet : QuorumsMeet) (stable : CertificatesMakeStable) (start : Beginni
 
     adopts : (certificate : StableCheckpoint) (files : FileSystem) (table : Table) → turn.step ≡ Adopts certificate files table → ((m : Signed Message) → IsAmong m (checkpoints_in certificate) → IsAuthentic faulty w node.keys m)
         → (live : FileSystem) → (result node (Adopts certificate files table)).now.files ≡ Some live
-        → Comes after (result node (Adopts certificate files table)).now.order.last live (result node (Adopts certificate files table)).now.table
+        → IsReached after (result node (Adopts certificate files table)).now.order.last live (result node (Adopts certificate files table)).now.table
     adopts certificate files table is authentic live = go (may_adopt node certificate && right) refl here
       where
         right : Bool
@@ -267,7 +267,7 @@ module _ (meet : QuorumsMeet) (stable : CertificatesMakeStable) (start : Beginni
         go : (b : Bool) → (may_adopt node certificate && right) ≡ b
             → ((now : Node) → (result node turn.step).now ≡ now → now.files ≡ Some live → IsIn (record { number = now.order.last; files = live; table = now.table }) (after turn.who).reached)
             → (cond b (still (adopted node certificate files table)) (still node)).now.files ≡ Some live
-            → Comes after (cond b (still (adopted node certificate files table)) (still node)).now.order.last live (cond b (still (adopted node certificate files table)) (still node)).now.table
+            → IsReached after (cond b (still (adopted node certificate files table)) (still node)).now.order.last live (cond b (still (adopted node certificate files table)) (still node)).now.table
         go false e at live_is = stays node live (refl, refl, refl) live_is
         go true e at live_is =
             let both = and_parts (may_adopt node certificate) right e in
@@ -284,12 +284,12 @@ module _ (meet : QuorumsMeet) (stable : CertificatesMakeStable) (start : Beginni
             let one = apart turn.who vouch.who (record { number = max node.order.last certificate.number; files = live; table = table }) vouch.standing correct vouch.correct mine there
             (last ∙ sym vouch.number) (digest ∙ sym vouch.digest) in
             let was = grown vouch.standing.number vouch.standing.files vouch.standing.table (known_of.comes vouch.who vouch.standing vouch.correct vouch.reached) in
-            subst (λ (n : ℕ). Comes after n live table) (vouch.number ∙ sym last)
-            (subst (λ (x : FileSystem). Comes after vouch.standing.number x table) (sym one.0) (subst (λ (t : Table). Comes after vouch.standing.number vouch.standing.files t) (sym one.1) was))
+            subst (λ (n : ℕ). IsReached after n live table) (vouch.number ∙ sym last)
+            (subst (λ (x : FileSystem). IsReached after vouch.standing.number x table) (sym one.0) (subst (λ (t : Table). IsReached after vouch.standing.number vouch.standing.files t) (sym one.1) was))
 
     -- where it stands after the step
     pub new_state : (step : NodeStep) → turn.step ≡ step → StandsBy node step → Comes (IsAuthentic faulty w node.keys) step → (files : FileSystem) → (result node step).now.files ≡ Some files
-        → Comes after (result node step).now.order.last files (result node step).now.table
+        → IsReached after (result node step).now.order.last files (result node step).now.table
     new_state Executes is still comes files live = executes is files live
     new_state Fails is still comes files live = absurd cc
     new_state (Adopts certificate state table) is still comes files live = adopts certificate state table is comes files live
@@ -310,12 +310,12 @@ module _ (meet : QuorumsMeet) (stable : CertificatesMakeStable) (start : Beginni
       record {
         whole = both_at w turn (λ i r. AllIn (λ (m : Signed OrderMessage). IsWhole m.message) r.executed)
             (both_in (λ (m : Signed OrderMessage). IsWhole m.message) (executed_by node turn.step) (w who).executed (λ m i. whole m (executed_in node turn.step m i)) (known_of.whole who)) known_of.whole;
-        comes = both_at w turn (λ i r. (s : Standing) → faulty i ≡ false → IsIn s r.reached → Comes (after_node_turn w turn) s.number s.files s.table)
+        comes = both_at w turn (λ i r. (s : Standing) → faulty i ≡ false → IsIn s r.reached → IsReached (after_node_turn w turn) s.number s.files s.table)
             (λ s correct i. elim (either_in (standing_of now) (w who).reached s i) [
               | inl j ↦
                   let at = there_is now s j in
                   let new = new_state w turn known_of correct same_f authentic apart turn.step refl stands authentic s.files at.live in
-                  subst (λ (n : ℕ). Comes (after_node_turn w turn) n s.files s.table) (sym at.number) (subst (λ (t : Table). Comes (after_node_turn w turn) now.order.last s.files t) (sym at.table) new)
+                  subst (λ (n : ℕ). IsReached (after_node_turn w turn) n s.files s.table) (sym at.number) (subst (λ (t : Table). IsReached (after_node_turn w turn) now.order.last s.files t) (sym at.table) new)
               | inr j ↦ on s.number s.files s.table (known_of.comes who s correct j)
             ])
             (λ i s correct j. on s.number s.files s.table (known_of.comes i s correct j));
@@ -325,7 +325,7 @@ module _ (meet : QuorumsMeet) (stable : CertificatesMakeStable) (start : Beginni
             (λ s c i e. elim (either_in sent (w who).sent s i) [
               | inl j ↦
                   let own = tells s j c e in
-                  let standing = record { number = node.order.last; files = own.0; table = node.table } in
+                  let standing : Standing = record { number = node.order.last; files = own.0; table = node.table } in
                   record { standing = standing; reached = right_in (standing_of now) (w who).reached standing (known_of.here who own.0 own.1); number = sym own.2; digest = sym own.3 }
               | inr j ↦
                   let was = known_of.told who s c j e in

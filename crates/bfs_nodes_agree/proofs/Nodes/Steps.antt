@@ -165,7 +165,7 @@ message_comes node (ViewChange change) auth bounded =
 message_comes node (NewView new) auth bounded =
     let s : Signed model.NewView = record { message = new; auth = auth } in
     (elim (view_refusal node s) as
-        (λ r. view_refusal node s ≡ r → Lead node.order (where_taken r (turns.ChangesView node.keys new.view new.changes new.proposals ∷ [])) (unless r node (with_new_view node s)).now.order []) [
+    (λ r. view_refusal node s ≡ r → Lead node.order (where_taken r (turns.ChangesView node.keys new.view new.changes new.proposals ∷ [])) (unless r node (with_new_view node s)).now.order []) [
       | None ↦ λ e. enters node new.view new.changes new.proposals (not_refused _ (not_second (option_map of_view (new_view_refusal node.keys s)) (entering_refusal node new) e))
       | Some refused ↦ λ e. nothing node.order
     ]) refl
@@ -250,7 +250,7 @@ adopts : (node : Node) (certificate : StableCheckpoint) (files : FileSystem) (ta
 adopts node certificate files table =
     let right = bytes_eq (node_digest files table) certificate.digest in
     (elim (may_adopt node certificate && right) as
-        (λ b. (may_adopt node certificate && right) ≡ b → Lead node.order (cond b (turns.Orders (order.Installs node.keys certificate) ∷ []) []) (cond b (still (adopted node certificate files table)) (still node)).now.order []) [
+    (λ b. (may_adopt node certificate && right) ≡ b → Lead node.order (cond b (turns.Orders (order.Installs node.keys certificate) ∷ []) []) (cond b (still (adopted node certificate files table)) (still node)).now.order []) [
       | true ↦ λ e.
           let may = (and_parts (may_adopt node certificate) right e).0 in
           let proved = (and_parts (is_shown node.keys node.order.f certificate) (is_ahead node certificate.number) may).0 in

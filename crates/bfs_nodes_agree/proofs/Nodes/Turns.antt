@@ -109,7 +109,7 @@ sent_here w turn s i = subst (λ (r : NodeReplica). IsIn s r.sent) (sym (here_af
 kept_then : (faulty : ℕ → Bool) (f : ℕ) (h g : World) (w after : NodeReplicas) → AreGrown h g → HaveGrown w after → (kept : Kept) → AreKept (IsGood faulty f h w) f kept → AreKept (IsGood faulty f g after) f kept
 kept_then faulty f h g w after on later kept are = (are.0, good_on (IsGood faulty f h w) (IsGood faulty f g after) (change_on faulty f h g w after on later) 0 kept.changes are.1)
 
-stands_of : (f : ℕ) (faulty : ℕ → Bool) (w : NodeReplicas) (v : ordered.OrderReplicas) → AreRight f faulty w v → (turn : NodeTurn) → Stands faulty (after_node_turn w turn) turn.who v (w turn.who).node
+pub stands_of : (f : ℕ) (faulty : ℕ → Bool) (w : NodeReplicas) (v : ordered.OrderReplicas) → AreRight f faulty w v → (turn : NodeTurn) → Stands faulty (after_node_turn w turn) turn.who v (w turn.who).node
 stands_of f faulty w v all turn =
     let right = all turn.who in
     let node = (w turn.who).node in

@@ -44,7 +44,7 @@ any_taken test low [] log = refl
 any_taken test low (h ∷ hs) log =
     let e = any_taken test low hs log in
     elim (nat_lt low h.number && nat_le h.number (low + 32)) as
-        (λ b. list_any test (cond b (h ∷ taken_in low hs log) (taken_in low hs log)) ≡ (list_any test (cond b (h ∷ taken_in low hs []) (taken_in low hs [])) || list_any test log)) [
+    (λ b. list_any test (cond b (h ∷ taken_in low hs log) (taken_in low hs log)) ≡ (list_any test (cond b (h ∷ taken_in low hs []) (taken_in low hs [])) || list_any test log)) [
       | true ↦ ap (λ (b : Bool). test h || b) e ∙ sym (or_assoc (test h) (list_any test (taken_in low hs [])) (list_any test log))
       | false ↦ e
     ]

@@ -99,7 +99,7 @@ module _ (P : Signed OrderMessage → Type 0) where
       (both_in P (s.log ++ m ∷ []) (answers keys s m) (both_in P s.log (m ∷ []) all (one_in P m here)) said)
 
   over_in : (keys : Keys) (s : State) (ms : Log) → AllIn P s.log → AllIn P ms → AllIn P (all_taken_over keys s ms).sent → AllIn P (all_taken_over keys s ms).now.log
-  over_in keys s [] all come all_said = all
+  over_in keys s [] all come = λ said. all
   over_in keys s (m ∷ ms) all come = either_way (λ o. AllIn P (o.sent ++ (all_taken_over keys o.now ms).sent) → AllIn P (all_taken_over keys o.now ms).now.log) (place_refusal s (header m)) s (accepted keys s m)
       (λ _ said.
       let first = (accepted keys s m).sent in
@@ -117,12 +117,12 @@ module _ (P : Signed OrderMessage → Type 0) where
       (λ _. each_in (kept_after c.number c.digest s.log) (checkpoints_in c) (filter_in P (λ m. stays c.number c.digest (header m)) s.log all) come) (λ _. all)
 
   pub log_keeps : (s : State) (call : Call) → AllIn P s.log → Brings s call → AllIn P (votes_by s call) → AllIn P (outcome s call).now.log
-  log_keeps s (Takes keys m) all brings =
-      either_way (λ o. AllIn P o.sent → AllIn P o.now.log) (refusal keys s m) s (accepted keys s m) (λ e said. accepted_in keys s m all (brings e) said) (λ said. all)
-  log_keeps s (Proposes keys batch) all brings = either_way (λ o. AllIn P o.sent → AllIn P o.now.log) (proposal_refusal s) s (proposed keys s batch)
+  log_keeps s (Takes keys m) all brings votes =
+      either_way (λ o. AllIn P o.sent → AllIn P o.now.log) (refusal keys s m) s (accepted keys s m) (λ e said. accepted_in keys s m all (brings e) said) (λ said. all) votes
+  log_keeps s (Proposes keys batch) all brings votes = either_way (λ o. AllIn P o.sent → AllIn P o.now.log) (proposal_refusal s) s (proposed keys s batch)
       (λ _ said. both_in P (s.log ++ proposal keys s batch ∷ []) (proposal_commits keys s batch)
-          (both_in P s.log (proposal keys s batch ∷ []) all (one_in P (proposal keys s batch) (said (proposal keys s batch) (inl refl)))) (λ x i. said x (inr i)))
-      (λ said. all)
+      (both_in P s.log (proposal keys s batch ∷ []) all (one_in P (proposal keys s batch) (said (proposal keys s batch) (inl refl)))) (λ x i. said x (inr i)))
+      (λ said. all) votes
   log_keeps s Executes all brings votes = elim (next_order s) as (λ o. AllIn P (execution s o).now.log) [ None ↦ all | Some m ↦ all ]
   log_keeps s (Checkpoints keys n d) all brings votes =
       let m = checkpoint keys s n d in
@@ -130,5 +130,5 @@ module _ (P : Signed OrderMessage → Type 0) where
   log_keeps s (Installs keys c) all brings votes =
       either_way (λ o. AllIn P o.now.log) (install_refusal keys s c) s (installed s c) (λ e. installed_in s c all (brings (passed (is_shown keys s.f c) NoCertificate _ e).0)) all
   log_keeps s (Leaves view) all brings votes = either_way (λ o. AllIn P o.now.log) (leaving_refusal s view) s (left s view) (λ _. all) all
-  log_keeps s (Enters keys view min_s handed) all brings = either_way (λ o. AllIn P o.sent → AllIn P o.now.log) (entering_refusal s view) s (entered keys s view min_s handed)
-      (λ _. over_in keys (opened s view min_s handed) (as_proposals handed) all brings) (λ said. all)
+  log_keeps s (Enters keys view min_s handed) all brings votes = either_way (λ o. AllIn P o.sent → AllIn P o.now.log) (entering_refusal s view) s (entered keys s view min_s handed)
+      (λ _. over_in keys (opened s view min_s handed) (as_proposals handed) all brings) (λ said. all) votes
