@@ -106,22 +106,18 @@ sent_on w turn k s = both_at w turn (λ i r. IsIn s (w i).sent → IsIn s r.sent
 sent_here : (w : NodeReplicas) (turn : NodeTurn) (s : Signed Message) → IsIn s (outcome (w turn.who).node turn.step).sent → IsIn s (after_node_turn w turn turn.who).sent
 sent_here w turn s i = subst (λ (r : NodeReplica). IsIn s r.sent) (sym (here_after w turn)) (left_in (outcome (w turn.who).node turn.step).sent (w turn.who).sent s i)
 
-kept_then : (faulty : ℕ → Bool) (f : ℕ) (h g : World) (w after : NodeReplicas) → AreGrown h g → HaveGrown w after → (kept : Kept) → AreKept (IsGood faulty f h w) f kept → AreKept (IsGood faulty f g after) f kept
-kept_then faulty f h g w after on later kept are = (are.0, good_on (IsGood faulty f h w) (IsGood faulty f g after) (change_on faulty f h g w after on later) 0 kept.changes are.1)
+right_later : (f : ℕ) (faulty : ℕ → Bool) (h g : World) (w after : NodeReplicas) → AreGrown h g → HaveGrown w after → (i : ℕ) (r : NodeReplica) (o : ordered.OrderReplica) → Right f faulty h w i r o → Right f faulty g after i r o
+right_later f faulty h g w after on later i r o right =
+    let log : AllIn (IsHeard faulty g after) r.node.order.log = λ m j. heard_on faulty h g w after on later m (right.log m j) in
+    let said : AllIn (IsWhollySaid faulty after) r.sent = λ s j p of. said_later faulty w after later p.message (right.said s j p of) in
+    let good = good_on (IsGood faulty r.node.order.f h w) (IsGood faulty r.node.order.f g after) (change_on faulty r.node.order.f h g w after on later) 0 r.node.changes.changes right.kept.1 in
+    assumption (log, said, good)
 
 pub stands_of : (f : ℕ) (faulty : ℕ → Bool) (w : NodeReplicas) (v : ordered.OrderReplicas) → AreRight f faulty w v → (turn : NodeTurn) → Stands faulty (after_node_turn w turn) turn.who v (w turn.who).node
 stands_of f faulty w v all turn =
-    let right = all turn.who in
-    let node = (w turn.who).node in
-    record {
-      at = right.tracks.state;
-      bounded = subst IsBounded right.tracks.state right.bounded;
-      fit = right.fit;
-      me = right.me;
-      later = subst HasNoLaterView right.tracks.state right.later;
-      log = λ m i. heard_on faulty (histories v) (histories v) w (after_node_turn w turn) (grown [] v) (sent_on w turn) m (right.log m i);
-      kept = kept_then faulty node.order.f (histories v) (histories v) w (after_node_turn w turn) (grown [] v) (sent_on w turn) node.changes right.kept;
-    }
+    let h = histories v in
+    let right = right_later f faulty h h w (after_node_turn w turn) (grown [] v) (sent_on w turn) turn.who (w turn.who) (v turn.who) (all turn.who) in
+    assumption (right.tracks.state, subst IsBounded right.tracks.state right.bounded, subst HasNoLaterView right.tracks.state right.later)
 
 module _ (same : CallsKeepTheReplica) (views : IsKept HasNoLaterView) (written : MessageWasWritten) (f : ℕ) (faulty : ℕ → Bool) where
   pub step_right : (w : NodeReplicas) (v : ordered.OrderReplicas) (all : AreRight f faulty w v) (turn : NodeTurn) → Comes (IsAuthentic faulty w (w turn.who).node.keys) turn.step
@@ -182,21 +178,8 @@ module _ (same : CallsKeepTheReplica) (views : IsKept HasNoLaterView) (written :
       let list = map (turn_of turn.who) (deeds_of (w turn.who).node turn.step) in
       let h = histories (turns.after_view_turns v list) in
       let after = after_node_turn w turn in
-      at_each (λ i r o. Right f faulty h after i r o) turn w v (right_here w v all turn comes) (λ i.
-      let right = all i in
-      record {
-        tracks = right.tracks;
-        bounded = right.bounded;
-        same_f = right.same_f;
-        fit = right.fit;
-        me = right.me;
-        later = right.later;
-        log = λ m j. heard_on faulty (histories v) h w after (grown list v) (sent_on w turn) m (right.log m j);
-        kept = kept_then faulty (w i).node.order.f (histories v) h w after (grown list v) (sent_on w turn) (w i).node.changes right.kept;
-        spoken = right.spoken;
-        said = λ s j p of. said_later faulty w after (sent_on w turn) p.message (right.said s j p of);
-        votes = right.votes;
-      })
+      at_each (λ i r o. Right f faulty h after i r o) turn w v (right_here w v all turn comes)
+      (λ i. right_later f faulty (histories v) h w after (grown list v) (sent_on w turn) i (w i) (v i) (all i))
 
   may_both : (xs ys : List ViewTurn) (v : ordered.OrderReplicas) → turns.MayTakeViewTurns faulty v xs → turns.MayTakeViewTurns faulty (turns.after_view_turns v xs) ys → turns.MayTakeViewTurns faulty v (xs ++ ys)
   may_both [] ys v a b = b

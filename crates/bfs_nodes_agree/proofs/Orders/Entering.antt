@@ -204,8 +204,7 @@ all_taken keys s t [] here handed free differ joined = record { may = tt; log = 
 all_taken keys s t (m ∷ ms) here handed free differ joined =
     go (is_between s (header m).number) refl joined (λ j. all_taken keys s t ms here (λ x i. handed x (inr i)) (λ x i. free x (inr i)) differ.1 j)
     (λ j may. all_taken keys then (record t { log = with_said (headers vs) t.log }) ms
-    (record { view = here.view; asked = here.asked; none_asked = here.none_asked; low = here.low; min_s = here.min_s })
-    (λ x i. handed x (inr i))
+    (assumption) (λ x i. handed x (inr i))
     (λ x i. still_free keys s m x (handed x (inr i)).two (free x (inr i)) (differs (headers ms) (header m) x differ.0 i)) differ.1 j)
   where
     h : Header
@@ -258,15 +257,10 @@ all_taken keys s t (m ∷ ms) here handed free differ joined =
         let may = votes_may keys ahead one t h.view h.number h.digest less in_marks there in
         let r = later (ahead_said ahead one t.log vs less) may in
         let out = all_taken_over keys then ms in
-        let all : AreTaken s t (rest (record { now = then; sent = vs })) = record {
-          may = subst (λ (l : List Header). MaySayAll s.f s.me t l) (sym (map-append header vs out.sent)) (say_join s.f s.me t (headers vs) (headers out.sent) may r.may);
-          log = subst (λ (l : List Header). HaveTheSameVotes (known out.now) l) (sym (ap (λ (l : List Header). with_said l t.log) (map-append header vs out.sent) ∙ said_in_parts (headers vs) (headers out.sent) t.log)) r.log;
-          view = r.view;
-          asked = r.asked;
-          low = r.low;
-          min_s = r.min_s;
-          handed = r.handed;
-        } in
+        let may_all : MaySayAll s.f s.me t (headers (vs ++ out.sent)) = subst (λ (l : List Header). MaySayAll s.f s.me t l) (sym (map-append header vs out.sent)) (say_join s.f s.me t (headers vs) (headers out.sent) may r.may) in
+        let log : HaveTheSameVotes (known out.now) (with_said (headers (vs ++ out.sent)) t.log) =
+        subst (λ (l : List Header). HaveTheSameVotes (known out.now) l) (sym (ap (λ (l : List Header). with_said l t.log) (map-append header vs out.sent) ∙ said_in_parts (headers vs) (headers out.sent) t.log)) r.log in
+        let all : AreTaken s t (rest (record { now = then; sent = vs })) = assumption (may_all, log) in
         subst (λ (o : Outcome). AreTaken s t (rest o)) (sym (taken keys s m mine.two (none_refused s h mine here.none_asked marks (free h (inl refl))))) all
 
     go : (b : Bool) → is_between s h.number ≡ b → IsAhead (cond b (h ∷ ahead) ahead) s t.log → (IsAhead ahead s t.log → AreTaken s t (all_taken_over keys s ms))
@@ -288,95 +282,72 @@ pub enters : (faulty : ℕ → Bool) (w : World) (r : OrderReplica) (keys : Keys
     → SlotsDiffer (headers (as_proposals handed)) → IsValidNewView r.state.f faulty w (new_view view min_s handed changes)
     → let refused = entering_refusal r.state view in let out = unless refused r.state (entered keys r.state view min_s handed) in
     Result faulty w r out.now out.sent (where_taken refused (cond (r.state.me == primary r.state.f view) (as_proposals handed) [])) [] []
-enters faulty w r keys view min_s handed changes follows differ valid = go (entering_refusal r.state view) refl
-  where
-    s : order.State
-    s = r.state
-
-    p : History
-    p = w s.me
-
-    proposals : Log
-    proposals = as_proposals handed
-
-    q : NewView
-    q = new_view view min_s handed changes
-
-    begun : order.State
-    begun = opened s view min_s handed
-
-    then : History
-    then = after_move s.f s.me p (Enters q)
-
-    out : Outcome
-    out = entered keys s view min_s handed
-
-    offered : (test : Header → Bool) (b : Bool) → list_any test (headers (cond b proposals [] ++ r.offers)) ≡ list_any test (cond b (headers proposals ++ p.offers) p.offers)
-    offered test true = any_both test proposals r.offers ∙ ap (λ (b : Bool). list_any test (headers proposals) || b) (follows.offers test) ∙ sym (list_any-append test (headers proposals) p.offers)
-    offered test false = follows.offers test
-
-    free : s.view < view → (x : Header) → IsIn x (headers proposals) → is_taken (known s) x ≡ false
-    free lt x i =
-        let so = handed_so s.f q valid.choice x i in
-        let two = so.two in
-        let of_view = so.of_view in
-        slot_same (known s) p.now.log follows.state.log x.tag x.sender x.view x.number (omega (arith, two))
-        ∙ later_free p.now.log x (λ y j. let le = follows.state.views y j in omega (arith, le, of_view, lt))
-
-    joined : IsAhead (taken_in s.low (headers proposals) []) begun then.now.log
-    joined = record {
-      same = λ test votes.
-          list_any-append test (taken_in s.low (headers proposals) []) (known s) ∙ ap (λ (b : Bool). list_any test (taken_in s.low (headers proposals) []) || b) (follows.state.log test votes)
-          ∙ sym (any_taken test s.low (headers proposals) p.now.log) ∙ ap (λ (low : ℕ). list_any test (taken_in low (headers proposals) p.now.log)) (sym follows.state.low);
-      proposals = λ h i. elim (in_taken s.low (headers proposals) [] h i) [ inl a ↦ (handed_so s.f q valid.choice h a).two | inr b ↦ absurd b ];
-    }
-
-    views : s.view < view → AreTaken begun then.now out → (x : Header) → IsIn x (with_said (headers out.sent) then.now.log) → x.view ≤ view
-    views lt all x i = elim (in_said (headers out.sent) then.now.log x i) [
-      | inl a ↦ let e = said_view s.f s.me then.now (headers out.sent) all.may x a in omega (arith, e)
-      | inr b ↦ elim (in_taken p.now.low (headers proposals) p.now.log x b) [
-        | inl a ↦ let e = (handed_so s.f q valid.choice x a).of_view in omega (arith, e)
-        | inr c ↦ let le = follows.state.views x c in omega (arith, le, lt)
-      ]
-    ]
-
-    now_follows : s.view < view → AreTaken begun then.now out
-        → Follows (record { state = out.now; sent = out.sent ++ r.sent; offers = cond (s.me == primary s.f view) proposals [] ++ r.offers; changes = r.changes; executed = r.executed })
-        (record then { now = record then.now { log = with_said (headers out.sent) then.now.log }; sent = with_said (headers out.sent) p.sent })
-    now_follows lt all = record {
-      state = record {
-        view = sym all.view;
-        asked = sym all.asked;
-        low = follows.state.low ∙ sym all.low;
-        min_s = sym all.min_s;
-        handed = sym (ap₂ max all.min_s all.handed);
-        entered = let e = all.view in let a = all.asked in omega (arith, e, a);
-        views = λ x i. let le = views lt all x i in let e = all.view in omega (arith, le, e);
-        log = all.log;
-      };
-      sent = λ test. any_both test out.sent r.sent ∙ ap (λ (b : Bool). list_any test (headers out.sent) || b) (follows.sent test) ∙ sym (any_said test (headers out.sent) p.sent);
-      offers = λ test. offered test (s.me == primary s.f view);
-      changes = follows.changes;
-      executed = follows.executed;
-    }
-
-    go : (o : Option OrderError) → entering_refusal s view ≡ o
-        → Result faulty w r (unless o s (entered keys s view min_s handed)).now (unless o s (entered keys s view min_s handed)).sent (where_taken o (cond (s.me == primary s.f view) proposals [])) [] []
-    go (Some e) is = stays_so faulty w r s follows follows.state
-    go None is =
-        let a = passed (nat_lt s.view view && (nat_le s.asked view && nat_le view most_number)) WrongView None is in
-        let b = and_parts (nat_lt s.view view) (nat_le s.asked view && nat_le view most_number) a.0 in
-        let lt = ltb-true s.view view b.0 in
-        let asked = leb-true s.asked view (and_parts (nat_le s.asked view) (nat_le view most_number) b.1).0 in
-        let all : AreTaken begun then.now out = all_taken keys begun then.now proposals (record { view = refl; asked = refl; none_asked = omega arith; low = follows.state.low; min_s = refl })
-        (λ x i. handed_so s.f q valid.choice x i) (free lt) differ joined in
-        let may : MayEnter s.f faulty w p.now q = record {
-          above = let e = follows.state.view in omega (arith, e, lt);
-          asked = let e = follows.state.asked in omega (arith, e, asked);
-          valid = valid;
-        } in (
-          Enters q ∷ all_said (headers out.sent),
-          then_said s.f faulty w s.me (Enters q) (headers out.sent) may all.may,
-          subst (λ (h : History). Follows (record { state = out.now; sent = out.sent ++ r.sent; offers = cond (s.me == primary s.f view) proposals [] ++ r.offers; changes = r.changes; executed = r.executed }) h)
-              (sym (after_said s.f s.me then (headers out.sent))) (now_follows lt all),
-        )
+enters faulty w r keys view min_s handed changes follows differ valid =
+    let s = r.state in
+    let p = w s.me in
+    let tracks = follows.state in
+    let proposals = as_proposals handed in
+    let hs = headers proposals in
+    let q = new_view view min_s handed changes in
+    let begun = opened s view min_s handed in
+    let then = after_move s.f s.me p (Enters q) in
+    let out = entered keys s view min_s handed in
+    let offers = cond (s.me == primary s.f view) proposals [] in
+    (elim (entering_refusal s view) as (λ o. entering_refusal s view ≡ o → Result faulty w r (unless o s out).now (unless o s out).sent (where_taken o offers) [] []) [
+      | Some e ↦ λ is. stays_so faulty w r s follows tracks
+      | None ↦ λ is.
+          let a = passed (nat_lt s.view view && (nat_le s.asked view && nat_le view most_number)) WrongView None is in
+          let b = and_parts (nat_lt s.view view) (nat_le s.asked view && nat_le view most_number) a.0 in
+          let lt = ltb-true s.view view b.0 in
+          let asked = leb-true s.asked view (and_parts (nat_le s.asked view) (nat_le view most_number) b.1).0 in
+          let free : (x : Header) → IsIn x hs → is_taken (known s) x ≡ false = λ x i.
+          let so = handed_so s.f q valid.choice x i in
+          let two = so.two in
+          let of_view = so.of_view in
+          slot_same (known s) p.now.log tracks.log x.tag x.sender x.view x.number (omega (arith, two)) ∙ later_free p.now.log x (λ y j. let le = tracks.views y j in omega (arith, le, of_view, lt)) in
+          let joined : IsAhead (taken_in s.low hs []) begun then.now.log = record {
+            same = λ test votes.
+                list_any-append test (taken_in s.low hs []) (known s) ∙ ap (λ (b : Bool). list_any test (taken_in s.low hs []) || b) (tracks.log test votes)
+                ∙ sym (any_taken test s.low hs p.now.log) ∙ ap (λ (low : ℕ). list_any test (taken_in low hs p.now.log)) (sym tracks.low);
+            proposals = λ h i. elim (in_taken s.low hs [] h i) [ inl a ↦ (handed_so s.f q valid.choice h a).two | inr b ↦ absurd b ];
+          } in
+          let all : AreTaken begun then.now out = all_taken keys begun then.now proposals (record { view = refl; asked = refl; none_asked = omega arith; low = tracks.low; min_s = refl })
+          (λ x i. handed_so s.f q valid.choice x i) free differ joined in
+          let views : (x : Header) → IsIn x (with_said (headers out.sent) then.now.log) → x.view ≤ view = λ x i. elim (in_said (headers out.sent) then.now.log x i) [
+            | inl a ↦ let e = said_view s.f s.me then.now (headers out.sent) all.may x a in omega (arith, e)
+            | inr b ↦ elim (in_taken p.now.low hs p.now.log x b) [
+              | inl a ↦ let e = (handed_so s.f q valid.choice x a).of_view in omega (arith, e)
+              | inr c ↦ let le = tracks.views x c in omega (arith, le, lt)
+            ]
+          ] in
+          let may : MayEnter s.f faulty w p.now q = record {
+            above = let e = tracks.view in omega (arith, e, lt);
+            asked = let e = tracks.asked in omega (arith, e, asked);
+            valid = valid;
+          } in
+          let last : History = record then { now = record then.now { log = with_said (headers out.sent) then.now.log }; sent = with_said (headers out.sent) p.sent } in
+          let follow : Follows (record { state = out.now; sent = out.sent ++ r.sent; offers = offers ++ r.offers; changes = r.changes; executed = r.executed }) last = record {
+            state = record {
+              view = sym all.view;
+              asked = sym all.asked;
+              low = tracks.low ∙ sym all.low;
+              min_s = sym all.min_s;
+              handed = sym (ap₂ max all.min_s all.handed);
+              entered = let e = all.view in let a = all.asked in omega (arith, e, a);
+              views = λ x i. let le = views x i in let e = all.view in omega (arith, le, e);
+              log = all.log;
+            };
+            sent = λ test. any_both test out.sent r.sent ∙ ap (λ (b : Bool). list_any test (headers out.sent) || b) (follows.sent test) ∙ sym (any_said test (headers out.sent) p.sent);
+            offers = λ test. elim (s.me == primary s.f view) as (λ b. list_any test (headers (cond b proposals [] ++ r.offers)) ≡ list_any test (cond b (hs ++ p.offers) p.offers)) [
+              | true ↦ any_both test proposals r.offers ∙ ap (λ (b : Bool). list_any test hs || b) (follows.offers test) ∙ sym (list_any-append test hs p.offers)
+              | false ↦ follows.offers test
+            ];
+            changes = follows.changes;
+            executed = follows.executed;
+          } in (
+            Enters q ∷ all_said (headers out.sent),
+            then_said s.f faulty w s.me (Enters q) (headers out.sent) may all.may,
+            subst (λ (h : History). Follows (record { state = out.now; sent = out.sent ++ r.sent; offers = offers ++ r.offers; changes = r.changes; executed = r.executed }) h)
+                (sym (after_said s.f s.me then (headers out.sent))) follow,
+          )
+    ]) refl

@@ -5,7 +5,7 @@ use Rattle.std.specs.List.{list_any, list_all}
 use Rattle.std.proofs.lemmas.Bool.{and_parts, or_left, cond_both, eqb-true, eq-eqb, ltb-true, ltb-false, leb-true}
 use Rattle.std.proofs.Math.Bool.{or-false}
 use Rattle.bfs_auth.specs.Keys.{Keys}
-use Rattle.bfs_votes.specs.Votes.{Header, says, told, Told, primary, is_stable}
+use Rattle.bfs_votes.specs.Votes.{Header, has_slot, says, told, Told, primary, is_stable}
 use Rattle.bfs_log.specs.Headers.{header, message_header}
 use Rattle.bfs_log.specs.Logs.{Log, headers, kept_after}
 use Rattle.bfs_messages.specs.declared.signed.Signed.{Signed}
@@ -105,16 +105,10 @@ takes_vote faulty w r keys m follows at small authentic =
     let vote : (h.tag == 5) ≡ false = not_equal h.tag 5 (λ e. absurd (omega (arith, small, e))) in
     let in_marks = vote_within s p.now h follows.state at vote in
     let same_view : h.view ≡ s.view = in_marks.view ∙ follows.state.view in
-    let opened : IsOpen p.now h = record {
-      view = in_marks.view;
-      asked = in_marks.asked;
-      low = in_marks.low;
-      min_s = in_marks.min_s;
-      high = in_marks.high;
-      free = sym (slot_same (known s) p.now.log follows.state.log h.tag h.sender h.view h.number small) ∙ at.free;
-    } in
+    let free : has_slot p.now.log h.tag h.sender h.view h.number ≡ false = sym (slot_same (known s) p.now.log follows.state.log h.tag h.sender h.view h.number small) ∙ at.free in
+    let opened : IsOpen p.now h = assumption free in
     let one = tracks_one s p.now m follows.state same_view in
-    let then : Within t1 h.view h.number = record { view = in_marks.view; asked = in_marks.asked; low = in_marks.low; min_s = in_marks.min_s; high = in_marks.high } in
+    let then : Within t1 h.view h.number = assumption in_marks in
     let vs = answers keys s m in
     let may = answers_may keys (with_message s m) t1 h one then
     (λ two. itself_there s.f p.now.log h two (eqb-true h.sender (primary s.f h.view) (of_primary (h.tag == 2) (h.sender == primary s.f h.view) (eq-eqb h.tag 2 two) at.primary))) in
