@@ -47,30 +47,20 @@ use Rattle.bfs_nodes_agree.proofs.Nodes.Hearing.{offer_tag, same_header}
 
 -- States ------------------------------------------------------------------------------------------------------------------------
 
+-- with that file system
+abbrev pub standing_at : Node → FileSystem → Standing
+standing_at node files = record { number = node.order.last; files = files; table = node.table }
+
 -- a live node stands somewhere
-pub here_now : (node : Node) (files : FileSystem) (rest : List Standing) → node.files ≡ Some files
-    → IsIn (record { number = node.order.last; files = files; table = node.table }) (standing_of node ++ rest)
-here_now node files rest e =
-    subst (λ (o : Option FileSystem). IsIn (record { number = node.order.last; files = files; table = node.table }) (standing_with node o ++ rest)) (sym e) (inl refl)
+here_now : (node : Node) (files : FileSystem) (rest : List Standing) → node.files ≡ Some files → IsIn (standing_at node files) (standing_of node ++ rest)
+here_now node files rest e = subst (λ (o : Option FileSystem). IsIn (standing_at node files) (standing_with node o ++ rest)) (sym e) (inl refl)
 
-pub record StandsThere (node : Node) (s : Standing) : Type 0 where
-  pub live : node.files ≡ Some s.files
-  pub number : s.number ≡ node.order.last
-  pub table : s.table ≡ node.table
-
-there_is : (node : Node) (s : Standing) → IsIn s (standing_of node) → StandsThere node s
+there_is : (node : Node) (s : Standing) → IsIn s (standing_of node) → (files : FileSystem) × (node.files ≡ Some files) × (s ≡ standing_at node files)
 there_is node s i = go node.files refl i
   where
-    go : (o : Option FileSystem) → node.files ≡ o → IsIn s (standing_with node o) → StandsThere node s
+    go : (o : Option FileSystem) → node.files ≡ o → IsIn s (standing_with node o) → (files : FileSystem) × (node.files ≡ Some files) × (s ≡ standing_at node files)
     go None e j = absurd j
-    go (Some files) e j = elim j [
-      | inl is ↦ record {
-        live = e ∙ ap (λ (x : Standing). Some x.files) (sym is);
-        number = ap (λ (x : Standing). x.number) is;
-        table = ap (λ (x : Standing). x.table) is;
-      }
-      | inr none ↦ absurd none
-    ]
+    go (Some files) e j = elim j [ inl is ↦ (files, e, is) | inr none ↦ absurd none ]
 
 -- Batches -----------------------------------------------------------------------------------------------------------------------
 
@@ -135,7 +125,7 @@ pub record WasThere (r : NodeReplica) (c : model.Checkpoint) : Type 0 where
 pub record StatesKnown (start : Beginning) (faulty : ℕ → Bool) (w : NodeReplicas) : Type 0 where
   pub whole : (i : ℕ) → AllIn (λ (m : Signed OrderMessage). IsWhole m.message) (w i).executed
   pub comes : (i : ℕ) (s : Standing) → faulty i ≡ false → IsIn s (w i).reached → ComesOfBatches start faulty w s.number s.files s.table
-  pub here : (i : ℕ) (files : FileSystem) → (w i).node.files ≡ Some files → IsIn (record { number = (w i).node.order.last; files = files; table = (w i).node.table }) (w i).reached
+  pub here : (i : ℕ) (files : FileSystem) → (w i).node.files ≡ Some files → IsIn (standing_at (w i).node files) (w i).reached
   pub told : (i : ℕ) (s : Signed Message) (c : model.Checkpoint) → IsIn s (w i).sent → s.message ≡ Order (Checkpoint c) → WasThere (w i) c
 
 -- A step --------------------------------------------------------------------------------------------------------------------------
@@ -188,8 +178,8 @@ module _ (meet : QuorumsMeet) (stable : CertificatesMakeStable) (start : Beginni
       let by = told_by certificate got.0 got.2 in
       vouched_for w known_of keys certificate right authentic got.0 got.4 by.0 by.1 by.2
 
-  abbrev IsReached : NodeReplicas → (number : ℕ) → FileSystem → Table → Type 0
-  IsReached w number files table = ComesOfBatches start faulty w number files table
+  abbrev IsReached : NodeReplicas → Standing → Type 0
+  IsReached w s = ComesOfBatches start faulty w s.number s.files s.table
 
   -- What a step leaves: the state of the node that takes it comes of batches too
   module _ (w : NodeReplicas) (turn : NodeTurn) (known_of : StatesKnown start faulty w) (correct : faulty turn.who ≡ false) (same_f : (w turn.who).node.order.f ≡ f)
@@ -200,16 +190,17 @@ module _ (meet : QuorumsMeet) (stable : CertificatesMakeStable) (start : Beginni
     abbrev after : NodeReplicas
     after = after_node_turn w turn
 
-    grown : (n : ℕ) (files : FileSystem) (table : Table) → IsReached w n files table → IsReached after n files table
-    grown = comes_on start faulty w after (executed_on_turn w turn)
+    grown : (s : Standing) → IsReached w s → IsReached after s
+    grown s = comes_on start faulty w after (executed_on_turn w turn) s.number s.files s.table
 
-    stays : (now : Node) (files : FileSystem) → IsStill node now → now.files ≡ Some files → IsReached after now.order.last files now.table
+    before : (files : FileSystem) → node.files ≡ Some files → IsReached after (standing_at node files)
+    before files live = grown (standing_at node files) (known_of.comes turn.who (standing_at node files) correct (known_of.here turn.who files live))
+
+    stays : (now : Node) (files : FileSystem) → IsStill node now → now.files ≡ Some files → IsReached after (standing_at now files)
     stays now files still live =
-        let before = known_of.here turn.who files (sym still.0 ∙ live) in
-        subst (λ (n : ℕ). IsReached after n files now.table) (sym still.2) (subst (λ (t : Table). IsReached after node.order.last files t) (sym still.1)
-        (grown node.order.last files node.table (known_of.comes turn.who (record { number = node.order.last; files = files; table = node.table }) correct before)))
+        subst (IsReached after) (ap₂ (λ (n : ℕ) (t : Table). record { number = n; files = files; table = t }) (sym still.2) (sym still.1)) (before files (sym still.0 ∙ live))
 
-    executes : turn.step ≡ Executes → (files : FileSystem) → (result node Executes).now.files ≡ Some files → IsReached after (result node Executes).now.order.last files (result node Executes).now.table
+    executes : turn.step ≡ Executes → (files : FileSystem) → (result node Executes).now.files ≡ Some files → IsReached after (standing_at (result node Executes).now files)
     executes is files = go node.files (next_committed node.order) refl refl
       where
         found : Option FileSystem → Option Committed → Option (Option Outcome)
@@ -230,33 +221,29 @@ module _ (meet : QuorumsMeet) (stable : CertificatesMakeStable) (start : Beginni
             subst (λ (r : NodeReplica). Executed r next.number next.batch) (sym (here_after w turn)) (m.0, left_in (executed_by node turn.step) (w turn.who).executed m.0 by_step, m.2)
 
         go : (o : Option FileSystem) (next : Option Committed) → node.files ≡ o → next_committed node.order ≡ next → (after_execution node (found o next)).now.files ≡ Some files
-            → IsReached after (after_execution node (found o next)).now.order.last files (after_execution node (found o next)).now.table
+            → IsReached after (standing_at (after_execution node (found o next)).now files)
         go None next e n live = stays node files (refl, refl, refl) live
-        go (Some before) None e n live = stays node files (refl, refl, refl) live
-        go (Some before) (Some next) e n live =
-            let made = outcome.outcome before node.table next.batch in
-            let number : next.number ≡ suc node.order.last = next_follows node.order next n ∙ one_more node.order.last in
-            let was = grown node.order.last before node.table (known_of.comes turn.who (record { number = node.order.last; files = before; table = node.table }) correct (known_of.here turn.who before e)) in
-            let by = subst (λ (k : ℕ). Executed (after turn.who) k next.batch) number (executed before next e n) in
-            subst (λ (k : ℕ). IsReached after k files made.table) (sym number)
-            (before, node.table, was, turn.who, correct, next.batch, by, sym (some_is made.files files live), refl)
-          where
-            one_more : (n : ℕ) → n + 1 ≡ suc n
-            one_more n = omega arith
+        go (Some old) None e n live = stays node files (refl, refl, refl) live
+        go (Some old) (Some next) e n live =
+            let made = outcome.outcome old node.table next.batch in
+            let follows = next_follows node.order next n in
+            let number : next.number ≡ suc node.order.last = omega (arith, follows) in
+            let by = subst (λ (k : ℕ). Executed (after turn.who) k next.batch) number (executed old next e n) in
+            subst (λ (k : ℕ). IsReached after (record { number = k; files = files; table = made.table })) (sym number)
+            (old, node.table, before old e, turn.who, correct, next.batch, by, sym (some_is made.files files live), refl)
 
     adopts : (certificate : StableCheckpoint) (files : FileSystem) (table : Table) → turn.step ≡ Adopts certificate files table → ((m : Signed Message) → IsAmong m (checkpoints_in certificate) → IsAuthentic faulty w node.keys m)
         → (live : FileSystem) → (result node (Adopts certificate files table)).now.files ≡ Some live
-        → IsReached after (result node (Adopts certificate files table)).now.order.last live (result node (Adopts certificate files table)).now.table
-    adopts certificate files table is authentic live = go (may_adopt node certificate && right) refl here
+        → IsReached after (standing_at (result node (Adopts certificate files table)).now live)
+    adopts certificate files table is authentic live = go (may_adopt node certificate && right) refl
       where
         right : Bool
         right = bytes_eq (node_digest files table) certificate.digest
 
         -- where it stands then
-        here : (now : Node) → (result node turn.step).now ≡ now → now.files ≡ Some live → IsIn (record { number = now.order.last; files = live; table = now.table }) (after turn.who).reached
-        here now at e =
-            subst (λ (r : NodeReplica). IsIn (record { number = now.order.last; files = live; table = now.table }) r.reached) (sym (here_after w turn))
-            (subst (λ (x : Node). IsIn (record { number = now.order.last; files = live; table = now.table }) (standing_of x ++ (w turn.who).reached)) (sym at) (here_now now live (w turn.who).reached e))
+        here : (now : Node) → (result node turn.step).now ≡ now → now.files ≡ Some live → IsIn (standing_at now live) (after turn.who).reached
+        here now at e = subst (λ (r : NodeReplica). IsIn (standing_at now live) r.reached) (sym (here_after w turn))
+            (subst (λ (x : Node). IsIn (standing_at now live) (standing_of x ++ (w turn.who).reached)) (sym at) (here_now now live (w turn.who).reached e))
 
         ahead : is_ahead node certificate.number ≡ true → max node.order.last certificate.number ≡ certificate.number
         ahead e = elim (or_cases (nat_lt node.order.last certificate.number) ((certificate.number == node.order.last) && not (is_some node.files)) e) [
@@ -265,11 +252,9 @@ module _ (meet : QuorumsMeet) (stable : CertificatesMakeStable) (start : Beginni
         ]
 
         go : (b : Bool) → (may_adopt node certificate && right) ≡ b
-            → ((now : Node) → (result node turn.step).now ≡ now → now.files ≡ Some live → IsIn (record { number = now.order.last; files = live; table = now.table }) (after turn.who).reached)
-            → (cond b (still (adopted node certificate files table)) (still node)).now.files ≡ Some live
-            → IsReached after (cond b (still (adopted node certificate files table)) (still node)).now.order.last live (cond b (still (adopted node certificate files table)) (still node)).now.table
-        go false e at live_is = stays node live (refl, refl, refl) live_is
-        go true e at live_is =
+            → (cond b (still (adopted node certificate files table)) (still node)).now.files ≡ Some live → IsReached after (standing_at (cond b (still (adopted node certificate files table)) (still node)).now live)
+        go false e live_is = stays node live (refl, refl, refl) live_is
+        go true e live_is =
             let both = and_parts (may_adopt node certificate) right e in
             let may = and_parts (is_shown node.keys node.order.f certificate) (is_ahead node certificate.number) both.0 in
             let proved = subst (λ (g : ℕ). is_shown node.keys g certificate ≡ true) same_f may.0 in
@@ -279,17 +264,18 @@ module _ (meet : QuorumsMeet) (stable : CertificatesMakeStable) (start : Beginni
             let digest : node_digest live table ≡ certificate.digest = ap (λ (x : FileSystem). node_digest x table) (sym same) ∙ (bytes_eq-Decides (node_digest files table) certificate.digest).0 both.1 in
             let now_is : (result node turn.step).now ≡ adopted node certificate files table =
             ap (λ (step : NodeStep). (result node step).now) is ∙ ap (λ (b : Bool). (cond b (still (adopted node certificate files table)) (still node)).now) e in
-            let mine = at (adopted node certificate files table) now_is live_is in
+            let mine = here (adopted node certificate files table) now_is live_is in
             let there = reached_on w turn vouch.who vouch.standing vouch.reached in
-            let one = apart turn.who vouch.who (record { number = max node.order.last certificate.number; files = live; table = table }) vouch.standing correct vouch.correct mine there
+            let one = apart turn.who vouch.who (standing_at (adopted node certificate files table) live) vouch.standing correct vouch.correct mine there
             (last ∙ sym vouch.number) (digest ∙ sym vouch.digest) in
-            let was = grown vouch.standing.number vouch.standing.files vouch.standing.table (known_of.comes vouch.who vouch.standing vouch.correct vouch.reached) in
-            subst (λ (n : ℕ). IsReached after n live table) (vouch.number ∙ sym last)
-            (subst (λ (x : FileSystem). IsReached after vouch.standing.number x table) (sym one.0) (subst (λ (t : Table). IsReached after vouch.standing.number vouch.standing.files t) (sym one.1) was))
+            let was = grown vouch.standing (known_of.comes vouch.who vouch.standing vouch.correct vouch.reached) in
+            let reached = λ (n : ℕ) (x : FileSystem) (t : Table). ComesOfBatches start faulty after n x t in
+            subst (λ (n : ℕ). reached n live table) (vouch.number ∙ sym last)
+            (subst (λ (x : FileSystem). reached vouch.standing.number x table) (sym one.0) (subst (λ (t : Table). reached vouch.standing.number vouch.standing.files t) (sym one.1) was))
 
     -- where it stands after the step
     pub new_state : (step : NodeStep) → turn.step ≡ step → StandsBy node step → Comes (IsAuthentic faulty w node.keys) step → (files : FileSystem) → (result node step).now.files ≡ Some files
-        → IsReached after (result node step).now.order.last files (result node step).now.table
+        → IsReached after (standing_at (result node step).now files)
     new_state Executes is still comes files live = executes is files live
     new_state Fails is still comes files live = absurd cc
     new_state (Adopts certificate state table) is still comes files live = adopts certificate state table is comes files live
@@ -310,22 +296,21 @@ module _ (meet : QuorumsMeet) (stable : CertificatesMakeStable) (start : Beginni
       record {
         whole = both_at w turn (λ i r. AllIn (λ (m : Signed OrderMessage). IsWhole m.message) r.executed)
             (both_in (λ (m : Signed OrderMessage). IsWhole m.message) (executed_by node turn.step) (w who).executed (λ m i. whole m (executed_in node turn.step m i)) (known_of.whole who)) known_of.whole;
-        comes = both_at w turn (λ i r. (s : Standing) → faulty i ≡ false → IsIn s r.reached → IsReached (after_node_turn w turn) s.number s.files s.table)
+        comes = both_at w turn (λ i r. (s : Standing) → faulty i ≡ false → IsIn s r.reached → IsReached (after_node_turn w turn) s)
             (λ s correct i. elim (either_in (standing_of now) (w who).reached s i) [
               | inl j ↦
                   let at = there_is now s j in
-                  let new = new_state w turn known_of correct same_f authentic apart turn.step refl stands authentic s.files at.live in
-                  subst (λ (n : ℕ). IsReached (after_node_turn w turn) n s.files s.table) (sym at.number) (subst (λ (t : Table). IsReached (after_node_turn w turn) now.order.last s.files t) (sym at.table) new)
+                  subst (IsReached (after_node_turn w turn)) (sym at.2) (new_state w turn known_of correct same_f authentic apart turn.step refl stands authentic at.0 at.1)
               | inr j ↦ on s.number s.files s.table (known_of.comes who s correct j)
             ])
             (λ i s correct j. on s.number s.files s.table (known_of.comes i s correct j));
-        here = both_at w turn (λ i r. (files : FileSystem) → r.node.files ≡ Some files → IsIn (record { number = r.node.order.last; files = files; table = r.node.table }) r.reached)
+        here = both_at w turn (λ i r. (files : FileSystem) → r.node.files ≡ Some files → IsIn (standing_at r.node files) r.reached)
             (λ files e. here_now now files (w who).reached e) known_of.here;
         told = both_at w turn (λ i r. (s : Signed Message) (c : model.Checkpoint) → IsIn s r.sent → s.message ≡ Order (Checkpoint c) → WasThere r c)
             (λ s c i e. elim (either_in sent (w who).sent s i) [
               | inl j ↦
                   let own = tells s j c e in
-                  let standing : Standing = record { number = node.order.last; files = own.0; table = node.table } in
+                  let standing = standing_at node own.0 in
                   record { standing = standing; reached = right_in (standing_of now) (w who).reached standing (known_of.here who own.0 own.1); number = sym own.2; digest = sym own.3 }
               | inr j ↦
                   let was = known_of.told who s c j e in
