@@ -346,96 +346,71 @@ module _ (faulty : ℕ → Bool) (after : NodeReplicas) (who : ℕ) where
         ]
 
     times_done : DoneBy (deeds_of node TimesOut) (outcome node TimesOut)
-    times_done = go (timeout_refusal node) refl
-      where
-        view : ℕ
-        view = next_view node.order
-
-        gone : Node
-        gone = record node { order = (views.left node.order view).now }
-
-        own : Signed model.ViewChange
-        own = own_change node
-
-        change : agreement.ViewChange
-        change = told_change own.message
-
-        q : ordered.OrderReplica
-        q = after_order_deed (v who) (ordered_deed (v who).state (turns.TimesOut view))
-
-        u : ordered.OrderReplicas
-        u = with_replica v who q
-
-        deeds : List ViewDeed
-        deeds = change_deeds gone own
-
-        left_is : views.leaving_refusal node.order view ≡ None → (order.outcome node.order (order.Leaves view)).now ≡ gone.order
-        left_is may = ap (λ (r : Option OrderError). (outcomes.unless r node.order (views.left node.order view)).now) may
-
-        heard_in : AllIn (IsHeard faulty (histories u) after) node.order.log
-        heard_in m i = heard_on faulty (histories v) (histories u) after after (grown (turn_of who (turns.TimesOut view) ∷ []) v) (λ k s j. j) m (know.log m i)
-
-        heard : (c : model.PreparedBatch) → IsIn c own.message.certificates → AllIn (IsHeard faulty (histories u) after) (messages_in c)
-        heard c i = made_holds node.order c i (IsHeard faulty (histories u) after) heard_in
-
-        said_whole : IsIn (as_message ViewChange own) (after who).sent → IsWhollySaid faulty after (as_message ViewChange own)
-        said_whole there p of = elim of as (λ _. IsSaid faulty after p.message) [
-          | inl same ↦ subst (λ (x : Signed Message). IsSaid faulty after x.message) (sym same) (own_said faulty after who (as_message ViewChange own) there (ap principal.Replica know.me))
-          | inr within ↦ map_in (λ (x : Signed Message). IsSaid faulty after x.message) (as_message Order) (messages_in within.0) (λ m i. (heard within.0 within.1 m i).said (proof_small within.0 m i)) p within.2
-        ]
-
-        told_now : views.leaving_refusal node.order view ≡ None → IsIn change q.changes
-        told_now may =
-            let by = λ (s : State). ordered.changes_by s (ordered_deed s (turns.TimesOut view)) in
-            left_in (by (v who).state) (v who).changes change (subst (λ (l : List agreement.ViewChange). IsIn change l) (sym (ap by know.at ∙ ap (λ (r : Option OrderError). ordered.where_taken r (change ∷ [])) may)) (inl refl))
-
-        stands : views.leaving_refusal node.order view ≡ None → Stands faulty after who u gone
-        stands may = record {
-          at = ap (λ (o : ordered.OrderReplica). o.state) (here_is v who q) ∙ ap (λ (s : State). (order.outcome s (order.Leaves view)).now) know.at ∙ left_is may;
-          bounded = left_bounded node.order view may;
-          fit = know.fit;
-          me = know.me;
-          later = know.later;
-          log = heard_in;
-          kept = (
-            know.kept.0,
-            good_on (IsGood faulty node.order.f (histories v) after) (IsGood faulty node.order.f (histories u) after)
-                (change_on faulty node.order.f (histories v) (histories u) after after (grown (turn_of who (turns.TimesOut view) ∷ []) v) (λ k s j. j)) 0 node.changes.changes know.kept.1,
-          );
-        }
-
-        good : views.leaving_refusal node.order view ≡ None → IsWhollySaid faulty after (as_message ViewChange own) → IsGood faulty node.order.f (histories u) after own
-        good may said = record {
-          proved = made_proves node.order view (omega arith) know.later;
-          genuine = record {
-            sent = λ correct. subst (λ (k : ℕ). IsIn change (u k).changes) (sym know.me) (subst (λ (o : ordered.OrderReplica). IsIn change o.changes) (sym (here_is v who q)) (told_now may));
-            certificates = λ c m i j. (heard c i m j).sent (let small = proof_small c m j in omega (arith, small));
-            whole = λ c i. (heard c i (as_message PrePrepare c.proposal) (inl refl)).whole;
-          };
-          said = said;
-        }
-
-        go : (r : Option NodeError) → timeout_refusal node ≡ r → DoneBy (where_taken r (timeout_deeds node)) (unless r node (timed_out node))
-        go (Some refused) e goes = nothing_is goes
-        go None e goes =
-            let may = not_refused (views.leaving_refusal node.order view) e in
-            let said = said_whole (goes (as_message ViewChange own) (inl refl)) in
-            let done = change_done u gone (stands may) own (good may said) (λ s i. goes s (inr i)) in
-            record {
-              may = (tt, done.may);
-              keys = done.keys;
-              kept = done.kept;
-              sends = λ s i. elim i [
-                | inl same ↦ subst (MaySend faulty after who node (after_deeds q deeds)) (sym same) ((extends_deeds deeds q).changes change (told_now may), (λ c e. absurd cc), said)
-                | inr j ↦ subst (λ (o : ordered.OrderReplica). MaySend faulty after who node (after_deeds o deeds) s) (here_is v who q) (done.sends s j)
-              ];
-              gives = λ m i small. elim (done.gives m (subst (λ (o : ordered.OrderReplica). IsIn m (after_deeds o deeds).sent) (sym (here_is v who q)) i) small) [
-                | inl j ↦ inl (subst (λ (o : ordered.OrderReplica). IsIn m o.sent) (here_is v who q) j)
-                | inr j ↦ inr (inr j)
-              ];
-              brings = (tt, subst (λ (s : State). BringAll (IsHeard faulty (histories (turns.after_view_turns u (map (turn_of who) deeds))) after) s deeds) (sym (left_is may)) done.brings);
-              stands = done.stands;
-            }
+    times_done =
+        let view = next_view node.order in
+        let gone = record node { order = (views.left node.order view).now } in
+        let own = own_change node in
+        let whole = as_message ViewChange own in
+        let change = told_change own.message in
+        let q = after_order_deed (v who) (ordered_deed (v who).state (turns.TimesOut view)) in
+        let u = with_replica v who q in
+        let deeds = change_deeds gone own in
+        let more = grown (turn_of who (turns.TimesOut view) ∷ []) v in
+        let here = here_is v who q in
+        let heard : AllIn (IsHeard faulty (histories u) after) node.order.log = λ m i. heard_on faulty (histories v) (histories u) after after more (λ k s j. j) m (know.log m i) in
+        let proofs : (c : model.PreparedBatch) → IsIn c own.message.certificates → AllIn (IsHeard faulty (histories u) after) (messages_in c) =
+        λ c i. made_holds node.order c i (IsHeard faulty (histories u) after) heard in
+        (elim (timeout_refusal node) as (λ r. timeout_refusal node ≡ r → DoneBy (where_taken r (timeout_deeds node)) (unless r node (timed_out node))) [
+          | Some refused ↦ λ e. nothing_is
+          | None ↦ λ e goes.
+              let may = not_refused (views.leaving_refusal node.order view) e in
+              let left_is : (order.outcome node.order (order.Leaves view)).now ≡ gone.order = ap (λ (r : Option OrderError). (outcomes.unless r node.order (views.left node.order view)).now) may in
+              let said : IsWhollySaid faulty after whole = λ p of. elim of as (λ _. IsSaid faulty after p.message) [
+                | inl same ↦ subst (λ (x : Signed Message). IsSaid faulty after x.message) (sym same) (own_said faulty after who whole (goes whole (inl refl)) (ap principal.Replica know.me))
+                | inr within ↦ map_in (λ (x : Signed Message). IsSaid faulty after x.message) (as_message Order) (messages_in within.0) (λ m i. (proofs within.0 within.1 m i).said (proof_small within.0 m i)) p within.2
+              ] in
+              let by = λ (s : State). ordered.changes_by s (ordered_deed s (turns.TimesOut view)) in
+              let told_now : IsIn change q.changes = left_in (by (v who).state) (v who).changes change
+              (subst (λ (l : List agreement.ViewChange). IsIn change l) (sym (ap by know.at ∙ ap (λ (r : Option OrderError). ordered.where_taken r (change ∷ [])) may)) (inl refl)) in
+              let stands : Stands faulty after who u gone = record {
+                at = ap (λ (o : ordered.OrderReplica). o.state) here ∙ ap (λ (s : State). (order.outcome s (order.Leaves view)).now) know.at ∙ left_is;
+                bounded = left_bounded node.order view may;
+                fit = know.fit;
+                me = know.me;
+                later = know.later;
+                log = heard;
+                kept = (
+                  know.kept.0,
+                  good_on (IsGood faulty node.order.f (histories v) after) (IsGood faulty node.order.f (histories u) after)
+                      (change_on faulty node.order.f (histories v) (histories u) after after more (λ k s j. j)) 0 node.changes.changes know.kept.1,
+                );
+              } in
+              let good : IsGood faulty node.order.f (histories u) after own = record {
+                proved = made_proves node.order view (omega arith) know.later;
+                genuine = record {
+                  sent = λ correct. subst (λ (k : ℕ). IsIn change (u k).changes) (sym know.me) (subst (λ (o : ordered.OrderReplica). IsIn change o.changes) (sym here) told_now);
+                  certificates = λ c m i j. (proofs c i m j).sent (let small = proof_small c m j in omega (arith, small));
+                  whole = λ c i. (proofs c i (as_message PrePrepare c.proposal) (inl refl)).whole;
+                };
+                said = said;
+              } in
+              let done = change_done u gone stands own good (λ s i. goes s (inr i)) in
+              record {
+                may = (tt, done.may);
+                keys = done.keys;
+                kept = done.kept;
+                sends = λ s i. elim i [
+                  | inl same ↦ subst (MaySend faulty after who node (after_deeds q deeds)) (sym same) ((extends_deeds deeds q).changes change told_now, (λ c e. absurd cc), said)
+                  | inr j ↦ subst (λ (o : ordered.OrderReplica). MaySend faulty after who node (after_deeds o deeds) s) here (done.sends s j)
+                ];
+                gives = λ m i small. elim (done.gives m (subst (λ (o : ordered.OrderReplica). IsIn m (after_deeds o deeds).sent) (sym here) i) small) [
+                  | inl j ↦ inl (subst (λ (o : ordered.OrderReplica). IsIn m o.sent) here j)
+                  | inr j ↦ inr (inr j)
+                ];
+                brings = (tt, subst (λ (s : State). BringAll (IsHeard faulty (histories (turns.after_view_turns u (map (turn_of who) deeds))) after) s deeds) (sym left_is) done.brings);
+                stands = done.stands;
+              }
+        ]) refl
 
     pub step_done : MessageWasWritten → (step : NodeStep) → Comes (IsAuthentic faulty w node.keys) step → Does v node know (StandsBy node step) (deeds_of node step) (outcome node step)
     step_done written (Delivers bytes) comes = go (message_of bytes) refl

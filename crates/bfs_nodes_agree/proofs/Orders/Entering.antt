@@ -202,71 +202,46 @@ all_taken : (keys : Keys) (s : order.State) (t : State) (ms : Log) → IsInView 
     → ((x : Header) → IsIn x (headers ms) → is_taken (known s) x ≡ false) → SlotsDiffer (headers ms) → IsAhead (taken_in s.low (headers ms) []) s t.log → AreTaken s t (all_taken_over keys s ms)
 all_taken keys s t [] here handed free differ joined = record { may = tt; log = joined.same; view = refl; asked = refl; low = refl; min_s = refl; handed = refl }
 all_taken keys s t (m ∷ ms) here handed free differ joined =
-    go (is_between s (header m).number) refl joined (λ j. all_taken keys s t ms here (λ x i. handed x (inr i)) (λ x i. free x (inr i)) differ.1 j)
-    (λ j may. all_taken keys then (record t { log = with_said (headers vs) t.log }) ms
-    (assumption) (λ x i. handed x (inr i))
-    (λ x i. still_free keys s m x (handed x (inr i)).two (free x (inr i)) (differs (headers ms) (header m) x differ.0 i)) differ.1 j)
-  where
-    h : Header
-    h = header m
-
-    one : order.State
-    one = with_message s m
-
-    vs : Log
-    vs = votes_in keys one h.view h.number h.digest
-
-    then : order.State
-    then = with_more one vs
-
-    ahead : List Header
-    ahead = taken_in s.low (headers ms) []
-
-    last : State
-    last = record t { log = with_said (headers vs) t.log }
-
-    mine : IsHanded s.f s.view s.min_s h
-    mine = handed h (inl refl)
-
-    rest : Outcome → Outcome
-    rest first = record { now = (all_taken_over keys first.now ms).now; sent = first.sent ++ (all_taken_over keys first.now ms).sent }
-
-    is_refused : place_refusal s h ≡ Some OutsideMarks → AreTaken s t (all_taken_over keys s ms) → AreTaken s t (rest (taken_over keys s m))
-    is_refused e later = subst (λ (o : Option OrderError). AreTaken s t (rest (unless o s (accepted keys s m)))) (sym e) later
-
-    is_taken_now : is_between s h.number ≡ true → IsAhead (h ∷ ahead) s t.log → (IsAhead ahead then last.log → MaySayAll s.f s.me t (headers vs) → AreTaken then last (all_taken_over keys then ms))
-        → AreTaken s t (rest (taken_over keys s m))
-    is_taken_now marks ahead_here later =
-        let parts = and_parts (nat_lt s.low h.number) (nat_le h.number (s.low + 32)) marks in
-        let lt = ltb-true s.low h.number parts.0 in
-        let le = leb-true h.number (s.low + 32) parts.1 in
-        let above = mine.above in
-        let low = here.low in
-        let min_s = here.min_s in
-        let in_marks : Within t h.view h.number = record {
-          view = mine.of_view ∙ sym here.view;
-          asked = here.asked;
-          low = omega (arith, low, lt);
-          min_s = omega (arith, min_s, above);
-          high = omega (arith, low, le);
-        } in
-        let less = one_less ahead s t.log m ahead_here in
-        let itself : Told (known one) 2 (primary s.f h.view) h.view h.number h.digest = any_both _ s.log (m ∷ [])
-        ∙ or_right (told (known s) 2 (primary s.f h.view) h.view h.number h.digest) (told (h ∷ []) 2 (primary s.f h.view) h.view h.number h.digest) (itself_there s.f [] h mine.two mine.from) in
-        let there = told_there ahead one t.log less 2 (primary s.f h.view) h.view h.number h.digest (omega arith) itself in
-        let may = votes_may keys ahead one t h.view h.number h.digest less in_marks there in
-        let r = later (ahead_said ahead one t.log vs less) may in
-        let out = all_taken_over keys then ms in
-        let may_all : MaySayAll s.f s.me t (headers (vs ++ out.sent)) = subst (λ (l : List Header). MaySayAll s.f s.me t l) (sym (map-append header vs out.sent)) (say_join s.f s.me t (headers vs) (headers out.sent) may r.may) in
-        let log : HaveTheSameVotes (known out.now) (with_said (headers (vs ++ out.sent)) t.log) =
-        subst (λ (l : List Header). HaveTheSameVotes (known out.now) l) (sym (ap (λ (l : List Header). with_said l t.log) (map-append header vs out.sent) ∙ said_in_parts (headers vs) (headers out.sent) t.log)) r.log in
-        let all : AreTaken s t (rest (record { now = then; sent = vs })) = assumption (may_all, log) in
-        subst (λ (o : Outcome). AreTaken s t (rest o)) (sym (taken keys s m mine.two (none_refused s h mine here.none_asked marks (free h (inl refl))))) all
-
-    go : (b : Bool) → is_between s h.number ≡ b → IsAhead (cond b (h ∷ ahead) ahead) s t.log → (IsAhead ahead s t.log → AreTaken s t (all_taken_over keys s ms))
-        → (IsAhead ahead then last.log → MaySayAll s.f s.me t (headers vs) → AreTaken then last (all_taken_over keys then ms)) → AreTaken s t (rest (taken_over keys s m))
-    go true is joined skip later = is_taken_now is joined later
-    go false is joined skip later = is_refused (beyond_refused s h mine here.none_asked is) (skip joined)
+    let h = header m in
+    let one = with_message s m in
+    let vs = votes_in keys one h.view h.number h.digest in
+    let then = with_more one vs in
+    let ahead = taken_in s.low (headers ms) [] in
+    let last : State = record t { log = with_said (headers vs) t.log } in
+    let mine = handed h (inl refl) in
+    let out = all_taken_over keys then ms in
+    let rest : Outcome → Outcome = λ first. record { now = (all_taken_over keys first.now ms).now; sent = first.sent ++ (all_taken_over keys first.now ms).sent } in
+    let skip : IsAhead ahead s t.log → AreTaken s t (all_taken_over keys s ms) = λ j. all_taken keys s t ms here (λ x i. handed x (inr i)) (λ x i. free x (inr i)) differ.1 j in
+    let later : IsAhead ahead then last.log → AreTaken then last out = λ j. all_taken keys then last ms (assumption) (λ x i. handed x (inr i))
+    (λ x i. still_free keys s m x (handed x (inr i)).two (free x (inr i)) (differs (headers ms) h x differ.0 i)) differ.1 j in
+    (elim (is_between s h.number) as (λ b. is_between s h.number ≡ b → IsAhead (cond b (h ∷ ahead) ahead) s t.log → AreTaken s t (rest (taken_over keys s m))) [
+      | true ↦ λ marks ahead_here.
+          let parts = and_parts (nat_lt s.low h.number) (nat_le h.number (s.low + 32)) marks in
+          let lt = ltb-true s.low h.number parts.0 in
+          let le = leb-true h.number (s.low + 32) parts.1 in
+          let above = mine.above in
+          let low = here.low in
+          let min_s = here.min_s in
+          let in_marks : Within t h.view h.number = record {
+            view = mine.of_view ∙ sym here.view;
+            asked = here.asked;
+            low = omega (arith, low, lt);
+            min_s = omega (arith, min_s, above);
+            high = omega (arith, low, le);
+          } in
+          let less = one_less ahead s t.log m ahead_here in
+          let itself : Told (known one) 2 (primary s.f h.view) h.view h.number h.digest = any_both _ s.log (m ∷ [])
+          ∙ or_right (told (known s) 2 (primary s.f h.view) h.view h.number h.digest) (told (h ∷ []) 2 (primary s.f h.view) h.view h.number h.digest) (itself_there s.f [] h mine.two mine.from) in
+          let there = told_there ahead one t.log less 2 (primary s.f h.view) h.view h.number h.digest (omega arith) itself in
+          let may = votes_may keys ahead one t h.view h.number h.digest less in_marks there in
+          let r = later (ahead_said ahead one t.log vs less) in
+          let may_all : MaySayAll s.f s.me t (headers (vs ++ out.sent)) = subst (λ (l : List Header). MaySayAll s.f s.me t l) (sym (map-append header vs out.sent)) (say_join s.f s.me t (headers vs) (headers out.sent) may r.may) in
+          let log : HaveTheSameVotes (known out.now) (with_said (headers (vs ++ out.sent)) t.log) =
+          subst (λ (l : List Header). HaveTheSameVotes (known out.now) l) (sym (ap (λ (l : List Header). with_said l t.log) (map-append header vs out.sent) ∙ said_in_parts (headers vs) (headers out.sent) t.log)) r.log in
+          let all : AreTaken s t (rest (record { now = then; sent = vs })) = assumption (may_all, log) in
+          subst (λ (o : Outcome). AreTaken s t (rest o)) (sym (taken keys s m mine.two (none_refused s h mine here.none_asked marks (free h (inl refl))))) all
+      | false ↦ λ beyond ahead_here. subst (λ (o : Option OrderError). AreTaken s t (rest (unless o s (accepted keys s m)))) (sym (beyond_refused s h mine here.none_asked beyond)) (skip ahead_here)
+    ]) refl joined
 
 -- The call ----------------------------------------------------------------------------------------------------------------
 
