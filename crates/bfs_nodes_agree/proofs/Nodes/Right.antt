@@ -131,80 +131,56 @@ module _ (faulty : ℕ → Bool) (after : NodeReplicas) (who : ℕ) where
       (first, subst (λ (j : ℕ). IsIn first (after j).sent) same there, inr (p, i, refl))
 
   begun_done : (v : ordered.OrderReplicas) (node : Node) (know : Stands faulty after who v node) → Does v node know (IsStill node (begun_if_due node).now) (begun_deeds node) (begun_if_due node)
-  begun_done v node know = go (may_begin node) refl
-    where
-      asked : ℕ
-      asked = node.order.asked
-
-      new : model.NewView
-      new = own_new_view node
-
-      deed : ViewDeed
-      deed = turns.ChangesView node.keys asked (changes_for asked node.changes) new.proposals
-
-      done : outcomes.Outcome
-      done = views.entered node.keys node.order asked (choice (messages_of new.changes)).min_s new.proposals
-
-      go : (b : Bool) → may_begin node ≡ b → Does v node know (IsStill node (cond b (begun node) (still node)).now) (cond b (deed ∷ []) []) (cond b (begun node) (still node))
-      go false e goes = nothing_done faulty after who v node know (IsStill node node) node know.kept refl (refl, refl, refl)
-      go true e goes =
-          let first = as_message NewView (signed_new_view node.keys new) in
-          let there = goes first (inl refl) in
-          let good = IsGood faulty node.order.f (histories v) after in
-          let opened = begins_open node know.bounded e in
-          let led = (and_parts (leads node asked) _ (and_parts (nat_lt node.order.view asked) _ e).1).0 in
-          let offers = offered faulty after who v node know asked (changes_for asked node.changes) new.proposals opened led in
-          let offer : (p : Signed OrderMessage) → IsIn p (as_proposals new.proposals) → IsSaid faulty after (Order p.message) = λ p i. offer_said first there node.order.me know.me p i (own_handed node p i).1 in
-          let w = After faulty after who v node know (deed ∷ []) in
-          let said : IsWhollySaid faulty after first = λ p of. elim of as (λ _. IsSaid faulty after p.message) [
-            | inl same ↦ subst (λ (x : Signed Message). IsSaid faulty after x.message) (sym same) (own_said faulty after who first there (ap principal.Replica know.me))
-            | inr within ↦ elim within as (λ _. IsSaid faulty after p.message) [
-              | inl i ↦ map_in (λ (x : Signed Message). IsSaid faulty after x.message) (as_message Order) (as_proposals new.proposals) offer p i
-              | inr change ↦ (good_for good asked 0 node.changes.changes know.kept.1 change.0 change.1).1.said p change.2
-            ]
-          ] in
-          deed_done faulty after who v node know (IsStill node (begun node).now) deed (begun node) done.sent (ap (λ (r : Option OrderError). (outcomes.unless r node.order done).sent) opened)
-          (begun_right faulty (histories v) after node e know.kept) refl (kept_above good node.order.f asked node.changes know.kept)
-          (λ s i. elim i [ inl same ↦ inr (subst (MaySend faulty after who node (after_deeds (v who) (deed ∷ []))) (sym same) (offers, (λ c e. absurd cc), said)) | inr j ↦ inl j ])
-          (λ m i small. inr (in_map (as_message Order) done.sent m i))
-          (λ m i.
-          let own = own_handed node m i in
-          let told = λ (k t : ℕ). Told (headers (w k).offers) t (header m).sender (header m).view (header m).number (header m).digest in
-          let mine = subst (λ (o : ordered.OrderReplica). IsIn m o.offers) (sym (at_who (deed ∷ []) v who)) (offers m i) in
-          let tells : told who (header m).tag = in_told (headers (w who).offers) (header m) (in_map header (w who).offers m mine) in
-          record {
-            sent = λ small correct. inr (own.0, subst (told (header m).sender) own.0 (subst (λ (k : ℕ). told k (header m).tag) (sym (own.1.sender ∙ know.me)) tells));
-            said = λ small. offer m i;
-            whole = own.1.whole;
-          })
-          (refl, refl, over_last node.keys (views.opened node.order asked (choice (messages_of new.changes)).min_s new.proposals) (as_proposals new.proposals)) goes
+  begun_done v node know =
+      let asked = node.order.asked in
+      let new = own_new_view node in
+      let deed : ViewDeed = turns.ChangesView node.keys asked (changes_for asked node.changes) new.proposals in
+      let done = views.entered node.keys node.order asked (choice (messages_of new.changes)).min_s new.proposals in
+      (elim (may_begin node) as (λ b. may_begin node ≡ b → Does v node know (IsStill node (cond b (begun node) (still node)).now) (cond b (deed ∷ []) []) (cond b (begun node) (still node))) [
+        | false ↦ λ e goes. nothing_done faulty after who v node know (IsStill node node) node know.kept refl (refl, refl, refl)
+        | true ↦ λ e goes.
+            let first = as_message NewView (signed_new_view node.keys new) in
+            let there = goes first (inl refl) in
+            let good = IsGood faulty node.order.f (histories v) after in
+            let opened = begins_open node know.bounded e in
+            let led = (and_parts (leads node asked) _ (and_parts (nat_lt node.order.view asked) _ e).1).0 in
+            let offers = offered faulty after who v node know asked (changes_for asked node.changes) new.proposals opened led in
+            let offer : (p : Signed OrderMessage) → IsIn p (as_proposals new.proposals) → IsSaid faulty after (Order p.message) = λ p i. offer_said first there node.order.me know.me p i (own_handed node p i).1 in
+            let w = After faulty after who v node know (deed ∷ []) in
+            let said : IsWhollySaid faulty after first = λ p of. elim of as (λ _. IsSaid faulty after p.message) [
+              | inl same ↦ subst (λ (x : Signed Message). IsSaid faulty after x.message) (sym same) (own_said faulty after who first there (ap principal.Replica know.me))
+              | inr within ↦ elim within as (λ _. IsSaid faulty after p.message) [
+                | inl i ↦ map_in (λ (x : Signed Message). IsSaid faulty after x.message) (as_message Order) (as_proposals new.proposals) offer p i
+                | inr change ↦ (good_for good asked 0 node.changes.changes know.kept.1 change.0 change.1).1.said p change.2
+              ]
+            ] in
+            deed_done faulty after who v node know (IsStill node (begun node).now) deed (begun node) done.sent (ap (λ (r : Option OrderError). (outcomes.unless r node.order done).sent) opened)
+            (begun_right faulty (histories v) after node e know.kept) refl (kept_above good node.order.f asked node.changes know.kept)
+            (λ s i. elim i [ inl same ↦ inr (subst (MaySend faulty after who node (after_deeds (v who) (deed ∷ []))) (sym same) (offers, (λ c e. absurd cc), said)) | inr j ↦ inl j ])
+            (λ m i small. inr (in_map (as_message Order) done.sent m i))
+            (λ m i.
+            let own = own_handed node m i in
+            let told = λ (k t : ℕ). Told (headers (w k).offers) t (header m).sender (header m).view (header m).number (header m).digest in
+            let mine = subst (λ (o : ordered.OrderReplica). IsIn m o.offers) (sym (at_who (deed ∷ []) v who)) (offers m i) in
+            let tells : told who (header m).tag = in_told (headers (w who).offers) (header m) (in_map header (w who).offers m mine) in
+            record {
+              sent = λ small correct. inr (own.0, subst (told (header m).sender) own.0 (subst (λ (k : ℕ). told k (header m).tag) (sym (own.1.sender ∙ know.me)) tells));
+              said = λ small. offer m i;
+              whole = own.1.whole;
+            })
+            (refl, refl, over_last node.keys (views.opened node.order asked (choice (messages_of new.changes)).min_s new.proposals) (as_proposals new.proposals)) goes
+      ]) refl
 
   change_done : (v : ordered.OrderReplicas) (node : Node) (know : Stands faulty after who v node) (s : Signed model.ViewChange) → IsGood faulty node.order.f (histories v) after s
       → Does v node know (IsStill node (with_view_change node s).now) (change_deeds node s) (with_view_change node s)
-  change_done v node know s good = go (leads node s.message.view)
-    where
-      there : Node
-      there = record node { changes = with_change node.changes s }
-
-      noted : Node
-      noted = record node { changes = with_asked node.changes s.message }
-
-      stands : Stands faulty after who v there
-      stands = record {
-        at = know.at;
-        bounded = know.bounded;
-        fit = know.fit;
-        me = know.me;
-        later = know.later;
-        log = know.log;
-        kept = kept_with (IsGood faulty node.order.f (histories v) after) node.order.f node.changes s good know.kept;
-      }
-
-      go : (b : Bool) → Does v node know (IsStill node (cond b (begun_if_due there) (still noted)).now) (cond b (begun_deeds there) []) (cond b (begun_if_due there) (still noted))
-      go true goes =
-          let done = begun_done v there stands goes in
-          record { may = done.may; keys = done.keys; kept = done.kept; sends = done.sends; gives = done.gives; brings = done.brings; stands = done.stands }
-      go false goes = nothing_done faulty after who v node know (IsStill node noted) noted know.kept refl (refl, refl, refl)
+  change_done v node know s good =
+      let there = record node { changes = with_change node.changes s } in
+      let noted = record node { changes = with_asked node.changes s.message } in
+      let stands : Stands faulty after who v there = assumption (kept_with (IsGood faulty node.order.f (histories v) after) node.order.f node.changes s good know.kept) in
+      elim (leads node s.message.view) as (λ b. Does v node know (IsStill node (cond b (begun_if_due there) (still noted)).now) (cond b (begun_deeds there) []) (cond b (begun_if_due there) (still noted))) [
+        | true ↦ λ goes. let done = begun_done v there stands goes in assumption done
+        | false ↦ λ goes. nothing_done faulty after who v node know (IsStill node noted) noted know.kept refl (refl, refl, refl)
+      ]
 
   module _ (w : NodeReplicas) (on : HaveGrown w after) (v : ordered.OrderReplicas) (spoken : (k : ℕ) → AllIn (IsSpoken (v k)) (w k).sent) (node : Node) (know : Stands faulty after who v node) where
     abbrev DoneBy : List ViewDeed → Outcome → Type 0
@@ -247,41 +223,34 @@ module _ (faulty : ℕ → Bool) (after : NodeReplicas) (who : ℕ) where
         let heard = λ (none : refusal node.keys node.order m ≡ None). vote_heard faulty w v spoken m (λ k e correct. authentic (as_message Order m) (inl refl) k e (taken_signed node.keys node.order m none) correct) (fits_whole message fits) in
         call_done call (refusal node.keys node.order m) done (taken node m) refl (λ none small. (heard none).sent small) refl know.kept (refl, refl, refl)
         (λ s i. i) (λ x i small. in_map (as_message Order) done.sent x i) (λ none. heard_then (turns.Orders call ∷ []) m (heard none))
-    message_done (ViewChange change) auth authentic fits = go (change_refusal node s) refl
-      where
-        s : Signed model.ViewChange
-        s = record { message = change; auth = auth }
-
-        go : (r : Option NodeError) → change_refusal node s ≡ r → DoneBy (where_taken r (change_deeds node s)) (unless r node (with_view_change node s))
-        go None none =
-            let valid = change_valid node s none in
-            let said : IsWhollySaid faulty w (as_message ViewChange s) = λ p of k e correct. authentic p of k e (change_signed node.keys s valid p of) correct in
-            change_done v node know s (record {
-              proved = valid_proves node.keys node.order.f change.view s know.fit refl valid;
-              genuine = genuine_of faulty w v spoken s said fits;
-              said = λ p of. said_later faulty w after on p.message (said p of);
-            })
-        go (Some refused) e = nothing_is
-    message_done (NewView new) auth authentic fits = go (view_refusal node s) refl
-      where
-        s : Signed model.NewView
-        s = record { message = new; auth = auth }
-
-        deed : ViewDeed
-        deed = turns.ChangesView node.keys new.view new.changes new.proposals
-
-        done : outcomes.Outcome
-        done = views.entered node.keys node.order new.view (choice (messages_of new.changes)).min_s new.proposals
-
-        go : (r : Option NodeError) → view_refusal node s ≡ r → DoneBy (where_taken r (deed ∷ [])) (unless r node (with_new_view node s))
-        go None e =
-            let opened = not_refused _ (not_second (option_map of_view (new_view_refusal node.keys s)) (option_map of_order (views.entering_refusal node.order new.view)) e) in
-            deed_done faulty after who v node know (IsStill node (with_new_view node s).now) deed (with_new_view node s) done.sent (ap (λ (r : Option OrderError). (outcomes.unless r node.order done).sent) opened)
-            (taken_right node s know.fit fits e faulty w v spoken authentic) refl (kept_above (IsGood faulty node.order.f (histories v) after) node.order.f new.view node.changes know.kept)
-            (λ x i. inl i) (λ m i small. in_map (as_message Order) done.sent m i)
-            (λ m i. heard_then (deed ∷ []) m (taken_heard node s know.fit fits e faulty w v spoken authentic m i))
-            (refl, refl, over_last node.keys (views.opened node.order new.view (choice (messages_of new.changes)).min_s new.proposals) (as_proposals new.proposals))
-        go (Some refused) e = nothing_is
+    message_done (ViewChange change) auth authentic fits =
+        let s : Signed model.ViewChange = record { message = change; auth = auth } in
+        (elim (change_refusal node s) as (λ r. change_refusal node s ≡ r → DoneBy (where_taken r (change_deeds node s)) (unless r node (with_view_change node s))) [
+          | None ↦ λ none.
+              let valid = change_valid node s none in
+              let said : IsWhollySaid faulty w (as_message ViewChange s) = λ p of k e correct. authentic p of k e (change_signed node.keys s valid p of) correct in
+              change_done v node know s (record {
+                proved = valid_proves node.keys node.order.f change.view s know.fit refl valid;
+                genuine = genuine_of faulty w v spoken s said fits;
+                said = λ p of. said_later faulty w after on p.message (said p of);
+              })
+          | Some refused ↦ λ _. nothing_is
+        ]) refl
+    message_done (NewView new) auth authentic fits =
+        let s : Signed model.NewView = record { message = new; auth = auth } in
+        let deed : ViewDeed = turns.ChangesView node.keys new.view new.changes new.proposals in
+        let min_s = (choice (messages_of new.changes)).min_s in
+        let done = views.entered node.keys node.order new.view min_s new.proposals in
+        (elim (view_refusal node s) as (λ r. view_refusal node s ≡ r → DoneBy (where_taken r (deed ∷ [])) (unless r node (with_new_view node s))) [
+          | None ↦ λ e.
+              let opened = not_refused _ (not_second (option_map of_view (new_view_refusal node.keys s)) (option_map of_order (views.entering_refusal node.order new.view)) e) in
+              deed_done faulty after who v node know (IsStill node (with_new_view node s).now) deed (with_new_view node s) done.sent (ap (λ (r : Option OrderError). (outcomes.unless r node.order done).sent) opened)
+              (taken_right node s know.fit fits e faulty w v spoken authentic) refl (kept_above (IsGood faulty node.order.f (histories v) after) node.order.f new.view node.changes know.kept)
+              (λ x i. inl i) (λ m i small. in_map (as_message Order) done.sent m i)
+              (λ m i. heard_then (deed ∷ []) m (taken_heard node s know.fit fits e faulty w v spoken authentic m i))
+              (refl, refl, over_last node.keys (views.opened node.order new.view min_s new.proposals) (as_proposals new.proposals))
+          | Some refused ↦ λ _. nothing_is
+        ]) refl
     message_done (Reply reply) auth authentic fits = nothing_is
 
     -- Calls -------------------------------------------------------------------------------------------------------------------------
@@ -413,11 +382,11 @@ module _ (faulty : ℕ → Bool) (after : NodeReplicas) (who : ℕ) where
         ]) refl
 
     pub step_done : MessageWasWritten → (step : NodeStep) → Comes (IsAuthentic faulty w node.keys) step → Does v node know (StandsBy node step) (deeds_of node step) (outcome node step)
-    step_done written (Delivers bytes) comes = go (message_of bytes) refl
-      where
-        go : (o : Option (Signed Message)) → message_of bytes ≡ o → DoneBy (bytes_deeds node o) (unless (bytes_refusal node o) node (bytes_delivered node o))
-        go None e = nothing_is
-        go (Some m) e = message_done m.message m.auth (comes.1 m e) (fits_read written bytes m comes.0 e)
+    step_done written (Delivers bytes) comes =
+        (elim (message_of bytes) as (λ o. message_of bytes ≡ o → DoneBy (bytes_deeds node o) (unless (bytes_refusal node o) node (bytes_delivered node o))) [
+          | None ↦ λ _. nothing_is
+          | Some m ↦ λ e. message_done m.message m.auth (comes.1 m e) (fits_read written bytes m comes.0 e)
+        ]) refl
     step_done written (Takes signed) comes = message_done signed.message signed.auth comes.1 comes.0
     step_done written (TakesRequests messages) comes =
         let wait = waits node messages in
