@@ -22,7 +22,6 @@ use Rattle.bfs_nodes_agree.specs.Orders.Replicas as ordered
 use Rattle.bfs_nodes_agree.specs.Orders.Replicas.{histories}
 use Rattle.bfs_nodes_agree.proofs.Orders.Lists.{AllIn, both_in, left_in, none_in, right_in}
 use Rattle.bfs_nodes_agree.proofs.Orders.Logs.{IsOwn}
-use Rattle.bfs_view_change.specs.Changes.Keeping.{Kept}
 use Rattle.bfs_nodes_agree.specs.Views.Replicas as turns
 use Rattle.bfs_nodes_agree.specs.Views.Replicas.{ViewTurn, ordered_turn}
 use Rattle.bfs_nodes_agree.proofs.Views.Lists.{in_map}

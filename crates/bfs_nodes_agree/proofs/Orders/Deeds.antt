@@ -1,5 +1,5 @@
 -- A proposal, an execution and a timeout are lists of moves.
-use Rattle.std.proofs.Common.{◌≡◌, ℕ, ◌+◌, ◌*◌, ◌<◌, ◌≤◌, ◌==◌, max, Bool, true, false, ◌&&◌, List, [], ◌∷◌, ◌++◌, Option, Some, None, inl, inr, refl, sym, ap, subst, ◌∙◌, arith}
+use Rattle.std.proofs.Common.{◌≡◌, ℕ, ◌+◌, ◌*◌, ◌<◌, ◌≤◌, ◌==◌, max, Bool, true, ◌&&◌, List, [], ◌∷◌, ◌++◌, Option, Some, None, inl, inr, refl, sym, ap, subst, ◌∙◌, arith}
 use Rattle.std.specs.Prelude.{nat_lt, nat_le}
 use Rattle.std.proofs.lemmas.Bool.{and_parts, and_from, or_cases, cond_both, false_from_ne_true, eq-eqb, eqb-true, ltb-true, leb-true, le-leb}
 use Rattle.bfs_auth.specs.Keys.{Keys}
@@ -9,7 +9,6 @@ use Rattle.bfs_log.specs.Logs.{Log, headers, greatest_proposed}
 use Rattle.bfs_messages.specs.Messages.{Batch}
 use Rattle.bfs_messages.specs.declared.signed.Signed.{Signed}
 use Rattle.bfs_messages.specs.declared.order_messages.OrderMessage.{OrderMessage}
-use Rattle.bfs_order.specs.declared.error.OrderError.{OrderError}
 use Rattle.bfs_order.specs.declared.error.OrderError.TheVariants.{WrongView, OutsideMarks, NotPrimary}
 use Rattle.bfs_order.specs.Replica.Answers.{commits_in}
 use Rattle.bfs_order.specs.Replica.Executing.{next_proposal, where_committed}
