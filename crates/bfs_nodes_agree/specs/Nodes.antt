@@ -2,6 +2,5 @@
 pub mod Steps
 pub mod Replicas
 pub mod Premises
-pub mod Giving
 pub mod Performing
 pub mod Laws

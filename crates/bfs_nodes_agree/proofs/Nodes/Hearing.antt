@@ -1,34 +1,40 @@
--- What stands in logs was sent, and what nodes have sent their orders have.
-use Rattle.std.proofs.Common.{◌≡◌, ℕ, ◌<◌, ◌==◌, Bool, true, false, cond, List, [], ◌∷◌, ◌⊎◌, inl, inr, refl, sym, ap, subst, ◌∙◌, arith}
-use Rattle.std.proofs.lemmas.Bool.{eqb-true}
+-- What stands in logs was sent and said, and what nodes have sent their orders have.
+use Rattle.std.proofs.Common.{◌≡◌, ℕ, ◌<◌, ◌==◌, Bool, true, false, cond, List, [], ◌∷◌, ◌⊎◌, Option, Some, None, option_map, inl, inr, refl, sym, ap, subst, ◌∙◌, arith}
+use Rattle.std.proofs.lemmas.Bool.{cond_both, eqb-true}
 use Rattle.bfs_auth.specs.Keys.{Keys}
-use Rattle.bfs_votes.specs.Votes.{Header, Told}
+use Rattle.bfs_auth.specs.declared.principals.Principal.TheVariants as principal
+use Rattle.bfs_votes.specs.Votes.{Header, Told, prepared}
 use Rattle.bfs_log.specs.Certificates.{messages_in}
 use Rattle.bfs_log.specs.Headers.{header, message_header}
 use Rattle.bfs_log.specs.Logs.{Log, headers}
 use Rattle.bfs_messages.specs.Messages as model
 use Rattle.bfs_messages.specs.Limits.{FitsPreparedBatch, FitsViewChange}
-use Rattle.bfs_messages.specs.Signing.{as_message, order_is_signed}
+use Rattle.bfs_messages.specs.Signing.{as_message, is_signed, order_signed_by, sender_of}
 use Rattle.bfs_messages.specs.declared.signed.Signed.{Signed}
 use Rattle.bfs_messages.specs.declared.message.Message.{Message}
-use Rattle.bfs_messages.specs.declared.message.Message.TheVariants.{Request, Order, ViewChange, NewView, Reply}
+use Rattle.bfs_messages.specs.declared.message.Message.TheVariants.{Order, ViewChange, NewView, Reply}
 use Rattle.bfs_messages.specs.declared.order_messages.OrderMessage.{OrderMessage}
-use Rattle.bfs_messages.specs.declared.order_messages.OrderMessage.TheVariants.{PrePrepare, Prepare, Commit, Checkpoint}
+use Rattle.bfs_messages.specs.declared.order_messages.OrderMessage.TheVariants.{PrePrepare, Prepare, Commit}
+use Rattle.bfs_order.specs.Replica.Answers.{own_vote}
+use Rattle.bfs_order.specs.Replica.Proposing as proposing
+use Rattle.bfs_order.specs.Replica.Refusals.{is_there}
+use Rattle.bfs_order.specs.Replica.States.{State, known}
 use Rattle.bfs_order.specs.Replica.Views.{as_proposals}
 use Rattle.bfs_agreement.specs.Histories as told
-use Rattle.bfs_agreement.specs.Histories.{IsIn, History, World, WasSent}
+use Rattle.bfs_agreement.specs.Histories.{IsIn, World, WasSent}
 use Rattle.bfs_agreement.proofs.Public.{Grows, in_told, said_on}
+use Rattle.bfs_node.specs.Executing.{signed_reply}
 use Rattle.bfs_nodes_agree.specs.Orders.Replicas as ordered
 use Rattle.bfs_nodes_agree.specs.Orders.Replicas.{after_order_deed, histories}
-use Rattle.bfs_nodes_agree.proofs.Orders.Lists.{AllIn, at_place, right_in}
+use Rattle.bfs_nodes_agree.proofs.Orders.Lists.{AllIn, at_place, right_in, some_is}
 use Rattle.bfs_nodes_agree.proofs.Orders.Logs.{IsWhole}
 use Rattle.bfs_view_change.specs.Changes.ViewChanges.{valid_view_change}
-use Rattle.bfs_nodes_agree.specs.Views.Changes.{told_change, IsGenuine}
+use Rattle.bfs_nodes_agree.specs.Views.Changes.{told_change, HasProofs, IsGenuine}
 use Rattle.bfs_nodes_agree.specs.Views.Replicas as turns
 use Rattle.bfs_nodes_agree.specs.Views.Replicas.{ViewTurn, ordered_deed, ordered_turn}
-use Rattle.bfs_nodes_agree.proofs.Views.Lists.{as_it_is, in_map, out_of_map, told_in}
+use Rattle.bfs_nodes_agree.proofs.Views.Lists.{as_it_is, in_map, map_in, out_of_map, told_in}
 use Rattle.bfs_nodes_agree.proofs.Views.Proved.{is_valid}
-use Rattle.bfs_nodes_agree.specs.Nodes.Premises.{offers_in, order_signed_part, HasSaid, IsAuthentic, AreProofsAuthentic, SaysTheSame}
+use Rattle.bfs_nodes_agree.specs.Nodes.Premises.{offers_in, order_signed_part, signed_part, HasSaid, IsWholly, SaysTheSame}
 use Rattle.bfs_nodes_agree.specs.Nodes.Replicas.{NodeReplicas}
 
 -- What orders have sent grows -----------------------------------------------------------------------------------------------
@@ -38,7 +44,7 @@ pub record Extends (o q : ordered.OrderReplica) : Type 0 where
   pub offers : (m : Signed OrderMessage) → IsIn m o.offers → IsIn m q.offers
   pub changes : (m : told.ViewChange) → IsIn m o.changes → IsIn m q.changes
 
-extends_same : (o : ordered.OrderReplica) → Extends o o
+pub extends_same : (o : ordered.OrderReplica) → Extends o o
 extends_same o = record { sent = λ m i. i; offers = λ m i. i; changes = λ m i. i }
 
 pub extends_both : (o q r : ordered.OrderReplica) → Extends o q → Extends q r → Extends o r
@@ -46,23 +52,19 @@ extends_both o q r a b = record { sent = λ m i. b.sent m (a.sent m i); offers =
 
 pub extends_deed : (o : ordered.OrderReplica) (deed : ordered.OrderDeed) → Extends o (after_order_deed o deed)
 extends_deed o deed = record {
-  sent = λ m i. right_in (ordered.votes_by o.state (ordered.call_of deed)) o.sent m i;
-  offers = λ m i. right_in (ordered.offers_by o.state deed) o.offers m i;
-  changes = λ m i. right_in (ordered.changes_by o.state deed) o.changes m i;
+  sent = right_in (ordered.votes_by o.state (ordered.call_of deed)) o.sent;
+  offers = right_in (ordered.offers_by o.state deed) o.offers;
+  changes = right_in (ordered.changes_by o.state deed) o.changes;
 }
 
 pub extends_turns : (list : List ViewTurn) (v : ordered.OrderReplicas) (k : ℕ) → Extends (v k) (turns.after_view_turns v list k)
 extends_turns [] v k = extends_same (v k)
 extends_turns (turn ∷ list) v k =
+    let deed = ordered_deed (v turn.who).state turn.deed in
     let next = ordered.after_order_turn v (ordered_turn v turn) in
-    extends_both (v k) (next k) (turns.after_view_turns next list k) (go (k == turn.who) refl) (extends_turns list next k)
-  where
-    q : ordered.OrderReplica
-    q = after_order_deed (v turn.who) (ordered_deed (v turn.who).state turn.deed)
-
-    go : (b : Bool) → (k == turn.who) ≡ b → Extends (v k) (cond b q (v k))
-    go true e = subst (λ (j : ℕ). Extends (v j) q) (sym (eqb-true k turn.who e)) (extends_deed (v turn.who) (ordered_deed (v turn.who).state turn.deed))
-    go false e = extends_same (v k)
+    let first = cond_both (k == turn.who) (after_order_deed (v turn.who) deed) (v k) (λ (o : ordered.OrderReplica). Extends (v k) o)
+    (λ e. subst (λ (j : ℕ). Extends (v j) (after_order_deed (v turn.who) deed)) (sym (eqb-true k turn.who e)) (extends_deed (v turn.who) deed)) (λ _. extends_same (v k)) in
+    extends_both (v k) (next k) (turns.after_view_turns next list k) first (extends_turns list next k)
 
 told_on : (xs ys : Log) → ((m : Signed OrderMessage) → IsIn m xs → IsIn m ys) → (t k v n : ℕ) (d : List ℕ) → Told (headers xs) t k v n d → Told (headers ys) t k v n d
 told_on xs ys on t k v n d x =
@@ -83,23 +85,93 @@ grown list v k =
       changes = more.changes;
     }
 
--- What is in a log ------------------------------------------------------------------------------------------------------------
+-- What messages say -------------------------------------------------------------------------------------------------------------
 
-pub record IsHeard (faulty : ℕ → Bool) (h : World) (m : Signed OrderMessage) : Type 0 where
+header_kept : (m : OrderMessage) → message_header (order_signed_part m) ≡ message_header m
+header_kept (PrePrepare proposal) = refl
+header_kept other = refl
+
+pub same_header : (m n : OrderMessage) → SaysTheSame (Order m) (Order n) → message_header m ≡ message_header n
+same_header m n e = let same : order_signed_part m ≡ order_signed_part n = cc in sym (header_kept m) ∙ ap message_header same ∙ header_kept n
+
+sender_kept : (m : Message) → sender_of (signed_part m) ≡ sender_of m
+sender_kept (Order m) = ap (λ (h : Header). principal.Replica h.sender) (header_kept m)
+sender_kept other = refl
+
+pub offer_tag : (m : Message) (p : Signed OrderMessage) → IsIn p (offers_in m) → (header p).tag ≡ 2
+offer_tag (NewView new) p i = ap (λ (x : Signed OrderMessage). (header x).tag) (out_of_map (as_message PrePrepare) new.proposals p i).2
+offer_tag other p i = absurd i
+
+-- a correct sender has said it
+abbrev pub IsSaid : (faulty : ℕ → Bool) → NodeReplicas → Message → Type 0
+IsSaid faulty w m = (k : ℕ) → sender_of m ≡ principal.Replica k → faulty k ≡ false → HasSaid (w k).sent m
+
+abbrev pub IsWhollySaid : (faulty : ℕ → Bool) → NodeReplicas → Signed Message → Type 0
+IsWhollySaid faulty w m = IsWholly (λ p. IsSaid faulty w p.message) m
+
+pub said_alike : (faulty : ℕ → Bool) (w : NodeReplicas) (m n : Message) → SaysTheSame m n → IsSaid faulty w m → IsSaid faulty w n
+said_alike faulty w m n same said k e correct =
+    let has = said k (sym (sender_kept m) ∙ ap sender_of same ∙ sender_kept n ∙ e) correct in
+    (has.0, has.1, elim has.2 [ inl is ↦ inl (is ∙ same) | inr offer ↦ inr (offer.0, offer.1, offer.2 ∙ same) ])
+
+-- all of a VIEW-CHANGE that is valid is signed
+pub change_signed : (keys : Keys) (s : Signed model.ViewChange) → valid_view_change keys s ≡ true → IsWholly (λ p. is_signed keys p ≡ true) (as_message ViewChange s)
+change_signed keys s valid p of =
+    let is = is_valid keys s valid in
+    elim of [
+      | inl same ↦ subst (λ (x : Signed Message). is_signed keys x ≡ true) (sym same) is.signed
+      | inr within ↦ map_in (λ (x : Signed Message). is_signed keys x ≡ true) (as_message Order) (messages_in within.0) (is.all_signed within.0 within.1) p within.2
+    ]
+
+-- the COMMIT of a replica that is alone
+pub lone_late : (keys : Keys) (state : State) (v n : ℕ) (d : List ℕ) (m : Signed OrderMessage) → IsIn m (proposing.lone_commits keys state v n d) → (header m).tag < 4 → ⊥
+lone_late keys state v n d m i small = go (state.f == 0) (prepared state.f state.me (known state) v n d) (is_there state (header (order_signed_by keys (Commit (own_vote state v n d))))) i
+  where
+    go : (one prepared there : Bool) → IsIn m (cond one (cond prepared (cond there [] (order_signed_by keys (Commit (own_vote state v n d)) ∷ [])) []) []) → ⊥
+    go true true false j = elim j [ inl same ↦ let four : (header m).tag ≡ 4 = ap (λ (x : Signed OrderMessage). (header x).tag) same in absurd (omega (arith, four, small)) | inr none ↦ none ]
+    go true true true j = j
+    go true false there j = j
+    go false prepared there j = j
+
+pub reply_is : (reply : model.Reply) (o : Option (List (List ℕ))) (s : Signed Message) → option_map (signed_reply reply) o ≡ Some s → s.message ≡ Reply reply
+reply_is reply None s e = absurd cc
+reply_is reply (Some auth) s e = sym (ap (λ (x : Signed Message). x.message) (some_is (signed_reply reply auth) s e))
+
+-- What is in a log, and what is kept --------------------------------------------------------------------------------------------
+
+-- COMMITs are not said: that of a replica that is alone goes to nobody
+pub record IsHeard (faulty : ℕ → Bool) (h : World) (w : NodeReplicas) (m : Signed OrderMessage) : Type 0 where
   pub sent : (header m).tag < 5 → WasSent faulty h (header m).tag (header m).sender (header m).view (header m).number (header m).digest
+  pub said : (header m).tag < 4 → IsSaid faulty w (Order m.message)
   pub whole : IsWhole m.message
 
-pub heard_on : (faulty : ℕ → Bool) (h g : World) → AreGrown h g → (m : Signed OrderMessage) → IsHeard faulty h m → IsHeard faulty g m
-heard_on faulty h g on m is = record {
+pub record IsGood (faulty : ℕ → Bool) (f : ℕ) (h : World) (w : NodeReplicas) (s : Signed model.ViewChange) : Type 0 where
+  pub proved : HasProofs f s.message.view s.message
+  pub genuine : IsGenuine faulty h s.message
+  pub said : IsWhollySaid faulty w (as_message ViewChange s)
+
+abbrev pub HaveGrown : NodeReplicas → NodeReplicas → Type 0
+HaveGrown w after = (k : ℕ) (s : Signed Message) → IsIn s (w k).sent → IsIn s (after k).sent
+
+pub said_later : (faulty : ℕ → Bool) (w after : NodeReplicas) → HaveGrown w after → (m : Message) → IsSaid faulty w m → IsSaid faulty after m
+said_later faulty w after later m said k e correct = let has = said k e correct in (has.0, later k has.0 has.1, has.2)
+
+pub heard_on : (faulty : ℕ → Bool) (h g : World) (w after : NodeReplicas) → AreGrown h g → HaveGrown w after → (m : Signed OrderMessage) → IsHeard faulty h w m → IsHeard faulty g after m
+heard_on faulty h g w after on later m is = record {
   sent = λ small. said_on faulty h g on (header m).tag (header m).sender (header m).view (header m).number (header m).digest (is.sent small);
+  said = λ small. said_later faulty w after later (Order m.message) (is.said small);
   whole = is.whole;
 }
 
-pub genuine_on : (faulty : ℕ → Bool) (h g : World) → AreGrown h g → (change : model.ViewChange) → IsGenuine faulty h change → IsGenuine faulty g change
-genuine_on faulty h g on change is = record {
-  sent = λ correct. (on change.sender).changes (told_change change) (is.sent correct);
-  certificates = λ c m i j. said_on faulty h g on (header m).tag (header m).sender (header m).view (header m).number (header m).digest (is.certificates c m i j);
-  whole = is.whole;
+pub change_on : (faulty : ℕ → Bool) (f : ℕ) (h g : World) (w after : NodeReplicas) → AreGrown h g → HaveGrown w after → (s : Signed model.ViewChange) → IsGood faulty f h w s → IsGood faulty f g after s
+change_on faulty f h g w after on later s is = record {
+  proved = is.proved;
+  genuine = record {
+    sent = λ correct. (on s.message.sender).changes (told_change s.message) (is.genuine.sent correct);
+    certificates = λ c m i j. said_on faulty h g on (header m).tag (header m).sender (header m).view (header m).number (header m).digest (is.genuine.certificates c m i j);
+    whole = is.genuine.whole;
+  };
+  said = λ p of. said_later faulty w after later p.message (is.said p of);
 }
 
 -- What nodes have sent ----------------------------------------------------------------------------------------------------------
@@ -109,8 +181,7 @@ abbrev pub Spoken : ordered.OrderReplica → Signed Message → Message → Type
 Spoken o s (Order m) = (message_header m).tag < 5 → IsIn (record { message = m; auth = s.auth }) o.sent
 Spoken o s (ViewChange change) = IsIn (told_change change) o.changes
 Spoken o s (NewView new) = AllIn (λ (p : Signed OrderMessage). IsIn p o.offers) (as_proposals new.proposals)
-Spoken o s (Request request) = Unit {0}
-Spoken o s (Reply reply) = Unit {0}
+Spoken o s _ = Unit {0}
 
 abbrev pub IsSpoken : ordered.OrderReplica → Signed Message → Type 0
 IsSpoken o s = Spoken o s s.message
@@ -119,31 +190,11 @@ pub spoken_on : (o q : ordered.OrderReplica) → Extends o q → (s : Signed Mes
 spoken_on o q on s (Order m) is = λ small. on.sent (record { message = m; auth = s.auth }) (is small)
 spoken_on o q on s (ViewChange change) is = on.changes (told_change change) is
 spoken_on o q on s (NewView new) is = λ p i. on.offers p (is p i)
-spoken_on o q on s (Request request) is = tt
-spoken_on o q on s (Reply reply) is = tt
+spoken_on o q on s other is = tt
 
 offer_spoken : (o : ordered.OrderReplica) (s : Signed Message) (m : Message) (p : Signed OrderMessage) → Spoken o s m → IsIn p (offers_in m) → IsIn p o.offers
 offer_spoken o s (NewView new) p is i = is p i
-offer_spoken o s (Order m) p is i = absurd i
-offer_spoken o s (ViewChange change) p is i = absurd i
-offer_spoken o s (Request request) p is i = absurd i
-offer_spoken o s (Reply reply) p is i = absurd i
-
-pub offer_tag : (m : Message) (p : Signed OrderMessage) → IsIn p (offers_in m) → (header p).tag ≡ 2
-offer_tag (NewView new) p i = ap (λ (x : Signed OrderMessage). (header x).tag) (out_of_map (as_message PrePrepare) new.proposals p i).2
-offer_tag (Order m) p i = absurd i
-offer_tag (ViewChange change) p i = absurd i
-offer_tag (Request request) p i = absurd i
-offer_tag (Reply reply) p i = absurd i
-
-pub header_kept : (m : OrderMessage) → message_header (order_signed_part m) ≡ message_header m
-header_kept (PrePrepare proposal) = refl
-header_kept (Prepare vote) = refl
-header_kept (Commit vote) = refl
-header_kept (Checkpoint checkpoint) = refl
-
-pub same_header : (m n : OrderMessage) → SaysTheSame (Order m) (Order n) → message_header m ≡ message_header n
-same_header m n e = let same : order_signed_part m ≡ order_signed_part n = cc in sym (header_kept m) ∙ ap message_header same ∙ header_kept n
+offer_spoken o s other p is i = absurd i
 
 told_of : (log : Log) (s : Signed OrderMessage) (m : OrderMessage) → SaysTheSame (Order s.message) (Order m) → IsIn s log
     → Told (headers log) (message_header m).tag (message_header m).sender (message_header m).view (message_header m).number (message_header m).digest
@@ -155,10 +206,7 @@ vote_told : (o : ordered.OrderReplica) (s : Signed Message) (x : Message) (m : O
     → Told (headers o.sent) (message_header m).tag (message_header m).sender (message_header m).view (message_header m).number (message_header m).digest
 vote_told o s (Order x) m e small is =
     told_of o.sent (record { message = x; auth = s.auth }) m e (is (subst (λ (h : Header). h.tag < 5) (sym (same_header x m e)) small))
-vote_told o s (ViewChange change) m e small is = absurd cc
-vote_told o s (NewView new) m e small is = absurd cc
-vote_told o s (Request request) m e small is = absurd cc
-vote_told o s (Reply reply) m e small is = absurd cc
+vote_told o s other m e small is = absurd cc
 
 vote_said : (o : ordered.OrderReplica) (sent : List (Signed Message)) → AllIn (IsSpoken o) sent → (m : OrderMessage) → (message_header m).tag < 5 → HasSaid sent (Order m)
     → Told (headers o.sent) (message_header m).tag (message_header m).sender (message_header m).view (message_header m).number (message_header m).digest
@@ -181,12 +229,7 @@ vote_said o sent all m small said =
 -- a VIEW-CHANGE is signed whole
 change_told : (o : ordered.OrderReplica) (s : Signed Message) (x : Message) (change : model.ViewChange) → SaysTheSame x (ViewChange change) → Spoken o s x → IsIn (told_change change) o.changes
 change_told o s (ViewChange x) change e is = let same : x ≡ change = cc in subst (λ (y : model.ViewChange). IsIn (told_change y) o.changes) same is
-change_told o s (Order m) change e is = absurd cc
-change_told o s (NewView new) change e is = absurd cc
-change_told o s (Request request) change e is = absurd cc
-change_told o s (Reply reply) change e is = absurd cc
-
--- What stands in a certificate --------------------------------------------------------------------------------------------------
+change_told o s other change e is = absurd cc
 
 -- a PRE-PREPARE or a PREPARE
 pub proof_small : (c : model.PreparedBatch) (m : Signed OrderMessage) → IsIn m (messages_in c) → (header m).tag < 4
@@ -197,14 +240,13 @@ proof_small c m i = elim i [
       omega (arith, three)
 ]
 
--- What passes -----------------------------------------------------------------------------------------------------------------
-
-module _ (faulty : ℕ → Bool) (w : NodeReplicas) (v : ordered.OrderReplicas) (spoken : (k : ℕ) → AllIn (IsSpoken (v k)) (w k).sent) (keys : Keys) where
-  pub vote_was_sent : (m : Signed OrderMessage) → IsAuthentic faulty w keys (as_message Order m) → order_is_signed keys m ≡ true → (header m).tag < 5
-      → WasSent faulty (histories v) (header m).tag (header m).sender (header m).view (header m).number (header m).digest
-  vote_was_sent m authentic signed small correct =
-      let k = (header m).sender in
-      vote_said (v k) (w k).sent (spoken k) m.message small (authentic k refl signed correct)
+module _ (faulty : ℕ → Bool) (w : NodeReplicas) (v : ordered.OrderReplicas) (spoken : (k : ℕ) → AllIn (IsSpoken (v k)) (w k).sent) where
+  pub vote_heard : (m : Signed OrderMessage) → IsSaid faulty w (Order m.message) → IsWhole m.message → IsHeard faulty (histories v) w m
+  vote_heard m said whole = record {
+    sent = λ small correct. let k = (header m).sender in vote_said (v k) (w k).sent (spoken k) m.message small (said k refl correct);
+    said = λ _. said;
+    whole = whole;
+  }
 
   change_said : (k : ℕ) (change : model.ViewChange) → HasSaid (w k).sent (ViewChange change) → IsIn (told_change change) (v k).changes
   change_said k change said = elim said.2 [
@@ -212,13 +254,12 @@ module _ (faulty : ℕ → Bool) (w : NodeReplicas) (v : ordered.OrderReplicas) 
     | inr offer ↦ absurd cc
   ]
 
-  pub genuine_of : (s : Signed model.ViewChange) → IsAuthentic faulty w keys (as_message ViewChange s) → AreProofsAuthentic faulty w keys s.message
-      → valid_view_change keys s ≡ true → FitsViewChange s.message → IsGenuine faulty (histories v) s.message
-  genuine_of s authentic proofs valid fits =
-      let change = s.message in
-      let is = is_valid keys s valid in
-      record {
-        sent = λ correct. change_said change.sender change (authentic change.sender refl is.signed correct);
-        certificates = λ c m i j. vote_was_sent m (proofs c i m j) (is.all_signed c i m j) (let small = proof_small c m j in omega (arith, small));
-        whole = λ c i. (at_place FitsPreparedBatch change.certificates fits.certificates.1 c i).proposal.0.digest;
-      }
+  pub genuine_of : (s : Signed model.ViewChange) → IsWhollySaid faulty w (as_message ViewChange s) → FitsViewChange s.message → IsGenuine faulty (histories v) s.message
+  genuine_of s said fits = record {
+    sent = λ correct. change_said s.message.sender s.message (said (as_message ViewChange s) (inl refl) s.message.sender refl correct);
+    certificates = λ c m i j correct.
+        let k = (header m).sender in
+        let small = proof_small c m j in
+        vote_said (v k) (w k).sent (spoken k) m.message (omega (arith, small)) (said (as_message Order m) (inr (c, i, in_map (as_message Order) (messages_in c) m j)) k refl correct);
+    whole = λ c i. (at_place FitsPreparedBatch s.message.certificates fits.certificates.1 c i).proposal.0.digest;
+  }

@@ -1,32 +1,31 @@
 -- Replicas that reach a number have one state there, which comes of the batches up to it.
 use Rattle.std.proofs.Common.{◌≡◌, ℕ, zero, suc, ◌+◌, ◌*◌, ◌==◌, Bool, true, false, cond, ◌&&◌, not, List, [], ◌++◌, Option, Some, None, option_map, bytes_eq, inl, inr, refl, sym, ap, ap₂, subst, ◌∙◌, arith}
 use Rattle.std.specs.Prelude.{max, is_some, nat_lt}
-use Rattle.std.proofs.lemmas.Bool.{and_parts, or_cases, eq-eqb, eqb-true, leb-true, ltb-true}
+use Rattle.std.proofs.lemmas.Bool.{and_parts, or_cases, cond_both, eq-eqb, eqb-true, leb-true, ltb-true}
 use Rattle.std.proofs.lemmas.Slice.Eq.{bytes_eq-Decides}
 use Rattle.sha2.specs.Sha256.{sha256}
 use Rattle.bfs_model.specs.Server.Tree.{FileSystem}
 use Rattle.bfs_auth.specs.Keys.{Keys}
 use Rattle.bfs_auth.specs.declared.principals.Principal.TheVariants as principal
 use Rattle.bfs_votes.specs.Laws.{QuorumsMeet}
-use Rattle.bfs_votes.specs.Votes.{Header, committed, is_slot, primary, tellers, told, Told}
+use Rattle.bfs_votes.specs.Votes.{Header, tellers, told, Told}
 use Rattle.bfs_checkpoints.specs.Texts.{node_digest}
 use Rattle.bfs_log.specs.Batches.{Committed}
 use Rattle.bfs_log.specs.Headers.{header, message_header}
 use Rattle.bfs_log.proofs.Public.{IsVoucher, vouched as vouched_by}
 use Rattle.bfs_log.specs.Certificates.{StableCheckpoint, checkpoints_in, is_shown}
-use Rattle.bfs_log.specs.Logs.{batch_in, headers}
+use Rattle.bfs_log.specs.Logs.{Log, batch_in, headers}
 use Rattle.bfs_messages.specs.Messages as model
 use Rattle.bfs_messages.specs.Batches.{batch_text}
 use Rattle.bfs_messages.specs.Signing.{as_message}
 use Rattle.bfs_messages.specs.declared.signed.Signed.{Signed}
 use Rattle.bfs_messages.specs.declared.message.Message.{Message}
-use Rattle.bfs_messages.specs.declared.message.Message.TheVariants.{Request, Order, ViewChange, NewView, Reply}
+use Rattle.bfs_messages.specs.declared.message.Message.TheVariants.{Order}
 use Rattle.bfs_messages.specs.declared.order_messages.OrderMessage.{OrderMessage}
-use Rattle.bfs_messages.specs.declared.order_messages.OrderMessage.TheVariants.{PrePrepare, Prepare, Commit, Checkpoint}
+use Rattle.bfs_messages.specs.declared.order_messages.OrderMessage.TheVariants.{PrePrepare, Checkpoint}
 use Rattle.bfs_order.specs.Laws.Certificates.{CertificatesMakeStable}
-use Rattle.bfs_order.specs.Replica.Executing.{batch_of, next_committed, next_order, next_proposal, where_committed}
+use Rattle.bfs_order.specs.Replica.Executing.{batch_of, next_committed, next_order}
 use Rattle.bfs_order.specs.Replica.Proposing.{batch_digest}
-use Rattle.bfs_order.specs.Replica.States.{State, known}
 use Rattle.bfs_outcome.specs.Outcome as outcome
 use Rattle.bfs_replies.specs.Tables.{Table}
 use Rattle.bfs_agreement.specs.Histories.{IsIn, FewAreFaulty}
@@ -39,94 +38,56 @@ use Rattle.bfs_node.specs.Adopting.{adopted, is_ahead, may_adopt}
 use Rattle.bfs_node.specs.Executing.{executed_on, is_next, is_ready}
 use Rattle.bfs_node.specs.Nodes.{Messages, Node, Outcome}
 use Rattle.bfs_nodes_agree.specs.Nodes.Laws.{ComesOfBatches, Executed}
-use Rattle.bfs_nodes_agree.specs.Nodes.Premises.{AreAuthenticIn, ComesAuthentic, HasSaid, SaysTheSame, StatesDontCollide, standing_digest}
+use Rattle.bfs_nodes_agree.specs.Nodes.Premises.{Comes, HasSaid, IsAmong, IsAuthentic, SaysTheSame, StatesDontCollide, standing_digest}
 use Rattle.bfs_nodes_agree.specs.Nodes.Replicas.{Beginning, Keyring, NodeReplica, NodeReplicas, Standing, NodeTurn, after_node_step, after_node_turn, beginning_node, new_node_replicas, standing_of, standing_with}
-use Rattle.bfs_nodes_agree.specs.Nodes.Steps.{NodeStep, Delivers, Takes, TakesRequests, Proposes, Executes, Fails, Checkpoints, TimesOut, Adopts, after_execution, executed_by, outcome as result, still}
+use Rattle.bfs_nodes_agree.specs.Nodes.Steps.{NodeStep, Executes, Fails, Adopts, after_execution, executed_by, outcome as result, still}
 use Rattle.bfs_nodes_agree.proofs.Nodes.Doing.{IsStill, StandsBy, Tells}
-use Rattle.bfs_nodes_agree.proofs.Nodes.Executing.{next_follows}
+use Rattle.bfs_nodes_agree.proofs.Nodes.Executing.{next_found, next_follows}
 use Rattle.bfs_nodes_agree.proofs.Nodes.Hearing.{offer_tag, same_header}
 
 -- States ------------------------------------------------------------------------------------------------------------------------
 
+-- with that file system
+abbrev pub standing_at : Node → FileSystem → Standing
+standing_at node files = record { number = node.order.last; files = files; table = node.table }
+
 -- a live node stands somewhere
-pub here_now : (node : Node) (files : FileSystem) (rest : List Standing) → node.files ≡ Some files
-    → IsIn (record { number = node.order.last; files = files; table = node.table }) (standing_of node ++ rest)
-here_now node files rest e =
-    subst (λ (o : Option FileSystem). IsIn (record { number = node.order.last; files = files; table = node.table }) (standing_with node o ++ rest)) (sym e) (inl refl)
+here_now : (node : Node) (files : FileSystem) (rest : List Standing) → node.files ≡ Some files → IsIn (standing_at node files) (standing_of node ++ rest)
+here_now node files rest e = subst (λ (o : Option FileSystem). IsIn (standing_at node files) (standing_with node o ++ rest)) (sym e) (inl refl)
 
-pub record StandsThere (node : Node) (s : Standing) : Type 0 where
-  pub live : node.files ≡ Some s.files
-  pub number : s.number ≡ node.order.last
-  pub table : s.table ≡ node.table
-
-there_is : (node : Node) (s : Standing) → IsIn s (standing_of node) → StandsThere node s
+there_is : (node : Node) (s : Standing) → IsIn s (standing_of node) → (files : FileSystem) × (node.files ≡ Some files) × (s ≡ standing_at node files)
 there_is node s i = go node.files refl i
   where
-    go : (o : Option FileSystem) → node.files ≡ o → IsIn s (standing_with node o) → StandsThere node s
+    go : (o : Option FileSystem) → node.files ≡ o → IsIn s (standing_with node o) → (files : FileSystem) × (node.files ≡ Some files) × (s ≡ standing_at node files)
     go None e j = absurd j
-    go (Some files) e j = elim j [
-      | inl is ↦ record {
-        live = e ∙ ap (λ (x : Standing). Some x.files) (sym is);
-        number = ap (λ (x : Standing). x.number) is;
-        table = ap (λ (x : Standing). x.table) is;
-      }
-      | inr none ↦ absurd none
-    ]
+    go (Some files) e j = elim j [ inl is ↦ (files, e, is) | inr none ↦ absurd none ]
 
 -- Batches -----------------------------------------------------------------------------------------------------------------------
 
-next_in : (s : State) (m : Signed OrderMessage) → next_order s ≡ Some m → IsIn m s.log
-next_in s m e = go (next_proposal s) refl e
-  where
-    go : (o : Option (Signed OrderMessage)) → next_proposal s ≡ o → where_committed s o ≡ Some m → IsIn m s.log
-    go None is h = absurd cc
-    go (Some x) is h = test (committed s.f s.me (known s) s.view (s.last + 1) (header x).digest) h
-      where
-        test : (b : Bool) → cond b (Some x) None ≡ Some m → IsIn m s.log
-        test true f = (found (λ (y : Signed OrderMessage). is_slot 2 (primary s.f s.view) s.view (s.last + 1) (header y)) s.log m (is ∙ f)).0
-        test false f = absurd cc
-
 -- what is executed stands in the log
 pub executed_in : (node : Node) (step : NodeStep) → AllIn (λ (m : Signed OrderMessage). IsIn m node.order.log) (executed_by node step)
-executed_in node (Delivers bytes) m i = absurd i
-executed_in node (Takes signed) m i = absurd i
-executed_in node (TakesRequests messages) m i = absurd i
-executed_in node (Proposes time) m i = absurd i
-executed_in node Executes m i = go (is_ready node) i
+executed_in node Executes m = cond_both (is_ready node) (message_in (next_order node.order)) [] (λ (l : Log). IsIn m l → IsIn m node.order.log)
+    (λ _. one (next_order node.order) refl) (λ _ j. absurd j)
   where
     one : (o : Option (Signed OrderMessage)) → next_order node.order ≡ o → IsIn m (message_in o) → IsIn m node.order.log
     one None e j = absurd j
-    one (Some x) e j = elim j [ inl is ↦ subst (λ (y : Signed OrderMessage). IsIn y node.order.log) (sym is) (next_in node.order x e) | inr none ↦ absurd none ]
-
-    go : (b : Bool) → IsIn m (cond b (message_in (next_order node.order)) []) → IsIn m node.order.log
-    go true j = one (next_order node.order) refl j
-    go false j = absurd j
-executed_in node Fails m i = absurd i
-executed_in node Checkpoints m i = absurd i
-executed_in node TimesOut m i = absurd i
-executed_in node (Adopts certificate files table) m i = absurd i
+    one (Some x) e j = elim j [ inl is ↦ subst (λ (y : Signed OrderMessage). IsIn y node.order.log) (sym is) (next_found node.order x e).0 | inr none ↦ absurd none ]
+executed_in node step m = λ i. absurd i
 
 -- the batch of a PRE-PREPARE is that of its digest
 pub digest_tells : (m : OrderMessage) (next : Committed) → IsWhole m → batch_in m ≡ Some next → ((message_header m).number ≡ next.number) × ((message_header m).digest ≡ batch_digest next.batch)
 digest_tells (PrePrepare proposal) next whole e =
     let is : record { number = proposal.vote.number; batch = proposal.batch } ≡ next = some_is (record { number = proposal.vote.number; batch = proposal.batch }) next e in
     (ap (λ (x : Committed). x.number) is, whole ∙ ap (λ (x : Committed). sha256 (batch_text x.batch)) is)
-digest_tells (Prepare vote) next whole e = absurd cc
-digest_tells (Commit vote) next whole e = absurd cc
-digest_tells (Checkpoint checkpoint) next whole e = absurd cc
+digest_tells other next whole e = absurd cc
 
 -- CHECKPOINTs -----------------------------------------------------------------------------------------------------------------
 
 -- it is signed whole
 whole_checkpoint : (m : Message) (c : model.Checkpoint) → SaysTheSame m (Order (Checkpoint c)) → m ≡ Order (Checkpoint c)
-whole_checkpoint (Order (PrePrepare proposal)) c e = absurd cc
-whole_checkpoint (Order (Prepare vote)) c e = absurd cc
-whole_checkpoint (Order (Commit vote)) c e = absurd cc
 whole_checkpoint (Order (Checkpoint checkpoint)) c e = e
-whole_checkpoint (Request request) c e = absurd cc
-whole_checkpoint (ViewChange change) c e = absurd cc
-whole_checkpoint (NewView new) c e = absurd cc
-whole_checkpoint (Reply reply) c e = absurd cc
+whole_checkpoint (Order other) c e = absurd cc
+whole_checkpoint other c e = absurd cc
 
 checkpoint_said : (sent : Messages) (c : model.Checkpoint) → HasSaid sent (Order (Checkpoint c)) → (s : Signed Message) × IsIn s sent × (s.message ≡ Order (Checkpoint c))
 checkpoint_said sent c said = elim said.2 [
@@ -164,20 +125,15 @@ pub record WasThere (r : NodeReplica) (c : model.Checkpoint) : Type 0 where
 pub record StatesKnown (start : Beginning) (faulty : ℕ → Bool) (w : NodeReplicas) : Type 0 where
   pub whole : (i : ℕ) → AllIn (λ (m : Signed OrderMessage). IsWhole m.message) (w i).executed
   pub comes : (i : ℕ) (s : Standing) → faulty i ≡ false → IsIn s (w i).reached → ComesOfBatches start faulty w s.number s.files s.table
-  pub here : (i : ℕ) (files : FileSystem) → (w i).node.files ≡ Some files → IsIn (record { number = (w i).node.order.last; files = files; table = (w i).node.table }) (w i).reached
+  pub here : (i : ℕ) (files : FileSystem) → (w i).node.files ≡ Some files → IsIn (standing_at (w i).node files) (w i).reached
   pub told : (i : ℕ) (s : Signed Message) (c : model.Checkpoint) → IsIn s (w i).sent → s.message ≡ Order (Checkpoint c) → WasThere (w i) c
 
 -- A step --------------------------------------------------------------------------------------------------------------------------
 
 pub both_at : (w : NodeReplicas) (turn : NodeTurn) (P : ℕ → NodeReplica → Type 0) → P turn.who (after_node_step (w turn.who) turn.step) → ((i : ℕ) → P i (w i)) → (i : ℕ) → P i (after_node_turn w turn i)
-both_at w turn P here all i = go (i == turn.who) refl
-  where
-    next : NodeReplica
-    next = after_node_step (w turn.who) turn.step
-
-    go : (b : Bool) → (i == turn.who) ≡ b → P i (cond b next (w i))
-    go true e = subst (λ (k : ℕ). P k next) (sym (eqb-true i turn.who e)) here
-    go false e = all i
+both_at w turn P here all i =
+    let next = after_node_step (w turn.who) turn.step in
+    cond_both (i == turn.who) next (w i) (P i) (λ e. subst (λ (k : ℕ). P k next) (sym (eqb-true i turn.who e)) here) (λ _. all i)
 
 pub reached_on : (w : NodeReplicas) (turn : NodeTurn) (i : ℕ) (s : Standing) → IsIn s (w i).reached → IsIn s (after_node_turn w turn i).reached
 reached_on w turn i s = both_at w turn (λ i r. IsIn s (w i).reached → IsIn s r.reached)
@@ -188,14 +144,7 @@ executed_on_turn w turn i n b = both_at w turn (λ i r. Executed (w i) n b → E
     (λ x. (x.0, right_in (executed_by (w turn.who).node turn.step) (w turn.who).executed x.0 x.1, x.2)) (λ k x. x) i
 
 pub here_after : (w : NodeReplicas) (turn : NodeTurn) → after_node_turn w turn turn.who ≡ after_node_step (w turn.who) turn.step
-here_after w turn = go (turn.who == turn.who) (eq_itself turn.who)
-  where
-    eq_itself : (n : ℕ) → (n == n) ≡ true
-    eq_itself n = eq-eqb n n refl
-
-    go : (b : Bool) → b ≡ true → cond b (after_node_step (w turn.who) turn.step) (w turn.who) ≡ after_node_step (w turn.who) turn.step
-    go true e = refl
-    go false e = absurd cc
+here_after w turn = ap (λ (b : Bool). cond b (after_node_step (w turn.who) turn.step) (w turn.who)) (eq-eqb turn.who turn.who refl)
 
 module _ (meet : QuorumsMeet) (stable : CertificatesMakeStable) (start : Beginning) (f : ℕ) (faulty : ℕ → Bool) (few : FewAreFaulty f faulty) where
   -- the state that a certificate tells of is that of a correct replica
@@ -208,17 +157,17 @@ module _ (meet : QuorumsMeet) (stable : CertificatesMakeStable) (start : Beginni
     pub digest : standing_digest standing ≡ certificate.digest
 
   -- by one of its CHECKPOINTs, which a correct replica sent
-  vouched_for : (w : NodeReplicas) → StatesKnown start faulty w → (keys : Keys) (certificate : StableCheckpoint) → is_shown keys f certificate ≡ true → AreAuthenticIn faulty w keys (checkpoints_in certificate)
+  vouched_for : (w : NodeReplicas) → StatesKnown start faulty w → (keys : Keys) (certificate : StableCheckpoint) → is_shown keys f certificate ≡ true → ((m : Signed Message) → IsAmong m (checkpoints_in certificate) → IsAuthentic faulty w keys m)
       → (k : ℕ) → faulty k ≡ false → (s : Signed model.Checkpoint) → IsIn s certificate.checkpoints → Is (header (as_message Checkpoint s)) 5 k 0 certificate.number certificate.digest → IsVouched w certificate
   vouched_for w known_of keys certificate right authentic k correct s i is =
       let m = as_message Checkpoint s in
       let there = in_map (as_message Checkpoint) certificate.checkpoints s i in
       let signed = (at_in (IsVoucher keys f certificate.number certificate.digest) (checkpoints_in certificate) (vouched_by keys f certificate right).each m there).signed in
-      let sent = checkpoint_said (w k).sent s.message (authentic m there k (ap principal.Replica is.sender) signed correct) in
+      let sent = checkpoint_said (w k).sent s.message (authentic (as_message Order m) (in_map (as_message Order) (checkpoints_in certificate) m there) k (ap principal.Replica is.sender) signed correct) in
       let was = known_of.told k sent.0 s.message sent.1 sent.2 in
       record { who = k; correct = correct; standing = was.standing; reached = was.reached; number = was.number ∙ is.number; digest = was.digest ∙ is.digest }
 
-  vouched : (w : NodeReplicas) → StatesKnown start faulty w → (keys : Keys) (certificate : StableCheckpoint) → is_shown keys f certificate ≡ true → AreAuthenticIn faulty w keys (checkpoints_in certificate) → IsVouched w certificate
+  vouched : (w : NodeReplicas) → StatesKnown start faulty w → (keys : Keys) (certificate : StableCheckpoint) → is_shown keys f certificate ≡ true → ((m : Signed Message) → IsAmong m (checkpoints_in certificate) → IsAuthentic faulty w keys m) → IsVouched w certificate
   vouched w known_of keys certificate right authentic =
       let n = certificate.number in
       let d = certificate.digest in
@@ -229,28 +178,29 @@ module _ (meet : QuorumsMeet) (stable : CertificatesMakeStable) (start : Beginni
       let by = told_by certificate got.0 got.2 in
       vouched_for w known_of keys certificate right authentic got.0 got.4 by.0 by.1 by.2
 
-  abbrev Comes : NodeReplicas → (number : ℕ) → FileSystem → Table → Type 0
-  Comes w number files table = ComesOfBatches start faulty w number files table
+  abbrev IsReached : NodeReplicas → Standing → Type 0
+  IsReached w s = ComesOfBatches start faulty w s.number s.files s.table
 
   -- What a step leaves: the state of the node that takes it comes of batches too
   module _ (w : NodeReplicas) (turn : NodeTurn) (known_of : StatesKnown start faulty w) (correct : faulty turn.who ≡ false) (same_f : (w turn.who).node.order.f ≡ f)
-      (authentic : ComesAuthentic faulty w (w turn.who).node.keys turn.step) (apart : StatesDontCollide faulty (after_node_turn w turn)) where
+      (authentic : Comes (IsAuthentic faulty w (w turn.who).node.keys) turn.step) (apart : StatesDontCollide faulty (after_node_turn w turn)) where
     abbrev node : Node
     node = (w turn.who).node
 
     abbrev after : NodeReplicas
     after = after_node_turn w turn
 
-    grown : (n : ℕ) (files : FileSystem) (table : Table) → Comes w n files table → Comes after n files table
-    grown = comes_on start faulty w after (executed_on_turn w turn)
+    grown : (s : Standing) → IsReached w s → IsReached after s
+    grown s = comes_on start faulty w after (executed_on_turn w turn) s.number s.files s.table
 
-    stays : (now : Node) (files : FileSystem) → IsStill node now → now.files ≡ Some files → Comes after now.order.last files now.table
+    before : (files : FileSystem) → node.files ≡ Some files → IsReached after (standing_at node files)
+    before files live = grown (standing_at node files) (known_of.comes turn.who (standing_at node files) correct (known_of.here turn.who files live))
+
+    stays : (now : Node) (files : FileSystem) → IsStill node now → now.files ≡ Some files → IsReached after (standing_at now files)
     stays now files still live =
-        let before = known_of.here turn.who files (sym still.files ∙ live) in
-        subst (λ (n : ℕ). Comes after n files now.table) (sym still.last) (subst (λ (t : Table). Comes after node.order.last files t) (sym still.table)
-        (grown node.order.last files node.table (known_of.comes turn.who (record { number = node.order.last; files = files; table = node.table }) correct before)))
+        subst (IsReached after) (ap₂ (λ (n : ℕ) (t : Table). record { number = n; files = files; table = t }) (sym still.2) (sym still.1)) (before files (sym still.0 ∙ live))
 
-    executes : turn.step ≡ Executes → (files : FileSystem) → (result node Executes).now.files ≡ Some files → Comes after (result node Executes).now.order.last files (result node Executes).now.table
+    executes : turn.step ≡ Executes → (files : FileSystem) → (result node Executes).now.files ≡ Some files → IsReached after (standing_at (result node Executes).now files)
     executes is files = go node.files (next_committed node.order) refl refl
       where
         found : Option FileSystem → Option Committed → Option (Option Outcome)
@@ -271,33 +221,29 @@ module _ (meet : QuorumsMeet) (stable : CertificatesMakeStable) (start : Beginni
             subst (λ (r : NodeReplica). Executed r next.number next.batch) (sym (here_after w turn)) (m.0, left_in (executed_by node turn.step) (w turn.who).executed m.0 by_step, m.2)
 
         go : (o : Option FileSystem) (next : Option Committed) → node.files ≡ o → next_committed node.order ≡ next → (after_execution node (found o next)).now.files ≡ Some files
-            → Comes after (after_execution node (found o next)).now.order.last files (after_execution node (found o next)).now.table
-        go None next e n live = stays node files (record { files = refl; table = refl; last = refl }) live
-        go (Some before) None e n live = stays node files (record { files = refl; table = refl; last = refl }) live
-        go (Some before) (Some next) e n live =
-            let made = outcome.outcome before node.table next.batch in
-            let number : next.number ≡ suc node.order.last = next_follows node.order next n ∙ one_more node.order.last in
-            let was = grown node.order.last before node.table (known_of.comes turn.who (record { number = node.order.last; files = before; table = node.table }) correct (known_of.here turn.who before e)) in
-            let by = subst (λ (k : ℕ). Executed (after turn.who) k next.batch) number (executed before next e n) in
-            subst (λ (k : ℕ). Comes after k files made.table) (sym number)
-            (before, node.table, was, turn.who, correct, next.batch, by, sym (some_is made.files files live), refl)
-          where
-            one_more : (n : ℕ) → n + 1 ≡ suc n
-            one_more n = omega arith
+            → IsReached after (standing_at (after_execution node (found o next)).now files)
+        go None next e n live = stays node files (refl, refl, refl) live
+        go (Some old) None e n live = stays node files (refl, refl, refl) live
+        go (Some old) (Some next) e n live =
+            let made = outcome.outcome old node.table next.batch in
+            let follows = next_follows node.order next n in
+            let number : next.number ≡ suc node.order.last = omega (arith, follows) in
+            let by = subst (λ (k : ℕ). Executed (after turn.who) k next.batch) number (executed old next e n) in
+            subst (λ (k : ℕ). IsReached after (record { number = k; files = files; table = made.table })) (sym number)
+            (old, node.table, before old e, turn.who, correct, next.batch, by, sym (some_is made.files files live), refl)
 
-    adopts : (certificate : StableCheckpoint) (files : FileSystem) (table : Table) → turn.step ≡ Adopts certificate files table → AreAuthenticIn faulty w node.keys (checkpoints_in certificate)
+    adopts : (certificate : StableCheckpoint) (files : FileSystem) (table : Table) → turn.step ≡ Adopts certificate files table → ((m : Signed Message) → IsAmong m (checkpoints_in certificate) → IsAuthentic faulty w node.keys m)
         → (live : FileSystem) → (result node (Adopts certificate files table)).now.files ≡ Some live
-        → Comes after (result node (Adopts certificate files table)).now.order.last live (result node (Adopts certificate files table)).now.table
-    adopts certificate files table is authentic live = go (may_adopt node certificate && right) refl here
+        → IsReached after (standing_at (result node (Adopts certificate files table)).now live)
+    adopts certificate files table is authentic live = go (may_adopt node certificate && right) refl
       where
         right : Bool
         right = bytes_eq (node_digest files table) certificate.digest
 
         -- where it stands then
-        here : (now : Node) → (result node turn.step).now ≡ now → now.files ≡ Some live → IsIn (record { number = now.order.last; files = live; table = now.table }) (after turn.who).reached
-        here now at e =
-            subst (λ (r : NodeReplica). IsIn (record { number = now.order.last; files = live; table = now.table }) r.reached) (sym (here_after w turn))
-            (subst (λ (x : Node). IsIn (record { number = now.order.last; files = live; table = now.table }) (standing_of x ++ (w turn.who).reached)) (sym at) (here_now now live (w turn.who).reached e))
+        here : (now : Node) → (result node turn.step).now ≡ now → now.files ≡ Some live → IsIn (standing_at now live) (after turn.who).reached
+        here now at e = subst (λ (r : NodeReplica). IsIn (standing_at now live) r.reached) (sym (here_after w turn))
+            (subst (λ (x : Node). IsIn (standing_at now live) (standing_of x ++ (w turn.who).reached)) (sym at) (here_now now live (w turn.who).reached e))
 
         ahead : is_ahead node certificate.number ≡ true → max node.order.last certificate.number ≡ certificate.number
         ahead e = elim (or_cases (nat_lt node.order.last certificate.number) ((certificate.number == node.order.last) && not (is_some node.files)) e) [
@@ -306,11 +252,9 @@ module _ (meet : QuorumsMeet) (stable : CertificatesMakeStable) (start : Beginni
         ]
 
         go : (b : Bool) → (may_adopt node certificate && right) ≡ b
-            → ((now : Node) → (result node turn.step).now ≡ now → now.files ≡ Some live → IsIn (record { number = now.order.last; files = live; table = now.table }) (after turn.who).reached)
-            → (cond b (still (adopted node certificate files table)) (still node)).now.files ≡ Some live
-            → Comes after (cond b (still (adopted node certificate files table)) (still node)).now.order.last live (cond b (still (adopted node certificate files table)) (still node)).now.table
-        go false e at live_is = stays node live (record { files = refl; table = refl; last = refl }) live_is
-        go true e at live_is =
+            → (cond b (still (adopted node certificate files table)) (still node)).now.files ≡ Some live → IsReached after (standing_at (cond b (still (adopted node certificate files table)) (still node)).now live)
+        go false e live_is = stays node live (refl, refl, refl) live_is
+        go true e live_is =
             let both = and_parts (may_adopt node certificate) right e in
             let may = and_parts (is_shown node.keys node.order.f certificate) (is_ahead node certificate.number) both.0 in
             let proved = subst (λ (g : ℕ). is_shown node.keys g certificate ≡ true) same_f may.0 in
@@ -320,31 +264,27 @@ module _ (meet : QuorumsMeet) (stable : CertificatesMakeStable) (start : Beginni
             let digest : node_digest live table ≡ certificate.digest = ap (λ (x : FileSystem). node_digest x table) (sym same) ∙ (bytes_eq-Decides (node_digest files table) certificate.digest).0 both.1 in
             let now_is : (result node turn.step).now ≡ adopted node certificate files table =
             ap (λ (step : NodeStep). (result node step).now) is ∙ ap (λ (b : Bool). (cond b (still (adopted node certificate files table)) (still node)).now) e in
-            let mine = at (adopted node certificate files table) now_is live_is in
+            let mine = here (adopted node certificate files table) now_is live_is in
             let there = reached_on w turn vouch.who vouch.standing vouch.reached in
-            let one = apart turn.who vouch.who (record { number = max node.order.last certificate.number; files = live; table = table }) vouch.standing correct vouch.correct mine there
+            let one = apart turn.who vouch.who (standing_at (adopted node certificate files table) live) vouch.standing correct vouch.correct mine there
             (last ∙ sym vouch.number) (digest ∙ sym vouch.digest) in
-            let was = grown vouch.standing.number vouch.standing.files vouch.standing.table (known_of.comes vouch.who vouch.standing vouch.correct vouch.reached) in
-            subst (λ (n : ℕ). Comes after n live table) (vouch.number ∙ sym last)
-            (subst (λ (x : FileSystem). Comes after vouch.standing.number x table) (sym one.0) (subst (λ (t : Table). Comes after vouch.standing.number vouch.standing.files t) (sym one.1) was))
+            let was = grown vouch.standing (known_of.comes vouch.who vouch.standing vouch.correct vouch.reached) in
+            let reached = λ (n : ℕ) (x : FileSystem) (t : Table). ComesOfBatches start faulty after n x t in
+            subst (λ (n : ℕ). reached n live table) (vouch.number ∙ sym last)
+            (subst (λ (x : FileSystem). reached vouch.standing.number x table) (sym one.0) (subst (λ (t : Table). reached vouch.standing.number vouch.standing.files t) (sym one.1) was))
 
     -- where it stands after the step
-    pub new_state : (step : NodeStep) → turn.step ≡ step → StandsBy node step → ComesAuthentic faulty w node.keys step → (files : FileSystem) → (result node step).now.files ≡ Some files
-        → Comes after (result node step).now.order.last files (result node step).now.table
-    new_state (Delivers bytes) is still comes files live = stays (result node (Delivers bytes)).now files still live
-    new_state (Takes signed) is still comes files live = stays (result node (Takes signed)).now files still live
-    new_state (TakesRequests messages) is still comes files live = stays (result node (TakesRequests messages)).now files still live
-    new_state (Proposes time) is still comes files live = stays (result node (Proposes time)).now files still live
+    pub new_state : (step : NodeStep) → turn.step ≡ step → StandsBy node step → Comes (IsAuthentic faulty w node.keys) step → (files : FileSystem) → (result node step).now.files ≡ Some files
+        → IsReached after (standing_at (result node step).now files)
     new_state Executes is still comes files live = executes is files live
     new_state Fails is still comes files live = absurd cc
-    new_state Checkpoints is still comes files live = stays (result node Checkpoints).now files still live
-    new_state TimesOut is still comes files live = stays (result node TimesOut).now files still live
     new_state (Adopts certificate state table) is still comes files live = adopts certificate state table is comes files live
+    new_state step is still comes files live = stays (result node step).now files still live
 
   -- All of it stays so ------------------------------------------------------------------------------------------------------------
 
   pub states_on : (w : NodeReplicas) (turn : NodeTurn) → StatesKnown start faulty w → (w turn.who).node.order.f ≡ f → AllIn (λ (m : Signed OrderMessage). IsWhole m.message) (w turn.who).node.order.log
-      → ComesAuthentic faulty w (w turn.who).node.keys turn.step → StandsBy (w turn.who).node turn.step
+      → Comes (IsAuthentic faulty w (w turn.who).node.keys) turn.step → StandsBy (w turn.who).node turn.step
       → ((s : Signed Message) → IsIn s (result (w turn.who).node turn.step).sent → Tells (w turn.who).node s.message)
       → StatesDontCollide faulty (after_node_turn w turn) → StatesKnown start faulty (after_node_turn w turn)
   states_on w turn known_of same_f whole authentic stands tells apart =
@@ -356,27 +296,22 @@ module _ (meet : QuorumsMeet) (stable : CertificatesMakeStable) (start : Beginni
       record {
         whole = both_at w turn (λ i r. AllIn (λ (m : Signed OrderMessage). IsWhole m.message) r.executed)
             (both_in (λ (m : Signed OrderMessage). IsWhole m.message) (executed_by node turn.step) (w who).executed (λ m i. whole m (executed_in node turn.step m i)) (known_of.whole who)) known_of.whole;
-        comes = both_at w turn (λ i r. (s : Standing) → faulty i ≡ false → IsIn s r.reached → Comes (after_node_turn w turn) s.number s.files s.table)
+        comes = both_at w turn (λ i r. (s : Standing) → faulty i ≡ false → IsIn s r.reached → IsReached (after_node_turn w turn) s)
             (λ s correct i. elim (either_in (standing_of now) (w who).reached s i) [
               | inl j ↦
                   let at = there_is now s j in
-                  let new = new_state w turn known_of correct same_f authentic apart turn.step refl stands authentic s.files at.live in
-                  subst (λ (n : ℕ). Comes (after_node_turn w turn) n s.files s.table) (sym at.number) (subst (λ (t : Table). Comes (after_node_turn w turn) now.order.last s.files t) (sym at.table) new)
+                  subst (IsReached (after_node_turn w turn)) (sym at.2) (new_state w turn known_of correct same_f authentic apart turn.step refl stands authentic at.0 at.1)
               | inr j ↦ on s.number s.files s.table (known_of.comes who s correct j)
             ])
             (λ i s correct j. on s.number s.files s.table (known_of.comes i s correct j));
-        here = both_at w turn (λ i r. (files : FileSystem) → r.node.files ≡ Some files → IsIn (record { number = r.node.order.last; files = files; table = r.node.table }) r.reached)
+        here = both_at w turn (λ i r. (files : FileSystem) → r.node.files ≡ Some files → IsIn (standing_at r.node files) r.reached)
             (λ files e. here_now now files (w who).reached e) known_of.here;
         told = both_at w turn (λ i r. (s : Signed Message) (c : model.Checkpoint) → IsIn s r.sent → s.message ≡ Order (Checkpoint c) → WasThere r c)
             (λ s c i e. elim (either_in sent (w who).sent s i) [
               | inl j ↦
                   let own = tells s j c e in
-                  record {
-                    standing = record { number = node.order.last; files = own.files; table = node.table };
-                    reached = right_in (standing_of now) (w who).reached (record { number = node.order.last; files = own.files; table = node.table }) (known_of.here who own.files own.live);
-                    number = sym own.number;
-                    digest = sym own.digest;
-                  }
+                  let standing = standing_at node own.0 in
+                  record { standing = standing; reached = right_in (standing_of now) (w who).reached standing (known_of.here who own.0 own.1); number = sym own.2; digest = sym own.3 }
               | inr j ↦
                   let was = known_of.told who s c j e in
                   record { standing = was.standing; reached = right_in (standing_of now) (w who).reached was.standing was.reached; number = was.number; digest = was.digest }

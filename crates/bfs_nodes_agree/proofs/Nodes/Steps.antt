@@ -2,7 +2,7 @@
 use Rattle.std.proofs.Common.{◌≡◌, ℕ, ◌%◌, ◌==◌, Bool, true, false, cond, ◌&&◌, ◌||◌, not, List, [], ◌∷◌, ◌++◌, Option, Some, None, option_map, refl, sym, ap, ap₂, subst, ◌∙◌, arith}
 use Rattle.std.specs.Prelude.{max, nat_lt, nat_le, bytes_eq}
 use Rattle.std.proofs.lemmas.Bool.{and_parts, or_parts, and_from, ltb-false, le-leb}
-use Rattle.bfs_model.specs.Server.Tree.{FileSystem, Time}
+use Rattle.bfs_model.specs.Server.Tree.{FileSystem}
 use Rattle.bfs_auth.specs.Keys.{Keys}
 use Rattle.bfs_checkpoints.specs.Snapshots.{snapshot_of}
 use Rattle.bfs_checkpoints.specs.Texts.{node_digest}
@@ -39,7 +39,7 @@ use Rattle.bfs_nodes_agree.specs.Views.Replicas.{ViewDeed, ordered_deed}
 use Rattle.bfs_node.specs.Adopting.{adopted, is_ahead, may_adopt}
 use Rattle.bfs_node.specs.Changing.{begun, begun_if_due, change_refusal, entering_refusal, first_of, leads, may_begin, next_view, own_change, own_new_view, timed_out, timeout_refusal, view_refusal, with_new_view, with_view_change}
 use Rattle.bfs_node.specs.Checkpoints.{checkpoint_refusal, checkpointed, told_refusal}
-use Rattle.bfs_node.specs.Delivering.{after_requests, bytes_delivered, bytes_refusal, message_delivered, message_refusal, ordered as taken, request_refusal, with_request}
+use Rattle.bfs_node.specs.Delivering.{after_requests, bytes_delivered, bytes_refusal, message_delivered, message_refusal, ordered as taken, request_refusal, with_request, after_request, if_taken, request_in}
 use Rattle.bfs_node.specs.Errors.{of_order, of_view}
 use Rattle.bfs_node.specs.Executing.{executed_on, is_next}
 use Rattle.bfs_node.specs.Nodes.{Messages, Node, Outcome}
@@ -49,7 +49,6 @@ use Rattle.bfs_node.specs.declared.error.NodeError.TheVariants as error
 use Rattle.bfs_nodes_agree.specs.Nodes.Steps.{NodeStep, Delivers, Takes, TakesRequests, Proposes, Executes, Fails, Checkpoints, TimesOut, Adopts, still, unless, or_still, after_execution, outcome, executed_by, where_taken, begun_deeds, change_deeds, message_deeds, bytes_deeds, checkpoint_deeds, timeout_deeds, deeds_of}
 use Rattle.bfs_nodes_agree.proofs.Nodes.Bounds.{IsBounded, left_bounded}
 use Rattle.bfs_nodes_agree.proofs.Nodes.Executing.{next_executes}
-use Rattle.bfs_nodes_agree.proofs.Nodes.Requests.{waits}
 use Rattle.bfs_model.specs.Server.Limits.{checkpoint_interval, most_number}
 
 abbrev pub after_deeds : ordered.OrderReplica → List ViewDeed → ordered.OrderReplica
@@ -91,47 +90,54 @@ enters node view changes handed e =
     one node.order (turns.ChangesView node.keys view changes handed) _
     (ap (λ (r : Option OrderError). (outcomes.unless r node.order (views.entered node.keys node.order view (choice (messages_of changes)).min_s handed)).now) e)
 
-may_enter : (b : Bool) → b ≡ true → cond (not b) (Some WrongView) None ≡ None
-may_enter true e = refl
-may_enter false e = absurd cc
-
 -- the view that it begins is open
 pub begins_open : (node : Node) → IsBounded node.order → may_begin node ≡ true → views.entering_refusal node.order node.order.asked ≡ None
 begins_open node bounded e =
     let asked = node.order.asked in
     let above = (and_parts (nat_lt node.order.view asked) _ e).0 in
     let fits = and_from (nat_le asked asked) (nat_le asked most_number) (le-leb asked asked (omega (arith))) bounded in
-    may_enter _ (and_from (nat_lt node.order.view asked) _ above fits)
+    ap (λ (b : Bool). cond (not b) (Some WrongView) None) (and_from (nat_lt node.order.view asked) _ above fits)
 
 begins : (node : Node) → IsBounded node.order → Lead node.order (begun_deeds node) (begun_if_due node).now.order []
-begins node bounded = go (may_begin node) refl
-  where
-    asked : ℕ
-    asked = node.order.asked
-
-    go : (b : Bool) → may_begin node ≡ b
-        → Lead node.order (cond b (turns.ChangesView node.keys asked (changes_for asked node.changes) (own_new_view node).proposals ∷ []) []) (cond b (begun node) (still node)).now.order []
-    go true e = enters node asked (changes_for asked node.changes) (own_new_view node).proposals (begins_open node bounded e)
-    go false e = nothing node.order
+begins node bounded =
+    let asked = node.order.asked in
+    let changes = changes_for asked node.changes in
+    let handed = (own_new_view node).proposals in
+    (elim (may_begin node) as (λ b. may_begin node ≡ b → Lead node.order (cond b (turns.ChangesView node.keys asked changes handed ∷ []) []) (cond b (begun node) (still node)).now.order []) [
+      | true ↦ λ e. enters node asked changes handed (begins_open node bounded e)
+      | false ↦ λ e. nothing node.order
+    ]) refl
 
 change_comes : (node : Node) (s : Signed model.ViewChange) → IsBounded node.order → Lead node.order (change_deeds node s) (with_view_change node s).now.order []
-change_comes node s bounded = go (leads node s.message.view)
-  where
-    there : Node
-    there = record node { changes = with_change node.changes s }
+change_comes node s bounded =
+    let there = record node { changes = with_change node.changes s } in
+    let noted = record node { changes = with_asked node.changes s.message } in
+    elim (leads node s.message.view) as (λ b. Lead node.order (cond b (begun_deeds there) []) (cond b (begun_if_due there) (still noted)).now.order []) [ true ↦ begins there bounded | false ↦ nothing node.order ]
 
-    go : (b : Bool) → Lead node.order (cond b (begun_deeds there) []) (cond b (begun_if_due there) (record { now = record node { changes = with_asked node.changes s.message }; sent = [] })).now.order []
-    go true = begins there bounded
-    go false = nothing node.order
+-- Requests ----------------------------------------------------------------------------------------------------------------
+
+-- it is the node with other requests that wait
+abbrev pub WaitsOn : (node now : Node) → Type 0
+WaitsOn node now = (pending : List (Signed model.Request)) × (now ≡ record node { pending = pending })
+
+waits_once : (node : Node) (signed : Signed Message) (message : Message) → WaitsOn node (after_request node signed message)
+waits_once node signed (Request request) =
+    let now = (with_request node (request_in signed request)).now in
+    elim (request_refusal node (request_in signed request)) as (λ r. WaitsOn node (if_taken r now node)) [ None ↦ (now.pending, refl) | Some refused ↦ (node.pending, refl) ]
+waits_once node signed other = (node.pending, refl)
+
+pub waits : (node : Node) (messages : Messages) → WaitsOn node (after_requests node messages)
+waits node [] = (node.pending, refl)
+waits node (signed ∷ rest) =
+    let first = waits_once node signed signed.message in
+    let more = waits (record node { pending = first.0 }) rest in
+    (more.0, ap (λ (n : Node). after_requests n rest) first.1 ∙ more.1)
 
 -- Calls -------------------------------------------------------------------------------------------------------------------
 
-takes : (node : Node) (m : Signed OrderMessage) → Lead node.order (turns.Orders (order.Takes node.keys m) ∷ []) (unless (option_map of_order (refusal node.keys node.order m)) node (taken node m)).now.order []
-takes node m = one node.order (turns.Orders (order.Takes node.keys m)) _ (go (refusal node.keys node.order m))
-  where
-    go : (r : Option OrderError) → (outcomes.unless r node.order (accepted node.keys node.order m)).now ≡ (unless (option_map of_order r) node (taken node m)).now.order
-    go None = refl
-    go (Some refused) = refl
+-- a call of its order is refused where its own is
+refused_alike : (node : Node) (r : Option OrderError) (done : outcomes.Outcome) (out : Outcome) → done.now ≡ out.now.order → (outcomes.unless r node.order done).now ≡ (unless (option_map of_order r) node out).now.order
+refused_alike node r done out same = elim r as (λ r. (outcomes.unless r node.order done).now ≡ (unless (option_map of_order r) node out).now.order) [ None ↦ same | Some refused ↦ refl ]
 
 pub not_second : (first second : Option NodeError) → first_of first second ≡ None → second ≡ None
 not_second None second e = e
@@ -140,44 +146,30 @@ not_second (Some refused) second e = absurd cc
 message_comes : (node : Node) (m : Message) (auth : List (List ℕ)) → IsBounded node.order
     → Lead node.order (message_deeds node (record { message = m; auth = auth }) m)
     (unless (message_refusal node (record { message = m; auth = auth }) m) node (message_delivered node (record { message = m; auth = auth }) m)).now.order []
-message_comes node (Request request) auth bounded = go (request_refusal node (record { message = request; auth = auth }))
-  where
-    go : (r : Option NodeError) → Lead node.order [] (unless r node (with_request node (record { message = request; auth = auth }))).now.order []
-    go None = nothing node.order
-    go (Some refused) = nothing node.order
-message_comes node (Order m) auth bounded = takes node (record { message = m; auth = auth })
-message_comes node (ViewChange change) auth bounded = go (change_refusal node s)
-  where
-    s : Signed model.ViewChange
-    s = record { message = change; auth = auth }
-
-    go : (r : Option NodeError) → Lead node.order (where_taken r (change_deeds node s)) (unless r node (with_view_change node s)).now.order []
-    go None = change_comes node s bounded
-    go (Some refused) = nothing node.order
-message_comes node (NewView new) auth bounded = go (view_refusal node s) refl
-  where
-    s : Signed model.NewView
-    s = record { message = new; auth = auth }
-
-    go : (r : Option NodeError) → view_refusal node s ≡ r
-        → Lead node.order (where_taken r (turns.ChangesView node.keys new.view new.changes new.proposals ∷ [])) (unless r node (with_new_view node s)).now.order []
-    go None e = enters node new.view new.changes new.proposals (not_refused _ (not_second (option_map of_view (new_view_refusal node.keys s)) (entering_refusal node new) e))
-    go (Some refused) e = nothing node.order
+message_comes node (Request request) auth bounded =
+    let out = with_request node (record { message = request; auth = auth }) in
+    elim (request_refusal node (record { message = request; auth = auth })) as (λ r. Lead node.order [] (unless r node out).now.order []) [ None ↦ nothing node.order | Some refused ↦ nothing node.order ]
+message_comes node (Order message) auth bounded =
+    let m : Signed OrderMessage = record { message = message; auth = auth } in
+    one node.order (turns.Orders (order.Takes node.keys m)) _ (refused_alike node (refusal node.keys node.order m) (accepted node.keys node.order m) (taken node m) refl)
+message_comes node (ViewChange change) auth bounded =
+    let s : Signed model.ViewChange = record { message = change; auth = auth } in
+    elim (change_refusal node s) as (λ r. Lead node.order (where_taken r (change_deeds node s)) (unless r node (with_view_change node s)).now.order []) [
+      | None ↦ change_comes node s bounded
+      | Some refused ↦ nothing node.order
+    ]
+message_comes node (NewView new) auth bounded =
+    let s : Signed model.NewView = record { message = new; auth = auth } in
+    (elim (view_refusal node s) as
+    (λ r. view_refusal node s ≡ r → Lead node.order (where_taken r (turns.ChangesView node.keys new.view new.changes new.proposals ∷ [])) (unless r node (with_new_view node s)).now.order []) [
+      | None ↦ λ e. enters node new.view new.changes new.proposals (not_refused _ (not_second (option_map of_view (new_view_refusal node.keys s)) (entering_refusal node new) e))
+      | Some refused ↦ λ e. nothing node.order
+    ]) refl
 message_comes node (Reply reply) auth bounded = nothing node.order
 
 bytes_come : (node : Node) (o : Option (Signed Message)) → IsBounded node.order → Lead node.order (bytes_deeds node o) (unless (bytes_refusal node o) node (bytes_delivered node o)).now.order []
 bytes_come node None bounded = nothing node.order
 bytes_come node (Some m) bounded = message_comes node m.message m.auth bounded
-
-requests_come : (node : Node) (messages : Messages) → Lead node.order [] (after_requests node messages).order []
-requests_come node messages = subst (λ (s : State). Lead node.order [] s []) (sym (ap (λ (n : Node). n.order) (waits node messages).1)) (nothing node.order)
-
-proposes : (node : Node) (time : Time) → Lead node.order (deeds_of node (Proposes time)) (outcome node (Proposes time)).now.order []
-proposes node time = one node.order (turns.Orders (order.Proposes node.keys (pending_batch node time))) _ (go (proposing.proposal_refusal node.order))
-  where
-    go : (r : Option OrderError) → (outcomes.unless r node.order (proposing.proposed node.keys node.order (pending_batch node time))).now ≡ (unless (option_map of_order r) node (proposed node time)).now.order
-    go None = refl
-    go (Some refused) = refl
 
 executes : (node : Node) → Lead node.order (deeds_of node Executes) (outcome node Executes).now.order (executed_by node Executes)
 executes node = go node.files (next_committed node.order) refl
@@ -193,13 +185,12 @@ executes node = go node.files (next_committed node.order) refl
     go (Some files) (Some next) e = one node.order (turns.Orders order.Executes) _ (next_executes node.order next e)
 
 -- a CHECKPOINT that it may tell its order takes
-pub may_tell : (node : Node) → checkpoint_refusal node ≡ None → checkpoints.checkpoint_refusal node.order node.order.last ≡ None
+may_tell : (node : Node) → checkpoint_refusal node ≡ None → checkpoints.checkpoint_refusal node.order node.order.last ≡ None
 may_tell node = past ((node.order.last % checkpoint_interval) == 0) (checkpoints.checkpoint_refusal node.order node.order.last)
   where
     past : (b : Bool) (r : Option OrderError) → cond (not b) (Some error.OutsideMarks) (told_refusal node r) ≡ None → r ≡ None
     past true None h = refl
-    past true (Some refused) h = absurd cc
-    past false r h = absurd cc
+    past b r h = absurd cc
 
 tells : (node : Node) → Lead node.order (deeds_of node Checkpoints) (outcome node Checkpoints).now.order []
 tells node = go (checkpoint_refusal node) refl node.files
@@ -213,21 +204,17 @@ tells node = go (checkpoint_refusal node) refl node.files
         (ap (λ (r : Option OrderError). (outcomes.unless r node.order (checkpoints.checkpointed node.keys node.order node.order.last (snapshot_of files node.table).digest)).now) (may_tell node e))
 
 times_out : (node : Node) → Lead node.order (deeds_of node TimesOut) (outcome node TimesOut).now.order []
-times_out node = go (timeout_refusal node) refl
-  where
-    view : ℕ
-    view = next_view node.order
-
-    gone : Node
-    gone = record node { order = (views.left node.order view).now }
-
-    go : (r : Option NodeError) → timeout_refusal node ≡ r → Lead node.order (where_taken r (timeout_deeds node)) (unless r node (timed_out node)).now.order []
-    go (Some refused) e = nothing node.order
-    go None e =
-        let may = not_refused (views.leaving_refusal node.order view) e in
-        let left = one node.order (turns.TimesOut view) gone.order (ap (λ (r : Option OrderError). (outcomes.unless r node.order (views.left node.order view)).now) may) in
-        then node.order gone.order (timed_out node).now.order (turns.TimesOut view) (change_deeds gone (own_change node)) left
-        (change_comes gone (own_change node) (left_bounded node.order view may))
+times_out node =
+    let view = next_view node.order in
+    let gone = record node { order = (views.left node.order view).now } in
+    (elim (timeout_refusal node) as (λ r. timeout_refusal node ≡ r → Lead node.order (where_taken r (timeout_deeds node)) (unless r node (timed_out node)).now.order []) [
+      | Some refused ↦ λ e. nothing node.order
+      | None ↦ λ e.
+          let may = not_refused (views.leaving_refusal node.order view) e in
+          then node.order gone.order (timed_out node).now.order (turns.TimesOut view) (change_deeds gone (own_change node))
+          (one node.order (turns.TimesOut view) gone.order (ap (λ (r : Option OrderError). (outcomes.unless r node.order (views.left node.order view)).now) may))
+          (change_comes gone (own_change node) (left_bounded node.order view may))
+    ]) refl
 
 -- An adoption -------------------------------------------------------------------------------------------------------------
 
@@ -242,7 +229,7 @@ stays s certificate low last =
     ap₂ (λ (x y : ℕ). record s { low = x; last = y }) at_low at_last
     ∙ ap (λ (c : Bool). record s { low = max s.low n; last = max s.last n; log = cond c (certified s.log certificate) s.log }) (sym low)
 
-pub installs : (s : State) (keys : Keys) (certificate : StableCheckpoint) → is_shown keys s.f certificate ≡ true → (order.outcome s (order.Installs keys certificate)).now ≡ (installed s certificate).now
+installs : (s : State) (keys : Keys) (certificate : StableCheckpoint) → is_shown keys s.f certificate ≡ true → (order.outcome s (order.Installs keys certificate)).now ≡ (installed s certificate).now
 installs s keys certificate right = go (is_shown keys s.f certificate) (nat_lt s.low n || nat_lt s.last n) right refl
   where
     n : ℕ
@@ -256,24 +243,24 @@ installs s keys certificate right = go (is_shown keys s.f certificate) (nat_lt s
 
 adopts : (node : Node) (certificate : StableCheckpoint) (files : FileSystem) (table : Table)
     → Lead node.order (deeds_of node (Adopts certificate files table)) (outcome node (Adopts certificate files table)).now.order []
-adopts node certificate files table = go (may_adopt node certificate && right) refl
-  where
-    right : Bool
-    right = bytes_eq (node_digest files table) certificate.digest
-
-    go : (b : Bool) → (may_adopt node certificate && right) ≡ b
-        → Lead node.order (cond b (turns.Orders (order.Installs node.keys certificate) ∷ []) []) (cond b (still (adopted node certificate files table)) (still node)).now.order []
-    go true e =
-        let may = (and_parts (may_adopt node certificate) right e).0 in
-        let proved = (and_parts (is_shown node.keys node.order.f certificate) (is_ahead node certificate.number) may).0 in
-        one node.order (turns.Orders (order.Installs node.keys certificate)) _ (installs node.order node.keys certificate proved)
-    go false e = nothing node.order
+adopts node certificate files table =
+    let right = bytes_eq (node_digest files table) certificate.digest in
+    (elim (may_adopt node certificate && right) as
+    (λ b. (may_adopt node certificate && right) ≡ b → Lead node.order (cond b (turns.Orders (order.Installs node.keys certificate) ∷ []) []) (cond b (still (adopted node certificate files table)) (still node)).now.order []) [
+      | true ↦ λ e.
+          let may = (and_parts (may_adopt node certificate) right e).0 in
+          let proved = (and_parts (is_shown node.keys node.order.f certificate) (is_ahead node certificate.number) may).0 in
+          one node.order (turns.Orders (order.Installs node.keys certificate)) _ (installs node.order node.keys certificate proved)
+      | false ↦ λ e. nothing node.order
+    ]) refl
 
 pub step_leads : (node : Node) (step : NodeStep) → IsBounded node.order → Lead node.order (deeds_of node step) (outcome node step).now.order (executed_by node step)
 step_leads node (Delivers bytes) bounded = bytes_come node (message_of bytes) bounded
 step_leads node (Takes signed) bounded = message_comes node signed.message signed.auth bounded
-step_leads node (TakesRequests messages) bounded = requests_come node messages
-step_leads node (Proposes time) bounded = proposes node time
+step_leads node (TakesRequests messages) bounded = subst (λ (s : State). Lead node.order [] s []) (sym (ap (λ (n : Node). n.order) (waits node messages).1)) (nothing node.order)
+step_leads node (Proposes time) bounded =
+    let batch = pending_batch node time in
+    one node.order (turns.Orders (order.Proposes node.keys batch)) _ (refused_alike node (proposing.proposal_refusal node.order) (proposing.proposed node.keys node.order batch) (proposed node time) refl)
 step_leads node Executes bounded = executes node
 step_leads node Fails bounded = nothing node.order
 step_leads node Checkpoints bounded = tells node

@@ -1,12 +1,17 @@
 -- Whatever nodes do is what turns of their orders do, and these turns may be taken.
-use Rattle.std.proofs.Common.{◌≡◌, ℕ, zero, suc, ◌+◌, ◌==◌, Bool, true, false, cond, List, [], ◌∷◌, ◌++◌, None, length, map, replicate, inl, refl, sym, ap, subst, ◌∙◌, arith}
-use Rattle.std.proofs.lemmas.Bool.{eqb-true}
+use Rattle.std.proofs.Common.{◌≡◌, ℕ, ◌+◌, ◌<◌, ◌==◌, Bool, List, [], ◌∷◌, ◌++◌, None, map, inl, inr, refl, sym, ap, subst, ◌∙◌, arith}
+use Rattle.std.proofs.lemmas.Bool.{cond_both, eqb-true}
+use Rattle.std.proofs.lemmas.List.{length-replicate}
+use Rattle.bfs_auth.specs.declared.principals.Principal.TheVariants as principal
 use Rattle.bfs_votes.specs.Votes.{Told, replicas}
 use Rattle.bfs_log.specs.Certificates.{faults}
 use Rattle.bfs_log.specs.Headers.{header}
 use Rattle.bfs_log.specs.Logs.{Log, headers}
 use Rattle.bfs_codec.specs.Laws.{MessageWasWritten}
+use Rattle.bfs_messages.specs.Signing.{as_message}
 use Rattle.bfs_messages.specs.declared.signed.Signed.{Signed}
+use Rattle.bfs_messages.specs.declared.message.Message.{Message}
+use Rattle.bfs_messages.specs.declared.message.Message.TheVariants.{Order}
 use Rattle.bfs_messages.specs.declared.order_messages.OrderMessage.{OrderMessage}
 use Rattle.bfs_order.specs.Laws.Calls.{CallsKeepTheReplica, IsKept}
 use Rattle.bfs_order.specs.Laws.Logs.{HasNoLaterView}
@@ -15,20 +20,21 @@ use Rattle.bfs_agreement.specs.Histories.{IsIn, World}
 use Rattle.bfs_agreement.proofs.Public.{in_told}
 use Rattle.bfs_nodes_agree.specs.Orders.Replicas as ordered
 use Rattle.bfs_nodes_agree.specs.Orders.Replicas.{histories}
-use Rattle.bfs_nodes_agree.proofs.Orders.Lists.{AllIn, both_in, none_in}
+use Rattle.bfs_nodes_agree.proofs.Orders.Lists.{AllIn, both_in, left_in, none_in, right_in}
 use Rattle.bfs_nodes_agree.proofs.Orders.Logs.{IsOwn}
 use Rattle.bfs_nodes_agree.specs.Views.Replicas as turns
-use Rattle.bfs_nodes_agree.specs.Views.Replicas.{ViewDeed, ViewTurn, ordered_turn}
+use Rattle.bfs_nodes_agree.specs.Views.Replicas.{ViewTurn, ordered_turn}
 use Rattle.bfs_nodes_agree.proofs.Views.Lists.{in_map}
 use Rattle.bfs_nodes_agree.specs.Nodes.Laws.{Tracks, StepsAreTurns}
-use Rattle.bfs_nodes_agree.specs.Nodes.Premises.{AreAuthentic, AreShared, ComesAuthentic}
+use Rattle.bfs_nodes_agree.specs.Nodes.Premises.{AreAuthentic, AreShared, Comes, IsAuthentic}
 use Rattle.bfs_nodes_agree.specs.Nodes.Replicas.{Beginning, Keyring, NodeReplica, NodeReplicas, NodeTurn, after_node_step, after_node_turn, after_node_turns, new_node_replicas, turn_of, ordered_turns}
 use Rattle.bfs_nodes_agree.specs.Nodes.Steps.{NodeStep, deeds_of, executed_by, outcome}
 use Rattle.bfs_nodes_agree.proofs.Nodes.Bounds.{IsBounded, kept}
-use Rattle.bfs_nodes_agree.proofs.Nodes.Doing.{at_who, deeds_keep, elsewhere, extends_deeds, stays_itself, stays_kept, BringAll}
-use Rattle.bfs_nodes_agree.proofs.Nodes.Hearing.{IsHeard, IsSpoken, grown, heard_on, spoken_on}
-use Rattle.bfs_nodes_agree.proofs.Nodes.Keeping.{AreGoodFrom, AreKept, kept_on}
-use Rattle.bfs_nodes_agree.proofs.Nodes.Right.{Stands, step_done}
+use Rattle.bfs_nodes_agree.proofs.Nodes.Doing.{BringAll, Done, Stands, StandsBy, at_who, deeds_keep, elsewhere, extends_deeds, own_said, stays_kept}
+use Rattle.bfs_nodes_agree.proofs.Nodes.Hearing.{AreGrown, HaveGrown, IsGood, IsHeard, IsSpoken, IsWhollySaid, change_on, grown, heard_on, said_later, spoken_on}
+use Rattle.bfs_nodes_agree.proofs.Nodes.Keeping.{AreKept, good_on, none_kept}
+use Rattle.bfs_nodes_agree.proofs.Nodes.Right.{step_done}
+use Rattle.bfs_nodes_agree.proofs.Nodes.States.{both_at, here_after}
 use Rattle.bfs_nodes_agree.proofs.Nodes.Steps.{after_deeds, step_leads}
 
 -- Steps are turns ---------------------------------------------------------------------------------------------------------------
@@ -53,20 +59,14 @@ goes_here r o step before =
 at_each : (P : ℕ → NodeReplica → ordered.OrderReplica → Type 0) (turn : NodeTurn) (w : NodeReplicas) (v : ordered.OrderReplicas)
     → P turn.who (after_node_step (w turn.who) turn.step) (after_deeds (v turn.who) (deeds_of (w turn.who).node turn.step)) → ((i : ℕ) → P i (w i) (v i))
     → (i : ℕ) → P i (after_node_turn w turn i) (turns.after_view_turns v (map (turn_of turn.who) (deeds_of (w turn.who).node turn.step)) i)
-at_each P turn w v here all i = go (i == turn.who) refl
-  where
-    who : ℕ
-    who = turn.who
-
-    deeds : List ViewDeed
-    deeds = deeds_of (w who).node turn.step
-
-    next : NodeReplica
-    next = after_node_step (w who) turn.step
-
-    go : (b : Bool) → (i == who) ≡ b → P i (cond b next (w i)) (turns.after_view_turns v (map (turn_of who) deeds) i)
-    go true e = subst (λ (k : ℕ). P k next (turns.after_view_turns v (map (turn_of who) deeds) k)) (sym (eqb-true i who e)) (subst (λ (o : ordered.OrderReplica). P who next o) (sym (at_who deeds v who)) here)
-    go false e = subst (λ (o : ordered.OrderReplica). P i (w i) o) (sym (elsewhere deeds v who i e)) (all i)
+at_each P turn w v here all i =
+    let who = turn.who in
+    let deeds = deeds_of (w who).node turn.step in
+    let next = after_node_step (w who) turn.step in
+    let list = map (turn_of who) deeds in
+    cond_both (i == who) next (w i) (λ (r : NodeReplica). P i r (turns.after_view_turns v list i))
+    (λ e. subst (λ (k : ℕ). P k next (turns.after_view_turns v list k)) (sym (eqb-true i who e)) (subst (λ (o : ordered.OrderReplica). P who next o) (sym (at_who deeds v who)) here))
+    (λ e. subst (λ (o : ordered.OrderReplica). P i (w i) o) (sym (elsewhere deeds v who i e)) (all i))
 
 go_on : (steps : List NodeTurn) (w : NodeReplicas) (v : ordered.OrderReplicas) → ((i : ℕ) → Goes (w i) (v i))
     → (i : ℕ) → Goes (after_node_turns w steps i) (turns.after_view_turns v (ordered_turns w steps) i)
@@ -82,58 +82,78 @@ steps_are_turns f keys start steps i =
 
 -- They may be taken ---------------------------------------------------------------------------------------------------------------
 
-pub record Right (f : ℕ) (faulty : ℕ → Bool) (h : World) (i : ℕ) (r : NodeReplica) (o : ordered.OrderReplica) : Type 0 where
+pub record Right (f : ℕ) (faulty : ℕ → Bool) (h : World) (w : NodeReplicas) (i : ℕ) (r : NodeReplica) (o : ordered.OrderReplica) : Type 0 where
   pub tracks : Tracks r o
   pub bounded : IsBounded o.state
   pub same_f : r.node.order.f ≡ f
   pub fit : faults r.node.keys ≡ r.node.order.f
   pub me : r.node.order.me ≡ i
   pub later : HasNoLaterView o.state
-  pub log : AllIn (IsHeard faulty h) r.node.order.log
-  pub kept : AreKept faulty r.node.order.f h r.node.changes
+  pub log : AllIn (IsHeard faulty h w) r.node.order.log
+  pub kept : AreKept (IsGood faulty r.node.order.f h w) r.node.order.f r.node.changes
   pub spoken : AllIn (IsSpoken o) r.sent
+  pub said : AllIn (IsWhollySaid faulty w) r.sent
+  -- what its order has sent, but for COMMITs
+  pub votes : (m : Signed OrderMessage) → IsIn m o.sent → (header m).tag < 4 → IsIn (as_message Order m) r.sent
 
 abbrev pub AreRight : (f : ℕ) (faulty : ℕ → Bool) → NodeReplicas → ordered.OrderReplicas → Type 0
-AreRight f faulty w v = (i : ℕ) → Right f faulty (histories v) i (w i) (v i)
+AreRight f faulty w v = (i : ℕ) → Right f faulty (histories v) w i (w i) (v i)
 
-pub stands_of : (f : ℕ) (faulty : ℕ → Bool) (w : NodeReplicas) (v : ordered.OrderReplicas) → AreRight f faulty w v → (who : ℕ) → Stands faulty w v who (w who).node
-stands_of f faulty w v all who =
-    let right = all who in
-    record {
-      at = right.tracks.state;
-      bounded = subst IsBounded right.tracks.state right.bounded;
-      fit = right.fit;
-      me = right.me;
-      later = subst HasNoLaterView right.tracks.state right.later;
-      log = right.log;
-      kept = right.kept;
-      spoken = λ k. (all k).spoken;
-    }
+sent_on : (w : NodeReplicas) (turn : NodeTurn) → HaveGrown w (after_node_turn w turn)
+sent_on w turn k s = both_at w turn (λ i r. IsIn s (w i).sent → IsIn s r.sent) (right_in (outcome (w turn.who).node turn.step).sent (w turn.who).sent s) (λ i j. j) k
+
+sent_here : (w : NodeReplicas) (turn : NodeTurn) (s : Signed Message) → IsIn s (outcome (w turn.who).node turn.step).sent → IsIn s (after_node_turn w turn turn.who).sent
+sent_here w turn s i = subst (λ (r : NodeReplica). IsIn s r.sent) (sym (here_after w turn)) (left_in (outcome (w turn.who).node turn.step).sent (w turn.who).sent s i)
+
+right_later : (f : ℕ) (faulty : ℕ → Bool) (h g : World) (w after : NodeReplicas) → AreGrown h g → HaveGrown w after → (i : ℕ) (r : NodeReplica) (o : ordered.OrderReplica) → Right f faulty h w i r o → Right f faulty g after i r o
+right_later f faulty h g w after on later i r o right =
+    let log : AllIn (IsHeard faulty g after) r.node.order.log = λ m j. heard_on faulty h g w after on later m (right.log m j) in
+    let said : AllIn (IsWhollySaid faulty after) r.sent = λ s j p of. said_later faulty w after later p.message (right.said s j p of) in
+    let good = good_on (IsGood faulty r.node.order.f h w) (IsGood faulty r.node.order.f g after) (change_on faulty r.node.order.f h g w after on later) 0 r.node.changes.changes right.kept.1 in
+    assumption (log, said, good)
+
+pub stands_of : (f : ℕ) (faulty : ℕ → Bool) (w : NodeReplicas) (v : ordered.OrderReplicas) → AreRight f faulty w v → (turn : NodeTurn) → Stands faulty (after_node_turn w turn) turn.who v (w turn.who).node
+stands_of f faulty w v all turn =
+    let h = histories v in
+    let right = right_later f faulty h h w (after_node_turn w turn) (grown [] v) (sent_on w turn) turn.who (w turn.who) (v turn.who) (all turn.who) in
+    assumption (right.tracks.state, subst IsBounded right.tracks.state right.bounded, subst HasNoLaterView right.tracks.state right.later)
 
 module _ (same : CallsKeepTheReplica) (views : IsKept HasNoLaterView) (written : MessageWasWritten) (f : ℕ) (faulty : ℕ → Bool) where
-  right_here : (w : NodeReplicas) (v : ordered.OrderReplicas) → AreRight f faulty w v → (turn : NodeTurn) → ComesAuthentic faulty w (w turn.who).node.keys turn.step
-      → Right f faulty (histories (turns.after_view_turns v (map (turn_of turn.who) (deeds_of (w turn.who).node turn.step)))) turn.who (after_node_step (w turn.who) turn.step)
+  pub step_right : (w : NodeReplicas) (v : ordered.OrderReplicas) (all : AreRight f faulty w v) (turn : NodeTurn) → Comes (IsAuthentic faulty w (w turn.who).node.keys) turn.step
+      → Done faulty (after_node_turn w turn) turn.who v (w turn.who).node (stands_of f faulty w v all turn) (StandsBy (w turn.who).node turn.step) (deeds_of (w turn.who).node turn.step) (outcome (w turn.who).node turn.step)
+  step_right w v all turn comes =
+      step_done faulty (after_node_turn w turn) turn.who w (sent_on w turn) v (λ k. (all k).spoken) (w turn.who).node (stands_of f faulty w v all turn) written turn.step comes (sent_here w turn)
+
+  right_here : (w : NodeReplicas) (v : ordered.OrderReplicas) → AreRight f faulty w v → (turn : NodeTurn) → Comes (IsAuthentic faulty w (w turn.who).node.keys) turn.step
+      → Right f faulty (histories (turns.after_view_turns v (map (turn_of turn.who) (deeds_of (w turn.who).node turn.step)))) (after_node_turn w turn) turn.who (after_node_step (w turn.who) turn.step)
       (after_deeds (v turn.who) (deeds_of (w turn.who).node turn.step))
   right_here w v all turn comes =
       let who = turn.who in
       let node = (w who).node in
       let right = all who in
       let at = right.tracks.state in
-      let know = stands_of f faulty w v all who in
       let deeds = deeds_of node turn.step in
-      let after = turns.after_view_turns v (map (turn_of who) deeds) in
-      let h = histories after in
+      let next = turns.after_view_turns v (map (turn_of who) deeds) in
+      let after = after_node_turn w turn in
+      let h = histories next in
       let o = after_deeds (v who) deeds in
+      let out = outcome node turn.step in
       let goes = goes_here (w who) (v who) turn.step (record { tracks = right.tracks; bounded = right.bounded }) in
-      let done = step_done faulty w v who node know written turn.step comes in
-      let itself = stays_itself same deeds (v who) in
+      let done = step_right w v all turn comes in
+      let itself = stays_kept (λ (s : State). (s.f ≡ (v who).state.f) × (s.me ≡ (v who).state.me)) (λ s call so. ((same s call).0 ∙ so.0, (same s call).1 ∙ so.1)) deeds (v who) (refl, refl) in
       let is = goes.tracks.state in
-      let f_is : (outcome node turn.step).now.order.f ≡ node.order.f = ap (λ (s : State). s.f) (sym is) ∙ itself.0 ∙ ap (λ (s : State). s.f) at in
-      let me_is : (outcome node turn.step).now.order.me ≡ node.order.me = ap (λ (s : State). s.me) (sym is) ∙ itself.1 ∙ ap (λ (s : State). s.me) at in
-      let heard : AllIn (IsHeard faulty h) (v who).state.log = λ m i. heard_on faulty (histories v) h (grown (map (turn_of who) deeds) v) m (right.log m (subst (λ (s : State). IsIn m s.log) at i)) in
-      let own : (m : Signed OrderMessage) → IsIn m o.sent → IsOwn who m → IsHeard faulty h m = λ m i is_own. record {
+      let f_is : out.now.order.f ≡ node.order.f = ap (λ (s : State). s.f) (sym is) ∙ itself.0 ∙ ap (λ (s : State). s.f) at in
+      let me_is : out.now.order.me ≡ node.order.me = ap (λ (s : State). s.me) (sym is) ∙ itself.1 ∙ ap (λ (s : State). s.me) at in
+      let heard : AllIn (IsHeard faulty h after) (v who).state.log =
+      λ m i. heard_on faulty (histories v) h w after (grown (map (turn_of who) deeds) v) (sent_on w turn) m (right.log m (subst (λ (s : State). IsIn m s.log) at i)) in
+      let given : (m : Signed OrderMessage) → IsIn m o.sent → (header m).tag < 4 → IsIn (as_message Order m) (after who).sent = λ m i small. elim (done.gives m i small) [
+        | inl j ↦ sent_on w turn who (as_message Order m) (right.votes m j small)
+        | inr j ↦ sent_here w turn (as_message Order m) j
+      ] in
+      let own : (m : Signed OrderMessage) → IsIn m o.sent → IsOwn who m → IsHeard faulty h after m = λ m i is_own. record {
         sent = λ small correct. inl (subst (λ (k : ℕ). Told (h k).sent (header m).tag (header m).sender (header m).view (header m).number (header m).digest) (sym is_own.sender)
-            (in_told (headers (after who).sent) (header m) (in_map header (after who).sent m (subst (λ (x : ordered.OrderReplica). IsIn m x.sent) (sym (at_who deeds v who)) i))));
+            (in_told (headers (next who).sent) (header m) (in_map header (next who).sent m (subst (λ (x : ordered.OrderReplica). IsIn m x.sent) (sym (at_who deeds v who)) i))));
+        said = λ small. own_said faulty after who (as_message Order m) (given m i small) (ap principal.Replica is_own.sender);
         whole = is_own.whole;
       } in
       record {
@@ -143,30 +163,22 @@ module _ (same : CallsKeepTheReplica) (views : IsKept HasNoLaterView) (written :
         fit = ap faults done.keys ∙ right.fit ∙ sym f_is;
         me = me_is ∙ right.me;
         later = stays_kept HasNoLaterView views.1 deeds (v who) right.later;
-        log = subst (λ (s : State). AllIn (IsHeard faulty h) s.log) is
-            (deeds_keep (IsHeard faulty h) same deeds (v who) who (ap (λ (s : State). s.me) at ∙ right.me) heard (subst (λ (s : State). BringAll (IsHeard faulty h) s deeds) (sym at) done.brings) own);
-        kept = subst (λ (f : ℕ). AreKept faulty f h (outcome node turn.step).now.changes) (sym f_is) done.kept;
-        spoken = both_in (IsSpoken o) (outcome node turn.step).sent (w who).sent done.spoken (λ s i. spoken_on (v who) o (extends_deeds deeds (v who)) s s.message (right.spoken s i));
+        log = subst (λ (s : State). AllIn (IsHeard faulty h after) s.log) is
+            (deeds_keep (IsHeard faulty h after) same deeds (v who) who (ap (λ (s : State). s.me) at ∙ right.me) heard (subst (λ (s : State). BringAll (IsHeard faulty h after) s deeds) (sym at) done.brings) own);
+        kept = subst (λ (f : ℕ). AreKept (IsGood faulty f h after) f out.now.changes) (sym f_is) done.kept;
+        spoken = both_in (IsSpoken o) out.sent (w who).sent (λ s i. (done.sends s i).0) (λ s i. spoken_on (v who) o (extends_deeds deeds (v who)) s s.message (right.spoken s i));
+        said = both_in (IsWhollySaid faulty after) out.sent (w who).sent (λ s i. (done.sends s i).2) (λ s i p of. said_later faulty w after (sent_on w turn) p.message (right.said s i p of));
+        votes = λ m i small. subst (λ (r : NodeReplica). IsIn (as_message Order m) r.sent) (here_after w turn) (given m i small);
       }
 
-  pub right_on : (w : NodeReplicas) (v : ordered.OrderReplicas) → AreRight f faulty w v → (turn : NodeTurn) → ComesAuthentic faulty w (w turn.who).node.keys turn.step
+  pub right_on : (w : NodeReplicas) (v : ordered.OrderReplicas) → AreRight f faulty w v → (turn : NodeTurn) → Comes (IsAuthentic faulty w (w turn.who).node.keys) turn.step
       → AreRight f faulty (after_node_turn w turn) (turns.after_view_turns v (map (turn_of turn.who) (deeds_of (w turn.who).node turn.step)))
   right_on w v all turn comes =
       let list = map (turn_of turn.who) (deeds_of (w turn.who).node turn.step) in
       let h = histories (turns.after_view_turns v list) in
-      at_each (λ i r o. Right f faulty h i r o) turn w v (right_here w v all turn comes) (λ i.
-      let right = all i in
-      record {
-        tracks = right.tracks;
-        bounded = right.bounded;
-        same_f = right.same_f;
-        fit = right.fit;
-        me = right.me;
-        later = right.later;
-        log = λ m j. heard_on faulty (histories v) h (grown list v) m (right.log m j);
-        kept = kept_on faulty (w i).node.order.f (histories v) h (grown list v) (w i).node.changes right.kept;
-        spoken = right.spoken;
-      })
+      let after = after_node_turn w turn in
+      at_each (λ i r o. Right f faulty h after i r o) turn w v (right_here w v all turn comes)
+      (λ i. right_later f faulty (histories v) h w after (grown list v) (sent_on w turn) i (w i) (v i) (all i))
 
   may_both : (xs ys : List ViewTurn) (v : ordered.OrderReplicas) → turns.MayTakeViewTurns faulty v xs → turns.MayTakeViewTurns faulty (turns.after_view_turns v xs) ys → turns.MayTakeViewTurns faulty v (xs ++ ys)
   may_both [] ys v a b = b
@@ -175,30 +187,25 @@ module _ (same : CallsKeepTheReplica) (views : IsKept HasNoLaterView) (written :
   pub may_be_taken : (steps : List NodeTurn) (w : NodeReplicas) (v : ordered.OrderReplicas) → AreRight f faulty w v → AreAuthentic faulty w steps → turns.MayTakeViewTurns faulty v (ordered_turns w steps)
   may_be_taken [] w v all comes = tt
   may_be_taken (turn ∷ steps) w v all comes =
-      let node = (w turn.who).node in
-      let list = map (turn_of turn.who) (deeds_of node turn.step) in
-      let done = step_done faulty w v turn.who node (stands_of f faulty w v all turn.who) written turn.step comes.0 in
-      may_both list (ordered_turns (after_node_turn w turn) steps) v done.may (may_be_taken steps (after_node_turn w turn) (turns.after_view_turns v list) (right_on w v all turn comes.0) comes.1)
+      let list = map (turn_of turn.who) (deeds_of (w turn.who).node turn.step) in
+      may_both list (ordered_turns (after_node_turn w turn) steps) v (step_right w v all turn comes.0).may
+      (may_be_taken steps (after_node_turn w turn) (turns.after_view_turns v list) (right_on w v all turn comes.0) comes.1)
 
-  -- at the beginning ----------------------------------------------------------------------------------------------------------------
-
-  none_kept : (h : World) (k n : ℕ) → AreGoodFrom faulty f h k (replicate n None)
-  none_kept h k zero = tt
-  none_kept h k (suc n) = (tt, none_kept h (k + 1) n)
-
-  places : {A : Type 0} (x : A) (n : ℕ) → length (replicate n x) ≡ n
-  places x zero = refl
-  places x (suc n) = ap (λ (m : ℕ). suc m) (places x n)
-
+  -- at the beginning
   pub new_right : (keys : Keyring) (start : Beginning) → AreShared f keys → AreRight f faulty (new_node_replicas f keys start) (ordered.new_order_replicas f)
-  new_right keys start shared i = record {
-    tracks = record { state = refl; executed = refl };
-    bounded = refl;
-    same_f = refl;
-    fit = omega (arith, shared i);
-    me = refl;
-    later = views.0 f i;
-    log = none_in (IsHeard faulty (histories (ordered.new_order_replicas f)));
-    kept = record { places = places None (replicas f); good = none_kept (histories (ordered.new_order_replicas f)) 0 (replicas f) };
-    spoken = none_in (IsSpoken (ordered.new_order_replicas f i));
-  }
+  new_right keys start shared i =
+      let w = new_node_replicas f keys start in
+      let h = histories (ordered.new_order_replicas f) in
+      record {
+        tracks = record { state = refl; executed = refl };
+        bounded = refl;
+        same_f = refl;
+        fit = omega (arith, shared i);
+        me = refl;
+        later = views.0 f i;
+        log = none_in (IsHeard faulty h w);
+        kept = (length-replicate (replicas f) None, none_kept (IsGood faulty f h w) 0 (replicas f));
+        spoken = none_in (IsSpoken (ordered.new_order_replicas f i));
+        said = none_in (IsWhollySaid faulty w);
+        votes = λ m j small. absurd j;
+      }

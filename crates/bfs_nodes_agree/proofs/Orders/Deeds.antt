@@ -1,7 +1,7 @@
 -- A proposal, an execution and a timeout are lists of moves.
-use Rattle.std.proofs.Common.{◌≡◌, ℕ, ◌+◌, ◌*◌, ◌<◌, ◌≤◌, ◌==◌, max, Bool, true, false, ◌&&◌, List, [], ◌∷◌, ◌++◌, Option, Some, None, inl, inr, refl, sym, ap, subst, ◌∙◌, arith}
+use Rattle.std.proofs.Common.{◌≡◌, ℕ, ◌+◌, ◌*◌, ◌<◌, ◌≤◌, ◌==◌, max, Bool, true, ◌&&◌, List, [], ◌∷◌, ◌++◌, Option, Some, None, inl, inr, refl, sym, ap, subst, ◌∙◌, arith}
 use Rattle.std.specs.Prelude.{nat_lt, nat_le}
-use Rattle.std.proofs.lemmas.Bool.{and_parts, and_from, or_cases, cond_both, cases_Bool, eq-eqb, eqb-true, ltb-true, leb-true, le-leb}
+use Rattle.std.proofs.lemmas.Bool.{and_parts, and_from, or_cases, cond_both, false_from_ne_true, eq-eqb, eqb-true, ltb-true, leb-true, le-leb}
 use Rattle.bfs_auth.specs.Keys.{Keys}
 use Rattle.bfs_votes.specs.Votes.{Header, is_slot, has_slot, told, Told, tellers, replicas, primary, prepared, committed}
 use Rattle.bfs_log.specs.Headers.{header}
@@ -9,7 +9,6 @@ use Rattle.bfs_log.specs.Logs.{Log, headers, greatest_proposed}
 use Rattle.bfs_messages.specs.Messages.{Batch}
 use Rattle.bfs_messages.specs.declared.signed.Signed.{Signed}
 use Rattle.bfs_messages.specs.declared.order_messages.OrderMessage.{OrderMessage}
-use Rattle.bfs_order.specs.declared.error.OrderError.{OrderError}
 use Rattle.bfs_order.specs.declared.error.OrderError.TheVariants.{WrongView, OutsideMarks, NotPrimary}
 use Rattle.bfs_order.specs.Replica.Answers.{commits_in}
 use Rattle.bfs_order.specs.Replica.Executing.{next_proposal, where_committed}
@@ -19,7 +18,7 @@ use Rattle.bfs_order.specs.Replica.States as order
 use Rattle.bfs_order.specs.Replica.States.{known, with_more, with_message}
 use Rattle.bfs_order.specs.Replica.Views.{leaving_refusal, left}
 use Rattle.bfs_order.specs.Laws.Calls.{execution}
-use Rattle.bfs_agreement.specs.Histories.{ViewChange, State, History, World, Executed}
+use Rattle.bfs_agreement.specs.Histories.{IsIn, ViewChange, State, History, World, Executed}
 use Rattle.bfs_agreement.specs.Moves.{Leaves, Executes, IsOpen, Proposes, MaySay, MayLeave, after_move}
 use Rattle.bfs_agreement.specs.Calls.{with_said, all_said}
 use Rattle.bfs_agreement.proofs.Public.{MaySayAll, Within, said_allowed, prepared_more}
@@ -28,7 +27,7 @@ use Rattle.bfs_nodes_agree.specs.Orders.Replicas.{OrderReplica, TellsWhatIsPrepa
 use Rattle.bfs_nodes_agree.proofs.Orders.Lists.{found}
 use Rattle.bfs_nodes_agree.proofs.Orders.Telling.{not_both, slot_is, slot_same, told_same}
 use Rattle.bfs_nodes_agree.proofs.Orders.Saying.{commits_may, after_said}
-use Rattle.bfs_nodes_agree.proofs.Orders.Results.{Result, passed, stays_so, stay_tracks, joined_now, tracks_answers, tracks_one, within, said_follows}
+use Rattle.bfs_nodes_agree.proofs.Orders.Results.{Result, either_way, passed, stays_so, stay_tracks, joined_now, tracks_answers, tracks_one, within, said_follows}
 use Rattle.bfs_model.specs.Server.Limits.{log_size, most_number}
 use Rattle.bfs_votes.proofs.Public.{more}
 
@@ -50,59 +49,39 @@ number_below v k n (h ∷ hs) e =
 
 pub proposes : (faulty : ℕ → Bool) (w : World) (r : OrderReplica) (keys : Keys) (batch : Batch) → Follows r (w r.state.me)
     → let out = unless (proposal_refusal r.state) r.state (proposed keys r.state batch) in Result faulty w r out.now out.sent [] [] []
-proposes faulty w r keys batch follows = go (proposal_refusal r.state) refl
-  where
-    s : order.State
-    s = r.state
-
-    p : History
-    p = w s.me
-
-    m : Signed OrderMessage
-    m = proposal keys s batch
-
-    h : Header
-    h = header m
-
-    n : ℕ
-    n = next_number s
-
-    vs : Log
-    vs = proposal_commits keys s batch
-
-    then : State
-    then = record p.now { log = h ∷ p.now.log }
-
-    last : State
-    last = record then { log = with_said (headers vs) then.log }
-
-    free : has_slot p.now.log 2 s.me s.view n ≡ false
-    free = elim (cases_Bool (has_slot p.now.log 2 s.me s.view n)) [
-      | inl e ↦ let le = number_below s.view s.me n (known s) (slot_same (known s) p.now.log follows.state.log 2 s.me s.view n (omega arith) ∙ e) in absurd (omega (arith, le))
-      | inr e ↦ e
-    ]
-
-    go : (o : Option OrderError) → proposal_refusal s ≡ o → Result faulty w r (unless o s (proposed keys s batch)).now (unless o s (proposed keys s batch)).sent [] [] []
-    go (Some e) is = stays_so faulty w r s follows follows.state
-    go None is =
-        let a = passed (leads s) NotPrimary _ is in
-        let b = passed (nat_le n (s.low + log_size) && nat_le n most_number) OutsideMarks None a.1 in
-        let led = and_parts (s.me == primary s.f s.view) (nat_le s.asked s.view) a.0 in
-        let high = leb-true n (s.low + 32) (and_parts (nat_le n (s.low + log_size)) (nat_le n most_number) b.0).0 in
-        let in_marks = within s p.now s.view n follows.state refl (leb-true s.asked s.view led.1) (omega arith) (omega arith) high in
-        let opened : IsOpen p.now h = record { view = in_marks.view; asked = in_marks.asked; low = in_marks.low; min_s = in_marks.min_s; high = in_marks.high; free = free } in
-        let over : p.now.handed < n = let e = follows.state.handed in omega (arith, e) in
-        let own : MaySay s.f s.me p.now h = record { opened = opened; own = refl; reason = Proposes refl (eqb-true s.me (primary s.f s.view) led.0) over } in
-        let still : Within then s.view n = record { view = in_marks.view; asked = in_marks.asked; low = in_marks.low; min_s = in_marks.min_s; high = in_marks.high } in
-        let one = tracks_one s p.now m follows.state refl in
-        let rest : MaySayAll s.f s.me then (headers vs) = cond_both (s.f == 0) (commits_in keys (with_message s m) s.view n (batch_digest batch)) [] (λ (l : Log). MaySayAll s.f s.me then (headers l))
-        (λ _. commits_may keys [] (with_message s m) then s.view n (batch_digest batch) (joined_now (with_message s m) then one) still)
-        (λ _. tt) in (
-          all_said (h ∷ headers vs),
-          said_allowed s.f faulty w s.me p.now (h ∷ headers vs) refl (own, rest),
-          subst (λ (q : History). Follows (record r { state = with_more (with_message s m) vs; sent = (m ∷ vs) ++ r.sent }) q) (sym (after_said s.f s.me p (h ∷ headers vs)))
-              (said_follows r p (with_more (with_message s m) vs) last (m ∷ vs) follows (tracks_answers (with_message s m) then vs one rest)),
-        )
+proposes faulty w r keys batch follows =
+    let s = r.state in
+    let p = w s.me in
+    let m = proposal keys s batch in
+    let h = header m in
+    let n = next_number s in
+    let vs = proposal_commits keys s batch in
+    let then : State = record p.now { log = h ∷ p.now.log } in
+    let last : State = record then { log = with_said (headers vs) then.log } in
+    either_way (λ out. Result faulty w r out.now out.sent [] [] []) (proposal_refusal s) s (proposed keys s batch)
+    (λ is.
+    let a = passed (leads s) NotPrimary _ is in
+    let b = passed (nat_le n (s.low + log_size) && nat_le n most_number) OutsideMarks None a.1 in
+    let led = and_parts (s.me == primary s.f s.view) (nat_le s.asked s.view) a.0 in
+    let high = leb-true n (s.low + 32) (and_parts (nat_le n (s.low + log_size)) (nat_le n most_number) b.0).0 in
+    let in_marks = within s p.now s.view n follows.state refl (leb-true s.asked s.view led.1) (omega arith) (omega arith) high in
+    let free = false_from_ne_true (has_slot p.now.log 2 s.me s.view n) (λ e.
+    let le = number_below s.view s.me n (known s) (slot_same (known s) p.now.log follows.state.log 2 s.me s.view n (omega arith) ∙ e) in
+    absurd (omega (arith, le))) in
+    let opened : IsOpen p.now h = assumption (in_marks, free) in
+    let over : p.now.handed < n = let e = follows.state.handed in omega (arith, e) in
+    let own : MaySay s.f s.me p.now h = record { opened = opened; own = refl; reason = Proposes refl (eqb-true s.me (primary s.f s.view) led.0) over } in
+    let still : Within then s.view n = assumption in_marks in
+    let one = tracks_one s p.now m follows.state refl in
+    let rest : MaySayAll s.f s.me then (headers vs) = cond_both (s.f == 0) (commits_in keys (with_message s m) s.view n (batch_digest batch)) [] (λ (l : Log). MaySayAll s.f s.me then (headers l))
+    (λ _. commits_may keys [] (with_message s m) then s.view n (batch_digest batch) (joined_now (with_message s m) then one) still)
+    (λ _. tt) in (
+      all_said (h ∷ headers vs),
+      said_allowed s.f faulty w s.me p.now (h ∷ headers vs) refl (own, rest),
+      subst (λ (q : History). Follows (record r { state = with_more (with_message s m) vs; sent = (m ∷ vs) ++ r.sent }) q) (sym (after_said s.f s.me p (h ∷ headers vs)))
+          (said_follows r p (with_more (with_message s m) vs) last (m ∷ vs) follows (tracks_answers (with_message s m) then vs one rest)),
+    ))
+    (stays_so faulty w r s follows follows.state)
 
 -- The next batch is executed ----------------------------------------------------------------------------------------------
 
@@ -122,84 +101,47 @@ committed_now s t tracks v n d e =
 
 pub executes : (faulty : ℕ → Bool) (w : World) (r : OrderReplica) → Follows r (w r.state.me)
     → let next = where_committed r.state (next_proposal r.state) in Result faulty w r (execution r.state next).now [] [] [] (message_in next)
-executes faulty w r follows = go (next_proposal r.state) refl
-  where
-    s : order.State
-    s = r.state
-
-    p : History
-    p = w s.me
-
-    runs : (m : Signed OrderMessage) → next_proposal s ≡ Some m → committed s.f s.me (known s) s.view (s.last + 1) (header m).digest ≡ true
-        → Result faulty w r (record s { last = s.last + 1 }) [] [] [] (m ∷ [])
-    runs m is ready =
-        let h = header m in
-        let k = primary s.f s.view in
-        let slot = slot_is 2 k s.view (s.last + 1) h (found (λ x. is_slot 2 k s.view (s.last + 1) (header x)) s.log m is).1 in
-        let there = committed_now s p.now follows.state s.view (s.last + 1) h.digest ready in
-        let at_view = subst (λ (v : ℕ). committed s.f s.me p.now.log v (s.last + 1) h.digest ≡ true) (sym slot.view) there in
-        let at_number = subst (λ (n : ℕ). committed s.f s.me p.now.log h.view n h.digest ≡ true) (sym slot.number) at_view in (
-          Executes h ∷ [],
-          (at_number, tt),
-          record {
-            state = stay_tracks s p.now s.low (s.last + 1) s.log follows.state refl follows.state.log;
-            sent = follows.sent;
-            offers = follows.offers;
-            changes = follows.changes;
-            executed = λ x i. elim i [
-              | inl e ↦ subst (λ (y : Signed OrderMessage). Executed (after_move s.f s.me p (Executes h)) (header y)) (sym e) (p.now.log, inl refl)
-              | inr j ↦ let old = follows.executed x j in (old.0, inr old.1)
-            ];
-          },
-        )
-
-    go : (o : Option (Signed OrderMessage)) → next_proposal s ≡ o → Result faulty w r (execution s (where_committed s o)).now [] [] [] (message_in (where_committed s o))
-    go None is = stays_so faulty w r s follows follows.state
-    go (Some m) is = cond_both (committed s.f s.me (known s) s.view (s.last + 1) (header m).digest) (Some m) None
-        (λ (o : Option (Signed OrderMessage)). Result faulty w r (execution s o).now [] [] [] (message_in o))
-        (λ ready. runs m is ready)
-        (λ _. stays_so faulty w r s follows follows.state)
+executes faulty w r follows =
+    let s = r.state in
+    let p = w s.me in
+    let stays = stays_so faulty w r s follows follows.state in
+    (elim (next_proposal s) as (λ o. next_proposal s ≡ o → Result faulty w r (execution s (where_committed s o)).now [] [] [] (message_in (where_committed s o))) [
+      | None ↦ λ is. stays
+      | Some m ↦ λ is.
+          let h = header m in
+          cond_both (committed s.f s.me (known s) s.view (s.last + 1) h.digest) (Some m) None (λ (o : Option (Signed OrderMessage)). Result faulty w r (execution s o).now [] [] [] (message_in o))
+          (λ ready.
+          let slot = slot_is 2 (primary s.f s.view) s.view (s.last + 1) h (found (λ x. is_slot 2 (primary s.f s.view) s.view (s.last + 1) (header x)) s.log m is).1 in
+          let there = committed_now s p.now follows.state s.view (s.last + 1) h.digest ready in
+          let at_view = subst (λ (v : ℕ). committed s.f s.me p.now.log v (s.last + 1) h.digest ≡ true) (sym slot.view) there in
+          let at_number = subst (λ (n : ℕ). committed s.f s.me p.now.log h.view n h.digest ≡ true) (sym slot.number) at_view in
+          let executed : (x : Signed OrderMessage) → IsIn x (m ∷ r.executed) → Executed (after_move s.f s.me p (Executes h)) (header x) = λ x i. elim i [
+            | inl e ↦ subst (λ (y : Signed OrderMessage). Executed (after_move s.f s.me p (Executes h)) (header y)) (sym e) (p.now.log, inl refl)
+            | inr j ↦ let old = follows.executed x j in (old.0, inr old.1)
+          ] in
+          (Executes h ∷ [], (at_number, tt), assumption (executed, stay_tracks s p.now s.low (s.last + 1) s.log follows.state refl follows.state.log)))
+          (λ _. stays)
+    ]) refl
 
 -- A timeout ---------------------------------------------------------------------------------------------------------------
 
 pub leaves : (faulty : ℕ → Bool) (w : World) (r : OrderReplica) (change : ViewChange) → Follows r (w r.state.me) → TellsWhatIsPrepared r.state change
     → let refused = leaving_refusal r.state change.view in Result faulty w r (unless refused r.state (left r.state change.view)).now [] [] (where_taken refused (change ∷ [])) []
-leaves faulty w r change follows tells = go (leaving_refusal r.state change.view) refl
-  where
-    s : order.State
-    s = r.state
-
-    p : History
-    p = w s.me
-
-    go : (o : Option OrderError) → leaving_refusal s change.view ≡ o → Result faulty w r (unless o s (left s change.view)).now [] [] (where_taken o (change ∷ [])) []
-    go (Some e) is = stays_so faulty w r s follows follows.state
-    go None is =
-        let a = passed (nat_lt (max s.view s.asked) change.view && nat_le change.view most_number) WrongView None is in
-        let lt = ltb-true (max s.view s.asked) change.view (and_parts (nat_lt (max s.view s.asked) change.view) (nat_le change.view most_number) a.0).0 in
-        let tracks = follows.state in
-        let may : MayLeave s.f s.me p.now change = record {
-          asked = let e = tracks.asked in omega (arith, e, lt);
-          stable = tells.stable ∙ sym tracks.low;
-          all = λ v n d ready over. tells.all v n d (prepared_more s.f s.me p.now.log (known s) v n d (λ k x small y. told_same (known s) p.now.log tracks.log k x v n d small ∙ y) ready)
-              (let e = tracks.low in omega (arith, e, over));
-        } in (
-          Leaves change ∷ [],
-          (may, tt),
-          record {
-            state = record {
-              view = tracks.view;
-              asked = refl;
-              low = tracks.low;
-              min_s = tracks.min_s;
-              handed = tracks.handed;
-              entered = omega (arith, lt);
-              views = tracks.views;
-              log = tracks.log;
-            };
-            sent = follows.sent;
-            offers = follows.offers;
-            changes = ap (λ (l : List ViewChange). change ∷ l) follows.changes;
-            executed = follows.executed;
-          },
-        )
+leaves faulty w r change follows tells =
+    let s = r.state in
+    let p = w s.me in
+    let tracks = follows.state in
+    (elim (leaving_refusal s change.view) as (λ o. leaving_refusal s change.view ≡ o → Result faulty w r (unless o s (left s change.view)).now [] [] (where_taken o (change ∷ [])) []) [
+      | Some e ↦ λ is. stays_so faulty w r s follows tracks
+      | None ↦ λ is.
+          let a = passed (nat_lt (max s.view s.asked) change.view && nat_le change.view most_number) WrongView None is in
+          let lt = ltb-true (max s.view s.asked) change.view (and_parts (nat_lt (max s.view s.asked) change.view) (nat_le change.view most_number) a.0).0 in
+          let may : MayLeave s.f s.me p.now change = record {
+            asked = let e = tracks.asked in omega (arith, e, lt);
+            stable = tells.stable ∙ sym tracks.low;
+            all = λ v n d ready over. tells.all v n d (prepared_more s.f s.me p.now.log (known s) v n d (λ k x small y. told_same (known s) p.now.log tracks.log k x v n d small ∙ y) ready)
+                (let e = tracks.low in omega (arith, e, over));
+          } in
+          let entered : s.view ≤ change.view = omega (arith, lt) in
+          (Leaves change ∷ [], (may, tt), assumption (entered, ap (λ (l : List ViewChange). change ∷ l) follows.changes))
+    ]) refl

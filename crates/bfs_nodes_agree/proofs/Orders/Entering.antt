@@ -2,7 +2,8 @@
 use Rattle.std.proofs.Common.{◌≡◌, ℕ, ◌+◌, ◌%◌, ◌<◌, ◌≤◌, ◌==◌, max, Bool, true, false, cond, ◌&&◌, ◌||◌, not, List, [], ◌∷◌, ◌++◌, Option, Some, None, ◌⊎◌, inl, inr, refl, sym, ap, ap₂, subst, ◌∙◌, arith}
 use Rattle.std.specs.Prelude.{nat_lt, nat_le}
 use Rattle.std.specs.List.{list_any}
-use Rattle.std.proofs.lemmas.Bool.{and_parts, and_from, or_right, cond_both, cases_Bool, eq-eqb, ltb-true, lt-ltb, leb-true, le-leb}
+use Rattle.std.proofs.lemmas.Bool.{and_parts, and_from, or_right, cond_both, cond-false, false_from_ne_true, eq-eqb, ltb-true, lt-ltb, leb-true, le-leb}
+use Rattle.std.proofs.Math.Bool.{or-false, or_assoc}
 use Rattle.std.proofs.lemmas.List.{map-append}
 use Rattle.std.proofs.lemmas.List.Folds.{list_any-append}
 use Rattle.bfs_auth.specs.Keys.{Keys}
@@ -30,7 +31,7 @@ use Rattle.bfs_agreement.proofs.Public.{MaySayAll, Within, in_told, say_join, th
 use Rattle.bfs_nodes_agree.specs.Orders.Following.{HaveTheSameVotes, Follows}
 use Rattle.bfs_nodes_agree.specs.Orders.Replicas.{OrderReplica, new_view, where_taken}
 use Rattle.bfs_nodes_agree.proofs.Orders.Lists.{any_in}
-use Rattle.bfs_nodes_agree.proofs.Orders.Telling.{or_false, or_moved, not_both, not_equal, finds_none, no_slot, slot_is, any_both, any_said, slot_same}
+use Rattle.bfs_nodes_agree.proofs.Orders.Telling.{or_moved, not_both, not_equal, finds_none, no_slot, slot_is, any_both, any_said, slot_same}
 use Rattle.bfs_nodes_agree.proofs.Orders.Saying.{IsAhead, told_there, ahead_said, votes_may, after_said}
 use Rattle.bfs_nodes_agree.proofs.Orders.Results.{Result, passed, stays_so, in_said, said_view}
 use Rattle.bfs_nodes_agree.proofs.Orders.Taking.{unsettled, itself_there}
@@ -38,18 +39,15 @@ use Rattle.bfs_model.specs.Server.Limits.{checkpoint_interval, most_number}
 
 -- What is handed over -----------------------------------------------------------------------------------------------------
 
-or_behind : (a b c : Bool) → (a || (b || c)) ≡ ((a || b) || c)
-or_behind true b c = refl
-or_behind false b c = refl
-
 any_taken : (test : Header → Bool) (low : ℕ) (hs log : List Header) → list_any test (taken_in low hs log) ≡ (list_any test (taken_in low hs []) || list_any test log)
 any_taken test low [] log = refl
-any_taken test low (h ∷ hs) log = go (nat_lt low h.number && nat_le h.number (low + 32)) (any_taken test low hs log)
-  where
-    go : (b : Bool) → list_any test (taken_in low hs log) ≡ (list_any test (taken_in low hs []) || list_any test log)
-        → list_any test (cond b (h ∷ taken_in low hs log) (taken_in low hs log)) ≡ (list_any test (cond b (h ∷ taken_in low hs []) (taken_in low hs [])) || list_any test log)
-    go true e = ap (λ (b : Bool). test h || b) e ∙ or_behind (test h) (list_any test (taken_in low hs [])) (list_any test log)
-    go false e = e
+any_taken test low (h ∷ hs) log =
+    let e = any_taken test low hs log in
+    elim (nat_lt low h.number && nat_le h.number (low + 32)) as
+    (λ b. list_any test (cond b (h ∷ taken_in low hs log) (taken_in low hs log)) ≡ (list_any test (cond b (h ∷ taken_in low hs []) (taken_in low hs [])) || list_any test log)) [
+      | true ↦ ap (λ (b : Bool). test h || b) e ∙ sym (or_assoc (test h) (list_any test (taken_in low hs [])) (list_any test log))
+      | false ↦ e
+    ]
 
 in_taken : (low : ℕ) (hs log : List Header) (x : Header) → IsIn x (taken_in low hs log) → IsIn x hs ⊎ IsIn x log
 in_taken low [] log x = λ i. inr i
@@ -75,17 +73,14 @@ turned x h e =
     (and_from (x.view == h.view) (x.number == h.number) (eq-eqb x.view h.view (sym at.view)) (eq-eqb x.number h.number (sym at.number))))
 
 differs : (hs : List Header) (h x : Header) → is_taken hs h ≡ false → IsIn x hs → is_slot x.tag x.sender x.view x.number h ≡ false
-differs hs h x free i = elim (cases_Bool (is_slot x.tag x.sender x.view x.number h)) [
-  | inl e ↦ absurd (not_both (any_in (is_slot h.tag h.sender h.view h.number) hs x i (turned x h e)) free)
-  | inr e ↦ e
-]
+differs hs h x free i = false_from_ne_true (is_slot x.tag x.sender x.view x.number h) (λ e. not_both (any_in (is_slot h.tag h.sender h.view h.number) hs x i (turned x h e)) free)
 
 -- of a later view
 later_free : (log : List Header) (x : Header) → ((y : Header) → IsIn y log → y.view < x.view) → is_taken log x ≡ false
-later_free log x earlier = finds_none (is_slot x.tag x.sender x.view x.number) log (λ y i. elim (cases_Bool (is_slot x.tag x.sender x.view x.number y)) [
-  | inl e ↦ let same = (slot_is x.tag x.sender x.view x.number y e).view in let lt = earlier y i in absurd (omega (arith, same, lt))
-  | inr e ↦ e
-])
+later_free log x earlier = finds_none (is_slot x.tag x.sender x.view x.number) log (λ y i. false_from_ne_true (is_slot x.tag x.sender x.view x.number y) (λ e.
+    let same = (slot_is x.tag x.sender x.view x.number y e).view in
+    let lt = earlier y i in
+    absurd (omega (arith, same, lt))))
 
 -- answers are no PRE-PREPAREs
 once_other : (keys : Keys) (s : order.State) (m : OrderMessage) (k v n : ℕ) → ((message_header m).tag ≡ 2 → ⊥) → has_slot (headers (said_once keys s m)) 2 k v n ≡ false
@@ -112,20 +107,11 @@ votes_other keys s v n d k u j =
 chain : (a b c d e : Bool) (v w x y z : OrderError) → a ≡ true → b ≡ true → c ≡ false → d ≡ false → e ≡ false
     → cond (not a) (Some v) (cond (not b) (Some w) (cond c (Some x) (cond d (Some y) (cond e (Some z) None)))) ≡ None
 chain true true false false false v w x y z p q r s t = refl
-chain false b c d e v w x y z p q r s t = absurd cc
-chain true false c d e v w x y z p q r s t = absurd cc
-chain true true true d e v w x y z p q r s t = absurd cc
-chain true true false true e v w x y z p q r s t = absurd cc
-chain true true false false true v w x y z p q r s t = absurd cc
+chain a b c d e v w x y z p q r s t = absurd cc
 
 outside : (a b : Bool) (v w : OrderError) (o : Option OrderError) → a ≡ true → b ≡ false → cond (not a) (Some v) (cond (not b) (Some w) o) ≡ Some w
 outside true false v w o p q = refl
-outside false b v w o p q = absurd cc
-outside true true v w o p q = absurd cc
-
-when_false : {A : Type 0} (b : Bool) (x y : A) → b ≡ false → cond b x y ≡ y
-when_false true x y e = absurd cc
-when_false false x y e = refl
+outside a b v w o p q = absurd cc
 
 -- within the marks, in a free place
 none_refused : (s : order.State) (h : Header) → IsHanded s.f s.view s.min_s h → s.asked ≤ s.view → is_between s h.number ≡ true → is_taken (known s) h ≡ false → place_refusal s h ≡ None
@@ -136,7 +122,7 @@ none_refused s h handed asked marks free =
     let view : is_of_view s h ≡ true = or_right (h.tag == 5) ((h.view == s.view) && nat_le s.asked s.view)
     (and_from (h.view == s.view) (nat_le s.asked s.view) (eq-eqb h.view s.view handed.of_view) (le-leb s.asked s.view asked)) in
     let inside : is_inside s h ≡ true = and_from (is_between s h.number) (cond (h.tag == 5) ((h.number % checkpoint_interval) == 0) (nat_lt s.min_s h.number)) marks
-    (when_false (h.tag == 5) ((h.number % checkpoint_interval) == 0) (nat_lt s.min_s h.number) five ∙ lt-ltb s.min_s h.number handed.above) in
+    (cond-false (h.tag == 5) ((h.number % checkpoint_interval) == 0) (nat_lt s.min_s h.number) five ∙ lt-ltb s.min_s h.number handed.above) in
     let from = eq-eqb h.sender (primary s.f h.view) handed.from in
     let primary_ok : ((h.tag == 2) && not (h.sender == primary s.f h.view)) ≡ false = ap₂ (λ (a b : Bool). a && not b) two from in
     let no_conflict : conflicts s h ≡ false =
@@ -197,7 +183,7 @@ one_less ahead s log m joined =
       same = λ test votes.
           list_any-append test ahead (headers (s.log ++ m ∷ [])) ∙ ap (λ (b : Bool). list_any test ahead || b) (any_both test s.log (m ∷ []))
           ∙ or_moved (list_any test ahead) (list_any test (known s)) (test (header m) || false)
-          ∙ ap₂ (λ (a b : Bool). a || b) (or_false (test (header m))) (sym (list_any-append test ahead (known s))) ∙ joined.same test votes;
+          ∙ ap₂ (λ (a b : Bool). a || b) (or-false (test (header m))) (sym (list_any-append test ahead (known s))) ∙ joined.same test votes;
       proposals = λ h i. joined.proposals h (inr i);
     }
 
@@ -216,77 +202,46 @@ all_taken : (keys : Keys) (s : order.State) (t : State) (ms : Log) → IsInView 
     → ((x : Header) → IsIn x (headers ms) → is_taken (known s) x ≡ false) → SlotsDiffer (headers ms) → IsAhead (taken_in s.low (headers ms) []) s t.log → AreTaken s t (all_taken_over keys s ms)
 all_taken keys s t [] here handed free differ joined = record { may = tt; log = joined.same; view = refl; asked = refl; low = refl; min_s = refl; handed = refl }
 all_taken keys s t (m ∷ ms) here handed free differ joined =
-    go (is_between s (header m).number) refl joined (λ j. all_taken keys s t ms here (λ x i. handed x (inr i)) (λ x i. free x (inr i)) differ.1 j)
-    (λ j may. all_taken keys then (record t { log = with_said (headers vs) t.log }) ms
-    (record { view = here.view; asked = here.asked; none_asked = here.none_asked; low = here.low; min_s = here.min_s })
-    (λ x i. handed x (inr i))
-    (λ x i. still_free keys s m x (handed x (inr i)).two (free x (inr i)) (differs (headers ms) (header m) x differ.0 i)) differ.1 j)
-  where
-    h : Header
-    h = header m
-
-    one : order.State
-    one = with_message s m
-
-    vs : Log
-    vs = votes_in keys one h.view h.number h.digest
-
-    then : order.State
-    then = with_more one vs
-
-    ahead : List Header
-    ahead = taken_in s.low (headers ms) []
-
-    last : State
-    last = record t { log = with_said (headers vs) t.log }
-
-    mine : IsHanded s.f s.view s.min_s h
-    mine = handed h (inl refl)
-
-    rest : Outcome → Outcome
-    rest first = record { now = (all_taken_over keys first.now ms).now; sent = first.sent ++ (all_taken_over keys first.now ms).sent }
-
-    is_refused : place_refusal s h ≡ Some OutsideMarks → AreTaken s t (all_taken_over keys s ms) → AreTaken s t (rest (taken_over keys s m))
-    is_refused e later = subst (λ (o : Option OrderError). AreTaken s t (rest (unless o s (accepted keys s m)))) (sym e) later
-
-    is_taken_now : is_between s h.number ≡ true → IsAhead (h ∷ ahead) s t.log → (IsAhead ahead then last.log → MaySayAll s.f s.me t (headers vs) → AreTaken then last (all_taken_over keys then ms))
-        → AreTaken s t (rest (taken_over keys s m))
-    is_taken_now marks ahead_here later =
-        let parts = and_parts (nat_lt s.low h.number) (nat_le h.number (s.low + 32)) marks in
-        let lt = ltb-true s.low h.number parts.0 in
-        let le = leb-true h.number (s.low + 32) parts.1 in
-        let above = mine.above in
-        let low = here.low in
-        let min_s = here.min_s in
-        let in_marks : Within t h.view h.number = record {
-          view = mine.of_view ∙ sym here.view;
-          asked = here.asked;
-          low = omega (arith, low, lt);
-          min_s = omega (arith, min_s, above);
-          high = omega (arith, low, le);
-        } in
-        let less = one_less ahead s t.log m ahead_here in
-        let itself : Told (known one) 2 (primary s.f h.view) h.view h.number h.digest = any_both _ s.log (m ∷ [])
-        ∙ or_right (told (known s) 2 (primary s.f h.view) h.view h.number h.digest) (told (h ∷ []) 2 (primary s.f h.view) h.view h.number h.digest) (itself_there s.f [] h mine.two mine.from) in
-        let there = told_there ahead one t.log less 2 (primary s.f h.view) h.view h.number h.digest (omega arith) itself in
-        let may = votes_may keys ahead one t h.view h.number h.digest less in_marks there in
-        let r = later (ahead_said ahead one t.log vs less) may in
-        let out = all_taken_over keys then ms in
-        let all : AreTaken s t (rest (record { now = then; sent = vs })) = record {
-          may = subst (λ (l : List Header). MaySayAll s.f s.me t l) (sym (map-append header vs out.sent)) (say_join s.f s.me t (headers vs) (headers out.sent) may r.may);
-          log = subst (λ (l : List Header). HaveTheSameVotes (known out.now) l) (sym (ap (λ (l : List Header). with_said l t.log) (map-append header vs out.sent) ∙ said_in_parts (headers vs) (headers out.sent) t.log)) r.log;
-          view = r.view;
-          asked = r.asked;
-          low = r.low;
-          min_s = r.min_s;
-          handed = r.handed;
-        } in
-        subst (λ (o : Outcome). AreTaken s t (rest o)) (sym (taken keys s m mine.two (none_refused s h mine here.none_asked marks (free h (inl refl))))) all
-
-    go : (b : Bool) → is_between s h.number ≡ b → IsAhead (cond b (h ∷ ahead) ahead) s t.log → (IsAhead ahead s t.log → AreTaken s t (all_taken_over keys s ms))
-        → (IsAhead ahead then last.log → MaySayAll s.f s.me t (headers vs) → AreTaken then last (all_taken_over keys then ms)) → AreTaken s t (rest (taken_over keys s m))
-    go true is joined skip later = is_taken_now is joined later
-    go false is joined skip later = is_refused (beyond_refused s h mine here.none_asked is) (skip joined)
+    let h = header m in
+    let one = with_message s m in
+    let vs = votes_in keys one h.view h.number h.digest in
+    let then = with_more one vs in
+    let ahead = taken_in s.low (headers ms) [] in
+    let last : State = record t { log = with_said (headers vs) t.log } in
+    let mine = handed h (inl refl) in
+    let out = all_taken_over keys then ms in
+    let rest : Outcome → Outcome = λ first. record { now = (all_taken_over keys first.now ms).now; sent = first.sent ++ (all_taken_over keys first.now ms).sent } in
+    let skip : IsAhead ahead s t.log → AreTaken s t (all_taken_over keys s ms) = λ j. all_taken keys s t ms here (λ x i. handed x (inr i)) (λ x i. free x (inr i)) differ.1 j in
+    let later : IsAhead ahead then last.log → AreTaken then last out = λ j. all_taken keys then last ms (assumption) (λ x i. handed x (inr i))
+    (λ x i. still_free keys s m x (handed x (inr i)).two (free x (inr i)) (differs (headers ms) h x differ.0 i)) differ.1 j in
+    (elim (is_between s h.number) as (λ b. is_between s h.number ≡ b → IsAhead (cond b (h ∷ ahead) ahead) s t.log → AreTaken s t (rest (taken_over keys s m))) [
+      | true ↦ λ marks ahead_here.
+          let parts = and_parts (nat_lt s.low h.number) (nat_le h.number (s.low + 32)) marks in
+          let lt = ltb-true s.low h.number parts.0 in
+          let le = leb-true h.number (s.low + 32) parts.1 in
+          let above = mine.above in
+          let low = here.low in
+          let min_s = here.min_s in
+          let in_marks : Within t h.view h.number = record {
+            view = mine.of_view ∙ sym here.view;
+            asked = here.asked;
+            low = omega (arith, low, lt);
+            min_s = omega (arith, min_s, above);
+            high = omega (arith, low, le);
+          } in
+          let less = one_less ahead s t.log m ahead_here in
+          let itself : Told (known one) 2 (primary s.f h.view) h.view h.number h.digest = any_both _ s.log (m ∷ [])
+          ∙ or_right (told (known s) 2 (primary s.f h.view) h.view h.number h.digest) (told (h ∷ []) 2 (primary s.f h.view) h.view h.number h.digest) (itself_there s.f [] h mine.two mine.from) in
+          let there = told_there ahead one t.log less 2 (primary s.f h.view) h.view h.number h.digest (omega arith) itself in
+          let may = votes_may keys ahead one t h.view h.number h.digest less in_marks there in
+          let r = later (ahead_said ahead one t.log vs less) in
+          let may_all : MaySayAll s.f s.me t (headers (vs ++ out.sent)) = subst (λ (l : List Header). MaySayAll s.f s.me t l) (sym (map-append header vs out.sent)) (say_join s.f s.me t (headers vs) (headers out.sent) may r.may) in
+          let log : HaveTheSameVotes (known out.now) (with_said (headers (vs ++ out.sent)) t.log) =
+          subst (λ (l : List Header). HaveTheSameVotes (known out.now) l) (sym (ap (λ (l : List Header). with_said l t.log) (map-append header vs out.sent) ∙ said_in_parts (headers vs) (headers out.sent) t.log)) r.log in
+          let all : AreTaken s t (rest (record { now = then; sent = vs })) = assumption (may_all, log) in
+          subst (λ (o : Outcome). AreTaken s t (rest o)) (sym (taken keys s m mine.two (none_refused s h mine here.none_asked marks (free h (inl refl))))) all
+      | false ↦ λ beyond ahead_here. subst (λ (o : Option OrderError). AreTaken s t (rest (unless o s (accepted keys s m)))) (sym (beyond_refused s h mine here.none_asked beyond)) (skip ahead_here)
+    ]) refl joined
 
 -- The call ----------------------------------------------------------------------------------------------------------------
 
@@ -302,95 +257,72 @@ pub enters : (faulty : ℕ → Bool) (w : World) (r : OrderReplica) (keys : Keys
     → SlotsDiffer (headers (as_proposals handed)) → IsValidNewView r.state.f faulty w (new_view view min_s handed changes)
     → let refused = entering_refusal r.state view in let out = unless refused r.state (entered keys r.state view min_s handed) in
     Result faulty w r out.now out.sent (where_taken refused (cond (r.state.me == primary r.state.f view) (as_proposals handed) [])) [] []
-enters faulty w r keys view min_s handed changes follows differ valid = go (entering_refusal r.state view) refl
-  where
-    s : order.State
-    s = r.state
-
-    p : History
-    p = w s.me
-
-    proposals : Log
-    proposals = as_proposals handed
-
-    q : NewView
-    q = new_view view min_s handed changes
-
-    begun : order.State
-    begun = opened s view min_s handed
-
-    then : History
-    then = after_move s.f s.me p (Enters q)
-
-    out : Outcome
-    out = entered keys s view min_s handed
-
-    offered : (test : Header → Bool) (b : Bool) → list_any test (headers (cond b proposals [] ++ r.offers)) ≡ list_any test (cond b (headers proposals ++ p.offers) p.offers)
-    offered test true = any_both test proposals r.offers ∙ ap (λ (b : Bool). list_any test (headers proposals) || b) (follows.offers test) ∙ sym (list_any-append test (headers proposals) p.offers)
-    offered test false = follows.offers test
-
-    free : s.view < view → (x : Header) → IsIn x (headers proposals) → is_taken (known s) x ≡ false
-    free lt x i =
-        let so = handed_so s.f q valid.choice x i in
-        let two = so.two in
-        let of_view = so.of_view in
-        slot_same (known s) p.now.log follows.state.log x.tag x.sender x.view x.number (omega (arith, two))
-        ∙ later_free p.now.log x (λ y j. let le = follows.state.views y j in omega (arith, le, of_view, lt))
-
-    joined : IsAhead (taken_in s.low (headers proposals) []) begun then.now.log
-    joined = record {
-      same = λ test votes.
-          list_any-append test (taken_in s.low (headers proposals) []) (known s) ∙ ap (λ (b : Bool). list_any test (taken_in s.low (headers proposals) []) || b) (follows.state.log test votes)
-          ∙ sym (any_taken test s.low (headers proposals) p.now.log) ∙ ap (λ (low : ℕ). list_any test (taken_in low (headers proposals) p.now.log)) (sym follows.state.low);
-      proposals = λ h i. elim (in_taken s.low (headers proposals) [] h i) [ inl a ↦ (handed_so s.f q valid.choice h a).two | inr b ↦ absurd b ];
-    }
-
-    views : s.view < view → AreTaken begun then.now out → (x : Header) → IsIn x (with_said (headers out.sent) then.now.log) → x.view ≤ view
-    views lt all x i = elim (in_said (headers out.sent) then.now.log x i) [
-      | inl a ↦ let e = said_view s.f s.me then.now (headers out.sent) all.may x a in omega (arith, e)
-      | inr b ↦ elim (in_taken p.now.low (headers proposals) p.now.log x b) [
-        | inl a ↦ let e = (handed_so s.f q valid.choice x a).of_view in omega (arith, e)
-        | inr c ↦ let le = follows.state.views x c in omega (arith, le, lt)
-      ]
-    ]
-
-    now_follows : s.view < view → AreTaken begun then.now out
-        → Follows (record { state = out.now; sent = out.sent ++ r.sent; offers = cond (s.me == primary s.f view) proposals [] ++ r.offers; changes = r.changes; executed = r.executed })
-        (record then { now = record then.now { log = with_said (headers out.sent) then.now.log }; sent = with_said (headers out.sent) p.sent })
-    now_follows lt all = record {
-      state = record {
-        view = sym all.view;
-        asked = sym all.asked;
-        low = follows.state.low ∙ sym all.low;
-        min_s = sym all.min_s;
-        handed = sym (ap₂ max all.min_s all.handed);
-        entered = let e = all.view in let a = all.asked in omega (arith, e, a);
-        views = λ x i. let le = views lt all x i in let e = all.view in omega (arith, le, e);
-        log = all.log;
-      };
-      sent = λ test. any_both test out.sent r.sent ∙ ap (λ (b : Bool). list_any test (headers out.sent) || b) (follows.sent test) ∙ sym (any_said test (headers out.sent) p.sent);
-      offers = λ test. offered test (s.me == primary s.f view);
-      changes = follows.changes;
-      executed = follows.executed;
-    }
-
-    go : (o : Option OrderError) → entering_refusal s view ≡ o
-        → Result faulty w r (unless o s (entered keys s view min_s handed)).now (unless o s (entered keys s view min_s handed)).sent (where_taken o (cond (s.me == primary s.f view) proposals [])) [] []
-    go (Some e) is = stays_so faulty w r s follows follows.state
-    go None is =
-        let a = passed (nat_lt s.view view && (nat_le s.asked view && nat_le view most_number)) WrongView None is in
-        let b = and_parts (nat_lt s.view view) (nat_le s.asked view && nat_le view most_number) a.0 in
-        let lt = ltb-true s.view view b.0 in
-        let asked = leb-true s.asked view (and_parts (nat_le s.asked view) (nat_le view most_number) b.1).0 in
-        let all : AreTaken begun then.now out = all_taken keys begun then.now proposals (record { view = refl; asked = refl; none_asked = omega arith; low = follows.state.low; min_s = refl })
-        (λ x i. handed_so s.f q valid.choice x i) (free lt) differ joined in
-        let may : MayEnter s.f faulty w p.now q = record {
-          above = let e = follows.state.view in omega (arith, e, lt);
-          asked = let e = follows.state.asked in omega (arith, e, asked);
-          valid = valid;
-        } in (
-          Enters q ∷ all_said (headers out.sent),
-          then_said s.f faulty w s.me (Enters q) (headers out.sent) may all.may,
-          subst (λ (h : History). Follows (record { state = out.now; sent = out.sent ++ r.sent; offers = cond (s.me == primary s.f view) proposals [] ++ r.offers; changes = r.changes; executed = r.executed }) h)
-              (sym (after_said s.f s.me then (headers out.sent))) (now_follows lt all),
-        )
+enters faulty w r keys view min_s handed changes follows differ valid =
+    let s = r.state in
+    let p = w s.me in
+    let tracks = follows.state in
+    let proposals = as_proposals handed in
+    let hs = headers proposals in
+    let q = new_view view min_s handed changes in
+    let begun = opened s view min_s handed in
+    let then = after_move s.f s.me p (Enters q) in
+    let out = entered keys s view min_s handed in
+    let offers = cond (s.me == primary s.f view) proposals [] in
+    (elim (entering_refusal s view) as (λ o. entering_refusal s view ≡ o → Result faulty w r (unless o s out).now (unless o s out).sent (where_taken o offers) [] []) [
+      | Some e ↦ λ is. stays_so faulty w r s follows tracks
+      | None ↦ λ is.
+          let a = passed (nat_lt s.view view && (nat_le s.asked view && nat_le view most_number)) WrongView None is in
+          let b = and_parts (nat_lt s.view view) (nat_le s.asked view && nat_le view most_number) a.0 in
+          let lt = ltb-true s.view view b.0 in
+          let asked = leb-true s.asked view (and_parts (nat_le s.asked view) (nat_le view most_number) b.1).0 in
+          let free : (x : Header) → IsIn x hs → is_taken (known s) x ≡ false = λ x i.
+          let so = handed_so s.f q valid.choice x i in
+          let two = so.two in
+          let of_view = so.of_view in
+          slot_same (known s) p.now.log tracks.log x.tag x.sender x.view x.number (omega (arith, two)) ∙ later_free p.now.log x (λ y j. let le = tracks.views y j in omega (arith, le, of_view, lt)) in
+          let joined : IsAhead (taken_in s.low hs []) begun then.now.log = record {
+            same = λ test votes.
+                list_any-append test (taken_in s.low hs []) (known s) ∙ ap (λ (b : Bool). list_any test (taken_in s.low hs []) || b) (tracks.log test votes)
+                ∙ sym (any_taken test s.low hs p.now.log) ∙ ap (λ (low : ℕ). list_any test (taken_in low hs p.now.log)) (sym tracks.low);
+            proposals = λ h i. elim (in_taken s.low hs [] h i) [ inl a ↦ (handed_so s.f q valid.choice h a).two | inr b ↦ absurd b ];
+          } in
+          let all : AreTaken begun then.now out = all_taken keys begun then.now proposals (record { view = refl; asked = refl; none_asked = omega arith; low = tracks.low; min_s = refl })
+          (λ x i. handed_so s.f q valid.choice x i) free differ joined in
+          let views : (x : Header) → IsIn x (with_said (headers out.sent) then.now.log) → x.view ≤ view = λ x i. elim (in_said (headers out.sent) then.now.log x i) [
+            | inl a ↦ let e = said_view s.f s.me then.now (headers out.sent) all.may x a in omega (arith, e)
+            | inr b ↦ elim (in_taken p.now.low hs p.now.log x b) [
+              | inl a ↦ let e = (handed_so s.f q valid.choice x a).of_view in omega (arith, e)
+              | inr c ↦ let le = tracks.views x c in omega (arith, le, lt)
+            ]
+          ] in
+          let may : MayEnter s.f faulty w p.now q = record {
+            above = let e = tracks.view in omega (arith, e, lt);
+            asked = let e = tracks.asked in omega (arith, e, asked);
+            valid = valid;
+          } in
+          let last : History = record then { now = record then.now { log = with_said (headers out.sent) then.now.log }; sent = with_said (headers out.sent) p.sent } in
+          let follow : Follows (record { state = out.now; sent = out.sent ++ r.sent; offers = offers ++ r.offers; changes = r.changes; executed = r.executed }) last = record {
+            state = record {
+              view = sym all.view;
+              asked = sym all.asked;
+              low = tracks.low ∙ sym all.low;
+              min_s = sym all.min_s;
+              handed = sym (ap₂ max all.min_s all.handed);
+              entered = let e = all.view in let a = all.asked in omega (arith, e, a);
+              views = λ x i. let le = views x i in let e = all.view in omega (arith, le, e);
+              log = all.log;
+            };
+            sent = λ test. any_both test out.sent r.sent ∙ ap (λ (b : Bool). list_any test (headers out.sent) || b) (follows.sent test) ∙ sym (any_said test (headers out.sent) p.sent);
+            offers = λ test. elim (s.me == primary s.f view) as (λ b. list_any test (headers (cond b proposals [] ++ r.offers)) ≡ list_any test (cond b (hs ++ p.offers) p.offers)) [
+              | true ↦ any_both test proposals r.offers ∙ ap (λ (b : Bool). list_any test hs || b) (follows.offers test) ∙ sym (list_any-append test hs p.offers)
+              | false ↦ follows.offers test
+            ];
+            changes = follows.changes;
+            executed = follows.executed;
+          } in (
+            Enters q ∷ all_said (headers out.sent),
+            then_said s.f faulty w s.me (Enters q) (headers out.sent) may all.may,
+            subst (λ (h : History). Follows (record { state = out.now; sent = out.sent ++ r.sent; offers = offers ++ r.offers; changes = r.changes; executed = r.executed }) h)
+                (sym (after_said s.f s.me then (headers out.sent))) follow,
+          )
+    ]) refl

@@ -1,8 +1,8 @@
 -- What holds of all that is in a list.
-use Rattle.std.proofs.Common.{◌≡◌, Bool, true, false, cond, List, [], ◌∷◌, ◌++◌, ◌⊎◌, Option, Some, None, inl, inr, refl, sym, subst, ap, ◌∙◌}
+use Rattle.std.proofs.Common.{◌≡◌, Bool, true, List, [], ◌∷◌, ◌++◌, ◌⊎◌, Option, Some, None, inl, inr, refl, sym, subst, ap, ◌∙◌}
 use Rattle.std.specs.Prelude.{filter, filter_map, unwrap_or}
 use Rattle.std.specs.List.{AllByRecursion, cons_option, find, list_any}
-use Rattle.std.proofs.lemmas.Bool.{or_left, or_right}
+use Rattle.std.proofs.lemmas.Bool.{cond_both, or_left, or_right}
 use Rattle.bfs_agreement.specs.Histories.{IsIn}
 
 abbrev pub AllIn : {A : Type 0} → (A → Type 0) → List A → Type 0
@@ -40,11 +40,9 @@ both_in P xs ys a b x i = elim (either_in xs ys x i) [ inl j ↦ a x j | inr j �
 
 pub filter_in : {A : Type 0} (P : A → Type 0) (p : A → Bool) (xs : List A) → AllIn P xs → AllIn P (filter p xs)
 filter_in P p [] all = all
-filter_in {A} P p (y ∷ ys) all = go (p y) (filter_in P p ys (λ x i. all x (inr i)))
-  where
-    go : (b : Bool) → AllIn P (filter p ys) → AllIn P (cond b (y ∷ filter p ys) (filter p ys))
-    go true rest = more_in P y (filter p ys) (all y (inl refl)) rest
-    go false rest = rest
+filter_in P p (y ∷ ys) all =
+    let rest = filter_in P p ys (λ x i. all x (inr i)) in
+    cond_both (p y) (y ∷ filter p ys) (filter p ys) (AllIn P) (λ _. more_in P y (filter p ys) (all y (inl refl)) rest) (λ _. rest)
 
 pub out_of_filter_map : {A B : Type 0} (g : A → Option B) (xs : List A) (y : B) → IsIn y (filter_map g xs) → (x : A) × IsIn x xs × (g x ≡ Some y)
 out_of_filter_map g [] y i = absurd i
@@ -66,11 +64,10 @@ any_in p (y ∷ ys) x i e = elim i [
 
 pub found : {A : Type 0} (p : A → Bool) (xs : List A) (m : A) → find p xs ≡ Some m → IsIn m xs × (p m ≡ true)
 found p [] m e = absurd cc
-found {A} p (x ∷ xs) m e = go (p x) refl e (found p xs m)
-  where
-    go : (b : Bool) → p x ≡ b → cond b (Some x) (find p xs) ≡ Some m → (find p xs ≡ Some m → IsIn m xs × (p m ≡ true)) → IsIn m (x ∷ xs) × (p m ≡ true)
-    go true is same later = let e = some_is x m same in (inl (sym e), ap p (sym e) ∙ is)
-    go false is same later = let got = later same in (inr got.0, got.1)
+found p (x ∷ xs) m e =
+    let later = found p xs m in
+    cond_both (p x) (Some x) (find p xs) (λ o. o ≡ Some m → IsIn m (x ∷ xs) × (p m ≡ true))
+    (λ is same. let e = some_is x m same in (inl (sym e), ap p (sym e) ∙ is)) (λ _ same. let got = later same in (inr got.0, got.1)) e
 
 pub at_place : {A : Type 0} (P : A → Type 0) (xs : List A) → AllByRecursion P xs → AllIn P xs
 at_place P [] all x i = absurd i

@@ -1,16 +1,16 @@
 -- A message that comes, its own checkpoint and a certificate are lists of moves.
-use Rattle.std.proofs.Common.{◌≡◌, ℕ, ◌+◌, ◌%◌, ◌<◌, ◌≤◌, ◌==◌, max, Bool, true, false, cond, ◌&&◌, ◌||◌, not, List, [], ◌∷◌, ◌++◌, Option, Some, None, ◌⊎◌, inl, inr, refl, sym, ap, subst, ◌∙◌, arith}
+use Rattle.std.proofs.Common.{◌≡◌, ℕ, ◌+◌, ◌%◌, ◌<◌, ◌≤◌, ◌==◌, max, Bool, true, false, cond, ◌&&◌, ◌||◌, not, List, [], ◌∷◌, ◌++◌, None, ◌⊎◌, inl, inr, refl, sym, ap, subst, ◌∙◌, arith}
 use Rattle.std.specs.Prelude.{nat_lt, nat_le}
 use Rattle.std.specs.List.{list_any, list_all}
 use Rattle.std.proofs.lemmas.Bool.{and_parts, or_left, cond_both, eqb-true, eq-eqb, ltb-true, ltb-false, leb-true}
+use Rattle.std.proofs.Math.Bool.{or-false}
 use Rattle.bfs_auth.specs.Keys.{Keys}
-use Rattle.bfs_votes.specs.Votes.{Header, says, told, Told, primary, is_stable}
+use Rattle.bfs_votes.specs.Votes.{Header, has_slot, says, told, Told, primary, is_stable}
 use Rattle.bfs_log.specs.Headers.{header, message_header}
 use Rattle.bfs_log.specs.Logs.{Log, headers, kept_after}
 use Rattle.bfs_messages.specs.declared.signed.Signed.{Signed}
 use Rattle.bfs_messages.specs.declared.order_messages.OrderMessage.{OrderMessage}
-use Rattle.bfs_messages.specs.declared.order_messages.OrderMessage.TheVariants.{PrePrepare, Prepare, Commit, Checkpoint}
-use Rattle.bfs_order.specs.declared.error.OrderError.{OrderError}
+use Rattle.bfs_messages.specs.declared.order_messages.OrderMessage.TheVariants.{Checkpoint}
 use Rattle.bfs_order.specs.declared.error.OrderError.TheVariants.{BadAuthenticator, WrongView, OutsideMarks, NotPrimary, Conflicting, AlreadyHave, NoCertificate}
 use Rattle.bfs_order.specs.Replica.Accepting.{makes_stable, settled, answers, accepted}
 use Rattle.bfs_order.specs.Replica.Answers.{votes_in, commits_in, answers_in}
@@ -27,10 +27,10 @@ use Rattle.bfs_agreement.specs.Calls.{with_said, all_said}
 use Rattle.bfs_agreement.proofs.Public.{MaySayAll, Within, says_itself, then_said}
 use Rattle.bfs_nodes_agree.specs.Orders.Following.{HaveTheSameVotes, Tracks, Follows}
 use Rattle.bfs_nodes_agree.specs.Orders.Replicas.{OrderReplica}
-use Rattle.bfs_nodes_agree.proofs.Orders.Telling.{or_false, not_equal, any_both, slot_same}
+use Rattle.bfs_nodes_agree.proofs.Orders.Telling.{not_equal, any_both, slot_same}
 use Rattle.bfs_nodes_agree.proofs.Orders.Saying.{commits_may, votes_may, after_said}
 use Rattle.bfs_nodes_agree.proofs.Orders.Dropping.{dropped, five_pushed, each_five}
-use Rattle.bfs_nodes_agree.proofs.Orders.Results.{Result, passed, not_hit, stays_so, drops, drop_tracks, stay_tracks, settles, joined_now, tracks_answers, tracks_one, within, said_follows}
+use Rattle.bfs_nodes_agree.proofs.Orders.Results.{Result, either_way, passed, not_hit, stays_so, drops, drop_tracks, stay_tracks, settles, joined_now, tracks_answers, tracks_one, within, said_follows}
 use Rattle.bfs_model.specs.Server.Limits.{checkpoint_interval, log_size, most_number}
 
 -- A message comes ---------------------------------------------------------------------------------------------------------
@@ -70,8 +70,7 @@ vote_within s t h tracks at vote =
 -- a PRE-PREPARE is the primary's
 of_primary : (a b : Bool) → a ≡ true → (a && not b) ≡ false → b ≡ true
 of_primary true true e h = refl
-of_primary true false e h = absurd cc
-of_primary false b e h = absurd cc
+of_primary a b e h = absurd cc
 
 pub itself_there : (f : ℕ) (log : List Header) (h : Header) → h.tag ≡ 2 → h.sender ≡ primary f h.view → Told (h ∷ log) 2 (primary f h.view) h.view h.number h.digest
 itself_there f log h two from =
@@ -106,16 +105,10 @@ takes_vote faulty w r keys m follows at small authentic =
     let vote : (h.tag == 5) ≡ false = not_equal h.tag 5 (λ e. absurd (omega (arith, small, e))) in
     let in_marks = vote_within s p.now h follows.state at vote in
     let same_view : h.view ≡ s.view = in_marks.view ∙ follows.state.view in
-    let opened : IsOpen p.now h = record {
-      view = in_marks.view;
-      asked = in_marks.asked;
-      low = in_marks.low;
-      min_s = in_marks.min_s;
-      high = in_marks.high;
-      free = sym (slot_same (known s) p.now.log follows.state.log h.tag h.sender h.view h.number small) ∙ at.free;
-    } in
+    let free : has_slot p.now.log h.tag h.sender h.view h.number ≡ false = sym (slot_same (known s) p.now.log follows.state.log h.tag h.sender h.view h.number small) ∙ at.free in
+    let opened : IsOpen p.now h = assumption free in
     let one = tracks_one s p.now m follows.state same_view in
-    let then : Within t1 h.view h.number = record { view = in_marks.view; asked = in_marks.asked; low = in_marks.low; min_s = in_marks.min_s; high = in_marks.high } in
+    let then : Within t1 h.view h.number = assumption in_marks in
     let vs = answers keys s m in
     let may = answers_may keys (with_message s m) t1 h one then
     (λ two. itself_there s.f p.now.log h two (eqb-true h.sender (primary s.f h.view) (of_primary (h.tag == 2) (h.sender == primary s.f h.view) (eq-eqb h.tag 2 two) at.primary))) in
@@ -136,59 +129,43 @@ takes_checkpoint faulty w r keys m follows at five =
     let t = (w s.me).now in
     let low = between s h.number (and_parts (is_between s h.number) _ at.inside).0 in
     let one = five_pushed s.log t.log m five follows.state.log in
-    let same : HaveTheSameVotes (headers ((s.log ++ m ∷ []) ++ [])) t.log = λ test votes. any_both test (s.log ++ m ∷ []) [] ∙ or_false (list_any test (headers (s.log ++ m ∷ []))) ∙ one test votes in
+    let same : HaveTheSameVotes (headers ((s.log ++ m ∷ []) ++ [])) t.log = λ test votes. any_both test (s.log ++ m ∷ []) [] ∙ or-false (list_any test (headers (s.log ++ m ∷ []))) ∙ one test votes in
     subst (λ (vs : Log). Result faulty w r (settled (with_more (with_message s m) vs) h) vs [] [] []) (sym (no_answers keys (with_message s m) h five))
     (settles faulty w r ((s.log ++ m ∷ []) ++ []) h follows same low.0)
 
 -- a vote, or a CHECKPOINT
 kind_of : (m : OrderMessage) → ((message_header m).tag < 5) ⊎ ((message_header m).tag ≡ 5)
-kind_of (PrePrepare proposal) = inl (omega arith)
-kind_of (Prepare vote) = inl (omega arith)
-kind_of (Commit vote) = inl (omega arith)
 kind_of (Checkpoint checkpoint) = inr refl
+kind_of other = inl (omega arith)
 
 pub takes : (faulty : ℕ → Bool) (w : World) (r : OrderReplica) (keys : Keys) (m : Signed OrderMessage) → Follows r (w r.state.me)
     → (refusal keys r.state m ≡ None → (header m).tag < 5 → WasSent faulty w (header m).tag (header m).sender (header m).view (header m).number (header m).digest)
     → let out = unless (refusal keys r.state m) r.state (accepted keys r.state m) in Result faulty w r out.now out.sent [] [] []
-takes faulty w r keys m follows authentic = go (refusal keys r.state m) refl
-  where
-    s : order.State
-    s = r.state
-
-    h : Header
-    h = header m
-
-    go : (o : Option OrderError) → refusal keys s m ≡ o → Result faulty w r (unless o s (accepted keys s m)).now (unless o s (accepted keys s m)).sent [] [] []
-    go (Some e) is = stays_so faulty w r s follows follows.state
-    go None is =
-        let at = placed s h (passed (is_authentic keys s m) BadAuthenticator (place_refusal s h) is).1 in
-        elim (kind_of m.message) [
-          | inl small ↦ takes_vote faulty w r keys m follows at small (authentic is small)
-          | inr five ↦ takes_checkpoint faulty w r keys m follows at five
-        ]
+takes faulty w r keys m follows authentic = either_way (λ out. Result faulty w r out.now out.sent [] [] []) (refusal keys r.state m) r.state (accepted keys r.state m)
+    (λ is.
+    let at = placed r.state (header m) (passed (is_authentic keys r.state m) BadAuthenticator (place_refusal r.state (header m)) is).1 in
+    elim (kind_of m.message) [ inl small ↦ takes_vote faulty w r keys m follows at small (authentic is small) | inr five ↦ takes_checkpoint faulty w r keys m follows at five ])
+    (stays_so faulty w r r.state follows follows.state)
 
 -- Its own checkpoint ------------------------------------------------------------------------------------------------------
 
 pub checkpoints : (faulty : ℕ → Bool) (w : World) (r : OrderReplica) (keys : Keys) (n : ℕ) (d : List ℕ) → Follows r (w r.state.me)
     → Result faulty w r (unless (checkpoint_refusal r.state n) r.state (checkpointed keys r.state n d)).now [] [] [] []
-checkpoints faulty w r keys n d follows = go (checkpoint_refusal r.state n) refl
-  where
-    s : order.State
-    s = r.state
-
-    go : (o : Option OrderError) → checkpoint_refusal s n ≡ o → Result faulty w r (unless o s (checkpointed keys s n d)).now [] [] [] []
-    go (Some e) is = stays_so faulty w r s follows follows.state
-    go None is =
-        let a = passed (is_between s n && nat_le n most_number) OutsideMarks _ is in
-        let low = between s n (and_parts (is_between s n) (nat_le n most_number) a.0).0 in
-        let m = checkpoint keys s n d in
-        settles faulty w r (s.log ++ m ∷ []) (header m) follows (five_pushed s.log (w s.me).now.log m refl follows.state.log) low.0
+checkpoints faulty w r keys n d follows = either_way (λ out. Result faulty w r out.now [] [] [] []) (checkpoint_refusal r.state n) r.state (checkpointed keys r.state n d)
+    (λ is.
+    let s = r.state in
+    let a = passed (is_between s n && nat_le n most_number) OutsideMarks _ is in
+    let low = between s n (and_parts (is_between s n) (nat_le n most_number) a.0).0 in
+    let m = checkpoint keys s n d in
+    settles faulty w r (s.log ++ m ∷ []) (header m) follows (five_pushed s.log (w s.me).now.log m refl follows.state.log) low.0)
+    (stays_so faulty w r r.state follows follows.state)
 
 -- A certificate is installed ----------------------------------------------------------------------------------------------
 
 pub installs : (faulty : ℕ → Bool) (w : World) (r : OrderReplica) (keys : Keys) (c : StableCheckpoint) → Follows r (w r.state.me)
     → Result faulty w r (unless (install_refusal keys r.state c) r.state (installed r.state c)).now [] [] [] []
-installs faulty w r keys c follows = go (install_refusal keys r.state c) refl
+installs faulty w r keys c follows = either_way (λ out. Result faulty w r out.now [] [] [] []) (install_refusal keys r.state c) r.state (installed r.state c)
+    (λ is. rises (passed (is_shown keys r.state.f c) NoCertificate _ is).0 (nat_lt r.state.low c.number) refl) (stays_so faulty w r r.state follows follows.state)
   where
     s : order.State
     s = r.state
@@ -211,7 +188,3 @@ installs faulty w r keys c follows = go (install_refusal keys r.state c) refl
         let under = ltb-false s.low n lt in
         stays_so faulty w r (record s { low = max s.low n; last = max s.last n; log = s.log }) follows
         (stay_tracks s t (max s.low n) (max s.last n) s.log follows.state (omega (arith, under)) follows.state.log)
-
-    go : (o : Option OrderError) → install_refusal keys s c ≡ o → Result faulty w r (unless o s (installed s c)).now [] [] [] []
-    go (Some e) is = stays_so faulty w r s follows follows.state
-    go None is = rises (passed (is_shown keys s.f c) NoCertificate _ is).0 (nat_lt s.low n) refl

@@ -1,8 +1,9 @@
 -- What a log and the history's log both tell.
-use Rattle.std.proofs.Common.{◌≡◌, ℕ, ◌<◌, ◌==◌, Bool, true, false, ◌&&◌, ◌||◌, List, [], ◌∷◌, ◌++◌, inl, inr, refl, ap, ◌∙◌, arith}
+use Rattle.std.proofs.Common.{◌≡◌, ℕ, ◌<◌, ◌==◌, Bool, true, false, ◌&&◌, ◌||◌, List, [], ◌∷◌, ◌++◌, inl, inr, refl, sym, ap, ◌∙◌, arith}
 use Rattle.std.specs.Prelude.{bytes_eq}
 use Rattle.std.specs.List.{list_any}
-use Rattle.std.proofs.lemmas.Bool.{and_parts, cases_Bool, eqb-true}
+use Rattle.std.proofs.lemmas.Bool.{and_parts, eqb-true, false_from_ne_true}
+use Rattle.std.proofs.Math.Bool.{or_assoc, or_comm}
 use Rattle.std.proofs.lemmas.List.{map-append}
 use Rattle.std.proofs.lemmas.List.Folds.{list_any-append}
 use Rattle.bfs_votes.specs.Votes.{Header, is_slot, has_slot, says, told}
@@ -15,33 +16,18 @@ use Rattle.bfs_nodes_agree.specs.Orders.Following.{HaveTheSameVotes}
 
 -- Choices -----------------------------------------------------------------------------------------------------------------
 
-pub or_false : (a : Bool) → (a || false) ≡ a
-or_false true = refl
-or_false false = refl
-
 -- b said after a
 pub said_behind : (a b c : Bool) → (a || (b || c)) ≡ ((b || a) || c)
-said_behind true true c = refl
-said_behind true false c = refl
-said_behind false true c = refl
-said_behind false false c = refl
+said_behind a b c = sym (or_assoc a b c) ∙ ap (λ (x : Bool). x || c) (or_comm a b)
 
 pub not_both : {b : Bool} → b ≡ true → b ≡ false → ⊥
 not_both p q = absurd cc
 
 pub or_moved : (a b c : Bool) → (a || (b || c)) ≡ (c || (a || b))
-or_moved true b true = refl
-or_moved true b false = refl
-or_moved false true true = refl
-or_moved false true false = refl
-or_moved false false c = or_turned c
-  where
-    or_turned : (c : Bool) → c ≡ (c || false)
-    or_turned true = refl
-    or_turned false = refl
+or_moved a b c = sym (or_assoc a b c) ∙ or_comm (a || b) c
 
 pub not_equal : (a b : ℕ) → (a ≡ b → ⊥) → (a == b) ≡ false
-not_equal a b differ = elim (cases_Bool (a == b)) [ inl e ↦ absurd (differ (eqb-true a b e)) | inr e ↦ e ]
+not_equal a b differ = false_from_ne_true (a == b) (λ e. differ (eqb-true a b e))
 
 -- Lists of messages -------------------------------------------------------------------------------------------------------
 

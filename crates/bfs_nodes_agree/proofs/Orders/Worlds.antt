@@ -50,14 +50,8 @@ grows_there r p q follows =
 
 may_there : (faulty : ℕ → Bool) (w t : World) → ((k : ℕ) → Grows (w k) (t k)) → (s : order.State) (deed : OrderDeed) → MayDoOrderDeed faulty w s deed → MayDoOrderDeed faulty t s deed
 may_there faulty w t on s (Orders (Takes keys m)) may = λ none small. said_on faulty w t on (header m).tag (header m).sender (header m).view (header m).number (header m).digest (may none small)
-may_there faulty w t on s (Orders (Proposes keys batch)) may = tt
-may_there faulty w t on s (Orders Executes) may = tt
-may_there faulty w t on s (Orders (Checkpoints keys n d)) may = tt
-may_there faulty w t on s (Orders (Installs keys certificate)) may = tt
-may_there faulty w t on s (Orders (Leaves view)) may = may
-may_there faulty w t on s (Orders (Enters keys view min_s handed)) may = may
-may_there faulty w t on s (TimesOut change) may = may
 may_there faulty w t on s (ChangesView keys view min_s handed changes) may = (may.0, new_view_on s.f faulty w t (new_view view min_s handed changes) on may.1)
+may_there faulty w t on s deed may = may
 
 allowed_both : (f : ℕ) (faulty : ℕ → Bool) (t : World) (xs ys : List Step) → AreAllowed f faulty t xs → AreAllowed f faulty (after_steps f t xs) ys → AreAllowed f faulty t (xs ++ ys)
 allowed_both f faulty t [] ys a b = b
@@ -77,11 +71,10 @@ turn_moves f faulty moved r t i deed at may =
 
 -- and all others stay as they are
 followed_on : (f : ℕ) (w : OrderReplicas) (t : World) (i : ℕ) (r : OrderReplica) (p : History) → IsFollowed f w t → IsFollowedAt f r p i → IsFollowed f (with_replica w i r) (with_history t i p)
-followed_on f w t i r p all at j = go (j == i) refl
-  where
-    go : (b : Bool) → (j == i) ≡ b → IsFollowedAt f (cond b r (w j)) (cond b p (t j)) j
-    go true e = subst (λ (k : ℕ). IsFollowedAt f r p k) (sym (eqb-true j i e)) at
-    go false e = all j
+followed_on f w t i r p all at j = (elim (j == i) as (λ b. (j == i) ≡ b → IsFollowedAt f (cond b r (w j)) (cond b p (t j)) j) [
+  | true ↦ λ e. subst (λ (k : ℕ). IsFollowedAt f r p k) (sym (eqb-true j i e)) at
+  | false ↦ λ _. all j
+]) refl
 
 all_turns : (f : ℕ) (faulty : ℕ → Bool) → DeedsAreMoves → CallsKeepTheReplica → (turns : List OrderTurn) (w : OrderReplicas) (t : World) → IsFollowed f w t → MayTakeOrderTurns faulty w turns
     → (steps : List Step) × AreAllowed f faulty t steps × IsFollowed f (after_order_turns w turns) (after_steps f t steps)

@@ -13,8 +13,7 @@ use Rattle.bfs_replies.specs.Tables.{Table}
 use Rattle.bfs_agreement.specs.Histories.{IsIn, FewAreFaulty}
 use Rattle.bfs_nodes_agree.specs.Orders.Replicas as ordered
 use Rattle.bfs_nodes_agree.specs.Views.Replicas as turns
-use Rattle.bfs_nodes_agree.specs.Nodes.Giving.{AreFair, IsWhollyFair}
-use Rattle.bfs_nodes_agree.specs.Nodes.Premises.{AreAuthentic, AreSame, AreShared, StatesDontCollide, standing_digest}
+use Rattle.bfs_nodes_agree.specs.Nodes.Premises.{AreAuthentic, AreFair, AreSame, AreShared, IsWhollyFair, StatesDontCollide, standing_digest}
 use Rattle.bfs_nodes_agree.specs.Nodes.Replicas.{Beginning, Keyring, NodeReplica, NodeReplicas, Standing, NodeTurn, new_node_replicas, after_node_turns, ordered_turns}
 
 -- Nodes and their orders ----------------------------------------------------------------------------------------------------

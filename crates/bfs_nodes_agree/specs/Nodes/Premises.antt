@@ -1,26 +1,26 @@
 -- What is asked of the network, of authenticators and of digests.
-use Rattle.std.specs.Prelude.{◌≡◌, ℕ, Bool, true, false, List, [], ◌∷◌, Option, length, Some, None, ◌⊎◌}
+use Rattle.std.specs.Prelude.{◌≡◌, ℕ, Bool, true, false, List, [], ◌∷◌, length, Some, None, ◌⊎◌}
 use Rattle.bfs_votes.specs.Votes.{replicas}
 use Rattle.bfs_auth.specs.Keys.{Keys}
 use Rattle.bfs_auth.specs.declared.principals.Principal.TheVariants as principal
 use Rattle.bfs_model.specs.Server.Stored.{AreBytes}
 use Rattle.bfs_checkpoints.specs.Texts.{node_digest}
 use Rattle.bfs_log.specs.Certificates.{checkpoints_in, messages_in}
-use Rattle.bfs_log.specs.Logs.{Log}
+use Rattle.bfs_log.specs.Logs.{Log, as_messages}
 use Rattle.bfs_messages.specs.Fits.{FitsMessage}
 use Rattle.bfs_messages.specs.Messages as model
 use Rattle.bfs_codec.specs.Reading.{message_of}
 use Rattle.bfs_messages.specs.Signing.{as_message, sender_of, is_signed}
 use Rattle.bfs_messages.specs.declared.signed.Signed.{Signed}
 use Rattle.bfs_messages.specs.declared.message.Message.{Message}
-use Rattle.bfs_messages.specs.declared.message.Message.TheVariants.{Request, Order, ViewChange, NewView, Reply}
+use Rattle.bfs_messages.specs.declared.message.Message.TheVariants.{Order, ViewChange, NewView}
 use Rattle.bfs_messages.specs.declared.order_messages.OrderMessage.{OrderMessage}
-use Rattle.bfs_messages.specs.declared.order_messages.OrderMessage.TheVariants.{PrePrepare, Prepare, Commit, Checkpoint}
+use Rattle.bfs_messages.specs.declared.order_messages.OrderMessage.TheVariants.{PrePrepare}
 use Rattle.bfs_agreement.specs.Histories.{IsIn}
 use Rattle.bfs_order.specs.Replica.Views.{as_proposals}
 use Rattle.bfs_node.specs.Nodes.{Messages}
 use Rattle.bfs_nodes_agree.specs.Nodes.Replicas.{Keyring, NodeReplicas, Standing, NodeTurn, after_node_turn}
-use Rattle.bfs_nodes_agree.specs.Nodes.Steps.{NodeStep, Delivers, Takes, TakesRequests, Proposes, Executes, Fails, Checkpoints, TimesOut, Adopts}
+use Rattle.bfs_nodes_agree.specs.Nodes.Steps.{NodeStep, Delivers, Takes, Adopts}
 
 -- Keys ------------------------------------------------------------------------------------------------------------------------
 
@@ -28,29 +28,61 @@ use Rattle.bfs_nodes_agree.specs.Nodes.Steps.{NodeStep, Delivers, Takes, TakesRe
 abbrev pub AreShared : (f : ℕ) → Keyring → Type 0
 AreShared f keys = (k : ℕ) → length (keys k).replicas ≡ replicas f
 
+-- Messages within messages ----------------------------------------------------------------------------------------------------
+
+-- one of these messages of the order
+abbrev pub IsAmong : Signed Message → Log → Type 0
+IsAmong p messages = IsIn p (as_messages messages)
+
+-- a message of a VIEW-CHANGE's certificates
+abbrev pub IsProofIn : Signed Message → model.ViewChange → Type 0
+IsProofIn p change = (c : model.PreparedBatch) × IsIn c change.certificates × IsAmong p (messages_in c)
+
+-- the VIEW-CHANGE, or a message of its certificates
+abbrev pub IsOfChange : Signed Message → Signed model.ViewChange → Type 0
+IsOfChange p s = (p ≡ as_message ViewChange s) ⊎ IsProofIn p s.message
+
+-- within a NEW-VIEW are its PRE-PREPAREs, and its VIEW-CHANGEs with what is within them
+abbrev pub IsWithin : Signed Message → Message → Type 0
+IsWithin p (ViewChange change) = IsProofIn p change
+IsWithin p (NewView new) = IsAmong p (as_proposals new.proposals) ⊎ ((s : Signed model.ViewChange) × IsIn s new.changes × IsOfChange p s)
+IsWithin p _ = ⊥
+
+-- the message, or one within it
+abbrev pub IsOf : (part whole : Signed Message) → Type 0
+IsOf p m = (p ≡ m) ⊎ IsWithin p m.message
+
+-- it holds of the message, and of each within it
+abbrev pub IsWholly : (Signed Message → Type 0) → Signed Message → Type 0
+IsWholly P m = (p : Signed Message) → IsOf p m → P p
+
+-- it holds of what comes to a node, bytes or a message within the limits, and of what a certificate is shown by
+abbrev pub Comes : (Signed Message → Type 0) → NodeStep → Type 0
+Comes P (Delivers bytes) = AreBytes bytes × ((m : Signed Message) → message_of bytes ≡ Some m → IsWholly P m)
+Comes P (Takes signed) = FitsMessage signed.message × IsWholly P signed
+Comes P (Adopts certificate files table) = (m : Signed Message) → IsAmong m (checkpoints_in certificate) → P m
+Comes P _ = Unit {0}
+
+-- each where it comes, by the keys of the node that it comes to
+abbrev pub EachComes : (NodeReplicas → Keys → Signed Message → Type 0) → NodeReplicas → List NodeTurn → Type 0
+EachComes P w [] = Unit {0}
+EachComes P w (turn ∷ turns) = Comes (P w (w turn.who).node.keys) turn.step × EachComes P (after_node_turn w turn) turns
+
 -- Authenticators ------------------------------------------------------------------------------------------------------------
 
 -- the PRE-PREPAREs of a NEW-VIEW, which are signed by themselves
 abbrev pub offers_in : Message → Log
 offers_in (NewView new) = as_proposals new.proposals
-offers_in (Request request) = []
-offers_in (Order message) = []
-offers_in (ViewChange change) = []
-offers_in (Reply reply) = []
+offers_in _ = []
 
 -- of what a message's keyed hashes are: of a PRE-PREPARE the batch is attached, and they are of its digest
 abbrev pub order_signed_part : OrderMessage → OrderMessage
 order_signed_part (PrePrepare proposal) = PrePrepare (record proposal { batch = None })
-order_signed_part (Prepare vote) = Prepare vote
-order_signed_part (Commit vote) = Commit vote
-order_signed_part (Checkpoint checkpoint) = Checkpoint checkpoint
+order_signed_part other = other
 
 abbrev pub signed_part : Message → Message
-signed_part (Request request) = Request request
 signed_part (Order message) = Order (order_signed_part message)
-signed_part (ViewChange change) = ViewChange change
-signed_part (NewView new) = NewView new
-signed_part (Reply reply) = Reply reply
+signed_part other = other
 
 -- two messages say the same
 abbrev pub SaysTheSame : Message → Message → Type 0
@@ -65,42 +97,33 @@ HasSaid sent message = (s : Signed Message) × IsIn s sent
 abbrev pub IsAuthentic : (faulty : ℕ → Bool) → NodeReplicas → Keys → Signed Message → Type 0
 IsAuthentic faulty w keys m = (k : ℕ) → sender_of m.message ≡ principal.Replica k → is_signed keys m ≡ true → faulty k ≡ false → HasSaid (w k).sent m.message
 
-abbrev pub AreAuthenticIn : (faulty : ℕ → Bool) → NodeReplicas → Keys → Log → Type 0
-AreAuthenticIn faulty w keys messages = (m : Signed OrderMessage) → IsIn m messages → IsAuthentic faulty w keys (as_message Order m)
-
-abbrev pub AreProofsAuthentic : (faulty : ℕ → Bool) → NodeReplicas → Keys → model.ViewChange → Type 0
-AreProofsAuthentic faulty w keys change = (c : model.PreparedBatch) → IsIn c change.certificates → AreAuthenticIn faulty w keys (messages_in c)
-
--- so is each message within it
-abbrev pub ArePartsAuthentic : (faulty : ℕ → Bool) → NodeReplicas → Keys → Message → Type 0
-ArePartsAuthentic faulty w keys (ViewChange change) = AreProofsAuthentic faulty w keys change
-ArePartsAuthentic faulty w keys (NewView new) =
-    AreAuthenticIn faulty w keys (as_proposals new.proposals)
-    × ((s : Signed model.ViewChange) → IsIn s new.changes → IsAuthentic faulty w keys (as_message ViewChange s) × AreProofsAuthentic faulty w keys s.message)
-ArePartsAuthentic faulty w keys (Request request) = Unit {0}
-ArePartsAuthentic faulty w keys (Order message) = Unit {0}
-ArePartsAuthentic faulty w keys (Reply reply) = Unit {0}
-
-abbrev pub IsWhollyAuthentic : (faulty : ℕ → Bool) → NodeReplicas → Keys → Option (Signed Message) → Type 0
-IsWhollyAuthentic faulty w keys None = Unit {0}
-IsWhollyAuthentic faulty w keys (Some m) = IsAuthentic faulty w keys m × ArePartsAuthentic faulty w keys m.message
-
--- what comes to a node with these keys: bytes or a message within the limits, and by a message or a certificate what was sent
-abbrev pub ComesAuthentic : (faulty : ℕ → Bool) → NodeReplicas → Keys → NodeStep → Type 0
-ComesAuthentic faulty w keys (Delivers bytes) = AreBytes bytes × IsWhollyAuthentic faulty w keys (message_of bytes)
-ComesAuthentic faulty w keys (Takes signed) = FitsMessage signed.message × IsAuthentic faulty w keys signed × ArePartsAuthentic faulty w keys signed.message
-ComesAuthentic faulty w keys (Adopts certificate files table) = AreAuthenticIn faulty w keys (checkpoints_in certificate)
-ComesAuthentic faulty w keys (TakesRequests messages) = Unit {0}
-ComesAuthentic faulty w keys (Proposes time) = Unit {0}
-ComesAuthentic faulty w keys Executes = Unit {0}
-ComesAuthentic faulty w keys Fails = Unit {0}
-ComesAuthentic faulty w keys Checkpoints = Unit {0}
-ComesAuthentic faulty w keys TimesOut = Unit {0}
-
--- each where it comes
+-- so is all that comes
 abbrev pub AreAuthentic : (faulty : ℕ → Bool) → NodeReplicas → List NodeTurn → Type 0
-AreAuthentic faulty w [] = Unit {0}
-AreAuthentic faulty w (turn ∷ turns) = ComesAuthentic faulty w (w turn.who).node.keys turn.step × AreAuthentic faulty (after_node_turn w turn) turns
+AreAuthentic faulty w turns = EachComes (IsAuthentic faulty) w turns
+
+-- What is given -----------------------------------------------------------------------------------------------------------------
+
+-- a correct replica, whichever, gave to be sent a message that says it or that has one within it that does
+pub record WasGiven (faulty : ℕ → Bool) (w : NodeReplicas) (message : Message) : Type 0 where
+  pub who : ℕ
+  pub correct : faulty who ≡ false
+  pub sent : Signed Message
+  pub given : IsIn sent (w who).sent
+  pub part : Signed Message
+  pub is : IsOf part sent
+  pub same : SaysTheSame part.message message
+
+-- the sender is faulty or a client, the keyed hash is wrong for the receiver, or it was given
+abbrev pub IsFair : (faulty : ℕ → Bool) → NodeReplicas → Keys → Signed Message → Type 0
+IsFair faulty w keys m = (k : ℕ) → sender_of m.message ≡ principal.Replica k → is_signed keys m ≡ true → faulty k ≡ false → WasGiven faulty w m.message
+
+-- so is the message, and each within it
+abbrev pub IsWhollyFair : (faulty : ℕ → Bool) → NodeReplicas → Keys → Signed Message → Type 0
+IsWhollyFair faulty w keys m = IsWholly (IsFair faulty w keys) m
+
+-- so is all that comes
+abbrev pub AreFair : (faulty : ℕ → Bool) → NodeReplicas → List NodeTurn → Type 0
+AreFair faulty w turns = EachComes (IsFair faulty) w turns
 
 -- Digests -------------------------------------------------------------------------------------------------------------------
 

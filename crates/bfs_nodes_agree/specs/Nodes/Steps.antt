@@ -9,7 +9,7 @@ use Rattle.bfs_messages.specs.Messages as model
 use Rattle.bfs_codec.specs.Reading.{message_of}
 use Rattle.bfs_messages.specs.declared.signed.Signed.{Signed}
 use Rattle.bfs_messages.specs.declared.message.Message.{Message}
-use Rattle.bfs_messages.specs.declared.message.Message.TheVariants.{Request, Order, ViewChange, NewView, Reply}
+use Rattle.bfs_messages.specs.declared.message.Message.TheVariants.{Order, ViewChange, NewView}
 use Rattle.bfs_order.specs.Laws.Calls as order
 use Rattle.bfs_order.specs.Replica.Executing.{next_order}
 use Rattle.bfs_order.specs.Replica.Views.{left}
@@ -76,15 +76,8 @@ outcome node (Adopts certificate files table) =
 
 -- the PRE-PREPARE of the batch that it executes
 abbrev pub executed_by : Node → NodeStep → Log
-executed_by node (Delivers bytes) = []
-executed_by node (Takes signed) = []
-executed_by node (TakesRequests messages) = []
-executed_by node (Proposes time) = []
 executed_by node Executes = if is_ready node then message_in (next_order node.order) else []
-executed_by node Fails = []
-executed_by node Checkpoints = []
-executed_by node TimesOut = []
-executed_by node (Adopts certificate files table) = []
+executed_by node _ = []
 
 -- What that is to its order ---------------------------------------------------------------------------------------------------
 
@@ -103,11 +96,10 @@ abbrev pub change_deeds : Node → Signed model.ViewChange → List ViewDeed
 change_deeds node s = if leads node s.message.view then begun_deeds (record node { changes = with_change node.changes s }) else []
 
 abbrev pub message_deeds : Node → Signed Message → Message → List ViewDeed
-message_deeds node signed (Request request) = []
 message_deeds node signed (Order message) = turns.Orders (order.Takes node.keys (order_in signed message)) ∷ []
 message_deeds node signed (ViewChange change) = where_taken (change_refusal node (change_in signed change)) (change_deeds node (change_in signed change))
 message_deeds node signed (NewView new) = where_taken (view_refusal node (new_view_in signed new)) (turns.ChangesView node.keys new.view new.changes new.proposals ∷ [])
-message_deeds node signed (Reply reply) = []
+message_deeds node signed _ = []
 
 abbrev pub bytes_deeds : Node → Option (Signed Message) → List ViewDeed
 bytes_deeds node None = []
@@ -125,11 +117,10 @@ timeout_deeds node =
 abbrev pub deeds_of : Node → NodeStep → List ViewDeed
 deeds_of node (Delivers bytes) = bytes_deeds node (message_of bytes)
 deeds_of node (Takes signed) = message_deeds node signed signed.message
-deeds_of node (TakesRequests messages) = []
 deeds_of node (Proposes time) = turns.Orders (order.Proposes node.keys (pending_batch node time)) ∷ []
 deeds_of node Executes = if is_ready node then turns.Orders order.Executes ∷ [] else []
-deeds_of node Fails = []
 deeds_of node Checkpoints = where_taken (checkpoint_refusal node) (checkpoint_deeds node node.files)
 deeds_of node TimesOut = where_taken (timeout_refusal node) (timeout_deeds node)
 deeds_of node (Adopts certificate files table) =
     if may_adopt node certificate && bytes_eq (node_digest files table) certificate.digest then turns.Orders (order.Installs node.keys certificate) ∷ [] else []
+deeds_of node _ = []

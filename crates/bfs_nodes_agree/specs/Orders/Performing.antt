@@ -9,6 +9,7 @@ use Rattle.bfs_order.specs.Replica.Outcomes.{quiet}
 use Rattle.bfs_order.specs.Replica.States.{State}
 use Rattle.bfs_order.specs.declared.error.OrderError.{OrderError}
 use Rattle.bfs_order.specs.declared.error.OrderError.TheVariants.{Memory}
+use Rattle.bfs_nodes_agree.specs.Orders.Replicas.{votes_by}
 use Rattle.bfs_nodes_agree.specs.declared.order_calls.performing.OrderCall.{OrderCall}
 use Rattle.bfs_nodes_agree.specs.declared.order_calls.performing.OrderCall.TheVariants as code
 use Rattle.bfs_nodes_agree.specs.declared.order_calls.performing.Sent.{Sent}
@@ -32,11 +33,7 @@ messages_in (All sent) = sent.items
 abbrev pub sent_to_others : State → Call → Log
 sent_to_others s (Proposes keys batch) = take 1 (outcome s (Proposes keys batch)).sent
 sent_to_others s (Checkpoints keys number digest) = (outcome s (Checkpoints keys number digest)).sent
-sent_to_others s (Takes keys m) = (outcome s (Takes keys m)).sent
-sent_to_others s Executes = []
-sent_to_others s (Installs keys certificate) = []
-sent_to_others s (Leaves view) = []
-sent_to_others s (Enters keys view min_s handed) = (outcome s (Enters keys view min_s handed)).sent
+sent_to_others s call = votes_by s call
 
 -- the order is what the call's definition makes of it, and that is sent; a refused call changes nothing, by the definition too
 abbrev pub Does : State → Call → Result Sent OrderError → State → Type 0

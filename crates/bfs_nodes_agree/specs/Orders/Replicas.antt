@@ -12,7 +12,7 @@ use Rattle.bfs_order.specs.Replica.Executing.{next_order}
 use Rattle.bfs_order.specs.Replica.Refusals.{refusal}
 use Rattle.bfs_order.specs.Replica.States.{State, fresh, known}
 use Rattle.bfs_order.specs.Replica.Views.{leaving_refusal, entering_refusal, as_proposals, greatest_number}
-use Rattle.bfs_order.specs.Laws.Calls.{Call, Takes, Proposes, Executes, Checkpoints, Installs, Leaves, Enters, outcome}
+use Rattle.bfs_order.specs.Laws.Calls.{Call, Takes, Proposes, Executes, Leaves, Enters, outcome}
 use Rattle.bfs_agreement.specs.Histories.{IsIn, Certificate, ViewChange, NewView, World, WasSent, IsValidNewView}
 use Rattle.bfs_agreement.specs.Moves.{new_history}
 use Rattle.bfs_votes.specs.Tags.{checkpoint_tag}
@@ -54,35 +54,25 @@ where_taken (Some error) items = []
 abbrev pub votes_by : State → Call → Log
 votes_by s (Takes keys m) = (outcome s (Takes keys m)).sent
 votes_by s (Proposes keys batch) = (outcome s (Proposes keys batch)).sent
-votes_by s Executes = []
-votes_by s (Checkpoints keys number digest) = []
-votes_by s (Installs keys certificate) = []
-votes_by s (Leaves view) = []
 votes_by s (Enters keys view min_s handed) = (outcome s (Enters keys view min_s handed)).sent
+votes_by s _ = []
 
 -- the primary enters by its own NEW-VIEW
 abbrev pub offers_by : State → OrderDeed → Log
-offers_by s (Orders call) = []
-offers_by s (TimesOut change) = []
 offers_by s (ChangesView keys view min_s handed changes) = where_taken (entering_refusal s view) (if s.me == primary s.f view then as_proposals handed else [])
+offers_by s _ = []
 
 abbrev pub changes_by : State → OrderDeed → List ViewChange
-changes_by s (Orders call) = []
 changes_by s (TimesOut change) = where_taken (leaving_refusal s change.view) (change ∷ [])
-changes_by s (ChangesView keys view min_s handed changes) = []
+changes_by s _ = []
 
 abbrev pub message_in : Option (Signed OrderMessage) → Log
 message_in None = []
 message_in (Some m) = m ∷ []
 
 abbrev pub executed_by : State → Call → Log
-executed_by s (Takes keys m) = []
-executed_by s (Proposes keys batch) = []
 executed_by s Executes = message_in (next_order s)
-executed_by s (Checkpoints keys number digest) = []
-executed_by s (Installs keys certificate) = []
-executed_by s (Leaves view) = []
-executed_by s (Enters keys view min_s handed) = []
+executed_by s _ = []
 
 abbrev pub after_order_deed : OrderReplica → OrderDeed → OrderReplica
 after_order_deed r deed = record {
@@ -111,12 +101,9 @@ new_view view min_s handed changes =
 abbrev pub MayDoOrderDeed : (faulty : ℕ → Bool) → World → State → OrderDeed → Type 0
 MayDoOrderDeed faulty w s (Orders (Takes keys m)) =
     refusal keys s m ≡ None → (header m).tag < checkpoint_tag → WasSent faulty w (header m).tag (header m).sender (header m).view (header m).number (header m).digest
-MayDoOrderDeed faulty w s (Orders (Proposes keys batch)) = Unit {0}
-MayDoOrderDeed faulty w s (Orders Executes) = Unit {0}
-MayDoOrderDeed faulty w s (Orders (Checkpoints keys number digest)) = Unit {0}
-MayDoOrderDeed faulty w s (Orders (Installs keys certificate)) = Unit {0}
 MayDoOrderDeed faulty w s (Orders (Leaves view)) = ⊥
 MayDoOrderDeed faulty w s (Orders (Enters keys view min_s handed)) = ⊥
+MayDoOrderDeed faulty w s (Orders call) = Unit {0}
 MayDoOrderDeed faulty w s (TimesOut change) = TellsWhatIsPrepared s change
 MayDoOrderDeed faulty w s (ChangesView keys view min_s handed changes) =
     SlotsDiffer (headers (as_proposals handed)) × IsValidNewView s.f faulty w (new_view view min_s handed changes)

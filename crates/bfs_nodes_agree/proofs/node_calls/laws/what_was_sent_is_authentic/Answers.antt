@@ -1,4 +1,4 @@
-use Rattle.bfs_nodes_agree.proofs.Nodes.Giving.{fair_is_authentic, what_is_sent_is_fair}
+use Rattle.bfs_nodes_agree.proofs.Nodes.Agree.{fair_is_authentic, what_is_sent_is_fair}
 use Rattle.bfs_nodes_agree.proofs.node_calls.laws.what_was_sent_is_authentic.Goals as goal
 
 pub returns : goal.returns
