@@ -54,18 +54,28 @@ pub acted_at : (act : Node → Option Outcome) (world : World) (number : ℕ) (o
 acted_at act world number old new sent is did =
     acted world number old new (doing act old) sent is did ∙ ap (done_if number world) (sym (at_number act world number old is))
 
+-- What is sent does not depend on the replicas ------------------------------------------------------------------------------
+
+module _ (replicas : List Replica) (turn : Option ℕ) where
+  abbrev pub beside : World → World
+  beside world = record world { replicas = replicas; turn = turn }
+
+  posted_beside : (sender : ℕ) (world : World) (signed : Signed Message) → posted sender (beside world) signed ≡ beside (posted sender world signed)
+  posted_beside sender world signed = go (receivers_of signed.message)
+    where
+      go : (receivers : Receivers) → posted_to sender (noted sender (beside world) signed) signed receivers ≡ beside (posted_to sender (noted sender world signed) signed receivers)
+      go Replicas = refl
+      go (Client client) = refl
+
+  pub sent_beside : (sender : ℕ) (world : World) (sent : Messages) → fold (posted sender) (beside world) sent ≡ beside (fold (posted sender) world sent)
+  sent_beside sender world [] = refl
+  sent_beside sender world (signed ∷ sent) =
+      ap (λ (w : World). fold (posted sender) w sent) (posted_beside sender world signed) ∙ sent_beside sender (posted sender world signed) sent
+
 -- As many replicas as before -------------------------------------------------------------------------------------------
 
-posted_keeps : (sender : ℕ) (world : World) (signed : Signed Message) → (posted sender world signed).replicas ≡ world.replicas
-posted_keeps sender world signed = go (receivers_of signed.message)
-  where
-    go : (receivers : Receivers) → (posted_to sender (noted sender world signed) signed receivers).replicas ≡ world.replicas
-    go Replicas = refl
-    go (Client client) = refl
-
 all_posted_keep : (sender : ℕ) (world : World) (sent : Messages) → (fold (posted sender) world sent).replicas ≡ world.replicas
-all_posted_keep sender world [] = refl
-all_posted_keep sender world (signed ∷ sent) = all_posted_keep sender (posted sender world signed) sent ∙ posted_keeps sender world signed
+all_posted_keep sender world sent = ap (λ (w : World). w.replicas) (sent_beside world.replicas world.turn sender world sent)
 
 pub as_many : (number : ℕ) (world : World) (done : Option Outcome) → length (done_if number world done).replicas ≡ length world.replicas
 as_many number world None = refl

@@ -6,21 +6,16 @@ use Rattle.std.proofs.lemmas.Bool.{le-ltb}
 use Rattle.std.proofs.lemmas.List.Elements.{All-tail}
 use Rattle.std.proofs.lemmas.List.{append-nil, append_assoc, drop_all, get_or-set_same, length-append, length-set, set-set, set_at, take_all}
 use Rattle.std.proofs.lemmas.Option.{same_Some, slice_get-get_or}
-use Rattle.bfs_messages.specs.declared.message.Message.{Message}
-use Rattle.bfs_messages.specs.declared.signed.Signed.{Signed}
 use Rattle.bfs_model.specs.Bytes.Call.{◌>>=◌}
 use Rattle.bfs_node.specs.Advancing.{advancing}
 use Rattle.bfs_node.specs.Nodes.{Messages, Node, Outcome}
-use Rattle.bfs_node.specs.Receivers.{receivers_of}
-use Rattle.bfs_node.specs.declared.receivers.Receivers.{Receivers}
-use Rattle.bfs_node.specs.declared.receivers.Receivers.TheVariants.{Replicas, Client}
-use Rattle.bfs_cluster.proofs.Acting.{at_number, in_turn, with_itself}
+use Rattle.bfs_cluster.proofs.Acting.{at_number, beside, in_turn, sent_beside, with_itself}
 use Rattle.bfs_cluster.proofs.Settling.{at_delivery, at_turn, by_both, by_one, one_step}
 use Rattle.bfs_cluster.specs.Inside.Acts.{Acts, doing}
 use Rattle.bfs_cluster.specs.Inside.Aside.{AreBack, CameOut, CameTo, Comes, Goes, Ran, RunsOut, back, posted_all, sent_by}
 use Rattle.bfs_cluster.specs.Inside.Requests.{with_requests}
 use Rattle.bfs_cluster.specs.Steps.{after, has_ready, step, turn_taken, turning}
-use Rattle.bfs_cluster.specs.World.{Replica, World, node_if_heard, noted, posted, posted_to, with_node}
+use Rattle.bfs_cluster.specs.World.{Replica, World, node_if_heard, posted, with_node}
 use Rattle.bfs_cluster.specs.declared.side_by_side.Busy.{Busy}
 
 -- One more batch -------------------------------------------------------------------------------------------------------------
@@ -41,26 +36,11 @@ module _ (Executes : Node → Type 0) where
 
 -- What is sent does not depend on the replicas ----------------------------------------------------------------------------
 
-module _ (replicas : List Replica) (turn : Option ℕ) where
-  abbrev pub beside : World → World
-  beside world = record world { replicas = replicas; turn = turn }
-
-  posted_beside : (sender : ℕ) (world : World) (signed : Signed Message) → posted sender (beside world) signed ≡ beside (posted sender world signed)
-  posted_beside sender world signed = go (receivers_of signed.message)
-    where
-      go : (receivers : Receivers) → posted_to sender (noted sender (beside world) signed) signed receivers ≡ beside (posted_to sender (noted sender world signed) signed receivers)
-      go Replicas = refl
-      go (Client client) = refl
-
-  sent_beside : (sender : ℕ) (world : World) (sent : Messages) → fold (posted sender) (beside world) sent ≡ beside (fold (posted sender) world sent)
-  sent_beside sender world [] = refl
-  sent_beside sender world (signed ∷ sent) =
-      ap (λ (w : World). fold (posted sender) w sent) (posted_beside sender world signed) ∙ sent_beside sender (posted sender world signed) sent
-
-  all_beside : (sender : ℕ) (world : World) (all : List Messages) → posted_all sender (beside world) all ≡ beside (posted_all sender world all)
-  all_beside sender world [] = refl
-  all_beside sender world (sent ∷ all) =
-      ap (λ (w : World). posted_all sender w all) (sent_beside sender world sent) ∙ all_beside sender (fold (posted sender) world sent) all
+all_beside : (replicas : List Replica) (turn : Option ℕ) (sender : ℕ) (world : World) (all : List Messages)
+    → posted_all sender (beside replicas turn world) all ≡ beside replicas turn (posted_all sender world all)
+all_beside replicas turn sender world [] = refl
+all_beside replicas turn sender world (sent ∷ all) =
+    ap (λ (w : World). posted_all sender w all) (sent_beside replicas turn sender world sent) ∙ all_beside replicas turn sender (fold (posted sender) world sent) all
 
 -- One replica's turn -------------------------------------------------------------------------------------------------------
 

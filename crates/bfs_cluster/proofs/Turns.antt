@@ -1,11 +1,11 @@
 -- What a replica does at its turn.
-use Rattle.std.proofs.Common.{◌≡◌, ◌∙◌, Bool, ◌&&◌, List, [], ◌∷◌, Option, Some, None, true, false, refl, sym, ap, subst}
+use Rattle.std.proofs.Common.{◌≡◌, ◌∙◌, Bool, ◌&&◌, List, [], ◌∷◌, Option, Some, None, true, false, refl, sym, ap, ap₂, subst}
 use Rattle.std.specs.Option.{option_map}
-use Rattle.bfs_node.specs.Advancing.{advancing, next_of, unless_refused, with_due_checkpoint}
-use Rattle.bfs_node.specs.Executing.{after_execution, execution, is_next, is_ready}
+use Rattle.bfs_node.specs.Advancing.{Acts as NodeActs, advancing, next_of, unless_refused, with_due_checkpoint}
+use Rattle.bfs_node.specs.Executing.{execution, is_next, is_ready}
 use Rattle.bfs_node.specs.Nodes.{Messages, Node, Outcome}
 use Rattle.bfs_node.specs.declared.error.NodeError.{NodeError}
-use Rattle.bfs_cluster.specs.Inside.Acts.{Acts, CheckpointsAfter, doing}
+use Rattle.bfs_cluster.specs.Inside.Acts.{Acts, doing}
 use Rattle.bfs_cluster.specs.Inside.Aside.{Ran}
 use Rattle.bfs_cluster.specs.Steps.{has_ready}
 use Rattle.bfs_cluster.specs.World.{Replica}
@@ -15,33 +15,14 @@ pub if_heard : (act : Node → Option Outcome) (old : Replica) → old.heard ≡
 if_heard act old heard =
     ap (λ (h : Bool). doing act (record { heard = h; node = old.node })) heard
 
-same_outcome : (outcome : Outcome) (now : Node) (sent : Messages) → outcome.now ≡ now → outcome.sent ≡ sent → outcome ≡ record { now = now; sent = sent }
-same_outcome outcome now sent first second =
-    ap (λ (node : Node). record { now = node; sent = outcome.sent }) first ∙ ap (λ (log : Messages). record { now = now; sent = log }) second
-
-came : (new : Replica) (sent : Messages) (outcome : Outcome) → new.heard ≡ true → outcome ≡ record { now = new.node; sent = sent }
-    → (new ≡ record { heard = true; node = outcome.now }) × (Some sent ≡ Some outcome.sent)
-came new sent outcome heard is = (
-  ap (λ (h : Bool). record { heard = h; node = new.node }) heard ∙ ap (λ (o : Outcome). record { heard = true; node = o.now }) (sym is),
-  ap (λ (o : Outcome). Some o.sent) (sym is),
-)
-
--- a batch is executed, and then a checkpoint made where one is due
-pub executed : (old between new : Replica) (before sent : Messages) → old.heard ≡ true → between.heard ≡ true
-    → option_map (option_map (λ (outcome : Outcome). outcome.sent)) (execution old.node) ≡ Some (Some before)
-    → option_map (after_execution old.node) (execution old.node) ≡ Some between.node → CheckpointsAfter between before new sent
-    → Acts (doing advancing old) old new (Some sent)
-executed old between new before sent heard stays told now after =
-    subst (λ (done : Option Outcome). Acts done old new (Some sent)) (sym (if_heard advancing old heard)) (go (execution old.node) told now)
+-- what its node does
+pub node_did : (act : Node → Option Outcome) (old new : Replica) (sent : Option Messages) → old.heard ≡ true → new.heard ≡ old.heard → NodeActs (act old.node) old.node new.node sent
+    → Acts (doing act old) old new sent
+node_did act old new sent heard same did = subst (λ (done : Option Outcome). Acts done old new sent) (sym (if_heard act old heard)) (go (act old.node) did)
   where
-    go : (ran : Option (Option Outcome)) → option_map (option_map (λ (outcome : Outcome). outcome.sent)) ran ≡ Some (Some before)
-        → option_map (after_execution old.node) ran ≡ Some between.node → Acts (option_map with_due_checkpoint (next_of ran)) old new (Some sent)
-    go None told now = absurd (cc)
-    go (Some None) told now = absurd (cc)
-    go (Some (Some outcome)) told now =
-        let first : outcome.now ≡ between.node = cc in
-        let second : outcome.sent ≡ before = cc in
-        came new sent (with_due_checkpoint outcome) (after.0 ∙ stays) (ap with_due_checkpoint (same_outcome outcome between.node before first second) ∙ after.1)
+    go : (done : Option Outcome) → NodeActs done old.node new.node sent → Acts done old new sent
+    go None did = (ap₂ (λ (h : Bool) (n : Node). record { heard = h; node = n }) same did.0, did.1)
+    go (Some done) did = (ap₂ (λ (h : Bool) (n : Node). record { heard = h; node = n }) (same ∙ heard) did.0, did.1)
 
 -- Calls that are refused or done -------------------------------------------------------------------------------------------
 
@@ -50,9 +31,8 @@ pub did : (refusal : Node → Option NodeError) (done : Node → Outcome) (old n
     → new.heard ≡ old.heard → new.node ≡ (done old.node).now → sent ≡ (done old.node).sent
     → Acts (doing (λ node. unless_refused (refusal node) (Some (done node))) old) old new (Some sent)
 did refusal done old new sent heard none same now said =
-    subst (λ (ran : Option Outcome). Acts ran old new (Some sent))
-    (sym (if_heard (λ node. unless_refused (refusal node) (Some (done node))) old heard ∙ ap (λ (r : Option NodeError). unless_refused r (Some (done old.node))) none))
-    (ap (λ (h : Bool). record { heard = h; node = new.node }) (same ∙ heard) ∙ ap (λ (n : Node). record { heard = true; node = n }) now, ap (λ (log : Messages). Some log) said)
+    node_did (λ node. unless_refused (refusal node) (Some (done node))) old new (Some sent) heard same
+    (subst (λ (r : Option NodeError). NodeActs (unless_refused r (Some (done old.node))) old.node new.node (Some sent)) (sym none) (now, ap (λ (log : Messages). Some log) said))
 
 -- Whether a batch is next ---------------------------------------------------------------------------------------------------
 

@@ -1,4 +1,4 @@
-ghost use Rattle.std.specs.Prelude.{◌≡◌, true, fold, OnErr, OnOk};
+ghost use Rattle.std.specs.Prelude.{◌≡◌, fold, OnErr, OnOk};
 ghost use Rattle.std.specs.List.{list_all, list_any};
 ghost use Rattle.bfs_cluster.specs.Blocks.{HasBlockWork, HasRequests, requested, with_block};
 ghost use Rattle.bfs_cluster.specs.Inside.Requests.{is_request};
@@ -25,10 +25,7 @@ impl Cluster {
     {
         match self.pass_block(rt, time, requests) {
             Ok(()) => Ok(()),
-            Err(error) => {
-                self.empty();
-                Err(error)
-            }
+            Err(Memory) => Err(self.empty()),
         }
     }
 
@@ -59,7 +56,8 @@ impl Cluster {
             return Ok(());
         }
         if are_requests(messages) {
-            self.take_requests(rt, time, messages)
+            // none makes a replica send anything
+            self.take_requests_each(rt, time, messages)
         } else {
             self.request_each(rt, messages)
         }
@@ -69,19 +67,6 @@ impl Cluster {
         ensures { result ≡ list_any (λ replica. replica.heard) self.now.replicas }
     {
         self.replicas.iter().any(|replica| replica.heard)
-    }
-
-    // None makes a replica send anything.
-    fn take_requests<R: Threads + Sync>(
-        &mut self,
-        rt: &R,
-        time: Time,
-        messages: &[Signed<Message>],
-    ) -> Result<(), Memory>
-        requires { list_all is_request messages.now ≡ true }
-        ensures { OnOk result (self.new ≡ fold requested self.old messages.now) }
-    {
-        self.take_requests_each(rt, time, messages)
     }
 
     fn request_each<R: Threads + Sync>(

@@ -1,5 +1,5 @@
 // Replicas that are behind adopt the stable snapshot of one that is ahead.
-ghost use Rattle.std.specs.Prelude.{◌≡◌, ◌<◌, List, ℕ, length, IsSome, IfOk, OnErr};
+ghost use Rattle.std.specs.Prelude.{◌≡◌, ◌<◌, length, IsSome, IfOk, OnErr};
 ghost use Rattle.std.specs.Option.{option_map};
 ghost use Rattle.bfs_cluster.specs.CatchingUp.{HasOffer, Offer as Offered, ahead_of, offer_to};
 ghost use Rattle.bfs_cluster.specs.Inside.Trying.{AllCatchUpIf, CatchesUpIf, TakesIf};
@@ -72,7 +72,7 @@ impl Cluster {
         match self.ahead_of(replica.node.last_executed()) {
             None => Ok(None),
             Some(stable) => Ok(Some(Offer {
-                text: self.copy_of(stable.text)?,
+                text: Vec::from_slice(self.alloc, stable.text)?,
                 checkpoint: stable.checkpoint.try_clone(self.alloc)?,
             })),
         }
@@ -87,13 +87,5 @@ impl Cluster {
             }
         }
         None
-    }
-
-    fn copy_of(&self, text: &[u8]) -> Result<Vec<u8>, Memory>
-        ensures { IfOk result (λ copy. copy.items ≡ text.now) }
-    {
-        let mut copy = Vec::new(self.alloc);
-        copy.extend_from_slice(text)?;
-        Ok(copy)
     }
 }

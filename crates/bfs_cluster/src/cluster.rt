@@ -107,12 +107,13 @@ impl Cluster {
     }
 
     /// Once memory ran out, a message may be lost and a file system may have failed: nothing is kept.
-    pub(crate) fn empty(&mut self)
+    pub(crate) fn empty(&mut self) -> Memory
         ensures { self.new ≡ emptied }
     {
         self.replicas = Vec::new(self.alloc);
         self.queue = VecDeque::new(self.alloc);
         self.replies = Vec::new(self.alloc);
         self.watched = None;
+        Memory
     }
 }

@@ -10,7 +10,6 @@ mod replica;
 mod side_by_side;
 mod standings;
 mod stepping;
-mod timeouts;
 mod watching;
 
 pub use bfs_node::{Engine, Executor, Gate, NoGate, Workers};

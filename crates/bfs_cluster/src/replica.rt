@@ -2,16 +2,15 @@ ghost use Rattle.std.specs.Prelude.{◌≡◌, true, Some, None, IsSome, map, If
 ghost use Rattle.std.specs.Option.{option_map};
 ghost use Rattle.bfs_cluster.specs.Blocks.{proposal};
 ghost use Rattle.bfs_cluster.specs.CatchingUp.{Offer, offered};
-ghost use Rattle.bfs_cluster.specs.Inside.Acts.{Acts, CheckpointsAfter, MayTake, deed, doing};
+ghost use Rattle.bfs_cluster.specs.Inside.Acts.{Acts, MayTake, deed, doing};
 ghost use Rattle.bfs_cluster.specs.Inside.Aside.{RunsOut};
 ghost use Rattle.bfs_cluster.specs.Inside.Requests.{with_requests};
 ghost use Rattle.bfs_cluster.specs.Inside.Trying.{Tries};
 ghost use Rattle.bfs_cluster.specs.Standings.{is_in};
 ghost use Rattle.bfs_cluster.specs.Steps.{delivery, has_ready};
-ghost use Rattle.bfs_cluster.specs.Timeouts.{timing_out, waiting_proposal};
+ghost use Rattle.bfs_cluster.specs.Timeouts.{timing_out};
 ghost use Rattle.bfs_node.specs.Adopting.{may_adopt};
 ghost use Rattle.bfs_node.specs.Advancing.{advancing};
-ghost use Rattle.bfs_node.specs.Checkpoints.{checkpoint_refusal};
 ghost use Rattle.bfs_node.specs.Executing.{Runs};
 
 use crate::acts::Act;
@@ -87,7 +86,12 @@ impl Replica {
     {
         match act {
             Act::Propose(time) => self.propose(alloc, *time),
-            Act::ProposeWaiting(time) => self.propose_waiting(alloc, *time),
+            Act::ProposeWaiting(time) => {
+                if !self.heard || self.node.pending() == 0 {
+                    return Ok(None);
+                }
+                self.propose(alloc, *time)
+            }
             Act::TimeOut => self.time_out(),
         }
     }
@@ -101,28 +105,10 @@ impl Replica {
             return Ok(None);
         }
         match self.node.propose(time) {
-            Ok(own) => {
-                let mut sent = Vec::new(alloc);
-                sent.push(own)?;
-                Ok(Some(sent))
-            }
+            Ok(own) => Ok(Some(vec![in alloc; own]?)),
             Err(NodeError::Memory) => Err(Memory),
             Err(_) => Ok(None),
         }
-    }
-
-    fn propose_waiting(
-        &mut self,
-        alloc: Global,
-        time: Time,
-    ) -> Result<Option<Vec<Signed<Message>>>, Memory>
-        ensures done { IfOk result (λ sent. Acts (doing (waiting_proposal time) self.old) self.old self.new (option_map (λ all. all.items) sent)) }
-        ensures memory { OnErr result (IsSome (doing (waiting_proposal time) self.old)) }
-    {
-        if !self.heard || self.node.pending() == 0 {
-            return Ok(None);
-        }
-        self.propose(alloc, time)
     }
 
     fn time_out(&mut self) -> Result<Option<Vec<Signed<Message>>>, Memory>
@@ -154,14 +140,7 @@ impl Replica {
         if !self.is_ready() {
             return Ok(None);
         }
-        match self.node.execute_ready(rt, *executor, gate) {
-            Ok(Some(mut sent)) => {
-                self.make_checkpoint(rt, &mut sent)?;
-                Ok(Some(sent))
-            }
-            Ok(None) => Ok(None),
-            Err(_) => Err(Memory),
-        }
+        self.node.advance_once(rt, executor, gate)
     }
 
     /// Whether it is heard, and a batch is next.
@@ -228,22 +207,6 @@ impl Replica {
             Ok(()) => Ok(true),
             Err(NodeError::Memory) => Err(Memory),
             Err(_) => Ok(false),
-        }
-    }
-
-    // its message is put behind what is sent
-    fn make_checkpoint<R: Threads + Sync>(
-        &mut self,
-        rt: &R,
-        sent: &mut Vec<Signed<Message>>,
-    ) -> Result<(), Memory>
-        ensures done { OnOk result (CheckpointsAfter self.old sent.old.items self.new sent.new.items) }
-        ensures memory { OnErr result (checkpoint_refusal self.old.node ≡ None) }
-    {
-        match self.node.checkpoint(rt) {
-            Ok(signed) => Ok(sent.push(signed)?),
-            Err(NodeError::Memory) => Err(Memory),
-            Err(_) => Ok(()),
         }
     }
 }

@@ -1,6 +1,6 @@
 // Replicas are busy side by side while none takes what another one sends.
-ghost use Rattle.std.specs.Prelude.{◌≡◌, true, [], None, Some, Ok, All, length, map, IfOk, OnOk};
-ghost use Rattle.std.specs.List.{AllZip, fold};
+ghost use Rattle.std.specs.Prelude.{◌≡◌, true, [], None, Some, Ok, All, map, IfOk, OnOk};
+ghost use Rattle.std.specs.List.{fold};
 ghost use Rattle.bfs_cluster.specs.Inside.Aside.{AreBack, CameOut, CameTo, Goes, back};
 ghost use Rattle.bfs_cluster.specs.Inside.Requests.{with_requests};
 ghost use Rattle.bfs_node.specs.Executing.{Runs};
@@ -72,7 +72,13 @@ impl Cluster {
         ensures { OnOk result (self.new ≡ record self.old { replicas = map (with_requests messages.now) self.old.replicas }) }
     {
         let mut all = self.take_out()?;
-        take_requests_all(rt, time, all.as_mut_slice(), messages);
+        par_for_each_mut(
+            rt,
+            all.as_mut_slice(),
+            |_number: usize, one: &mut Busy|
+                ensures { CameTo messages.entry.now one.old one.new }
+            { one.take_requests(rt, time, messages) },
+        );
         self.put_back(all)
     }
 
@@ -87,8 +93,14 @@ impl Cluster {
         requires { self.old.turn ≡ None }
         ensures { OnOk result (Goes (Runs G.ran executor.now.engine) true (record self.old { turn = Some 0 }) self.new) }
     {
-        let mut all = self.take_out()?;
-        execute_all(rt, self.alloc, all.as_mut_slice(), executor, gate);
+        let (alloc, mut all) = (self.alloc, self.take_out()?);
+        par_for_each_mut(
+            rt,
+            all.as_mut_slice(),
+            |number: usize, one: &mut Busy|
+                ensures { CameOut (Runs G.ran executor.entry.now.engine) one.old one.new }
+            { one.execute_all(rt, alloc, &executor_of(executor, number), gate) },
+        );
         self.put_back(all)
     }
 
@@ -127,43 +139,6 @@ impl Cluster {
         one.came?;
         self.post_all(number, one.sent)
     }
-}
-
-fn take_requests_all<R: Threads + Sync>(
-    rt: &R,
-    time: Time,
-    all: &mut [Busy],
-    messages: &[Signed<Message>],
-)
-    ensures each { AllZip (CameTo messages.now) all.old all.new }
-    ensures len { length all.new ≡ length all.old }
-{
-    par_for_each_mut(
-        rt,
-        all,
-        |_number: usize, one: &mut Busy|
-            ensures { CameTo messages.entry.now one.old one.new }
-        { one.take_requests(rt, time, messages) },
-    );
-}
-
-fn execute_all<R: Threads + Wait + Sync, G: Gate + Sync>(
-    rt: &R,
-    alloc: Global,
-    all: &mut [Busy],
-    executor: &Executor,
-    gate: &G,
-)
-    ensures each { AllZip (CameOut (Runs G.ran executor.now.engine)) all.old all.new }
-    ensures len { length all.new ≡ length all.old }
-{
-    par_for_each_mut(
-        rt,
-        all,
-        |number: usize, one: &mut Busy|
-            ensures { CameOut (Runs G.ran executor.entry.now.engine) one.old one.new }
-        { one.execute_all(rt, alloc, &executor_of(executor, number), gate) },
-    );
 }
 
 // with so many workers more, up to the most there can be and then from one on

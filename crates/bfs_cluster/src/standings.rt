@@ -1,4 +1,4 @@
-ghost use Rattle.std.specs.Prelude.{◌≡◌, None, Some, IfOk, IsErr, OnErr, count_by, length};
+ghost use Rattle.std.specs.Prelude.{◌≡◌, None, Some, IfOk, IsErr, OnErr};
 ghost use Rattle.bfs_cluster.specs.Standings.{are_in, common_view, is_in, most_executed, quorum, standing_at, standings};
 ghost use Rattle.bfs_cluster.specs.World.{SomeHeard};
 
@@ -41,14 +41,8 @@ impl Cluster {
         let found = self
             .replicas
             .iter()
-            .find(|replica| self.is_common(replica))?;
+            .find(|replica| self.are_in(replica.node.view()))?;
         Some(found.node.view())
-    }
-
-    fn is_common(&self, replica: &Replica) -> bool
-        ensures { result ≡ are_in self.now replica.now.node.order.view }
-    {
-        self.are_in(replica.node.view())
     }
 
     fn are_in(&self, view: u64) -> bool

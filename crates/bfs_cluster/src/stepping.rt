@@ -32,10 +32,7 @@ impl Cluster {
     {
         match self.go_on(rt, &executor, gate) {
             Ok(()) => Ok(()),
-            Err(error) => {
-                self.empty();
-                Err(error)
-            }
+            Err(Memory) => Err(self.empty()),
         }
     }
 

@@ -1,7 +1,7 @@
 -- When a CHECKPOINT makes its number stable: the low mark rises to it, and the CHECKPOINTs that tell it are a certificate.
 use Rattle.std.proofs.Common.{◌≡◌, ◌∙◌, ◌<◌, ℕ, ◌==◌, Bool, true, false, ◌&&◌, not, cond, ltb, List, [], ◌∷◌, ◌++◌, Option, Some, None, refl, sym, ap, ap₂, subst, arith}
 use Rattle.std.specs.Prelude.{IfSome}
-use Rattle.std.proofs.lemmas.Bool.{and_parts, eqb-true, ltb-true, eq-eqb, ne_eqb}
+use Rattle.std.proofs.lemmas.Bool.{and_parts, eqb-true, ltb-true, eq-eqb, ne_eqb, not-false}
 use Rattle.std.proofs.lemmas.List.{append-nil}
 use Rattle.bfs_auth.specs.Keys.{Keys}
 use Rattle.bfs_votes.specs.Votes.{Header, SlotsDiffer, is_taken}
@@ -49,13 +49,9 @@ news_taken keys s m tag none =
     let free = passed (is_there s h) _ _ agrees.1 in
     record {
       checkpoint = eqb-true h.tag 5 tag;
-      above = ltb-true s.low h.number (and_parts (ltb s.low h.number) _ (and_parts (is_between s h.number) _ (is_true (is_inside s h) inside.0)).0).0;
+      above = ltb-true s.low h.number (and_parts (ltb s.low h.number) _ (and_parts (is_between s h.number) _ (not-false (is_inside s h) inside.0)).0).0;
       free = free.0;
     }
-  where
-    is_true : (b : Bool) → not b ≡ false → b ≡ true
-    is_true true e = refl
-    is_true false e = absurd cc
 
 pub own_news : (keys : Keys) (s : State) (number : ℕ) (digest : List ℕ) → checkpoint_refusal s number ≡ None → IsNews s (checkpoint keys s number digest)
 own_news keys s number digest none =
@@ -63,13 +59,9 @@ own_news keys s number digest none =
     let free = passed _ _ _ marks.1 in
     record {
       checkpoint = refl;
-      above = ltb-true s.low number (and_parts (ltb s.low number) _ (and_parts (is_between s number) _ (is_true _ marks.0)).0).0;
+      above = ltb-true s.low number (and_parts (ltb s.low number) _ (and_parts (is_between s number) _ (not-false _ marks.0)).0).0;
       free = free.0;
     }
-  where
-    is_true : (b : Bool) → not b ≡ false → b ≡ true
-    is_true true e = refl
-    is_true false e = absurd cc
 
 -- What it makes stable ----------------------------------------------------------------------------------------------------
 
@@ -143,23 +135,11 @@ own_certificate keys s number digest m after copies is none differ now copied lo
     let own = checkpoint keys s number digest in
     certificate_at s own after number copies now (own_news keys s number digest none) differ refl (subst (λ (one : Signed OrderMessage). Certifies s one copies) is copied) low
 
-pub own_now : (node : Node) (keys : Keys) (s : State) (number : ℕ) (digest : List ℕ) (m : Signed OrderMessage) (after : State) (copies : Option StableCheckpoint) → m ≡ checkpoint keys s number digest
-    → checkpoint_refusal s number ≡ None → after ≡ (checkpointed keys s number digest).now
-    → Certifies s m copies
-    → settled_at (record node { order = after }) number copies
-    ≡ record node {
-      order = (checkpointed keys s number digest).now;
-      snapshots = settled_by (with_message s (checkpoint keys s number digest)) (header (checkpoint keys s number digest)) node.snapshots;
-    }
-own_now node keys s number digest m after copies is none now copied =
-    settled_now node s (checkpoint keys s number digest) after number copies now (own_news keys s number digest none) refl
-    (subst (λ (one : Signed OrderMessage). Certifies s one copies) is copied)
-
-pub told_now : (node : Node) (number : ℕ) (digest : List ℕ) (snapshot : Snapshot) (pushed : Keeping) → number ≡ node.order.last → digest ≡ snapshot.digest
-    → pushed ≡ with_snapshot node.snapshots number snapshot
-    → record node {
-      order = (checkpointed node.keys node.order number digest).now;
-      snapshots = settled_by (with_message node.order (checkpoint node.keys node.order number digest)) (header (checkpoint node.keys node.order number digest)) pushed;
-    }
-    ≡ (with_checkpoint node snapshot).now
-told_now node number digest snapshot pushed last same is = rw (is, last, same) refl
+pub told_now : (node : Node) (number : ℕ) (digest : List ℕ) (snapshot : Snapshot) (m : Signed OrderMessage) (after : State) (pushed : Keeping) (copies : Option StableCheckpoint)
+    → number ≡ node.order.last → digest ≡ snapshot.digest → pushed ≡ with_snapshot node.snapshots number snapshot → m ≡ checkpoint node.keys node.order number digest
+    → checkpoint_refusal node.order number ≡ None → after ≡ (checkpointed node.keys node.order number digest).now → Certifies node.order m copies
+    → settled_at (record node { order = after; snapshots = pushed }) number copies ≡ (with_checkpoint node snapshot).now
+told_now node number digest snapshot m after pushed copies last same kept is none now copied =
+    settled_now (record node { snapshots = pushed }) node.order (checkpoint node.keys node.order number digest) after number copies now (own_news node.keys node.order number digest none) refl
+    (subst (λ (one : Signed OrderMessage). Certifies node.order one copies) is copied)
+    ∙ rw (kept, last, same) refl

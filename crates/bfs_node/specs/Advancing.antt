@@ -29,6 +29,11 @@ next_of (Some next) = next
 abbrev pub advancing : Node → Option Outcome
 advancing node = option_map with_due_checkpoint (next_of (execution node))
 
+-- it has done that and gives what is sent, or it did nothing
+abbrev pub Acts : Option Outcome → (old new : Node) → (sent : Option Messages) → Type 0
+Acts None old new sent = (new ≡ old) × (sent ≡ None)
+Acts (Some done) old new sent = (new ≡ done.now) × (sent ≡ Some done.sent)
+
 -- after so many batches, with all that is sent meanwhile; the checkpoint that is due at first was not made when memory ran out
 abbrev pub advanced : (batches : ℕ) → Node → Outcome
 advanced zero node = with_due_checkpoint (record { now = node; sent = [] })

@@ -91,10 +91,7 @@ message_refusal node signed (Reply reply) = Some error.WrongKind
 -- what of that is known before memory is asked for: all, but for the choice and the view of a NEW-VIEW
 abbrev pub early_message_refusal : Node → Signed Message → Message → Option NodeError
 early_message_refusal node signed (NewView new) = option_map of_view (ground_refusal node.keys (new_view_in signed new))
-early_message_refusal node signed (Request request) = request_refusal node (request_in signed request)
-early_message_refusal node signed (Order message) = order_refusal node (order_in signed message)
-early_message_refusal node signed (ViewChange change) = change_refusal node (change_in signed change)
-early_message_refusal node signed (Reply reply) = Some error.WrongKind
+early_message_refusal node signed message = message_refusal node signed message
 
 abbrev pub early_refusal : Node → Signed Message → Option NodeError
 early_refusal node signed = early_message_refusal node signed signed.message

@@ -4,8 +4,6 @@ use Rattle.bfs_checkpoints.specs.declared.adoption.AdoptError.{AdoptError}
 use Rattle.bfs_checkpoints.specs.declared.adoption.AdoptError.TheVariants as adopting
 use Rattle.bfs_codec.specs.declared.error.DecodeError.{DecodeError}
 use Rattle.bfs_codec.specs.declared.error.DecodeError.TheVariants as decoding
-use Rattle.bfs_digest.specs.declared.errors.RestoreError.{RestoreError}
-use Rattle.bfs_digest.specs.declared.errors.RestoreError.TheVariants as restoring
 use Rattle.bfs_order.specs.declared.error.OrderError.{OrderError}
 use Rattle.bfs_order.specs.declared.error.OrderError.TheVariants as order
 use Rattle.bfs_serial.specs.declared.executor.ExecError.{ExecError}
@@ -40,12 +38,6 @@ of_adopting adopting.WrongVersion = node.WrongVersion
 of_adopting adopting.NotWellFormed = node.NotWellFormed
 of_adopting adopting.DigestDiffers = node.DigestDiffers
 of_adopting adopting.Memory = node.Memory
-
-abbrev pub of_restoring : RestoreError → NodeError
-of_restoring restoring.Malformed = node.MalformedText
-of_restoring restoring.WrongVersion = node.WrongVersion
-of_restoring restoring.NotWellFormed = node.NotWellFormed
-of_restoring restoring.Memory = node.Memory
 
 abbrev pub of_view : ViewError → NodeError
 of_view view.BadAuthenticator = node.BadAuthenticator

@@ -1,7 +1,7 @@
 // A replica that is behind takes over the stable snapshot of another one.
-ghost use Rattle.std.specs.Prelude.{◌≡◌, ◌≢◌, true, false, length, IfOk, IfErr, OnOk, OnErr};
+ghost use Rattle.std.specs.Prelude.{◌≡◌, ◌≢◌, true, false, length, IfErr, OnOk, OnErr};
 ghost use Rattle.bfs_log.specs.Certificates.{is_shown};
-ghost use Rattle.bfs_node.specs.Adopting.{Adopts, IsAdoptionRefusal, holding, is_ahead, may_adopt};
+ghost use Rattle.bfs_node.specs.Adopting.{Adopts, IsAdoptionRefusal, holding, may_adopt};
 ghost use Rattle.bfs_node.specs.declared.error.NodeError as refusal;
 ghost use Rattle.bfs_node.specs.declared.error.NodeError.TheVariants as error;
 ghost use Rattle.bfs_order.specs.Replica.Installing.{installed};
@@ -52,14 +52,9 @@ impl Node {
     fn may_adopt(&self, checkpoint: &StableCheckpoint) -> bool
         ensures { result ≡ may_adopt self.now checkpoint.now }
     {
-        checkpoint.is_shown(&self.keys, self.order.f()) && self.is_ahead(checkpoint.number())
-    }
-
-    fn is_ahead(&self, number: u64) -> bool
-        ensures { result ≡ is_ahead self.now number }
-    {
-        let last = self.order.last_executed();
-        last < number || (number == last && !self.files.is_live())
+        let (last, number) = (self.order.last_executed(), checkpoint.number());
+        checkpoint.is_shown(&self.keys, self.order.f())
+            && (last < number || (number == last && !self.files.is_live()))
     }
 
     // What may want memory comes before anything changes.
@@ -71,19 +66,14 @@ impl Node {
     {
         certificates_make_checkpoints_stable();
         let copy = checkpoint.try_clone(self.alloc)?;
-        let Adopted {
-            files,
-            table,
-            snapshot,
-        } = adopted;
-        self.snapshots.push(checkpoint.number(), snapshot)?;
+        self.snapshots.push(checkpoint.number(), adopted.snapshot)?;
         if !self.install(checkpoint) {
             self.snapshots.pop();
             return Err(Memory);
         }
         self.snapshots.settle(copy);
-        self.files = files;
-        self.table = table;
+        self.files = adopted.files;
+        self.table = adopted.table;
         Ok(())
     }
 

@@ -1,9 +1,9 @@
 // A replica goes on by itself.
 ghost use Rattle.std.specs.Prelude.{◌≡◌, ◌≢◌, ◌↔◌, None, IfOk, IfErr, IsErrOf, IsSome, OnErr, OnOk};
 ghost use Rattle.std.specs.Option.{option_map};
-ghost use Rattle.bfs_node.specs.Advancing.{Advances, StopsAt, StopsShort, advancing};
+ghost use Rattle.bfs_node.specs.Advancing.{Acts, Advances, StopsAt, StopsShort, advancing};
 ghost use Rattle.bfs_node.specs.Executing.{Runs};
-ghost use Rattle.bfs_node.specs.Inside.Acting.{Acts, CheckpointsAfter};
+ghost use Rattle.bfs_node.specs.Inside.Acting.{CheckpointsAfter};
 ghost use Rattle.bfs_node.specs.declared.error.NodeError.TheVariants as error;
 
 use crate::error::NodeError;
@@ -46,8 +46,9 @@ impl Node {
         unreachable!()
     }
 
-    // by one batch; `None` where none is next
-    fn advance_once<R: Threads + Wait + Sync, G: Gate + Sync>(
+    /// Executes the next committed batch as `execute_ready` does, and makes the checkpoint that is due behind it; `None` where no batch is next.
+    /// `Memory` if memory runs out: the file system has failed then, or the batch is executed, and what was to be sent is lost.
+    pub fn advance_once<R: Threads + Wait + Sync, G: Gate + Sync>(
         &mut self,
         rt: &R,
         executor: &Executor,

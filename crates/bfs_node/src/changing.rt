@@ -1,14 +1,14 @@
 // Views change.
-ghost use Rattle.std.specs.Prelude.{◌≡◌, ◌≢◌, ◌<◌, ◌≤◌, ◌^◌, ◌++◌, ◌∷◌, [], None, Some, IfOk, IfErr, OnOk, OnErr, true};
+ghost use Rattle.std.specs.Prelude.{◌≡◌, ◌≢◌, ◌<◌, ◌≤◌, ◌++◌, ◌∷◌, [], None, Some, IfOk, IfErr, OnOk, OnErr};
 ghost use Rattle.std.specs.Option.{option_map};
 ghost use Rattle.bfs_messages.specs.declared.message.Message.TheVariants as kind;
+ghost use Rattle.bfs_messages.specs.Signing.{as_message};
 ghost use Rattle.bfs_node.specs.Changing.{begun, begun_if_due, change_refusal, leads, may_begin, next_view, timed_out, timeout_refusal, view_refusal, with_new_view, with_view_change};
 ghost use Rattle.bfs_node.specs.Errors.{of_view};
 ghost use Rattle.bfs_node.specs.Inside.Asking.{asking, MayAsk};
 ghost use Rattle.bfs_node.specs.declared.error.NodeError.TheVariants as error;
 ghost use Rattle.bfs_order.specs.Replica.Views.{entering_refusal, leaving_refusal};
 ghost use Rattle.bfs_view_change.specs.Changes.NewViews.{ground_refusal};
-ghost use Rattle.bfs_messages.specs.Signing.{as_message};
 ghost use Rattle.bfs_view_change.specs.Inside.Near.{IsNear};
 ghost use Rattle.bfs_model.specs.Server.Limits.{most_number};
 
@@ -18,9 +18,7 @@ use bfs_log::primary_of;
 use bfs_messages::{Message, NewView, Signed, ViewChange, is_view_change_signed};
 use bfs_order::a_replica_stays_itself;
 use bfs_types::{Memory, TryClone, copies_of};
-use bfs_view_change::{
-    Begun, begin_view, check_new_view, make_view_change, valid_signed_view_change,
-};
+use bfs_view_change::{begin_view, check_new_view, make_view_change, valid_signed_view_change};
 use std::alloc::Global;
 
 impl Node {
@@ -94,29 +92,11 @@ impl Node {
         ensures sent { IfOk result (λ sent. sent.items ≡ first.items ++ (with_view_change (asking self.old asked) change).sent) }
         ensures err { OnErr result (self.new ≡ self.old) }
     {
-        if self.leads_view(change.message.view()) {
-            return self.count(change, asked, first);
+        if !self.leads_view(change.message.view()) {
+            self.changes.note(&change.message);
+            self.ask(asked);
+            return Ok(first);
         }
-        self.changes.note(&change.message);
-        self.ask(asked);
-        Ok(first)
-    }
-
-    // one for a view that it leads
-    fn count(
-        &mut self,
-        change: Signed<ViewChange>,
-        asked: u64,
-        first: Vec<Signed<Message>>,
-    ) -> Result<Vec<Signed<Message>>, Memory>
-        requires led { leads self.old change.message.view ≡ true }
-        requires near { IsNear change.message }
-        requires asked { MayAsk self.old asked }
-        requires within { asked ≤ most_number }
-        ensures now { OnOk result (self.new ≡ (with_view_change (asking self.old asked) change).now) }
-        ensures sent { IfOk result (λ sent. sent.items ≡ first.items ++ (with_view_change (asking self.old asked) change).sent) }
-        ensures err { OnErr result (self.new ≡ self.old) }
-    {
         let replaced = self.changes.keep(change);
         match self.begin_if_due(asked, first) {
             Ok(sent) => Ok(sent),
@@ -138,10 +118,7 @@ impl Node {
         requires { MayAsk self.old view }
         ensures { self.new ≡ asking self.old view }
     {
-        match self.order.leave_view(view) {
-            Ok(()) => {}
-            Err(_) => {}
-        }
+        let _left = self.order.leave_view(view);
     }
 
     fn may_begin(&self, asked: u64) -> bool
@@ -188,18 +165,14 @@ impl Node {
         a_replica_stays_itself();
         let changes = self.changes.changes_for(self.alloc, view)?;
         let begun = begin_view(self.alloc, &self.keys, self.order.me(), view, changes)?;
-        let Begun {
-            new_view,
-            min_s,
-            handed,
-        } = begun;
+        let new_view = begun.new_view;
         first.push(Signed {
             message: Message::NewView(new_view.message),
             auth: new_view.auth,
         })?;
         let sent = self
             .order
-            .enter_view_behind(&self.keys, view, min_s, handed, first);
+            .enter_view_behind(&self.keys, view, begun.min_s, begun.handed, first);
         match sent {
             Ok(sent) => {
                 self.changes.drop_up_to(view);
@@ -232,7 +205,7 @@ impl Node {
         let sent = self
             .order
             .enter_view(&self.keys, view, choice.min_s(), handed)?;
-        self.changes.drop_up_to(view);
+        self.changes.drop_up_to(new.view());
         Ok(sent)
     }
 }

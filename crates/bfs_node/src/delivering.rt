@@ -1,14 +1,12 @@
 // A message comes.
-ghost use Rattle.std.specs.Prelude.{◌≡◌, ◌≢◌, ◌==◌, ◌++◌, [], ◌∷◌, true, false, None, Some, IfOk, IfErr, IfSome, IsSome, OnOk, OnErr};
+ghost use Rattle.std.specs.Prelude.{◌≡◌, ◌≢◌, [], None, Some, IfOk, IfErr, IfSome, IsSome, OnOk, OnErr};
 ghost use Rattle.bfs_log.specs.Certificates.{MakesStable};
-ghost use Rattle.bfs_log.specs.Headers.{header};
 ghost use Rattle.bfs_log.specs.Logs.{headers};
 ghost use Rattle.bfs_votes.specs.Votes.{SlotsDiffer};
 ghost use Rattle.bfs_codec.specs.Reading.{message_of};
 ghost use Rattle.bfs_node.specs.Delivering.{bytes_delivered, bytes_refusal, delivered, delivery_refusal, early_refusal, order_refusal, ordered, request_refusal, with_request};
 ghost use Rattle.bfs_node.specs.Inside.Settling.{Certifies, settled_at};
 ghost use Rattle.bfs_node.specs.declared.error.NodeError.TheVariants as error;
-ghost use Rattle.bfs_votes.specs.Tags.{checkpoint_tag};
 
 use crate::error::NodeError;
 use crate::node::Node;
@@ -91,6 +89,8 @@ impl Node {
         Ok(Vec::new(self.alloc))
     }
 
+    // A CHECKPOINT is checked before anything is copied for it. What makes its number stable is copied before it is taken, so that nothing is
+    // refused afterwards.
     fn take_order(
         &mut self,
         rt: &(impl Threads + Sync),
@@ -103,50 +103,13 @@ impl Node {
         ensures memory { IfErr result (λ e. e ≡ error.Memory → order_refusal self.old signed ≡ None) }
         ensures err { OnErr result (self.new ≡ self.old) }
     {
-        if signed.message.tag() == CHECKPOINT_TAG {
-            self.take_checkpoint(rt, signed)
-        } else {
-            self.take_vote(rt, signed)
+        if signed.message.tag() != CHECKPOINT_TAG {
+            let answers = self
+                .order
+                .on_message(rt, &self.keys, &self.pending, signed)?;
+            return Ok(answers);
         }
-    }
-
-    // no CHECKPOINT
-    fn take_vote(
-        &mut self,
-        rt: &(impl Threads + Sync),
-        signed: Signed<OrderMessage>,
-    ) -> Result<Vec<Signed<Message>>, NodeError>
-        requires { ((header signed).tag == checkpoint_tag) ≡ false }
-        ensures taken { OnOk result (order_refusal self.old signed ≡ None) }
-        ensures now { OnOk result (self.new ≡ (ordered self.old signed).now) }
-        ensures sent { IfOk result (λ sent. sent.items ≡ (ordered self.old signed).sent) }
-        ensures refused { IfErr result (λ e. e ≢ error.Memory → order_refusal self.old signed ≡ Some e) }
-        ensures memory { IfErr result (λ e. e ≡ error.Memory → order_refusal self.old signed ≡ None) }
-        ensures err { OnErr result (self.new ≡ self.old) }
-    {
-        Ok(
-            self.order
-                .on_message(rt, &self.keys, &self.pending, signed)?,
-        )
-    }
-
-    // It is checked before anything is copied for it. What makes its number stable is copied before it is taken, so that nothing is refused
-    // afterwards.
-    fn take_checkpoint(
-        &mut self,
-        rt: &(impl Threads + Sync),
-        signed: Signed<OrderMessage>,
-    ) -> Result<Vec<Signed<Message>>, NodeError>
-        requires { ((header signed).tag == checkpoint_tag) ≡ true }
-        ensures taken { OnOk result (order_refusal self.old signed ≡ None) }
-        ensures now { OnOk result (self.new ≡ (ordered self.old signed).now) }
-        ensures sent { IfOk result (λ sent. sent.items ≡ (ordered self.old signed).sent) }
-        ensures refused { IfErr result (λ e. e ≢ error.Memory → order_refusal self.old signed ≡ Some e) }
-        ensures memory { IfErr result (λ e. e ≡ error.Memory → order_refusal self.old signed ≡ None) }
-        ensures err { OnErr result (self.new ≡ self.old) }
-    {
-        let refused = self.order.refusal(rt, &self.keys, &self.pending, &signed);
-        if let Some(error) = refused {
+        if let Some(error) = self.order.refusal(rt, &self.keys, &self.pending, &signed) {
             return Err(NodeError::from(error));
         }
         let number = signed.message.number();

@@ -1,9 +1,9 @@
 ghost use Rattle.std.specs.Prelude.{◌≡◌};
-ghost use Rattle.bfs_node.specs.Errors.{code_of, of_adopting, of_decoding, of_executing, of_order, of_restoring, of_view};
+ghost use Rattle.bfs_node.specs.Errors.{code_of, of_adopting, of_decoding, of_executing, of_order, of_view};
+ghost use Rattle.bfs_node.specs.declared.error.NodeError.TheVariants as errors;
 
 use bfs_checkpoints::AdoptError;
 use bfs_codec::DecodeError;
-use bfs_digest::RestoreError;
 use bfs_order::OrderError;
 use bfs_serial::ExecError;
 use bfs_types::Memory;
@@ -159,19 +159,6 @@ impl From<AdoptError> for NodeError {
     }
 }
 
-impl From<RestoreError> for NodeError {
-    ghost from_gives = { λ error given. given ≡ of_restoring error };
-
-    fn from(error: RestoreError) -> NodeError {
-        match error {
-            RestoreError::Malformed => NodeError::MalformedText,
-            RestoreError::WrongVersion => NodeError::WrongVersion,
-            RestoreError::NotWellFormed => NodeError::NotWellFormed,
-            RestoreError::Memory => NodeError::Memory,
-        }
-    }
-}
-
 impl From<ExecError> for NodeError {
     ghost from_gives = { λ error given. given ≡ of_executing error };
 
@@ -184,8 +171,6 @@ impl From<ExecError> for NodeError {
 }
 
 impl From<Memory> for NodeError {
-    ghost use Rattle.bfs_node.specs.declared.error.NodeError.TheVariants as errors;
-
     ghost from_gives = { λ _ given. given ≡ errors.Memory };
 
     fn from(_error: Memory) -> NodeError {
@@ -194,8 +179,6 @@ impl From<Memory> for NodeError {
 }
 
 impl From<AllocError> for NodeError {
-    ghost use Rattle.bfs_node.specs.declared.error.NodeError.TheVariants as errors;
-
     ghost from_gives = { λ _ given. given ≡ errors.Memory };
 
     fn from(_error: AllocError) -> NodeError {

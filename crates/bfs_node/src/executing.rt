@@ -12,7 +12,7 @@ ghost use Rattle.bfs_node.specs.declared.error.NodeError.TheVariants as error;
 use crate::error::NodeError;
 use crate::node::Node;
 use bfs_messages::{Message, OrderedBatch, Signed};
-use bfs_outcome::{Executed, Executor, Gate, Means, answers_go_to_clients, execute_ordered};
+use bfs_outcome::{Executor, Gate, Means, answers_go_to_clients, execute_ordered};
 use bfs_replies::Answer;
 use bfs_serial::ExecError;
 use bfs_types::Memory;
@@ -93,14 +93,9 @@ impl Node {
             gate,
         };
         match execute_ordered(&means, &mut self.files, &self.table, batch) {
-            Ok(
-                Executed {
-                    to_record,
-                    to_answer,
-                },
-            ) => Ok(Finished {
-                to_record,
-                replies: self.replies_to(rt, &to_answer)?,
+            Ok(executed) => Ok(Finished {
+                to_record: executed.to_record,
+                replies: self.replies_to(rt, &executed.to_answer)?,
             }),
             Err(ExecError::Memory) => Err(Memory),
             Err(ExecError::Failed) => unreachable!(),

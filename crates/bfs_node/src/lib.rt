@@ -10,7 +10,6 @@ mod delivering;
 mod error;
 mod executing;
 mod node;
-mod proposing;
 mod receivers;
 mod replying;
 mod requests;

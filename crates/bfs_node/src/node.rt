@@ -18,7 +18,7 @@ ghost use Rattle.bfs_node.specs.declared.error.NodeError.TheVariants as error;
 
 use crate::error::NodeError;
 use bfs_auth::{Keys, Principal, derived_keys_are_of_replicas};
-use bfs_checkpoints::{Snapshots, StableSnapshot, digest_node, read_node};
+use bfs_checkpoints::{AdoptError, Snapshots, StableSnapshot, digest_node, read_node};
 use bfs_log::faults_of;
 use bfs_order::Order;
 use bfs_pending::PendingRequests;
@@ -106,7 +106,7 @@ impl Node {
     {
         match read_node(alloc, text, keys.clients() as u32) {
             Ok((files, table)) => Ok(Node::with_state(alloc, keys, files, table)?),
-            Err(error) => Err(NodeError::from(error)),
+            Err(error) => Err(NodeError::from(AdoptError::from(error))),
         }
     }
 

@@ -1,20 +1,21 @@
-// Many requests come.
-ghost use Rattle.std.specs.Prelude.{◌≡◌, ◌++◌, map, IfOk, IfSome, OnOk, OnErr};
+// Many requests come, and the primary proposes those that wait.
+ghost use Rattle.std.specs.Prelude.{◌≡◌, ◌≢◌, ◌∷◌, [], None, Some, map, IfOk, IfErr, IfSome, OnOk, OnErr};
 ghost use Rattle.std.specs.Arc.{arc_value};
 ghost use Rattle.std.specs.List.{list_all};
 ghost use Rattle.sha2.specs.Sha256.{sha256};
 ghost use Rattle.bfs_messages.specs.Batches.{batch_text};
 ghost use Rattle.bfs_messages.specs.Signing.{is_signed};
-ghost use Rattle.bfs_node.specs.Delivering.{SomeCame, after_requests};
-ghost use Rattle.bfs_node.specs.Inside.Taking.{Came, HasAll, asked, requests_among, with_message};
-ghost use Rattle.bfs_pending.specs.Passed.{HavePassed};
+ghost use Rattle.bfs_node.specs.Delivering.{SomeCame, after_request, after_requests};
+ghost use Rattle.bfs_node.specs.Inside.Taking.{HasAll};
+ghost use Rattle.bfs_node.specs.Proposing.{proposal_refusal, proposed};
+ghost use Rattle.bfs_node.specs.declared.error.NodeError.TheVariants as error;
 
+use crate::error::NodeError;
 use crate::node::Node;
 use bfs_auth::{Authenticator, Keys, least_items};
 use bfs_messages::{HashedBatch, Message, OrderedBatch, Request, Signed, is_signed};
-use bfs_pending::PendingRequests;
 use bfs_types::{MOST_REQUESTS, Memory, Time, TryClone};
-use rayon::join;
+use rayon::join_mut;
 use rayon::prelude::*;
 use std::alloc::{AllocError, Global};
 use std::sync::Arc;
@@ -32,7 +33,7 @@ impl Node {
         ensures ok { OnOk result (self.new ≡ after_requests self.old messages.now) }
         ensures err { OnErr result (SomeCame self.old messages.now self.new) }
     {
-        take_each(rt, self.alloc, &self.keys, &mut self.pending, messages)?;
+        self.take_each(rt, messages)?;
         Ok(())
     }
 
@@ -53,6 +54,26 @@ impl Node {
         }
     }
 
+    /// Proposes the requests that wait, in the order in which they came, as one batch of that time for the next number of the view,
+    /// and gives the PRE-PREPARE. Where none waits, a batch without requests is proposed. They wait until a batch with them is executed.
+    /// It is refused, in this order: `NotPrimary`, also while a view change is under way; `OutsideMarks`; `Memory`. Nothing changes then.
+    pub fn propose(&mut self, time: Time) -> Result<Signed<Message>, NodeError>
+        ensures taken { OnOk result (proposal_refusal self.old ≡ None) }
+        ensures now { OnOk result (self.new ≡ (proposed self.old time).now) }
+        ensures sent { IfOk result (λ own. (proposed self.old time).sent ≡ own ∷ []) }
+        ensures refused { IfErr result (λ e. e ≢ error.Memory → proposal_refusal self.old ≡ Some e) }
+        ensures memory { IfErr result (λ e. e ≡ error.Memory → proposal_refusal self.old ≡ None) }
+        ensures err { OnErr result (self.new ≡ self.old) }
+    {
+        if let Some(error) = self.order.proposal_refusal() {
+            return Err(NodeError::from(error));
+        }
+        let batch = self.pending.batch(self.alloc, time)?;
+        let own = self.order.propose(&self.keys, batch)?;
+        Ok(own.into_message())
+    }
+
+    // The batch is hashed in this thread, which takes longest and begins at once.
     fn take_and_hash<R: Threads + Sync>(
         &mut self,
         rt: &R,
@@ -63,11 +84,18 @@ impl Node {
         ensures ok { OnOk result (self.new ≡ after_requests self.old messages.now) }
         ensures err { OnErr result (SomeCame self.old messages.now self.new) }
     {
-        let none = PendingRequests::new(self.alloc);
-        let before = std::mem::replace(&mut self.pending, none);
-        let (came, digest) = take_beside(rt, self.alloc, &self.keys, before, messages, &batch);
-        self.pending = came.pending;
-        if came.all_passed? {
+        let (all_passed, digest) = join_mut(
+            rt,
+            &mut || -> Result<bool, Memory>
+                ensures ok { OnOk result (self.exit.now ≡ after_requests self.entry.now messages.entry.now) }
+                ensures all { IfOk result (λ all. all ≡ list_all (is_signed self.entry.now.keys) messages.entry.now) }
+                ensures err { OnErr result (SomeCame self.entry.now messages.entry.now self.exit.now) }
+            { self.take_each(rt, messages) },
+            &mut || -> [u8; 32]
+                ensures { result ≡ sha256 (batch_text (arc_value batch)) }
+            { batch.digest() },
+        );
+        if all_passed? {
             self.pending
                 .keep_hashed(HashedBatch::with_digest(batch, digest));
         }
@@ -90,98 +118,46 @@ impl Node {
             return Ok(None);
         }
         let mut requests = self.pending.to_vec(self.alloc)?;
-        put_requests(self.alloc, &mut requests, messages)?;
+        for signed in messages {
+            if let Message::Request(request) = &signed.message {
+                requests.push(copy_of(self.alloc, request, &signed.auth)?)?;
+            }
+        }
         let batch = OrderedBatch::new(time, requests);
         Ok(Some(Arc::new(self.alloc, batch)?))
     }
-}
 
-/// Those that wait once messages came, and whether each of these passed.
-#[derive(Drop)]
-struct CameIn {
-    pending: PendingRequests,
-    all_passed: Result<bool, Memory>,
-}
-
-// Messages come to those that wait, and a batch is hashed, which takes longest and begins at once.
-fn take_beside<R: Threads + Sync>(
-    rt: &R,
-    alloc: Global,
-    keys: &Keys,
-    pending: PendingRequests,
-    messages: &[Signed<Message>],
-    batch: &OrderedBatch,
-) -> (CameIn, [u8; 32])
-    requires { HavePassed keys.now pending }
-    ensures came { Came keys.now pending messages.now result.0.pending result.0.all_passed }
-    ensures digest { result.1 ≡ sha256 (batch_text batch.now) }
-{
-    join(
-        rt,
-        move || -> CameIn
-            requires { HavePassed keys.now pending }
-            ensures { Came keys.entry.now pending messages.entry.now result.pending result.all_passed }
-        { take_all(rt, alloc, keys, pending, messages) },
-        move || -> [u8; 32]
-            ensures { result ≡ sha256 (batch_text batch.entry.now) }
-        { batch.digest() },
-    )
-}
-
-fn take_all<R: Threads + Sync>(
-    rt: &R,
-    alloc: Global,
-    keys: &Keys,
-    mut pending: PendingRequests,
-    messages: &[Signed<Message>],
-) -> CameIn
-    requires { HavePassed keys.now pending }
-    ensures { Came keys.now pending messages.now result.pending result.all_passed }
-{
-    let all_passed = take_each(rt, alloc, keys, &mut pending, messages);
-    CameIn {
-        pending,
-        all_passed,
+    // whether each passed
+    fn take_each<R: Threads + Sync>(
+        &mut self,
+        rt: &R,
+        messages: &[Signed<Message>],
+    ) -> Result<bool, Memory>
+        ensures ok { OnOk result (self.new ≡ after_requests self.old messages.now) }
+        ensures all { IfOk result (λ all. all ≡ list_all (is_signed self.old.keys) messages.now) }
+        ensures err { OnErr result (SomeCame self.old messages.now self.new) }
+    {
+        let passes = are_signed(rt, self.alloc, &self.keys, messages)?;
+        for number in 0..messages.len() {
+            self.take_checked(passes[number], &messages[number])?;
+        }
+        Ok(are_all_true(&passes))
     }
-}
 
-// whether each passed
-fn take_each<R: Threads + Sync>(
-    rt: &R,
-    alloc: Global,
-    keys: &Keys,
-    pending: &mut PendingRequests,
-    messages: &[Signed<Message>],
-) -> Result<bool, Memory>
-    requires { HavePassed keys.now pending.old }
-    ensures { Came keys.now pending.old messages.now pending.new result }
-{
-    let passes = are_signed(rt, alloc, keys, messages)?;
-    for number in 0..messages.len() {
-        take_checked(alloc, keys, pending, passes[number], &messages[number])?;
-    }
-    Ok(are_all_true(&passes))
-}
-
-fn take_checked(
-    alloc: Global,
-    _keys: &Keys,
-    pending: &mut PendingRequests,
-    passes: bool,
-    signed: &Signed<Message>,
-) -> Result<(), Memory>
-    requires checked { passes ≡ is_signed _keys.now signed.now }
-    requires passed { HavePassed _keys.now pending.old }
-    ensures now { OnOk result (pending.new ≡ with_message _keys.now pending.old signed.now signed.now.message) }
-    ensures err { OnErr result (pending.new ≡ pending.old) }
-    ensures passed { HavePassed _keys.now pending.new }
-{
-    if !passes || pending.is_full() {
-        return Ok(());
-    }
-    match &signed.message {
-        Message::Request(request) => pending.push(copy_of(alloc, request, &signed.auth)?),
-        _ => Ok(()),
+    fn take_checked(&mut self, passes: bool, signed: &Signed<Message>) -> Result<(), Memory>
+        requires { passes ≡ is_signed self.old.keys signed.now }
+        ensures ok { OnOk result (self.new ≡ after_request self.old signed.now signed.now.message) }
+        ensures keys { self.new.keys ≡ self.old.keys }
+        ensures err { OnErr result (self.new ≡ self.old) }
+    {
+        if !passes || self.pending.is_full() {
+            return Ok(());
+        }
+        if let Message::Request(request) = &signed.message {
+            let copy = copy_of(self.alloc, request, &signed.auth)?;
+            self.pending.push(copy)?;
+        }
+        Ok(())
     }
 }
 
@@ -196,33 +172,6 @@ fn copy_of(
         message: request.try_clone(alloc)?,
         auth: auth.try_clone(alloc)?,
     })
-}
-
-// puts the REQUESTs among messages behind others
-fn put_requests(
-    alloc: Global,
-    requests: &mut Vec<Signed<Request>>,
-    messages: &[Signed<Message>],
-) -> Result<(), Memory>
-    ensures { OnOk result (requests.new.items ≡ requests.old.items ++ requests_among messages.now) }
-{
-    for signed in messages {
-        put_request(alloc, requests, signed)?;
-    }
-    Ok(())
-}
-
-fn put_request(
-    alloc: Global,
-    requests: &mut Vec<Signed<Request>>,
-    signed: &Signed<Message>,
-) -> Result<(), Memory>
-    ensures { OnOk result (requests.new.items ≡ requests.old.items ++ asked signed.now signed.now.message) }
-{
-    if let Message::Request(request) = &signed.message {
-        requests.push(copy_of(alloc, request, &signed.auth)?)?;
-    }
-    Ok(())
 }
 
 fn are_all_true(answers: &[bool]) -> bool

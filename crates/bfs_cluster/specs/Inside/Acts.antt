@@ -4,7 +4,6 @@ use Rattle.std.specs.List.{fold}
 use Rattle.bfs_model.specs.Bytes.Call.{◌>>=◌}
 use Rattle.bfs_messages.specs.declared.message.Message.{Message}
 use Rattle.bfs_messages.specs.declared.signed.Signed.{Signed}
-use Rattle.bfs_node.specs.Advancing.{with_due_checkpoint}
 use Rattle.bfs_node.specs.Delivering.{early_refusal}
 use Rattle.bfs_node.specs.Nodes.{Messages, Node, Outcome}
 use Rattle.bfs_cluster.specs.Blocks.{proposal}
@@ -38,11 +37,6 @@ Acts (Some done) old new sent = (new ≡ record { heard = true; node = done.now 
 -- it is heard, and refuses that message for nothing but the proposals of a new view
 abbrev pub MayTake : Signed Message → Replica → Type 0
 MayTake signed replica = (replica.heard ≡ true) × (early_refusal replica.node signed ≡ None)
-
--- a checkpoint was made where one was due, and its message is behind what was to be sent
-abbrev pub CheckpointsAfter : (old : Replica) → (to_send : Messages) → (new : Replica) → (sent : Messages) → Type 0
-CheckpointsAfter old to_send new sent =
-    (new.heard ≡ old.heard) × (with_due_checkpoint (record { now = old.node; sent = to_send }) ≡ record { now = new.node; sent = sent })
 
 -- all that is sent, if anything is
 abbrev pub posted_if : (sender : ℕ) → World → Option Messages → World

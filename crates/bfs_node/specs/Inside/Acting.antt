@@ -1,12 +1,7 @@
 -- What comes of a call by which a replica may go on.
-use Rattle.std.specs.Prelude.{◌≡◌, ◌<◌, ℕ, Option, Some, None}
+use Rattle.std.specs.Prelude.{◌≡◌, ◌<◌, ℕ}
 use Rattle.bfs_node.specs.Advancing.{advanced, with_due_checkpoint}
-use Rattle.bfs_node.specs.Nodes.{Messages, Node, Outcome}
-
--- it has done that and gives what is sent, or it did nothing
-abbrev pub Acts : Option Outcome → (old new : Node) → (sent : Option Messages) → Type 0
-Acts None old new sent = (new ≡ old) × (sent ≡ None)
-Acts (Some done) old new sent = (new ≡ done.now) × (sent ≡ Some done.sent)
+use Rattle.bfs_node.specs.Nodes.{Messages, Node}
 
 -- a checkpoint was made where one was due, and its message is behind what was to be sent
 abbrev pub CheckpointsAfter : (old : Node) → (to_send : Messages) → (new : Node) → (sent : Messages) → Type 0

@@ -1,11 +1,23 @@
-use Rattle.std.proofs.Common.{◌≡◌, ◌∙◌, ◌≤◌, ℕ, sym, ap, subst, length}
+use Rattle.std.proofs.Common.{◌≡◌, ◌∙◌, ◌<◌, ◌≤◌, ℕ, sym, ap, subst, length, arith}
 use Rattle.std.proofs.lemmas.List.FromFn.{length-map-range_with_len}
 use Rattle.bfs_model.specs.Server.Limits.{most_clients}
+use Rattle.bfs_votes.specs.Votes.{replicas}
 use Rattle.bfs_auth.specs.Keys.{Keys, keys_of}
+use Rattle.bfs_auth.specs.Principals.{number_of}
 use Rattle.bfs_auth.specs.Replicas.{AreOfReplica}
 use Rattle.bfs_auth.specs.declared.principals.Principal.TheVariants.{Replica}
-use Rattle.bfs_node.proofs.OfReplica.{told_by_keys}
+use Rattle.bfs_log.specs.Certificates.{faults}
 use Rattle.bfs_node.proofs.node.Node.of_settings.Goals as goal
+
+told_by_keys : (f me : ℕ) (keys : Keys) → AreOfReplica f me keys → AreOfReplica (faults keys) (number_of keys.me) keys
+told_by_keys f me keys are =
+    let same : faults keys ≡ f = let all = are.all in omega (arith, all) in
+    let own : number_of keys.me ≡ me = ap number_of are.owner in
+    record {
+      owner = are.owner ∙ ap Replica (sym own);
+      among = subst (λ n. n < replicas (faults keys)) (sym own) (subst (λ n. me < replicas n) (sym same) are.among);
+      all = are.all ∙ ap replicas (sym same);
+    }
 
 pub new-requires-clause-replica : goal.new-requires-clause-replica
 new-requires-clause-replica c =

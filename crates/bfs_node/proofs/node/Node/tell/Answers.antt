@@ -4,7 +4,7 @@ use Rattle.bfs_messages.specs.Messages as model
 use Rattle.bfs_messages.specs.declared.order_messages.OrderMessage.TheVariants.{Checkpoint}
 use Rattle.bfs_messages.specs.Signing.{order_signed_by}
 use Rattle.bfs_node.specs.Nodes.{Node}
-use Rattle.bfs_node.proofs.Stable.{own_certificate, own_now, told_now}
+use Rattle.bfs_node.proofs.Stable.{own_certificate, told_now}
 use Rattle.bfs_node.proofs.node.Node.tell.Goals as goal
 
 pub settle_at-requires : goal.settle_at-requires
@@ -22,8 +22,7 @@ returns-in-Ok-clause-now c =
     let signed = c.in_ok-signed.signed in
     rw (← c.self.view_is)
     (c.settle_at.ensures
-    ∙ own_now (record node { snapshots = c.push.new.self }) node.keys node.order c.args.number c.digest-digest.result.now signed c.on_checkpoint.new.self c.in_ok-stable.stable
+    ∙ told_now node c.args.number c.digest-digest.result.now c.args.snapshot signed c.on_checkpoint.new.self c.push.new.self c.in_ok-stable.stable
+    (rw (← c.self.view_is) at c.requires.last) c.digest-digest.ensures c.in_ok-push.ensures.ok
     (c.in_ok-signed.ensures ∙ ap (λ (own : model.Checkpoint). order_signed_by node.keys (Checkpoint own)) (c.new-own.ensures ∙ ap (λ (me : ℕ). record { sender = me; number = c.args.number; digest = c.digest-digest.result.now }) c.me.ensures.value))
-    (rw (← c.self.view_is) at c.requires.taken) c.in-Ok.ensures.now
-    (rw (← c.self.view_is) at c.in_ok-stable.ensures.made)
-    ∙ told_now node c.args.number c.digest-digest.result.now c.args.snapshot c.push.new.self (rw (← c.self.view_is) at c.requires.last) c.digest-digest.ensures c.in_ok-push.ensures.ok)
+    (rw (← c.self.view_is) at c.requires.taken) c.in-Ok.ensures.now (rw (← c.self.view_is) at c.in_ok-stable.ensures.made))
