@@ -1,7 +1,7 @@
 ghost use Rattle.std.specs.Prelude.{◌≡◌, ◌↔◌, ◌++◌, Some, None, IfOk, OnOk, IsErrOf};
 ghost use Rattle.std.specs.Option.{option_map};
 ghost use Rattle.bfs_checkpoints.specs.Snapshots.{IsSnapshot, snapshot_of};
-ghost use Rattle.bfs_checkpoints.specs.Texts.{node_digest, node_text};
+ghost use Rattle.bfs_checkpoints.specs.Texts.{node_text};
 
 use crate::digests::digest_node;
 use bfs_digest::{put_snapshot, refresh};

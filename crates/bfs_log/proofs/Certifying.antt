@@ -1,5 +1,5 @@
 -- Certificates: 2f + 1 senders that differ are counted, and each is told by the log that has their messages.
-use Rattle.std.proofs.Common.{◌≡◌, ℕ, zero, suc, ◌+◌, ◌*◌, ◌<◌, ◌≤◌, Bool, true, false, cond, eqb, ltb, leb, ◌||◌, not, List, [], ◌∷◌, ◌++◌, length, refl, ap, arith}
+use Rattle.std.proofs.Common.{◌≡◌, ℕ, zero, suc, ◌+◌, ◌*◌, ◌<◌, ◌≤◌, Bool, true, false, cond, eqb, ltb, leb, ◌||◌, not, List, [], ◌∷◌, length, refl, ap, arith}
 use Rattle.std.specs.Prelude.{All, bytes_eq, map}
 use Rattle.std.specs.List.{list_all}
 use Rattle.std.proofs.lemmas.Bool.{and_parts, eqb-true, eqb-false, ltb-true, leb-true, not-true, false_from_ne_true}
@@ -7,13 +7,12 @@ use Rattle.std.proofs.lemmas.List.Elements.{All-nil, All-cons, All-head, All-tai
 use Rattle.std.proofs.lemmas.Slice.Eq.{bytes_eq-Decides}
 use Rattle.bfs_auth.specs.Keys.{Keys}
 use Rattle.bfs_model.specs.Server.Limits.{most_faults, most_replicas}
-use Rattle.bfs_votes.specs.Votes.{is_taken, count_below, replicas}
+use Rattle.bfs_votes.specs.Votes.{count_below, replicas}
 use Rattle.bfs_log.specs.Headers.{header}
-use Rattle.bfs_log.specs.Logs.{Log, headers}
+use Rattle.bfs_log.specs.Logs.{Log}
 use Rattle.bfs_messages.specs.declared.signed.Signed.{Signed}
 use Rattle.bfs_messages.specs.declared.order_messages.OrderMessage.{OrderMessage}
 use Rattle.bfs_messages.specs.Signing.{as_message, order_is_signed}
-use Rattle.bfs_messages.specs.Messages as model
 use Rattle.bfs_messages.specs.declared.order_messages.OrderMessage.TheVariants.{Checkpoint}
 use Rattle.bfs_log.specs.Certificates.{StableCheckpoint, checkpoints_in, has_sender, is_shown, senders_differ, vouches}
 use Rattle.bfs_votes.proofs.Public.{more}
@@ -94,7 +93,7 @@ senders_counted n (m ∷ ms) all differ =
     let one = one_more (header m).sender (has_sender ms) n (All-head (λ m. (header m).sender < n) m ms all) (not-true (has_sender ms (header m).sender) parts.0) in
     omega (arith, rest, one)
 
-count_within : (p : ℕ → Bool) (n : ℕ) → count_below p n ≤ n
+pub count_within : (p : ℕ → Bool) (n : ℕ) → count_below p n ≤ n
 count_within p zero = omega arith
 count_within p (suc n) = go (p n) (count_within p n)
   where

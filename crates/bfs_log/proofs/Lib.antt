@@ -10,3 +10,5 @@ pub mod Public
 mod Certifying
 mod Folds
 mod Proposed
+mod Shown
+mod Telling

@@ -1,18 +1,17 @@
 -- The headers of a certificate's messages.
-use Rattle.std.proofs.Common.{◌≡◌, ℕ, Bool, true, false, ◌&&◌, ◌||◌, List, [], ◌∷◌, map, bytes_eq, refl, sym, ap, ◌∙◌}
+use Rattle.std.proofs.Common.{◌≡◌, ℕ, Bool, true, false, ◌&&◌, ◌||◌, List, [], ◌∷◌, map, refl}
 use Rattle.std.specs.Prelude.{◌==◌}
 use Rattle.std.specs.List.{list_any}
 use Rattle.std.proofs.lemmas.Bool.{eq-eqb}
 use Rattle.std.proofs.lemmas.Slice.Eq.{bytes_eq-Decides}
 use Rattle.bfs_votes.specs.Votes.{says, told}
-use Rattle.bfs_log.specs.Headers.{header}
 use Rattle.bfs_log.specs.Logs.{headers}
 use Rattle.bfs_messages.specs.Messages.{PreparedBatch, Vote}
 use Rattle.bfs_messages.specs.declared.signed.Signed.{Signed}
 use Rattle.bfs_messages.specs.declared.order_messages.OrderMessage.TheVariants.{Prepare}
 use Rattle.bfs_log.specs.Certificates.{number_in, view_in, vote_in}
 use Rattle.bfs_messages.specs.Signing.{as_message}
-use Rattle.bfs_log.specs.Certificates.{messages_in, prepares_in}
+use Rattle.bfs_log.specs.Certificates.{messages_in}
 
 no_proposal : (k v n : ℕ) (d : List ℕ) (votes : List (Signed Vote)) → list_any (says 2 k v n d) (headers (map (as_message Prepare) votes)) ≡ false
 no_proposal k v n d [] = refl

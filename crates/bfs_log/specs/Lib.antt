@@ -5,3 +5,4 @@ pub mod Headers
 pub mod Logs
 pub mod Places
 pub mod Rows
+pub mod Showing

@@ -1,5 +1,5 @@
 // What shows that a number is stable, and that a batch was prepared.
-ghost use Rattle.std.specs.Prelude.{◌≡◌, ◌≤◌, ◌+◌, ◌*◌, ◌==◌, ◌&&◌, not, nat_lt, length, bytes_eq};
+ghost use Rattle.std.specs.Prelude.{◌≡◌, ◌≤◌, ◌+◌, ◌*◌, ◌==◌, ◌&&◌};
 ghost use Rattle.std.specs.List.{list_all, list_any};
 ghost use Rattle.bfs_model.specs.Server.Limits.{most_faults, most_number};
 ghost use Rattle.bfs_votes.specs.Tags.{prepare_tag};

@@ -12,6 +12,7 @@ mod places;
 mod rows;
 mod said;
 mod senders;
+mod showing;
 
 pub use certificates::{
     StableCheckpoint, does_certify, does_match, faults_of, is_proved, is_stable_shown, is_told_by,

@@ -20,7 +20,7 @@ use std::marker::Model;
 /// Beside them stands what was said at each kind, view and number, so that no question walks through all messages.
 #[derive(Drop)]
 pub struct Log {
-    alloc: Global,
+    pub(crate) alloc: Global,
     messages: Vec<Signed<OrderMessage>>,
     places: BTreeMap<Place, Vec<Said>>,
 }

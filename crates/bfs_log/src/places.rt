@@ -1,5 +1,5 @@
 // What was said at each place: the index of a log.
-ghost use Rattle.std.specs.Prelude.{◌≡◌, ◌<◌, [], ◌∷◌, ◌++◌, false, ◌||◌, ◌&&◌, ◌==◌, OnOk, OnErr, List, filter, bytes_eq, nat_lt, if◌then◌else◌};
+ghost use Rattle.std.specs.Prelude.{◌≡◌, ◌<◌, [], ◌∷◌, ◌++◌, false, ◌||◌, ◌&&◌, ◌==◌, OnOk, OnErr, List, filter, bytes_eq, if◌then◌else◌};
 ghost use Rattle.std.specs.BTreeMap.{IsOrdered};
 ghost use Rattle.bfs_log.specs.Batches as model;
 ghost use Rattle.bfs_log.specs.Places.{checkpoint_place, greatest_in, is_above, place_cmp, row_at, row_kept, same_place};

@@ -9,7 +9,7 @@ use Rattle.bfs_auth.specs.Laws.{PassesAtReplicas}
 use Rattle.bfs_auth.specs.declared.principals.Principal.TheVariants.{Replica}
 use Rattle.bfs_votes.specs.Votes.{replicas, primary}
 use Rattle.bfs_log.specs.Headers.{header, message_header}
-use Rattle.bfs_log.specs.Logs.{Log, stays, kept_after}
+use Rattle.bfs_log.specs.Logs.{stays, kept_after}
 use Rattle.bfs_messages.specs.Messages.{Batch}
 use Rattle.bfs_messages.specs.Signing.{requests_are_signed}
 use Rattle.bfs_messages.specs.declared.signed.Signed.{Signed}

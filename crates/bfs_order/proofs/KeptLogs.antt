@@ -1,5 +1,5 @@
 -- What calls keep of a log: one message a slot, the window, the certificate of the stable checkpoint.
-use Rattle.std.proofs.Common.{◌≡◌, ◌⊎◌, inl, inr, ℕ, ◌+◌, ◌*◌, ◌<◌, Bool, true, false, cond, eqb, ltb, ◌&&◌, List, [], ◌∷◌, ◌++◌, refl, subst, arith}
+use Rattle.std.proofs.Common.{◌≡◌, ◌⊎◌, inl, inr, ℕ, ◌+◌, ◌*◌, ◌<◌, Bool, true, false, cond, eqb, ltb, ◌&&◌, List, [], ◌∷◌, ◌++◌, refl, subst, ◌∙◌, arith}
 use Rattle.std.specs.Prelude.{All, bytes_eq, filter}
 use Rattle.std.proofs.lemmas.Bool.{and_parts, and_from, or_cases, or_left, or_right, eqb-true, eq-eqb, ltb-true, leb-true, le-leb}
 use Rattle.std.proofs.lemmas.List.{map-append}
@@ -7,21 +7,18 @@ use Rattle.std.proofs.lemmas.List.Elements.{All-nil, All-cons, All-head, All-tai
 use Rattle.std.proofs.lemmas.Slice.Eq.{bytes_eq-Decides}
 use Rattle.bfs_auth.specs.Keys.{Keys}
 use Rattle.bfs_votes.specs.Votes.{Header, SlotsDiffer, is_slot, has_slot, is_taken, says, told, Told, tellers, is_stable, replicas}
-use Rattle.bfs_log.specs.Headers.{header, message_header}
+use Rattle.bfs_log.specs.Headers.{header}
 use Rattle.bfs_log.specs.Logs.{Log, headers, stays, kept_after}
-use Rattle.bfs_log.proofs.Public.{differ_pushed, differ_kept}
 use Rattle.bfs_messages.specs.declared.signed.Signed.{Signed}
 use Rattle.bfs_messages.specs.declared.order_messages.OrderMessage.{OrderMessage}
-use Rattle.bfs_messages.specs.declared.order_messages.OrderMessage.TheVariants.{PrePrepare, Prepare, Commit, Checkpoint}
 use Rattle.bfs_log.specs.Certificates.{StableCheckpoint, checkpoints_in, has_sender}
 use Rattle.bfs_order.specs.Replica.Installing.{with_new, with_each, certified}
-use Rattle.bfs_order.specs.Replica.Refusals.{is_ordering}
 use Rattle.bfs_order.specs.Replica.States.{State, fresh}
 use Rattle.bfs_order.specs.Laws.Calls.{Call, Takes, Proposes, Executes, Checkpoints, Installs, Leaves, Enters, outcome, after, CallsKeepTheReplica, IsKept, IsAlways}
 use Rattle.bfs_order.specs.Laws.Logs.{HasDistinctSlots, IsInWindow, IsWindowed, IsCertified, HasCertificate}
-use Rattle.bfs_order.proofs.Telling.{says_is, is_said, slot_is, told_left, told_right, is_one, found_kept}
+use Rattle.bfs_order.proofs.Telling.{says_is, is_said, slot_is, told_left, told_right, is_one, told_kept}
 use Rattle.bfs_order.proofs.Moving.{Fact, Moves, Speaks, Fits, CanTake, call_goes}
-use Rattle.bfs_log.proofs.Public.{IsVoucher, Vouched, senders_counted, vouched}
+use Rattle.bfs_log.proofs.Public.{IsVoucher, Vouched, differ_kept, differ_pushed, no_view, senders_counted, vouched}
 use Rattle.bfs_order.proofs.Putting.{each_keeps}
 use Rattle.bfs_votes.proofs.Public.{more}
 
@@ -118,28 +115,20 @@ abbrev Window : Fact
 Window f me view low log sent = All (IsInWindow low) (headers log)
 
 in_window : (f view low : ℕ) (log : Log) (m : Signed OrderMessage) → CanTake f view low log m → IsInWindow low (header m)
-in_window f view low log m can = record { kind = can.kind; from = omega (arith, can.above); above = λ small. can.above; to = can.to }
+in_window f view low log m can = record { from = omega (arith, can.above); above = λ small. can.above; to = can.to }
 
 risen : (low n : ℕ) (d : List ℕ) (h : Header) → low < n → stays n d h ≡ true → IsInWindow low h → IsInWindow n h
 risen low n d h above e is = go (stays_cases n d h e)
   where
     go : (n < h.number) ⊎ ((h.tag ≡ 5) × (h.number ≡ n) × (h.digest ≡ d)) → IsInWindow n h
-    go (inl lt) = record { kind = is.kind; from = omega (arith, lt); above = λ small. lt; to = omega (arith, is.to, above) }
-    go (inr same) = record { kind = is.kind; from = omega (arith, same.1); above = λ small. absurd (omega (arith, small, same.0)); to = omega (arith, is.to, above) }
+    go (inl lt) = record { from = omega (arith, lt); above = λ small. lt; to = omega (arith, is.to, above) }
+    go (inr same) = record { from = omega (arith, same.1); above = λ small. absurd (omega (arith, small, same.0)); to = omega (arith, is.to, above) }
 
 raised : (low : ℕ) (log : Log) (n : ℕ) (d : List ℕ) → low < n → All (IsInWindow low) (headers log) → All (IsInWindow n) (headers (kept_after n d log))
 raised low log n d above kept = all_kept (IsInWindow low) (IsInWindow n) (stays n d) (λ h e is. risen low n d h above e is) log kept
 
-ordering_five : (h : Header) → h.tag ≡ 5 → is_ordering h ≡ true
-ordering_five h five = rw five refl
-
 voucher_in : (keys : Keys) (f n : ℕ) (d : List ℕ) (m : Signed OrderMessage) → IsVoucher keys f n d m → IsInWindow n (header m)
-voucher_in keys f n d m is = record {
-  kind = ordering_five (header m) is.tag;
-  from = omega (arith, is.number);
-  above = λ small. absurd (omega (arith, small, is.tag));
-  to = omega (arith, is.number);
-}
+voucher_in keys f n d m is = record { from = omega (arith, is.number); above = λ small. absurd (omega (arith, small, is.tag)); to = omega (arith, is.number) }
 
 window_move : Moves Anything Window
 window_move = record {
@@ -200,16 +189,9 @@ one_left n d log = all_kept (λ h. Unit {0}) (TellsOne n d) (stays n d) (λ h e 
 
 settled_certificate : (f : ℕ) (log : Log) (n : ℕ) (d : List ℕ) → is_stable f (headers log) n d ≡ true → IsCertified f (headers (kept_after n d log)) n d
 settled_certificate f log n d is = record {
-  stable = stable_more f (headers log) (headers (kept_after n d log)) n d (λ k told_so. found_kept (says 5 k 0 n d) (stays n d) log (λ h e. said_stays n k d h e) told_so) is;
+  stable = stable_more f (headers log) (headers (kept_after n d log)) n d (λ k told_so. told_kept (says 5 k 0 n d) (stays n d) log (λ h e. said_stays n k d h e) ∙ told_so) is;
   one = one_left n d log;
 }
-
--- a CHECKPOINT has no view
-pub no_view : (m : OrderMessage) → (message_header m).tag ≡ 5 → (message_header m).view ≡ 0
-no_view (PrePrepare proposal) five = absurd (omega (arith, five))
-no_view (Prepare vote) five = absurd (omega (arith, five))
-no_view (Commit vote) five = absurd (omega (arith, five))
-no_view (Checkpoint checkpoint) five = refl
 
 -- where no CHECKPOINT tells another digest, who has the place tells that one
 slot_tells : (hs : List Header) (k v n : ℕ) (d : List ℕ) → All (TellsOne n d) hs → has_slot hs 5 k v n ≡ true → Told hs 5 k v n d

@@ -22,7 +22,7 @@ use Rattle.bfs_log.specs.Certificates.{StableCheckpoint, checkpoints_in, is_show
 use Rattle.bfs_order.specs.Replica.Installing.{certified, install_refusal, installed}
 use Rattle.bfs_order.specs.Replica.Outcomes.{Outcome, quiet, unless}
 use Rattle.bfs_order.specs.Replica.Proposing.{next_number, leads, proposal_refusal, proposal, proposal_commits, proposed, batch_digest}
-use Rattle.bfs_order.specs.Replica.Refusals.{is_between, is_inside, is_of_view, is_there, conflicts, is_ordering, is_authentic, place_refusal, refusal}
+use Rattle.bfs_order.specs.Replica.Refusals.{is_between, is_inside, is_of_view, is_there, conflicts, is_authentic, place_refusal, refusal}
 use Rattle.bfs_order.specs.Replica.States.{State, known, with_more, with_message}
 use Rattle.bfs_order.specs.Replica.Views.{leaving_refusal, left, entering_refusal, opened, as_proposals, taken_over, all_taken_over, entered}
 use Rattle.bfs_order.specs.Laws.Calls.{Call, Takes, Proposes, Executes, Checkpoints, Installs, Leaves, Enters, execution, outcome}
@@ -33,7 +33,6 @@ use Rattle.bfs_model.specs.Server.Limits.{log_size}
 -- a message may go into a log
 pub record CanTake (f view low : ℕ) (log : Log) (m : Signed OrderMessage) : Type 0 where
   pub free : is_taken (headers log) (header m) ≡ false
-  pub kind : is_ordering (header m) ≡ true
   pub above : low < (header m).number
   pub to : (header m).number ≤ low + log_size
   pub led : (header m).tag ≡ 2 → (header m).sender ≡ primary f (header m).view
@@ -100,12 +99,6 @@ viewed s h e small = go (or_cases (eqb h.tag 5) (eqb h.view s.view && leb s.aske
     go (inl five) = absurd (omega (arith, small, eqb-true h.tag 5 five))
     go (inr both) = eqb-true h.view s.view (and_parts (eqb h.view s.view) (leb s.asked s.view) both).0
 
-ordering : (m : OrderMessage) → is_ordering (message_header m) ≡ true
-ordering (PrePrepare proposal) = refl
-ordering (Prepare vote) = refl
-ordering (Commit vote) = refl
-ordering (Checkpoint checkpoint) = refl
-
 pub placed : (s : State) (m : Signed OrderMessage) → place_refusal s (header m) ≡ None → CanTake s.f s.view s.low s.log m
 placed s m e =
     let h = header m in
@@ -118,7 +111,6 @@ placed s m e =
     let marks = between s h.number inside.0 in
     record {
       free = p5.0;
-      kind = ordering m.message;
       above = marks.0;
       to = marks.1;
       of_view = viewed s h (not-false (is_of_view s h) p1.0);
@@ -191,17 +183,17 @@ module _ (Good : Signed OrderMessage → Type 0) (P : Fact) (moves : Moves Good 
   unless_goes s sent None o kept goes = goes refl
   unless_goes s sent (Some e) o kept goes = quiet_goes s s sent refl refl kept
 
-  said_more : (keys : Keys) (s : State) (sent : Log) (m : OrderMessage) → Keeps s sent → is_ordering (message_header m) ≡ true → ((message_header m).tag ≡ 2 → ⊥)
+  said_more : (keys : Keys) (s : State) (sent : Log) (m : OrderMessage) → Keeps s sent → ((message_header m).tag ≡ 2 → ⊥)
       → s.low < (message_header m).number → (message_header m).number ≤ s.low + log_size → (message_header m).sender ≡ s.me → (message_header m).view ≡ s.view
       → Told (known s) 2 (primary s.f (message_header m).view) (message_header m).view (message_header m).number (message_header m).digest
       → Good (order_signed_by keys m) → More s sent (said_once keys s m)
-  said_more keys s sent m kept kind other above to mine of_view backed good = go (is_there s (message_header m)) refl
+  said_more keys s sent m kept other above to mine of_view backed good = go (is_there s (message_header m)) refl
     where
       go : (b : Bool) → is_there s (message_header m) ≡ b → More s sent (cond b [] (order_signed_by keys m ∷ []))
       go true is = none_more s sent kept
       go false is =
           moves.say s.f s.me s.view s.low s.log sent (order_signed_by keys m) kept
-          (record { free = is; kind = kind; above = above; to = to; led = λ two. absurd (other two); of_view = λ small. of_view })
+          (record { free = is; above = above; to = to; led = λ two. absurd (other two); of_view = λ small. of_view })
           (record { mine = mine; backed = λ _. told_left s.log (order_signed_by keys m ∷ []) _ _ _ _ _ backed }) good
 
   prepares_more : (keys : Keys) (s : State) (sent : Log) (v n : ℕ) (d : List ℕ) → v ≡ s.view → Speaks Good keys s.f s.me → Keeps s sent → s.low < n → n ≤ s.low + log_size
@@ -210,14 +202,14 @@ module _ (Good : Signed OrderMessage → Type 0) (P : Fact) (moves : Moves Good 
     where
       go : (b : Bool) → eqb s.me (primary s.f v) ≡ b → More s sent (cond b [] (said_once keys s (Prepare (own_vote s v n d))))
       go true is = none_more s sent kept
-      go false is = said_more keys s sent (Prepare (own_vote s v n d)) kept refl (λ two. absurd (omega (arith, two))) above to refl here backed (speaks.prepare v n d is)
+      go false is = said_more keys s sent (Prepare (own_vote s v n d)) kept (λ two. absurd (omega (arith, two))) above to refl here backed (speaks.prepare v n d is)
 
   commits_more : (keys : Keys) (s : State) (sent : Log) (v n : ℕ) (d : List ℕ) → v ≡ s.view → Speaks Good keys s.f s.me → Keeps s sent → s.low < n → n ≤ s.low + log_size
       → More s sent (commits_in keys s v n d)
   commits_more keys s sent v n d here speaks kept above to = go (prepared s.f s.me (known s) v n d) refl
     where
       go : (b : Bool) → prepared s.f s.me (known s) v n d ≡ b → More s sent (cond b (said_once keys s (Commit (own_vote s v n d))) [])
-      go true is = said_more keys s sent (Commit (own_vote s v n d)) kept refl (λ two. absurd (omega (arith, two))) above to refl here (and_parts (told (known s) 2 (primary s.f v) v n d) _ (and_parts _ _ is).0).0 (speaks.commit v n d)
+      go true is = said_more keys s sent (Commit (own_vote s v n d)) kept (λ two. absurd (omega (arith, two))) above to refl here (and_parts (told (known s) 2 (primary s.f v) v n d) _ (and_parts _ _ is).0).0 (speaks.commit v n d)
       go false is = none_more s sent kept
 
   regrouped : (s : State) (sent p c : Log) → P s.f s.me s.view s.low ((s.log ++ p) ++ c) ((sent ++ p) ++ c) → More s sent (p ++ c)
@@ -279,7 +271,7 @@ module _ (Good : Signed OrderMessage → Type 0) (P : Fact) (moves : Moves Good 
       free = false_from_ne_true (has_slot (known s) 2 s.me s.view (next_number s)) (λ taken. absurd (omega (arith, below_greatest (known s) s.me s.view (next_number s) taken)))
 
       said : P s.f s.me s.view s.low (s.log ++ proposal keys s batch ∷ []) (sent ++ proposal keys s batch ∷ [])
-      said = moves.say s.f s.me s.view s.low s.log sent (proposal keys s batch) kept (record { free = free; kind = refl; above = above; to = to; led = λ _. mine; of_view = λ _. refl })
+      said = moves.say s.f s.me s.view s.low s.log sent (proposal keys s batch) kept (record { free = free; above = above; to = to; led = λ _. mine; of_view = λ _. refl })
           (record {
             mine = refl;
             backed = λ _. told_right s.log (proposal keys s batch ∷ []) _ _ _ _ _ (is_one (proposal keys s batch) 2 (primary s.f s.view) s.view (next_number s) (batch_digest batch)
@@ -301,7 +293,7 @@ module _ (Good : Signed OrderMessage → Type 0) (P : Fact) (moves : Moves Good 
       let p2 = passed (has_slot (known s) 5 s.me 0 n) _ _ p1.1 in
       let marks = between s n (and_parts (is_between s n) _ (not-false _ p1.0)).0 in
       let m = checkpoint keys s n d in
-      let said = moves.say s.f s.me s.view s.low s.log sent m kept (record { free = p2.0; kind = refl; above = marks.0; to = marks.1; led = λ two. absurd (omega (arith, two)); of_view = λ lt. absurd (omega (arith, lt)) })
+      let said = moves.say s.f s.me s.view s.low s.log sent m kept (record { free = p2.0; above = marks.0; to = marks.1; led = λ two. absurd (omega (arith, two)); of_view = λ lt. absurd (omega (arith, lt)) })
       (record { mine = refl; backed = λ lt. absurd (omega (arith, lt)) }) (speaks.checkpoint n d) in
       record { same_f = refl; same_me = refl; kept = settled_more (with_message s m) (sent ++ m ∷ []) (header m) said marks.0 }
 

@@ -1,7 +1,7 @@
 -- One message more tells for one sender more at most.
-use Rattle.std.proofs.Common.{◌≡◌, ℕ, ◌+◌, ◌*◌, ◌≤◌, Bool, true, false, ◌&&◌, ◌||◌, inl, inr, eqb, leb, List, [], ◌∷◌, ◌++◌, refl, subst, ◌∙◌, arith}
+use Rattle.std.proofs.Common.{◌≡◌, ℕ, ◌+◌, ◌*◌, ◌≤◌, Bool, true, false, ◌||◌, inl, inr, eqb, List, [], ◌∷◌, ◌++◌, refl, subst, ◌∙◌, arith}
 use Rattle.std.proofs.lemmas.Bool.{and_parts, eq-eqb, leb-true, leb-false, or_cases, or_left, or_right}
-use Rattle.bfs_votes.specs.Votes.{count_below, is_stable, replicas, says, tellers, told}
+use Rattle.bfs_votes.specs.Votes.{is_stable, replicas, says, tellers, told}
 use Rattle.bfs_votes.proofs.Public.{either_below, more, once_below}
 use Rattle.bfs_log.specs.Headers.{header}
 use Rattle.bfs_log.specs.Logs.{Log, headers}

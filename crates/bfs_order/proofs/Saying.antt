@@ -12,7 +12,7 @@ use Rattle.bfs_log.specs.Certificates.{checkpoints_in}
 use Rattle.bfs_order.specs.Replica.States.{State, fresh}
 use Rattle.bfs_order.specs.Laws.Calls.{Call, outcome, after, sent_by, IsSameReplica}
 use Rattle.bfs_order.specs.Laws.Sent.{SpeaksForItself, SaysOneDigest, KeepsWhatItSaid}
-use Rattle.bfs_order.proofs.Telling.{says_is, told_cases, told_left, told_right, one_is, slot_not_told, found_kept}
+use Rattle.bfs_order.proofs.Telling.{says_is, told_cases, told_left, told_right, one_is, slot_not_told, told_kept}
 use Rattle.bfs_order.proofs.Moving.{Fact, Moves, CanTake, IsOwn, call_goes}
 use Rattle.bfs_order.proofs.Putting.{each_keeps}
 use Rattle.bfs_order.proofs.KeptLogs.{Anything, fits_anything, same_replica}
@@ -71,7 +71,7 @@ left_over low number digest log t k v n d rises (inr x) = go (cases_lt number n)
     stay h lt e = or_left (ltb number h.number) _ (lt-ltb number h.number (omega (arith, lt, (says_is h t k v n d e).number)))
 
     go : (number < n) ⊎ (n ≤ number) → (n ≤ number) ⊎ Told (headers (kept_after number digest log)) t k v n d
-    go (inl lt) = inr (found_kept (says t k v n d) (stays number digest) log (λ h e. stay h lt e) x)
+    go (inl lt) = inr (told_kept (says t k v n d) (stays number digest) log (λ h e. stay h lt e) ∙ x)
     go (inr le) = inl le
 
 -- a message of another sender

@@ -1,11 +1,11 @@
 -- Replicas are few.
-use Rattle.std.proofs.Common.{◌≡◌, ℕ, ◌+◌, ◌*◌, ◌<◌, ◌≤◌, true, ◌&&◌, List, [], ◌∷◌, refl, arith}
-use Rattle.std.specs.Prelude.{All, nat_lt}
+use Rattle.std.proofs.Common.{◌≡◌, ℕ, ◌+◌, ◌*◌, ◌<◌, ◌≤◌, true, List, [], ◌∷◌, refl, arith}
+use Rattle.std.specs.Prelude.{All}
 use Rattle.std.proofs.lemmas.Bool.{and_from, lt-ltb}
 use Rattle.std.proofs.lemmas.List.Elements.{All-head, All-tail}
 use Rattle.std.proofs.Math.Nat.{mod-lt}
 use Rattle.bfs_auth.specs.Keys.{Keys}
-use Rattle.bfs_votes.specs.Votes.{primary, replicas}
+use Rattle.bfs_votes.specs.Votes.{primary}
 use Rattle.bfs_log.specs.Certificates.{StableCheckpoint, checkpoints_in, is_shown}
 use Rattle.bfs_log.specs.Headers.{header}
 use Rattle.bfs_log.specs.Logs.{Log}

@@ -1,44 +1,16 @@
--- What a log tells: of logs put together, of one message, and of what is left of a log.
-use Rattle.std.proofs.Common.{◌≡◌, ◌⊎◌, inl, inr, ℕ, Bool, true, false, cond, eqb, ◌||◌, List, [], ◌∷◌, ◌++◌, refl, sym, ap, ◌∙◌}
-use Rattle.std.specs.Prelude.{bytes_eq, filter}
+-- What a log tells: of logs put together, and of one message.
+use Rattle.std.proofs.Common.{◌≡◌, ◌⊎◌, inl, inr, ℕ, Bool, true, false, ◌||◌, List, [], ◌∷◌, ◌++◌, refl, sym, ap, ◌∙◌}
+use Rattle.std.specs.Prelude.{bytes_eq}
 use Rattle.std.specs.List.{list_any}
-use Rattle.std.proofs.lemmas.Bool.{and_parts, and_from, or_cases, or_left, or_right, eqb-true, eq-eqb}
+use Rattle.std.proofs.lemmas.Bool.{and_parts, or_cases, or_left, or_right}
 use Rattle.std.proofs.lemmas.List.{map-append}
 use Rattle.std.proofs.lemmas.List.Folds.{list_any-append}
-use Rattle.std.proofs.lemmas.Slice.Eq.{bytes_eq-Decides}
+pub use Rattle.bfs_log.proofs.Public.{Is, is_said, says_is, slot_is, told_kept}
 use Rattle.bfs_votes.specs.Votes.{Header, is_slot, has_slot, says, told, Told}
 use Rattle.bfs_log.specs.Headers.{header}
 use Rattle.bfs_log.specs.Logs.{Log, headers}
 use Rattle.bfs_messages.specs.declared.signed.Signed.{Signed}
 use Rattle.bfs_messages.specs.declared.order_messages.OrderMessage.{OrderMessage}
-
--- what a header says, field by field
-pub record Is (h : Header) (t k v n : ℕ) (d : List ℕ) : Type 0 where
-  pub tag : h.tag ≡ t
-  pub sender : h.sender ≡ k
-  pub view : h.view ≡ v
-  pub number : h.number ≡ n
-  pub digest : h.digest ≡ d
-
-pub slot_is : (h : Header) (t k v n : ℕ) → is_slot t k v n h ≡ true → Is h t k v n h.digest
-slot_is h t k v n e =
-    let a = and_parts (eqb h.tag t) _ e in
-    let b = and_parts (eqb h.sender k) _ a.1 in
-    let c = and_parts (eqb h.view v) _ b.1 in
-    record { tag = eqb-true h.tag t a.0; sender = eqb-true h.sender k b.0; view = eqb-true h.view v c.0; number = eqb-true h.number n c.1; digest = refl }
-
-pub says_is : (h : Header) (t k v n : ℕ) (d : List ℕ) → says t k v n d h ≡ true → Is h t k v n d
-says_is h t k v n d e =
-    let p = and_parts (is_slot t k v n h) (bytes_eq h.digest d) e in
-    let i = slot_is h t k v n p.0 in
-    record { tag = i.tag; sender = i.sender; view = i.view; number = i.number; digest = (bytes_eq-Decides h.digest d).0 p.1 }
-
-pub is_said : (h : Header) (t k v n : ℕ) (d : List ℕ) → Is h t k v n d → says t k v n d h ≡ true
-is_said h t k v n d i =
-    let slot : is_slot t k v n h ≡ true =
-    and_from (eqb h.tag t) _ (eq-eqb h.tag t i.tag)
-    (and_from (eqb h.sender k) _ (eq-eqb h.sender k i.sender) (and_from (eqb h.view v) (eqb h.number n) (eq-eqb h.view v i.view) (eq-eqb h.number n i.number))) in
-    and_from (is_slot t k v n h) (bytes_eq h.digest d) slot ((bytes_eq-Decides h.digest d).1 i.digest)
 
 -- Logs put together ----------------------------------------------------------------------------------------------------
 
@@ -76,39 +48,3 @@ takes_slot (h ∷ hs) t k v n d e = go (takes_slot hs t k v n d) (or_cases (says
 
 pub slot_not_told : (hs : List Header) (t k v n : ℕ) (d : List ℕ) → has_slot hs t k v n ≡ false → Told hs t k v n d → ⊥
 slot_not_told hs t k v n d free e = let taken = takes_slot hs t k v n d e in absurd (cc (free, taken))
-
--- What is left of a log ------------------------------------------------------------------------------------------------
-
--- what a test finds that passes another one, it finds among what passes that
-pub found_kept : (test keep : Header → Bool) (xs : Log) → ((h : Header) → test h ≡ true → keep h ≡ true) → list_any test (headers xs) ≡ true
-    → list_any test (headers (filter (λ m. keep (header m)) xs)) ≡ true
-found_kept test keep [] fits e = e
-found_kept test keep (m ∷ ms) fits e = go (keep (header m)) refl (found_kept test keep ms fits) (or_cases (test (header m)) (list_any test (headers ms)) e)
-  where
-    rest : Log
-    rest = filter (λ m. keep (header m)) ms
-
-    go : (b : Bool) → keep (header m) ≡ b → (list_any test (headers ms) ≡ true → list_any test (headers rest) ≡ true)
-        → (test (header m) ≡ true) ⊎ (list_any test (headers ms) ≡ true) → list_any test (headers (cond b (m ∷ rest) rest)) ≡ true
-    go true is later (inl here) = or_left (test (header m)) (list_any test (headers rest)) here
-    go true is later (inr there) = or_right (test (header m)) (list_any test (headers rest)) (later there)
-    go false is later (inl here) = let stay = fits (header m) here in absurd (cc (is, stay))
-    go false is later (inr there) = later there
-
--- what is found among what is kept was there
-pub kept_found : (test keep : Header → Bool) (xs : Log) → list_any test (headers (filter (λ m. keep (header m)) xs)) ≡ true → list_any test (headers xs) ≡ true
-kept_found test keep [] e = e
-kept_found test keep (m ∷ ms) e = go (keep (header m)) (kept_found test keep ms) e
-  where
-    rest : Log
-    rest = filter (λ m. keep (header m)) ms
-
-    here : (list_any test (headers rest) ≡ true → list_any test (headers ms) ≡ true) → (test (header m) ≡ true) ⊎ (list_any test (headers rest) ≡ true)
-        → list_any test (headers (m ∷ ms)) ≡ true
-    here later (inl is) = or_left (test (header m)) (list_any test (headers ms)) is
-    here later (inr there) = or_right (test (header m)) (list_any test (headers ms)) (later there)
-
-    go : (b : Bool) → (list_any test (headers rest) ≡ true → list_any test (headers ms) ≡ true) → list_any test (headers (cond b (m ∷ rest) rest)) ≡ true
-        → list_any test (headers (m ∷ ms)) ≡ true
-    go true later e = here later (or_cases (test (header m)) (list_any test (headers rest)) e)
-    go false later e = or_right (test (header m)) (list_any test (headers ms)) (later e)

@@ -1,20 +1,20 @@
 -- No message of a log is of a later view than the one entered.
-use Rattle.std.proofs.Common.{◌⊎◌, inl, inr, ℕ, ◌<◌, ◌≤◌, leb, List, [], arith}
+use Rattle.std.proofs.Common.{◌≡◌, ℕ, ◌<◌, ◌≤◌, List, [], arith}
 use Rattle.std.specs.Prelude.{All}
-use Rattle.std.proofs.lemmas.Bool.{and_parts, leb-true, cases_lt}
 use Rattle.std.proofs.lemmas.List.Elements.{All-nil, All-weaker}
 use Rattle.bfs_votes.specs.Votes.{Header}
-use Rattle.bfs_log.specs.Headers.{header}
+use Rattle.bfs_log.specs.Headers.{header, message_header}
 use Rattle.bfs_log.specs.Logs.{Log, headers, stays, kept_after}
 use Rattle.bfs_messages.specs.declared.signed.Signed.{Signed}
 use Rattle.bfs_messages.specs.declared.order_messages.OrderMessage.{OrderMessage}
+use Rattle.bfs_messages.specs.declared.order_messages.OrderMessage.TheVariants.{PrePrepare, Prepare, Commit, Checkpoint}
 use Rattle.bfs_log.specs.Certificates.{checkpoints_in}
 use Rattle.bfs_order.specs.Laws.Calls.{IsKept, IsAlways}
 use Rattle.bfs_order.specs.Laws.Logs.{HasNoLaterView}
 use Rattle.bfs_order.proofs.Moving.{Fact, Moves, CanTake, call_goes}
-use Rattle.bfs_log.proofs.Public.{IsVoucher, vouched}
+use Rattle.bfs_log.proofs.Public.{IsVoucher, no_view, vouched}
 use Rattle.bfs_order.proofs.Putting.{each_keeps}
-use Rattle.bfs_order.proofs.KeptLogs.{Anything, fits_anything, always, all_more, all_kept, no_view}
+use Rattle.bfs_order.proofs.KeptLogs.{Anything, fits_anything, always, all_more, all_kept}
 
 abbrev IsNoLater : (view : ℕ) → Header → Type 0
 IsNoLater view h = h.view ≤ view
@@ -24,14 +24,13 @@ Views f me view low log sent = All (IsNoLater view) (headers log)
 
 -- a CHECKPOINT has no view
 can_no_later : (f view low : ℕ) (log : Log) (m : Signed OrderMessage) → CanTake f view low log m → (header m).view ≤ view
-can_no_later f view low log m can = go (cases_lt (header m).tag 5)
+can_no_later f view low log m can = go m.message can.of_view
   where
-    most : (header m).tag ≤ 5
-    most = leb-true (header m).tag 5 (and_parts (leb 2 (header m).tag) (leb (header m).tag 5) can.kind).1
-
-    go : ((header m).tag < 5) ⊎ (5 ≤ (header m).tag) → (header m).view ≤ view
-    go (inl small) = omega (arith, can.of_view small)
-    go (inr large) = omega (arith, no_view m.message (omega (arith, most, large)))
+    go : (k : OrderMessage) → ((message_header k).tag < 5 → (message_header k).view ≡ view) → (message_header k).view ≤ view
+    go (PrePrepare proposal) of_view = omega (arith, of_view (omega arith))
+    go (Prepare vote) of_view = omega (arith, of_view (omega arith))
+    go (Commit vote) of_view = omega (arith, of_view (omega arith))
+    go (Checkpoint checkpoint) of_view = omega arith
 
 left_no_later : (view n : ℕ) (d : List ℕ) (log : Log) → All (IsNoLater view) (headers log) → All (IsNoLater view) (headers (kept_after n d log))
 left_no_later view n d log kept = all_kept (IsNoLater view) (IsNoLater view) (stays n d) (λ h stay is. is) log kept

@@ -7,8 +7,7 @@ use Rattle.bfs_auth.specs.Keys.{Keys}
 use Rattle.bfs_votes.specs.Votes.{SlotsDiffer, has_slot, is_slot, is_taken, replicas, tellers, Told, told, says}
 use Rattle.bfs_log.specs.Headers.{header}
 use Rattle.bfs_log.specs.Logs.{Log, headers}
-use Rattle.bfs_log.proofs.Public.{IsVoucher, senders_counted, vouched}
-use Rattle.bfs_order.proofs.KeptLogs.{no_view}
+use Rattle.bfs_log.proofs.Public.{IsVoucher, no_view, senders_counted, vouched}
 use Rattle.bfs_order.proofs.Telling.{is_said, slot_is}
 use Rattle.bfs_order.specs.Laws.Certificates.{CertificatesMakeStable}
 use Rattle.bfs_log.specs.Certificates.{IsCheckpointOf, checkpoints_in, has_sender, senders_differ}

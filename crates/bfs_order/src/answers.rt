@@ -3,7 +3,7 @@ ghost use Rattle.std.specs.Prelude.{◌≡◌, ◌<◌, ◌++◌, false, IfOk, O
 ghost use Rattle.bfs_votes.specs.Votes.{prepared};
 ghost use Rattle.bfs_log.specs.Headers.{header, message_header};
 ghost use Rattle.bfs_log.specs.Logs.{as_messages};
-ghost use Rattle.bfs_order.specs.Inside.Asking.{asked_answers, asked_settled};
+ghost use Rattle.bfs_order.specs.Inside.Asking.{asked_answers};
 ghost use Rattle.bfs_order.specs.Replica.Accepting.{accepted};
 ghost use Rattle.bfs_order.specs.Replica.Answers.{commits_in, own_vote, prepares_in, said_once, votes_in};
 ghost use Rattle.bfs_order.specs.Replica.Refusals.{is_there};

@@ -1,8 +1,7 @@
 // Whether others have gone on.
-ghost use Rattle.std.specs.Prelude.{◌≡◌, ◌≤◌, ◌&&◌, nat_lt};
+ghost use Rattle.std.specs.Prelude.{◌≡◌, ◌&&◌, nat_lt};
 ghost use Rattle.bfs_votes.specs.Tags.{checkpoint_tag};
 ghost use Rattle.bfs_votes.specs.Votes.{has_slot};
-ghost use Rattle.bfs_model.specs.Server.Limits.{most_number};
 ghost use Rattle.bfs_order.specs.Replica.Behind.{is_ahead, is_behind};
 ghost use Rattle.bfs_order.specs.Replica.States.{known};
 

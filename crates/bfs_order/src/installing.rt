@@ -1,11 +1,10 @@
 // The certificate of a checkpoint is installed.
-ghost use Rattle.std.specs.Prelude.{◌≡◌, ◌≢◌, true, false, None, Some, IfNone, IfSome, IfOk, IfErr, OnOk, OnErr};
-ghost use Rattle.std.specs.List.{list_all};
-ghost use Rattle.bfs_log.specs.Certificates.{as_checkpoints, checkpoints_in, is_shown};
+ghost use Rattle.std.specs.Prelude.{◌≡◌, ◌≢◌, true, None, Some, IfNone, IfSome, IfOk, IfErr, OnOk, OnErr};
+ghost use Rattle.bfs_log.specs.Certificates.{checkpoints_in, is_shown};
 ghost use Rattle.bfs_messages.specs.Signing.{as_message};
 ghost use Rattle.bfs_messages.specs.declared.order_messages.OrderMessage.TheVariants as kind;
 ghost use Rattle.bfs_order.specs.Inside.Senders.{are_from_few, is_from_few};
-ghost use Rattle.bfs_order.specs.Replica.Installing.{certified, install_refusal, installed, with_each, with_new};
+ghost use Rattle.bfs_order.specs.Replica.Installing.{certified, install_refusal, installed, with_new};
 ghost use Rattle.bfs_order.specs.declared.error.OrderError.TheVariants as error;
 
 use crate::error::OrderError;

@@ -1,19 +1,20 @@
-ghost use Rattle.std.specs.Prelude.{◌≡◌, ◌≢◌, ◌<◌, ◌≤◌, ◌+◌, ◌*◌, ◌^◌, None, Some, IfOk, IfErr, OnOk, OnErr};
+ghost use Rattle.std.specs.Prelude.{◌≡◌, ◌≢◌, ◌<◌, ◌≤◌, ◌+◌, ◌*◌, length, None, Some, IfOk, IfErr, OnOk, OnErr};
 ghost use Rattle.bfs_votes.specs.Votes.{SlotsDiffer};
 ghost use Rattle.bfs_log.specs.Logs.{as_messages, headers};
+ghost use Rattle.bfs_log.specs.Showing.{certificate_for, checkpoints_of};
 ghost use Rattle.bfs_pending.specs.Passed.{HavePassed};
 ghost use Rattle.bfs_order.specs.Replica.Accepting.{accepted};
 ghost use Rattle.bfs_order.specs.Replica.Refusals.{refusal};
 ghost use Rattle.bfs_order.specs.Replica.States.{fresh};
 ghost use Rattle.bfs_order.specs.declared.error.OrderError.TheVariants as error;
-ghost use Rattle.bfs_model.specs.Server.Limits.{log_size, most_faults, most_number};
+ghost use Rattle.bfs_model.specs.Server.Limits.{log_size, most_faults, most_number, most_replicas};
 
 use crate::error::OrderError;
 use bfs_auth::Keys;
 use bfs_log::Log;
-use bfs_messages::{Message, OrderMessage, Signed};
+use bfs_messages::{Checkpoint, Message, OrderMessage, PreparedBatch, Signed};
 use bfs_pending::PendingRequests;
-use bfs_types::LOG_SIZE;
+use bfs_types::{LOG_SIZE, Memory};
 use std::alloc::Global;
 use std::marker::Model;
 use std::thread::Threads;
@@ -130,6 +131,22 @@ impl Order {
     {
         self.log.messages_differ();
         self.log.messages()
+    }
+
+    /// Copies of the CHECKPOINTs of the low mark in its log that are of replicas. `Memory` if memory runs out.
+    pub fn low_checkpoints(&self) -> Result<Vec<Signed<Checkpoint>>, Memory>
+        ensures value { IfOk result (λ found. found.items ≡ checkpoints_of self.now.f self.now.low self.now.log) }
+        ensures few { IfOk result (λ found. length found.items ≤ most_replicas) }
+    {
+        self.log.checkpoints_of(self.f, self.low)
+    }
+
+    /// The certificate of the highest view in which its log proves a number to be prepared, None where there is none. It shares the batch.
+    /// `Memory` if memory runs out.
+    pub fn certificate_for(&self, number: u64) -> Result<Option<PreparedBatch>, Memory>
+        ensures { IfOk result (λ found. found ≡ certificate_for self.now.f self.now.me self.now.log number) }
+    {
+        self.log.certificate_for(self.f, self.me, number)
     }
 
     /// Takes a message that came, and gives what is to be sent to all other replicas. It is refused, in this order: `BadAuthenticator`,

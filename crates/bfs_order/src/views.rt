@@ -1,5 +1,5 @@
 // A view is left for a later one, and entered.
-ghost use Rattle.std.specs.Prelude.{◌≡◌, ◌≢◌, ◌<◌, ◌≤◌, ◌++◌, false, length, take, reverse, None, Some, IfNone, IfSome, IfOk, IfErr, OnOk, OnErr};
+ghost use Rattle.std.specs.Prelude.{◌≡◌, ◌≢◌, ◌<◌, ◌≤◌, ◌++◌, length, take, reverse, None, Some, IfSome, IfOk, IfErr, OnOk, OnErr};
 ghost use Rattle.bfs_order.specs.Inside.Growing.{Grown};
 ghost use Rattle.bfs_log.specs.Logs.{as_messages};
 ghost use Rattle.bfs_messages.specs.Signing.{as_message};

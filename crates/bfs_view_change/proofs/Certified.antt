@@ -1,23 +1,21 @@
 -- A certificate that is made of a log tells what the log does.
-use Rattle.std.proofs.Common.{◌≡◌, ℕ, zero, suc, ◌*◌, ◌<◌, Bool, true, false, cond, ◌&&◌, ◌||◌, not, eqb, ltb, leb, List, [], ◌∷◌, length, get_or, map, bytes_eq, Option, Some, refl, ap, subst, ◌∙◌, arith}
-use Rattle.std.specs.List.{All, Contains, cons_option, filter, filter_map, list_any}
-use Rattle.std.proofs.lemmas.Bool.{and_parts, and_from, eqb-true, eq-eqb, lt-ltb}
+use Rattle.std.proofs.Common.{◌≡◌, ℕ, ◌*◌, ◌<◌, Bool, true, false, ◌&&◌, not, eqb, ltb, leb, List, [], ◌∷◌, map, Option, Some, refl, ap, subst, ◌∙◌, arith}
+use Rattle.std.specs.List.{All, Contains, cons_option, filter, filter_map}
+use Rattle.std.proofs.lemmas.Bool.{and_from, eqb-true, eq-eqb, lt-ltb}
 use Rattle.std.proofs.lemmas.List.Elements.{All-head, All-tail}
 use Rattle.std.proofs.lemmas.Slice.Eq.{bytes_eq-Decides}
-use Rattle.bfs_votes.specs.Votes.{Header, backups, is_backed, is_slot, prepared, primary, replicas, says, told}
+use Rattle.bfs_votes.specs.Votes.{Header, backups, is_backed, primary, replicas, says, told}
 use Rattle.bfs_log.specs.Headers.{header, message_header}
 use Rattle.bfs_log.specs.Logs.{Log, headers}
 use Rattle.bfs_messages.specs.Messages as model
 use Rattle.bfs_messages.specs.declared.signed.Signed.{Signed}
 use Rattle.bfs_messages.specs.declared.order_messages.OrderMessage.{OrderMessage}
 use Rattle.bfs_messages.specs.declared.order_messages.OrderMessage.TheVariants.{PrePrepare, Prepare, Commit, Checkpoint}
-use Rattle.bfs_order.specs.Replica.States.{State, known}
 use Rattle.bfs_log.specs.Certificates.{is_proved, messages_in, prepares_in}
-use Rattle.bfs_view_change.specs.Changes.Kinds.{checkpoint_in, prepare_in, proposal_in}
-use Rattle.bfs_view_change.specs.Changes.Making.{backs, certificate_of}
+use Rattle.bfs_log.specs.Showing.{backs, certificate_of, checkpoint_in, prepare_in, proposal_in}
 use Rattle.bfs_messages.specs.Signing.{as_message}
-use Rattle.bfs_view_change.proofs.Few.{backed_by, passing}
-use Rattle.bfs_log.proofs.Public.{proposed_by}
+use Rattle.bfs_log.proofs.Public.{any_map, backed_by, is_said, passing, proposed_by, says_is, told_kept}
+use Rattle.bfs_view_change.proofs.Members.{any_from}
 use Rattle.bfs_votes.proofs.Public.{same_below}
 
 -- Messages of one kind are those messages again --------------------------------------------------------------------------
@@ -68,28 +66,14 @@ checkpoint_kind m e = go m.message m.auth e
 
 -- What is told -----------------------------------------------------------------------------------------------------------
 
-pub told_kept : (p q : Header → Bool) (log : Log) → ((h : Header) → p h ≡ true → q h ≡ true) → list_any p (headers (filter (λ m. q (header m)) log)) ≡ list_any p (headers log)
-told_kept p q [] each = refl
-told_kept p q (m ∷ log) each = go (q (header m)) (p (header m)) refl refl (told_kept p q log each)
-  where
-    go : (b t : Bool) → q (header m) ≡ b → p (header m) ≡ t
-        → list_any p (headers (filter (λ m. q (header m)) log)) ≡ list_any p (headers log)
-        → list_any p (headers (cond b (m ∷ filter (λ m. q (header m)) log) (filter (λ m. q (header m)) log))) ≡ p (header m) || list_any p (headers log)
-    go true t is passes rest = ap (λ r. p (header m) || r) rest
-    go false true is passes rest = let no = each (header m) passes in absurd cc
-    go false false is passes rest = rw passes rest
-
 says_backs : (f k : ℕ) (proposed : model.Vote) (h : Header) → k < replicas f → eqb k (primary f proposed.view) ≡ false
     → says 3 k proposed.view proposed.number proposed.digest h ≡ true → backs f proposed h ≡ true
 says_backs f k proposed h known_k backup e =
-    let a = and_parts (is_slot 3 k proposed.view proposed.number h) (bytes_eq h.digest proposed.digest) e in
-    let b = and_parts (eqb h.tag 3) (eqb h.sender k && (eqb h.view proposed.view && eqb h.number proposed.number)) a.0 in
-    let c = and_parts (eqb h.sender k) (eqb h.view proposed.view && eqb h.number proposed.number) b.1 in
-    let d = and_parts (eqb h.view proposed.view) (eqb h.number proposed.number) c.1 in
-    let who = eqb-true h.sender k c.0 in
-    let other : eqb h.sender (primary f h.view) ≡ false = rw (who, eqb-true h.view proposed.view d.0) backup in
-    let few : ltb h.sender (replicas f) ≡ true = lt-ltb h.sender (replicas f) (omega (arith, known_k, who)) in
-    and_from _ _ (and_from _ _ b.0 (and_from _ _ d.0 (and_from _ _ d.1 a.1))) (and_from _ _ few (rw other refl))
+    let is = says_is h 3 k proposed.view proposed.number proposed.digest e in
+    let other : eqb h.sender (primary f h.view) ≡ false = rw (is.sender, is.view) backup in
+    let known : ltb h.sender (replicas f) ≡ true = lt-ltb h.sender (replicas f) (omega (arith, known_k, is.sender)) in
+    let same = and_from _ _ (eq-eqb h.view proposed.view is.view) (and_from _ _ (eq-eqb h.number proposed.number is.number) ((bytes_eq-Decides h.digest proposed.digest).1 is.digest)) in
+    and_from _ _ (and_from _ _ (eq-eqb h.tag 3 is.tag) same) (and_from _ _ known (rw other refl))
 
 module _ (f : ℕ) (log : Log) (p : Signed model.PrePrepare) where
   -- the messages of a certificate that is made of the log
@@ -116,24 +100,12 @@ module _ (f : ℕ) (log : Log) (p : Signed model.PrePrepare) where
       go true e = refl
       go false e = told_in k low e
 
-told_by : (h : Header) → says h.tag h.sender h.view h.number h.digest h ≡ true
-told_by h =
-    and_from _ _ (and_from _ _ (eq-eqb h.tag h.tag refl) (and_from _ _ (eq-eqb h.sender h.sender refl) (and_from _ _ (eq-eqb h.view h.view refl) (eq-eqb h.number h.number refl)))) ((bytes_eq-Decides h.digest h.digest).1 refl)
-
-or_true : (a b : Bool) → b ≡ true → a || b ≡ true
-or_true true b e = refl
-or_true false b e = e
-
 -- what stands in a log is told
-pub told_there : (log : Log) (m : Signed OrderMessage) → Contains log m → told (headers log) (header m).tag (header m).sender (header m).view (header m).number (header m).digest ≡ true
-told_there [] m h = absurd (omega (arith, h.1))
-told_there (x ∷ xs) m h = go h.0 h.1 h.2 (told_there xs m)
-  where
-    go : (k : ℕ) → k < length (x ∷ xs) → get_or (x ∷ xs) k m ≡ m
-        → (Contains xs m → told (headers xs) (header m).tag (header m).sender (header m).view (header m).number (header m).digest ≡ true)
-        → told (headers (x ∷ xs)) (header m).tag (header m).sender (header m).view (header m).number (header m).digest ≡ true
-    go zero lt e rest = subst (λ (y : Signed OrderMessage). told (headers (x ∷ xs)) (header y).tag (header y).sender (header y).view (header y).number (header y).digest ≡ true) e (rw (told_by (header x)) refl)
-    go (suc k) lt e rest = or_true _ _ (rest (k, omega (arith, lt), e))
+told_there : (log : Log) (m : Signed OrderMessage) → Contains log m → told (headers log) (header m).tag (header m).sender (header m).view (header m).number (header m).digest ≡ true
+told_there log m among =
+    let h = header m in
+    let it = is_said h h.tag h.sender h.view h.number h.digest (record { tag = refl; sender = refl; view = refl; number = refl; digest = refl }) in
+    any_map (says h.tag h.sender h.view h.number h.digest) header log ∙ any_from (λ x. says h.tag h.sender h.view h.number h.digest (header x)) m log among it
 
 -- Prepared -----------------------------------------------------------------------------------------------------------------
 
@@ -151,15 +123,3 @@ backed_alike f log p among led =
   where
     alike : (a b : Bool) (x y k : ℕ) → a ≡ true → b ≡ true → x ≡ y → (a && leb k x) ≡ (b && leb k y)
     alike a b x y k e g h = rw (e, g, h) refl
-
-pub prepared_alike : (s : State) (p : Signed model.PrePrepare) → Contains s.log (as_message PrePrepare p) → eqb p.message.vote.sender (primary s.f p.message.vote.view) ≡ true → s.me < replicas s.f
-    → (is_proved s.f (certificate_of s.f s.log p) && (eqb s.me (primary s.f p.message.vote.view) || told (headers (messages_in (certificate_of s.f s.log p))) 3 s.me p.message.vote.view p.message.vote.number p.message.vote.digest))
-    ≡ prepared s.f s.me (known s) p.message.vote.view p.message.vote.number p.message.vote.digest
-prepared_alike s p among led me = go (eqb s.me (primary s.f p.message.vote.view)) refl
-  where
-    go : (b : Bool) → eqb s.me (primary s.f p.message.vote.view) ≡ b
-        → (is_proved s.f (certificate_of s.f s.log p) && (b || told (headers (messages_in (certificate_of s.f s.log p))) 3 s.me p.message.vote.view p.message.vote.number p.message.vote.digest))
-        ≡ (is_backed s.f (known s) p.message.vote.view p.message.vote.number p.message.vote.digest && (b || told (known s) 3 s.me p.message.vote.view p.message.vote.number p.message.vote.digest))
-    go true e = ap (λ x. x && true) (backed_alike s.f s.log p among led)
-    go false e = ap (λ x. x && told (headers (messages_in (certificate_of s.f s.log p))) 3 s.me p.message.vote.view p.message.vote.number p.message.vote.digest) (backed_alike s.f s.log p among led)
-        ∙ ap (λ y. is_backed s.f (known s) p.message.vote.view p.message.vote.number p.message.vote.digest && y) (told_in s.f s.log p s.me me e)

@@ -1,13 +1,10 @@
--- Lists: a fold over one after another, one number more, and the least of some.
-use Rattle.std.proofs.Common.{◌≡◌, ℕ, ◌+◌, ◌-◌, ◌<◌, List, [], ◌∷◌, ◌++◌, Some, map, min, refl, sym, ap, ◌∙◌, arith}
-use Rattle.std.specs.List.{fold, range_with_len}
+-- Lists: one number more, and the least of some.
+use Rattle.std.proofs.Common.{◌≡◌, ℕ, ◌+◌, ◌-◌, ◌<◌, List, [], ◌∷◌, ◌++◌, Some, map, min, sym, ap, ◌∙◌, arith}
+use Rattle.std.specs.List.{range_with_len}
 use Rattle.std.specs.Option.{unwrap_or}
+pub use Rattle.std.proofs.lemmas.List.Sums.{fold-append as fold_append}
 use Rattle.std.proofs.lemmas.List.FromFn.{map-range_with_len_more}
 use Rattle.bfs_view_change.specs.Changes.Keeping.{least_of}
-
-pub fold_append : {A B : Type 0} (f : B → A → B) (b : B) (xs ys : List A) → fold f b (xs ++ ys) ≡ fold f (fold f b xs) ys
-fold_append f b [] ys = refl
-fold_append f b (x ∷ xs) ys = fold_append f (f b x) xs ys
 
 pub least_of_more : (views : List ℕ) (view : ℕ) → Some (min (unwrap_or (least_of views) view) view) ≡ least_of (views ++ view ∷ [])
 least_of_more [] view = ap Some (let same : min view view ≡ view = omega arith in same)

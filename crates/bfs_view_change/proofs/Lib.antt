@@ -2,9 +2,9 @@
 mod Folds
 mod Steps
 mod Passed
-mod Few
 mod Certified
 mod Members
+mod First
 mod Latest
 mod Best
 mod OfTheSet

@@ -1,6 +1,6 @@
 -- What a replica says of its log is valid by its own keys, and leaves out nothing that is prepared.
-use Rattle.std.proofs.Common.{◌≡◌, ℕ, zero, suc, ◌+◌, ◌*◌, ◌<◌, ◌≤◌, Bool, true, false, cond, ◌&&◌, not, eqb, ltb, leb, List, [], ◌∷◌, length, map, bytes_eq, Option, Some, None, refl, sym, ap, subst, ◌∙◌, ⊎_elim, arith}
-use Rattle.std.specs.Prelude.{unwrap_or}
+use Rattle.std.proofs.Common.{◌≡◌, ℕ, zero, suc, ◌+◌, ◌*◌, ◌<◌, ◌≤◌, Bool, true, false, cond, ◌&&◌, not, eqb, ltb, leb, List, [], ◌∷◌, length, map, Option, Some, None, refl, sym, ap, subst, ◌∙◌, ⊎_elim, arith}
+use Rattle.std.specs.Option.{option_map}
 use Rattle.std.specs.List.{All, Contains, cons_option, filter, filter_map, list_all, range_with_len}
 use Rattle.std.proofs.lemmas.Bool.{and_parts, and_from, or_from, eqb-true, eqb-false, eq-eqb, leb-true, le-leb, lt-ltb}
 use Rattle.std.proofs.lemmas.List.Elements.{All-contains, All-head, All-tail}
@@ -10,7 +10,7 @@ use Rattle.std.proofs.lemmas.Slice.Eq.{bytes_eq-Decides}
 use Rattle.bfs_auth.specs.Keys.{Keys, shared_keys}
 use Rattle.bfs_auth.specs.Laws.{PassesAtReplicas}
 use Rattle.bfs_auth.specs.declared.principals.Principal.TheVariants.{Replica}
-use Rattle.bfs_votes.specs.Votes.{is_backed, is_slot, is_stable, prepared, primary, replicas, says, tellers, told}
+use Rattle.bfs_votes.specs.Votes.{is_backed, is_stable, prepared, primary, replicas, says, tellers, told}
 use Rattle.bfs_log.specs.Headers.{header}
 use Rattle.bfs_log.specs.Logs.{Log}
 use Rattle.bfs_messages.specs.Messages as model
@@ -26,17 +26,16 @@ use Rattle.bfs_order.specs.Laws.Clean.{IsClean, LogsAreClean, own_keys}
 use Rattle.bfs_order.specs.Laws.Logs.{HasCertificate, HasDistinctSlots, HasNoLaterView, IsCertified}
 use Rattle.bfs_order.specs.Replica.States.{State, fresh, known}
 use Rattle.bfs_log.specs.Certificates.{as_checkpoints, certifies, faults, has_sender, is_all_signed, is_proved, is_shown, matches, number_in, senders_differ, view_in, vouches}
-use Rattle.bfs_view_change.specs.Changes.Kinds.{checkpoint_in, checkpoints, proposal_in, proposals}
-use Rattle.bfs_view_change.specs.Changes.Making.{backs, certificate_of, certificates, change_of, is_of_low, is_prepared_for, latest, prepared_for, signed_change}
+use Rattle.bfs_log.specs.Showing.{backs, certificate_for, certificate_of, checkpoint_in, checkpoints, is_of, is_prepared_for, latest, prepared_among, proposal_in}
+use Rattle.bfs_view_change.specs.Changes.Making.{certificates, change_of, signed_change}
 use Rattle.bfs_view_change.specs.Changes.ViewChanges.{do_rise, first_digest, has_stable, is_due, valid_view_change}
 use Rattle.bfs_view_change.specs.Inside.Near.{IsNear}
 use Rattle.bfs_view_change.specs.Laws.Made.{MadeHasPrepared, MadeIsValid, MadeIsValidAfterCalls}
 use Rattle.bfs_view_change.proofs.Certified.{again, backed_alike, checkpoint_kind, messages_made, prepares_made, proposal_kind}
 use Rattle.bfs_view_change.proofs.Counting.{senders_fit}
-use Rattle.bfs_view_change.proofs.Few.{backed_by, backups_apart, low_apart, of_low, passing}
-use Rattle.bfs_log.proofs.Public.{any_map}
+use Rattle.bfs_log.proofs.Public.{any_map, backed_by, backups_apart, checkpoints_apart, of_number, passing, says_is}
 use Rattle.bfs_view_change.proofs.Latest.{latest_in, latest_is}
-use Rattle.bfs_view_change.proofs.Members.{all_from, any_at, any_from, greatest_at_most, in_filter, in_filter_map, in_front, in_map, in_range, of_filter, of_filter_map, of_map, of_range}
+use Rattle.bfs_view_change.proofs.Members.{all_from, any_at, any_from, greatest_at_most, in_filter, in_filter_map, in_front, in_map, in_range, of_filter, of_filter_map, of_map, of_range, some_is}
 use Rattle.bfs_model.specs.Server.Limits.{log_size}
 use Rattle.bfs_votes.proofs.Public.{more_below}
 
@@ -50,17 +49,21 @@ pub record Made (s : State) (n : ℕ) (c : PreparedBatch) : Type 0 where
   pub led : eqb proposal.message.vote.sender (primary s.f proposal.message.vote.view) ≡ true
   pub prepared : prepared s.f s.me (known s) proposal.message.vote.view proposal.message.vote.number proposal.message.vote.digest ≡ true
 
-made_of : (s : State) (n : ℕ) (c : PreparedBatch) → latest (prepared_for s n) ≡ Some c → Made s n c
+of_option : {A B : Type 0} (g : A → B) (o : Option A) (b : B) → option_map g o ≡ Some b → (x : A) × (o ≡ Some x) × (g x ≡ b)
+of_option g None b e = absurd cc
+of_option g (Some x) b e = (x, refl, some_is (g x) b e)
+
+made_of : (s : State) (n : ℕ) (c : PreparedBatch) → certificate_for s.f s.me s.log n ≡ Some c → Made s n c
 made_of s n c e =
-    let there = latest_is (prepared_for s n) c e in
-    let from = of_map (certificate_of s.f s.log) c (proposals (filter (λ m. is_prepared_for s n (header m)) s.log)) there in
-    let at = of_filter_map (λ (m : Signed OrderMessage). proposal_in m.message m.auth) from.0 (filter (λ m. is_prepared_for s n (header m)) s.log) from.1 in
-    let passed = of_filter (λ m. is_prepared_for s n (header m)) at.0 s.log at.1 in
+    let test = λ (m : Signed OrderMessage). is_prepared_for s.f s.me s.log n (header m) in
+    let from = of_option (certificate_of s.f s.log) (latest (prepared_among s.f s.me s.log n s.log)) c e in
+    let at = of_filter_map (λ (m : Signed OrderMessage). proposal_in m.message m.auth) from.0 (filter test s.log) (latest_is (prepared_among s.f s.me s.log n s.log) from.0 from.1) in
+    let passed = of_filter test at.0 s.log at.1 in
     let h = header at.0 in
     let a = and_parts (eqb h.tag 2) _ passed.1 in
     let kind = proposal_kind at.0 (eqb-true h.tag 2 a.0) in
-    let same : as_message PrePrepare from.0 ≡ at.0 = ap (as_message PrePrepare) (one_of_two from.0 kind.signed (sym at.2 ∙ kind.is)) ∙ kind.same in
-    let tests : is_prepared_for s n (header (as_message PrePrepare from.0)) ≡ true = subst (λ (m : Signed OrderMessage). is_prepared_for s n (header m) ≡ true) (sym same) passed.1 in
+    let same : as_message PrePrepare from.0 ≡ at.0 = ap (as_message PrePrepare) (some_is from.0 kind.signed (sym at.2 ∙ kind.is)) ∙ kind.same in
+    let tests : test (as_message PrePrepare from.0) ≡ true = subst (λ (m : Signed OrderMessage). test m ≡ true) (sym same) passed.1 in
     let vote = from.0.message.vote in
     let b = and_parts (eqb vote.number n) ((eqb vote.sender (primary s.f vote.view)) && prepared s.f s.me (known s) vote.view vote.number vote.digest) tests in
     let d = and_parts (eqb vote.sender (primary s.f vote.view)) (prepared s.f s.me (known s) vote.view vote.number vote.digest) b.1 in
@@ -72,13 +75,10 @@ made_of s n c e =
       led = d.0;
       prepared = d.1;
     }
-  where
-    one_of_two : (a b : Signed model.PrePrepare) → Some a ≡ Some b → a ≡ b
-    one_of_two a b e = ap (λ (o : Option (Signed model.PrePrepare)). unwrap_or o a) e
 
 pub in_window : (s : State) (c : PreparedBatch) → Contains (certificates s) c → (n : ℕ) × (s.low < n) × (n ≤ s.low + log_size) × Made s n c
 in_window s c h =
-    let r = of_filter_map (λ number. latest (prepared_for s number)) c (range_with_len (s.low + 1) log_size) h in
+    let r = of_filter_map (certificate_for s.f s.me s.log) c (range_with_len (s.low + 1) log_size) h in
     let w = of_range (s.low + 1) log_size r.0 r.1 in
     (r.0, omega (arith, w.0), omega (arith, w.1), made_of s r.0 c r.2)
 
@@ -108,9 +108,6 @@ module _ (keys : Keys) (s : State) (view : ℕ) (fs : faults keys ≡ s.f) (befo
     (differ : HasDistinctSlots s) (certificate : HasCertificate s) (views : HasNoLaterView s) (clean : All (IsClean keys s.f) s.log) where
   signed_in : (m : Signed OrderMessage) → Contains s.log m → is_all_signed keys m ≡ true
   signed_in m among = let it = All-contains (IsClean keys s.f) s.log m clean among in and_from (order_is_signed keys m) (carried_are_signed keys m.message) it.signed it.carried
-
-  abbrev of_number : ℕ → Option PreparedBatch
-  of_number number = latest (prepared_for s number)
 
   due : (c : PreparedBatch) → Contains (certificates s) c → is_due (change_of s view) c ≡ true
   due c h =
@@ -143,7 +140,7 @@ module _ (keys : Keys) (s : State) (view : ℕ) (fs : faults keys ≡ s.f) (befo
       subst (λ (x : PreparedBatch). certifies keys x ≡ true) made.is whole
 
   abbrev kept_low : Log
-  kept_low = filter (λ m. is_of_low s.f s.low (header m)) s.log
+  kept_low = filter (λ m. is_of s.f s.low (header m)) s.log
 
   many_told : (digest : List ℕ) → is_stable s.f (known s) s.low digest ≡ true → 2 * s.f + 1 ≤ length kept_low
   many_told digest stable =
@@ -151,12 +148,10 @@ module _ (keys : Keys) (s : State) (view : ℕ) (fs : faults keys ≡ s.f) (befo
       let each : (k : ℕ) → k < replicas s.f → told_by k ≡ true → has_sender kept_low k ≡ true = λ k low e.
       (let at = any_at (λ m. says 5 k 0 s.low digest (header m)) s.log (sym (any_map (says 5 k 0 s.low digest) header s.log) ∙ e) in
       let h = header at.0 in
-      let a = and_parts (is_slot 5 k 0 s.low h) (bytes_eq h.digest digest) at.2 in
-      let b = and_parts (eqb h.tag 5) (eqb h.sender k && (eqb h.view 0 && eqb h.number s.low)) a.0 in
-      let c = and_parts (eqb h.sender k) (eqb h.view 0 && eqb h.number s.low) b.1 in
-      let d = and_parts (eqb h.view 0) (eqb h.number s.low) c.1 in
-      let few : ltb h.sender (replicas s.f) ≡ true = lt-ltb h.sender (replicas s.f) (omega (arith, low, eqb-true h.sender k c.0)) in
-      any_from (λ m. eqb (header m).sender k) at.0 kept_low (in_filter (λ m. is_of_low s.f s.low (header m)) at.0 s.log at.1 (and_from _ _ b.0 (and_from _ _ d.1 few))) c.0) in
+      let is = says_is h 5 k 0 s.low digest at.2 in
+      let known_k : ltb h.sender (replicas s.f) ≡ true = lt-ltb h.sender (replicas s.f) (omega (arith, low, is.sender)) in
+      let passed = and_from _ _ (eq-eqb h.tag 5 is.tag) (and_from _ _ (eq-eqb h.number s.low is.number) known_k) in
+      any_from (λ m. eqb (header m).sender k) at.0 kept_low (in_filter (λ m. is_of s.f s.low (header m)) at.0 s.log at.1 passed) (eq-eqb h.sender k is.sender)) in
       let enough = leb-true (2 * s.f + 1) (tellers s.f (known s) 5 0 s.low digest) stable in
       let count = more_below told_by (has_sender kept_low) (replicas s.f) each in
       let fit = senders_fit kept_low (replicas s.f) in
@@ -164,8 +159,8 @@ module _ (keys : Keys) (s : State) (view : ℕ) (fs : faults keys ≡ s.f) (befo
 
   vouched : (digest : List ℕ) → IsCertified s.f (known s) s.low digest → (m : Signed OrderMessage) → Contains kept_low m → ((header m).digest ≡ digest) × (vouches keys s.f s.low digest m ≡ true)
   vouched digest certified_low m h =
-      let r = of_filter (λ m. is_of_low s.f s.low (header m)) m s.log h in
-      let it = of_low s.f s.low m r.1 in
+      let r = of_filter (λ m. is_of s.f s.low (header m)) m s.log h in
+      let it = of_number s.f s.low m r.1 in
       let same = (All-contains (λ h. h.tag ≡ 5 → h.number ≡ s.low → h.digest ≡ digest) (known s) (header m) certified_low.one (in_map header m s.log r.0)) it.at.tag it.at.number in
       let good = All-contains (IsClean keys s.f) s.log m clean r.0 in (
         same,
@@ -174,7 +169,7 @@ module _ (keys : Keys) (s : State) (view : ℕ) (fs : faults keys ≡ s.f) (befo
       )
 
   low_again : as_checkpoints (checkpoints kept_low) ≡ kept_low
-  low_again = again 5 Checkpoint checkpoint_in checkpoint_kind kept_low (passing (λ m. is_of_low s.f s.low (header m)) (λ m. (header m).tag ≡ 5) (λ m e. (of_low s.f s.low m e).at.tag) s.log)
+  low_again = again 5 Checkpoint checkpoint_in checkpoint_kind kept_low (passing (λ m. is_of s.f s.low (header m)) (λ m. (header m).tag ≡ 5) (λ m e. (of_number s.f s.low m e).at.tag) s.log)
 
   shown : (digest : List ℕ) (cs : List (Signed model.Checkpoint)) → as_checkpoints cs ≡ kept_low → IsCertified s.f (known s) s.low digest
       → is_shown keys (faults keys) (record { number = s.low; digest = first_digest cs; checkpoints = cs }) ≡ true
@@ -182,7 +177,7 @@ module _ (keys : Keys) (s : State) (view : ℕ) (fs : faults keys ≡ s.f) (befo
       let many : 2 * s.f + 1 ≤ length cs = omega (arith, many_told digest it.stable, length-map cs (as_message Checkpoint), ap length again) in
       let each = vouched digest it in
       let first = first_is digest cs (omega (arith, many)) (λ m h. (each m (subst (λ (xs : Log). Contains xs m) again h)).0) in
-      rw (fs, first, again) (and_from _ _ (all_from (vouches keys s.f s.low digest) kept_low (λ m h. (each m h).1)) (and_from _ _ (low_apart s.f s.low s.log differ) (le-leb (2 * s.f + 1) (length cs) many)))
+      rw (fs, first, again) (and_from _ _ (all_from (vouches keys s.f s.low digest) kept_low (λ m h. (each m h).1)) (and_from _ _ (checkpoints_apart s.f s.low s.log differ) (le-leb (2 * s.f + 1) (length cs) many)))
 
   stable : has_stable keys (change_of s view) ≡ true
   stable = go (eqb s.low 0) refl
@@ -194,7 +189,7 @@ module _ (keys : Keys) (s : State) (view : ℕ) (fs : faults keys ≡ s.f) (befo
 
   valid : is_signed keys (as_message ViewChange (signed_change keys (change_of s view))) ≡ true → valid_view_change keys (signed_change keys (change_of s view)) ≡ true
   valid signed =
-      and_from _ _ (and_from _ _ (rises of_number (λ n c e. let m = made_of s n c e in ap number_in (sym m.is) ∙ m.number) s.low s.low log_size (omega arith)) (all_from (is_due (change_of s view)) (certificates s) due))
+      and_from _ _ (and_from _ _ (rises (certificate_for s.f s.me s.log) (λ n c e. let m = made_of s n c e in ap number_in (sym m.is) ∙ m.number) s.low s.low log_size (omega arith)) (all_from (is_due (change_of s view)) (certificates s) due))
       (and_from _ _ signed (and_from _ _ stable (all_from (certifies keys) (certificates s) (λ c h. let w = in_window s c h in certified w.0 c w.3))))
 
 pub faults_of : (secret : List ℕ) (f me clients : ℕ) → faults (own_keys secret clients f me) ≡ f
@@ -234,25 +229,21 @@ made_has s view number digest is low high =
     let proposed = (and_parts (told (known s) 2 lead view number digest) _ backed).0 in
     let at = any_at (λ m. says 2 lead view number digest (header m)) s.log (sym (any_map (says 2 lead view number digest) header s.log) ∙ proposed) in
     let h = header at.0 in
-    let a = and_parts (is_slot 2 lead view number h) (bytes_eq h.digest digest) at.2 in
-    let b = and_parts (eqb h.tag 2) (eqb h.sender lead && (eqb h.view view && eqb h.number number)) a.0 in
-    let c = and_parts (eqb h.sender lead) (eqb h.view view && eqb h.number number) b.1 in
-    let d = and_parts (eqb h.view view) (eqb h.number number) c.1 in
-    let v = eqb-true h.view view d.0 in
-    let n = eqb-true h.number number d.1 in
-    let digest_is = (bytes_eq-Decides h.digest digest).0 a.1 in
-    let led : eqb h.sender (primary s.f h.view) ≡ true = rw v c.0 in
-    let still : prepared s.f s.me (known s) h.view h.number h.digest ≡ true = rw (v, n, digest_is) is in
-    let passed : is_prepared_for s number h ≡ true = and_from _ _ b.0 (and_from _ _ d.1 (and_from _ _ led still)) in
-    let kind = proposal_kind at.0 (eqb-true h.tag 2 b.0) in
+    let it = says_is h 2 lead view number digest at.2 in
+    let led : eqb h.sender (primary s.f h.view) ≡ true = rw it.view (eq-eqb h.sender lead it.sender) in
+    let still : prepared s.f s.me (known s) h.view h.number h.digest ≡ true = rw (it.view, it.number, it.digest) is in
+    let test = λ (m : Signed OrderMessage). is_prepared_for s.f s.me s.log number (header m) in
+    let passed : test at.0 ≡ true = and_from _ _ (eq-eqb h.tag 2 it.tag) (and_from _ _ (eq-eqb h.number number it.number) (and_from _ _ led still)) in
+    let kind = proposal_kind at.0 it.tag in
     let p = kind.signed in
-    let among = in_filter_map (λ (m : Signed OrderMessage). proposal_in m.message m.auth) at.0 p (filter (λ m. is_prepared_for s number (header m)) s.log) (in_filter (λ m. is_prepared_for s number (header m)) at.0 s.log at.1 passed) kind.is in
-    let made = in_map (certificate_of s.f s.log) p (proposals (filter (λ m. is_prepared_for s number (header m)) s.log)) among in
-    let last = latest_in (prepared_for s number) (certificate_of s.f s.log p) made in
-    let from = made_of s number last.0 last.1 in
-    let seen : p.message.vote.view ≡ view = ap (λ (m : Signed OrderMessage). (header m).view) kind.same ∙ v in (
-      last.0,
-      in_filter_map (λ k. latest (prepared_for s k)) number last.0 (range_with_len (s.low + 1) log_size) (in_range (s.low + 1) log_size number (omega (arith, low)) (omega (arith, high))) last.1,
+    let among = in_filter_map (λ (m : Signed OrderMessage). proposal_in m.message m.auth) at.0 p (filter test s.log) (in_filter test at.0 s.log at.1 passed) kind.is in
+    let last = latest_in (prepared_among s.f s.me s.log number s.log) p among in
+    let made = certificate_of s.f s.log last.0 in
+    let is : certificate_for s.f s.me s.log number ≡ Some made = ap (option_map (certificate_of s.f s.log)) last.1 in
+    let from = made_of s number made is in
+    let seen : p.message.vote.view ≡ view = ap (λ (m : Signed OrderMessage). (header m).view) kind.same ∙ it.view in (
+      made,
+      in_filter_map (certificate_for s.f s.me s.log) number made (range_with_len (s.low + 1) log_size) (in_range (s.low + 1) log_size number (omega (arith, low)) (omega (arith, high))) is,
       ap number_in (sym from.is) ∙ from.number,
       omega (arith, last.2, seen),
     )

@@ -156,7 +156,7 @@ map_agree f g (x ∷ xs) h = rw (h x, map_agree f g xs h) refl
 
 -- filter_map -------------------------------------------------------------------------------------------------------------
 
-some_is : {B : Type 0} (a b : B) → Some a ≡ Some b → a ≡ b
+pub some_is : {B : Type 0} (a b : B) → Some a ≡ Some b → a ≡ b
 some_is {B} a b e = ap (λ (o : Option B). unwrap_or o a) e
 
 pub of_filter_map : {A B : Type 0} (h : A → Option B) (y : B) (xs : List A) → Contains (filter_map h xs) y → (x : A) × Contains xs x × (h x ≡ Some y)

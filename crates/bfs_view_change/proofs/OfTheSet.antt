@@ -4,7 +4,7 @@ use Rattle.std.specs.List.{All, Contains, filter, list_all, range_with_len}
 use Rattle.std.proofs.lemmas.Bool.{eqb-true, eq-eqb}
 use Rattle.std.proofs.lemmas.List.Elements.{All-contains, All-from_recursion}
 use Rattle.bfs_votes.specs.Votes.{replicas}
-use Rattle.bfs_messages.specs.Messages.{Batch, PreparedBatch}
+use Rattle.bfs_messages.specs.Messages.{PreparedBatch}
 use Rattle.bfs_messages.specs.Messages as model
 use Rattle.bfs_messages.specs.Limits.{FitsBatch, FitsPreparedBatch, FitsViewChange}
 use Rattle.bfs_codec.specs.Laws.{OneBatch}

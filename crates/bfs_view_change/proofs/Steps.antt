@@ -2,12 +2,12 @@
 use Rattle.std.proofs.Common.{◌≡◌, ℕ, ◌-◌, ◌<◌, List, [], ◌∷◌, length, get_or, take, drop, map, eqb, Option, sym, ap, ◌∙◌, arith}
 use Rattle.std.specs.List.{filter, fold}
 use Rattle.std.proofs.lemmas.List.{take_all}
+use Rattle.std.proofs.lemmas.List.Sums.{fold-append}
 use Rattle.bfs_messages.specs.Messages.{PreparedBatch, ViewChange}
 use Rattle.bfs_messages.specs.declared.signed.Signed.{Signed}
 use Rattle.bfs_log.specs.Certificates.{number_in}
 use Rattle.bfs_view_change.specs.Changes.Choice.{Candidate, better, candidate, candidates, candidates_in}
 use Rattle.bfs_view_change.specs.Changes.ViewChanges.{messages_of}
-use Rattle.bfs_view_change.proofs.Folds.{fold_append}
 
 abbrev found_in : ℕ → ℕ → List PreparedBatch → List Candidate
 found_in number sender certs = map (candidate sender) (filter (λ c. eqb (number_in c) number) certs)
@@ -23,4 +23,4 @@ first_then number start mid (x ∷ xs) first sender certs some is s k m =
     let there : mid ≡ fold better start (candidates_in number x.message) = m ∙ ap (λ n. fold better start (found_in number n certs)) who ∙ ap (λ (cs : List PreparedBatch). fold better start (found_in number x.message.sender cs)) held in
     let rest : take (length (x ∷ xs) - 1) xs ≡ xs = take_all (length (x ∷ xs) - 1) xs (omega arith) in
     ap (λ (ys : List (Signed ViewChange)). fold better mid (candidates number (messages_of ys))) rest
-    ∙ ap (λ (o : Option Candidate). fold better o (candidates number (messages_of xs))) there ∙ sym (fold_append better start (candidates_in number x.message) (candidates number (messages_of xs)))
+    ∙ ap (λ (o : Option Candidate). fold better o (candidates number (messages_of xs))) there ∙ sym (fold-append better start (candidates_in number x.message) (candidates number (messages_of xs)))

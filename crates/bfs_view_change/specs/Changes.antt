@@ -2,7 +2,6 @@
 pub mod ViewChanges
 pub mod Choice
 pub mod NewViews
-pub mod Kinds
 pub mod Making
 pub mod Keeping
 pub mod Codes

@@ -1,5 +1,5 @@
 // From which VIEW-CHANGEs a new view is chosen, and which NEW-VIEWs are right.
-ghost use Rattle.std.specs.Prelude.{◌≡◌, ◌≢◌, ◌≤◌, ◌==◌, ◌&&◌, None, Some, IfNone, IfSome, IfOk, IfErr, OnOk, bytes_eq};
+ghost use Rattle.std.specs.Prelude.{◌≡◌, ◌≢◌, ◌≤◌, ◌==◌, ◌&&◌, None, Some, IfSome, IfOk, IfErr, OnOk, bytes_eq};
 ghost use Rattle.std.specs.List.{list_all};
 ghost use Rattle.bfs_model.specs.Server.Limits.{most_faults};
 ghost use Rattle.bfs_messages.specs.Batches.{batch_text};

@@ -1,7 +1,7 @@
 // Which VIEW-CHANGEs are valid.
-ghost use Rattle.std.specs.Prelude.{◌≡◌, ◌≤◌, ◌+◌, ◌&&◌, true, map, length, nat_le, nat_lt};
+ghost use Rattle.std.specs.Prelude.{◌≡◌, ◌+◌, ◌&&◌, true, map};
 ghost use Rattle.std.specs.List.{list_all};
-ghost use Rattle.bfs_log.specs.Certificates.{certifies, number_in, view_in};
+ghost use Rattle.bfs_log.specs.Certificates.{certifies, number_in};
 ghost use Rattle.bfs_messages.specs.Signing.{as_message, is_signed};
 ghost use Rattle.bfs_messages.specs.declared.message.Message.TheVariants as kind;
 ghost use Rattle.bfs_view_change.specs.Inside.Near.{IsNear};

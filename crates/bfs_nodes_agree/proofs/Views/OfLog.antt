@@ -14,7 +14,8 @@ use Rattle.bfs_order.specs.Laws.Logs.{HasNoLaterView}
 use Rattle.bfs_order.specs.Replica.States.{State, known}
 use Rattle.bfs_agreement.specs.Histories.{IsIn}
 use Rattle.bfs_nodes_agree.proofs.Orders.Lists.{AllIn, filter_in, more_in}
-use Rattle.bfs_view_change.specs.Changes.Making.{backs, certificates, change_of}
+use Rattle.bfs_log.specs.Showing.{backs}
+use Rattle.bfs_view_change.specs.Changes.Making.{certificates, change_of}
 use Rattle.bfs_view_change.proofs.Public.{Made, backed_alike, in_window, messages_made}
 use Rattle.bfs_nodes_agree.specs.Views.Changes.{HasProofs}
 use Rattle.bfs_nodes_agree.proofs.Views.Lists.{at_in, contains, in_map, is_in}

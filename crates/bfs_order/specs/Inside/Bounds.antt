@@ -1,5 +1,5 @@
 -- What the numbers of a replica never leave.
-use Rattle.std.specs.Prelude.{◌<◌, ◌≤◌, ◌+◌, ◌*◌, ◌^◌}
+use Rattle.std.specs.Prelude.{◌<◌, ◌≤◌, ◌+◌, ◌*◌}
 use Rattle.bfs_order.specs.Replica.States.{State}
 use Rattle.bfs_model.specs.Server.Limits.{most_faults, most_number}
 

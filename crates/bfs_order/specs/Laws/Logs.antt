@@ -1,7 +1,6 @@
 -- What holds of the log of a replica after any calls.
 use Rattle.std.specs.Prelude.{◌≡◌, ◌<◌, ◌≤◌, ◌⊎◌, ℕ, ◌+◌, true, List, All}
 use Rattle.bfs_votes.specs.Votes.{Header, SlotsDiffer, is_stable}
-use Rattle.bfs_order.specs.Replica.Refusals.{is_ordering}
 use Rattle.bfs_order.specs.Replica.States.{State, known}
 use Rattle.bfs_votes.specs.Tags.{checkpoint_tag}
 use Rattle.bfs_model.specs.Server.Limits.{log_size}
@@ -12,7 +11,6 @@ HasDistinctSlots s = SlotsDiffer (known s)
 
 -- a PRE-PREPARE, PREPARE or COMMIT above the low mark or a CHECKPOINT not below it, and not above the high mark
 pub record IsInWindow (low : ℕ) (h : Header) : Type 0 where
-  pub kind : is_ordering h ≡ true
   pub from : low ≤ h.number
   pub above : h.tag < checkpoint_tag → low < h.number
   pub to : h.number ≤ low + log_size

@@ -1,5 +1,5 @@
 -- The certificate of a checkpoint is installed, by which a replica catches up (OSDI 1999 section 4.3).
-use Rattle.std.specs.Prelude.{Bool, ◌||◌, not, max, [], ◌∷◌, ◌++◌, Option, Some, None, nat_lt, if◌then◌else◌}
+use Rattle.std.specs.Prelude.{◌||◌, not, max, [], ◌∷◌, ◌++◌, Option, Some, None, nat_lt, if◌then◌else◌}
 use Rattle.bfs_auth.specs.Keys.{Keys}
 use Rattle.bfs_votes.specs.Votes.{is_taken}
 use Rattle.bfs_log.specs.Certificates.{StableCheckpoint, checkpoints_in, is_shown}

@@ -1,5 +1,5 @@
 -- The primary proposes a batch (OSDI 1999 section 4.2).
-use Rattle.std.specs.Prelude.{ℕ, ◌+◌, ◌^◌, ◌==◌, Bool, ◌&&◌, not, max, List, [], ◌∷◌, Option, Some, None, nat_lt, nat_le, if◌then◌else◌}
+use Rattle.std.specs.Prelude.{ℕ, ◌+◌, ◌==◌, Bool, ◌&&◌, not, max, List, [], ◌∷◌, Option, Some, None, nat_le, if◌then◌else◌}
 use Rattle.sha2.specs.Sha256.{sha256}
 use Rattle.bfs_auth.specs.Keys.{Keys}
 use Rattle.bfs_votes.specs.Votes.{primary}

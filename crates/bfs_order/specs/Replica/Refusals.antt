@@ -41,10 +41,6 @@ place_refusal s h =
     (if conflicts s h then Some Conflicting else
     (if is_there s h then Some AlreadyHave else None))))
 
--- PRE-PREPARE, PREPARE, COMMIT and CHECKPOINT
-abbrev pub is_ordering : Header → Bool
-is_ordering h = nat_le pre_prepare_tag h.tag && nat_le h.tag checkpoint_tag
-
 -- by a replica, and the requests in its batch by their clients
 abbrev pub is_authentic : Keys → State → Signed OrderMessage → Bool
 is_authentic keys s m = nat_lt (header m).sender (replicas s.f) && (order_is_signed keys m && carried_are_signed keys m.message)

@@ -1,5 +1,5 @@
 -- A view is left, and a later one is entered (OSDI 1999 section 4.4).
-use Rattle.std.specs.Prelude.{ℕ, ◌^◌, ◌==◌, ◌&&◌, not, max, [], ◌∷◌, ◌++◌, List, map, Option, Some, None, nat_lt, nat_le, if◌then◌else◌}
+use Rattle.std.specs.Prelude.{ℕ, ◌&&◌, not, max, [], ◌∷◌, ◌++◌, List, map, Option, Some, None, nat_lt, nat_le, if◌then◌else◌}
 use Rattle.bfs_auth.specs.Keys.{Keys}
 use Rattle.bfs_log.specs.Headers.{header}
 use Rattle.bfs_log.specs.Logs.{Log}

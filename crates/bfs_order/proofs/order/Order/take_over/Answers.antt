@@ -1,6 +1,4 @@
-use Rattle.std.proofs.Common.{Result, Ok, Err, sym, ap, ◌∙◌}
-use Rattle.std.specs.Prelude.{IfOk, OnOk}
-use Rattle.bfs_order.specs.Replica.Outcomes.{Outcome}
+use Rattle.std.proofs.Common.{sym, ◌∙◌}
 use Rattle.bfs_order.proofs.Entering.{taken_so}
 use Rattle.bfs_order.proofs.order.Order.take_over.Goals as goal
 
