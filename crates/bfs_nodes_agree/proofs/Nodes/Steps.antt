@@ -90,13 +90,17 @@ enters node view changes handed e =
     one node.order (turns.ChangesView node.keys view changes handed) _
     (ap (λ (r : Option OrderError). (outcomes.unless r node.order (views.entered node.keys node.order view (choice (messages_of changes)).min_s handed)).now) e)
 
+may_enter : (b : Bool) → b ≡ true → cond (not b) (Some WrongView) None ≡ None
+may_enter true e = refl
+may_enter false e = absurd cc
+
 -- the view that it begins is open
 pub begins_open : (node : Node) → IsBounded node.order → may_begin node ≡ true → views.entering_refusal node.order node.order.asked ≡ None
 begins_open node bounded e =
     let asked = node.order.asked in
     let above = (and_parts (nat_lt node.order.view asked) _ e).0 in
     let fits = and_from (nat_le asked asked) (nat_le asked most_number) (le-leb asked asked (omega (arith))) bounded in
-    ap (λ (b : Bool). cond (not b) (Some WrongView) None) (and_from (nat_lt node.order.view asked) _ above fits)
+    may_enter _ (and_from (nat_lt node.order.view asked) _ above fits)
 
 begins : (node : Node) → IsBounded node.order → Lead node.order (begun_deeds node) (begun_if_due node).now.order []
 begins node bounded =
