@@ -35,5 +35,5 @@ returns-in_ok-with_state-in-Ok-clause-ok c =
 
 pub returns-in-Err-clause-ill_formed : goal.returns-in-Err-clause-ill_formed
 returns-in-Err-clause-ill_formed c is =
-    let same : c.from-2.result ≡ error.NotWellFormed = cc in
-    rw c.clients.ensures at (c.in-Err.ensures.ill_formed (ap Err (not_well_formed c.in-Err.error (ap of_adopting (sym c.from.ensures) ∙ sym c.from-2.ensures ∙ same))))
+    let same : c.from-in-Err.result ≡ error.NotWellFormed = cc in
+    rw c.clients.ensures at (c.in-Err.ensures.ill_formed (ap Err (not_well_formed c.in-Err.error (ap of_adopting (sym c.from.ensures) ∙ sym c.from-in-Err.ensures ∙ same))))

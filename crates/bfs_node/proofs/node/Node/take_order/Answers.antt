@@ -28,8 +28,11 @@ returns-clause-now g c =
     (news_taken node.keys node.order signed tag (sym c.refusal.ensures.value ∙ c.in_default.is)) c.number-number.ensures.value
     (rw (← c.self.view_is) at c.in_ok-stable.ensures.made))
 
-pub returns-then-signed-message-tag-clause-now : goal.returns-then-signed-message-tag-clause-now
-returns-then-signed-message-tag-clause-now g c =
+pub returns-then-tag-ne-CHECKPOINT_TAG-clause-now : goal.returns-then-tag-ne-CHECKPOINT_TAG-clause-now
+returns-then-tag-ne-CHECKPOINT_TAG-clause-now g c =
     let node : Node = record { keys = c.self.inside.keys; order = c.self.inside.order; files = c.self.inside.files; table = c.self.inside.table; pending = c.self.inside.pending; changes = c.self.inside.changes; snapshots = c.self.inside.snapshots } in
     let other : ((header c.args.signed).tag == checkpoint_tag) ≡ false = search rules in
     rw (← c.self.view_is) (vote_now node c.args.signed c.on_message.new.self c.in_ok-answers.ensures.now other)
+
+pub returns-then-tag-ne-CHECKPOINT_TAG-clause-sent : goal.returns-then-tag-ne-CHECKPOINT_TAG-clause-sent
+returns-then-tag-ne-CHECKPOINT_TAG-clause-sent g c = rw (← c.self.view_is) c.in_ok-answers.ensures.sent
