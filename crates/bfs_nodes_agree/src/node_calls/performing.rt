@@ -8,7 +8,7 @@ use bfs_types::Time;
 use std::sync::Wait;
 use std::thread::Threads;
 
-/// A call of a node, but for `advance`, which makes several of these.
+/// A call of a node, but for `advance` and `advance_once`, which make several of these.
 #[derive(Drop)]
 pub enum NodeCall<'a> {
     /// Bytes come.
