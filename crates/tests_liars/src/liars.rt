@@ -246,16 +246,22 @@ fn proposal_in(signed: Signed<Message>) -> Option<Signed<PrePrepare>> {
 
 fn prepare_in(signed: Signed<Message>) -> Option<Signed<Vote>> {
     let Signed { message, auth } = signed;
-    match message {
-        Message::Order(OrderMessage::Prepare(message)) => Some(Signed { message, auth }),
+    match &message {
+        Message::Order(OrderMessage::Prepare(vote)) => Some(Signed {
+            message: *vote,
+            auth,
+        }),
         _ => None,
     }
 }
 
 fn checkpoint_in(signed: Signed<Message>) -> Option<Signed<Checkpoint>> {
     let Signed { message, auth } = signed;
-    match message {
-        Message::Order(OrderMessage::Checkpoint(message)) => Some(Signed { message, auth }),
+    match &message {
+        Message::Order(OrderMessage::Checkpoint(checkpoint)) => Some(Signed {
+            message: *checkpoint,
+            auth,
+        }),
         _ => None,
     }
 }
