@@ -4,7 +4,7 @@ use Rattle.std.proofs.lemmas.Bool.{eqb-false}
 use Rattle.bfs_votes.specs.Laws.{QuorumsMeet}
 use Rattle.bfs_votes.specs.Votes.{count_below, replicas}
 use Rattle.bfs_agreement.specs.Histories.{FewAreFaulty}
-use Rattle.bfs_votes.proofs.Public.{more, more_below}
+use Rattle.bfs_votes.proofs.Public.{more}
 
 -- any two sets of 2f + 1 replicas share a correct one
 abbrev pub QuorumsShare : (f : ℕ) (faulty : ℕ → Bool) → Type 0

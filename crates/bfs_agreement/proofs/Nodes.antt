@@ -41,9 +41,6 @@ run_at f w i (move ∷ moves) =
     run_at f (with_history w i p) i moves ∙ ap (λ (q : History). with_history (with_history w i p) i (after_moves f i q moves)) (here_itself w i p) ∙ at_at w i p (after_moves f i p moves)
 
 module _ (service : Service) where
-  same_point : (p : Snapshot) (n : ℕ) (s : List ℕ) → p.number ≡ n → p.state ≡ s → p ≡ record { number = n; state = s }
-  same_point p n s a b = ap₂ (λ (x : ℕ) (y : List ℕ). record { number = x; state = y }) a b
-
   past_cond : (b : Bool) (m n : ServiceNode) → (cond b m n).history ≡ cond b m.history n.history
   past_cond true m n = refl
   past_cond false m n = refl

@@ -60,9 +60,6 @@ all_authentic faulty w v (l ∷ ms) all = λ m i. elim i [
 abbrev at_turn : ℕ → World
 at_turn n = after_header_turns 1 [] new_world (take n (in_view_0 ++ in_view_1))
 
-changes_authentic : (n : ℕ) → AllSent silent (at_turn n) the_changes → IsAuthentic silent (at_turn n) (ChangesView 1 the_changes)
-changes_authentic n all = all_authentic silent (at_turn n) 1 the_changes all
-
 pub is_a_run : IsARun
 is_a_run = (omega arith, (tt, ((λ _. inl refl), ((λ _. inl refl), ((λ _. inl refl), ((λ _. inl refl), ((λ _. inl refl), ((λ _. inl refl), ((λ _. inl refl), ((λ _. inl refl), (tt, (tt, (tt, (tt, ((all_authentic silent (at_turn 13) 1 the_changes (inl refl, (refl, tt), (inl refl, (refl, tt), (inl refl, (refl, tt), tt)))), ((all_authentic silent (at_turn 14) 1 the_changes (inl refl, (refl, tt), (inl refl, (refl, tt), (inl refl, (refl, tt), tt)))), ((all_authentic silent (at_turn 15) 1 the_changes (inl refl, (refl, tt), (inl refl, (refl, tt), (inl refl, (refl, tt), tt)))), ((λ _. inl refl), ((λ _. inl refl), ((λ _. inl refl), ((λ _. inl refl), ((λ _. inl refl), ((λ _. inl refl), (tt, tt))))))))))))))))))))))), ((_, inl refl), (_, inl refl)))
 

@@ -26,14 +26,6 @@ module _ (Executes : Node → Type 0) where
   ran_more [] first old now next so_far did here = subst (λ (from : Replica). Ran Executes (first ∷ []) from next) so_far (next, did, here, refl)
   ran_more (sent ∷ all) first old now next so_far did here = (so_far.0, so_far.1, so_far.2, ran_more all first so_far.0 now next so_far.3 did here)
 
-  -- where nothing is sent, nothing was done
-  pub runs_out : (all : List Messages) (old now new : Replica) → Ran Executes all old now → Acts (doing advancing now) now new None → RunsOut Executes all old new
-  runs_out all old now new so_far did = go (doing advancing now) refl did
-    where
-      go : (done : Option Outcome) → doing advancing now ≡ done → Acts done now new None → RunsOut Executes all old new
-      go (Some done) is did = absurd (let never : None ≡ Some done.sent = did.1 in cc)
-      go None is did = (subst (Ran Executes all old) (sym did.0) so_far, ap (doing advancing) did.0 ∙ is)
-
 -- What is sent does not depend on the replicas ----------------------------------------------------------------------------
 
 all_beside : (replicas : List Replica) (turn : Option ℕ) (sender : ℕ) (world : World) (all : List Messages)

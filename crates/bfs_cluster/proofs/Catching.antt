@@ -4,9 +4,9 @@ use Rattle.std.specs.Prelude.{IfOk}
 use Rattle.std.specs.List.{slice_get}
 use Rattle.std.specs.Option.{option_map}
 use Rattle.bfs_node.specs.Nodes.{Node}
-use Rattle.bfs_cluster.specs.CatchingUp.{AllStay, CatchesUp, HasNoOther, Offer, Times, offer_to}
+use Rattle.bfs_cluster.specs.CatchingUp.{CatchesUp, HasNoOther, Offer, Times, offer_to}
 use Rattle.bfs_cluster.specs.Inside.Trying.{AllCatchUpIf, CatchesUpIf, TakesIf, Tries}
-use Rattle.bfs_cluster.specs.Steps.{Rests, Round, Settles}
+use Rattle.bfs_cluster.specs.Steps.{Rests, Round}
 use Rattle.bfs_cluster.specs.World.{Replica, World, node_at, node_if_heard}
 use Rattle.bfs_cluster.proofs.Acting.{with_itself, with_replica}
 use Rattle.bfs_log.specs.Certificates.{StableCheckpoint}
@@ -75,26 +75,9 @@ caught false world before now goes so_far = (zero, (before, sym so_far, goes))
 pub one_more_caught : (any went : Bool) (world before now : World) → went ≡ true → CatchesUpIf went before now → CaughtSoFar any world before → CaughtSoFar true world now
 one_more_caught any went world before now is goes so_far = caught any world before now (subst (λ (w : Bool). CatchesUpIf w before now) is goes) so_far
 
-ended : (any : Bool) (world before now : World) → CatchesUpIf false before now → CaughtSoFar any world before → AllCatchUpIf any world now
-ended true world before now stay so_far = record {
-  times = so_far.0;
-  comes = subst (Times CatchesUp (suc so_far.0) world) (sym stay.1) so_far.1;
-  ended = subst AllStay (sym stay.1) stay.0;
-}
-ended false world before now stay so_far = (subst AllStay so_far stay.0, stay.1 ∙ so_far)
-
-pub none_more : (any went : Bool) (world before now : World) → went ≡ false → CatchesUpIf went before now → CaughtSoFar any world before → AllCatchUpIf any world now
-none_more any went world before now is goes so_far = ended any world before now (subst (λ (w : Bool). CatchesUpIf w before now) is goes) so_far
-
 -- Rounds --------------------------------------------------------------------------------------------------------------------
 
 pub one_more_round : (Executes : Node → Type 0) (any : Bool) (world before rest now : World) → any ≡ true → Rests Executes before rest → AllCatchUpIf any rest now
     → (rounds : ℕ) × Times (Round Executes) rounds world before → (rounds : ℕ) × Times (Round Executes) rounds world now
 one_more_round Executes any world before rest now is rests goes so_far =
     (suc so_far.0, (before, so_far.1, record { rest = rest; comes = rests; goes_on = subst (λ (a : Bool). AllCatchUpIf a rest now) is goes }))
-
-pub no_more_rounds : (Executes : Node → Type 0) (any : Bool) (world before rest now : World) → any ≡ false → Rests Executes before rest → AllCatchUpIf any rest now
-    → (rounds : ℕ) × Times (Round Executes) rounds world before → Settles Executes world now
-no_more_rounds Executes any world before rest now is rests goes so_far =
-    let stay : AllCatchUpIf false rest now = subst (λ (a : Bool). AllCatchUpIf a rest now) is goes in
-    record { rounds = so_far.0; last = before; comes = so_far.1; rests = subst (Rests Executes before) (sym stay.1) rests; ended = subst AllStay (sym stay.1) stay.0 }

@@ -62,9 +62,6 @@ module _ (Executes : Node → Type 0) where
 
   -- Steps ------------------------------------------------------------------------------------------------------------------
 
-  pub no_step : (world : World) → Comes Executes world world
-  no_step world = record { steps = zero; comes = refl; executes = λ k lt. absurd (omega (arith, lt)) }
-
   pub by_one : (world next : World) → after (suc zero) world ≡ next → ExecutesAt Executes world → Comes Executes world next
   by_one world next comes here = record { steps = suc zero; comes = comes; executes = in_one world here }
 
@@ -84,12 +81,6 @@ module _ (Executes : Node → Type 0) where
   -- some steps more
   pub more_steps : (world before next : World) (went : Bool) → went ≡ true → Goes Executes went before next → Comes Executes world before → Comes Executes world next
   more_steps world before next went is gone so_far = by_both world before next so_far (subst (λ (went : Bool). Goes Executes went before next) is gone)
-
-  -- none is left
-  pub comes_to_rest : (world before next : World) (went : Bool) → went ≡ false → Goes Executes went before next → Comes Executes world before → Rests Executes world next
-  comes_to_rest world before next went is gone so_far =
-      let stopped : Goes Executes false before next = subst (λ (went : Bool). Goes Executes went before next) is gone in
-      record { steps = so_far.steps; comes = so_far.comes ∙ sym stopped.0; executes = so_far.executes; ended = ap step stopped.0 ∙ stopped.1 }
 
   pub rests_once : (world one other : World) → Rests Executes world one → Rests Executes world other → one ≡ other
   rests_once world one other a b =

@@ -55,9 +55,6 @@ nothing_ready old none = go old.heard refl
     go true e = if_heard advancing old e ∙ next (execution old.node) (subst (λ (h : Bool). (h && is_ready old.node) ≡ false) e none)
     go false e = ap (λ (h : Bool). doing advancing (record { heard = h; node = old.node })) e
 
-pub none_ready : (old : Replica) → has_ready old ≡ false → Acts (doing advancing old) old old None
-none_ready old none = subst (λ (done : Option Outcome). Acts done old old None) (sym (nothing_ready old none)) (refl, refl)
-
 -- where something is sent, one was
 pub was_ready : (old new : Replica) (sent : Messages) → Acts (doing advancing old) old new (Some sent) → has_ready old ≡ true
 was_ready old new sent did = go (has_ready old) refl

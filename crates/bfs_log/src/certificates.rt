@@ -181,7 +181,7 @@ pub fn vote_in(prepared: &PreparedBatch) -> &Vote
 }
 
 /// Whether a PREPARE matches a PRE-PREPARE.
-pub fn does_match(proposed: &Vote, vote: &Vote) -> bool
+pub(crate) fn does_match(proposed: &Vote, vote: &Vote) -> bool
     ensures { result ≡ matches proposed.now (vote_header prepare_tag vote.now) }
 {
     vote.view() == proposed.view()
@@ -205,7 +205,7 @@ fn do_all_differ(prepared: &PreparedBatch) -> bool
 
 /// Whether a PREPARE of a replica matches the PRE-PREPARE.
 #[tactic(auto, using(crate::proofs::Folds::any_map))]
-pub fn is_told_by(prepared: &PreparedBatch, sender: u32) -> bool
+fn is_told_by(prepared: &PreparedBatch, sender: u32) -> bool
     ensures { result ≡ told (headers (messages_in prepared.now)) prepare_tag sender (view_in prepared.now) (number_in prepared.now) (vote_in prepared.now).digest }
 {
     do_tell(prepared.prepares(), vote_in(prepared), sender)
@@ -243,7 +243,7 @@ fn count_backups(f: u32, prepared: &PreparedBatch) -> u32
 
 /// Whether 2f backups match the PRE-PREPARE of the primary.
 #[tactic(auto, using(crate::proofs::Proposed::proposed_by))]
-pub fn is_proved(f: u32, prepared: &PreparedBatch) -> bool
+fn is_proved(f: u32, prepared: &PreparedBatch) -> bool
     requires { f ≤ most_faults }
     ensures { result ≡ is_proved f prepared.now }
 {

@@ -1,5 +1,5 @@
 -- VIEW-CHANGEs that are kept, one after another.
-use Rattle.std.proofs.Common.{◌≡◌, ◌∙◌, ℕ, zero, suc, ◌+◌, ◌≤◌, ◌<◌, ◌==◌, Bool, true, false, List, [], ◌∷◌, ◌++◌, Option, Some, None, cond, length, replicate, take, get_or, slice_set, sym, ap, subst, refl, arith}
+use Rattle.std.proofs.Common.{◌≡◌, ◌∙◌, ℕ, ◌+◌, ◌≤◌, ◌<◌, ◌==◌, Bool, true, false, List, [], ◌∷◌, ◌++◌, Option, Some, None, cond, length, take, get_or, slice_set, sym, ap, subst, refl, arith}
 use Rattle.std.specs.Prelude.{All, count_by, is_some, nat_lt, option_to_list}
 use Rattle.std.specs.List.{cons_option, filter_map}
 use Rattle.std.proofs.lemmas.List.{length-map, set-get_or, set-set, take_more}
@@ -71,7 +71,3 @@ above_few view kept are = record {
   few = subst (λ n. n ≤ most_replicas) (sym (length-map kept.changes (if_above view))) are.few;
   near = All-map IsNearIfKept (if_above view) kept.changes (λ k d within. above_near view (get_or kept.changes k d) (are.near k d within));
 }
-
-pub none_near : (n : ℕ) → All IsNearIfKept (replicate n None)
-none_near zero = All-nil IsNearIfKept
-none_near (suc n) = All-cons IsNearIfKept None (replicate n None) tt (none_near n)

@@ -13,7 +13,7 @@ use Rattle.bfs_messages.specs.Batches.{batch_text}
 use Rattle.bfs_messages.specs.declared.signed.Signed.{Signed}
 use Rattle.bfs_order.specs.Replica.Views.{as_proposals, greatest_number}
 use Rattle.bfs_agreement.specs.Histories as told
-use Rattle.bfs_agreement.specs.Histories.{IsIn, World, WasSent, IsChoice, IsValidCertificate, IsValidNewView}
+use Rattle.bfs_agreement.specs.Histories.{IsIn, World, WasSent, IsChoice, IsValidCertificate}
 use Rattle.bfs_agreement.proofs.Public.{in_told}
 use Rattle.bfs_nodes_agree.specs.Orders.Replicas.{new_view}
 use Rattle.bfs_log.specs.Certificates.{messages_in, number_in, view_in}

@@ -6,7 +6,7 @@ use Rattle.bfs_order.specs.Replica.States.{State}
 use Rattle.bfs_agreement.specs.Histories.{IsIn, World}
 use Rattle.bfs_nodes_agree.specs.Orders.Laws.{OrdersAgree}
 use Rattle.bfs_nodes_agree.specs.Orders.Replicas as ordered
-use Rattle.bfs_nodes_agree.specs.Orders.Replicas.{OrderReplica, OrderReplicas, call_of, histories, with_replica, after_order_deed, after_order_turn, new_order_replicas, MayDoOrderDeed}
+use Rattle.bfs_nodes_agree.specs.Orders.Replicas.{OrderReplica, OrderReplicas, call_of, histories, after_order_deed, after_order_turn, new_order_replicas, MayDoOrderDeed}
 use Rattle.bfs_nodes_agree.specs.Views.Laws.{MadeTellsWhatIsPrepared, RightNewViewsAreValid, ReplicasAgree}
 use Rattle.bfs_nodes_agree.specs.Views.Replicas.{ViewDeed, Orders, TimesOut, ChangesView, ordered_deed, MayDoViewDeed, ViewTurn, ordered_turn, after_view_turns, MayTakeViewTurns}
 
