@@ -1,5 +1,6 @@
 -- What proofs share.
 pub mod Agree
+pub mod Answering
 pub mod NewViews
 pub mod Bounds
 pub mod Doing

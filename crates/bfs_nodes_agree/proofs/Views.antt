@@ -5,3 +5,4 @@ pub mod Chosen
 pub mod Worlds
 pub mod Proved
 pub mod OfLog
+pub mod Batches

@@ -4,3 +4,4 @@ pub mod Replicas
 pub mod Premises
 pub mod Performing
 pub mod Laws
+pub mod Answers

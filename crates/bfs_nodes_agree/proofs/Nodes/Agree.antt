@@ -3,7 +3,7 @@ use Rattle.std.proofs.Common.{◌≡◌, ℕ, Bool, false, List, [], ◌∷◌, 
 use Rattle.bfs_votes.specs.Laws.{QuorumsMeet}
 use Rattle.bfs_checkpoints.specs.Texts.{node_digest}
 use Rattle.bfs_log.specs.Logs.{Log}
-use Rattle.bfs_codec.specs.Laws.{MessageWasWritten}
+use Rattle.bfs_codec.specs.Laws.{MessageWasWritten, OneBatch}
 use Rattle.bfs_messages.specs.Messages as model
 use Rattle.bfs_messages.specs.declared.signed.Signed.{Signed}
 use Rattle.bfs_messages.specs.declared.message.Message.{Message}
@@ -22,15 +22,15 @@ use Rattle.bfs_nodes_agree.proofs.Nodes.Hearing.{said_alike}
 use Rattle.bfs_nodes_agree.proofs.Nodes.States.{StatesKnown, digest_tells, new_states, one_state, reached_on, states_on}
 use Rattle.bfs_nodes_agree.proofs.Nodes.Turns.{AreRight, may_be_taken, new_right, right_on, step_right}
 
-pub turns_may_be_taken : CallsKeepTheReplica → IsKept HasNoLaterView → MessageWasWritten → TurnsMayBeTaken
-turns_may_be_taken same views written f keys start faulty steps shared comes =
-    may_be_taken same views written f faulty steps (new_node_replicas f keys start) (ordered.new_order_replicas f) (new_right same views written f faulty keys start shared) comes
+pub turns_may_be_taken : CallsKeepTheReplica → IsKept HasNoLaterView → MessageWasWritten → OneBatch → TurnsMayBeTaken
+turns_may_be_taken same views written one f keys start faulty steps shared comes =
+    may_be_taken same views written one f faulty steps (new_node_replicas f keys start) (ordered.new_order_replicas f) (new_right same views written one f faulty keys start shared) comes
 
-reached_later : (steps : List NodeTurn) (w : NodeReplicas) (i : ℕ) (s : Standing) → IsIn s (w i).reached → IsIn s (after_node_turns w steps i).reached
+pub reached_later : (steps : List NodeTurn) (w : NodeReplicas) (i : ℕ) (s : Standing) → IsIn s (w i).reached → IsIn s (after_node_turns w steps i).reached
 reached_later [] w i s j = j
 reached_later (turn ∷ steps) w i s j = reached_later steps (after_node_turn w turn) i s (reached_on w turn i s j)
 
-module _ (same : CallsKeepTheReplica) (views : IsKept HasNoLaterView) (written : MessageWasWritten) (meet : QuorumsMeet) (stable : CertificatesMakeStable)
+module _ (same : CallsKeepTheReplica) (views : IsKept HasNoLaterView) (written : MessageWasWritten) (one : OneBatch) (meet : QuorumsMeet) (stable : CertificatesMakeStable)
     (start : Beginning) (f : ℕ) (faulty : ℕ → Bool) (few : FewAreFaulty f faulty) where
   states_known : (steps : List NodeTurn) (w : NodeReplicas) (v : ordered.OrderReplicas) → AreRight f faulty w v → StatesKnown start faulty w → AreAuthentic faulty w steps
       → StatesDontCollide faulty (after_node_turns w steps) → StatesKnown start faulty (after_node_turns w steps)
@@ -38,11 +38,11 @@ module _ (same : CallsKeepTheReplica) (views : IsKept HasNoLaterView) (written :
   states_known (turn ∷ steps) w v right known_of comes apart =
       let who = turn.who in
       let node = (w who).node in
-      let done = step_right same views written f faulty w v right turn comes.0 in
+      let done = step_right same views written one f faulty w v right turn comes.0 in
       let next = after_node_turn w turn in
       let apart_now : StatesDontCollide faulty next = λ i j s t a b x y. apart i j s t a b (reached_later steps next i s x) (reached_later steps next j t y) in
-      let known_now = states_on meet stable start f faulty few w turn known_of (right who).same_f (λ m i. ((right who).log m i).whole) comes.0 done.stands (λ s i. (done.sends s i).1) apart_now in
-      states_known steps next (turns.after_view_turns v (map (turn_of who) (deeds_of node turn.step))) (right_on same views written f faulty w v right turn comes.0) known_now comes.1 apart
+      let known_now = states_on meet stable start f faulty few w turn known_of (right who).same_f (λ m i. ((right who).log m i).whole) comes.0 done.stands (λ s c i e. (done.sends s i).1.0 c e) apart_now in
+      states_known steps next (turns.after_view_turns v (map (turn_of who) (deeds_of node turn.step))) (right_on same views written one f faulty w v right turn comes.0) known_now comes.1 apart
 
 -- What nodes are given --------------------------------------------------------------------------------------------------------
 
@@ -55,7 +55,7 @@ comes_so P Q so (Takes signed) comes = (comes.0, λ p of. so p (comes.1 p of))
 comes_so P Q so (Adopts certificate files table) comes = λ m i. so m (comes m i)
 comes_so P Q so step comes = tt
 
-module _ (same : CallsKeepTheReplica) (views : IsKept HasNoLaterView) (written : MessageWasWritten) (f : ℕ) (faulty : ℕ → Bool) where
+module _ (same : CallsKeepTheReplica) (views : IsKept HasNoLaterView) (written : MessageWasWritten) (one : OneBatch) (f : ℕ) (faulty : ℕ → Bool) where
   authentic_on : (steps : List NodeTurn) (w : NodeReplicas) (v : ordered.OrderReplicas) → AreRight f faulty w v → AreFair faulty w steps → AreAuthentic faulty w steps
   authentic_on [] w v right fair = tt
   authentic_on (turn ∷ steps) w v right fair =
@@ -64,21 +64,21 @@ module _ (same : CallsKeepTheReplica) (views : IsKept HasNoLaterView) (written :
       let was = is k e signed correct in
       said_alike faulty w was.part.message m.message was.same ((right was.who).said was.sent was.given was.part was.is) k e correct in
       let comes = comes_so (IsFair faulty w node.keys) (IsAuthentic faulty w node.keys) authentic turn.step fair.0 in
-      (comes, authentic_on steps (after_node_turn w turn) (turns.after_view_turns v (map (turn_of turn.who) (deeds_of node turn.step))) (right_on same views written f faulty w v right turn comes) fair.1)
+      (comes, authentic_on steps (after_node_turn w turn) (turns.after_view_turns v (map (turn_of turn.who) (deeds_of node turn.step))) (right_on same views written one f faulty w v right turn comes) fair.1)
 
-pub fair_is_authentic : CallsKeepTheReplica → IsKept HasNoLaterView → MessageWasWritten → FairIsAuthentic
-fair_is_authentic same views written f keys start faulty steps shared fair =
-    authentic_on same views written f faulty steps (new_node_replicas f keys start) (ordered.new_order_replicas f) (new_right same views written f faulty keys start shared) fair
+pub fair_is_authentic : CallsKeepTheReplica → IsKept HasNoLaterView → MessageWasWritten → OneBatch → FairIsAuthentic
+fair_is_authentic same views written one f keys start faulty steps shared fair =
+    authentic_on same views written one f faulty steps (new_node_replicas f keys start) (ordered.new_order_replicas f) (new_right same views written one f faulty keys start shared) fair
 
 -- They agree --------------------------------------------------------------------------------------------------------------------
 
-pub nodes_agree : StepsAreTurns → TurnsMayBeTaken → ReplicasAgree → CallsKeepTheReplica → IsKept HasNoLaterView → MessageWasWritten → QuorumsMeet → CertificatesMakeStable → NodesAgree
-nodes_agree are may agree same views written meet stable f keys start faulty steps shared few comes batches_apart states_apart =
+pub nodes_agree : StepsAreTurns → TurnsMayBeTaken → ReplicasAgree → CallsKeepTheReplica → IsKept HasNoLaterView → MessageWasWritten → OneBatch → QuorumsMeet → CertificatesMakeStable → NodesAgree
+nodes_agree are may agree same views written one_batch meet stable f keys start faulty steps shared few comes batches_apart states_apart =
     let begun = new_node_replicas f keys start in
     let w = after_node_turns begun steps in
     let list = ordered_turns begun steps in
     let taken = may f keys start faulty steps shared comes in
-    let known_of = states_known same views written meet stable start f faulty few steps begun (ordered.new_order_replicas f) (new_right same views written f faulty keys start shared)
+    let known_of = states_known same views written one_batch meet stable start f faulty few steps begun (ordered.new_order_replicas f) (new_right same views written one_batch f faulty keys start shared)
     (new_states f keys start faulty) comes states_apart in
     let batches : (i j number : ℕ) (batch other : model.Batch) → faulty i ≡ false → faulty j ≡ false → Executed (w i) number batch → Executed (w j) number other → batch ≡ other =
     λ i j number batch other a b x y.

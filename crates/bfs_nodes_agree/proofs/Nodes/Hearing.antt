@@ -9,7 +9,7 @@ use Rattle.bfs_log.specs.Headers.{header, message_header}
 use Rattle.bfs_log.specs.Logs.{Log, headers}
 use Rattle.bfs_messages.specs.Messages as model
 use Rattle.bfs_messages.specs.Limits.{FitsPreparedBatch, FitsViewChange}
-use Rattle.bfs_messages.specs.Signing.{as_message, is_signed, order_signed_by, sender_of}
+use Rattle.bfs_messages.specs.Signing.{as_message, is_signed, order_signed_by, requests_are_signed, sender_of}
 use Rattle.bfs_messages.specs.declared.signed.Signed.{Signed}
 use Rattle.bfs_messages.specs.declared.message.Message.{Message}
 use Rattle.bfs_messages.specs.declared.message.Message.TheVariants.{Order, ViewChange, NewView, Reply}
@@ -27,11 +27,12 @@ use Rattle.bfs_node.specs.Executing.{signed_reply}
 use Rattle.bfs_nodes_agree.specs.Orders.Replicas as ordered
 use Rattle.bfs_nodes_agree.specs.Orders.Replicas.{after_order_deed, histories}
 use Rattle.bfs_nodes_agree.proofs.Orders.Lists.{AllIn, at_place, right_in, some_is}
-use Rattle.bfs_nodes_agree.proofs.Orders.Logs.{IsWhole}
+use Rattle.bfs_nodes_agree.proofs.Orders.Logs.{IsChecked, IsWhole}
 use Rattle.bfs_view_change.specs.Changes.ViewChanges.{valid_view_change}
 use Rattle.bfs_nodes_agree.specs.Views.Changes.{told_change, HasProofs, IsGenuine}
 use Rattle.bfs_nodes_agree.specs.Views.Replicas as turns
 use Rattle.bfs_nodes_agree.specs.Views.Replicas.{ViewTurn, ordered_deed, ordered_turn}
+use Rattle.bfs_nodes_agree.proofs.Views.Batches.{AreSo}
 use Rattle.bfs_nodes_agree.proofs.Views.Lists.{as_it_is, in_map, map_in, out_of_map, told_in}
 use Rattle.bfs_nodes_agree.proofs.Views.Proved.{is_valid}
 use Rattle.bfs_nodes_agree.specs.Nodes.Premises.{offers_in, order_signed_part, signed_part, HasSaid, IsWholly, SaysTheSame}
@@ -140,15 +141,22 @@ reply_is reply (Some auth) s e = sym (ap (λ (x : Signed Message). x.message) (s
 -- What is in a log, and what is kept --------------------------------------------------------------------------------------------
 
 -- COMMITs are not said: that of a replica that is alone goes to nobody
-pub record IsHeard (faulty : ℕ → Bool) (h : World) (w : NodeReplicas) (m : Signed OrderMessage) : Type 0 where
+pub record IsHeard (faulty : ℕ → Bool) (keys : Keys) (h : World) (w : NodeReplicas) (m : Signed OrderMessage) : Type 0 where
   pub sent : (header m).tag < 5 → WasSent faulty h (header m).tag (header m).sender (header m).view (header m).number (header m).digest
   pub said : (header m).tag < 4 → IsSaid faulty w (Order m.message)
   pub whole : IsWhole m.message
+  -- of the keys of the node whose log it is
+  pub checked : IsChecked keys m
 
-pub record IsGood (faulty : ℕ → Bool) (f : ℕ) (h : World) (w : NodeReplicas) (s : Signed model.ViewChange) : Type 0 where
+-- the requests in the batches of its certificates pass by these keys
+abbrev pub AreChecked : Keys → model.ViewChange → Type 0
+AreChecked keys change = AreSo (λ batch. requests_are_signed keys batch ≡ true) change
+
+pub record IsGood (faulty : ℕ → Bool) (keys : Keys) (f : ℕ) (h : World) (w : NodeReplicas) (s : Signed model.ViewChange) : Type 0 where
   pub proved : HasProofs f s.message.view s.message
   pub genuine : IsGenuine faulty h s.message
   pub said : IsWhollySaid faulty w (as_message ViewChange s)
+  pub checked : AreChecked keys s.message
 
 abbrev pub HaveGrown : NodeReplicas → NodeReplicas → Type 0
 HaveGrown w after = (k : ℕ) (s : Signed Message) → IsIn s (w k).sent → IsIn s (after k).sent
@@ -156,15 +164,16 @@ HaveGrown w after = (k : ℕ) (s : Signed Message) → IsIn s (w k).sent → IsI
 pub said_later : (faulty : ℕ → Bool) (w after : NodeReplicas) → HaveGrown w after → (m : Message) → IsSaid faulty w m → IsSaid faulty after m
 said_later faulty w after later m said k e correct = let has = said k e correct in (has.0, later k has.0 has.1, has.2)
 
-pub heard_on : (faulty : ℕ → Bool) (h g : World) (w after : NodeReplicas) → AreGrown h g → HaveGrown w after → (m : Signed OrderMessage) → IsHeard faulty h w m → IsHeard faulty g after m
-heard_on faulty h g w after on later m is = record {
+pub heard_on : (faulty : ℕ → Bool) (keys : Keys) (h g : World) (w after : NodeReplicas) → AreGrown h g → HaveGrown w after → (m : Signed OrderMessage) → IsHeard faulty keys h w m → IsHeard faulty keys g after m
+heard_on faulty keys h g w after on later m is = record {
   sent = λ small. said_on faulty h g on (header m).tag (header m).sender (header m).view (header m).number (header m).digest (is.sent small);
   said = λ small. said_later faulty w after later (Order m.message) (is.said small);
   whole = is.whole;
+  checked = is.checked;
 }
 
-pub change_on : (faulty : ℕ → Bool) (f : ℕ) (h g : World) (w after : NodeReplicas) → AreGrown h g → HaveGrown w after → (s : Signed model.ViewChange) → IsGood faulty f h w s → IsGood faulty f g after s
-change_on faulty f h g w after on later s is = record {
+pub change_on : (faulty : ℕ → Bool) (keys : Keys) (f : ℕ) (h g : World) (w after : NodeReplicas) → AreGrown h g → HaveGrown w after → (s : Signed model.ViewChange) → IsGood faulty keys f h w s → IsGood faulty keys f g after s
+change_on faulty keys f h g w after on later s is = record {
   proved = is.proved;
   genuine = record {
     sent = λ correct. (on s.message.sender).changes (told_change s.message) (is.genuine.sent correct);
@@ -172,6 +181,7 @@ change_on faulty f h g w after on later s is = record {
     whole = is.genuine.whole;
   };
   said = λ p of. said_later faulty w after later p.message (is.said p of);
+  checked = is.checked;
 }
 
 -- What nodes have sent ----------------------------------------------------------------------------------------------------------
@@ -241,11 +251,12 @@ proof_small c m i = elim i [
 ]
 
 module _ (faulty : ℕ → Bool) (w : NodeReplicas) (v : ordered.OrderReplicas) (spoken : (k : ℕ) → AllIn (IsSpoken (v k)) (w k).sent) where
-  pub vote_heard : (m : Signed OrderMessage) → IsSaid faulty w (Order m.message) → IsWhole m.message → IsHeard faulty (histories v) w m
-  vote_heard m said whole = record {
+  pub vote_heard : (keys : Keys) (m : Signed OrderMessage) → IsSaid faulty w (Order m.message) → IsWhole m.message → IsChecked keys m → IsHeard faulty keys (histories v) w m
+  vote_heard keys m said whole checked = record {
     sent = λ small correct. let k = (header m).sender in vote_said (v k) (w k).sent (spoken k) m.message small (said k refl correct);
     said = λ _. said;
     whole = whole;
+    checked = checked;
   }
 
   change_said : (k : ℕ) (change : model.ViewChange) → HasSaid (w k).sent (ViewChange change) → IsIn (told_change change) (v k).changes

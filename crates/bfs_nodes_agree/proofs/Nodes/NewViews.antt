@@ -10,14 +10,14 @@ use Rattle.bfs_log.specs.Headers.{header}
 use Rattle.bfs_log.specs.Logs.{headers}
 use Rattle.bfs_messages.specs.Messages as model
 use Rattle.bfs_messages.specs.Batches.{batch_text}
-use Rattle.bfs_messages.specs.Signing.{as_message, is_signed, order_is_signed}
+use Rattle.bfs_messages.specs.Signing.{as_message, is_signed, order_is_signed, requests_are_signed}
 use Rattle.bfs_messages.specs.declared.signed.Signed.{Signed}
 use Rattle.bfs_messages.specs.declared.order_messages.OrderMessage.{OrderMessage}
 use Rattle.bfs_messages.specs.declared.order_messages.OrderMessage.TheVariants.{PrePrepare}
 use Rattle.bfs_order.specs.Replica.Views.{as_proposals}
 use Rattle.bfs_agreement.specs.Histories.{World, IsIn}
 use Rattle.bfs_nodes_agree.proofs.Orders.Lists.{AllIn, at_place}
-use Rattle.bfs_nodes_agree.proofs.Orders.Logs.{IsOwn}
+use Rattle.bfs_nodes_agree.proofs.Orders.Logs.{IsChecked, IsOwn}
 use Rattle.bfs_view_change.specs.Changes.Choice.{Chosen, choice}
 use Rattle.bfs_view_change.specs.Changes.Keeping.{changes_for, if_for}
 use Rattle.bfs_view_change.specs.Changes.Making.{chosen_proposal, signed_proposal}
@@ -25,15 +25,17 @@ use Rattle.bfs_view_change.specs.Changes.NewViews.{are_for, are_chosen, choice_r
 use Rattle.bfs_view_change.specs.Changes.ViewChanges.{messages_of, valid_view_change}
 use Rattle.bfs_nodes_agree.specs.Views.Changes.{proposal_of, HasProofs, IsGenuine}
 use Rattle.bfs_nodes_agree.specs.Views.Replicas.{IsRightNewView}
+use Rattle.bfs_nodes_agree.proofs.Views.Batches.{AreSo, chosen_so}
 use Rattle.bfs_nodes_agree.proofs.Views.Lists.{map_in, in_map, passes_at}
 use Rattle.bfs_node.specs.Changing.{leads, may_begin, own_new_view, entering_refusal, first_of, view_refusal}
 use Rattle.bfs_node.specs.Nodes.{Node}
 use Rattle.bfs_nodes_agree.specs.Nodes.Replicas.{NodeReplicas}
-use Rattle.bfs_nodes_agree.proofs.Nodes.Hearing.{IsGood, IsHeard, IsSpoken, change_signed, genuine_of, vote_heard}
+use Rattle.bfs_nodes_agree.proofs.Nodes.Hearing.{AreChecked, IsGood, IsHeard, IsSpoken, change_signed, genuine_of, vote_heard}
 use Rattle.bfs_nodes_agree.proofs.Nodes.Keeping.{AreKept, enough_for, good_for}
 use Rattle.bfs_log.specs.Certificates.{faults}
 use Rattle.std.proofs.lemmas.Slice.Eq.{bytes_eq-Decides}
-use Rattle.bfs_messages.specs.Limits.{FitsNewView, FitsPrePrepare, FitsSigned, FitsViewChange}
+use Rattle.bfs_codec.specs.Laws.{OneBatch}
+use Rattle.bfs_messages.specs.Limits.{FitsBatch, FitsNewView, FitsPrePrepare, FitsPreparedBatch, FitsSigned, FitsViewChange}
 use Rattle.bfs_messages.specs.declared.message.Message.TheVariants.{NewView, Order}
 use Rattle.bfs_nodes_agree.specs.Orders.Replicas as ordered
 use Rattle.bfs_nodes_agree.specs.Orders.Replicas.{histories}
@@ -41,7 +43,7 @@ use Rattle.bfs_nodes_agree.proofs.Orders.Results.{passed}
 use Rattle.bfs_view_change.specs.Changes.NewViews as views
 use Rattle.bfs_view_change.specs.declared.error.ViewError.{ViewError}
 use Rattle.bfs_view_change.specs.declared.error.ViewError.TheVariants.{BadAuthenticator, BadCertificate, WrongChoice}
-use Rattle.bfs_nodes_agree.proofs.Views.Proved.{enough_senders, valid_proves}
+use Rattle.bfs_nodes_agree.proofs.Views.Proved.{enough_senders, is_valid, valid_proves}
 use Rattle.bfs_node.specs.Errors.{of_view}
 use Rattle.bfs_node.specs.declared.error.NodeError.{NodeError}
 use Rattle.bfs_nodes_agree.specs.Nodes.Premises.{IsAuthentic, IsWholly}
@@ -62,7 +64,7 @@ own_proposals keys f me view led [] = refl
 own_proposals keys f me view led (c ∷ chosen) =
     ap₂ (λ (k : ℕ) (hs : List Header). record { tag = 2; sender = k; view = view; number = c.number; digest = sha256 (batch_text c.batch) } ∷ hs) led (own_proposals keys f me view led chosen)
 
-pub begun_right : (faulty : ℕ → Bool) (h : World) (w : NodeReplicas) (node : Node) → may_begin node ≡ true → AreKept (IsGood faulty node.order.f h w) node.order.f node.changes
+pub begun_right : (faulty : ℕ → Bool) (h : World) (w : NodeReplicas) (node : Node) → may_begin node ≡ true → AreKept (IsGood faulty node.keys node.order.f h w) node.order.f node.changes
     → IsRightNewView faulty h node.order node.order.asked (changes_for node.order.asked node.changes) (own_new_view node).proposals
 begun_right faulty h w node may kept =
     let asked = node.order.asked in
@@ -70,8 +72,8 @@ begun_right faulty h w node may kept =
     let changes = changes_for asked node.changes in
     let a = and_parts (leads node asked) (nat_le (2 * f + 1) (length changes)) (and_parts (nat_lt node.order.view asked) _ may).1 in
     let many = leb-true (2 * f + 1) (length changes) a.1 in
-    let pass = enough_for (IsGood faulty f h w) f asked node.changes kept in
-    let good = good_for (IsGood faulty f h w) asked 0 node.changes.changes kept.1 in
+    let pass = enough_for (IsGood faulty node.keys f h w) f asked node.changes kept in
+    let good = good_for (IsGood faulty node.keys f h w) asked 0 node.changes.changes kept.1 in
     record {
       of_view = all_for asked node.changes.changes;
       enough = omega (arith, many, pass);
@@ -81,6 +83,10 @@ begun_right faulty h w node may kept =
       proposals = own_proposals node.keys f node.order.me asked (eqb-true node.order.me (primary f asked) a.0) _;
     }
 
+-- each request in a batch passes by these keys
+abbrev Pass : Keys → model.Batch → Type 0
+Pass keys batch = requests_are_signed keys batch ≡ true
+
 -- each of its PRE-PREPAREs is its own
 pub own_handed : (node : Node) → AllIn (λ (m : Signed OrderMessage). ((header m).tag ≡ 2) × IsOwn node.order.me m) (as_proposals (own_new_view node).proposals)
 own_handed node =
@@ -89,6 +95,17 @@ own_handed node =
     map_in P (as_message PrePrepare) (own_new_view node).proposals
     (map_in (λ (p : Signed model.PrePrepare). P (as_message PrePrepare p)) (λ (c : Chosen). signed_proposal node.keys (chosen_proposal node.order.me node.order.asked c)) chosen
     (λ c i. (refl, record { kind = omega arith; sender = refl; whole = refl })))
+
+-- the requests in each pass, as they do in the certificates
+pub own_checked : (faulty : ℕ → Bool) (h : World) (w : NodeReplicas) (node : Node) → AreKept (IsGood faulty node.keys node.order.f h w) node.order.f node.changes
+    → AllIn (IsChecked node.keys) (as_proposals (own_new_view node).proposals)
+own_checked faulty h w node kept =
+    let asked = node.order.asked in
+    let changes = changes_for asked node.changes in
+    let good = good_for (IsGood faulty node.keys node.order.f h w) asked 0 node.changes.changes kept.1 in
+    let chosen = chosen_so (Pass node.keys) refl (messages_of changes) (map_in (AreChecked node.keys) (λ (s : Signed model.ViewChange). s.message) changes (λ s i. (good s i).1.checked)) in
+    map_in (IsChecked node.keys) (as_message PrePrepare) (own_new_view node).proposals
+    (map_in (λ (p : Signed model.PrePrepare). Pass node.keys p.message.batch) (λ (c : Chosen). signed_proposal node.keys (chosen_proposal node.order.me asked c)) (choice (messages_of changes)).chosen chosen)
 
 -- It takes it --------------------------------------------------------------------------------------------------------------
 
@@ -100,13 +117,13 @@ both : (one other : Option ViewError) → views.first_of one other ≡ None → 
 both None other e = (refl, e)
 both (Some refused) other e = absurd cc
 
-chosen_so : (b : Bool) → cond b None (Some WrongChoice) ≡ None → b ≡ true
-chosen_so true e = refl
-chosen_so false e = absurd cc
+right_choice : (b : Bool) → cond b None (Some WrongChoice) ≡ None → b ≡ true
+right_choice true e = refl
+right_choice false e = absurd cc
 
 module _ (keys : Keys) (f sender view : ℕ) (led : sender ≡ primary f view) where
   proposal_is : (p : Signed model.PrePrepare) (c : Chosen) → FitsPrePrepare p.message → proposes keys sender view p c ≡ true
-      → (header (as_message PrePrepare p) ≡ proposal_of f view c) × (order_is_signed keys (as_message PrePrepare p) ≡ true)
+      → (header (as_message PrePrepare p) ≡ proposal_of f view c) × (order_is_signed keys (as_message PrePrepare p) ≡ true) × (batch_text p.message.batch ≡ batch_text c.batch)
   proposal_is p c fits e =
       let vote = p.message.vote in
       let a = and_parts ((vote.sender == sender) && ((vote.view == view) && (vote.number == c.number))) (bytes_eq (batch_text p.message.batch) (batch_text c.batch) && order_is_signed keys (as_message PrePrepare p)) e in
@@ -117,6 +134,7 @@ module _ (keys : Keys) (f sender view : ℕ) (led : sender ≡ primary f view) w
         ap₂ (λ (k v : ℕ). record { tag = 2; sender = k; view = v; number = vote.number; digest = vote.digest }) (eqb-true vote.sender sender b.0 ∙ led) (eqb-true vote.view view d.0)
             ∙ ap₂ (λ (n : ℕ) (g : List ℕ). record { tag = 2; sender = primary f view; view = view; number = n; digest = g }) (eqb-true vote.number c.number d.1) (fits.digest ∙ ap sha256 text),
         g.1,
+        text,
       )
 
   proposals_are : (ps : List (Signed model.PrePrepare)) (cs : List Chosen) → AllByRecursion (FitsSigned FitsPrePrepare) ps → do_propose keys sender view ps cs ≡ true
@@ -128,16 +146,19 @@ module _ (keys : Keys) (f sender view : ℕ) (led : sender ≡ primary f view) w
       let a = and_parts (proposes keys sender view p c) (do_propose keys sender view ps cs) e in
       ap₂ (λ (h : Header) (hs : List Header). h ∷ hs) (proposal_is p c fit.0.0 a.0).0 (proposals_are ps cs fit.1 a.1)
 
-  -- each of them is signed, and tells the digest of its batch
+  -- each of them is signed, tells the digest of its batch, and has the text of a batch that was chosen
   pub proposals_signed : (ps : List (Signed model.PrePrepare)) (cs : List Chosen) → AllByRecursion (FitsSigned FitsPrePrepare) ps → do_propose keys sender view ps cs ≡ true
-      → (p : Signed model.PrePrepare) → IsIn p ps → (order_is_signed keys (as_message PrePrepare p) ≡ true) × (p.message.vote.digest ≡ sha256 (batch_text p.message.batch))
+      → AllIn (λ (p : Signed model.PrePrepare). (order_is_signed keys (as_message PrePrepare p) ≡ true) × FitsPrePrepare p.message × ((c : Chosen) × IsIn c cs × (batch_text p.message.batch ≡ batch_text c.batch))) ps
   proposals_signed [] cs fit e p i = absurd i
   proposals_signed (q ∷ ps) [] fit e p i = absurd cc
   proposals_signed (q ∷ ps) (c ∷ cs) fit e p i =
       let a = and_parts (proposes keys sender view q c) (do_propose keys sender view ps cs) e in
+      let first = proposal_is q c fit.0.0 a.0 in
       elim i [
-        | inl same ↦ subst (λ (x : Signed model.PrePrepare). (order_is_signed keys (as_message PrePrepare x) ≡ true) × (x.message.vote.digest ≡ sha256 (batch_text x.message.batch))) (sym same) ((proposal_is q c fit.0.0 a.0).1, fit.0.0.digest)
-        | inr j ↦ proposals_signed ps cs fit.1 a.1 p j
+        | inl same ↦
+            subst (λ (x : Signed model.PrePrepare). (order_is_signed keys (as_message PrePrepare x) ≡ true) × FitsPrePrepare x.message × ((d : Chosen) × IsIn d (c ∷ cs) × (batch_text x.message.batch ≡ batch_text d.batch))) (sym same)
+            (first.1, fit.0.0, (c, inl refl, first.2))
+        | inr j ↦ let later = proposals_signed ps cs fit.1 a.1 p j in (later.0, later.1, (later.2.0, inr later.2.1, later.2.2))
       ]
 
 -- what a node finds of a NEW-VIEW that it takes
@@ -156,7 +177,7 @@ is_taken node s keys_fit taken =
     let b = passed ((new.sender == primary (faults keys) new.view) && is_signed keys m) BadAuthenticator _ a.0 in
     let d = passed (are_for new.view new.changes) BadCertificate (choice_refusal keys new.changes) b.1 in
     let leads = eqb-true new.sender (primary (faults keys) new.view) (and_parts (new.sender == primary (faults keys) new.view) (is_signed keys m) b.0).0 in
-    record { led = leads ∙ ap (λ (f : ℕ). primary f new.view) keys_fit; of_view = d.0; right = d.1; proposed = chosen_so _ a.1 }
+    record { led = leads ∙ ap (λ (f : ℕ). primary f new.view) keys_fit; of_view = d.0; right = d.1; proposed = right_choice _ a.1 }
 
 module _ (node : Node) (s : Signed model.NewView) (keys_fit : faults node.keys ≡ node.order.f) (fits : FitsNewView s.message) (taken : view_refusal node s ≡ None) where
   abbrev new : model.NewView
@@ -183,9 +204,16 @@ module _ (node : Node) (s : Signed model.NewView) (keys_fit : faults node.keys �
           proposals = proposals_are node.keys node.order.f new.sender new.view is.led new.proposals (choice (messages_of new.changes)).chosen fits.proposals.1 is.proposed;
         }
 
-    pub taken_heard : AllIn (IsHeard faulty (histories v) w) (as_proposals new.proposals)
-    taken_heard = map_in (IsHeard faulty (histories v) w) (as_message PrePrepare) new.proposals (λ p i.
+    pub taken_heard : OneBatch → AllIn (IsHeard faulty node.keys (histories v) w) (as_proposals new.proposals)
+    taken_heard one =
+        let valid = (enough_senders node.keys node.order.f new.changes keys_fit is.right).1 in
+        let in_all : (P : model.Batch → Type 0) → P None → AllIn (λ (c : Signed model.ViewChange). AreSo P c.message) new.changes → AllIn (λ (c : Chosen). P c.batch) (choice (messages_of new.changes)).chosen =
+        λ P null all. chosen_so P null (messages_of new.changes) (map_in (AreSo P) (λ (c : Signed model.ViewChange). c.message) new.changes all) in
+        let pass = in_all (Pass node.keys) refl (λ c i. (is_valid node.keys c (passes_at (valid_view_change node.keys) new.changes c valid i)).carried) in
+        let fit = in_all FitsBatch tt (λ c i d j. (at_place FitsPreparedBatch c.message.certificates (at_place (FitsSigned FitsViewChange) new.changes fits.changes.1 c i).0.certificates.1 d j).proposal.0.batch) in
+        map_in (IsHeard faulty node.keys (histories v) w) (as_message PrePrepare) new.proposals (λ p i.
         let m = as_message PrePrepare p in
         let good = proposals_signed node.keys node.order.f new.sender new.view is.led new.proposals (choice (messages_of new.changes)).chosen fits.proposals.1 is.proposed p i in
         let within = in_map (as_message Order) (as_proposals new.proposals) m (in_map (as_message PrePrepare) new.proposals p i) in
-        vote_heard faulty w v spoken m (λ k e correct. authentic (as_message Order m) (inr (inl within)) k e good.0 correct) good.1)
+        let same = one p.message.batch good.2.0.batch good.1.batch (fit good.2.0 good.2.1) good.2.2 in
+        vote_heard faulty w v spoken node.keys m (λ k e correct. authentic (as_message Order m) (inr (inl within)) k e good.0 correct) good.1.digest (subst (Pass node.keys) (sym same) (pass good.2.0 good.2.1)))

@@ -1,7 +1,8 @@
 -- Each step of a node is turns that its order may take.
 use Rattle.std.proofs.Common.{◌≡◌, ℕ, ◌<◌, Bool, true, false, cond, ◌&&◌, List, [], ◌∷◌, length, Option, Some, None, option_map, map, inl, inr, refl, sym, ap, subst, ◌∙◌, arith}
-use Rattle.std.specs.Prelude.{nat_lt, bytes_eq}
-use Rattle.std.proofs.lemmas.Bool.{and_parts}
+use Rattle.std.specs.Prelude.{nat_lt, bytes_eq, not}
+use Rattle.std.specs.List.{list_all}
+use Rattle.std.proofs.lemmas.Bool.{and_from, and_parts}
 use Rattle.bfs_model.specs.Bytes.Call.{◌>>=◌}
 use Rattle.bfs_model.specs.Server.Stored.{AreBytes}
 use Rattle.bfs_model.specs.Server.Tree.{FileSystem, Time}
@@ -15,10 +16,10 @@ use Rattle.bfs_log.specs.Certificates.{StableCheckpoint, messages_in}
 use Rattle.bfs_log.specs.Headers.{header}
 use Rattle.bfs_log.specs.Logs.{Log, headers}
 use Rattle.bfs_messages.specs.Fits.{FitsMessage, FitsOrder}
-use Rattle.bfs_codec.specs.Laws.{MessageWasWritten}
+use Rattle.bfs_codec.specs.Laws.{MessageWasWritten, OneBatch}
 use Rattle.bfs_messages.specs.Messages as model
 use Rattle.bfs_codec.specs.Reading.{message_of, signed_from}
-use Rattle.bfs_messages.specs.Signing.{as_message, carried_are_signed, is_signed, order_is_signed, sender_of}
+use Rattle.bfs_messages.specs.Signing.{as_message, carried_are_signed, is_signed, order_is_signed, request_is_signed, sender_of}
 use Rattle.bfs_messages.specs.declared.signed.Signed.{Signed}
 use Rattle.bfs_messages.specs.declared.message.Message.{Message}
 use Rattle.bfs_messages.specs.declared.message.Message.TheVariants.{Request, Order, ViewChange, NewView, Reply}
@@ -34,13 +35,15 @@ use Rattle.bfs_order.specs.Replica.States.{State, with_message}
 use Rattle.bfs_order.specs.Replica.Views as views
 use Rattle.bfs_order.specs.Replica.Views.{as_proposals}
 use Rattle.bfs_order.specs.declared.error.OrderError.{OrderError}
+use Rattle.bfs_outcome.specs.Outcome as results
+use Rattle.bfs_pending.specs.Requests.{is_among}
 use Rattle.bfs_agreement.specs.Histories as agreement
 use Rattle.bfs_agreement.specs.Histories.{IsIn, World}
 use Rattle.bfs_agreement.proofs.Public.{in_told}
 use Rattle.bfs_nodes_agree.specs.Orders.Replicas as ordered
 use Rattle.bfs_nodes_agree.specs.Orders.Replicas.{MayDoOrderDeed, after_order_deed, histories, votes_by, with_replica}
-use Rattle.bfs_nodes_agree.proofs.Orders.Lists.{AllIn, left_in, out_of_filter_map, some_is}
-use Rattle.bfs_nodes_agree.proofs.Orders.Logs.{Brings, IsOwn, IsWhole}
+use Rattle.bfs_nodes_agree.proofs.Orders.Lists.{AllIn, both_in, filter_in, left_in, one_in, out_of_filter_map, some_is}
+use Rattle.bfs_nodes_agree.proofs.Orders.Logs.{Brings, IsChecked, IsOwn, IsWhole, Offers}
 use Rattle.bfs_nodes_agree.proofs.Orders.Results.{not_hit, passed}
 use Rattle.bfs_replies.specs.Answers.{Answer}
 use Rattle.bfs_replies.specs.Tables.{Table}
@@ -54,25 +57,25 @@ use Rattle.bfs_nodes_agree.specs.Views.Replicas as turns
 use Rattle.bfs_nodes_agree.specs.Views.Replicas.{ViewDeed, ordered_deed}
 use Rattle.bfs_nodes_agree.proofs.Views.Lists.{in_map, map_in}
 use Rattle.bfs_nodes_agree.proofs.Views.OfLog.{made_holds, made_proves}
-use Rattle.bfs_nodes_agree.proofs.Views.Proved.{valid_proves}
+use Rattle.bfs_nodes_agree.proofs.Views.Proved.{is_valid, valid_proves}
 use Rattle.bfs_node.specs.Adopting.{adopted, may_adopt}
 use Rattle.bfs_node.specs.Changing.{begun, begun_if_due, change_refusal, leads, may_begin, next_view, own_change, own_new_view, timed_out, timeout_refusal, view_refusal, with_new_view, with_view_change}
 use Rattle.bfs_node.specs.Checkpoints.{checkpointed, checkpoint_refusal}
-use Rattle.bfs_node.specs.Delivering.{bytes_delivered, bytes_refusal, message_delivered, message_refusal, ordered as taken, request_refusal, with_request}
+use Rattle.bfs_node.specs.Delivering.{after_request, after_requests, bytes_delivered, bytes_refusal, if_taken, message_delivered, message_refusal, ordered as taken, request_in, request_refusal, with_request}
 use Rattle.bfs_node.specs.Errors.{of_order, of_view}
-use Rattle.bfs_node.specs.Executing.{executed_on, is_next, replies_to, reply_to, told}
-use Rattle.bfs_node.specs.Nodes.{Node, Outcome}
+use Rattle.bfs_node.specs.Executing.{executed_on, is_next, reply_to, told}
+use Rattle.bfs_node.specs.Nodes.{Messages, Node, Outcome}
 use Rattle.bfs_node.specs.Proposing.{pending_batch, proposed}
 use Rattle.bfs_node.specs.declared.error.NodeError.{NodeError}
 use Rattle.bfs_nodes_agree.specs.Nodes.Premises.{Comes, IsAmong, IsAuthentic, IsWholly, offers_in}
 use Rattle.bfs_nodes_agree.specs.Nodes.Replicas.{NodeReplicas, turn_of}
 use Rattle.bfs_nodes_agree.specs.Nodes.Steps.{NodeStep, Delivers, Takes, TakesRequests, Proposes, Executes, Fails, Checkpoints, TimesOut, Adopts, still, unless, or_still, after_execution, outcome, where_taken, begun_deeds, change_deeds, message_deeds, bytes_deeds, checkpoint_deeds, timeout_deeds, deeds_of}
 use Rattle.bfs_nodes_agree.proofs.Nodes.Bounds.{left_bounded}
-use Rattle.bfs_nodes_agree.proofs.Nodes.Doing.{After, BringAll, Done, Goes, IsStill, MaySend, Stands, StandsBy, WereKept, at_who, deed_done, extends_deeds, here_is, nothing_done, offered, other_sent, own_said}
+use Rattle.bfs_nodes_agree.proofs.Nodes.Doing.{After, ArePassed, BringAll, Done, Goes, IsAnswer, IsStill, MaySend, NoReply, OfferAll, RepliesBy, Stands, StandsBy, Tells, WereKept, at_who, deed_done, extends_deeds, here_is, nothing_done, offered, other_sent, own_said, tells_nothing}
 use Rattle.bfs_nodes_agree.proofs.Nodes.Hearing.{HaveGrown, IsGood, IsHeard, IsSaid, IsSpoken, IsWhollySaid, change_on, change_signed, genuine_of, grown, heard_on, lone_late, proof_small, reply_is, said_later, vote_heard}
-use Rattle.bfs_nodes_agree.proofs.Nodes.NewViews.{begun_right, own_handed, taken_heard, taken_right}
+use Rattle.bfs_nodes_agree.proofs.Nodes.NewViews.{begun_right, own_checked, own_handed, taken_heard, taken_right}
 use Rattle.bfs_nodes_agree.proofs.Nodes.Keeping.{good_for, good_on, kept_above, kept_with}
-use Rattle.bfs_nodes_agree.proofs.Nodes.Steps.{after_deeds, begins_open, not_refused, not_second, waits}
+use Rattle.bfs_nodes_agree.proofs.Nodes.Steps.{after_deeds, begins_open, not_refused, not_second, waits, waits_once}
 
 -- Messages that are read keep the limits --------------------------------------------------------------------------------------
 
@@ -89,11 +92,39 @@ fits_read written bytes m are e = go (signed_from bytes) refl e
     ]) h
 
 -- what is not refused is signed
-taken_signed : (keys : Keys) (s : State) (m : Signed OrderMessage) → refusal keys s m ≡ None → order_is_signed keys m ≡ true
+taken_signed : (keys : Keys) (s : State) (m : Signed OrderMessage) → refusal keys s m ≡ None → (order_is_signed keys m ≡ true) × (carried_are_signed keys m.message ≡ true)
 taken_signed keys s m none =
     let a = passed (is_authentic keys s m) _ (place_refusal s (header m)) none in
     let b = and_parts _ (order_is_signed keys m && carried_are_signed keys m.message) a.0 in
-    (and_parts (order_is_signed keys m) (carried_are_signed keys m.message) b.1).0
+    and_parts (order_is_signed keys m) (carried_are_signed keys m.message) b.1
+
+-- Requests that wait ------------------------------------------------------------------------------------------------------------
+
+request_passes : (node : Node) (s : Signed model.Request) → request_refusal node s ≡ None → ArePassed node.keys node.pending → ArePassed node.keys (with_request node s).now.pending
+request_passes node s none waiting =
+    both_in (λ (r : Signed model.Request). request_is_signed node.keys r ≡ true) node.pending (s ∷ []) waiting
+    (one_in (λ (r : Signed model.Request). request_is_signed node.keys r ≡ true) s (passed (request_is_signed node.keys s) _ _ none).0)
+
+one_comes : (node : Node) (signed : Signed Message) (message : Message) → ArePassed node.keys node.pending → ArePassed node.keys (after_request node signed message).pending
+one_comes node signed (Request request) waiting =
+    let s = request_in signed request in
+    (elim (request_refusal node s) as (λ r. request_refusal node s ≡ r → ArePassed node.keys (if_taken r (with_request node s).now node).pending) [
+      | None ↦ λ none. request_passes node s none waiting
+      | Some refused ↦ λ _. waiting
+    ]) refl
+one_comes node signed other waiting = waiting
+
+all_come : (node : Node) (messages : Messages) → ArePassed node.keys node.pending → ArePassed node.keys (after_requests node messages).pending
+all_come node [] waiting = waiting
+all_come node (signed ∷ rest) waiting =
+    let first = waits_once node signed signed.message in
+    let next = record node { pending = first.0 } in
+    subst (λ (n : Node). ArePassed node.keys (after_requests n rest).pending) (sym first.1)
+    (all_come next rest (subst (λ (n : Node). ArePassed node.keys n.pending) first.1 (one_comes node signed signed.message waiting)))
+
+pending_pass : (keys : Keys) (requests : List (Signed model.Request)) → ArePassed keys requests → list_all (request_is_signed keys) requests ≡ true
+pending_pass keys [] all = refl
+pending_pass keys (s ∷ rest) all = and_from (request_is_signed keys s) _ (all s (inl refl)) (pending_pass keys rest (λ x i. all x (inr i)))
 
 -- A view begins -----------------------------------------------------------------------------------------------------------------
 
@@ -118,11 +149,15 @@ fits_whole other fits = tt
 
 module _ (faulty : ℕ → Bool) (after : NodeReplicas) (who : ℕ) where
   -- what a step does, where what it sends is sent
-  abbrev Does : (v : ordered.OrderReplicas) (node : Node) → Stands faulty after who v node → (S : Type 0) → List ViewDeed → Outcome → Type 0
-  Does v node know S deeds out = Goes faulty after who out → Done faulty after who v node know S deeds out
+  abbrev Does : (v : ordered.OrderReplicas) (node : Node) → Stands faulty after who v node → (S : Type 0) → (Replies : model.Reply → Type 0) → List ViewDeed → Outcome → Type 0
+  Does v node know S Replies deeds out = Goes faulty after who out → Done faulty after who v node know S Replies deeds out
 
-  checkpoint_heard : (h : World) (m : Signed OrderMessage) → (header m).tag ≡ 5 → IsWhole m.message → IsHeard faulty h after m
-  checkpoint_heard h m five whole = record { sent = λ small. absurd (omega (arith, five, small)); said = λ small. absurd (omega (arith, five, small)); whole = whole }
+  -- without a REPLY
+  abbrev DoesQuietly : (v : ordered.OrderReplicas) (node : Node) → Stands faulty after who v node → (S : Type 0) → List ViewDeed → Outcome → Type 0
+  DoesQuietly v node know S deeds out = Does v node know S NoReply deeds out
+
+  checkpoint_heard : (keys : Keys) (h : World) (m : Signed OrderMessage) → (header m).tag ≡ 5 → IsWhole m.message → IsChecked keys m → IsHeard faulty keys h after m
+  checkpoint_heard keys h m five whole checked = record { sent = λ small. absurd (omega (arith, five, small)); said = λ small. absurd (omega (arith, five, small)); whole = whole; checked = checked }
 
   offer_said : (first : Signed Message) → IsIn first (after who).sent → (me : ℕ) → me ≡ who → (p : Signed OrderMessage) → IsIn p (offers_in first.message) → IsOwn me p → IsSaid faulty after (Order p.message)
   offer_said first there me is p i own k e correct =
@@ -130,18 +165,18 @@ module _ (faulty : ℕ → Bool) (after : NodeReplicas) (who : ℕ) where
       let same : who ≡ k = cc in
       (first, subst (λ (j : ℕ). IsIn first (after j).sent) same there, inr (p, i, refl))
 
-  begun_done : (v : ordered.OrderReplicas) (node : Node) (know : Stands faulty after who v node) → Does v node know (IsStill node (begun_if_due node).now) (begun_deeds node) (begun_if_due node)
+  begun_done : (v : ordered.OrderReplicas) (node : Node) (know : Stands faulty after who v node) → DoesQuietly v node know (IsStill node (begun_if_due node).now) (begun_deeds node) (begun_if_due node)
   begun_done v node know =
       let asked = node.order.asked in
       let new = own_new_view node in
       let deed : ViewDeed = turns.ChangesView node.keys asked (changes_for asked node.changes) new.proposals in
       let done = views.entered node.keys node.order asked (choice (messages_of new.changes)).min_s new.proposals in
-      (elim (may_begin node) as (λ b. may_begin node ≡ b → Does v node know (IsStill node (cond b (begun node) (still node)).now) (cond b (deed ∷ []) []) (cond b (begun node) (still node))) [
-        | false ↦ λ e goes. nothing_done faulty after who v node know (IsStill node node) node know.kept refl (refl, refl, refl)
+      (elim (may_begin node) as (λ b. may_begin node ≡ b → DoesQuietly v node know (IsStill node (cond b (begun node) (still node)).now) (cond b (deed ∷ []) []) (cond b (begun node) (still node))) [
+        | false ↦ λ e goes. nothing_done faulty after who v node know (IsStill node node) NoReply node know.kept know.waiting refl (refl, refl, refl)
         | true ↦ λ e goes.
             let first = as_message NewView (signed_new_view node.keys new) in
             let there = goes first (inl refl) in
-            let good = IsGood faulty node.order.f (histories v) after in
+            let good = IsGood faulty node.keys node.order.f (histories v) after in
             let opened = begins_open node know.bounded e in
             let led = (and_parts (leads node asked) _ (and_parts (nat_lt node.order.view asked) _ e).1).0 in
             let offers = offered faulty after who v node know asked (changes_for asked node.changes) new.proposals opened led in
@@ -154,9 +189,10 @@ module _ (faulty : ℕ → Bool) (after : NodeReplicas) (who : ℕ) where
                 | inr change ↦ (good_for good asked 0 node.changes.changes know.kept.1 change.0 change.1).1.said p change.2
               ]
             ] in
-            deed_done faulty after who v node know (IsStill node (begun node).now) deed (begun node) done.sent (ap (λ (r : Option OrderError). (outcomes.unless r node.order done).sent) opened)
-            (begun_right faulty (histories v) after node e know.kept) refl (kept_above good node.order.f asked node.changes know.kept)
-            (λ s i. elim i [ inl same ↦ inr (subst (MaySend faulty after who node (after_deeds (v who) (deed ∷ []))) (sym same) (offers, (λ c e. absurd cc), said)) | inr j ↦ inl j ])
+            let tells : Tells NoReply node first.message = tells_nothing NoReply node first.message (λ c e. absurd cc) (λ reply e. absurd cc) in
+            deed_done faulty after who v node know (IsStill node (begun node).now) NoReply deed (begun node) done.sent (ap (λ (r : Option OrderError). (outcomes.unless r node.order done).sent) opened)
+            (begun_right faulty (histories v) after node e know.kept) refl (kept_above good node.order.f asked node.changes know.kept) know.waiting
+            (λ s i. elim i [ inl same ↦ inr (subst (MaySend faulty after who NoReply node (after_deeds (v who) (deed ∷ []))) (sym same) (offers, tells, said)) | inr j ↦ inl j ])
             (λ m i small. inr (in_map (as_message Order) done.sent m i))
             (λ m i.
             let own = own_handed node m i in
@@ -167,62 +203,68 @@ module _ (faulty : ℕ → Bool) (after : NodeReplicas) (who : ℕ) where
               sent = λ small correct. inr (own.0, subst (told (header m).sender) own.0 (subst (λ (k : ℕ). told k (header m).tag) (sym (own.1.sender ∙ know.me)) tells));
               said = λ small. offer m i;
               whole = own.1.whole;
+              checked = own_checked faulty (histories v) after node know.kept m i;
             })
-            (refl, refl, over_last node.keys (views.opened node.order asked (choice (messages_of new.changes)).min_s new.proposals) (as_proposals new.proposals)) goes
+            tt (refl, refl, over_last node.keys (views.opened node.order asked (choice (messages_of new.changes)).min_s new.proposals) (as_proposals new.proposals)) goes
       ]) refl
 
-  change_done : (v : ordered.OrderReplicas) (node : Node) (know : Stands faulty after who v node) (s : Signed model.ViewChange) → IsGood faulty node.order.f (histories v) after s
-      → Does v node know (IsStill node (with_view_change node s).now) (change_deeds node s) (with_view_change node s)
+  change_done : (v : ordered.OrderReplicas) (node : Node) (know : Stands faulty after who v node) (s : Signed model.ViewChange) → IsGood faulty node.keys node.order.f (histories v) after s
+      → DoesQuietly v node know (IsStill node (with_view_change node s).now) (change_deeds node s) (with_view_change node s)
   change_done v node know s good =
       let there = record node { changes = with_change node.changes s } in
       let noted = record node { changes = with_asked node.changes s.message } in
-      let stands : Stands faulty after who v there = assumption (kept_with (IsGood faulty node.order.f (histories v) after) node.order.f node.changes s good know.kept) in
-      elim (leads node s.message.view) as (λ b. Does v node know (IsStill node (cond b (begun_if_due there) (still noted)).now) (cond b (begun_deeds there) []) (cond b (begun_if_due there) (still noted))) [
+      let stands : Stands faulty after who v there = assumption (kept_with (IsGood faulty node.keys node.order.f (histories v) after) node.order.f node.changes s good know.kept) in
+      elim (leads node s.message.view) as (λ b. DoesQuietly v node know (IsStill node (cond b (begun_if_due there) (still noted)).now) (cond b (begun_deeds there) []) (cond b (begun_if_due there) (still noted))) [
         | true ↦ λ goes. let done = begun_done v there stands goes in assumption done
-        | false ↦ λ goes. nothing_done faulty after who v node know (IsStill node noted) noted know.kept refl (refl, refl, refl)
+        | false ↦ λ goes. nothing_done faulty after who v node know (IsStill node noted) NoReply noted know.kept know.waiting refl (refl, refl, refl)
       ]
 
-  module _ (w : NodeReplicas) (on : HaveGrown w after) (v : ordered.OrderReplicas) (spoken : (k : ℕ) → AllIn (IsSpoken (v k)) (w k).sent) (node : Node) (know : Stands faulty after who v node) where
+  module _ (one : OneBatch) (w : NodeReplicas) (on : HaveGrown w after) (v : ordered.OrderReplicas) (spoken : (k : ℕ) → AllIn (IsSpoken (v k)) (w k).sent) (node : Node) (know : Stands faulty after who v node) where
     abbrev DoneBy : List ViewDeed → Outcome → Type 0
-    DoneBy deeds out = Does v node know (IsStill node out.now) deeds out
+    DoneBy deeds out = DoesQuietly v node know (IsStill node out.now) deeds out
 
-    -- a step that may change its state
-    abbrev MovedBy : List ViewDeed → Outcome → Type 0
-    MovedBy deeds out = Does v node know (Unit {0}) deeds out
-
-    rests : (now : Node) → WereKept faulty after who v node know now.changes → now.keys ≡ node.keys → IsStill node now → DoneBy [] (still now)
-    rests now kept keys stands goes = nothing_done faulty after who v node know (IsStill node now) now kept keys stands
+    rests : (now : Node) → WereKept faulty after who v node know now.changes → ArePassed node.keys now.pending → now.keys ≡ node.keys → IsStill node now → DoneBy [] (still now)
+    rests now kept waiting keys stands goes = nothing_done faulty after who v node know (IsStill node now) NoReply now kept waiting keys stands
 
     nothing_is : DoneBy [] (still node)
-    nothing_is = rests node know.kept refl (refl, refl, refl)
+    nothing_is = rests node know.kept know.waiting refl (refl, refl, refl)
 
-    heard_then : (deeds : List ViewDeed) (m : Signed OrderMessage) → IsHeard faulty (histories v) w m → IsHeard faulty (histories (After faulty after who v node know deeds)) after m
-    heard_then deeds = heard_on faulty (histories v) (histories (After faulty after who v node know deeds)) w after (grown (map (turn_of who) deeds) v) on
+    heard_then : (deeds : List ViewDeed) (m : Signed OrderMessage) → IsHeard faulty node.keys (histories v) w m → IsHeard faulty node.keys (histories (After faulty after who v node know deeds)) after m
+    heard_then deeds = heard_on faulty node.keys (histories v) (histories (After faulty after who v node know deeds)) w after (grown (map (turn_of who) deeds) v) on
 
     -- a call of its order that may be refused
     call_done : (call : order.Call) (r : Option OrderError) (done : outcomes.Outcome) (out : Outcome) → votes_by node.order call ≡ (outcomes.unless r node.order done).sent
-        → MayDoOrderDeed faulty (histories v) node.order (ordered.Orders call) → out.now.keys ≡ node.keys → WereKept faulty after who v node know out.now.changes → IsStill node out.now
+        → MayDoOrderDeed faulty (histories v) node.order (ordered.Orders call) → out.now.keys ≡ node.keys → WereKept faulty after who v node know out.now.changes → out.now.pending ≡ node.pending → IsStill node out.now
         → ((s : Signed Message) → IsIn s out.sent → IsAmong s done.sent) → ((m : Signed OrderMessage) → IsIn m done.sent → (header m).tag < 4 → IsIn (as_message Order m) out.sent)
-        → Brings (IsHeard faulty (histories (After faulty after who v node know (turns.Orders call ∷ []))) after) node.order call → DoneBy (turns.Orders call ∷ []) (unless (option_map of_order r) node out)
-    call_done call r done out is may keys kept stands sent gives brings = go r is
+        → Brings (IsHeard faulty node.keys (histories (After faulty after who v node know (turns.Orders call ∷ []))) after) node.order call → Offers (IsChecked node.keys) node.order call
+        → DoneBy (turns.Orders call ∷ []) (unless (option_map of_order r) node out)
+    call_done call r done out is may keys kept waiting stands sent gives brings offers = go r is
       where
         go : (r : Option OrderError) → votes_by node.order call ≡ (outcomes.unless r node.order done).sent → DoneBy (turns.Orders call ∷ []) (unless (option_map of_order r) node out)
-        go None e = deed_done faulty after who v node know (IsStill node out.now) (turns.Orders call) out done.sent e may keys kept (λ s i. inl (sent s i)) gives brings stands
-        go (Some refused) e = deed_done faulty after who v node know (IsStill node node) (turns.Orders call) (still node) [] e may refl know.kept (λ s i. absurd i) (λ m i small. absurd i) brings (refl, refl, refl)
+        go None e = deed_done faulty after who v node know (IsStill node out.now) NoReply (turns.Orders call) out done.sent e may keys kept (subst (ArePassed node.keys) (sym waiting) know.waiting)
+            (λ s i. inl (sent s i)) gives brings offers stands
+        go (Some refused) e = deed_done faulty after who v node know (IsStill node node) NoReply (turns.Orders call) (still node) [] e may refl know.kept know.waiting
+            (λ s i. absurd i) (λ m i small. absurd i) brings offers (refl, refl, refl)
 
     message_done : (m : Message) (auth : List (List ℕ)) → IsWholly (IsAuthentic faulty w node.keys) (record { message = m; auth = auth }) → FitsMessage m
         → DoneBy (message_deeds node (record { message = m; auth = auth }) m)
         (unless (message_refusal node (record { message = m; auth = auth }) m) node (message_delivered node (record { message = m; auth = auth }) m))
     message_done (Request request) auth authentic fits =
-        let taken = with_request node (record { message = request; auth = auth }) in
-        elim (request_refusal node (record { message = request; auth = auth })) as (λ r. DoneBy [] (unless r node taken)) [ None ↦ rests taken.now know.kept refl (refl, refl, refl) | Some refused ↦ nothing_is ]
+        let s : Signed model.Request = record { message = request; auth = auth } in
+        let taken = with_request node s in
+        (elim (request_refusal node s) as (λ r. request_refusal node s ≡ r → DoneBy [] (unless r node taken)) [
+          | None ↦ λ none. rests taken.now know.kept (request_passes node s none know.waiting) refl (refl, refl, refl)
+          | Some refused ↦ λ _. nothing_is
+        ]) refl
     message_done (Order message) auth authentic fits =
         let m : Signed OrderMessage = record { message = message; auth = auth } in
         let call = order.Takes node.keys m in
         let done = accepted node.keys node.order m in
-        let heard = λ (none : refusal node.keys node.order m ≡ None). vote_heard faulty w v spoken m (λ k e correct. authentic (as_message Order m) (inl refl) k e (taken_signed node.keys node.order m none) correct) (fits_whole message fits) in
-        call_done call (refusal node.keys node.order m) done (taken node m) refl (λ none small. (heard none).sent small) refl know.kept (refl, refl, refl)
-        (λ s i. i) (λ x i small. in_map (as_message Order) done.sent x i) (λ none. heard_then (turns.Orders call ∷ []) m (heard none))
+        let heard = λ (none : refusal node.keys node.order m ≡ None).
+        let signed = taken_signed node.keys node.order m none in
+        vote_heard faulty w v spoken node.keys m (λ k e correct. authentic (as_message Order m) (inl refl) k e signed.0 correct) (fits_whole message fits) signed.1 in
+        call_done call (refusal node.keys node.order m) done (taken node m) refl (λ none small. (heard none).sent small) refl know.kept refl (refl, refl, refl)
+        (λ s i. i) (λ x i small. in_map (as_message Order) done.sent x i) (λ none. heard_then (turns.Orders call ∷ []) m (heard none)) tt
     message_done (ViewChange change) auth authentic fits =
         let s : Signed model.ViewChange = record { message = change; auth = auth } in
         (elim (change_refusal node s) as (λ r. change_refusal node s ≡ r → DoneBy (where_taken r (change_deeds node s)) (unless r node (with_view_change node s))) [
@@ -233,6 +275,7 @@ module _ (faulty : ℕ → Bool) (after : NodeReplicas) (who : ℕ) where
                 proved = valid_proves node.keys node.order.f change.view s know.fit refl valid;
                 genuine = genuine_of faulty w v spoken s said fits;
                 said = λ p of. said_later faulty w after on p.message (said p of);
+                checked = (is_valid node.keys s valid).carried;
               })
           | Some refused ↦ λ _. nothing_is
         ]) refl
@@ -244,11 +287,11 @@ module _ (faulty : ℕ → Bool) (after : NodeReplicas) (who : ℕ) where
         (elim (view_refusal node s) as (λ r. view_refusal node s ≡ r → DoneBy (where_taken r (deed ∷ [])) (unless r node (with_new_view node s))) [
           | None ↦ λ e.
               let opened = not_refused _ (not_second (option_map of_view (new_view_refusal node.keys s)) (option_map of_order (views.entering_refusal node.order new.view)) e) in
-              deed_done faulty after who v node know (IsStill node (with_new_view node s).now) deed (with_new_view node s) done.sent (ap (λ (r : Option OrderError). (outcomes.unless r node.order done).sent) opened)
-              (taken_right node s know.fit fits e faulty w v spoken authentic) refl (kept_above (IsGood faulty node.order.f (histories v) after) node.order.f new.view node.changes know.kept)
+              deed_done faulty after who v node know (IsStill node (with_new_view node s).now) NoReply deed (with_new_view node s) done.sent (ap (λ (r : Option OrderError). (outcomes.unless r node.order done).sent) opened)
+              (taken_right node s know.fit fits e faulty w v spoken authentic) refl (kept_above (IsGood faulty node.keys node.order.f (histories v) after) node.order.f new.view node.changes know.kept) know.waiting
               (λ x i. inl i) (λ m i small. in_map (as_message Order) done.sent m i)
-              (λ m i. heard_then (deed ∷ []) m (taken_heard node s know.fit fits e faulty w v spoken authentic m i))
-              (refl, refl, over_last node.keys (views.opened node.order new.view min_s new.proposals) (as_proposals new.proposals))
+              (λ m i. heard_then (deed ∷ []) m (taken_heard node s know.fit fits e faulty w v spoken authentic one m i))
+              tt (refl, refl, over_last node.keys (views.opened node.order new.view min_s new.proposals) (as_proposals new.proposals))
           | Some refused ↦ λ _. nothing_is
         ]) refl
     message_done (Reply reply) auth authentic fits = nothing_is
@@ -259,33 +302,35 @@ module _ (faulty : ℕ → Bool) (after : NodeReplicas) (who : ℕ) where
     proposes_done time =
         let batch = pending_batch node time in
         let own = proposing.proposal node.keys node.order batch in
-        call_done (order.Proposes node.keys batch) (proposing.proposal_refusal node.order) (proposing.proposed node.keys node.order batch) (proposed node time) refl tt refl know.kept (refl, refl, refl)
+        call_done (order.Proposes node.keys batch) (proposing.proposal_refusal node.order) (proposing.proposed node.keys node.order batch) (proposed node time) refl tt refl know.kept refl (refl, refl, refl)
         (λ s i. elim i [ inl e ↦ inl e | inr j ↦ absurd j ])
         (λ m i small. elim i [
           | inl same ↦ inl (ap (as_message Order) same)
           | inr j ↦ absurd (lone_late node.keys (with_message node.order own) node.order.view (proposing.next_number node.order) (proposing.batch_digest batch) m j small)
         ])
-        tt
+        tt (pending_pass node.keys node.pending know.waiting)
 
-    reply_sent : (o : ordered.OrderReplica) (answers : List Answer) (s : Signed Message) → IsIn s (replies_to node.keys node.order answers) → IsIn s (after who).sent → MaySend faulty after who node o s
-    reply_sent o answers s i there =
-        let from = out_of_filter_map (λ (answer : Answer). told node.keys (reply_to node.order answer)) answers s i in
+    reply_sent : (files : FileSystem) (next : Committed) → node.files ≡ Some files → next_committed node.order ≡ Some next → (o : ordered.OrderReplica) (s : Signed Message)
+        → IsIn s (executed_on node files next).sent → IsIn s (after who).sent → MaySend faulty after who (IsAnswer node) node o s
+    reply_sent files next live committed o s i there =
+        let from = out_of_filter_map (λ (answer : Answer). told node.keys (reply_to node.order answer)) (results.outcome files node.table next.batch).answers s i in
         let is = reply_is (reply_to node.order from.0) _ s from.2 in
-        other_sent faulty after who node know.me o s there (ap sender_of is, inl (reply_to node.order from.0, is))
+        other_sent faulty after who (IsAnswer node) node know.me o s there (ap sender_of is, inl (reply_to node.order from.0, is, (files, live, next, committed, from.0, from.1, refl)))
 
-    executes_done : MovedBy (deeds_of node Executes) (outcome node Executes)
-    executes_done = go node.files (next_committed node.order)
+    executes_done : Does v node know (Unit {0}) (IsAnswer node) (deeds_of node Executes) (outcome node Executes)
+    executes_done = go node.files (next_committed node.order) refl refl
       where
         found : Option FileSystem → Option Committed → Option (Option Outcome)
         found files next = option_map (λ (f : FileSystem). option_map (executed_on node f) next) files
 
-        go : (files : Option FileSystem) (next : Option Committed)
-            → MovedBy (cond (is_next (found files next)) (turns.Orders order.Executes ∷ []) []) (after_execution node (found files next))
-        go None next goes = nothing_done faulty after who v node know (Unit {0}) node know.kept refl tt
-        go (Some files) None goes = nothing_done faulty after who v node know (Unit {0}) node know.kept refl tt
-        go (Some files) (Some next) goes =
-            deed_done faulty after who v node know (Unit {0}) (turns.Orders order.Executes) (executed_on node files next) [] refl tt refl know.kept
-            (λ s i. inr (reply_sent (after_deeds (v who) (turns.Orders order.Executes ∷ [])) _ s i (goes s i))) (λ m i small. absurd i) tt tt goes
+        go : (files : Option FileSystem) (next : Option Committed) → node.files ≡ files → next_committed node.order ≡ next
+            → Does v node know (Unit {0}) (IsAnswer node) (cond (is_next (found files next)) (turns.Orders order.Executes ∷ []) []) (after_execution node (found files next))
+        go None next live committed goes = nothing_done faulty after who v node know (Unit {0}) (IsAnswer node) node know.kept know.waiting refl tt
+        go (Some files) None live committed goes = nothing_done faulty after who v node know (Unit {0}) (IsAnswer node) node know.kept know.waiting refl tt
+        go (Some files) (Some next) live committed goes =
+            deed_done faulty after who v node know (Unit {0}) (IsAnswer node) (turns.Orders order.Executes) (executed_on node files next) [] refl tt refl know.kept
+            (filter_in (λ (s : Signed model.Request). request_is_signed node.keys s ≡ true) (λ s. not (is_among next.batch s)) node.pending know.waiting)
+            (λ s i. inr (reply_sent files next live committed (after_deeds (v who) (turns.Orders order.Executes ∷ [])) s i (goes s i))) (λ m i small. absurd i) tt tt tt goes
 
     tells_done : DoneBy (deeds_of node Checkpoints) (outcome node Checkpoints)
     tells_done = go (checkpoint_refusal node) node.files refl
@@ -295,23 +340,23 @@ module _ (faulty : ℕ → Bool) (after : NodeReplicas) (who : ℕ) where
         go None None is goes = nothing_is goes
         go None (Some files) is goes =
             let deed = turns.Orders (order.Checkpoints node.keys node.order.last (snapshot_of files node.table).digest) in
-            deed_done faulty after who v node know (IsStill node (checkpointed node files).now) deed (checkpointed node files) [] refl tt refl know.kept
+            deed_done faulty after who v node know (IsStill node (checkpointed node files).now) NoReply deed (checkpointed node files) [] refl tt refl know.kept know.waiting
             (λ s i. elim i [
               | inl e ↦
                   let is_own = ap (λ (x : Signed Message). x.message) e in
-                  inr (other_sent faulty after who node know.me (after_deeds (v who) (deed ∷ [])) s (goes s (inl e)) (ap sender_of is_own, inr (_, is_own, (files, is, refl, refl))))
+                  inr (other_sent faulty after who NoReply node know.me (after_deeds (v who) (deed ∷ [])) s (goes s (inl e)) (ap sender_of is_own, inr (_, is_own, (files, is, refl, refl))))
               | inr j ↦ absurd j
             ])
-            (λ m i small. absurd i) (checkpoint_heard (histories (After faulty after who v node know (deed ∷ []))) _ refl tt) (refl, refl, refl) goes
+            (λ m i small. absurd i) (checkpoint_heard node.keys (histories (After faulty after who v node know (deed ∷ []))) _ refl tt refl) tt (refl, refl, refl) goes
 
-    adopts_done : (certificate : StableCheckpoint) (files : FileSystem) (table : Table) → MovedBy (deeds_of node (Adopts certificate files table)) (outcome node (Adopts certificate files table))
+    adopts_done : (certificate : StableCheckpoint) (files : FileSystem) (table : Table) → DoesQuietly v node know (Unit {0}) (deeds_of node (Adopts certificate files table)) (outcome node (Adopts certificate files table))
     adopts_done certificate files table =
         let deed = turns.Orders (order.Installs node.keys certificate) in
-        let heard = IsHeard faulty (histories (After faulty after who v node know (deed ∷ []))) after in
-        elim (may_adopt node certificate && bytes_eq (node_digest files table) certificate.digest) as (λ b. MovedBy (cond b (deed ∷ []) []) (cond b (still (adopted node certificate files table)) (still node))) [
-          | true ↦ deed_done faulty after who v node know (Unit {0}) deed (still (adopted node certificate files table)) [] refl tt refl know.kept (λ s i. absurd i) (λ m i small. absurd i)
-              (λ right. map_in heard (as_message Checkpoint) certificate.checkpoints (λ x i. checkpoint_heard (histories (After faulty after who v node know (deed ∷ []))) (as_message Checkpoint x) refl tt)) tt
-          | false ↦ λ goes. nothing_done faulty after who v node know (Unit {0}) node know.kept refl tt
+        let heard = IsHeard faulty node.keys (histories (After faulty after who v node know (deed ∷ []))) after in
+        elim (may_adopt node certificate && bytes_eq (node_digest files table) certificate.digest) as (λ b. DoesQuietly v node know (Unit {0}) (cond b (deed ∷ []) []) (cond b (still (adopted node certificate files table)) (still node))) [
+          | true ↦ deed_done faulty after who v node know (Unit {0}) NoReply deed (still (adopted node certificate files table)) [] refl tt refl know.kept know.waiting (λ s i. absurd i) (λ m i small. absurd i)
+              (λ right. map_in heard (as_message Checkpoint) certificate.checkpoints (λ x i. checkpoint_heard node.keys (histories (After faulty after who v node know (deed ∷ []))) (as_message Checkpoint x) refl tt refl)) tt tt
+          | false ↦ λ goes. nothing_done faulty after who v node know (Unit {0}) NoReply node know.kept know.waiting refl tt
         ]
 
     times_done : DoneBy (deeds_of node TimesOut) (outcome node TimesOut)
@@ -326,9 +371,9 @@ module _ (faulty : ℕ → Bool) (after : NodeReplicas) (who : ℕ) where
         let deeds = change_deeds gone own in
         let more = grown (turn_of who (turns.TimesOut view) ∷ []) v in
         let here = here_is v who q in
-        let heard : AllIn (IsHeard faulty (histories u) after) node.order.log = λ m i. heard_on faulty (histories v) (histories u) after after more (λ k s j. j) m (know.log m i) in
-        let proofs : (c : model.PreparedBatch) → IsIn c own.message.certificates → AllIn (IsHeard faulty (histories u) after) (messages_in c) =
-        λ c i. made_holds node.order c i (IsHeard faulty (histories u) after) heard in
+        let heard : AllIn (IsHeard faulty node.keys (histories u) after) node.order.log = λ m i. heard_on faulty node.keys (histories v) (histories u) after after more (λ k s j. j) m (know.log m i) in
+        let proofs : (c : model.PreparedBatch) → IsIn c own.message.certificates → AllIn (IsHeard faulty node.keys (histories u) after) (messages_in c) =
+        λ c i. made_holds node.order c i (IsHeard faulty node.keys (histories u) after) heard in
         (elim (timeout_refusal node) as (λ r. timeout_refusal node ≡ r → DoneBy (where_taken r (timeout_deeds node)) (unless r node (timed_out node))) [
           | Some refused ↦ λ e. nothing_is
           | None ↦ λ e goes.
@@ -350,11 +395,12 @@ module _ (faulty : ℕ → Bool) (after : NodeReplicas) (who : ℕ) where
                 log = heard;
                 kept = (
                   know.kept.0,
-                  good_on (IsGood faulty node.order.f (histories v) after) (IsGood faulty node.order.f (histories u) after)
-                      (change_on faulty node.order.f (histories v) (histories u) after after more (λ k s j. j)) 0 node.changes.changes know.kept.1,
+                  good_on (IsGood faulty node.keys node.order.f (histories v) after) (IsGood faulty node.keys node.order.f (histories u) after)
+                      (change_on faulty node.keys node.order.f (histories v) (histories u) after after more (λ k s j. j)) 0 node.changes.changes know.kept.1,
                 );
+                waiting = know.waiting;
               } in
-              let good : IsGood faulty node.order.f (histories u) after own = record {
+              let good : IsGood faulty node.keys node.order.f (histories u) after own = record {
                 proved = made_proves node.order view (omega arith) know.later;
                 genuine = record {
                   sent = λ correct. subst (λ (k : ℕ). IsIn change (u k).changes) (sym know.me) (subst (λ (o : ordered.OrderReplica). IsIn change o.changes) (sym here) told_now);
@@ -362,26 +408,30 @@ module _ (faulty : ℕ → Bool) (after : NodeReplicas) (who : ℕ) where
                   whole = λ c i. (proofs c i (as_message PrePrepare c.proposal) (inl refl)).whole;
                 };
                 said = said;
+                checked = λ c i. (proofs c i (as_message PrePrepare c.proposal) (inl refl)).checked;
               } in
+              let tells : Tells NoReply node whole.message = tells_nothing NoReply node whole.message (λ c e. absurd cc) (λ reply e. absurd cc) in
               let done = change_done u gone stands own good (λ s i. goes s (inr i)) in
               record {
                 may = (tt, done.may);
                 keys = done.keys;
                 kept = done.kept;
+                waiting = done.waiting;
                 sends = λ s i. elim i [
-                  | inl same ↦ subst (MaySend faulty after who node (after_deeds q deeds)) (sym same) ((extends_deeds deeds q).changes change told_now, (λ c e. absurd cc), said)
-                  | inr j ↦ subst (λ (o : ordered.OrderReplica). MaySend faulty after who node (after_deeds o deeds) s) here (done.sends s j)
+                  | inl same ↦ subst (MaySend faulty after who NoReply node (after_deeds q deeds)) (sym same) ((extends_deeds deeds q).changes change told_now, tells, said)
+                  | inr j ↦ subst (λ (o : ordered.OrderReplica). MaySend faulty after who NoReply node (after_deeds o deeds) s) here (done.sends s j)
                 ];
                 gives = λ m i small. elim (done.gives m (subst (λ (o : ordered.OrderReplica). IsIn m (after_deeds o deeds).sent) (sym here) i) small) [
                   | inl j ↦ inl (subst (λ (o : ordered.OrderReplica). IsIn m o.sent) here j)
                   | inr j ↦ inr (inr j)
                 ];
-                brings = (tt, subst (λ (s : State). BringAll (IsHeard faulty (histories (turns.after_view_turns u (map (turn_of who) deeds))) after) s deeds) (sym left_is) done.brings);
+                brings = (tt, subst (λ (s : State). BringAll (IsHeard faulty node.keys (histories (turns.after_view_turns u (map (turn_of who) deeds))) after) s deeds) (sym left_is) done.brings);
+                offers = (tt, subst (λ (s : State). OfferAll (IsChecked node.keys) s deeds) (sym left_is) done.offers);
                 stands = done.stands;
               }
         ]) refl
 
-    pub step_done : MessageWasWritten → (step : NodeStep) → Comes (IsAuthentic faulty w node.keys) step → Does v node know (StandsBy node step) (deeds_of node step) (outcome node step)
+    pub step_done : MessageWasWritten → (step : NodeStep) → Comes (IsAuthentic faulty w node.keys) step → Does v node know (StandsBy node step) (RepliesBy node step) (deeds_of node step) (outcome node step)
     step_done written (Delivers bytes) comes =
         (elim (message_of bytes) as (λ o. message_of bytes ≡ o → DoneBy (bytes_deeds node o) (unless (bytes_refusal node o) node (bytes_delivered node o))) [
           | None ↦ λ _. nothing_is
@@ -390,10 +440,11 @@ module _ (faulty : ℕ → Bool) (after : NodeReplicas) (who : ℕ) where
     step_done written (Takes signed) comes = message_done signed.message signed.auth comes.1 comes.0
     step_done written (TakesRequests messages) comes =
         let wait = waits node messages in
-        subst (λ (n : Node). DoneBy [] (still n)) (sym wait.1) (rests (record node { pending = wait.0 }) know.kept refl (refl, refl, refl))
+        subst (λ (n : Node). DoneBy [] (still n)) (sym wait.1)
+        (rests (record node { pending = wait.0 }) know.kept (subst (λ (n : Node). ArePassed node.keys n.pending) wait.1 (all_come node messages know.waiting)) refl (refl, refl, refl))
     step_done written (Proposes time) comes = proposes_done time
     step_done written Executes comes = executes_done
-    step_done written Fails comes = λ goes. nothing_done faulty after who v node know (Unit {0}) (record node { files = None }) know.kept refl tt
+    step_done written Fails comes = λ goes. nothing_done faulty after who v node know (Unit {0}) NoReply (record node { files = None }) know.kept know.waiting refl tt
     step_done written Checkpoints comes = tells_done
     step_done written TimesOut comes = times_done
     step_done written (Adopts certificate files table) comes = adopts_done certificate files table

@@ -41,7 +41,7 @@ use Rattle.bfs_nodes_agree.specs.Nodes.Laws.{ComesOfBatches, Executed}
 use Rattle.bfs_nodes_agree.specs.Nodes.Premises.{Comes, HasSaid, IsAmong, IsAuthentic, SaysTheSame, StatesDontCollide, standing_digest}
 use Rattle.bfs_nodes_agree.specs.Nodes.Replicas.{Beginning, Keyring, NodeReplica, NodeReplicas, Standing, NodeTurn, after_node_step, after_node_turn, beginning_node, new_node_replicas, standing_of, standing_with}
 use Rattle.bfs_nodes_agree.specs.Nodes.Steps.{NodeStep, Executes, Fails, Adopts, after_execution, executed_by, outcome as result, still}
-use Rattle.bfs_nodes_agree.proofs.Nodes.Doing.{IsStill, StandsBy, Tells}
+use Rattle.bfs_nodes_agree.proofs.Nodes.Doing.{IsOwnCheckpoint, IsStill, StandsBy}
 use Rattle.bfs_nodes_agree.proofs.Nodes.Executing.{next_found, next_follows}
 use Rattle.bfs_nodes_agree.proofs.Nodes.Hearing.{offer_tag, same_header}
 
@@ -52,7 +52,7 @@ abbrev pub standing_at : Node → FileSystem → Standing
 standing_at node files = record { number = node.order.last; files = files; table = node.table }
 
 -- a live node stands somewhere
-here_now : (node : Node) (files : FileSystem) (rest : List Standing) → node.files ≡ Some files → IsIn (standing_at node files) (standing_of node ++ rest)
+pub here_now : (node : Node) (files : FileSystem) (rest : List Standing) → node.files ≡ Some files → IsIn (standing_at node files) (standing_of node ++ rest)
 here_now node files rest e = subst (λ (o : Option FileSystem). IsIn (standing_at node files) (standing_with node o ++ rest)) (sym e) (inl refl)
 
 there_is : (node : Node) (s : Standing) → IsIn s (standing_of node) → (files : FileSystem) × (node.files ≡ Some files) × (s ≡ standing_at node files)
@@ -73,6 +73,24 @@ executed_in node Executes m = cond_both (is_ready node) (message_in (next_order 
     one None e j = absurd j
     one (Some x) e j = elim j [ inl is ↦ subst (λ (y : Signed OrderMessage). IsIn y node.order.log) (sym is) (next_found node.order x e).0 | inr none ↦ absurd none ]
 executed_in node step m = λ i. absurd i
+
+-- of a live file system and a committed batch
+abbrev found : Node → Option FileSystem → Option Committed → Option (Option Outcome)
+found node live next = option_map (λ (f : FileSystem). option_map (executed_on node f) next) live
+
+-- on a live file system the next committed batch is executed
+pub executes_next : (node : Node) (live : FileSystem) (next : Committed) → node.files ≡ Some live → next_committed node.order ≡ Some next
+    → (m : Signed OrderMessage) × IsIn m (executed_by node Executes) × (batch_in m.message ≡ Some next)
+executes_next node live next e n =
+    let m = proposed (next_order node.order) refl n in
+    (m.0, subst (λ (b : Bool). IsIn m.0 (cond b (message_in (next_order node.order)) [])) (sym ready) m.1, m.2)
+  where
+    ready : is_ready node ≡ true
+    ready = ap (λ (o : Option FileSystem). is_next (found node o (next_committed node.order))) e ∙ ap (λ (o : Option Committed). is_next (found node (Some live) o)) n
+
+    proposed : (o : Option (Signed OrderMessage)) → next_order node.order ≡ o → batch_of o ≡ Some next → (m : Signed OrderMessage) × IsIn m (message_in (next_order node.order)) × (batch_in m.message ≡ Some next)
+    proposed None e b = absurd cc
+    proposed (Some m) e b = (m, subst (λ (o : Option (Signed OrderMessage)). IsIn m (message_in o)) (sym e) (inl refl), b)
 
 -- the batch of a PRE-PREPARE is that of its digest
 pub digest_tells : (m : OrderMessage) (next : Committed) → IsWhole m → batch_in m ≡ Some next → ((message_header m).number ≡ next.number) × ((message_header m).digest ≡ batch_digest next.batch)
@@ -203,25 +221,14 @@ module _ (meet : QuorumsMeet) (stable : CertificatesMakeStable) (start : Beginni
     executes : turn.step ≡ Executes → (files : FileSystem) → (result node Executes).now.files ≡ Some files → IsReached after (standing_at (result node Executes).now files)
     executes is files = go node.files (next_committed node.order) refl refl
       where
-        found : Option FileSystem → Option Committed → Option (Option Outcome)
-        found live next = option_map (λ (f : FileSystem). option_map (executed_on node f) next) live
-
-        ready : (live : FileSystem) (next : Committed) → node.files ≡ Some live → next_committed node.order ≡ Some next → is_ready node ≡ true
-        ready live next e n = ap (λ (o : Option FileSystem). is_next (found o (next_committed node.order))) e ∙ ap (λ (o : Option Committed). is_next (found (Some live) o)) n
-
-        proposed : (next : Committed) (o : Option (Signed OrderMessage)) → next_order node.order ≡ o → batch_of o ≡ Some next → (m : Signed OrderMessage) × IsIn m (message_in (next_order node.order)) × (batch_in m.message ≡ Some next)
-        proposed next None e b = absurd cc
-        proposed next (Some m) e b = (m, subst (λ (o : Option (Signed OrderMessage)). IsIn m (message_in o)) (sym e) (inl refl), b)
-
         executed : (live : FileSystem) (next : Committed) → node.files ≡ Some live → next_committed node.order ≡ Some next → Executed (after turn.who) next.number next.batch
         executed live next e n =
-            let m = proposed next (next_order node.order) refl n in
-            let by = subst (λ (b : Bool). IsIn m.0 (cond b (message_in (next_order node.order)) [])) (sym (ready live next e n)) m.1 in
-            let by_step = subst (λ (step : NodeStep). IsIn m.0 (executed_by node step)) (sym is) by in
+            let m = executes_next node live next e n in
+            let by_step = subst (λ (step : NodeStep). IsIn m.0 (executed_by node step)) (sym is) m.1 in
             subst (λ (r : NodeReplica). Executed r next.number next.batch) (sym (here_after w turn)) (m.0, left_in (executed_by node turn.step) (w turn.who).executed m.0 by_step, m.2)
 
-        go : (o : Option FileSystem) (next : Option Committed) → node.files ≡ o → next_committed node.order ≡ next → (after_execution node (found o next)).now.files ≡ Some files
-            → IsReached after (standing_at (after_execution node (found o next)).now files)
+        go : (o : Option FileSystem) (next : Option Committed) → node.files ≡ o → next_committed node.order ≡ next → (after_execution node (found node o next)).now.files ≡ Some files
+            → IsReached after (standing_at (after_execution node (found node o next)).now files)
         go None next e n live = stays node files (refl, refl, refl) live
         go (Some old) None e n live = stays node files (refl, refl, refl) live
         go (Some old) (Some next) e n live =
@@ -285,7 +292,7 @@ module _ (meet : QuorumsMeet) (stable : CertificatesMakeStable) (start : Beginni
 
   pub states_on : (w : NodeReplicas) (turn : NodeTurn) → StatesKnown start faulty w → (w turn.who).node.order.f ≡ f → AllIn (λ (m : Signed OrderMessage). IsWhole m.message) (w turn.who).node.order.log
       → Comes (IsAuthentic faulty w (w turn.who).node.keys) turn.step → StandsBy (w turn.who).node turn.step
-      → ((s : Signed Message) → IsIn s (result (w turn.who).node turn.step).sent → Tells (w turn.who).node s.message)
+      → ((s : Signed Message) (c : model.Checkpoint) → IsIn s (result (w turn.who).node turn.step).sent → s.message ≡ Order (Checkpoint c) → IsOwnCheckpoint (w turn.who).node c)
       → StatesDontCollide faulty (after_node_turn w turn) → StatesKnown start faulty (after_node_turn w turn)
   states_on w turn known_of same_f whole authentic stands tells apart =
       let who = turn.who in
@@ -309,7 +316,7 @@ module _ (meet : QuorumsMeet) (stable : CertificatesMakeStable) (start : Beginni
         told = both_at w turn (λ i r. (s : Signed Message) (c : model.Checkpoint) → IsIn s r.sent → s.message ≡ Order (Checkpoint c) → WasThere r c)
             (λ s c i e. elim (either_in sent (w who).sent s i) [
               | inl j ↦
-                  let own = tells s j c e in
+                  let own = tells s c j e in
                   let standing = standing_at node own.0 in
                   record { standing = standing; reached = right_in (standing_of now) (w who).reached standing (known_of.here who own.0 own.1); number = sym own.2; digest = sym own.3 }
               | inr j ↦

@@ -124,7 +124,7 @@ change_comes node s bounded =
 abbrev pub WaitsOn : (node now : Node) → Type 0
 WaitsOn node now = (pending : List (Signed model.Request)) × (now ≡ record node { pending = pending })
 
-waits_once : (node : Node) (signed : Signed Message) (message : Message) → WaitsOn node (after_request node signed message)
+pub waits_once : (node : Node) (signed : Signed Message) (message : Message) → WaitsOn node (after_request node signed message)
 waits_once node signed (Request request) =
     let now = (with_request node (request_in signed request)).now in
     elim (request_refusal node (request_in signed request)) as (λ r. WaitsOn node (if_taken r now node)) [ None ↦ (now.pending, refl) | Some refused ↦ (node.pending, refl) ]

@@ -2,12 +2,13 @@
 use Rattle.std.proofs.Common.{◌≡◌, ℕ, ◌+◌, ◌<◌, ◌==◌, Bool, List, [], ◌∷◌, ◌++◌, None, map, inl, inr, refl, sym, ap, subst, ◌∙◌, arith}
 use Rattle.std.proofs.lemmas.Bool.{cond_both, eqb-true}
 use Rattle.std.proofs.lemmas.List.{length-replicate}
+use Rattle.bfs_auth.specs.Keys.{Keys}
 use Rattle.bfs_auth.specs.declared.principals.Principal.TheVariants as principal
 use Rattle.bfs_votes.specs.Votes.{Told, replicas}
 use Rattle.bfs_log.specs.Certificates.{faults}
 use Rattle.bfs_log.specs.Headers.{header}
 use Rattle.bfs_log.specs.Logs.{Log, headers}
-use Rattle.bfs_codec.specs.Laws.{MessageWasWritten}
+use Rattle.bfs_codec.specs.Laws.{MessageWasWritten, OneBatch}
 use Rattle.bfs_messages.specs.Signing.{as_message}
 use Rattle.bfs_messages.specs.declared.signed.Signed.{Signed}
 use Rattle.bfs_messages.specs.declared.message.Message.{Message}
@@ -21,7 +22,7 @@ use Rattle.bfs_agreement.proofs.Public.{in_told}
 use Rattle.bfs_nodes_agree.specs.Orders.Replicas as ordered
 use Rattle.bfs_nodes_agree.specs.Orders.Replicas.{histories}
 use Rattle.bfs_nodes_agree.proofs.Orders.Lists.{AllIn, both_in, left_in, none_in, right_in}
-use Rattle.bfs_nodes_agree.proofs.Orders.Logs.{IsOwn}
+use Rattle.bfs_nodes_agree.proofs.Orders.Logs.{IsChecked, IsOwn}
 use Rattle.bfs_nodes_agree.specs.Views.Replicas as turns
 use Rattle.bfs_nodes_agree.specs.Views.Replicas.{ViewTurn, ordered_turn}
 use Rattle.bfs_nodes_agree.proofs.Views.Lists.{in_map}
@@ -30,7 +31,7 @@ use Rattle.bfs_nodes_agree.specs.Nodes.Premises.{AreAuthentic, AreShared, Comes,
 use Rattle.bfs_nodes_agree.specs.Nodes.Replicas.{Beginning, Keyring, NodeReplica, NodeReplicas, NodeTurn, after_node_step, after_node_turn, after_node_turns, new_node_replicas, turn_of, ordered_turns}
 use Rattle.bfs_nodes_agree.specs.Nodes.Steps.{NodeStep, deeds_of, executed_by, outcome}
 use Rattle.bfs_nodes_agree.proofs.Nodes.Bounds.{IsBounded, kept}
-use Rattle.bfs_nodes_agree.proofs.Nodes.Doing.{BringAll, Done, Stands, StandsBy, at_who, deeds_keep, elsewhere, extends_deeds, own_said, stays_kept}
+use Rattle.bfs_nodes_agree.proofs.Nodes.Doing.{ArePassed, BringAll, Done, OfferAll, RepliesBy, Stands, StandsBy, at_who, deeds_keep, deeds_offer, elsewhere, extends_deeds, own_said, stays_kept}
 use Rattle.bfs_nodes_agree.proofs.Nodes.Hearing.{AreGrown, HaveGrown, IsGood, IsHeard, IsSpoken, IsWhollySaid, change_on, grown, heard_on, said_later, spoken_on}
 use Rattle.bfs_nodes_agree.proofs.Nodes.Keeping.{AreKept, good_on, none_kept}
 use Rattle.bfs_nodes_agree.proofs.Nodes.Right.{step_done}
@@ -89,12 +90,14 @@ pub record Right (f : ℕ) (faulty : ℕ → Bool) (h : World) (w : NodeReplicas
   pub fit : faults r.node.keys ≡ r.node.order.f
   pub me : r.node.order.me ≡ i
   pub later : HasNoLaterView o.state
-  pub log : AllIn (IsHeard faulty h w) r.node.order.log
-  pub kept : AreKept (IsGood faulty r.node.order.f h w) r.node.order.f r.node.changes
+  pub log : AllIn (IsHeard faulty r.node.keys h w) r.node.order.log
+  pub kept : AreKept (IsGood faulty r.node.keys r.node.order.f h w) r.node.order.f r.node.changes
+  pub waiting : ArePassed r.node.keys r.node.pending
   pub spoken : AllIn (IsSpoken o) r.sent
   pub said : AllIn (IsWhollySaid faulty w) r.sent
   -- what its order has sent, but for COMMITs
   pub votes : (m : Signed OrderMessage) → IsIn m o.sent → (header m).tag < 4 → IsIn (as_message Order m) r.sent
+  pub checked : AllIn (IsChecked r.node.keys) o.sent
 
 abbrev pub AreRight : (f : ℕ) (faulty : ℕ → Bool) → NodeReplicas → ordered.OrderReplicas → Type 0
 AreRight f faulty w v = (i : ℕ) → Right f faulty (histories v) w i (w i) (v i)
@@ -107,9 +110,9 @@ sent_here w turn s i = subst (λ (r : NodeReplica). IsIn s r.sent) (sym (here_af
 
 right_later : (f : ℕ) (faulty : ℕ → Bool) (h g : World) (w after : NodeReplicas) → AreGrown h g → HaveGrown w after → (i : ℕ) (r : NodeReplica) (o : ordered.OrderReplica) → Right f faulty h w i r o → Right f faulty g after i r o
 right_later f faulty h g w after on later i r o right =
-    let log : AllIn (IsHeard faulty g after) r.node.order.log = λ m j. heard_on faulty h g w after on later m (right.log m j) in
+    let log : AllIn (IsHeard faulty r.node.keys g after) r.node.order.log = λ m j. heard_on faulty r.node.keys h g w after on later m (right.log m j) in
     let said : AllIn (IsWhollySaid faulty after) r.sent = λ s j p of. said_later faulty w after later p.message (right.said s j p of) in
-    let good = good_on (IsGood faulty r.node.order.f h w) (IsGood faulty r.node.order.f g after) (change_on faulty r.node.order.f h g w after on later) 0 r.node.changes.changes right.kept.1 in
+    let good = good_on (IsGood faulty r.node.keys r.node.order.f h w) (IsGood faulty r.node.keys r.node.order.f g after) (change_on faulty r.node.keys r.node.order.f h g w after on later) 0 r.node.changes.changes right.kept.1 in
     assumption (log, said, good)
 
 pub stands_of : (f : ℕ) (faulty : ℕ → Bool) (w : NodeReplicas) (v : ordered.OrderReplicas) → AreRight f faulty w v → (turn : NodeTurn) → Stands faulty (after_node_turn w turn) turn.who v (w turn.who).node
@@ -118,11 +121,12 @@ stands_of f faulty w v all turn =
     let right = right_later f faulty h h w (after_node_turn w turn) (grown [] v) (sent_on w turn) turn.who (w turn.who) (v turn.who) (all turn.who) in
     assumption (right.tracks.state, subst IsBounded right.tracks.state right.bounded, subst HasNoLaterView right.tracks.state right.later)
 
-module _ (same : CallsKeepTheReplica) (views : IsKept HasNoLaterView) (written : MessageWasWritten) (f : ℕ) (faulty : ℕ → Bool) where
+module _ (same : CallsKeepTheReplica) (views : IsKept HasNoLaterView) (written : MessageWasWritten) (one : OneBatch) (f : ℕ) (faulty : ℕ → Bool) where
   pub step_right : (w : NodeReplicas) (v : ordered.OrderReplicas) (all : AreRight f faulty w v) (turn : NodeTurn) → Comes (IsAuthentic faulty w (w turn.who).node.keys) turn.step
-      → Done faulty (after_node_turn w turn) turn.who v (w turn.who).node (stands_of f faulty w v all turn) (StandsBy (w turn.who).node turn.step) (deeds_of (w turn.who).node turn.step) (outcome (w turn.who).node turn.step)
+      → Done faulty (after_node_turn w turn) turn.who v (w turn.who).node (stands_of f faulty w v all turn) (StandsBy (w turn.who).node turn.step) (RepliesBy (w turn.who).node turn.step)
+      (deeds_of (w turn.who).node turn.step) (outcome (w turn.who).node turn.step)
   step_right w v all turn comes =
-      step_done faulty (after_node_turn w turn) turn.who w (sent_on w turn) v (λ k. (all k).spoken) (w turn.who).node (stands_of f faulty w v all turn) written turn.step comes (sent_here w turn)
+      step_done faulty (after_node_turn w turn) turn.who one w (sent_on w turn) v (λ k. (all k).spoken) (w turn.who).node (stands_of f faulty w v all turn) written turn.step comes (sent_here w turn)
 
   right_here : (w : NodeReplicas) (v : ordered.OrderReplicas) → AreRight f faulty w v → (turn : NodeTurn) → Comes (IsAuthentic faulty w (w turn.who).node.keys) turn.step
       → Right f faulty (histories (turns.after_view_turns v (map (turn_of turn.who) (deeds_of (w turn.who).node turn.step)))) (after_node_turn w turn) turn.who (after_node_step (w turn.who) turn.step)
@@ -144,18 +148,22 @@ module _ (same : CallsKeepTheReplica) (views : IsKept HasNoLaterView) (written :
       let is = goes.tracks.state in
       let f_is : out.now.order.f ≡ node.order.f = ap (λ (s : State). s.f) (sym is) ∙ itself.0 ∙ ap (λ (s : State). s.f) at in
       let me_is : out.now.order.me ≡ node.order.me = ap (λ (s : State). s.me) (sym is) ∙ itself.1 ∙ ap (λ (s : State). s.me) at in
-      let heard : AllIn (IsHeard faulty h after) (v who).state.log =
-      λ m i. heard_on faulty (histories v) h w after (grown (map (turn_of who) deeds) v) (sent_on w turn) m (right.log m (subst (λ (s : State). IsIn m s.log) at i)) in
+      let sent = deeds_offer node.keys deeds (v who) right.checked (subst (λ (s : State). OfferAll (IsChecked node.keys) s deeds) (sym at) done.offers) in
+      let heard : AllIn (IsHeard faulty node.keys h after) (v who).state.log =
+      λ m i. heard_on faulty node.keys (histories v) h w after (grown (map (turn_of who) deeds) v) (sent_on w turn) m (right.log m (subst (λ (s : State). IsIn m s.log) at i)) in
       let given : (m : Signed OrderMessage) → IsIn m o.sent → (header m).tag < 4 → IsIn (as_message Order m) (after who).sent = λ m i small. elim (done.gives m i small) [
         | inl j ↦ sent_on w turn who (as_message Order m) (right.votes m j small)
         | inr j ↦ sent_here w turn (as_message Order m) j
       ] in
-      let own : (m : Signed OrderMessage) → IsIn m o.sent → IsOwn who m → IsHeard faulty h after m = λ m i is_own. record {
+      let own : (m : Signed OrderMessage) → IsIn m o.sent → IsOwn who m → IsHeard faulty node.keys h after m = λ m i is_own. record {
         sent = λ small correct. inl (subst (λ (k : ℕ). Told (h k).sent (header m).tag (header m).sender (header m).view (header m).number (header m).digest) (sym is_own.sender)
             (in_told (headers (next who).sent) (header m) (in_map header (next who).sent m (subst (λ (x : ordered.OrderReplica). IsIn m x.sent) (sym (at_who deeds v who)) i))));
         said = λ small. own_said faulty after who (as_message Order m) (given m i small) (ap principal.Replica is_own.sender);
         whole = is_own.whole;
+        checked = sent m i;
       } in
+      let log = subst (λ (s : State). AllIn (IsHeard faulty node.keys h after) s.log) is
+      (deeds_keep (IsHeard faulty node.keys h after) same deeds (v who) who (ap (λ (s : State). s.me) at ∙ right.me) heard (subst (λ (s : State). BringAll (IsHeard faulty node.keys h after) s deeds) (sym at) done.brings) own) in
       record {
         tracks = goes.tracks;
         bounded = goes.bounded;
@@ -163,12 +171,14 @@ module _ (same : CallsKeepTheReplica) (views : IsKept HasNoLaterView) (written :
         fit = ap faults done.keys ∙ right.fit ∙ sym f_is;
         me = me_is ∙ right.me;
         later = stays_kept HasNoLaterView views.1 deeds (v who) right.later;
-        log = subst (λ (s : State). AllIn (IsHeard faulty h after) s.log) is
-            (deeds_keep (IsHeard faulty h after) same deeds (v who) who (ap (λ (s : State). s.me) at ∙ right.me) heard (subst (λ (s : State). BringAll (IsHeard faulty h after) s deeds) (sym at) done.brings) own);
-        kept = subst (λ (f : ℕ). AreKept (IsGood faulty f h after) f out.now.changes) (sym f_is) done.kept;
+        log = subst (λ (k : Keys). AllIn (IsHeard faulty k h after) out.now.order.log) (sym done.keys) log;
+        kept = subst (λ (f : ℕ). AreKept (IsGood faulty out.now.keys f h after) f out.now.changes) (sym f_is)
+            (subst (λ (k : Keys). AreKept (IsGood faulty k node.order.f h after) node.order.f out.now.changes) (sym done.keys) done.kept);
+        waiting = subst (λ (k : Keys). ArePassed k out.now.pending) (sym done.keys) done.waiting;
         spoken = both_in (IsSpoken o) out.sent (w who).sent (λ s i. (done.sends s i).0) (λ s i. spoken_on (v who) o (extends_deeds deeds (v who)) s s.message (right.spoken s i));
         said = both_in (IsWhollySaid faulty after) out.sent (w who).sent (λ s i. (done.sends s i).2) (λ s i p of. said_later faulty w after (sent_on w turn) p.message (right.said s i p of));
         votes = λ m i small. subst (λ (r : NodeReplica). IsIn (as_message Order m) r.sent) (here_after w turn) (given m i small);
+        checked = subst (λ (k : Keys). AllIn (IsChecked k) o.sent) (sym done.keys) sent;
       }
 
   pub right_on : (w : NodeReplicas) (v : ordered.OrderReplicas) → AreRight f faulty w v → (turn : NodeTurn) → Comes (IsAuthentic faulty w (w turn.who).node.keys) turn.step
@@ -203,9 +213,11 @@ module _ (same : CallsKeepTheReplica) (views : IsKept HasNoLaterView) (written :
         fit = omega (arith, shared i);
         me = refl;
         later = views.0 f i;
-        log = none_in (IsHeard faulty h w);
-        kept = (length-replicate (replicas f) None, none_kept (IsGood faulty f h w) 0 (replicas f));
+        log = none_in (IsHeard faulty (keys i) h w);
+        kept = (length-replicate (replicas f) None, none_kept (IsGood faulty (keys i) f h w) 0 (replicas f));
+        waiting = λ s j. absurd j;
         spoken = none_in (IsSpoken (ordered.new_order_replicas f i));
         said = none_in (IsWhollySaid faulty w);
         votes = λ m j small. absurd j;
+        checked = none_in (IsChecked (keys i));
       }

@@ -9,7 +9,7 @@ use Rattle.bfs_log.specs.Headers.{header}
 use Rattle.bfs_log.specs.Logs.{Log, headers, stays, kept_after}
 use Rattle.bfs_messages.specs.Messages as model
 use Rattle.bfs_messages.specs.Batches.{batch_text}
-use Rattle.bfs_messages.specs.Signing.{order_signed_by}
+use Rattle.bfs_messages.specs.Signing.{carried_are_signed, order_signed_by}
 use Rattle.bfs_messages.specs.declared.signed.Signed.{Signed}
 use Rattle.bfs_messages.specs.declared.order_messages.OrderMessage.{OrderMessage}
 use Rattle.bfs_messages.specs.declared.order_messages.OrderMessage.TheVariants.{PrePrepare, Prepare, Commit}
@@ -42,42 +42,65 @@ pub record IsOwn (me : ℕ) (m : Signed OrderMessage) : Type 0 where
   pub sender : (header m).sender ≡ me
   pub whole : IsWhole m.message
 
-module _ (keys : Keys) (me : ℕ) where
-  once_own : (s : State) (m : OrderMessage) → IsOwn me (order_signed_by keys m) → AllIn (IsOwn me) (said_once keys s m)
-  once_own s m own = cond_both (is_there s (header (order_signed_by keys m))) [] (order_signed_by keys m ∷ []) (AllIn (IsOwn me)) (λ _. none_in (IsOwn me)) (λ _. one_in (IsOwn me) (order_signed_by keys m) own)
+-- so is each PREPARE and each COMMIT of a replica
+abbrev IsVote : (Signed OrderMessage → Type 0) → (me : ℕ) → Type 0
+IsVote P me = (keys : Keys) (s : State) (v n : ℕ) (d : List ℕ) → s.me ≡ me → P (order_signed_by keys (Prepare (own_vote s v n d))) × P (order_signed_by keys (Commit (own_vote s v n d)))
 
-  prepares_own : (s : State) (v n : ℕ) (d : List ℕ) → s.me ≡ me → AllIn (IsOwn me) (prepares_in keys s v n d)
-  prepares_own s v n d is = cond_both (s.me == primary s.f v) [] (said_once keys s (Prepare (own_vote s v n d))) (AllIn (IsOwn me)) (λ _. none_in (IsOwn me))
-      (λ _. once_own s (Prepare (own_vote s v n d)) (record { kind = omega arith; sender = is; whole = tt }))
+module _ (P : Signed OrderMessage → Type 0) (me : ℕ) (vote : IsVote P me) (keys : Keys) where
+  once : (s : State) (m : OrderMessage) → P (order_signed_by keys m) → AllIn P (said_once keys s m)
+  once s m is = cond_both (is_there s (header (order_signed_by keys m))) [] (order_signed_by keys m ∷ []) (AllIn P) (λ _. none_in P) (λ _. one_in P (order_signed_by keys m) is)
 
-  commits_own : (s : State) (v n : ℕ) (d : List ℕ) → s.me ≡ me → AllIn (IsOwn me) (commits_in keys s v n d)
-  commits_own s v n d is = cond_both (prepared s.f s.me (known s) v n d) (said_once keys s (Commit (own_vote s v n d))) [] (AllIn (IsOwn me))
-      (λ _. once_own s (Commit (own_vote s v n d)) (record { kind = omega arith; sender = is; whole = tt })) (λ _. none_in (IsOwn me))
+  prepares : (s : State) (v n : ℕ) (d : List ℕ) → s.me ≡ me → AllIn P (prepares_in keys s v n d)
+  prepares s v n d is = cond_both (s.me == primary s.f v) [] (said_once keys s (Prepare (own_vote s v n d))) (AllIn P) (λ _. none_in P)
+      (λ _. once s (Prepare (own_vote s v n d)) (vote keys s v n d is).0)
 
-  answers_own : (s : State) (h : Header) → s.me ≡ me → AllIn (IsOwn me) (answers_in keys s h)
-  answers_own s h is =
+  commits : (s : State) (v n : ℕ) (d : List ℕ) → s.me ≡ me → AllIn P (commits_in keys s v n d)
+  commits s v n d is = cond_both (prepared s.f s.me (known s) v n d) (said_once keys s (Commit (own_vote s v n d))) [] (AllIn P)
+      (λ _. once s (Commit (own_vote s v n d)) (vote keys s v n d is).1) (λ _. none_in P)
+
+  answered : (s : State) (h : Header) → s.me ≡ me → AllIn P (answers_in keys s h)
+  answered s h is =
       let ps = prepares_in keys s h.view h.number h.digest in
-      let commits = λ (t : State) (same : t.me ≡ me). commits_own t h.view h.number h.digest same in
-      cond_both (h.tag == 2) (votes_in keys s h.view h.number h.digest) (cond (h.tag == 3) (commits_in keys s h.view h.number h.digest) []) (AllIn (IsOwn me))
-      (λ _. both_in (IsOwn me) ps _ (prepares_own s h.view h.number h.digest is) (commits (with_more s ps) is))
-      (λ _. cond_both (h.tag == 3) (commits_in keys s h.view h.number h.digest) [] (AllIn (IsOwn me)) (λ _. commits s is) (λ _. none_in (IsOwn me)))
+      cond_both (h.tag == 2) (votes_in keys s h.view h.number h.digest) (cond (h.tag == 3) (commits_in keys s h.view h.number h.digest) []) (AllIn P)
+      (λ _. both_in P ps _ (prepares s h.view h.number h.digest is) (commits (with_more s ps) h.view h.number h.digest is))
+      (λ _. cond_both (h.tag == 3) (commits_in keys s h.view h.number h.digest) [] (AllIn P) (λ _. commits s h.view h.number h.digest is) (λ _. none_in P))
 
-  over_own : (s : State) (ms : Log) → s.me ≡ me → AllIn (IsOwn me) (all_taken_over keys s ms).sent
-  over_own s [] is = none_in (IsOwn me)
-  over_own s (m ∷ ms) is = either_way (λ o. AllIn (IsOwn me) (o.sent ++ (all_taken_over keys o.now ms).sent)) (place_refusal s (header m)) s (accepted keys s m)
-      (λ _. both_in (IsOwn me) (accepted keys s m).sent _ (answers_own (with_message s m) (header m) is) (over_own (accepted keys s m).now ms is)) (over_own s ms is)
+  over : (s : State) (ms : Log) → s.me ≡ me → AllIn P (all_taken_over keys s ms).sent
+  over s [] is = none_in P
+  over s (m ∷ ms) is = either_way (λ o. AllIn P (o.sent ++ (all_taken_over keys o.now ms).sent)) (place_refusal s (header m)) s (accepted keys s m)
+      (λ _. both_in P (accepted keys s m).sent _ (answered (with_message s m) (header m) is) (over (accepted keys s m).now ms is)) (over s ms is)
 
-  proposal_own : (s : State) (batch : model.Batch) → s.me ≡ me → AllIn (IsOwn me) (proposed keys s batch).sent
-  proposal_own s batch is = more_in (IsOwn me) (proposal keys s batch) (proposal_commits keys s batch) (record { kind = omega arith; sender = is; whole = refl })
-      (cond_both (s.f == 0) (commits_in keys (with_message s (proposal keys s batch)) s.view (next_number s) (batch_digest batch)) [] (AllIn (IsOwn me))
-      (λ _. commits_own (with_message s (proposal keys s batch)) s.view (next_number s) (batch_digest batch) is) (λ _. none_in (IsOwn me)))
+  offered : (s : State) (batch : model.Batch) → s.me ≡ me → P (proposal keys s batch) → AllIn P (proposed keys s batch).sent
+  offered s batch is own = more_in P (proposal keys s batch) (proposal_commits keys s batch) own
+      (cond_both (s.f == 0) (commits_in keys (with_message s (proposal keys s batch)) s.view (next_number s) (batch_digest batch)) [] (AllIn P)
+      (λ _. commits (with_message s (proposal keys s batch)) s.view (next_number s) (batch_digest batch) is) (λ _. none_in P))
+
+-- of the PRE-PREPARE of a batch that is proposed
+abbrev pub Offers : (Signed OrderMessage → Type 0) → State → Call → Type 0
+Offers P s (Proposes keys batch) = P (proposal keys s batch)
+Offers P s call = Unit {0}
+
+votes_all : (P : Signed OrderMessage → Type 0) (s : State) (call : Call) → IsVote P s.me → Offers P s call → AllIn P (votes_by s call)
+votes_all P s (Takes keys m) vote offers = either_way (λ o. AllIn P o.sent) (refusal keys s m) s (accepted keys s m) (λ _. answered P s.me vote keys (with_message s m) (header m) refl) (none_in P)
+votes_all P s (Proposes keys batch) vote offers = either_way (λ o. AllIn P o.sent) (proposal_refusal s) s (proposed keys s batch) (λ _. offered P s.me vote keys s batch refl offers) (none_in P)
+votes_all P s (Enters keys view min_s handed) vote offers = either_way (λ o. AllIn P o.sent) (entering_refusal s view) s (entered keys s view min_s handed)
+    (λ _. over P s.me vote keys (opened s view min_s handed) (as_proposals handed) refl) (none_in P)
+votes_all P s call vote offers = none_in P
+
+offers_own : (s : State) (call : Call) → Offers (IsOwn s.me) s call
+offers_own s (Proposes keys batch) = record { kind = omega arith; sender = refl; whole = refl }
+offers_own s call = tt
 
 pub votes_own : (s : State) (call : Call) → AllIn (IsOwn s.me) (votes_by s call)
-votes_own s (Takes keys m) = either_way (λ o. AllIn (IsOwn s.me) o.sent) (refusal keys s m) s (accepted keys s m) (λ _. answers_own keys s.me (with_message s m) (header m) refl) (none_in (IsOwn s.me))
-votes_own s (Proposes keys batch) = either_way (λ o. AllIn (IsOwn s.me) o.sent) (proposal_refusal s) s (proposed keys s batch) (λ _. proposal_own keys s.me s batch refl) (none_in (IsOwn s.me))
-votes_own s (Enters keys view min_s handed) = either_way (λ o. AllIn (IsOwn s.me) o.sent) (entering_refusal s view) s (entered keys s view min_s handed)
-    (λ _. over_own keys s.me (opened s view min_s handed) (as_proposals handed) refl) (none_in (IsOwn s.me))
-votes_own s call = none_in (IsOwn s.me)
+votes_own s call = votes_all (IsOwn s.me) s call
+    (λ keys t v n d is. (record { kind = omega arith; sender = is; whole = tt }, record { kind = omega arith; sender = is; whole = tt })) (offers_own s call)
+
+-- the requests that it carries pass by these keys
+abbrev pub IsChecked : Keys → Signed OrderMessage → Type 0
+IsChecked keys m = carried_are_signed keys m.message ≡ true
+
+pub votes_checked : (keys : Keys) (s : State) (call : Call) → Offers (IsChecked keys) s call → AllIn (IsChecked keys) (votes_by s call)
+votes_checked keys s call = votes_all (IsChecked keys) s call (λ by t v n d is. (refl, refl))
 
 -- The log -------------------------------------------------------------------------------------------------------------------
 

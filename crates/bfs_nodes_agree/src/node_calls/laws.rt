@@ -1,8 +1,9 @@
 // Agreement of nodes. The bodies do nothing: what is said is the contracts.
+ghost use Rattle.bfs_nodes_agree.specs.Nodes.Answers.{NodesAnswer};
 ghost use Rattle.bfs_nodes_agree.specs.Nodes.Laws.{FairIsAuthentic, NodesAgree, StepsAreTurns, TurnsMayBeTaken, WhatIsSentIsFair};
 
 use crate::view_calls::laws::replicas_agree;
-use bfs_codec::message_was_written;
+use bfs_codec::{batches_with_one_text, message_was_written};
 use bfs_order::{a_replica_stays_itself, certificates_make_checkpoints_stable, views_are_entered};
 use bfs_votes::quorums::quorums_meet;
 
@@ -18,6 +19,7 @@ pub fn turns_may_be_taken()
     a_replica_stays_itself();
     views_are_entered();
     message_was_written();
+    batches_with_one_text();
 }
 
 /// Over every list of calls of 3f + 1 nodes and deliveries of bytes to them, of which at most f are faulty: any two correct ones that execute
@@ -34,6 +36,7 @@ pub fn nodes_agree()
     a_replica_stays_itself();
     views_are_entered();
     message_was_written();
+    batches_with_one_text();
 }
 
 /// A run in which nodes are given only what was sent is authentic. Whoever passes a message on, each part of it with a right keyed hash of a correct
@@ -46,4 +49,16 @@ pub fn what_was_sent_is_authentic()
     a_replica_stays_itself();
     views_are_entered();
     message_was_written();
+    batches_with_one_text();
+}
+
+/// Over every list of calls of nodes and deliveries of bytes: each REPLY that a node has sent gives the answer to a request in a batch that it
+/// executed, on a state that it had reached; and each request in such a batch has a right keyed hash of the client that it names.
+pub fn nodes_answer()
+    ensures { NodesAnswer }
+{
+    a_replica_stays_itself();
+    views_are_entered();
+    message_was_written();
+    batches_with_one_text();
 }
