@@ -2,3 +2,4 @@
 pub mod Orders
 pub mod Views
 pub mod Nodes
+pub mod Public
