@@ -1,0 +1,7 @@
+-- What proofs share.
+mod Tables
+mod Serving
+mod Growing
+mod Batches
+mod Counting
+mod Seeing
