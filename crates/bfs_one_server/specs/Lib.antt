@@ -3,3 +3,5 @@ pub mod Serving
 pub mod Worlds
 pub mod Premises
 pub mod Laws
+pub mod Counters
+pub mod Examples
