@@ -1,5 +1,5 @@
 -- What replicas answer, and for whom they execute.
-use Rattle.std.proofs.Common.{◌≡◌, ℕ, suc, ◌+◌, Bool, cond, List, [], ◌∷◌, ◌++◌, Option, Some, None, option_map, map, inl, inr, refl, sym, ap, subst, ◌∙◌, arith}
+use Rattle.std.proofs.Common.{◌≡◌, ℕ, suc, Bool, true, cond, List, [], ◌∷◌, ◌++◌, Option, Some, None, map, inl, inr, refl, sym, ap, subst, ◌∙◌, arith}
 use Rattle.bfs_model.specs.Server.Tree.{FileSystem}
 use Rattle.bfs_auth.specs.Keys.{Keys}
 use Rattle.bfs_codec.specs.Laws.{MessageWasWritten, OneBatch}
@@ -33,7 +33,7 @@ use Rattle.bfs_nodes_agree.specs.Nodes.Replicas.{Keyring, NodeReplica, NodeRepli
 use Rattle.bfs_nodes_agree.specs.Nodes.Steps.{NodeStep, Executes, after_execution, deeds_of, executed_by, outcome}
 use Rattle.bfs_nodes_agree.proofs.Nodes.Doing.{RepliesBy}
 use Rattle.bfs_nodes_agree.proofs.Nodes.Executing.{next_follows}
-use Rattle.bfs_nodes_agree.proofs.Nodes.States.{both_at, executed_in, executes_next, here_now, standing_at}
+use Rattle.bfs_nodes_agree.proofs.Nodes.States.{both_at, executed_in, executes_next, execution_on, here_now, standing_at}
 use Rattle.bfs_nodes_agree.proofs.Nodes.Turns.{AreRight, new_right, right_on, step_right}
 
 -- A batch is executed -------------------------------------------------------------------------------------------------------------
@@ -43,14 +43,11 @@ executed_is : (node : Node) (m : Signed OrderMessage) (it : Committed) → IsIn 
     → (files : FileSystem) × (node.files ≡ Some files) × (next_committed node.order ≡ Some it)
 executed_is node m it i b = go node.files (next_committed node.order) refl refl i
   where
-    found : Option FileSystem → Option Committed → Option (Option Outcome)
-    found live next = option_map (λ (f : FileSystem). option_map (executed_on node f) next) live
-
     of_order : (o : Option (Signed OrderMessage)) → IsIn m (message_in o) → batch_of o ≡ Some it
     of_order None j = absurd j
     of_order (Some x) j = elim j [ inl same ↦ ap (λ (y : Signed OrderMessage). batch_in y.message) (sym same) ∙ b | inr none ↦ absurd none ]
 
-    go : (live : Option FileSystem) (next : Option Committed) → node.files ≡ live → next_committed node.order ≡ next → IsIn m (cond (is_next (found live next)) (message_in (next_order node.order)) [])
+    go : (live : Option FileSystem) (next : Option Committed) → node.files ≡ live → next_committed node.order ≡ next → IsIn m (cond (is_next (execution_on node live next)) (message_in (next_order node.order)) [])
         → (files : FileSystem) × (node.files ≡ Some files) × (next_committed node.order ≡ Some it)
     go None next e n j = absurd j
     go (Some live) None e n j = absurd j
@@ -58,8 +55,8 @@ executed_is node m it i b = go node.files (next_committed node.order) refl refl 
 
 executes_as : (node : Node) (files : FileSystem) (next : Committed) → node.files ≡ Some files → next_committed node.order ≡ Some next → outcome node Executes ≡ executed_on node files next
 executes_as node files next e n =
-    ap (λ (o : Option FileSystem). after_execution node (option_map (λ (f : FileSystem). option_map (executed_on node f) (next_committed node.order)) o)) e
-    ∙ ap (λ (o : Option Committed). after_execution node (Some (option_map (executed_on node files) o))) n
+    ap (λ (o : Option FileSystem). after_execution node (execution_on node o (next_committed node.order))) e
+    ∙ ap (λ (o : Option Committed). after_execution node (execution_on node (Some files) o)) n
 
 follows : (node : Node) (next : Committed) → next_committed node.order ≡ Some next → next.number ≡ suc node.order.last
 follows node next n = let is = next_follows node.order next n in omega (arith, is)

@@ -70,7 +70,7 @@ Tells Replies node m = ((c : model.Checkpoint) → m ≡ Order (Checkpoint c) �
 
 -- neither a CHECKPOINT nor a REPLY
 pub tells_nothing : (Replies : model.Reply → Type 0) (node : Node) (m : Message) → ((c : model.Checkpoint) → m ≡ Order (Checkpoint c) → ⊥) → ((reply : model.Reply) → m ≡ Reply reply → ⊥) → Tells Replies node m
-tells_nothing Replies node m no none = (λ c e. absurd (no c e), λ reply e. absurd (none reply e))
+tells_nothing Replies node m none other = (λ c e. absurd (none c e), λ reply e. absurd (other reply e))
 
 -- a REPLY or its CHECKPOINT, in its own name
 abbrev pub IsOther : (Replies : model.Reply → Type 0) → Node → Message → Type 0

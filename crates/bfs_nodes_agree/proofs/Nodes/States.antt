@@ -31,7 +31,7 @@ use Rattle.bfs_replies.specs.Tables.{Table}
 use Rattle.bfs_agreement.specs.Histories.{IsIn, FewAreFaulty}
 use Rattle.bfs_agreement.proofs.Public.{Is}
 use Rattle.bfs_nodes_agree.specs.Orders.Replicas.{message_in}
-use Rattle.bfs_nodes_agree.proofs.Orders.Lists.{AllIn, both_in, either_in, found, left_in, none_in, right_in, some_is}
+use Rattle.bfs_nodes_agree.proofs.Orders.Lists.{AllIn, both_in, either_in, left_in, none_in, right_in, some_is}
 use Rattle.bfs_nodes_agree.proofs.Orders.Logs.{IsWhole}
 use Rattle.bfs_nodes_agree.proofs.Views.Lists.{at_in, in_map, out_of_map, told_in}
 use Rattle.bfs_node.specs.Adopting.{adopted, is_ahead, may_adopt}
@@ -75,8 +75,8 @@ executed_in node Executes m = cond_both (is_ready node) (message_in (next_order 
 executed_in node step m = λ i. absurd i
 
 -- of a live file system and a committed batch
-abbrev found : Node → Option FileSystem → Option Committed → Option (Option Outcome)
-found node live next = option_map (λ (f : FileSystem). option_map (executed_on node f) next) live
+abbrev pub execution_on : Node → Option FileSystem → Option Committed → Option (Option Outcome)
+execution_on node live next = option_map (λ (f : FileSystem). option_map (executed_on node f) next) live
 
 -- on a live file system the next committed batch is executed
 pub executes_next : (node : Node) (live : FileSystem) (next : Committed) → node.files ≡ Some live → next_committed node.order ≡ Some next
@@ -86,7 +86,7 @@ executes_next node live next e n =
     (m.0, subst (λ (b : Bool). IsIn m.0 (cond b (message_in (next_order node.order)) [])) (sym ready) m.1, m.2)
   where
     ready : is_ready node ≡ true
-    ready = ap (λ (o : Option FileSystem). is_next (found node o (next_committed node.order))) e ∙ ap (λ (o : Option Committed). is_next (found node (Some live) o)) n
+    ready = ap (λ (o : Option FileSystem). is_next (execution_on node o (next_committed node.order))) e ∙ ap (λ (o : Option Committed). is_next (execution_on node (Some live) o)) n
 
     proposed : (o : Option (Signed OrderMessage)) → next_order node.order ≡ o → batch_of o ≡ Some next → (m : Signed OrderMessage) × IsIn m (message_in (next_order node.order)) × (batch_in m.message ≡ Some next)
     proposed None e b = absurd cc
@@ -227,8 +227,8 @@ module _ (meet : QuorumsMeet) (stable : CertificatesMakeStable) (start : Beginni
             let by_step = subst (λ (step : NodeStep). IsIn m.0 (executed_by node step)) (sym is) m.1 in
             subst (λ (r : NodeReplica). Executed r next.number next.batch) (sym (here_after w turn)) (m.0, left_in (executed_by node turn.step) (w turn.who).executed m.0 by_step, m.2)
 
-        go : (o : Option FileSystem) (next : Option Committed) → node.files ≡ o → next_committed node.order ≡ next → (after_execution node (found node o next)).now.files ≡ Some files
-            → IsReached after (standing_at (after_execution node (found node o next)).now files)
+        go : (o : Option FileSystem) (next : Option Committed) → node.files ≡ o → next_committed node.order ≡ next → (after_execution node (execution_on node o next)).now.files ≡ Some files
+            → IsReached after (standing_at (after_execution node (execution_on node o next)).now files)
         go None next e n live = stays node files (refl, refl, refl) live
         go (Some old) None e n live = stays node files (refl, refl, refl) live
         go (Some old) (Some next) e n live =

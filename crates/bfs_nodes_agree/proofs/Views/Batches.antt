@@ -1,5 +1,5 @@
 -- What is chosen from VIEW-CHANGEs stands in their certificates, or is the null request.
-use Rattle.std.proofs.Common.{◌≡◌, ℕ, ◌+◌, ◌-◌, ◌==◌, Bool, true, false, cond, List, [], ◌∷◌, Option, Some, None, inl, inr, refl}
+use Rattle.std.proofs.Common.{ℕ, ◌+◌, ◌-◌, ◌==◌, List, [], ◌∷◌, Option, Some, None, inl, inr, refl}
 use Rattle.std.specs.Prelude.{fold}
 use Rattle.std.specs.List.{filter, range_with_len}
 use Rattle.std.specs.Ordering.{is_lt}
@@ -7,7 +7,6 @@ use Rattle.std.proofs.lemmas.Bool.{cond_both}
 use Rattle.bfs_messages.specs.Messages as model
 use Rattle.bfs_messages.specs.Messages.{Batch, PreparedBatch}
 use Rattle.bfs_log.specs.Certificates.{number_in}
-use Rattle.bfs_agreement.specs.Histories.{IsIn}
 use Rattle.bfs_nodes_agree.proofs.Orders.Lists.{AllIn, both_in, filter_in, none_in}
 use Rattle.bfs_nodes_agree.proofs.Views.Lists.{map_in}
 use Rattle.bfs_view_change.specs.Changes.Choice.{Candidate, Chosen, batch_of, best, better, candidate, candidates, candidates_in, choice, chosen_for, last_number, latest_stable, rank}
