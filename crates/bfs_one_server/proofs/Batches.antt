@@ -1,5 +1,5 @@
 -- The batches that correct replicas have executed are one list.
-use Rattle.std.proofs.Common.{◌≡◌, ◌∙◌, ℕ, zero, suc, ◌+◌, ◌<◌, ◌≤◌, Bool, true, false, List, [], ◌∷◌, ◌++◌, ◌⊎◌, length, Option, Some, None, inl, inr, refl, sym, ap, ap₂, subst, arith, append-nil, length-append}
+use Rattle.std.proofs.Common.{◌≡◌, ◌∙◌, ℕ, zero, suc, ◌<◌, ◌≤◌, Bool, true, false, List, [], ◌∷◌, ◌++◌, ◌⊎◌, length, Some, inl, inr, refl, sym, ap, ap₂, subst, arith, append-nil, length-append}
 use Rattle.std.specs.Prelude.{nat_lt}
 use Rattle.std.specs.List.{slice_get}
 use Rattle.std.proofs.lemmas.Bool.{cases_Bool, ltb-false, ltb-true}
@@ -153,26 +153,37 @@ listed start faulty w (suc n) files table c =
 pub all_of : (start : Beginning) (faulty : ℕ → Bool) (w : NodeReplicas) → ((i number : ℕ) (b : Batch) → Executed (w i) number b → HasCome (w i) number) → Agree start faulty w → Highest faulty w
     → (batches : List Batch) × AreAll faulty w batches
 all_of start faulty w comes agree top = elim top.there [
-  | inl none ↦ ([], record { executed = λ n b e. absurd cc; all = λ i number b correct x.
-      let led = comes i number b x in
-      let low = top.others i led.standing correct led.reached in
-      let a = led.there in
-      let c = led.above in
-      absurd (omega (arith, low, a, c, none)) })
+  | inl none ↦ (
+    [],
+    record {
+      executed = λ n b e. absurd cc;
+      all = λ i number b correct x.
+          let led = comes i number b x in
+          let low = top.others i led.standing correct led.reached in
+          let a = led.there in
+          let c = led.above in
+          absurd (omega (arith, low, a, c, none));
+    },
+  )
   | inr t ↦
       let s = t.2 in
-      let list = listed start faulty w s.number s.files s.table (agree.comes t.0 s t.1 t.3) in
-      (list.batches, record { executed = list.executed; all = λ i number b correct x.
-        let led = comes i number b x in
-        let low = top.others i led.standing correct led.reached in
-        let a = led.there in
-        let c = led.above in
-        let m = t.4 in
-        let long = list.long in
-        let got = get_within list.batches led.before (omega (arith, low, a, c, m, long)) in
-        let other = list.executed led.before got.0 got.1 in
-        let same = agree.batches other.0 i (suc led.before) got.0 b other.1 correct other.2 (subst (λ (n : ℕ). Executed (w i) n b) c x) in
-        (led.before, c, got.1 ∙ ap (λ (y : Batch). Some y) same) })
+      let list = listed start faulty w s.number s.files s.table (agree.comes t.0 s t.1 t.3) in (
+        list.batches,
+        record {
+          executed = list.executed;
+          all = λ i number b correct x.
+              let led = comes i number b x in
+              let low = top.others i led.standing correct led.reached in
+              let a = led.there in
+              let c = led.above in
+              let m = t.4 in
+              let long = list.long in
+              let got = get_within list.batches led.before (omega (arith, low, a, c, m, long)) in
+              let other = list.executed led.before got.0 got.1 in
+              let same = agree.batches other.0 i (suc led.before) got.0 b other.1 correct other.2 (subst (λ (n : ℕ). Executed (w i) n b) c x) in
+              (led.before, c, got.1 ∙ ap (λ (y : Batch). Some y) same);
+        },
+      )
 ]
 
 -- what correct replicas have executed stands at its place

@@ -1,6 +1,6 @@
 -- A result that a client accepts was sent by a correct replica.
 use Rattle.std.proofs.Common.{◌≡◌, ◌≢◌, ◌∙◌, ℕ, zero, suc, ◌+◌, ◌<◌, ◌≤◌, Bool, true, false, cond, ◌&&◌, not, List, [], ◌∷◌, ◌++◌, ◌⊎◌, length, Some, None, Option, option_map, inl, inr, refl, sym, ap, subst, arith}
-use Rattle.std.specs.Prelude.{◌==◌, nat_le, bytes_eq, fold}
+use Rattle.std.specs.Prelude.{◌==◌, bytes_eq, fold}
 use Rattle.std.specs.List.{count_by, find, slice_get}
 use Rattle.std.proofs.lemmas.Bool.{and_parts, cases_Bool, cases_eq, cases_lt, cond_both, eq-eqb, eqb-true, leb-true}
 use Rattle.std.proofs.lemmas.List.Sums.{sum_by-cons}
@@ -18,7 +18,7 @@ use Rattle.bfs_messages.specs.declared.message.Message.{Message}
 use Rattle.bfs_messages.specs.declared.message.Message.TheVariants.{Reply}
 use Rattle.bfs_agreement.specs.Histories.{IsIn}
 use Rattle.bfs_clients.specs.Clients.{Clients, keys_at}
-use Rattle.bfs_clients.specs.Tallies.{Counted, Tally, agreed, has_counted, is_agreed, is_signed_by, is_signed_reply, is_wanted, no_replies, reply_is_signed, result_to, senders_of, tallied_as, tallied_by, tally_of, with_reply}
+use Rattle.bfs_clients.specs.Tallies.{Counted, Tally, agreed, has_counted, is_agreed, is_signed_by, is_wanted, no_replies, reply_is_signed, result_to, senders_of, tallied_as, tallied_by, tally_of, with_reply}
 use Rattle.bfs_nodes_agree.proofs.Public.{AllIn, any_in, both_in, found, more_in, none_in, one_in, some_is}
 
 -- Counting senders ----------------------------------------------------------------------------------------------------------
@@ -78,7 +78,7 @@ module _ (p : Counted → Bool) (n : ℕ) where
   Pass q xs = AllIn (λ (x : Counted). p x ≡ true → q x.sender ≡ true) xs
 
   apart : (q : ℕ → Bool) (m k : ℕ) → k ≢ m → q k ≡ true → but q m k ≡ true
-  apart q m k differ is = cond_both (k == m) false true (λ (b : Bool). (k == m) ≡ not b → (b && q k) ≡ true) (λ e _. absurd (differ (eqb-true k m e))) (λ _ _. is) refl
+  apart q m k differ is = elim (cases_Bool (k == m)) [ inl e ↦ absurd (differ (eqb-true k m e)) | inr e ↦ ap (λ (b : Bool). not b && q k) e ∙ is ]
 
   -- as many senders below n pass
   few_of : (xs : List Counted) (q : ℕ → Bool) → Differ xs → AllIn (λ (x : Counted). x.sender < n) xs → Pass q xs → count_by p xs ≤ count_below q n

@@ -5,5 +5,5 @@ mod Growing
 mod Batches
 mod Counting
 mod Seeing
-mod Counters
-mod Examples
+mod Timestamps
+mod Repeated

@@ -1,5 +1,5 @@
 -- Clients see one server.
-use Rattle.std.proofs.Common.{◌≡◌, ◌∙◌, ℕ, suc, Bool, false, true, List, [], ◌∷◌, ◌++◌, length, Some, inl, inr, refl, sym, ap, ap₂, subst, append_assoc, append-nil}
+use Rattle.std.proofs.Common.{◌≡◌, ◌∙◌, ℕ, suc, false, true, List, [], ◌∷◌, ◌++◌, length, Some, inl, inr, refl, sym, ap, ap₂, subst, append_assoc, append-nil}
 use Rattle.std.specs.Prelude.{◌==◌}
 use Rattle.std.specs.List.{slice_get}
 use Rattle.std.proofs.lemmas.Bool.{cond_both, eqb-true}
@@ -21,18 +21,18 @@ use Rattle.bfs_agreement.specs.Histories.{IsIn}
 use Rattle.bfs_clients.specs.Clients.{keys_at}
 use Rattle.bfs_nodes_agree.proofs.Public.{AllIn, both_at, either_in, here_after, left_in}
 use Rattle.bfs_nodes_agree.specs.Nodes.Answers.{Answers, AnswersFor, NodesAnswer}
-use Rattle.bfs_nodes_agree.specs.Nodes.Laws.{Agree, BatchesDontCollide, Executed, NodesAgree}
+use Rattle.bfs_nodes_agree.specs.Nodes.Laws.{Agree, BatchesDontCollide, NodesAgree}
 use Rattle.bfs_nodes_agree.specs.Nodes.Premises.{HasSaid, IsAuthentic, StatesDontCollide, order_signed_part, signed_part}
-use Rattle.bfs_nodes_agree.specs.Nodes.Replicas.{NodeReplica, NodeReplicas, NodeTurn, after_node_turn, new_node_replicas}
+use Rattle.bfs_nodes_agree.specs.Nodes.Replicas.{NodeReplica, NodeReplicas, NodeTurn, after_node_turn}
 use Rattle.bfs_nodes_agree.specs.Nodes.Steps.{executed_by}
 use Rattle.bfs_node.specs.Nodes.{Messages}
-use Rattle.bfs_one_server.specs.Laws.{AreAll, ClientsSeeOneServer, HasAccepted, SeeOneServer, client_after, history}
+use Rattle.bfs_one_server.specs.Laws.{AreAll, ClientsSeeOneServer, HasAccepted, client_after, history}
 use Rattle.bfs_one_server.specs.Premises.{IsARun, MayAct, MayActSo, WasSigned}
 use Rattle.bfs_one_server.specs.Serving.{Effect, IsBefore, IsOf, effects, effects_in, files_after, table_after}
-use Rattle.bfs_one_server.specs.Worlds.{Accepts, Act, Steps, Signs, Hears, Client, Deployment, World, after_act, after_acts, beginning, new_world, turns_in, with_heard, with_signed}
+use Rattle.bfs_one_server.specs.Worlds.{Act, Steps, Signs, Hears, Client, Deployment, World, after_act, after_acts, beginning, new_world, turns_in, with_heard, with_signed}
 use Rattle.bfs_one_server.proofs.Batches.{Highest, all_of, at_more, begins_with, earlier_first, highest, highest_at_first, listed, only_one, placed}
 use Rattle.bfs_one_server.proofs.Counting.{from_correct}
-use Rattle.bfs_one_server.proofs.Growing.{GrowsTo, grows_acts, grows_then, grows_turn, may_both, nodes_are, run_first, signed_on}
+use Rattle.bfs_one_server.proofs.Growing.{grows_acts, grows_then, grows_turn, may_both, nodes_are, run_first, signed_on}
 use Rattle.bfs_one_server.proofs.Serving.{Tells, answered_in, effects_append, from_batches, known_all, none_known, rises, same_effect, serves, timely}
 
 -- What was said under a replica's name ------------------------------------------------------------------------------------------
@@ -200,8 +200,7 @@ module _ (agree : NodesAgree) (answer : NodesAnswer) (d : Deployment) where
         let joined : past ++ effects_in files_then table_then a.batch ≡ effects d.files start (list.batches ++ one) =
         ap (λ (l : List Effect). past ++ l) (sym (append-nil (effects_in files_then table_then a.batch))) ∙ sym (effects_append d.files start list.batches one) in
         let rest = effects (files_after d.files start (list.batches ++ one)) (table_after d.files start (list.batches ++ one)) first.0 in
-        let whole : history d batches ≡ effects d.files start (list.batches ++ one) ++ rest = ap (history d) first.1 ∙ effects_append d.files start (list.batches ++ one) first.0 in
-        (
+        let whole : history d batches ≡ effects d.files start (list.batches ++ one) ++ rest = ap (history d) first.1 ∙ effects_append d.files start (list.batches ++ one) first.0 in (
           told.0,
           subst (λ (l : List Effect). IsIn told.0 l) (sym whole) (left_in (effects d.files start (list.batches ++ one)) rest told.0 (subst (λ (l : List Effect). IsIn told.0 l) joined told.1)),
           record { client_is = told.2.client_is ∙ sym a.client; timestamp_is = told.2.timestamp_is ∙ sym a.timestamp; reply_is = told.2.reply_is ∙ sym a.result },
@@ -267,14 +266,18 @@ module _ (agree : NodesAgree) (answer : NodesAnswer) (d : Deployment) where
 
 pub clients_see_one_server : NodesAgree → NodesAnswer → ClientsSeeOneServer
 clients_see_one_server agree answer d acts run =
-    let got = all agree answer d acts run in
-    (got.0, got.1, λ others are. only_one d.faulty (after_acts (new_world d) acts).nodes got.0 others got.1 are, record {
-      serves = serves d.files (beginning d).table got.0;
-      timely = timely d.files (beginning d).table got.0;
-      once = rises d.files (beginning d).table got.0;
-      signed = signed_at agree answer d acts run got.0 got.1;
-      accepted = accepted_whole agree answer d acts run got.0 got.1;
-      one_result = one_result_at agree answer d acts run got.0 got.1;
-      order = λ before after later c t r same. order_at agree answer d before after later (subst (IsARun d) same run) got.0
-          (subst (λ (l : List Act). AreAll d.faulty (after_acts (new_world d) l).nodes got.0) same got.1) c t r;
-    })
+    let got = all agree answer d acts run in (
+      got.0,
+      got.1,
+      λ others are. only_one d.faulty (after_acts (new_world d) acts).nodes got.0 others got.1 are,
+      record {
+        serves = serves d.files (beginning d).table got.0;
+        timely = timely d.files (beginning d).table got.0;
+        once = rises d.files (beginning d).table got.0;
+        signed = signed_at agree answer d acts run got.0 got.1;
+        accepted = accepted_whole agree answer d acts run got.0 got.1;
+        one_result = one_result_at agree answer d acts run got.0 got.1;
+        order = λ before after later c t r same. order_at agree answer d before after later (subst (IsARun d) same run) got.0
+            (subst (λ (l : List Act). AreAll d.faulty (after_acts (new_world d) l).nodes got.0) same got.1) c t r;
+      },
+    )

@@ -1,5 +1,5 @@
 -- Batches that are executed one after another do what one server does.
-use Rattle.std.proofs.Common.{◌≡◌, ◌≢◌, ◌∙◌, ℕ, zero, suc, ◌<◌, ◌≤◌, true, List, [], ◌∷◌, ◌++◌, inl, inr, Option, Some, None, replicate, refl, sym, ap, subst, append_assoc, append-nil, length, arith}
+use Rattle.std.proofs.Common.{◌≡◌, ◌∙◌, ℕ, zero, suc, ◌<◌, true, List, [], ◌∷◌, ◌++◌, inl, inr, Option, Some, None, replicate, refl, sym, ap, subst, append_assoc, append-nil, length, arith}
 use Rattle.std.specs.Prelude.{◌==◌, ◌&&◌, nat_lt}
 use Rattle.std.specs.List.{slice_get}
 use Rattle.std.proofs.lemmas.Bool.{and_parts, cases_eq, cond_both, eqb-true, ltb-true, or_cases}
@@ -8,7 +8,7 @@ use Rattle.bfs_model.specs.Server.Serial.{effective_time, is_after, next_microse
 use Rattle.bfs_messages.specs.Messages.{Request, Batch, requests_of}
 use Rattle.bfs_messages.specs.declared.signed.Signed.{Signed}
 use Rattle.bfs_replies.specs.Answers.{Answer}
-use Rattle.bfs_replies.specs.Tables.{Last, Table, last_in, last_of, recorded}
+use Rattle.bfs_replies.specs.Tables.{Last, Table, last_of, recorded}
 use Rattle.bfs_replies.specs.declared.tables.Class.{Class}
 use Rattle.bfs_replies.specs.declared.tables.Class.TheVariants.{New, Repeat, Old, Unknown}
 use Rattle.bfs_outcome.specs.Outcome.{Standing, answer_again, answers_as, answers_to, at_start, class_at, executed, outcome, standing_after, standing_as, stands}
@@ -207,12 +207,15 @@ answered_as : (class : Class) (s : Standing) (time : Time) (request : Request) (
     → (a : Answer) → IsIn a (answers_as class s time request) → Tells (past ++ effects_as class s time request) a.client a.timestamp a.reply
 answered_as New s time request past is known a i = elim i [
   | inl same ↦
-      let e : Effect = record { request = request; time = time; reply = (executed s time request).1 } in
-      (e, right_in past (e ∷ []) e (inl refl), record {
-        client_is = ap (λ (x : Answer). x.client) (sym same);
-        timestamp_is = ap (λ (x : Answer). x.timestamp) (sym same);
-        reply_is = ap (λ (x : Answer). x.reply) (sym same);
-      })
+      let e : Effect = record { request = request; time = time; reply = (executed s time request).1 } in (
+        e,
+        right_in past (e ∷ []) e (inl refl),
+        record {
+          client_is = ap (λ (x : Answer). x.client) (sym same);
+          timestamp_is = ap (λ (x : Answer). x.timestamp) (sym same);
+          reply_is = ap (λ (x : Answer). x.reply) (sym same);
+        },
+      )
   | inr none ↦ absurd none
 ]
 answered_as Repeat s time request past is known a i = go (last_of s.table request.client) refl i
@@ -222,11 +225,15 @@ answered_as Repeat s time request past is known a i = go (last_of s.table reques
     go (Some last) e j = elim j [
       | inl same ↦
           let at = known request.client last e in
-          tells_left past [] a.client a.timestamp a.reply (at.0, at.1, record {
-            client_is = at.2.client_is ∙ ap (λ (x : Answer). x.client) (sym same);
-            timestamp_is = at.2.timestamp_is ∙ repeat_same s.table request.client request.timestamp is last e ∙ ap (λ (x : Answer). x.timestamp) (sym same);
-            reply_is = at.2.reply_is ∙ ap (λ (x : Answer). x.reply) (sym same);
-          })
+          tells_left past [] a.client a.timestamp a.reply (
+            at.0,
+            at.1,
+            record {
+              client_is = at.2.client_is ∙ ap (λ (x : Answer). x.client) (sym same);
+              timestamp_is = at.2.timestamp_is ∙ repeat_same s.table request.client request.timestamp is last e ∙ ap (λ (x : Answer). x.timestamp) (sym same);
+              reply_is = at.2.reply_is ∙ ap (λ (x : Answer). x.reply) (sym same);
+            },
+          )
       | inr none ↦ absurd none
     ]
 answered_as Old s time request past is known a i = absurd i

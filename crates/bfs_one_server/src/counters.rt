@@ -26,7 +26,7 @@ impl Model for Counter {
 impl Counter {
     /// Counts for that client, from that timestamp on.
     pub fn new(client: u32, next: u64) -> Counter
-        ensures { result.now ≡ record { client = client; next = next } }
+        ensures { result ≡ record { client = client; next = next } }
     {
         Counter { client, next }
     }
@@ -64,7 +64,7 @@ impl Counter {
 }
 
 /// A request with the timestamp of a counter is the first of that timestamp, where all that the client has signed so far is below it.
-#[tactic(auto, using(crate::proofs::Counters::counted_requests_are_first))]
+#[tactic(auto, using(crate::proofs::Timestamps::counted_requests_are_first))]
 pub fn counted_requests_are_first()
     ensures { CountedRequestsAreFirst }
 {}

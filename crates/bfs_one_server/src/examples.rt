@@ -3,7 +3,7 @@ ghost use Rattle.bfs_one_server.specs.Examples.{LaterFirst, OneTimestampTwice, S
 
 /// A request that is ordered twice takes effect once. Where a client's later request is executed first, the earlier one never takes effect. Of two
 /// calls of one timestamp the second one is answered with the first one's reply: so a correct client signs one.
-#[tactic(auto, using(crate::proofs::Examples::sent_twice, crate::proofs::Examples::later_first, crate::proofs::Examples::one_timestamp_twice))]
+#[tactic(auto, using(crate::proofs::Repeated::sent_twice, crate::proofs::Repeated::later_first, crate::proofs::Repeated::one_timestamp_twice))]
 pub fn what_repeated_requests_do()
     ensures sent_twice { SentTwice }
     ensures later_first { LaterFirst }

@@ -1,5 +1,5 @@
 -- What is counted is signed once.
-use Rattle.std.proofs.Common.{◌≡◌, ◌<◌, inl, inr, ap, arith}
+use Rattle.std.proofs.Common.{inl, inr, ap, arith}
 use Rattle.bfs_messages.specs.Messages.{Request}
 use Rattle.bfs_one_server.specs.Counters.{CountedRequestsAreFirst}
 
