@@ -22,7 +22,7 @@ nodes_are [] w = refl
 nodes_are (Steps turn ∷ acts) w = nodes_are acts (after_act w (Steps turn))
 nodes_are (act ∷ acts) w = nodes_are acts (after_act w act)
 
-acts_append : (one other : List Act) (w : World) → after_acts w (one ++ other) ≡ after_acts (after_acts w one) other
+pub acts_append : (one other : List Act) (w : World) → after_acts w (one ++ other) ≡ after_acts (after_acts w one) other
 acts_append [] other w = refl
 acts_append (act ∷ one) other w = acts_append one other (after_act w act)
 

@@ -7,3 +7,6 @@ mod Counting
 mod Seeing
 mod Timestamps
 mod Repeated
+mod Rewriting
+mod Readers
+mod Using

@@ -5,3 +5,5 @@ pub mod Premises
 pub mod Laws
 pub mod Counters
 pub mod Examples
+pub mod Reading
+pub mod Users
