@@ -36,7 +36,7 @@ serves_behind m o (e ∷ front) rest serves = serves_behind (answer m o e.time e
 pub answers_behind_all : AnswersBehindAll
 answers_behind_all m o front e back serves = (serves_behind m o front (e ∷ back) serves).0
 
-servable_behind : (m : Inodes) (o : ℕ) (front : List Effect) → IsServable m o → IsServable (inodes_by m o front) (ordinal_by o front)
+pub servable_behind : (m : Inodes) (o : ℕ) (front : List Effect) → IsServable m o → IsServable (inodes_by m o front) (ordinal_by o front)
 servable_behind m o [] good = good
 servable_behind m o (e ∷ front) good = servable_behind (answer m o e.time e.request.call).0 (ordinal_after o 1) front (answer_keeps m o e.time e.request.call good)
 
@@ -55,7 +55,7 @@ behind_header : (xid : ℕ) (bytes : List ℕ) → drop 24 (success xid bytes) �
 unfolding success word
 behind_header xid bytes = refl
 
-abbrev under : (o : ℕ) → Effect → rpc.Request → Context
+abbrev pub under : (o : ℕ) → Effect → rpc.Request → Context
 under o e request = record { ordinal = o; time = e.time; caller = request.credential }
 
 -- what the server does and replies to a request that spells a call
@@ -65,13 +65,13 @@ unfolding answer
 answer_is m o e request call spells = ap (answer_call m o e.time) spells.header ∙ ap (answer_arguments m o e.time request) spells.arguments
 
 -- where the reply tells so, it was done
-record WasDone (m : Inodes) (o : ℕ) (e : Effect) (request : rpc.Request) (call : Call) : Type 0 where
-  x : Outcome
-  attempt : attempted m (under o e request) call ≡ Ok x
-  leaves : (answer m o e.time e.request.call).0 ≡ x.0
-  replies : e.reply ≡ success request.xid (results x.1)
+pub record WasDone (m : Inodes) (o : ℕ) (e : Effect) (request : rpc.Request) (call : Call) : Type 0 where
+  pub x : Outcome
+  pub attempt : attempted m (under o e request) call ≡ Ok x
+  pub leaves : (answer m o e.time e.request.call).0 ≡ x.0
+  pub replies : e.reply ≡ success request.xid (results x.1)
 
-was_done : (m : Inodes) (o : ℕ) (e : Effect) (request : rpc.Request) (call : Call) → e.reply ≡ (answer m o e.time e.request.call).1 → Spells e request call → IsDone e → WasDone m o e request call
+pub was_done : (m : Inodes) (o : ℕ) (e : Effect) (request : rpc.Request) (call : Call) → e.reply ≡ (answer m o e.time e.request.call).1 → Spells e request call → IsDone e → WasDone m o e request call
 was_done m o e request call reply spells done =
     let attempt = attempted m (under o e request) call in
     let both = answer_is m o e request call spells in
@@ -169,9 +169,9 @@ part_is_there offset first (p ∷ more) last bytes few =
     ∙ ap (λ (l : List ℕ). take (length part) l) (drop_at (front ++ first) (part ++ (last ++ behind)) (offset + length first) at)
     ∙ take_at part (last ++ behind) (length part) refl
 
-found : (step : Result FoundFile Status) (next : FoundFile → Result Outcome Status) (x : Outcome) → (step >>= next) ≡ Ok x → (old : FoundFile) × (step ≡ Ok old)
-found (Ok old) next x is = (old, refl)
-found (Err status) next x is = absurd cc
+pub then_was : {X Y : Type 0} (step : Result X Status) (next : X → Result Y Status) (y : Y) → (step >>= next) ≡ Ok y → (x : X) × (step ≡ Ok x) × (next x ≡ Ok y)
+then_was (Ok x) next y is = (x, refl, is)
+then_was (Err status) next y is = absurd cc
 
 is_there : (m : Inodes) (id : ℕ) (old : FoundFile) → file_found m (Some id) ≡ Ok old → get m id ≡ Some old.inode
 is_there m id old is = grind arith
@@ -198,13 +198,13 @@ readers_see_parts files front writing middle reading back one other id offset fi
     let from = serves_behind files.tree files.next_ordinal front (writing ∷ (middle ++ reading ∷ back)) serves in
     let answered = serves_behind after (ordinal_after o 1) middle (reading ∷ back) from.1 in
     let first_done = was_done m o writing one (write (Some id) offset written) from.0 writes wrote in
-    let old = found (file_found m (Some id)) _ first_done.x first_done.attempt in
+    let old = then_was (file_found m (Some id)) _ first_done.x first_done.attempt in
     let older : id < o = (good.numbered id old.0.inode (is_there m id old.0 old.1)).fileid.1 in
     let bytes : List ℕ = overwritten offset written old.0.bytes in
     let left : Keeps id bytes after = subst (Keeps id bytes) (sym first_done.leaves) (write_keeps m (under o writing one) id offset written old.0 first_done.x old.1 first_done.attempt) in
     let kept : Keeps id bytes now = all_spared after (ordinal_after o 1) id bytes middle (reading ∷ back) (omega arith) (omega arith) from.1 spares left in
     let then_done = was_done now at reading other (read (Some id) (offset + length first) (length part)) answered.0 reads done in
-    let new = found (file_found now (Some id)) _ then_done.x then_done.attempt in
+    let new = then_was (file_found now (Some id)) _ then_done.x then_done.attempt in
     let told = read_gives now (under at reading other) id (offset + length first) (length part) bytes new.0 then_done.x new.1 then_done.attempt kept in
     subst (Gives reading other.xid) (part_is_there offset first part last old.0.bytes (written_is_short one.procedure one.arguments (Some id) offset written writes.arguments))
     (attributes_of id new.0.inode, then_done.replies ∙ ap (λ (r : Reply). success other.xid (results r)) told)

@@ -1,4 +1,5 @@
 // What users read from one server. The bodies do nothing: what is said is the contracts.
+ghost use Rattle.bfs_one_server.specs.Creating.{CreatesMakeFiles};
 ghost use Rattle.bfs_one_server.specs.Reading.{AnswersBehindAll, ReadersSeeParts, ReadersSeeWrites};
 ghost use Rattle.bfs_one_server.specs.Users.{AcceptedWritesAreRead, RequestsTakeEffectOnce};
 
@@ -19,6 +20,11 @@ pub fn readers_see_writes()
 /// And a READ of a part of them gives that part.
 pub fn readers_see_parts_of_writes()
     ensures { ReadersSeeParts }
+{}
+
+/// A CREATE that is done makes one file, under its name in the directory, and its reply has the file's handle (RFC 1094 section 2.2.10).
+pub fn creates_make_files()
+    ensures { CreatesMakeFiles }
 {}
 
 /// A WRITE and a READ of the same place, of whichever correct clients, the READ signed once the WRITE was accepted: where no request that takes effect
