@@ -1,5 +1,5 @@
 -- What a CREATE that is done makes.
-use Rattle.std.proofs.Common.{◌≡◌, ◌∙◌, ℕ, ◌<◌, Bool, true, false, List, [], ◌∷◌, ◌++◌, Option, Some, None, is_some, unwrap_or, Result, Ok, nat_lt, refl, sym, ap, subst, arith, inl, inr}
+use Rattle.std.proofs.Common.{◌≡◌, ◌∙◌, ℕ, Bool, true, false, List, [], ◌∷◌, ◌++◌, Some, None, is_some, unwrap_or, Result, Ok, nat_lt, refl, sym, ap, subst, arith, inl, inr}
 use Rattle.std.specs.Cmp.{nat_cmp_total}
 use Rattle.std.specs.FinMap.{get, insert, get-insert, nat_cmp-IsAntisymmetric}
 use Rattle.std.specs.Str.{bytes_eq}
@@ -43,28 +43,39 @@ named_then m c dir name at new is free none =
     itself : bytes_eq name name ≡ true
     itself = (bytes_eq-Decides name name).1 refl
 
+one_more : (m : Inodes) (dir : ℕ) (at : FoundDirectory) (v : Inode) (o : ℕ) (new : Inode) → directory_found m (Some dir) ≡ Ok at
+    → (other : ℕ) (inode : Inode) → get m other ≡ None → get (insert (insert m at.id v) o new) other ≡ Some inode → other ≡ o
+one_more m dir at v o new is other inode none there =
+    grind (arith, get-insert nat_cmp_total (insert m at.id v) o new other, get-insert nat_cmp_total m at.id v other, tells_apart nat_cmp-IsAntisymmetric other o, tells_apart nat_cmp-IsAntisymmetric other at.id)
+
 none_there : (m : Inodes) (o : ℕ) → IsServable m o → get m o ≡ None
-none_there m o good = go (get m o) refl
-  where
-    go : (there : Option Inode) → get m o ≡ there → there ≡ None
-    go None is = refl
-    go (Some inode) is = absurd (let below : o < o = (good.numbered o inode is).fileid.1 in omega arith)
+none_there m o good = grind (arith, λ (inode : Inode) (there : get m o ≡ Some inode). (good.numbered o inode there).fileid.1)
 
 -- the inodes behind one request more
 and_one : (m : Inodes) (o : ℕ) (front : List Effect) (e : Effect) → inodes_by m o (front ++ e ∷ []) ≡ (answer (inodes_by m o front) (ordinal_by o front) e.time e.request.call).0
 and_one m o [] e = refl
 and_one m o (x ∷ front) e = and_one (answer m o x.time x.request.call).0 (ordinal_after o 1) front e
 
--- a CREATE that was done
-created : (m : Inodes) (c : Context) (dir : ℕ) (name : List ℕ) (settings : Settings) (x : Outcome) → get m c.ordinal ≡ None → file_created m c (Some dir) name settings ≡ Ok x
-    → (get x.0 c.ordinal ≡ Some (new_file c settings)) × (child_at x.0 (Some dir) name ≡ Some c.ordinal) × (x.1 ≡ found c.ordinal (attributes_of c.ordinal (new_file c settings)))
+-- a CREATE that was done, under an ordinal that is none's
+record IsCreated (m : Inodes) (c : Context) (dir : ℕ) (name : List ℕ) (settings : Settings) (x : Outcome) : Type 0 where
+  there : get x.0 c.ordinal ≡ Some (new_file c settings)
+  one : (other : ℕ) (inode : Inode) → get m other ≡ None → get x.0 other ≡ Some inode → other ≡ c.ordinal
+  named : child_at x.0 (Some dir) name ≡ Some c.ordinal
+  told : x.1 ≡ found c.ordinal (attributes_of c.ordinal (new_file c settings))
+
+created : (m : Inodes) (c : Context) (dir : ℕ) (name : List ℕ) (settings : Settings) (x : Outcome) → get m c.ordinal ≡ None → file_created m c (Some dir) name settings ≡ Ok x → IsCreated m c dir name settings x
 created m c dir name settings x none is =
     let rows : FoundDirectory → List (Bool × Status) = λ at. new_name_refusals c at name (owner_refusals c.caller settings) ++ (nat_lt most_file_bytes (unwrap_or settings.size 0), fbig) ∷ [] in
     let at = then_was (directory_found m (Some dir)) _ x is in
     let good = then_was (checked (rows at.0)) _ x at.2 in
     let free = fails (is_some (entry_named name at.0.listing.entries)) (rows at.0) good.0 good.1 (inr (inr (inl refl))) in
-    subst (λ (y : Outcome). (get y.0 c.ordinal ≡ Some (new_file c settings)) × (child_at y.0 (Some dir) name ≡ Some c.ordinal) × (y.1 ≡ found c.ordinal (attributes_of c.ordinal (new_file c settings))))
-    (ok_is _ x good.2) (got_put _ c.ordinal (new_file c settings), named_then m c dir name at.0 (new_file c settings) at.1 free none, refl)
+    let new : Inode = new_file c settings in
+    subst (IsCreated m c dir name settings) (ok_is _ x good.2) (record {
+      there = got_put _ c.ordinal new;
+      one = one_more m dir at.0 (with_name c name c.ordinal at.0.inode) c.ordinal new at.1;
+      named = named_then m c dir name at.0 new at.1 free none;
+      told = refl;
+    })
 
 pub creates_make_files : CreatesMakeFiles
 creates_make_files files front creating back one dir name settings formed serves spells done =
@@ -78,7 +89,9 @@ creates_make_files files front creating back one dir name settings formed serves
       id = o;
       file = new_file (under o creating one) settings;
       was_none = none;
-      is_there = subst (λ (n : Inodes). get n o ≡ Some (new_file (under o creating one) settings)) left made.0;
-      is_named = subst (λ (n : Inodes). child_at n (Some dir) name ≡ Some o) left made.1;
-      is_told = was.replies ∙ ap (λ (r : Reply). success one.xid (results r)) made.2;
+      is_there = subst (λ (n : Inodes). get n o ≡ Some (new_file (under o creating one) settings)) left made.there;
+      is_regular = refl;
+      is_one = subst (λ (n : Inodes). (other : ℕ) (inode : Inode) → get m other ≡ None → get n other ≡ Some inode → other ≡ o) left made.one;
+      is_named = subst (λ (n : Inodes). child_at n (Some dir) name ≡ Some o) left made.named;
+      is_told = was.replies ∙ ap (λ (r : Reply). success one.xid (results r)) made.told;
     }

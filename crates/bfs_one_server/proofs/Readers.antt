@@ -1,5 +1,5 @@
 -- Who reads behind a WRITE reads what was written.
-use Rattle.std.proofs.Common.{◌≡◌, ◌∙◌, ℕ, ◌+◌, ◌-◌, ◌<◌, ◌≤◌, ◌==◌, Bool, true, false, cond, List, [], ◌∷◌, ◌++◌, length, take, drop, replicate, Option, Some, None, Result, Ok, Err, nat_lt, not, refl, sym, ap, subst, append-nil, arith}
+use Rattle.std.proofs.Common.{◌≡◌, ◌∙◌, ℕ, ◌+◌, ◌-◌, ◌<◌, ◌≤◌, ◌==◌, Bool, true, false, List, [], ◌∷◌, ◌++◌, length, take, drop, replicate, Option, Some, Result, Ok, Err, nat_lt, not, refl, sym, ap, subst, append-nil, arith}
 use Rattle.std.specs.Prelude.{min}
 use Rattle.std.specs.Bool.{⊤}
 use Rattle.std.specs.FinMap.{get}
@@ -104,7 +104,7 @@ rewriting_tells m c id call x rewriting is = absurd cc
 spared : (m : Inodes) (o : ℕ) (e : Effect) (id : ℕ) (bytes : List ℕ) → (o ≡ id → ⊥) → e.reply ≡ (answer m o e.time e.request.call).1
     → ((request : rpc.Request) (call : Call) → Spells e request call → IsDone e → rewrites id call ≡ false) → Keeps id bytes m → Keeps id bytes (answer m o e.time e.request.call).0
 unfolding answer
-spared m o e id bytes older reply spares held = by_call (call_of e.request.call) refl
+spared m o e id bytes older reply spares held = grind (arith, by_call)
   where
     by_attempt : (request : rpc.Request) (call : Call) → Spells e request call → (attempt : Result Outcome Status) → attempted m (under o e request) call ≡ attempt → Keeps id bytes (or_refused m attempt).0
     by_attempt request call spells (Err status) is = held
@@ -117,13 +117,8 @@ spared m o e id bytes older reply spares held = by_call (call_of e.request.call)
         go false rewriting = rewriting
         go true rewriting = spares request call spells (request.xid, drop 4 (results x.1), told ∙ ap (success request.xid) (rewriting_tells m (under o e request) id call x rewriting is))
 
-    by_arguments : (request : rpc.Request) → call_of e.request.call ≡ Ok request → (call : Option Call) → arguments_of request.procedure request.arguments ≡ call → Keeps id bytes (answer_arguments m o e.time request call).0
-    by_arguments request header None is = held
-    by_arguments request header (Some call) is = by_attempt request call (record { header = header; arguments = is }) (attempted m (under o e request) call) refl
-
-    by_call : (call : Result rpc.Request rpc.Refusal) → call_of e.request.call ≡ call → Keeps id bytes (answer_call m o e.time call).0
-    by_call (Err refusal) is = held
-    by_call (Ok request) is = by_arguments request is (arguments_of request.procedure request.arguments) refl
+    by_call : (request : rpc.Request) (call : Call) → call_of e.request.call ≡ Ok request → arguments_of request.procedure request.arguments ≡ Some call → Keeps id bytes (procedure m (under o e request) call).0
+    by_call request call header arguments = by_attempt request call (record { header = header; arguments = arguments }) (attempted m (under o e request) call) refl
 
 all_spared : (m : Inodes) (o : ℕ) (id : ℕ) (bytes : List ℕ) (middle rest : List Effect) → id < o → o ≤ spent_ordinal → Serves m o (middle ++ rest) → NoneRewrites id middle → Keeps id bytes m → Keeps id bytes (inodes_by m o middle)
 all_spared m o id bytes [] rest older most serves spares held = held
@@ -157,17 +152,13 @@ part_is_there offset first (p ∷ more) last bytes few =
     let written : List ℕ = first ++ part ++ last in
     let front : List ℕ = take offset (filled_to offset bytes) in
     let behind : List ℕ = drop (offset + length written) bytes in
-    let count : length written ≡ length first + length part + length last = length-append (first ++ part) last ∙ ap (λ (n : ℕ). n + length last) (length-append first part) in
+    let count : length written ≡ length first + length part + length last = simp length-append in
     let some : (length written == 0) ≡ false = ne_eqb (length written) 0 (λ is. absurd (omega arith)) in
     let long : length front ≡ offset = length-take-le offset (filled_to offset bytes) (omega (arith, length-append bytes (replicate (offset - length bytes) 0), length-replicate {A = ℕ} (offset - length bytes) 0)) in
-    let at : length (front ++ first) ≡ offset + length first = length-append front first ∙ ap (λ (n : ℕ). n + length first) long in
+    let at : length (front ++ first) ≡ offset + length first = simp (length-append, long) in
     let parted : front ++ written ++ behind ≡ (front ++ first) ++ (part ++ (last ++ behind)) = simp append_assoc in
     let least : min (length part) most_data_bytes ≡ length part = omega arith in
-    ap (λ (b : Bool). take (min (length part) most_data_bytes) (drop (offset + length first) (cond b bytes (front ++ written ++ behind)))) some
-    ∙ ap (λ (n : ℕ). take n (drop (offset + length first) (front ++ written ++ behind))) least
-    ∙ ap (λ (l : List ℕ). take (length part) (drop (offset + length first) l)) parted
-    ∙ ap (λ (l : List ℕ). take (length part) l) (drop_at (front ++ first) (part ++ (last ++ behind)) (offset + length first) at)
-    ∙ take_at part (last ++ behind) (length part) refl
+    rw (some, least, parted, drop_at (front ++ first) (part ++ (last ++ behind)) (offset + length first) at, take_at part (last ++ behind) (length part) refl) refl
 
 pub then_was : {X Y : Type 0} (step : Result X Status) (next : X → Result Y Status) (y : Y) → (step >>= next) ≡ Ok y → (x : X) × (step ≡ Ok x) × (next x ≡ Ok y)
 then_was (Ok x) next y is = (x, refl, is)
