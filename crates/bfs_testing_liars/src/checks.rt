@@ -61,12 +61,12 @@ struct Executed {
     batch: [u8; 32],
 }
 
-// A result of a client's request.
+/// A result of a client's request.
 #[derive(Drop)]
-struct Answer {
-    client: u32,
-    timestamp: u64,
-    result: Vec<u8>,
+pub struct Answer {
+    pub client: u32,
+    pub timestamp: u64,
+    pub result: Vec<u8>,
 }
 
 /// What replicas that don't lie have come to.
@@ -170,6 +170,11 @@ impl Record {
             }
         }
         None
+    }
+
+    /// What replicas that don't lie have told clients, once for each client and timestamp.
+    pub fn answers(&self) -> &[Answer] {
+        self.answers.as_slice()
     }
 
     /// A replica takes a message that tells a digest.

@@ -99,12 +99,12 @@ impl Liar {
         sender: u32,
         client: u32,
         timestamp: u64,
-        result: &[u8],
+        bytes: &[u8],
     ) -> Result<Signed<Message>, Memory> {
-        if client as usize >= self.keys.clients() || result.len() > MOST_REPLY_BYTES {
+        if client as usize >= self.keys.clients() || bytes.len() > MOST_REPLY_BYTES {
             return Err(Memory);
         }
-        let reply = Reply::new(self.alloc, sender, 0, client, timestamp, result)?;
+        let reply = Reply::new(self.alloc, sender, 0, client, timestamp, bytes)?;
         let message = Message::Reply(reply);
         let auth = sign_text_for_client(self.alloc, &self.keys, client, &message)?;
         Ok(Signed { message, auth })

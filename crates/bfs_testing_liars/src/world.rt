@@ -38,7 +38,7 @@ pub struct World {
     pub proposed: Vec<Vote>,
     /// Their batches.
     pub batches: Batches,
-    /// What replicas have told clients, those that lie too: who takes it from here carries it to them.
+    /// What clients are told, also by replicas that lie. Who plays a schedule carries it to them.
     pub replies: Vec<Sent>,
     pub on_their_way: Vec<Flight>,
     pub record: Record,
@@ -173,12 +173,18 @@ impl World {
         }
     }
 
-    fn tell(&mut self, sender: usize, signed: &Signed<Message>) -> Result<(), Memory> {
+    /// A client is told something.
+    pub fn put_reply(&mut self, signed: &Signed<Message>, is_lie: bool) -> Result<(), Memory> {
         self.replies.push(Sent {
             head: head_of(&signed.message),
             bytes: encode(self.alloc, signed)?,
-            is_lie: false,
+            is_lie,
         })?;
+        Ok(())
+    }
+
+    fn tell(&mut self, sender: usize, signed: &Signed<Message>) -> Result<(), Memory> {
+        self.put_reply(signed, false)?;
         match &signed.message {
             Message::Reply(reply) if !self.liars.has(sender) => self.record.note_reply(reply),
             _ => Ok(()),
