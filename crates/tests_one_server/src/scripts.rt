@@ -178,7 +178,7 @@ fn happens<R: Threads + Wait + Sync>(
     Ok(true)
 }
 
-fn stage(alloc: Global) -> Result<Stage, Memory> {
+fn new_stage(alloc: Global) -> Result<Stage, Memory> {
     Ok(Stage {
         world: World::new(alloc, members(1), Set(0))?,
         draws: draws_of(1),
@@ -193,7 +193,7 @@ fn first_wrong<R: Threads + Wait + Sync>(
     alloc: Global,
     steps: &[Step],
 ) -> Result<Option<usize>, Memory> {
-    let mut stage = stage(alloc)?;
+    let mut stage = new_stage(alloc)?;
     play(rt, &mut stage, steps)
 }
 
