@@ -54,8 +54,8 @@ pub fn repeat_requests(world: &mut World, draws: &mut Generator) -> Result<(), M
     Ok(())
 }
 
-// the place of the first request among what was sent from a place on
-fn request_from(world: &World, first: usize) -> Option<usize> {
+/// The place of the first request among what was sent from a place on.
+pub fn request_from(world: &World, first: usize) -> Option<usize> {
     for which in first..world.sent.len() {
         match world.sent.get(which) {
             Some(sent) if sent.head.kind == 1 => return Some(which),

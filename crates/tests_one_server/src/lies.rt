@@ -1,6 +1,6 @@
 //! What replicas that lie do to clients: they propose requests that were executed before, or that nobody signed, and tell wrong results.
 use crate::correct::Correct;
-use crate::faulty::call;
+use crate::faulty::{call, request_from};
 use bfs_messages::{Message, OrderedBatch, Request, Signed};
 use bfs_testing::generated::Generator;
 use bfs_testing_liars::draws::{any_of, below, happens, some};
@@ -22,12 +22,13 @@ fn request_in(signed: Signed<Message>) -> Option<Signed<Request>> {
 // one that was sent
 fn any_request(world: &World, draws: &mut Generator) -> Result<Option<Signed<Request>>, Memory> {
     let first = any_of(draws, world.sent.len());
-    for sent in world.sent.iter().skip(first) {
-        if sent.head.kind == 1 {
-            return Ok(request_in(read(world.alloc, &sent.bytes)?));
-        }
+    let Some(which) = request_from(world, first) else {
+        return Ok(None);
+    };
+    match world.sent.get(which) {
+        Some(sent) => Ok(request_in(read(world.alloc, &sent.bytes)?)),
+        None => Ok(None),
     }
-    Ok(None)
 }
 
 // with another call, and the keyed hashes of the one that was signed

@@ -114,16 +114,22 @@ fn place_of(world: &World, request: usize) -> Option<usize> {
     None
 }
 
-fn order<R: Threads + Wait + Sync>(rt: &R, stage: &mut Stage) -> Result<(), Memory> {
-    let (world, draws) = (&mut stage.world, &mut stage.draws);
-    exchange_some(rt, world, draws, Set::ALL, 0, 100)?;
-    world.propose(0)?;
-    exchange_some(rt, world, draws, Set::ALL, 0, 100)?;
-    stage.heard.clear();
-    for sent in &stage.world.replies {
-        stage.heard.push(read(stage.world.alloc, &sent.bytes)?)?;
+// what clients were told since the last time
+fn told(world: &mut World) -> Result<Vec<Signed<Message>>, Memory> {
+    let mut messages = Vec::new(world.alloc);
+    for sent in &world.replies {
+        messages.push(read(world.alloc, &sent.bytes)?)?;
     }
-    stage.world.replies.clear();
+    world.replies.clear();
+    Ok(messages)
+}
+
+fn order<R: Threads + Wait + Sync>(rt: &R, stage: &mut Stage) -> Result<(), Memory> {
+    let world = &mut stage.world;
+    exchange_some(rt, world, &mut stage.draws, Set::ALL, 0, 100)?;
+    world.propose(0)?;
+    exchange_some(rt, world, &mut stage.draws, Set::ALL, 0, 100)?;
+    stage.heard = told(world)?;
     Ok(())
 }
 

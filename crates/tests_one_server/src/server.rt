@@ -109,8 +109,12 @@ impl Server {
     // the calls are those of the effects from a place on
     fn answer(&mut self, first: usize, calls: &Batch) -> Result<(), Memory> {
         let replies = replies_to(self.alloc, &mut self.files, calls)?;
-        for (effect, reply) in self.effects.iter_mut().skip(first).zip(replies) {
-            effect.reply = reply;
+        let mut place = first;
+        for reply in replies {
+            if let Some(effect) = self.effects.get_mut(place) {
+                effect.reply = reply;
+            }
+            place = place.saturating_add(1);
         }
         Ok(())
     }
