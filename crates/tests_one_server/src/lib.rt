@@ -20,4 +20,6 @@ mod scripts;
 #[cfg(test)]
 mod seeds;
 #[cfg(test)]
+mod seen;
+#[cfg(test)]
 mod server;

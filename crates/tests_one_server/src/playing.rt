@@ -2,6 +2,7 @@
 use crate::crowd::{Crowd, members};
 use crate::judging::{Wrong, judge};
 use crate::lies::{equivocate, tell_wrongly};
+use crate::seen::Seen;
 use bfs_testing::generated::Generator;
 use bfs_testing::numbers::{CREATE, GETATTR, LOOKUP, MKDIR, READ, READDIR, REMOVE, WRITE};
 use bfs_testing_liars::draws::{any_of, below, draws_of, happens, hearing, liars_among, some};
@@ -14,73 +15,11 @@ use std::alloc::Global;
 use std::sync::Wait;
 use std::thread::Threads;
 
-const ROUNDS: u32 = 6;
+const ROUNDS: u32 = 3;
 
 const PROCEDURES: &[u32] = &[
     CREATE, CREATE, MKDIR, WRITE, WRITE, READ, REMOVE, LOOKUP, GETATTR, READDIR,
 ];
-
-/// What came about, that a schedule without events does not pass for a good one.
-#[derive(Clone, Copy, Debug, PartialEq, Eq)]
-pub struct Seen {
-    /// Results that correct clients accepted.
-    pub accepted: u32,
-    /// How often a replica that doesn't lie entered a view, and adopted a snapshot.
-    pub views: u32,
-    pub adoptions: u32,
-    /// Messages of liars, and requests of lying clients, that such a replica took.
-    pub lies: u32,
-    /// Lies of clients.
-    pub lies_of_clients: u32,
-    /// Wrong results that came to clients.
-    pub wrong_results: u32,
-    /// Requests that were executed before, of which another call of the timestamp was, and behind which a later one was.
-    pub repeated: u32,
-    pub contested: u32,
-    pub late: u32,
-}
-
-impl Seen {
-    pub const NOTHING: Seen = Seen {
-        accepted: 0,
-        views: 0,
-        adoptions: 0,
-        lies: 0,
-        lies_of_clients: 0,
-        wrong_results: 0,
-        repeated: 0,
-        contested: 0,
-        late: 0,
-    };
-
-    /// That of both.
-    pub fn and(self, more: Seen) -> Seen {
-        Seen {
-            accepted: self.accepted.saturating_add(more.accepted),
-            views: self.views.saturating_add(more.views),
-            adoptions: self.adoptions.saturating_add(more.adoptions),
-            lies: self.lies.saturating_add(more.lies),
-            lies_of_clients: self.lies_of_clients.saturating_add(more.lies_of_clients),
-            wrong_results: self.wrong_results.saturating_add(more.wrong_results),
-            repeated: self.repeated.saturating_add(more.repeated),
-            contested: self.contested.saturating_add(more.contested),
-            late: self.late.saturating_add(more.late),
-        }
-    }
-
-    /// Whether none is below.
-    pub fn reaches(self, least: Seen) -> bool {
-        least.accepted <= self.accepted
-            && least.views <= self.views
-            && least.adoptions <= self.adoptions
-            && least.lies <= self.lies
-            && least.lies_of_clients <= self.lies_of_clients
-            && least.wrong_results <= self.wrong_results
-            && least.repeated <= self.repeated
-            && least.contested <= self.contested
-            && least.late <= self.late
-    }
-}
 
 // clients ask, one primary proposes, what is on its way comes, and clients hear
 fn turn<R: Threads + Wait + Sync>(
@@ -142,7 +81,7 @@ fn begin<R: Threads + Wait + Sync>(
     draws: &mut Generator,
     crowd: &mut Crowd,
 ) -> Result<(), Memory> {
-    if !happens(draws, 12) {
+    if !happens(draws, 10) {
         return Ok(());
     }
     let hear = Set::of(any_of(draws, world.nodes.len())).others();
@@ -153,7 +92,7 @@ fn begin<R: Threads + Wait + Sync>(
         exchange_some(rt, world, draws, hear, 0, 24)?;
         crowd.hear_all(world, draws, 0)?;
     }
-    if happens(draws, 50) {
+    if happens(draws, 80) {
         adopt(rt, world, draws)?;
     }
     Ok(())
@@ -166,7 +105,7 @@ fn end<R: Threads + Wait + Sync>(
     draws: &mut Generator,
     crowd: &mut Crowd,
 ) -> Result<(), Memory> {
-    for _ in 0u32..3 {
+    for _ in 0u32..2 {
         leave(world, Set::ALL)?;
         exchange_some(rt, world, draws, Set::ALL, 0, 48)?;
         crowd.ask_all(world, draws, 100)?;
