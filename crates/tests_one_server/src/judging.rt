@@ -1,5 +1,5 @@
 //! What is checked behind a schedule: replicas that don't lie are one server, and correct clients have seen it.
-use crate::book::Book;
+use crate::book::{Accepted, Asked, Book};
 use crate::correct::Correct;
 use crate::server::Server;
 use bfs_testing_liars::world::World;
@@ -137,17 +137,31 @@ fn wrong_result(server: &Server, book: &Book) -> Option<Wrong> {
     None
 }
 
+// whether what was accepted is of an effect before that place
+fn stands_before(server: &Server, accepted: &Accepted, place: usize) -> bool {
+    match server.place_of(accepted.client, accepted.timestamp) {
+        Some(before) => before < place,
+        None => false,
+    }
+}
+
 fn early(server: &Server, book: &Book) -> Option<Wrong> {
     for asked in &book.asked {
-        let Some(place) = server.place_of(asked.client, asked.timestamp) else {
-            continue;
-        };
-        for accepted in book.accepted.iter().take(asked.accepted_before) {
-            match server.place_of(accepted.client, accepted.timestamp) {
-                Some(before) if before < place => {}
-                _ => return Some(Wrong::Early(asked.client, asked.timestamp)),
+        if let Some(place) = server.place_of(asked.client, asked.timestamp) {
+            if !stands_behind(server, book, asked, place) {
+                return Some(Wrong::Early(asked.client, asked.timestamp));
             }
         }
     }
     None
+}
+
+// whether a request that took effect at that place did so behind all that had been accepted before it was signed
+fn stands_behind(server: &Server, book: &Book, asked: &Asked, place: usize) -> bool {
+    for (number, accepted) in book.accepted.iter().enumerate() {
+        if number < asked.accepted_before && !stands_before(server, accepted, place) {
+            return false;
+        }
+    }
+    true
 }

@@ -141,8 +141,9 @@ fn words_of(reply: Option<Vec<u8>>) -> Option<(u32, u32)> {
 
 fn word_at(bytes: &[u8], place: usize) -> Option<u32> {
     let mut word = 0u32;
-    for byte in bytes.get(place..place.checked_add(4)?)? {
-        word = (word << 8) | *byte as u32;
+    for ahead in 0..4usize {
+        let byte = bytes.get(place.checked_add(ahead)?)?;
+        word = word.wrapping_mul(256).wrapping_add(*byte as u32);
     }
     Some(word)
 }
