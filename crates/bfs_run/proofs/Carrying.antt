@@ -4,7 +4,7 @@ use Rattle.std.specs.Prelude.{bytes_eq, filter, nat_le, ◌==◌}
 use Rattle.std.specs.List.{slice_get}
 use Rattle.std.proofs.lemmas.Bool.{and_parts, cond_both}
 use Rattle.std.proofs.lemmas.List.{length-replicate}
-use Rattle.bfs_model.specs.Server.Tree.{FileSystem}
+use Rattle.bfs_model.specs.Server.Tree.{FileSystem, Time}
 use Rattle.bfs_auth.specs.Authenticators.{entry_for, is_hash}
 use Rattle.bfs_auth.specs.Keys.{Keys}
 use Rattle.bfs_auth.specs.declared.pairwise.SharedKeys.{SharedKeys}
@@ -270,3 +270,182 @@ module _ (R : Signed model.Request → Type 0) (K : Signed model.Checkpoint → 
           | Some refused ↦ λ _. nothing node sound
         ]) refl
     message_does node sound (Reply reply) auth is = nothing node sound
+
+    times_does : (node : Node) → Sound f node → Does node.order (deeds_of node TimesOut) (outcome node TimesOut)
+    times_does node sound =
+        let view = next_view node.order in
+        let gone = record node { order = (views.left node.order view).now } in
+        let own = own_change node in
+        let deeds = change_deeds gone own in
+        (elim (timeout_refusal node) as (λ r. timeout_refusal node ≡ r → Does node.order (where_taken r (timeout_deeds node)) (unless r node (timed_out node))) [
+          | Some refused ↦ λ _. nothing node sound
+          | None ↦ λ e.
+              let may = not_refused (views.leaving_refusal node.order view) e in
+              let left_is : (order.outcome node.order (order.Leaves view)).now ≡ gone.order = ap (λ (r : Option OrderError). (outcomes.unless r node.order (views.left node.order view)).now) may in
+              let told : OfChange own = λ c i. made_holds node.order c i Known sound.log (as_message PrePrepare c.proposal) (inl refl) in
+              let done = change_does gone own (record { bounded = left_bounded node.order view may; log = sound.log; pending = sound.pending; kept = sound.kept; stable = sound.stable }) told in
+              record {
+                brings = (tt, subst (λ (s : State). BringAll Known s deeds) (sym left_is) done.brings);
+                offers = (tt, subst (λ (s : State). OfferAll (IsChecked no_keys) s deeds) (sym left_is) done.offers);
+                pending = done.pending;
+                kept = done.kept;
+                stable = done.stable;
+                sends = more_in IsBorne (as_message ViewChange own) (with_view_change gone own).sent told done.sends;
+              }
+        ]) refl
+
+    executes_does : (node : Node) → Sound f node → Does node.order (deeds_of node Executes) (outcome node Executes)
+    executes_does node sound = go node.files (next_committed node.order)
+      where
+        found : Option FileSystem → Option Committed → Option (Option Outcome)
+        found files next = option_map (λ (f : FileSystem). option_map (executed_on node f) next) files
+
+        go : (files : Option FileSystem) (next : Option Committed) → Does node.order (cond (is_next (found files next)) (turns.Orders order.Executes ∷ []) []) (after_execution node (found files next))
+        go None next = nothing node sound
+        go (Some files) None = nothing node sound
+        go (Some files) (Some next) = record {
+          brings = (tt, tt);
+          offers = (tt, tt);
+          pending = filter_in R (λ s. not (is_among next.batch s)) node.pending sound.pending;
+          kept = sound.kept;
+          stable = sound.stable;
+          sends = λ s i.
+              let from = out_of_filter_map (λ (answer : Answer). told node.keys (reply_to node.order answer)) (results.outcome files node.table next.batch).answers s i in
+              subst (λ (m : Message). Bears m s.auth) (sym (reply_is (reply_to node.order from.0) _ s from.2)) tt;
+        }
+
+    -- its own CHECKPOINTs are sent
+    abbrev pub Tells : Outcome → Type 0
+    Tells out = (c : Signed model.Checkpoint) → IsIn (as_message Order (as_message Checkpoint c)) out.sent → K c
+
+    tells_does : (node : Node) → Sound f node → Tells (outcome node Checkpoints) → Does node.order (deeds_of node Checkpoints) (outcome node Checkpoints)
+    tells_does node sound = go (checkpoint_refusal node) node.files
+      where
+        go : (r : Option NodeError) (files : Option FileSystem) → Tells (unless r node (or_still node (option_map (checkpointed node) files)))
+            → Does node.order (where_taken r (checkpoint_deeds node files)) (unless r node (or_still node (option_map (checkpointed node) files)))
+        go (Some refused) files tells = nothing node sound
+        go None None tells = nothing node sound
+        go None (Some files) tells =
+            let n = node.order.last in
+            let snapshot = snapshot_of files node.table in
+            let own = checkpoints.checkpoint node.keys node.order n snapshot.digest in
+            let mine : Known own = tells (record { message = record { sender = node.order.me; number = n; digest = snapshot.digest }; auth = own.auth }) (inl refl) in
+            record {
+              brings = (mine, tt);
+              offers = (tt, tt);
+              pending = sound.pending;
+              kept = sound.kept;
+              stable = settled_shown (with_message node.order own) (header own) (with_snapshot node.snapshots n snapshot) (both_in Known node.order.log (own ∷ []) sound.log (one_in Known own mine)) sound.stable;
+              sends = one_in IsBorne (as_message Order own) mine;
+            }
+
+    adopts_does : (node : Node) → Sound f node → (c : StableCheckpoint) (files : FileSystem) (table : Table) → AllIn K c.checkpoints
+        → Does node.order (deeds_of node (Adopts c files table)) (outcome node (Adopts c files table))
+    adopts_does node sound c files table all =
+        let kept_so = with_snapshot node.snapshots c.number (snapshot_of files table) in
+        elim (may_adopt node c && bytes_eq (node_digest files table) c.digest) as (λ b. Does node.order (cond b (turns.Orders (order.Installs node.keys c) ∷ []) []) (cond b (still (adopted node c files table)) (still node))) [
+          | true ↦ record {
+            brings = (λ _. map_in Known (as_message Checkpoint) c.checkpoints all, tt);
+            offers = (tt, tt);
+            pending = sound.pending;
+            kept = sound.kept;
+            stable = cond_both (settles c kept_so) (record kept_so { kept = filter (λ kept. nat_le c.number kept.number) kept_so.kept; stable = Some c }) kept_so (λ (k : Keeping). IsShownIf k.stable) (λ _. all) (λ _. sound.stable);
+            sends = none_in IsBorne;
+          }
+          | false ↦ nothing node sound
+        ]
+
+    -- All steps -------------------------------------------------------------------------------------------------------------------
+
+    pub record Leaves (out : Outcome) : Type 0 where
+      pub sound : Sound f out.now
+      pub sends : AllIn IsBorne out.sent
+
+    module _ (same : order.CallsKeepTheReplica) (node : Node) (sound : Sound f node) where
+      -- what its order accepts, where what it says is known
+      accepts : (step : NodeStep) (brings : BringAll Known node.order (deeds_of node step)) → ((m : Signed OrderMessage) → IsIn m (after_deeds (bare node.order) (deeds_of node step)).sent → (header m).tag < 5 → Known m)
+          → IsBounded (outcome node step).now.order × AllIn Known (outcome node step).now.order.log
+      accepts step brings said =
+          let deeds = deeds_of node step in
+          let is = (step_leads node step sound.bounded (bare node.order) refl).0 in (
+            subst IsBounded is (stays_kept IsBounded kept deeds (bare node.order) sound.bounded),
+            subst (λ (s : State). AllIn Known s.log) is (deeds_keep Known same deeds (bare node.order) node.order.me refl sound.log brings (λ m i own. said m i own.kind)),
+          )
+
+      leaves : (step : NodeStep) → Does node.order (deeds_of node step) (outcome node step) → Leaves (outcome node step)
+      leaves step done =
+          let deeds = deeds_of node step in
+          let order = accepts step done.brings (λ m i. silent m (deeds_offer no_keys deeds (bare node.order) (none_in (IsChecked no_keys)) done.offers m i)) in
+          record { sound = record { bounded = order.0; log = order.1; pending = done.pending; kept = done.kept; stable = done.stable }; sends = done.sends }
+
+      -- its PRE-PREPARE carries what waits
+      proposes : (time : Time) → Leaves (outcome node (Proposes time))
+      proposes time =
+          let batch = pending_batch node time in
+          let own = proposing.proposal node.keys node.order batch in
+          let mine : Known own = sound.pending in
+          let order = accepts (Proposes time) (tt, tt) (λ m i small. elim (either_in (votes_by node.order (order.Proposes node.keys batch)) [] m i) [
+            | inl j ↦ either_way (λ o. IsIn m o.sent → Known m) (proposing.proposal_refusal node.order) node.order (proposing.proposed node.keys node.order batch)
+                (λ _ k. elim k [
+                  | inl e ↦ subst Known (sym e) mine
+                  | inr lone ↦ silent_late m (lone_late node.keys (with_message node.order own) node.order.view (proposing.next_number node.order) (proposing.batch_digest batch) m lone) small
+                ]) (λ k. absurd k) j
+            | inr none ↦ absurd none
+          ]) in
+          elim (proposing.proposal_refusal node.order) as (λ r. IsBounded (unless (option_map of_order r) node (proposed node time)).now.order × AllIn Known (unless (option_map of_order r) node (proposed node time)).now.order.log
+          → Leaves (unless (option_map of_order r) node (proposed node time))) [
+            | None ↦ λ so. record { sound = record { bounded = so.0; log = so.1; pending = sound.pending; kept = sound.kept; stable = sound.stable }; sends = one_in IsBorne (as_message Order own) mine }
+            | Some refused ↦ λ so. record { sound = sound; sends = none_in IsBorne }
+          ] order
+        where
+          silent_late : (m : Signed OrderMessage) → ((header m).tag < 4 → ⊥) → (header m).tag < 5 → Known m
+          silent_late m late small = go m.message m.auth (late) small
+            where
+              go : (x : OrderMessage) (auth : List (List ℕ)) → ((header (record { message = x; auth = auth })).tag < 4 → ⊥) → (header (record { message = x; auth = auth })).tag < 5 → OfOrder x auth
+              go (PrePrepare proposal) auth late small = absurd (late (omega arith))
+              go (Checkpoint c) auth late small = absurd (omega (arith, small))
+              go other auth late small = tt
+
+      pub step_leaves : (step : NodeStep) → Brought step → Tells (outcome node step) → Leaves (outcome node step)
+      step_leaves (Takes signed) is tells = leaves (Takes signed) (message_does node sound signed.message signed.auth is)
+      step_leaves (Proposes time) is tells = proposes time
+      step_leaves Executes is tells = leaves Executes (executes_does node sound)
+      step_leaves Fails is tells = leaves Fails (record { brings = tt; offers = tt; pending = sound.pending; kept = sound.kept; stable = sound.stable; sends = none_in IsBorne })
+      step_leaves Checkpoints is tells = leaves Checkpoints (tells_does node sound tells)
+      step_leaves TimesOut is tells = leaves TimesOut (times_does node sound)
+      step_leaves (Adopts c files table) is tells = leaves (Adopts c files table) (adopts_does node sound c files table is)
+      step_leaves (Delivers bytes) is tells = absurd is
+      step_leaves (TakesRequests messages) is tells = absurd is
+
+  pub begins_sound : (f me : ℕ) (keys : Keys) (files : FileSystem) (table : Table) → Sound f (node_with f me keys files table)
+  begins_sound f me keys files table = record { bounded = refl; log = none_in Known; pending = none_in R; kept = (length-replicate (replicas f) None, none_kept OfChange 0 (replicas f)); stable = tt }
+
+-- as more is signed and sent
+module _ (R Q : Signed model.Request → Type 0) (K L : Signed model.Checkpoint → Type 0) (more : (s : Signed model.Request) → R s → Q s) (later : (c : Signed model.Checkpoint) → K c → L c) where
+  known_on : (m : OrderMessage) (auth : List (List ℕ)) → OfOrder R K m auth → OfOrder Q L m auth
+  known_on (PrePrepare proposal) auth is = λ s i. more s (is s i)
+  known_on (Checkpoint c) auth is = later (record { message = c; auth = auth }) is
+  known_on other auth is = tt
+
+  change_on : (s : Signed model.ViewChange) → OfChange R K s → OfChange Q L s
+  change_on s is = λ c i r j. more r (is c i r j)
+
+  pub bears_on : (m : Message) (auth : List (List ℕ)) → Bears R K m auth → Bears Q L m auth
+  bears_on (Request request) auth is = more (record { message = request; auth = auth }) is
+  bears_on (Order m) auth is = known_on m auth is
+  bears_on (ViewChange change) auth is = λ c i r j. more r (is c i r j)
+  bears_on (NewView new) auth is = (λ s i. change_on s (is.0 s i), λ m i. known_on m.message m.auth (is.1 m i))
+  bears_on (Reply reply) auth is = tt
+
+  pub sound_on : (f : ℕ) (node : Node) → Sound R K f node → Sound Q L f node
+  sound_on f node is = record {
+    bounded = is.bounded;
+    log = λ m i. known_on m.message m.auth (is.log m i);
+    pending = λ s i. more s (is.pending s i);
+    kept = (is.kept.0, good_on (OfChange R K) (OfChange Q L) change_on 0 node.changes.changes is.kept.1);
+    stable = shown_on node.snapshots.stable is.stable;
+  }
+    where
+      shown_on : (o : Option StableCheckpoint) → IsShownIf R K o → IsShownIf Q L o
+      shown_on None shown = tt
+      shown_on (Some c) shown = λ x i. later x (shown x i)
