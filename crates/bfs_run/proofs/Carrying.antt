@@ -110,21 +110,27 @@ module _ (R : Signed model.Request → Type 0) (K : Signed model.Checkpoint → 
   abbrev pub OfChange : Signed model.ViewChange → Type 0
   OfChange s = AreSo Holds s.message
 
-  abbrev pub Bears : Message → (auth : List (List ℕ)) → Type 0
-  Bears (Request request) auth = R (record { message = request; auth = auth })
-  Bears (Order m) auth = OfOrder m auth
-  Bears (ViewChange change) auth = AreSo Holds change
-  Bears (NewView new) auth = AllIn OfChange new.changes × AllIn Known (as_proposals new.proposals)
-  Bears (Reply reply) auth = Unit {0}
+  abbrev pub Bears : (Replies : model.Reply → Type 0) → Message → (auth : List (List ℕ)) → Type 0
+  Bears Replies (Request request) auth = R (record { message = request; auth = auth })
+  Bears Replies (Order m) auth = OfOrder m auth
+  Bears Replies (ViewChange change) auth = AreSo Holds change
+  Bears Replies (NewView new) auth = AllIn OfChange new.changes × AllIn Known (as_proposals new.proposals)
+  Bears Replies (Reply reply) auth = Replies reply
 
-  abbrev pub IsBorne : Signed Message → Type 0
-  IsBorne s = Bears s.message s.auth
+  -- as it comes
+  abbrev pub IsBrought : Signed Message → Type 0
+  IsBrought s = Bears (λ reply. Unit {0}) s.message s.auth
+
+  -- as that replica sends it: its REPLYs have its number
+  abbrev pub IsBorne : (who : ℕ) → Signed Message → Type 0
+  IsBorne who s = Bears (λ reply. reply.sender ≡ who) s.message s.auth
 
   abbrev pub IsShownIf : Option StableCheckpoint → Type 0
   IsShownIf None = Unit {0}
   IsShownIf (Some c) = AllIn K c.checkpoints
 
-  pub record Sound (f : ℕ) (node : Node) : Type 0 where
+  pub record Sound (f who : ℕ) (node : Node) : Type 0 where
+    pub me : node.order.me ≡ who
     pub bounded : IsBounded node.order
     pub log : AllIn Known node.order.log
     pub pending : AllIn R node.pending
@@ -133,7 +139,7 @@ module _ (R : Signed model.Request → Type 0) (K : Signed model.Checkpoint → 
 
   -- of what comes to a node
   abbrev pub Brought : NodeStep → Type 0
-  Brought (Takes s) = IsBorne s
+  Brought (Takes s) = IsBrought s
   Brought (Adopts c files table) = AllIn K c.checkpoints
   Brought (Delivers bytes) = ⊥
   Brought (TakesRequests messages) = ⊥
@@ -169,7 +175,7 @@ module _ (R : Signed model.Request → Type 0) (K : Signed model.Checkpoint → 
       told_known number digest (Prepare vote) auth x e is = absurd cc
       told_known number digest (Commit vote) auth x e is = absurd cc
 
-  module _ (f : ℕ) where
+  module _ (f who : ℕ) where
     -- what a step does, but that its order accepts it
     record Does (s : State) (deeds : List ViewDeed) (out : Outcome) : Type 0 where
       brings : BringAll Known s deeds
@@ -177,19 +183,19 @@ module _ (R : Signed model.Request → Type 0) (K : Signed model.Checkpoint → 
       pending : AllIn R out.now.pending
       kept : AreKept OfChange f out.now.changes
       stable : IsShownIf out.now.snapshots.stable
-      sends : AllIn IsBorne out.sent
+      sends : AllIn (IsBorne who) out.sent
 
-    nothing : (node : Node) → Sound f node → Does node.order [] (still node)
-    nothing node sound = record { brings = tt; offers = tt; pending = sound.pending; kept = sound.kept; stable = sound.stable; sends = none_in IsBorne }
+    nothing : (node : Node) → Sound f who node → Does node.order [] (still node)
+    nothing node sound = record { brings = tt; offers = tt; pending = sound.pending; kept = sound.kept; stable = sound.stable; sends = none_in (IsBorne who) }
 
-    as_sent : (log : Log) → AllIn Known log → AllIn IsBorne (as_messages log)
-    as_sent log all = map_in IsBorne (as_message Order) log all
+    as_sent : (log : Log) → AllIn Known log → AllIn (IsBorne who) (as_messages log)
+    as_sent log all = map_in (IsBorne who) (as_message Order) log all
 
-    unless_known : (s : State) (call : order.Call) (r : Option OrderError) (done : outcomes.Outcome) → Offers (IsChecked no_keys) s call → votes_by s call ≡ (outcomes.unless r s done).sent → r ≡ None → AllIn IsBorne (as_messages done.sent)
+    unless_known : (s : State) (call : order.Call) (r : Option OrderError) (done : outcomes.Outcome) → Offers (IsChecked no_keys) s call → votes_by s call ≡ (outcomes.unless r s done).sent → r ≡ None → AllIn (IsBorne who) (as_messages done.sent)
     unless_known s call r done offers is none =
         as_sent done.sent (subst (λ (l : Log). AllIn Known l) (is ∙ ap (λ (o : Option OrderError). (outcomes.unless o s done).sent) none) (votes_known s call offers))
 
-    begun_does : (node : Node) → Sound f node → Does node.order (begun_deeds node) (begun_if_due node)
+    begun_does : (node : Node) → Sound f who node → Does node.order (begun_deeds node) (begun_if_due node)
     begun_does node sound =
         let asked = node.order.asked in
         let changes = changes_for asked node.changes in
@@ -208,28 +214,28 @@ module _ (R : Signed model.Request → Type 0) (K : Signed model.Checkpoint → 
             pending = sound.pending;
             kept = kept_above OfChange f asked node.changes sound.kept;
             stable = sound.stable;
-            sends = more_in IsBorne (as_message NewView (signed_new_view node.keys new)) _ (good, handed)
+            sends = more_in (IsBorne who) (as_message NewView (signed_new_view node.keys new)) _ (good, handed)
                 (unless_known node.order (order.Enters node.keys asked min_s new.proposals) (views.entering_refusal node.order asked) (views.entered node.keys node.order asked min_s new.proposals) tt refl (begins_open node sound.bounded e));
           }
         ]) refl
 
-    change_does : (node : Node) (s : Signed model.ViewChange) → Sound f node → OfChange s → Does node.order (change_deeds node s) (with_view_change node s)
+    change_does : (node : Node) (s : Signed model.ViewChange) → Sound f who node → OfChange s → Does node.order (change_deeds node s) (with_view_change node s)
     change_does node s sound is =
         let there = record node { changes = with_change node.changes s } in
         let noted = record node { changes = with_asked node.changes s.message } in
-        let then : Sound f there = record { bounded = sound.bounded; log = sound.log; pending = sound.pending; kept = kept_with OfChange f node.changes s is sound.kept; stable = sound.stable } in
+        let then : Sound f who there = record { me = sound.me; bounded = sound.bounded; log = sound.log; pending = sound.pending; kept = kept_with OfChange f node.changes s is sound.kept; stable = sound.stable } in
         elim (leads node s.message.view) as (λ b. Does node.order (cond b (begun_deeds there) []) (cond b (begun_if_due there) (still noted))) [
           | true ↦ begun_does there then
-          | false ↦ record { brings = tt; offers = tt; pending = sound.pending; kept = sound.kept; stable = sound.stable; sends = none_in IsBorne }
+          | false ↦ record { brings = tt; offers = tt; pending = sound.pending; kept = sound.kept; stable = sound.stable; sends = none_in (IsBorne who) }
         ]
 
-    message_does : (node : Node) → Sound f node → (m : Message) (auth : List (List ℕ)) → Bears m auth
+    message_does : (node : Node) → Sound f who node → (m : Message) (auth : List (List ℕ)) → Bears (λ reply. Unit {0}) m auth
         → Does node.order (message_deeds node (record { message = m; auth = auth }) m)
         (unless (message_refusal node (record { message = m; auth = auth }) m) node (message_delivered node (record { message = m; auth = auth }) m))
     message_does node sound (Request request) auth is =
         let s : Signed model.Request = record { message = request; auth = auth } in
         elim (request_refusal node s) as (λ r. Does node.order [] (unless r node (with_request node s))) [
-          | None ↦ record { brings = tt; offers = tt; pending = both_in R node.pending (s ∷ []) sound.pending (one_in R s is); kept = sound.kept; stable = sound.stable; sends = none_in IsBorne }
+          | None ↦ record { brings = tt; offers = tt; pending = both_in R node.pending (s ∷ []) sound.pending (one_in R s is); kept = sound.kept; stable = sound.stable; sends = none_in (IsBorne who) }
           | Some refused ↦ nothing node sound
         ]
     message_does node sound (Order message) auth is =
@@ -244,7 +250,7 @@ module _ (R : Signed model.Request → Type 0) (K : Signed model.Checkpoint → 
             stable = settled_shown (with_message node.order m) (header m) node.snapshots (both_in Known node.order.log (m ∷ []) sound.log (one_in Known m is)) sound.stable;
             sends = unless_known node.order call (refusal node.keys node.order m) (accepted node.keys node.order m) tt refl e;
           }
-          | Some refused ↦ λ _. record { brings = (λ _. is, tt); offers = (tt, tt); pending = sound.pending; kept = sound.kept; stable = sound.stable; sends = none_in IsBorne }
+          | Some refused ↦ λ _. record { brings = (λ _. is, tt); offers = (tt, tt); pending = sound.pending; kept = sound.kept; stable = sound.stable; sends = none_in (IsBorne who) }
         ]) refl
     message_does node sound (ViewChange change) auth is =
         let s : Signed model.ViewChange = record { message = change; auth = auth } in
@@ -271,7 +277,7 @@ module _ (R : Signed model.Request → Type 0) (K : Signed model.Checkpoint → 
         ]) refl
     message_does node sound (Reply reply) auth is = nothing node sound
 
-    times_does : (node : Node) → Sound f node → Does node.order (deeds_of node TimesOut) (outcome node TimesOut)
+    times_does : (node : Node) → Sound f who node → Does node.order (deeds_of node TimesOut) (outcome node TimesOut)
     times_does node sound =
         let view = next_view node.order in
         let gone = record node { order = (views.left node.order view).now } in
@@ -283,18 +289,18 @@ module _ (R : Signed model.Request → Type 0) (K : Signed model.Checkpoint → 
               let may = not_refused (views.leaving_refusal node.order view) e in
               let left_is : (order.outcome node.order (order.Leaves view)).now ≡ gone.order = ap (λ (r : Option OrderError). (outcomes.unless r node.order (views.left node.order view)).now) may in
               let told : OfChange own = λ c i. made_holds node.order c i Known sound.log (as_message PrePrepare c.proposal) (inl refl) in
-              let done = change_does gone own (record { bounded = left_bounded node.order view may; log = sound.log; pending = sound.pending; kept = sound.kept; stable = sound.stable }) told in
+              let done = change_does gone own (record { me = sound.me; bounded = left_bounded node.order view may; log = sound.log; pending = sound.pending; kept = sound.kept; stable = sound.stable }) told in
               record {
                 brings = (tt, subst (λ (s : State). BringAll Known s deeds) (sym left_is) done.brings);
                 offers = (tt, subst (λ (s : State). OfferAll (IsChecked no_keys) s deeds) (sym left_is) done.offers);
                 pending = done.pending;
                 kept = done.kept;
                 stable = done.stable;
-                sends = more_in IsBorne (as_message ViewChange own) (with_view_change gone own).sent told done.sends;
+                sends = more_in (IsBorne who) (as_message ViewChange own) (with_view_change gone own).sent told done.sends;
               }
         ]) refl
 
-    executes_does : (node : Node) → Sound f node → Does node.order (deeds_of node Executes) (outcome node Executes)
+    executes_does : (node : Node) → Sound f who node → Does node.order (deeds_of node Executes) (outcome node Executes)
     executes_does node sound = go node.files (next_committed node.order)
       where
         found : Option FileSystem → Option Committed → Option (Option Outcome)
@@ -311,14 +317,14 @@ module _ (R : Signed model.Request → Type 0) (K : Signed model.Checkpoint → 
           stable = sound.stable;
           sends = λ s i.
               let from = out_of_filter_map (λ (answer : Answer). told node.keys (reply_to node.order answer)) (results.outcome files node.table next.batch).answers s i in
-              subst (λ (m : Message). Bears m s.auth) (sym (reply_is (reply_to node.order from.0) _ s from.2)) tt;
+              subst (λ (m : Message). Bears (λ reply. reply.sender ≡ who) m s.auth) (sym (reply_is (reply_to node.order from.0) _ s from.2)) sound.me;
         }
 
     -- its own CHECKPOINTs are sent
     abbrev pub Tells : Outcome → Type 0
     Tells out = (c : Signed model.Checkpoint) → IsIn (as_message Order (as_message Checkpoint c)) out.sent → K c
 
-    tells_does : (node : Node) → Sound f node → Tells (outcome node Checkpoints) → Does node.order (deeds_of node Checkpoints) (outcome node Checkpoints)
+    tells_does : (node : Node) → Sound f who node → Tells (outcome node Checkpoints) → Does node.order (deeds_of node Checkpoints) (outcome node Checkpoints)
     tells_does node sound = go (checkpoint_refusal node) node.files
       where
         go : (r : Option NodeError) (files : Option FileSystem) → Tells (unless r node (or_still node (option_map (checkpointed node) files)))
@@ -336,10 +342,10 @@ module _ (R : Signed model.Request → Type 0) (K : Signed model.Checkpoint → 
               pending = sound.pending;
               kept = sound.kept;
               stable = settled_shown (with_message node.order own) (header own) (with_snapshot node.snapshots n snapshot) (both_in Known node.order.log (own ∷ []) sound.log (one_in Known own mine)) sound.stable;
-              sends = one_in IsBorne (as_message Order own) mine;
+              sends = one_in (IsBorne who) (as_message Order own) mine;
             }
 
-    adopts_does : (node : Node) → Sound f node → (c : StableCheckpoint) (files : FileSystem) (table : Table) → AllIn K c.checkpoints
+    adopts_does : (node : Node) → Sound f who node → (c : StableCheckpoint) (files : FileSystem) (table : Table) → AllIn K c.checkpoints
         → Does node.order (deeds_of node (Adopts c files table)) (outcome node (Adopts c files table))
     adopts_does node sound c files table all =
         let kept_so = with_snapshot node.snapshots c.number (snapshot_of files table) in
@@ -350,7 +356,7 @@ module _ (R : Signed model.Request → Type 0) (K : Signed model.Checkpoint → 
             pending = sound.pending;
             kept = sound.kept;
             stable = cond_both (settles c kept_so) (record kept_so { kept = filter (λ kept. nat_le c.number kept.number) kept_so.kept; stable = Some c }) kept_so (λ (k : Keeping). IsShownIf k.stable) (λ _. all) (λ _. sound.stable);
-            sends = none_in IsBorne;
+            sends = none_in (IsBorne who);
           }
           | false ↦ nothing node sound
         ]
@@ -358,25 +364,26 @@ module _ (R : Signed model.Request → Type 0) (K : Signed model.Checkpoint → 
     -- All steps -------------------------------------------------------------------------------------------------------------------
 
     pub record Leaves (out : Outcome) : Type 0 where
-      pub sound : Sound f out.now
-      pub sends : AllIn IsBorne out.sent
+      pub sound : Sound f who out.now
+      pub sends : AllIn (IsBorne who) out.sent
 
-    module _ (same : order.CallsKeepTheReplica) (node : Node) (sound : Sound f node) where
+    module _ (same : order.CallsKeepTheReplica) (node : Node) (sound : Sound f who node) where
       -- what its order accepts, where what it says is known
       accepts : (step : NodeStep) (brings : BringAll Known node.order (deeds_of node step)) → ((m : Signed OrderMessage) → IsIn m (after_deeds (bare node.order) (deeds_of node step)).sent → (header m).tag < 5 → Known m)
-          → IsBounded (outcome node step).now.order × AllIn Known (outcome node step).now.order.log
+          → IsBounded (outcome node step).now.order × AllIn Known (outcome node step).now.order.log × ((outcome node step).now.order.me ≡ who)
       accepts step brings said =
           let deeds = deeds_of node step in
           let is = (step_leads node step sound.bounded (bare node.order) refl).0 in (
             subst IsBounded is (stays_kept IsBounded kept deeds (bare node.order) sound.bounded),
             subst (λ (s : State). AllIn Known s.log) is (deeds_keep Known same deeds (bare node.order) node.order.me refl sound.log brings (λ m i own. said m i own.kind)),
+            subst (λ (s : State). s.me ≡ who) is (stays_kept (λ (s : State). s.me ≡ who) (λ s call so. (same s call).1 ∙ so) deeds (bare node.order) sound.me),
           )
 
       leaves : (step : NodeStep) → Does node.order (deeds_of node step) (outcome node step) → Leaves (outcome node step)
       leaves step done =
           let deeds = deeds_of node step in
           let order = accepts step done.brings (λ m i. silent m (deeds_offer no_keys deeds (bare node.order) (none_in (IsChecked no_keys)) done.offers m i)) in
-          record { sound = record { bounded = order.0; log = order.1; pending = done.pending; kept = done.kept; stable = done.stable }; sends = done.sends }
+          record { sound = record { me = order.2; bounded = order.0; log = order.1; pending = done.pending; kept = done.kept; stable = done.stable }; sends = done.sends }
 
       -- its PRE-PREPARE carries what waits
       proposes : (time : Time) → Leaves (outcome node (Proposes time))
@@ -392,10 +399,10 @@ module _ (R : Signed model.Request → Type 0) (K : Signed model.Checkpoint → 
                 ]) (λ k. absurd k) j
             | inr none ↦ absurd none
           ]) in
-          elim (proposing.proposal_refusal node.order) as (λ r. IsBounded (unless (option_map of_order r) node (proposed node time)).now.order × AllIn Known (unless (option_map of_order r) node (proposed node time)).now.order.log
+          elim (proposing.proposal_refusal node.order) as (λ r. IsBounded (unless (option_map of_order r) node (proposed node time)).now.order × AllIn Known (unless (option_map of_order r) node (proposed node time)).now.order.log × ((unless (option_map of_order r) node (proposed node time)).now.order.me ≡ who)
           → Leaves (unless (option_map of_order r) node (proposed node time))) [
-            | None ↦ λ so. record { sound = record { bounded = so.0; log = so.1; pending = sound.pending; kept = sound.kept; stable = sound.stable }; sends = one_in IsBorne (as_message Order own) mine }
-            | Some refused ↦ λ so. record { sound = sound; sends = none_in IsBorne }
+            | None ↦ λ so. record { sound = record { me = so.2; bounded = so.0; log = so.1; pending = sound.pending; kept = sound.kept; stable = sound.stable }; sends = one_in (IsBorne who) (as_message Order own) mine }
+            | Some refused ↦ λ so. record { sound = sound; sends = none_in (IsBorne who) }
           ] order
         where
           silent_late : (m : Signed OrderMessage) → ((header m).tag < 4 → ⊥) → (header m).tag < 5 → Known m
@@ -410,15 +417,15 @@ module _ (R : Signed model.Request → Type 0) (K : Signed model.Checkpoint → 
       step_leaves (Takes signed) is tells = leaves (Takes signed) (message_does node sound signed.message signed.auth is)
       step_leaves (Proposes time) is tells = proposes time
       step_leaves Executes is tells = leaves Executes (executes_does node sound)
-      step_leaves Fails is tells = leaves Fails (record { brings = tt; offers = tt; pending = sound.pending; kept = sound.kept; stable = sound.stable; sends = none_in IsBorne })
+      step_leaves Fails is tells = leaves Fails (record { brings = tt; offers = tt; pending = sound.pending; kept = sound.kept; stable = sound.stable; sends = none_in (IsBorne who) })
       step_leaves Checkpoints is tells = leaves Checkpoints (tells_does node sound tells)
       step_leaves TimesOut is tells = leaves TimesOut (times_does node sound)
       step_leaves (Adopts c files table) is tells = leaves (Adopts c files table) (adopts_does node sound c files table is)
       step_leaves (Delivers bytes) is tells = absurd is
       step_leaves (TakesRequests messages) is tells = absurd is
 
-  pub begins_sound : (f me : ℕ) (keys : Keys) (files : FileSystem) (table : Table) → Sound f (node_with f me keys files table)
-  begins_sound f me keys files table = record { bounded = refl; log = none_in Known; pending = none_in R; kept = (length-replicate (replicas f) None, none_kept OfChange 0 (replicas f)); stable = tt }
+  pub begins_sound : (f me : ℕ) (keys : Keys) (files : FileSystem) (table : Table) → Sound f me (node_with f me keys files table)
+  begins_sound f me keys files table = record { me = refl; bounded = refl; log = none_in Known; pending = none_in R; kept = (length-replicate (replicas f) None, none_kept OfChange 0 (replicas f)); stable = tt }
 
 -- as more is signed and sent
 module _ (R Q : Signed model.Request → Type 0) (K L : Signed model.Checkpoint → Type 0) (more : (s : Signed model.Request) → R s → Q s) (later : (c : Signed model.Checkpoint) → K c → L c) where
@@ -430,15 +437,16 @@ module _ (R Q : Signed model.Request → Type 0) (K L : Signed model.Checkpoint 
   change_on : (s : Signed model.ViewChange) → OfChange R K s → OfChange Q L s
   change_on s is = λ c i r j. more r (is c i r j)
 
-  pub bears_on : (m : Message) (auth : List (List ℕ)) → Bears R K m auth → Bears Q L m auth
-  bears_on (Request request) auth is = more (record { message = request; auth = auth }) is
-  bears_on (Order m) auth is = known_on m auth is
-  bears_on (ViewChange change) auth is = λ c i r j. more r (is c i r j)
-  bears_on (NewView new) auth is = (λ s i. change_on s (is.0 s i), λ m i. known_on m.message m.auth (is.1 m i))
-  bears_on (Reply reply) auth is = tt
+  pub bears_on : (Replies Others : model.Reply → Type 0) → ((reply : model.Reply) → Replies reply → Others reply) → (m : Message) (auth : List (List ℕ)) → Bears R K Replies m auth → Bears Q L Others m auth
+  bears_on Replies Others so (Request request) auth is = more (record { message = request; auth = auth }) is
+  bears_on Replies Others so (Order m) auth is = known_on m auth is
+  bears_on Replies Others so (ViewChange change) auth is = λ c i r j. more r (is c i r j)
+  bears_on Replies Others so (NewView new) auth is = (λ s i. change_on s (is.0 s i), λ m i. known_on m.message m.auth (is.1 m i))
+  bears_on Replies Others so (Reply reply) auth is = so reply is
 
-  pub sound_on : (f : ℕ) (node : Node) → Sound R K f node → Sound Q L f node
-  sound_on f node is = record {
+  pub sound_on : (f who : ℕ) (node : Node) → Sound R K f who node → Sound Q L f who node
+  sound_on f who node is = record {
+    me = is.me;
     bounded = is.bounded;
     log = λ m i. known_on m.message m.auth (is.log m i);
     pending = λ s i. more s (is.pending s i);
