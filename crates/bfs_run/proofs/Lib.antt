@@ -1,2 +1,4 @@
 -- What proofs share.
 mod Carrying
+mod Acting
+mod Clusters

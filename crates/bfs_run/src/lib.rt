@@ -1,2 +1,4 @@
-//! The run of a trace is one that clients see as of one server.
+//! Clients of the run of a trace see one server.
 #![tactic(auto)]
+
+pub mod laws;
