@@ -1,6 +1,6 @@
 -- What a cluster of replicas does is steps of its nodes.
 use Rattle.std.proofs.Common.{◌≡◌, ℕ, zero, suc, ◌+◌, ◌==◌, Bool, true, false, cond, ◌&&◌, List, [], ◌∷◌, ◌++◌, length, ◌⊎◌, Option, Some, None, option_map, inl, inr, refl, sym, ap, ap₂, subst, ◌∙◌}
-use Rattle.std.specs.Prelude.{bytes_eq, if◌then◌else◌, nat_lt}
+use Rattle.std.specs.Prelude.{bytes_eq, nat_lt}
 use Rattle.std.specs.List.{find, fold, list_any, range_with_len, slice_get, slice_set}
 use Rattle.std.proofs.lemmas.Slice.Eq.{bytes_eq-Decides}
 use Rattle.bfs_model.specs.Bytes.Call.{◌>>=◌}
@@ -29,12 +29,12 @@ use Rattle.bfs_node.specs.declared.receivers.Receivers.{Receivers}
 use Rattle.bfs_node.specs.declared.receivers.Receivers.TheVariants.{Replicas, Client}
 use Rattle.bfs_cluster.specs.Blocks.{each_does, proposal, requested}
 use Rattle.bfs_cluster.specs.CatchingUp.{AllCatchUp, CatchesUp, Offer, Takes as TakesOffer, Times, ahead_of, if_above, offered, or_else}
-use Rattle.bfs_cluster.specs.Steps.{Rests, Round, Settles, after, delivering, delivery, handed, has_ready, onward, passed_on, step, step_at, turn_taken, turning}
+use Rattle.bfs_cluster.specs.Steps.{Rests, Round, Settles, after, delivering, delivery, handed, has_ready, onward, passed_on, step as next_step, step_at, turn_taken, turning}
 use Rattle.bfs_cluster.specs.Timeouts.{timing_out, waiting_proposal}
 use Rattle.bfs_cluster.specs.World as cluster
 use Rattle.bfs_cluster.specs.World.{Broadcast, Replica, done_by, done_if, node_at, node_if_heard, noted, posted, posted_to, with_hearing, with_node, hearing}
 use Rattle.bfs_nodes_agree.specs.Nodes.Laws.{WhatIsSentIsFair}
-use Rattle.bfs_nodes_agree.specs.Nodes.Replicas.{NodeReplica, after_node_step}
+use Rattle.bfs_nodes_agree.specs.Nodes.Replicas.{NodeReplica, NodeTurn, after_node_step}
 use Rattle.bfs_nodes_agree.specs.Nodes.Steps as nodes
 use Rattle.bfs_nodes_agree.specs.Nodes.Steps.{NodeStep, outcome, still, unless}
 use Rattle.bfs_nodes_agree.proofs.Public.{AllIn, both_at, both_in, either_in, here_after, left_in, one_in, right_in, some_is}
@@ -71,10 +71,10 @@ heard_is (Some r) node e = (elim r.heard as (λ b. cond b (Some r.node) None ≡
 
 module _ (settings : Settings) (liar : ℕ → Bool) (requests : List model.Request) (A : model.Request → Type 0) (H : Signed Message → Type 0) where
   -- what is on its way was sent; what has to be signed is, and what has to be heard
-  pub record Past (w : World) (queue : List Broadcast) (replies : Messages) : Type 0 where
+  pub record Past (w : World) (on_way : List Broadcast) (to_clients : Messages) : Type 0 where
     pub reached : Reached settings liar requests w
-    pub queue : (b : Broadcast) → IsIn b queue → (k : ℕ) × IsIn b.signed (w.nodes k).sent
-    pub replies : (m : Signed Message) → IsIn m replies → (c : ℕ) × WasSentTo w c m
+    pub queue : (b : Broadcast) → IsIn b on_way → (k : ℕ) × IsIn b.signed (w.nodes k).sent
+    pub replies : (m : Signed Message) → IsIn m to_clients → (c : ℕ) × WasSentTo w c m
     pub signed : (q : model.Request) → A q → IsIn q (w.clients q.client).signed
     pub came : (c : ℕ) (m : Signed Message) → H m → receivers_of m.message ≡ Client c → IsIn m (w.clients c).heard
 
@@ -158,7 +158,7 @@ module _ (settings : Settings) (liar : ℕ → Bool) (requests : List model.Requ
 
     step_past : (queue : List Broadcast) (replies : Messages) (number : ℕ) (w : World) (step : NodeStep) → Past w queue replies → Knows w step → Past (taken w number step) queue replies
     step_past queue replies number w step past knows =
-        let turn = record { who = number; step = step } in
+        let turn : NodeTurn = record { who = number; step = step } in
         record {
           reached = steps settings liar requests once same fair w past.reached turn knows;
           queue = λ b i. let was = past.queue b i in (was.0, sent_on w (Steps turn) was.0 b.signed was.1);
@@ -170,7 +170,7 @@ module _ (settings : Settings) (liar : ℕ → Bool) (requests : List model.Requ
     then : (cw : cluster.World) (number : ℕ) (w : World) (done : Outcome) (step : NodeStep) → Ready cw number w done → Knows w step
         → Ready cw number (taken w number step) (record { now = (outcome done.now step).now; sent = done.sent ++ (outcome done.now step).sent })
     then cw number w done step ready knows =
-        let turn = record { who = number; step = step } in
+        let turn : NodeTurn = record { who = number; step = step } in
         let after = (taken w number step).nodes in
         let here = here_after w.nodes turn in
         record {
@@ -297,7 +297,7 @@ module _ (settings : Settings) (liar : ℕ → Bool) (requests : List model.Requ
           | false ↦ put rest (λ x i. all x (inr i))
         ]
 
-    one_step : (cw next : cluster.World) → step cw ≡ Some next → Stands cw → Stands next
+    one_step : (cw next : cluster.World) → next_step cw ≡ Some next → Stands cw → Stands next
     one_step cw next e s = go cw.turn cw.queue refl e
       where
         go : (turn : Option ℕ) (queue : List Broadcast) → cw.queue ≡ queue → step_at cw turn queue ≡ Some next → Stands next
@@ -310,7 +310,7 @@ module _ (settings : Settings) (liar : ℕ → Bool) (requests : List model.Requ
 
     all_steps : (n : ℕ) (cw : cluster.World) → Stands cw → Stands (after n cw)
     all_steps zero cw s = s
-    all_steps (suc n) cw s = (elim (step cw) as (λ o. step cw ≡ o → Stands (onward cw o (λ next. after n next))) [
+    all_steps (suc n) cw s = (elim (next_step cw) as (λ o. next_step cw ≡ o → Stands (onward cw o (λ next. after n next))) [
       | None ↦ λ e. s
       | Some next ↦ λ e. all_steps n next (one_step cw next e s)
     ]) refl

@@ -22,7 +22,7 @@ use Rattle.bfs_clients.specs.Clients.{Clients, clients_of, keys_at, signed_reque
 use Rattle.bfs_clients.specs.Tallies.{Tally, agreed, has_counted, is_signed_reply, is_wanted, no_replies, result_to, tallied_as, tallied_by, tally_of, waits, with_reply}
 use Rattle.bfs_cluster.specs.World as cluster
 use Rattle.bfs_nodes_agree.specs.Nodes.Laws.{WhatIsSentIsFair}
-use Rattle.bfs_nodes_agree.proofs.Public.{AllIn, any_in, both_in, either_in, filter_in, left_in, out_of_filter_map, right_in}
+use Rattle.bfs_nodes_agree.proofs.Orders.Lists.{AllIn, any_in, both_in, either_in, filter_in, left_in, out_of_filter_map, right_in}
 use Rattle.bfs_nodes_agree.proofs.Views.Lists.{in_map, map_in, out_of_map}
 use Rattle.bfs_one_server.specs.Worlds.{Act, Hears, Signs, Client as ClientOf, World, after_act, with_heard, with_signed}
 use Rattle.bfs_replay.specs.Output.{answered_line, answered_lines, line_if_answered, result_line, result_lines, view_line, view_lines}
@@ -32,7 +32,7 @@ use Rattle.bfs_trace.specs.declared.events.TraceEvent.{TraceEvent}
 use Rattle.bfs_trace.specs.declared.events.TraceEvent.TheVariants as event
 use Rattle.bfs_run.specs.Acts.{AskOnce, Line, Result, View, WasSentTo, asked_in, line_text, requests_in, text_of}
 use Rattle.bfs_run.proofs.Acting as acting
-use Rattle.bfs_run.proofs.Acting.{heard_on, reply_in, sent_on, signed_on, was_sent_on}
+use Rattle.bfs_run.proofs.Acting.{heard_on, signed_on, was_sent_on}
 use Rattle.bfs_run.proofs.Clusters.{Past, Stands, block_comes, hears, settles, times_out, waits as waits_there}
 
 -- Tallies -----------------------------------------------------------------------------------------------------------------------
@@ -193,7 +193,7 @@ request_is q None m e = absurd cc
 request_is q (Some keys) m e = let same : signed_by keys (Request q) ≡ m = cc in ap (λ (x : Signed Message). x.message) (sym same)
 
 module _ (settings : Settings) (liar : ℕ → Bool) (requests : List model.Request) (once : AskOnce liar requests) (same : CallsKeepTheReplica) (fair : WhatIsSentIsFair) where
-  clients : Clients
+  abbrev clients : Clients
   clients = clients_of settings
 
   -- these requests were signed, and these messages heard
@@ -254,7 +254,7 @@ module _ (settings : Settings) (liar : ℕ → Bool) (requests : List model.Requ
   sign_all : (qs asked : List model.Request) (heard : Messages) (cw : cluster.World) → ((q : model.Request) → IsIn q qs → IsIn q requests) → By asked heard cw → By (asked ++ qs) heard cw
   sign_all [] asked heard cw there s = subst (λ (l : List model.Request). By l heard cw) (sym (append-nil asked)) s
   sign_all (q ∷ qs) asked heard cw there s =
-      subst (λ (l : List model.Request). By l heard cw) append_assoc (sign_all qs (asked ++ q ∷ []) heard cw (λ x i. there x (inr i)) (sign_one asked heard cw q (there q (inl refl)) s))
+      subst (λ (l : List model.Request). By l heard cw) (append_assoc asked (q ∷ []) qs) (sign_all qs (asked ++ q ∷ []) heard cw (λ x i. there x (inr i)) (sign_one asked heard cw q (there q (inl refl)) s))
 
   hear_one : (asked : List model.Request) (heard : Messages) (cw : cluster.World) (m : Signed Message) → IsIn m cw.replies → By asked heard cw → By asked (heard ++ m ∷ []) cw
   hear_one asked heard cw m there s =
@@ -287,7 +287,7 @@ module _ (settings : Settings) (liar : ℕ → Bool) (requests : List model.Requ
   hear_some : (ms : Messages) (asked : List model.Request) (heard : Messages) (cw : cluster.World) → ((m : Signed Message) → IsIn m ms → IsIn m cw.replies) → By asked heard cw → By asked (heard ++ ms) cw
   hear_some [] asked heard cw there s = subst (λ (l : Messages). By asked l cw) (sym (append-nil heard)) s
   hear_some (m ∷ ms) asked heard cw there s =
-      subst (λ (l : Messages). By asked l cw) append_assoc (hear_some ms asked (heard ++ m ∷ []) cw (λ x i. there x (inr i)) (hear_one asked heard cw m (there m (inl refl)) s))
+      subst (λ (l : Messages). By asked l cw) (append_assoc heard (m ∷ []) ms) (hear_some ms asked (heard ++ m ∷ []) cw (λ x i. there x (inr i)) (hear_one asked heard cw m (there m (inl refl)) s))
 
   -- clients hear the replies that were sent
   hear_all : (asked : List model.Request) (heard : Messages) (cw : cluster.World) → By asked heard cw → By asked (heard ++ cw.replies) (record cw { replies = [] })
@@ -329,7 +329,6 @@ module _ (settings : Settings) (liar : ℕ → Bool) (requests : List model.Requ
   module _ (Executes : Node → Type 0) where
     block_runs : (block : trace.Block) (run next : Run) (output : List ℕ) (asked : List model.Request) (heard : Messages) → ((q : model.Request) → IsIn q (map as_message block.requests) → IsIn q requests)
         → BlockRuns Executes (clients_of settings) block run next output → Runs asked heard run → Prints (asked ++ map as_message block.requests) heard next output
-    unfolding clients
     block_runs block run next output asked heard there is so_far =
         let qs = map as_message block.requests in
         let now = asked ++ qs in
@@ -353,7 +352,6 @@ module _ (settings : Settings) (liar : ℕ → Bool) (requests : List model.Requ
         }
 
     timeout_runs : (run next : Run) (output : List ℕ) (asked : List model.Request) (heard : Messages) → TimeoutRuns Executes (clients_of settings) run next output → Runs asked heard run → Prints asked heard next output
-    unfolding clients
     timeout_runs run next output asked heard is so_far =
         let to = settles settings liar requests (λ q. IsIn q asked) (λ m. IsIn m heard) once same fair Executes in
         let there = to _ is.asked is.asks (times_out settings liar requests (λ q. IsIn q asked) (λ m. IsIn m heard) once same fair run.world so_far.by) in
@@ -391,10 +389,10 @@ module _ (settings : Settings) (liar : ℕ → Bool) (requests : List model.Requ
     events_run (event ∷ events) run last output asked heard there is so_far =
         let first = event_runs event run is.0 is.1 asked heard (λ q i. there q (left_in (asked_in event) (requests_in events) q i)) is.3 so_far in
         let rest = events_run events is.0 last is.2 (asked ++ asked_in event) (heard ++ first.more) (λ q i. there q (right_in (asked_in event) (requests_in events) q i)) is.4 first.runs in
-        let heard_is : (heard ++ first.more) ++ rest.more ≡ heard ++ (first.more ++ rest.more) = append_assoc in
+        let heard_is : (heard ++ first.more) ++ rest.more ≡ heard ++ (first.more ++ rest.more) = append_assoc heard first.more rest.more in
         record {
           more = first.more ++ rest.more;
-          runs = subst (λ (l : Messages). Runs (asked ++ (asked_in event ++ requests_in events)) l last) heard_is (subst (λ (l : List model.Request). Runs l ((heard ++ first.more) ++ rest.more) last) append_assoc rest.runs);
+          runs = subst (λ (l : Messages). Runs (asked ++ (asked_in event ++ requests_in events)) l last) heard_is (subst (λ (l : List model.Request). Runs l ((heard ++ first.more) ++ rest.more) last) (append_assoc asked (asked_in event) (requests_in events)) rest.runs);
           lines = first.lines ++ rest.lines;
           text = is.5 ∙ ap₂ (λ (one other : List ℕ). one ++ other) first.text rest.text ∙ sym (flat_map-append line_text first.lines rest.lines);
           made = subst (λ (l : Messages). AreMade clients l (first.lines ++ rest.lines)) heard_is (λ c t r i. elim (either_in first.lines rest.lines (Result c t (Some r)) i) [

@@ -2,3 +2,5 @@
 mod Carrying
 mod Acting
 mod Clusters
+mod Events
+mod Seeing
