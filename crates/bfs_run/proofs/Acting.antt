@@ -1,5 +1,5 @@
 -- Acts one after another, and what is known once they are done.
-use Rattle.std.proofs.Common.{◌≡◌, ℕ, ◌==◌, Bool, true, false, List, [], ◌∷◌, ◌++◌, ◌⊎◌, Some, inl, inr, refl, sym, ap, subst, ◌∙◌}
+use Rattle.std.proofs.Common.{◌≡◌, ℕ, ◌==◌, Bool, false, List, [], ◌∷◌, ◌++◌, ◌⊎◌, Some, inl, inr, refl, sym, ap, subst, ◌∙◌}
 use Rattle.std.proofs.lemmas.Bool.{cond_both, eqb-true}
 use Rattle.bfs_auth.specs.Keys.{Keys}
 use Rattle.bfs_auth.specs.declared.principals.Principal.TheVariants as principal
@@ -18,20 +18,17 @@ use Rattle.bfs_messages.specs.declared.order_messages.OrderMessage.TheVariants.{
 use Rattle.bfs_settings.specs.Settings.{Settings}
 use Rattle.bfs_order.specs.Laws.Calls.{CallsKeepTheReplica}
 use Rattle.bfs_agreement.specs.Histories.{IsIn}
-use Rattle.bfs_node.specs.Nodes.{Node, Outcome}
 use Rattle.bfs_node.specs.Receivers.{receivers_of}
 use Rattle.bfs_node.specs.declared.receivers.Receivers.TheVariants.{Client}
 use Rattle.bfs_nodes_agree.specs.Nodes.Laws.{WhatIsSentIsFair}
 use Rattle.bfs_nodes_agree.specs.Nodes.Premises.{Comes, EachComes, IsFair, IsWithin}
 use Rattle.bfs_nodes_agree.specs.Nodes.Replicas.{NodeReplica, NodeReplicas, NodeTurn}
 use Rattle.bfs_nodes_agree.specs.Nodes.Steps.{NodeStep, Delivers, Takes, TakesRequests, Adopts, outcome}
-use Rattle.bfs_nodes_agree.proofs.Public.{AllIn, both_at, both_in, here_after, left_in, right_in, some_is}
-use Rattle.bfs_nodes_agree.proofs.Nodes.States.{executed_in}
-use Rattle.bfs_nodes_agree.proofs.Views.Lists.{map_in}
 use Rattle.bfs_one_server.specs.Premises.{MayAct, MayActSo}
 use Rattle.bfs_one_server.specs.Worlds.{Act, Steps, Signs, Hears, Client as ClientOf, Deployment, World, after_act, after_acts, new_world, turns_in, with_heard, with_signed}
 use Rattle.bfs_run.specs.Acts.{AskOnce, HaveTexts, WasSentTo, deployment}
-use Rattle.bfs_run.proofs.Carrying.{Bears, Brought, IsBorne, IsBrought, Leaves, OfOrder, Sound, Tells, bears_on, begins_sound, sound_on, step_leaves}
+use Rattle.bfs_run.proofs.Carrying.{Bears, Brought, IsBorne, OfOrder, Sound, bears_on, begins_sound, sound_on, step_leaves}
+use Rattle.bfs_nodes_agree.proofs.Public.{AllIn, both_at, both_in, executed_in, here_after, left_in, map_in, right_in, some_is}
 
 -- One act more ----------------------------------------------------------------------------------------------------------------
 

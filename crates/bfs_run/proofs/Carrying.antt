@@ -1,8 +1,8 @@
 -- What nodes hold and send: requests of clients, and CHECKPOINTs that were sent.
-use Rattle.std.proofs.Common.{◌≡◌, ℕ, zero, suc, ◌<◌, Bool, true, false, cond, ◌&&◌, not, List, [], ◌∷◌, ◌++◌, Option, Some, None, option_map, inl, inr, refl, sym, ap, subst, ◌∙◌, arith}
+use Rattle.std.proofs.Common.{◌≡◌, ℕ, zero, suc, ◌<◌, true, false, cond, ◌&&◌, not, List, [], ◌∷◌, ◌++◌, Option, Some, None, option_map, inl, inr, refl, sym, ap, subst, ◌∙◌, arith}
 use Rattle.std.specs.Prelude.{bytes_eq, filter, nat_le, ◌==◌}
 use Rattle.std.specs.List.{slice_get}
-use Rattle.std.proofs.lemmas.Bool.{and_parts, cond_both}
+use Rattle.std.proofs.lemmas.Bool.{cond_both}
 use Rattle.std.proofs.lemmas.List.{length-replicate}
 use Rattle.bfs_model.specs.Server.Tree.{FileSystem, Time}
 use Rattle.bfs_auth.specs.Authenticators.{entry_for, is_hash}
@@ -17,7 +17,7 @@ use Rattle.bfs_checkpoints.specs.Texts.{node_digest}
 use Rattle.bfs_log.specs.Batches.{Committed}
 use Rattle.bfs_log.specs.Certificates.{StableCheckpoint}
 use Rattle.bfs_log.specs.Headers.{header}
-use Rattle.bfs_log.specs.Logs.{Log, as_messages, batch_in}
+use Rattle.bfs_log.specs.Logs.{Log, as_messages}
 use Rattle.bfs_model.specs.Bytes.Items.{word}
 use Rattle.bfs_votes.specs.Tags.{request_tag}
 use Rattle.bfs_messages.specs.Batches.{request_text}
@@ -56,24 +56,14 @@ use Rattle.bfs_node.specs.Checkpoints.{checkpointed, checkpoint_refusal}
 use Rattle.bfs_node.specs.Delivering.{message_delivered, message_refusal, ordered, request_refusal, settled_by, with_request}
 use Rattle.bfs_node.specs.Errors.{of_order, of_view}
 use Rattle.bfs_node.specs.Executing.{executed_on, is_next, reply_to, told}
-use Rattle.bfs_node.specs.Nodes.{Messages, Node, Outcome, node_with}
+use Rattle.bfs_node.specs.Nodes.{Node, Outcome, node_with}
 use Rattle.bfs_node.specs.Proposing.{pending_batch, proposed}
 use Rattle.bfs_node.specs.declared.error.NodeError.{NodeError}
 use Rattle.bfs_nodes_agree.specs.Orders.Replicas.{OrderReplica, votes_by}
 use Rattle.bfs_nodes_agree.specs.Views.Replicas as turns
 use Rattle.bfs_nodes_agree.specs.Views.Replicas.{ViewDeed}
 use Rattle.bfs_nodes_agree.specs.Nodes.Steps.{NodeStep, Delivers, Takes, TakesRequests, Proposes, Executes, Fails, Checkpoints, TimesOut, Adopts, still, unless, or_still, after_execution, outcome, where_taken, begun_deeds, change_deeds, message_deeds, checkpoint_deeds, timeout_deeds, deeds_of}
-use Rattle.bfs_nodes_agree.proofs.Orders.Lists.{AllIn, both_in, either_in, filter_in, more_in, none_in, one_in, out_of_filter_map, some_is}
-use Rattle.bfs_nodes_agree.proofs.Orders.Logs.{IsChecked, Offers, votes_checked, votes_own}
-use Rattle.bfs_nodes_agree.proofs.Orders.Results.{either_way}
-use Rattle.bfs_nodes_agree.proofs.Views.Batches.{AreSo, chosen_so}
-use Rattle.bfs_nodes_agree.proofs.Views.Lists.{in_map, map_in, passes_at}
-use Rattle.bfs_nodes_agree.proofs.Views.OfLog.{made_holds}
-use Rattle.bfs_nodes_agree.proofs.Nodes.Bounds.{IsBounded, kept, left_bounded}
-use Rattle.bfs_nodes_agree.proofs.Nodes.Doing.{BringAll, OfferAll, deeds_keep, deeds_offer, stays_kept}
-use Rattle.bfs_nodes_agree.proofs.Nodes.Hearing.{lone_late, reply_is}
-use Rattle.bfs_nodes_agree.proofs.Nodes.Keeping.{AreKept, good_for, good_on, kept_above, kept_with, none_kept}
-use Rattle.bfs_nodes_agree.proofs.Nodes.Steps.{after_deeds, begins_open, not_refused, not_second, step_leads}
+use Rattle.bfs_nodes_agree.proofs.Public.{after_deeds, AllIn, AreKept, AreSo, begins_open, both_in, BringAll, chosen_so, deeds_keep, deeds_offer, either_in, either_way, filter_in, good_for, good_on, IsBounded, IsChecked, kept, kept_above, kept_with, left_bounded, lone_late, made_holds, map_in, more_in, none_in, none_kept, not_refused, not_second, OfferAll, Offers, one_in, out_of_filter_map, passes_at, reply_is, some_is, stays_kept, step_leads, votes_checked, votes_own}
 
 -- by these keys nothing passes
 abbrev no_keys : Keys

@@ -1,11 +1,11 @@
 -- What a cluster of replicas does is steps of its nodes.
 use Rattle.std.proofs.Common.{◌≡◌, ℕ, zero, suc, ◌+◌, ◌==◌, Bool, true, false, cond, ◌&&◌, List, [], ◌∷◌, ◌++◌, length, ◌⊎◌, Option, Some, None, option_map, inl, inr, refl, sym, ap, ap₂, subst, ◌∙◌}
-use Rattle.std.specs.Prelude.{bytes_eq, nat_lt}
+use Rattle.std.specs.Prelude.{nat_lt}
 use Rattle.std.specs.List.{find, fold, list_any, range_with_len, slice_get, slice_set}
 use Rattle.std.proofs.lemmas.Slice.Eq.{bytes_eq-Decides}
 use Rattle.bfs_model.specs.Bytes.Call.{◌>>=◌}
 use Rattle.bfs_model.specs.Server.Tree.{Time}
-use Rattle.bfs_checkpoints.specs.Keeping.{Keeping, Kept, is_of, stable, stable_of}
+use Rattle.bfs_checkpoints.specs.Keeping.{Kept, is_of, stable, stable_of}
 use Rattle.bfs_checkpoints.specs.Texts.{node_digest}
 use Rattle.bfs_log.specs.Certificates.{StableCheckpoint}
 use Rattle.bfs_messages.specs.Messages as model
@@ -15,7 +15,7 @@ use Rattle.bfs_messages.specs.declared.message.Message.TheVariants.{Request}
 use Rattle.bfs_settings.specs.Settings.{Settings}
 use Rattle.bfs_order.specs.Laws.Calls.{CallsKeepTheReplica}
 use Rattle.bfs_agreement.specs.Histories.{IsIn}
-use Rattle.bfs_node.specs.Adopting.{adopted, may_adopt}
+use Rattle.bfs_node.specs.Adopting.{adopted}
 use Rattle.bfs_node.specs.Advancing.{advancing, followed_by, next_of, unless_refused, with_due_checkpoint}
 use Rattle.bfs_node.specs.Changing.{timed_out, timeout_refusal}
 use Rattle.bfs_node.specs.Checkpoints.{checkpoint, checkpoint_refusal}
@@ -28,20 +28,20 @@ use Rattle.bfs_node.specs.declared.error.NodeError.{NodeError}
 use Rattle.bfs_node.specs.declared.receivers.Receivers.{Receivers}
 use Rattle.bfs_node.specs.declared.receivers.Receivers.TheVariants.{Replicas, Client}
 use Rattle.bfs_cluster.specs.Blocks.{each_does, proposal, requested}
-use Rattle.bfs_cluster.specs.CatchingUp.{AllCatchUp, CatchesUp, Offer, Takes as TakesOffer, Times, ahead_of, if_above, offered, or_else}
+use Rattle.bfs_cluster.specs.CatchingUp.{CatchesUp, Offer, Takes as TakesOffer, Times, ahead_of, if_above, offered, or_else}
 use Rattle.bfs_cluster.specs.Steps.{Rests, Round, Settles, after, delivering, delivery, handed, has_ready, onward, passed_on, step as next_step, step_at, turn_taken, turning}
 use Rattle.bfs_cluster.specs.Timeouts.{timing_out, waiting_proposal}
 use Rattle.bfs_cluster.specs.World as cluster
 use Rattle.bfs_cluster.specs.World.{Broadcast, Replica, done_by, done_if, node_at, node_if_heard, noted, posted, posted_to, with_hearing, with_node, hearing}
 use Rattle.bfs_nodes_agree.specs.Nodes.Laws.{WhatIsSentIsFair}
-use Rattle.bfs_nodes_agree.specs.Nodes.Replicas.{NodeReplica, NodeTurn, after_node_step}
+use Rattle.bfs_nodes_agree.specs.Nodes.Replicas.{NodeReplica, NodeTurn}
 use Rattle.bfs_nodes_agree.specs.Nodes.Steps as nodes
 use Rattle.bfs_nodes_agree.specs.Nodes.Steps.{NodeStep, outcome, still, unless}
-use Rattle.bfs_nodes_agree.proofs.Public.{AllIn, both_at, both_in, either_in, here_after, left_in, one_in, right_in, some_is}
 use Rattle.bfs_one_server.specs.Worlds.{Steps, World, after_act}
 use Rattle.bfs_run.specs.Acts.{AskOnce, WasSentTo}
 use Rattle.bfs_run.proofs.Acting.{IsSigned, IsTold, Knows, MayCome, Reached, sent_on, steps, was_sent_on}
 use Rattle.bfs_run.proofs.Carrying.{IsShownIf}
+use Rattle.bfs_nodes_agree.proofs.Public.{AllIn, both_at, both_in, here_after, left_in, one_in, some_is}
 
 -- Lists -------------------------------------------------------------------------------------------------------------------------
 

@@ -1,7 +1,7 @@
 -- What the events of a trace do is acts, and they print what clients accept.
-use Rattle.std.proofs.Common.{◌≡◌, ℕ, ◌+◌, ◌==◌, Bool, true, false, cond, ◌&&◌, not, List, [], ◌∷◌, ◌++◌, map, ◌⊎◌, Option, Some, None, option_map, inl, inr, refl, sym, ap, ap₂, subst, ◌∙◌, append_assoc, append-nil}
-use Rattle.std.specs.Prelude.{nat_lt, max}
-use Rattle.std.specs.List.{filter, filter_map, flat_map, fold, list_any}
+use Rattle.std.proofs.Common.{◌≡◌, ℕ, ◌==◌, Bool, true, false, cond, ◌&&◌, not, List, [], ◌∷◌, ◌++◌, map, Option, Some, None, option_map, inl, inr, refl, sym, ap, ap₂, subst, ◌∙◌, append_assoc, append-nil}
+use Rattle.std.specs.Prelude.{nat_lt}
+use Rattle.std.specs.List.{filter, fold, list_any}
 use Rattle.std.proofs.lemmas.Bool.{cases_Bool, cond_both, eq-eqb, eqb-true, or_cases}
 use Rattle.std.proofs.lemmas.Grind.{flat_map-append}
 use Rattle.std.proofs.lemmas.List.Concat.{flat_map-cons}
@@ -11,7 +11,7 @@ use Rattle.bfs_messages.specs.Messages as model
 use Rattle.bfs_messages.specs.Signing.{signed_by}
 use Rattle.bfs_messages.specs.declared.signed.Signed.{Signed}
 use Rattle.bfs_messages.specs.declared.message.Message.{Message}
-use Rattle.bfs_messages.specs.declared.message.Message.TheVariants.{Request, Order, ViewChange, NewView, Reply}
+use Rattle.bfs_messages.specs.declared.message.Message.TheVariants.{Request, Reply}
 use Rattle.bfs_settings.specs.Settings.{Settings}
 use Rattle.bfs_order.specs.Laws.Calls.{CallsKeepTheReplica}
 use Rattle.bfs_agreement.specs.Histories.{IsIn}
@@ -22,18 +22,17 @@ use Rattle.bfs_clients.specs.Clients.{Clients, clients_of, keys_at, signed_reque
 use Rattle.bfs_clients.specs.Tallies.{Tally, agreed, has_counted, is_signed_reply, is_wanted, no_replies, result_to, tallied_as, tallied_by, tally_of, waits, with_reply}
 use Rattle.bfs_cluster.specs.World as cluster
 use Rattle.bfs_nodes_agree.specs.Nodes.Laws.{WhatIsSentIsFair}
-use Rattle.bfs_nodes_agree.proofs.Orders.Lists.{AllIn, any_in, both_in, either_in, filter_in, left_in, out_of_filter_map, right_in}
-use Rattle.bfs_nodes_agree.proofs.Views.Lists.{in_map, map_in, out_of_map}
-use Rattle.bfs_one_server.specs.Worlds.{Act, Hears, Signs, Client as ClientOf, World, after_act, with_heard, with_signed}
+use Rattle.bfs_one_server.specs.Worlds.{Hears, Signs, World, after_act, with_heard, with_signed}
 use Rattle.bfs_replay.specs.Output.{answered_line, answered_lines, line_if_answered, result_line, result_lines, view_line, view_lines}
 use Rattle.bfs_replay.specs.Runs.{BlockRuns, EventRuns, EventsRun, Run, TimeoutRuns, as_message, counted, sent_requests, unanswered}
 use Rattle.bfs_trace.specs.Events as trace
 use Rattle.bfs_trace.specs.declared.events.TraceEvent.{TraceEvent}
 use Rattle.bfs_trace.specs.declared.events.TraceEvent.TheVariants as event
-use Rattle.bfs_run.specs.Acts.{AskOnce, Line, Result, View, WasSentTo, asked_in, line_text, requests_in, text_of}
+use Rattle.bfs_run.specs.Acts.{AskOnce, Line, Result, View, asked_in, line_text, requests_in, text_of}
 use Rattle.bfs_run.proofs.Acting as acting
 use Rattle.bfs_run.proofs.Acting.{heard_on, signed_on, was_sent_on}
-use Rattle.bfs_run.proofs.Clusters.{Past, Stands, block_comes, hears, settles, times_out, waits as waits_there}
+use Rattle.bfs_run.proofs.Clusters.{Stands, block_comes, hears, settles, times_out, waits as waits_there}
+use Rattle.bfs_nodes_agree.proofs.Public.{AllIn, any_in, both_in, either_in, filter_in, in_map, left_in, map_in, out_of_filter_map, out_of_map, right_in}
 
 -- Tallies -----------------------------------------------------------------------------------------------------------------------
 

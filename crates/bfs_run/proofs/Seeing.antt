@@ -20,19 +20,17 @@ use Rattle.bfs_node.specs.Receivers.{receivers_of}
 use Rattle.bfs_node.specs.declared.receivers.Receivers.TheVariants.{Client}
 use Rattle.bfs_clients.specs.Clients.{clients_of, keys_of_client}
 use Rattle.bfs_clients.specs.Tallies.{agreed, no_replies}
-use Rattle.bfs_cluster.specs.World as cluster
 use Rattle.bfs_cluster.specs.World.{Replica, new_replica}
 use Rattle.bfs_nodes_agree.specs.Nodes.Laws.{FairIsAuthentic, WhatIsSentIsFair}
-use Rattle.bfs_nodes_agree.proofs.Public.{AllIn, none_in, some_is}
 use Rattle.bfs_one_server.specs.Laws.{ClientsSeeOneServer}
 use Rattle.bfs_one_server.specs.Premises.{IsARun}
-use Rattle.bfs_one_server.specs.Worlds.{Act, Deployment, World, beginning, new_world, turns_in}
+use Rattle.bfs_one_server.specs.Worlds.{Deployment, World, beginning, new_world, turns_in}
 use Rattle.bfs_replay.specs.Runs.{new_run}
-use Rattle.bfs_run.specs.Acts.{AreAccepted, AreOfRun, AskOnce, HaveTexts, WasSentTo, deployment, requests_in, world_after}
-use Rattle.bfs_run.specs.Laws.{DontCollide, IsOneServers, TheRunSeesOneServer}
+use Rattle.bfs_run.specs.Acts.{AreAccepted, AskOnce, HaveTexts, WasSentTo, deployment, requests_in}
+use Rattle.bfs_run.specs.Laws.{TheRunSeesOneServer}
 use Rattle.bfs_run.proofs.Acting.{begins}
-use Rattle.bfs_run.proofs.Clusters.{Mirrors}
-use Rattle.bfs_run.proofs.Events.{Counts, Prints, Runs, events_run, is_to, only_own}
+use Rattle.bfs_run.proofs.Events.{Counts, Runs, events_run, is_to, only_own}
+use Rattle.bfs_nodes_agree.proofs.Public.{none_in, some_is}
 
 -- Lists -------------------------------------------------------------------------------------------------------------------------
 
@@ -127,23 +125,23 @@ the_run sees fair_sent fair_run same Executes settings liar events last output r
       },
       accepted,
       λ texts apart.
-      let a_run : IsARun d acts = record {
-        shared = shared settings liar;
-        shared_by_clients = shared_by_clients settings liar;
-        few = let none = none_faulty (replicas settings.f) in omega (arith, none);
-        authentic = fair_run settings.f d.keys (beginning d) d.faulty (turns_in acts) (shared settings liar) (reached.fair (subst HaveTexts reached.is texts));
-        honest = reached.honest;
-        batches_differ = apart.batches;
-        states_differ = apart.states;
-      } in
-      let seen = sees d acts a_run in
-      record {
-        run = a_run;
-        batches = seen.0;
-        executed = seen.1;
-        sees = seen.3;
-        told = λ c t r i honest.
-            let e = seen.3.accepted c t r honest (accepted c t r i) in
-            (e.0, e.1, e.2, (asked e.0.request.client e.0.request (seen.3.signed e.0 e.1 (ap d.liar e.2.client_is ∙ honest))).0);
-      },
+          let a_run : IsARun d acts = record {
+            shared = shared settings liar;
+            shared_by_clients = shared_by_clients settings liar;
+            few = let none = none_faulty (replicas settings.f) in omega (arith, none);
+            authentic = fair_run settings.f d.keys (beginning d) d.faulty (turns_in acts) (shared settings liar) (reached.fair (subst HaveTexts reached.is texts));
+            honest = reached.honest;
+            batches_differ = apart.batches;
+            states_differ = apart.states;
+          } in
+          let seen = sees d acts a_run in
+          record {
+            run = a_run;
+            batches = seen.0;
+            executed = seen.1;
+            sees = seen.3;
+            told = λ c t r i honest.
+                let e = seen.3.accepted c t r honest (accepted c t r i) in
+                (e.0, e.1, e.2, (asked e.0.request.client e.0.request (seen.3.signed e.0 e.1 (ap d.liar e.2.client_is ∙ honest))).0);
+          },
     )

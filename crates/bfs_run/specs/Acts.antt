@@ -18,7 +18,6 @@ use Rattle.bfs_one_server.specs.Laws.{HasAccepted, client_after}
 use Rattle.bfs_one_server.specs.Worlds.{Act, Deployment, World, after_acts, new_world}
 use Rattle.bfs_replay.specs.Output.{result_line, view_line}
 use Rattle.bfs_replay.specs.Runs.{as_message}
-use Rattle.bfs_trace.specs.Events.{Block}
 use Rattle.bfs_trace.specs.declared.events.TraceEvent.{TraceEvent}
 use Rattle.bfs_trace.specs.declared.events.TraceEvent.TheVariants as event
 
