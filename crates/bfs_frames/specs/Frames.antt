@@ -1,6 +1,5 @@
 -- Frames and turns as bytes, and what is read of them.
-use Rattle.std.specs.Prelude.{◌≡◌, ℕ, Bool, false, List, [], ◌∷◌, ◌++◌, length, map, filter, nat_le, Option, None, Some}
-use Rattle.std.specs.Option.{option_map_or}
+use Rattle.std.specs.Prelude.{◌≡◌, ℕ, Bool, List, [], ◌∷◌, ◌++◌, length, map, filter, nat_le, Option, None, Some, is_some, option_and_then, if◌then◌else◌}
 use Rattle.std.specs.List.{flat_map}
 use Rattle.std.specs.Io.KnownBytes.{Consumes}
 use Rattle.bfs_model.specs.Bytes.Formats.{list_text}
@@ -40,9 +39,13 @@ most_of limits Call = limits.call
 most_of limits Answer = limits.answer
 most_of limits Log = limits.log
 
+-- the kind of that number, if it lets so many bytes through
+abbrev pub kind_within : Limits → (number size : ℕ) → Option Kind
+kind_within limits number size = option_and_then (λ kind. if nat_le size (most_of limits kind) then Some kind else None) (kind_at number)
+
 -- its kind is known, and its payload within the limit of that kind
 abbrev pub passes : Limits → RawFrame → Bool
-passes limits frame = option_map_or (λ kind. nat_le (length frame.payload) (most_of limits kind)) (kind_at frame.kind) false
+passes limits frame = is_some (kind_within limits frame.kind (length frame.payload))
 
 -- a frame of the code, as it comes
 abbrev pub raw_frame : Frame → RawFrame

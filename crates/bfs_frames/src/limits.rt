@@ -1,5 +1,5 @@
 ghost use Rattle.std.specs.Prelude.{◌≡◌};
-ghost use Rattle.bfs_frames.specs.Frames.{most_of};
+ghost use Rattle.bfs_frames.specs.Frames.{kind_within, most_of};
 
 use crate::kind::Kind;
 use bfs_types::{MOST_REPLICAS, MOST_REPLY_BYTES, MOST_REQUEST_BYTES};
@@ -66,6 +66,19 @@ impl Limits {
             Kind::Call => self.call,
             Kind::Answer => self.answer,
             Kind::Log => self.log,
+        }
+    }
+
+    /// The kind of a frame that begins with that number and has a payload of so many bytes, or `None` where there is no such kind, or its limit is
+    /// below.
+    pub fn kind_within(&self, number: u8, size: u32) -> Option<Kind>
+        ensures { result ≡ kind_within self.now number size }
+    {
+        let kind = Kind::new(number)?;
+        if size <= self.of(kind) {
+            Some(kind)
+        } else {
+            None
         }
     }
 }

@@ -1,4 +1,4 @@
-ghost use Rattle.std.specs.Prelude.{◌≤◌, All, length, IfOk, IfSome, IfNone};
+ghost use Rattle.std.specs.Prelude.{◌≡◌, ◌≤◌, ◌++◌, All, length, IfOk, IfSome, IfNone, OnOk};
 ghost use Rattle.std.specs.Io.KnownBytes.{Consumes, IsAtEnd};
 ghost use Rattle.bfs_model.specs.Bytes.Items.{word};
 ghost use Rattle.bfs_frames.specs.Frames.{ReadsFrames, ReadsTurn, frames_in, most_of};
@@ -6,7 +6,6 @@ ghost use Rattle.bfs_frames.specs.Frames.{ReadsFrames, ReadsTurn, frames_in, mos
 use crate::error::ReadError;
 use crate::frames::{Frame, Turn};
 use crate::input::{next_byte, read_byte, read_bytes, read_word, skip_bytes, word_of};
-use crate::kind::Kind;
 use crate::limits::Limits;
 use bfs_types::Time;
 use std::alloc::Global;
@@ -52,9 +51,8 @@ fn read_frames<R: Read>(alloc: Global, reader: &mut R, limits: &Limits, count: u
 {
     let mut frames = Vec::new(alloc);
     for _ in 0..count {
-        if let Some(frame) = read_frame(alloc, reader, limits)? {
-            frames.push(frame)?;
-        }
+        let found = read_frame(alloc, reader, limits)?;
+        keep(&mut frames, found)?;
     }
     Ok(frames)
 }
@@ -65,14 +63,24 @@ fn read_frame<R: Read>(alloc: Global, reader: &mut R, limits: &Limits) -> Result
 {
     let number = read_byte(reader)?;
     let len = read_word(reader)?;
-    match Kind::new(number) {
-        Some(kind) if len <= limits.of(kind) => {
+    match limits.kind_within(number, len) {
+        Some(kind) => {
             let payload = read_bytes(alloc, reader, len as usize)?;
             Ok(Some(Frame { kind, payload }))
         }
-        _ => {
+        None => {
             skip_bytes(reader, len as usize)?;
             Ok(None)
         }
+    }
+}
+
+// puts a frame behind the others, if there is one
+fn keep(frames: &mut Vec<Frame>, found: Option<Frame>) -> Result<(), ReadError>
+    ensures { OnOk result (frames.new.items ≡ frames.old.items ++ frames_in found) }
+{
+    match found {
+        Some(frame) => Ok(frames.push(frame)?),
+        None => Ok(()),
     }
 }
