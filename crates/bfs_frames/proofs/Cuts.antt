@@ -8,8 +8,8 @@ use Rattle.bfs_model.specs.Bytes.Formats.{list_text, word_from}
 use Rattle.bfs_model.specs.Bytes.Items.{word}
 use Rattle.bfs_model.specs.Server.Tree.{Time}
 use Rattle.bfs_model.proofs.Public.{some_is, word_exact}
-use Rattle.bfs_frames.specs.Frames.{RawFrame, ReadsFrames, frame_text, turn_text}
-use Rattle.bfs_frames.specs.Cuts.{AreFewer, HasBadTime, IsCut, IsFrame, IsTurn, LacksFrames}
+use Rattle.bfs_frames.specs.Frames.{IsFrame, RawFrame, ReadsFrames, frame_text, turn_text}
+use Rattle.bfs_frames.specs.Cuts.{AreFewer, HasBadTime, IsCut, IsTurn, LacksFrames}
 use Rattle.bfs_frames.specs.declared.frames.Frame.{Frame}
 use Rattle.bfs_frames.specs.declared.limits.Limits.{Limits}
 
@@ -121,6 +121,11 @@ cut_at_length a b number c few = behind a b (number ∷ []) (AreFewer 4) (LacksF
 pub cut_at_payload : (a b c : Known) (number len : ℕ) → len < 2 ^ 32 → Consumes a b (number ∷ []) → Consumes b c (word len) → IfSome c (AreFewer len) → IfSome a (LacksFrames 1)
 cut_at_payload a b c number len small first second few =
     behind a c ((number ∷ []) ++ word len) (AreFewer len) (LacksFrames 1) (Consumes-trans a b c (number ∷ []) (word len) first second) (λ left lt. payload_lacks number len left small lt) few
+
+pub cut_at_frame : (limits : Limits) (a b : Known) (i count : ℕ) (given : List Frame) → ReadsFrames limits a b i given → i < count → IfSome b (LacksFrames 1) → IfSome a (LacksFrames count)
+cut_at_frame limits a b i count given read lt lacks =
+    behind a b (flat_map frame_text read.all) (LacksFrames 1) (LacksFrames count) read.consumed
+    (λ left none gs rest is fit e. peel read.all gs left rest read.each fit (omega (arith, read.counted, is, lt)) none e) lacks
 
 pub cut_at_seconds : (a : Known) → IfSome a (AreFewer 4) → IfSome a IsCut
 cut_at_seconds a few = weaker a (AreFewer 4) IsCut (λ left lt. few_cut left (omega arith)) few

@@ -1,7 +1,9 @@
 // Bytes that are read one part after another.
-ghost use Rattle.std.specs.Prelude.{◌≡◌, ◌∷◌, [], length, IfOk, IfSome, IfNone, OnOk};
+ghost use Rattle.std.specs.Prelude.{◌≡◌, ◌∷◌, [], length, IfOk, IfSome, IfNone, OnOk, IsErrOf};
 ghost use Rattle.std.specs.Io.KnownBytes.{Consumes, IsAtEnd};
 ghost use Rattle.bfs_model.specs.Bytes.Items.{word};
+ghost use Rattle.bfs_frames.specs.declared.error.ReadError.TheVariants as errors;
+ghost use Rattle.bfs_frames.specs.Cuts.{AreFewer};
 ghost use Rattle.bfs_frames.specs.Frames.{ReadsOver};
 
 use crate::error::ReadError;
@@ -29,20 +31,34 @@ pub(crate) fn next_byte<R: Read>(reader: &mut R) -> io::Result<Option<u8>>
     Err(Error::from(ErrorKind::Interrupted))
 }
 
-// Fills the buffer.
+// Fills the buffer. std's `read_exact` says nothing of an input that ends before.
+#[tactic(auto, using(crate::proofs::Cuts::ended))]
 fn fill<R: Read>(reader: &mut R, buffer: &mut [u8]) -> Result<(), ReadError>
-    ensures { OnOk result (Consumes (R.remaining reader.old) (R.remaining reader.new) buffer.new) }
+    ensures filled { OnOk result (Consumes (R.remaining reader.old) (R.remaining reader.new) buffer.new) }
+    ensures cut { IsErrOf result errors.Cut → IfSome (R.remaining reader.old) (AreFewer (length buffer.old)) }
 {
-    match reader.read_exact(buffer) {
-        Ok(()) => Ok(()),
-        Err(error) if error.kind() == ErrorKind::UnexpectedEof => Err(ReadError::Cut),
-        Err(error) => Err(ReadError::Input(error)),
+    let mut at = 0;
+    for _ in 0..u64::MAX {
+        if at >= buffer.len() {
+            return Ok(());
+        }
+        match reader.read(&mut buffer[at..]) {
+            Ok(0) => return Err(ReadError::Cut),
+            Ok(count) => at += count,
+            Err(error) => {
+                if error.kind() != ErrorKind::Interrupted {
+                    return Err(ReadError::Input(error));
+                }
+            }
+        }
     }
+    Err(ReadError::Input(Error::from(ErrorKind::Interrupted)))
 }
 
 /// One byte.
 pub(crate) fn read_byte<R: Read>(reader: &mut R) -> Result<u8, ReadError>
-    ensures { IfOk result (λ byte. Consumes (R.remaining reader.old) (R.remaining reader.new) (byte ∷ [])) }
+    ensures byte { IfOk result (λ byte. Consumes (R.remaining reader.old) (R.remaining reader.new) (byte ∷ [])) }
+    ensures cut { IsErrOf result errors.Cut → IfSome (R.remaining reader.old) (AreFewer 1) }
 {
     let mut byte = [0u8; 1];
     fill(reader, &mut byte)?;
@@ -51,7 +67,8 @@ pub(crate) fn read_byte<R: Read>(reader: &mut R) -> Result<u8, ReadError>
 
 /// The number in four bytes.
 pub(crate) fn read_word<R: Read>(reader: &mut R) -> Result<u32, ReadError>
-    ensures { IfOk result (λ number. Consumes (R.remaining reader.old) (R.remaining reader.new) (word number)) }
+    ensures word { IfOk result (λ number. Consumes (R.remaining reader.old) (R.remaining reader.new) (word number)) }
+    ensures cut { IsErrOf result errors.Cut → IfSome (R.remaining reader.old) (AreFewer 4) }
 {
     let mut bytes = [0u8; 4];
     fill(reader, &mut bytes)?;
@@ -62,6 +79,7 @@ pub(crate) fn read_word<R: Read>(reader: &mut R) -> Result<u32, ReadError>
 pub(crate) fn read_bytes<R: Read>(alloc: Global, reader: &mut R, len: usize) -> Result<Vec<u8>, ReadError>
     ensures bytes { IfOk result (λ bytes. Consumes (R.remaining reader.old) (R.remaining reader.new) bytes.items) }
     ensures len { IfOk result (λ bytes. length bytes.items ≡ len) }
+    ensures cut { IsErrOf result errors.Cut → IfSome (R.remaining reader.old) (AreFewer len) }
 {
     let mut bytes = vec![in alloc; 0u8; len]?;
     fill(reader, bytes.as_mut_slice())?;
@@ -69,8 +87,10 @@ pub(crate) fn read_bytes<R: Read>(alloc: Global, reader: &mut R, len: usize) -> 
 }
 
 /// Reads over so many bytes, of which few are held at once.
+#[tactic(auto, using(crate::proofs::Cuts::fewer_more))]
 pub(crate) fn skip_bytes<R: Read>(reader: &mut R, len: usize) -> Result<(), ReadError>
-    ensures { OnOk result (ReadsOver (R.remaining reader.old) (R.remaining reader.new) len) }
+    ensures over { OnOk result (ReadsOver (R.remaining reader.old) (R.remaining reader.new) len) }
+    ensures cut { IsErrOf result errors.Cut → IfSome (R.remaining reader.old) (AreFewer len) }
 {
     let mut chunk = [0u8; CHUNK];
     let mut left = len;

@@ -1,6 +1,8 @@
-ghost use Rattle.std.specs.Prelude.{◌≡◌, ◌≤◌, ◌++◌, All, length, IfOk, IfSome, IfNone, OnOk};
+ghost use Rattle.std.specs.Prelude.{◌≡◌, ◌≤◌, ◌++◌, All, length, IfOk, IfSome, IfNone, IsErrOf, OnOk};
 ghost use Rattle.std.specs.Io.KnownBytes.{Consumes, IsAtEnd};
 ghost use Rattle.bfs_model.specs.Bytes.Items.{word};
+ghost use Rattle.bfs_frames.specs.declared.error.ReadError.TheVariants as errors;
+ghost use Rattle.bfs_frames.specs.Cuts.{AreFewer, IsCut, LacksFrames};
 ghost use Rattle.bfs_frames.specs.Frames.{ReadsFrames, ReadsTurn, frames_in, most_of};
 
 use crate::error::ReadError;
@@ -8,16 +10,19 @@ use crate::frames::{Frame, Turn};
 use crate::input::{next_byte, read_byte, read_bytes, read_word, skip_bytes, word_of};
 use crate::limits::Limits;
 use bfs_types::Time;
-use std::alloc::Global;
+use std::alloc::{AllocError, Global};
 use std::io::Read;
 
 /// The next turn; `None` at the end of input, before the first byte of a turn. A frame of an unknown kind, or one that is longer than its limit, is
-/// read over and never held: it is not among the frames.
+/// read over and never held: it is not among the frames. After an error nothing more can be read.
+#[tactic(auto, using(crate::proofs::Cuts::cut_at_seconds, crate::proofs::Cuts::cut_at_useconds, crate::proofs::Cuts::cut_at_count, crate::proofs::Cuts::cut_at_frames))]
 pub fn read_turn<R: Read>(alloc: Global, reader: &mut R, limits: &Limits) -> Result<Option<Turn>, ReadError>
     // The bytes of a turn were consumed; its frames are those that pass, in their order.
     ensures turn { IfOk result (λ found. IfSome found (ReadsTurn limits.now (R.remaining reader.old) (R.remaining reader.new))) }
     ensures memory { IfOk result (λ found. IfSome found (λ turn. All (λ frame. length frame.payload.items ≤ most_of limits.now frame.kind) turn.frames.items)) }
     ensures end { IfOk result (λ found. IfNone found (IsAtEnd (R.remaining reader.old))) }
+    // The bytes begin with no whole turn.
+    ensures cut { IsErrOf result errors.Cut → IfSome (R.remaining reader.old) IsCut }
 {
     let Some(seconds) = first_word(reader)? else {
         return Ok(None);
@@ -32,9 +37,11 @@ pub fn read_turn<R: Read>(alloc: Global, reader: &mut R, limits: &Limits) -> Res
 }
 
 // the number in four bytes; `None` at the end of input
+#[tactic(auto, using(crate::proofs::Cuts::fewer_more))]
 fn first_word<R: Read>(reader: &mut R) -> Result<Option<u32>, ReadError>
     ensures word { IfOk result (λ found. IfSome found (λ number. Consumes (R.remaining reader.old) (R.remaining reader.new) (word number))) }
     ensures end { IfOk result (λ found. IfNone found (IsAtEnd (R.remaining reader.old))) }
+    ensures cut { IsErrOf result errors.Cut → IfSome (R.remaining reader.old) (AreFewer 4) }
 {
     let Some(first) = next_byte(reader)? else {
         return Ok(None);
@@ -46,8 +53,10 @@ fn first_word<R: Read>(reader: &mut R) -> Result<Option<u32>, ReadError>
 }
 
 // so many frames
+#[tactic(auto, using(crate::proofs::Cuts::cut_at_frame))]
 fn read_frames<R: Read>(alloc: Global, reader: &mut R, limits: &Limits, count: u32) -> Result<Vec<Frame>, ReadError>
-    ensures { IfOk result (λ frames. ReadsFrames limits.now (R.remaining reader.old) (R.remaining reader.new) count frames.items) }
+    ensures frames { IfOk result (λ frames. ReadsFrames limits.now (R.remaining reader.old) (R.remaining reader.new) count frames.items) }
+    ensures cut { IsErrOf result errors.Cut → IfSome (R.remaining reader.old) (LacksFrames count) }
 {
     let mut frames = Vec::new(alloc);
     for _ in 0..count {
@@ -58,8 +67,10 @@ fn read_frames<R: Read>(alloc: Global, reader: &mut R, limits: &Limits, count: u
 }
 
 // one frame; `None` where it is read over
+#[tactic(auto, using(crate::proofs::Cuts::cut_at_kind, crate::proofs::Cuts::cut_at_length, crate::proofs::Cuts::cut_at_payload))]
 fn read_frame<R: Read>(alloc: Global, reader: &mut R, limits: &Limits) -> Result<Option<Frame>, ReadError>
-    ensures { IfOk result (λ found. ReadsFrames limits.now (R.remaining reader.old) (R.remaining reader.new) 1 (frames_in found)) }
+    ensures frame { IfOk result (λ found. ReadsFrames limits.now (R.remaining reader.old) (R.remaining reader.new) 1 (frames_in found)) }
+    ensures cut { IsErrOf result errors.Cut → IfSome (R.remaining reader.old) (LacksFrames 1) }
 {
     let number = read_byte(reader)?;
     let len = read_word(reader)?;
@@ -76,7 +87,7 @@ fn read_frame<R: Read>(alloc: Global, reader: &mut R, limits: &Limits) -> Result
 }
 
 // puts a frame behind the others, if there is one
-fn keep(frames: &mut Vec<Frame>, found: Option<Frame>) -> Result<(), ReadError>
+fn keep(frames: &mut Vec<Frame>, found: Option<Frame>) -> Result<(), AllocError>
     ensures { OnOk result (frames.new.items ≡ frames.old.items ++ frames_in found) }
 {
     match found {

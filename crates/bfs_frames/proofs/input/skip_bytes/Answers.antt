@@ -8,5 +8,5 @@ loop-left-preserved g c =
     let filled : length c.fill.new.buffer ≡ c.min-count.result = grind (arith, common_steps, c.fill.auto.buffer) in
     record {
       within = omega arith;
-      read_over = over_more _ _ _ _ c.min-count.result _ _ c.loop-left.invariant.read_over c.in_ok-fill.ensures filled (omega arith);
+      read_over = over_more _ _ _ _ c.min-count.result _ _ c.loop-left.invariant.read_over c.in_ok-fill.ensures.filled filled (omega arith);
     }
