@@ -12,7 +12,8 @@ AreFewer count bytes = length bytes < count
 
 -- so many frames do not stand at the front of the bytes
 abbrev pub LacksFrames : ℕ → List ℕ → Type 0
-LacksFrames count bytes = (frames : List RawFrame) (rest : List ℕ) → length frames ≡ count → AllByRecursion IsFrame frames → bytes ≢ flat_map frame_text frames ++ rest
+LacksFrames count bytes = (frames : List RawFrame) (rest : List ℕ) → length frames ≡ count → AllByRecursion IsFrame frames
+    → bytes ≢ flat_map frame_text frames ++ rest
 
 -- a turn that has a text
 pub record IsTurn (time : Time) (frames : List RawFrame) : Type 0 where

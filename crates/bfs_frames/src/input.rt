@@ -2,11 +2,11 @@
 ghost use Rattle.std.specs.Prelude.{◌≡◌, ◌∷◌, [], length, IfOk, IfSome, IfNone, OnOk, IsErrOf};
 ghost use Rattle.std.specs.Io.KnownBytes.{Consumes, IsAtEnd};
 ghost use Rattle.bfs_model.specs.Bytes.Items.{word};
-ghost use Rattle.bfs_frames.specs.declared.error.ReadError.TheVariants as errors;
+ghost use Rattle.bfs_frames.specs.declared.error.InputError.TheVariants as input;
 ghost use Rattle.bfs_frames.specs.Cuts.{AreFewer};
 ghost use Rattle.bfs_frames.specs.Frames.{ReadsOver};
 
-use crate::error::ReadError;
+use crate::error::InputError;
 use std::alloc::Global;
 use std::io;
 use std::io::{Error, ErrorKind, Read};
@@ -33,9 +33,9 @@ pub(crate) fn next_byte<R: Read>(reader: &mut R) -> io::Result<Option<u8>>
 
 // Fills the buffer. std's `read_exact` says nothing of an input that ends before.
 #[tactic(auto, using(crate::proofs::Cuts::ended))]
-fn fill<R: Read>(reader: &mut R, buffer: &mut [u8]) -> Result<(), ReadError>
+fn fill<R: Read>(reader: &mut R, buffer: &mut [u8]) -> Result<(), InputError>
     ensures filled { OnOk result (Consumes (R.remaining reader.old) (R.remaining reader.new) buffer.new) }
-    ensures cut { IsErrOf result errors.Cut → IfSome (R.remaining reader.old) (AreFewer (length buffer.old)) }
+    ensures cut { IsErrOf result input.Cut → IfSome (R.remaining reader.old) (AreFewer (length buffer.old)) }
 {
     let mut at = 0;
     for _ in 0..u64::MAX {
@@ -43,22 +43,22 @@ fn fill<R: Read>(reader: &mut R, buffer: &mut [u8]) -> Result<(), ReadError>
             return Ok(());
         }
         match reader.read(&mut buffer[at..]) {
-            Ok(0) => return Err(ReadError::Cut),
+            Ok(0) => return Err(InputError::Cut),
             Ok(count) => at += count,
             Err(error) => {
                 if error.kind() != ErrorKind::Interrupted {
-                    return Err(ReadError::Input(error));
+                    return Err(InputError::Failed(error));
                 }
             }
         }
     }
-    Err(ReadError::Input(Error::from(ErrorKind::Interrupted)))
+    Err(InputError::Failed(Error::from(ErrorKind::Interrupted)))
 }
 
 /// One byte.
-pub(crate) fn read_byte<R: Read>(reader: &mut R) -> Result<u8, ReadError>
+pub(crate) fn read_byte<R: Read>(reader: &mut R) -> Result<u8, InputError>
     ensures byte { IfOk result (λ byte. Consumes (R.remaining reader.old) (R.remaining reader.new) (byte ∷ [])) }
-    ensures cut { IsErrOf result errors.Cut → IfSome (R.remaining reader.old) (AreFewer 1) }
+    ensures cut { IsErrOf result input.Cut → IfSome (R.remaining reader.old) (AreFewer 1) }
 {
     let mut byte = [0u8; 1];
     fill(reader, &mut byte)?;
@@ -66,9 +66,9 @@ pub(crate) fn read_byte<R: Read>(reader: &mut R) -> Result<u8, ReadError>
 }
 
 /// The number in four bytes.
-pub(crate) fn read_word<R: Read>(reader: &mut R) -> Result<u32, ReadError>
+pub(crate) fn read_word<R: Read>(reader: &mut R) -> Result<u32, InputError>
     ensures word { IfOk result (λ number. Consumes (R.remaining reader.old) (R.remaining reader.new) (word number)) }
-    ensures cut { IsErrOf result errors.Cut → IfSome (R.remaining reader.old) (AreFewer 4) }
+    ensures cut { IsErrOf result input.Cut → IfSome (R.remaining reader.old) (AreFewer 4) }
 {
     let mut bytes = [0u8; 4];
     fill(reader, &mut bytes)?;
@@ -76,10 +76,14 @@ pub(crate) fn read_word<R: Read>(reader: &mut R) -> Result<u32, ReadError>
 }
 
 /// So many bytes.
-pub(crate) fn read_bytes<R: Read>(alloc: Global, reader: &mut R, len: usize) -> Result<Vec<u8>, ReadError>
+pub(crate) fn read_bytes<R: Read>(
+    alloc: Global,
+    reader: &mut R,
+    len: usize,
+) -> Result<Vec<u8>, InputError>
     ensures bytes { IfOk result (λ bytes. Consumes (R.remaining reader.old) (R.remaining reader.new) bytes.items) }
     ensures len { IfOk result (λ bytes. length bytes.items ≡ len) }
-    ensures cut { IsErrOf result errors.Cut → IfSome (R.remaining reader.old) (AreFewer len) }
+    ensures cut { IsErrOf result input.Cut → IfSome (R.remaining reader.old) (AreFewer len) }
 {
     let mut bytes = vec![in alloc; 0u8; len]?;
     fill(reader, bytes.as_mut_slice())?;
@@ -88,9 +92,9 @@ pub(crate) fn read_bytes<R: Read>(alloc: Global, reader: &mut R, len: usize) -> 
 
 /// Reads over so many bytes, of which few are held at once.
 #[tactic(auto, using(crate::proofs::Cuts::fewer_more))]
-pub(crate) fn skip_bytes<R: Read>(reader: &mut R, len: usize) -> Result<(), ReadError>
+pub(crate) fn skip_bytes<R: Read>(reader: &mut R, len: usize) -> Result<(), InputError>
     ensures over { OnOk result (ReadsOver (R.remaining reader.old) (R.remaining reader.new) len) }
-    ensures cut { IsErrOf result errors.Cut → IfSome (R.remaining reader.old) (AreFewer len) }
+    ensures cut { IsErrOf result input.Cut → IfSome (R.remaining reader.old) (AreFewer len) }
 {
     let mut chunk = [0u8; CHUNK];
     let mut left = len;

@@ -19,6 +19,7 @@ const MIXED: &[u8] = &[
 
 // a time of that many microseconds, and no frames
 const BAD_TIME: &[u8] = &[0, 0, 0, 1, 0, 0x0f, 0x42, 0x40, 0, 0, 0, 0];
+
 const LAST_TIME: &[u8] = &[0, 0, 0, 1, 0, 0x0f, 0x42, 0x3f, 0, 0, 0, 0];
 
 // 4,294,967,295 frames, of which the first is a request without bytes
