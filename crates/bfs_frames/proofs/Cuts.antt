@@ -6,10 +6,9 @@ use Rattle.std.proofs.KnownBytes.{Consumes-trans, Consumes-whole}
 use Rattle.std.proofs.lemmas.List.{drop_at}
 use Rattle.bfs_model.specs.Bytes.Formats.{list_text, word_from}
 use Rattle.bfs_model.specs.Bytes.Items.{word}
-use Rattle.bfs_model.specs.Server.Tree.{Time}
 use Rattle.bfs_model.proofs.Public.{some_is, word_exact}
 use Rattle.bfs_frames.specs.Frames.{IsFrame, RawFrame, ReadsFrames, frame_text, turn_text}
-use Rattle.bfs_frames.specs.Cuts.{AreFewer, HasBadTime, IsCut, IsTurn, LacksFrames}
+use Rattle.bfs_frames.specs.Cuts.{AreFewer, HasBadTime, IsCut, LacksFrames}
 use Rattle.bfs_frames.specs.Errors.{read_error}
 use Rattle.bfs_frames.specs.declared.error.InputError.{InputError}
 use Rattle.bfs_frames.specs.declared.error.InputError.TheVariants as input

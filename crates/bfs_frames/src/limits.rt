@@ -29,8 +29,8 @@ pub struct Limits {
 }
 
 impl Limits {
-    /// Room for every REQUEST, REPLY, call and answer, for PRE-PREPAREs whose batches have texts of a mebibyte, and for 64 MiB of a VIEW-CHANGE, which
-    /// holds 32 such batches. The other limits are a choice: 256 MiB of a NEW-VIEW do for seven replicas with full logs, and more must be set for larger clusters.
+    /// Room for every REQUEST, REPLY, call and answer, for PRE-PREPAREs whose batches have texts of a mebibyte, and for VIEW-CHANGEs of 64 MiB, which hold
+    /// 32 such batches. The other limits are a choice: NEW-VIEWs of 256 MiB do for seven replicas with full logs, so larger clusters set more.
     pub fn new() -> Limits
         ensures request { result.request ≡ 24 + most_request_bytes + 32 * most_replicas }
         ensures reply { result.reply ≡ 36 + most_reply_bytes + 32 * most_replicas }

@@ -1,5 +1,4 @@
-use Rattle.std.proofs.Common.{◌≡◌, ℕ, ◌+◌, ◌-◌, ◌≤◌, List, length, take, take_all, subst, arith, rules}
-use Rattle.std.specs.Io.KnownBytes.{Consumes}
+use Rattle.std.proofs.Common.{rules}
 use Rattle.bfs_frames.proofs.Filling.{filled_kept, filled_more}
 use Rattle.bfs_frames.proofs.input.fill.Goals.{in-Ok, in-Err+else-ne}
 use Rattle.bfs_frames.proofs.input.fill.Goals as goal

@@ -1,4 +1,4 @@
-use Rattle.std.proofs.Common.{◌≡◌, length, arith, rules}
+use Rattle.std.proofs.Common.{◌≡◌, length, arith}
 use Rattle.std.proofs.lemmas.Grind.{common_steps}
 use Rattle.bfs_frames.proofs.Reading.{over_more}
 use Rattle.bfs_frames.proofs.input.skip_bytes.Goals as goal

@@ -1,6 +1,5 @@
-use Rattle.std.proofs.Common.{ℕ, ◌+◌, List, ◌++◌, IfSome, IsErrOf, sym, subst, arith}
+use Rattle.std.proofs.Common.{◌+◌, List, IsErrOf, sym, subst, arith}
 use Rattle.std.proofs.lemmas.Grind.{common_steps}
-use Rattle.bfs_frames.specs.Cuts.{LacksFrames}
 use Rattle.bfs_frames.specs.Frames.{ReadsFrames, frames_in}
 use Rattle.bfs_frames.specs.declared.error.InputError.TheVariants as input
 use Rattle.bfs_frames.specs.declared.frames.Frame.{Frame}
