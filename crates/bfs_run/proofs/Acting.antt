@@ -1,5 +1,5 @@
 -- Acts one after another, and what is known once they are done.
-use Rattle.std.proofs.Common.{◌≡◌, ℕ, ◌==◌, Bool, false, List, [], ◌∷◌, ◌++◌, ◌⊎◌, Some, inl, inr, refl, sym, ap, subst, ◌∙◌}
+use Rattle.std.proofs.Common.{◌≡◌, ℕ, ◌==◌, Bool, false, List, [], ◌∷◌, ◌++◌, ◌⊎◌, Some, inl, inr, refl, sym, ap, subst, ◌∙◌, append_assoc}
 use Rattle.std.proofs.lemmas.Bool.{cond_both, eqb-true}
 use Rattle.bfs_auth.specs.Keys.{Keys}
 use Rattle.bfs_auth.specs.declared.principals.Principal.TheVariants as principal
@@ -24,11 +24,11 @@ use Rattle.bfs_nodes_agree.specs.Nodes.Laws.{WhatIsSentIsFair}
 use Rattle.bfs_nodes_agree.specs.Nodes.Premises.{Comes, EachComes, IsFair, IsWithin}
 use Rattle.bfs_nodes_agree.specs.Nodes.Replicas.{NodeReplica, NodeReplicas, NodeTurn}
 use Rattle.bfs_nodes_agree.specs.Nodes.Steps.{NodeStep, Delivers, Takes, TakesRequests, Adopts, outcome}
+use Rattle.bfs_nodes_agree.proofs.Public.{AllIn, both_at, both_in, executed_in, here_after, left_in, map_in, right_in, some_is}
 use Rattle.bfs_one_server.specs.Premises.{MayAct, MayActSo}
 use Rattle.bfs_one_server.specs.Worlds.{Act, Steps, Signs, Hears, Client as ClientOf, Deployment, World, after_act, after_acts, new_world, turns_in, with_heard, with_signed}
 use Rattle.bfs_run.specs.Acts.{AskOnce, HaveTexts, WasSentTo, deployment}
 use Rattle.bfs_run.proofs.Carrying.{Bears, Brought, IsBorne, OfOrder, Sound, bears_on, begins_sound, sound_on, step_leaves}
-use Rattle.bfs_nodes_agree.proofs.Public.{AllIn, both_at, both_in, executed_in, here_after, left_in, map_in, right_in, some_is}
 
 -- One act more ----------------------------------------------------------------------------------------------------------------
 
@@ -109,13 +109,14 @@ reply_in c (Order m) e = absurd cc
 reply_in c (ViewChange change) e = absurd cc
 reply_in c (NewView new) e = absurd cc
 
-module _ (settings : Settings) (liar : ℕ → Bool) (requests : List model.Request) where
+module _ (settings : Settings) (liar : ℕ → Bool) (requests : List model.Request) (begun : List Act) where
   abbrev d : Deployment
   d = deployment settings liar
 
-  -- acts lead there
+  -- acts lead there, of which these are the first
   pub record Reached (w : World) : Type 0 where
     pub acts : List Act
+    pub goes_on : (more : List Act) × (acts ≡ begun ++ more)
     pub is : after_acts (new_world (deployment settings liar)) acts ≡ w
     pub honest : MayActSo (deployment settings liar) (new_world (deployment settings liar)) acts
     pub fair : HaveTexts w → EachComes (IsFair (λ k. false)) (new_world (deployment settings liar)).nodes (turns_in acts)
@@ -124,9 +125,10 @@ module _ (settings : Settings) (liar : ℕ → Bool) (requests : List model.Requ
     pub asked : (c : ℕ) (q : model.Request) → IsIn q (w.clients c).signed → IsIn q requests × (q.client ≡ c)
     pub heard : (c : ℕ) (m : Signed Message) → IsIn m (w.clients c).heard → WasSentTo w c m
 
-  pub begins : Reached (new_world d)
-  begins = record {
+  pub begins : begun ≡ [] → Reached (new_world d)
+  begins none = record {
     acts = [];
+    goes_on = ([], sym (ap (λ (l : List Act). l ++ []) none));
     is = refl;
     honest = tt;
     fair = λ texts. tt;
@@ -185,6 +187,7 @@ module _ (settings : Settings) (liar : ℕ → Bool) (requests : List model.Requ
         → ((c : ℕ) (m : Signed Message) → IsIn m ((after_act w act).clients c).heard → WasSentTo (after_act w act) c m) → Reached (after_act w act)
     add act may fair sound sent asked heard = record {
       acts = r.acts ++ act ∷ [];
+      goes_on = (r.goes_on.0 ++ act ∷ [], ap (λ (l : List Act). l ++ act ∷ []) r.goes_on.1 ∙ append_assoc begun r.goes_on.0 (act ∷ []));
       is = last_act r.acts act (new_world d) ∙ ap (λ (v : World). after_act v act) r.is;
       honest = may_last d r.acts act (new_world d) r.honest (subst (λ (v : World). MayAct d v act) (sym r.is) may);
       fair = λ texts.

@@ -198,15 +198,10 @@ module _ (R : Signed model.Request → Type 0) (K : Signed model.Checkpoint → 
         (map_in (λ (p : Signed model.PrePrepare). Holds p.message.batch) (λ (c : Chosen). signed_proposal node.keys (chosen_proposal node.order.me asked c)) (choice (messages_of changes)).chosen chosen) in
         (elim (may_begin node) as (λ b. may_begin node ≡ b → Does node.order (cond b (deed ∷ []) []) (cond b (begun node) (still node))) [
           | false ↦ λ e. nothing node sound
-          | true ↦ λ e. record {
-            brings = (handed, tt);
-            offers = (tt, tt);
-            pending = sound.pending;
-            kept = kept_above OfChange f asked node.changes sound.kept;
-            stable = sound.stable;
-            sends = more_in (IsBorne who) (as_message NewView (signed_new_view node.keys new)) _ (good, handed)
-                (unless_known node.order (order.Enters node.keys asked min_s new.proposals) (views.entering_refusal node.order asked) (views.entered node.keys node.order asked min_s new.proposals) tt refl (begins_open node sound.bounded e));
-          }
+          | true ↦ λ e.
+              let votes = unless_known node.order (order.Enters node.keys asked min_s new.proposals) (views.entering_refusal node.order asked) (views.entered node.keys node.order asked min_s new.proposals) tt refl (begins_open node sound.bounded e) in
+              let sends = more_in (IsBorne who) (as_message NewView (signed_new_view node.keys new)) _ (good, handed) votes in
+              record { brings = (handed, tt); offers = (tt, tt); pending = sound.pending; kept = kept_above OfChange f asked node.changes sound.kept; stable = sound.stable; sends = sends }
         ]) refl
 
     change_does : (node : Node) (s : Signed model.ViewChange) → Sound f who node → OfChange s → Does node.order (change_deeds node s) (with_view_change node s)
@@ -232,14 +227,10 @@ module _ (R : Signed model.Request → Type 0) (K : Signed model.Checkpoint → 
         let m : Signed OrderMessage = record { message = message; auth = auth } in
         let call = order.Takes node.keys m in
         (elim (refusal node.keys node.order m) as (λ r. refusal node.keys node.order m ≡ r → Does node.order (turns.Orders call ∷ []) (unless (option_map of_order r) node (ordered node m))) [
-          | None ↦ λ e. record {
-            brings = (λ _. is, tt);
-            offers = (tt, tt);
-            pending = sound.pending;
-            kept = sound.kept;
-            stable = settled_shown (with_message node.order m) (header m) node.snapshots (both_in Known node.order.log (m ∷ []) sound.log (one_in Known m is)) sound.stable;
-            sends = unless_known node.order call (refusal node.keys node.order m) (accepted node.keys node.order m) tt refl e;
-          }
+          | None ↦ λ e.
+              let stable = settled_shown (with_message node.order m) (header m) node.snapshots (both_in Known node.order.log (m ∷ []) sound.log (one_in Known m is)) sound.stable in
+              let sends = unless_known node.order call (refusal node.keys node.order m) (accepted node.keys node.order m) tt refl e in
+              record { brings = (λ _. is, tt); offers = (tt, tt); pending = sound.pending; kept = sound.kept; stable = stable; sends = sends }
           | Some refused ↦ λ _. record { brings = (λ _. is, tt); offers = (tt, tt); pending = sound.pending; kept = sound.kept; stable = sound.stable; sends = none_in (IsBorne who) }
         ]) refl
     message_does node sound (ViewChange change) auth is =
@@ -255,14 +246,8 @@ module _ (R : Signed model.Request → Type 0) (K : Signed model.Checkpoint → 
         (elim (view_refusal node s) as (λ r. view_refusal node s ≡ r → Does node.order (where_taken r (deed ∷ [])) (unless r node (with_new_view node s))) [
           | None ↦ λ e.
               let opened = not_refused _ (not_second (option_map of_view (new_view_refusal node.keys s)) (option_map of_order (views.entering_refusal node.order new.view)) e) in
-              record {
-                brings = (is.1, tt);
-                offers = (tt, tt);
-                pending = sound.pending;
-                kept = kept_above OfChange f new.view node.changes sound.kept;
-                stable = sound.stable;
-                sends = unless_known node.order (order.Enters node.keys new.view min_s new.proposals) (views.entering_refusal node.order new.view) (views.entered node.keys node.order new.view min_s new.proposals) tt refl opened;
-              }
+              let sends = unless_known node.order (order.Enters node.keys new.view min_s new.proposals) (views.entering_refusal node.order new.view) (views.entered node.keys node.order new.view min_s new.proposals) tt refl opened in
+              record { brings = (is.1, tt); offers = (tt, tt); pending = sound.pending; kept = kept_above OfChange f new.view node.changes sound.kept; stable = sound.stable; sends = sends }
           | Some refused ↦ λ _. nothing node sound
         ]) refl
     message_does node sound (Reply reply) auth is = nothing node sound
@@ -280,14 +265,10 @@ module _ (R : Signed model.Request → Type 0) (K : Signed model.Checkpoint → 
               let left_is : (order.outcome node.order (order.Leaves view)).now ≡ gone.order = ap (λ (r : Option OrderError). (outcomes.unless r node.order (views.left node.order view)).now) may in
               let told : OfChange own = λ c i. made_holds node.order c i Known sound.log (as_message PrePrepare c.proposal) (inl refl) in
               let done = change_does gone own (record { me = sound.me; bounded = left_bounded node.order view may; log = sound.log; pending = sound.pending; kept = sound.kept; stable = sound.stable }) told in
-              record {
-                brings = (tt, subst (λ (s : State). BringAll Known s deeds) (sym left_is) done.brings);
-                offers = (tt, subst (λ (s : State). OfferAll (IsChecked no_keys) s deeds) (sym left_is) done.offers);
-                pending = done.pending;
-                kept = done.kept;
-                stable = done.stable;
-                sends = more_in (IsBorne who) (as_message ViewChange own) (with_view_change gone own).sent told done.sends;
-              }
+              let brings = subst (λ (s : State). BringAll Known s deeds) (sym left_is) done.brings in
+              let offers = subst (λ (s : State). OfferAll (IsChecked no_keys) s deeds) (sym left_is) done.offers in
+              let sends = more_in (IsBorne who) (as_message ViewChange own) (with_view_change gone own).sent told done.sends in
+              record { brings = (tt, brings); offers = (tt, offers); pending = done.pending; kept = done.kept; stable = done.stable; sends = sends }
         ]) refl
 
     executes_does : (node : Node) → Sound f who node → Does node.order (deeds_of node Executes) (outcome node Executes)
@@ -299,16 +280,12 @@ module _ (R : Signed model.Request → Type 0) (K : Signed model.Checkpoint → 
         go : (files : Option FileSystem) (next : Option Committed) → Does node.order (cond (is_next (found files next)) (turns.Orders order.Executes ∷ []) []) (after_execution node (found files next))
         go None next = nothing node sound
         go (Some files) None = nothing node sound
-        go (Some files) (Some next) = record {
-          brings = (tt, tt);
-          offers = (tt, tt);
-          pending = filter_in R (λ s. not (is_among next.batch s)) node.pending sound.pending;
-          kept = sound.kept;
-          stable = sound.stable;
-          sends = λ s i.
-              let from = out_of_filter_map (λ (answer : Answer). told node.keys (reply_to node.order answer)) (results.outcome files node.table next.batch).answers s i in
-              subst (λ (m : Message). Bears (λ reply. reply.sender ≡ who) m s.auth) (sym (reply_is (reply_to node.order from.0) _ s from.2)) sound.me;
-        }
+        go (Some files) (Some next) =
+            let waiting = filter_in R (λ s. not (is_among next.batch s)) node.pending sound.pending in
+            let sends : AllIn (IsBorne who) (executed_on node files next).sent = λ s i.
+            let from = out_of_filter_map (λ (answer : Answer). told node.keys (reply_to node.order answer)) (results.outcome files node.table next.batch).answers s i in
+            subst (λ (m : Message). Bears (λ reply. reply.sender ≡ who) m s.auth) (sym (reply_is (reply_to node.order from.0) _ s from.2)) sound.me in
+            record { brings = (tt, tt); offers = (tt, tt); pending = waiting; kept = sound.kept; stable = sound.stable; sends = sends }
 
     -- its own CHECKPOINTs are sent
     abbrev pub Tells : Outcome → Type 0
@@ -326,28 +303,17 @@ module _ (R : Signed model.Request → Type 0) (K : Signed model.Checkpoint → 
             let snapshot = snapshot_of files node.table in
             let own = checkpoints.checkpoint node.keys node.order n snapshot.digest in
             let mine : Known own = tells (record { message = record { sender = node.order.me; number = n; digest = snapshot.digest }; auth = own.auth }) (inl refl) in
-            record {
-              brings = (mine, tt);
-              offers = (tt, tt);
-              pending = sound.pending;
-              kept = sound.kept;
-              stable = settled_shown (with_message node.order own) (header own) (with_snapshot node.snapshots n snapshot) (both_in Known node.order.log (own ∷ []) sound.log (one_in Known own mine)) sound.stable;
-              sends = one_in (IsBorne who) (as_message Order own) mine;
-            }
+            let stable = settled_shown (with_message node.order own) (header own) (with_snapshot node.snapshots n snapshot) (both_in Known node.order.log (own ∷ []) sound.log (one_in Known own mine)) sound.stable in
+            record { brings = (mine, tt); offers = (tt, tt); pending = sound.pending; kept = sound.kept; stable = stable; sends = one_in (IsBorne who) (as_message Order own) mine }
 
     adopts_does : (node : Node) → Sound f who node → (c : StableCheckpoint) (files : FileSystem) (table : Table) → AllIn K c.checkpoints
         → Does node.order (deeds_of node (Adopts c files table)) (outcome node (Adopts c files table))
     adopts_does node sound c files table all =
         let kept_so = with_snapshot node.snapshots c.number (snapshot_of files table) in
         elim (may_adopt node c && bytes_eq (node_digest files table) c.digest) as (λ b. Does node.order (cond b (turns.Orders (order.Installs node.keys c) ∷ []) []) (cond b (still (adopted node c files table)) (still node))) [
-          | true ↦ record {
-            brings = (λ _. map_in Known (as_message Checkpoint) c.checkpoints all, tt);
-            offers = (tt, tt);
-            pending = sound.pending;
-            kept = sound.kept;
-            stable = cond_both (settles c kept_so) (record kept_so { kept = filter (λ kept. nat_le c.number kept.number) kept_so.kept; stable = Some c }) kept_so (λ (k : Keeping). IsShownIf k.stable) (λ _. all) (λ _. sound.stable);
-            sends = none_in (IsBorne who);
-          }
+          | true ↦
+              let stable = cond_both (settles c kept_so) (record kept_so { kept = filter (λ kept. nat_le c.number kept.number) kept_so.kept; stable = Some c }) kept_so (λ (k : Keeping). IsShownIf k.stable) (λ _. all) (λ _. sound.stable) in
+              record { brings = (λ _. map_in Known (as_message Checkpoint) c.checkpoints all, tt); offers = (tt, tt); pending = sound.pending; kept = sound.kept; stable = stable; sends = none_in (IsBorne who) }
           | false ↦ nothing node sound
         ]
 

@@ -1,5 +1,5 @@
 -- What a cluster of replicas does is steps of its nodes.
-use Rattle.std.proofs.Common.{◌≡◌, ℕ, zero, suc, ◌+◌, ◌==◌, Bool, true, false, cond, ◌&&◌, List, [], ◌∷◌, ◌++◌, length, ◌⊎◌, Option, Some, None, option_map, inl, inr, refl, sym, ap, ap₂, subst, ◌∙◌}
+use Rattle.std.proofs.Common.{◌≡◌, ℕ, zero, suc, ◌+◌, ◌==◌, Bool, true, false, cond, ◌&&◌, List, [], ◌∷◌, ◌++◌, length, ◌⊎◌, Option, Some, None, option_map, inl, inr, refl, sym, ap, ap₂, subst, ◌∙◌, append-nil}
 use Rattle.std.specs.Prelude.{nat_lt}
 use Rattle.std.specs.List.{find, fold, list_any, range_with_len, slice_get, slice_set}
 use Rattle.std.proofs.lemmas.Slice.Eq.{bytes_eq-Decides}
@@ -37,11 +37,11 @@ use Rattle.bfs_nodes_agree.specs.Nodes.Laws.{WhatIsSentIsFair}
 use Rattle.bfs_nodes_agree.specs.Nodes.Replicas.{NodeReplica, NodeTurn}
 use Rattle.bfs_nodes_agree.specs.Nodes.Steps as nodes
 use Rattle.bfs_nodes_agree.specs.Nodes.Steps.{NodeStep, outcome, still, unless}
-use Rattle.bfs_one_server.specs.Worlds.{Steps, World, after_act}
+use Rattle.bfs_nodes_agree.proofs.Public.{AllIn, both_at, both_in, here_after, left_in, one_in, some_is}
+use Rattle.bfs_one_server.specs.Worlds.{Act, Steps, World, after_act}
 use Rattle.bfs_run.specs.Acts.{AskOnce, WasSentTo}
 use Rattle.bfs_run.proofs.Acting.{IsSigned, IsTold, Knows, MayCome, Reached, sent_on, steps, was_sent_on}
 use Rattle.bfs_run.proofs.Carrying.{IsShownIf}
-use Rattle.bfs_nodes_agree.proofs.Public.{AllIn, both_at, both_in, here_after, left_in, one_in, some_is}
 
 -- Lists -------------------------------------------------------------------------------------------------------------------------
 
@@ -69,10 +69,10 @@ heard_is (Some r) node e = (elim r.heard as (λ b. cond b (Some r.node) None ≡
 
 -- What is known of a cluster ----------------------------------------------------------------------------------------------------
 
-module _ (settings : Settings) (liar : ℕ → Bool) (requests : List model.Request) (A : model.Request → Type 0) (H : Signed Message → Type 0) where
+module _ (settings : Settings) (liar : ℕ → Bool) (requests : List model.Request) (begun : List Act) (A : model.Request → Type 0) (H : Signed Message → Type 0) where
   -- what is on its way was sent; what has to be signed is, and what has to be heard
   pub record Past (w : World) (on_way : List Broadcast) (to_clients : Messages) : Type 0 where
-    pub reached : Reached settings liar requests w
+    pub reached : Reached settings liar requests begun w
     pub queue : (b : Broadcast) → IsIn b on_way → (k : ℕ) × IsIn b.signed (w.nodes k).sent
     pub replies : (m : Signed Message) → IsIn m to_clients → (c : ℕ) × WasSentTo w c m
     pub signed : (q : model.Request) → A q → IsIn q (w.clients q.client).signed
@@ -82,10 +82,11 @@ module _ (settings : Settings) (liar : ℕ → Bool) (requests : List model.Requ
   abbrev pub Mirrors : World → List Replica → Type 0
   Mirrors w replicas = (k : ℕ) (r : Replica) → slice_get replicas k ≡ Some r → r.node ≡ (w.nodes k).node
 
-  pub record Stands (cw : cluster.World) : Type 0 where
-    pub w : World
-    pub past : Past w cw.queue cw.replies
-    pub replicas : Mirrors w cw.replicas
+  abbrev At : World → cluster.World → Type 0
+  At w cw = Past w cw.queue cw.replies × Mirrors w cw.replicas
+
+  abbrev pub Stands : cluster.World → Type 0
+  Stands cw = (w : World) × Past w cw.queue cw.replies × Mirrors w cw.replicas
 
   -- a replica has done that, and it is not posted yet
   record Ready (cw : cluster.World) (number : ℕ) (w : World) (done : Outcome) : Type 0 where
@@ -94,63 +95,37 @@ module _ (settings : Settings) (liar : ℕ → Bool) (requests : List model.Requ
     here : (w.nodes number).node ≡ done.now
     sent : (m : Signed Message) → IsIn m done.sent → IsIn m (w.nodes number).sent
 
-  post_one : (sender : ℕ) (cw : cluster.World) (m : Signed Message) (s : Stands cw) → IsIn m (s.w.nodes sender).sent → (t : Stands (posted sender cw m)) × (t.w ≡ s.w)
-  post_one sender cw m s there = go (receivers_of m.message) refl
+  post_one : (w : World) (sender : ℕ) (cw : cluster.World) (m : Signed Message) → IsIn m (w.nodes sender).sent → At w cw → At w (posted sender cw m)
+  post_one w sender cw m there at = go (receivers_of m.message) refl
     where
-      go : (to : Receivers) → receivers_of m.message ≡ to → (t : Stands (posted_to sender (noted sender cw m) m to)) × (t.w ≡ s.w)
-      go Replicas e = (
-        record {
-          w = s.w;
-          past = record {
-            reached = s.past.reached;
-            queue = both_in (λ (b : Broadcast). (k : ℕ) × IsIn b.signed (s.w.nodes k).sent) cw.queue (record { sender = sender; next = 0; signed = m } ∷ []) s.past.queue
-                (one_in (λ (b : Broadcast). (k : ℕ) × IsIn b.signed (s.w.nodes k).sent) (record { sender = sender; next = 0; signed = m }) (sender, there));
-            replies = s.past.replies;
-            signed = s.past.signed;
-            came = s.past.came;
-          };
-          replicas = s.replicas;
-        },
-        refl,
-      )
-      go (Client c) e = (
-        record {
-          w = s.w;
-          past = record {
-            reached = s.past.reached;
-            queue = s.past.queue;
-            replies = both_in (λ (x : Signed Message). (b : ℕ) × WasSentTo s.w b x) cw.replies (m ∷ []) s.past.replies
-                (one_in (λ (x : Signed Message). (b : ℕ) × WasSentTo s.w b x) m (c, record { sender = sender; sent = there; receiver = e }));
-            signed = s.past.signed;
-            came = s.past.came;
-          };
-          replicas = s.replicas;
-        },
-        refl,
-      )
+      go : (to : Receivers) → receivers_of m.message ≡ to → At w (posted_to sender (noted sender cw m) m to)
+      go Replicas e =
+          let sent = λ (b : Broadcast). (k : ℕ) × IsIn b.signed (w.nodes k).sent in
+          let b : Broadcast = record { sender = sender; next = 0; signed = m } in
+          let queue = both_in sent cw.queue (b ∷ []) at.0.queue (one_in sent b (sender, there)) in
+          (record { reached = at.0.reached; queue = queue; replies = at.0.replies; signed = at.0.signed; came = at.0.came }, at.1)
+      go (Client c) e =
+          let sent = λ (x : Signed Message). (b : ℕ) × WasSentTo w b x in
+          let replies = both_in sent cw.replies (m ∷ []) at.0.replies (one_in sent m (c, record { sender = sender; sent = there; receiver = e })) in
+          (record { reached = at.0.reached; queue = at.0.queue; replies = replies; signed = at.0.signed; came = at.0.came }, at.1)
 
-  post_all : (sender : ℕ) (ms : Messages) (cw : cluster.World) (s : Stands cw) → ((m : Signed Message) → IsIn m ms → IsIn m (s.w.nodes sender).sent) → Stands (fold (posted sender) cw ms)
-  post_all sender [] cw s sent = s
-  post_all sender (m ∷ ms) cw s sent =
-      let first = post_one sender cw m s (sent m (inl refl)) in
-      post_all sender ms (posted sender cw m) first.0 (λ x i. subst (λ (v : World). IsIn x (v.nodes sender).sent) (sym first.1) (sent x (inr i)))
+  post_all : (w : World) (sender : ℕ) (ms : Messages) (cw : cluster.World) → AllIn (λ (m : Signed Message). IsIn m (w.nodes sender).sent) ms → At w cw → At w (fold (posted sender) cw ms)
+  post_all w sender [] cw sent at = at
+  post_all w sender (m ∷ ms) cw sent at = post_all w sender ms (posted sender cw m) (λ x i. sent x (inr i)) (post_one w sender cw m (sent m (inl refl)) at)
 
   posts : (cw : cluster.World) (number : ℕ) (w : World) (done : Outcome) → Ready cw number w done → Stands (done_by number cw done)
   posts cw number w done ready =
-      let there : Stands (with_node cw number done.now) = record {
-        w = w;
-        past = ready.past;
-        replicas = λ k r e. elim (placed cw.replicas number k (record { heard = true; node = done.now }) r e) [
-          | inl at ↦ ap (λ (x : Replica). x.node) at.1 ∙ sym ready.here ∙ ap (λ (i : ℕ). (w.nodes i).node) (sym at.0)
-          | inr other ↦ ready.others k r other.1 other.0
-        ];
-      } in
-      post_all number done.sent (with_node cw number done.now) there ready.sent
+      let there : Mirrors w (with_node cw number done.now).replicas = λ k r e. elim (placed cw.replicas number k (record { heard = true; node = done.now }) r e) [
+        | inl at ↦ ap (λ (x : Replica). x.node) at.1 ∙ sym ready.here ∙ ap (λ (i : ℕ). (w.nodes i).node) (sym at.0)
+        | inr other ↦ ready.others k r other.1 other.0
+      ] in
+      let at = post_all w number done.sent (with_node cw number done.now) ready.sent (ready.past, there) in
+      (w, at.0, at.1)
 
-  idle : (cw : cluster.World) (number : ℕ) (s : Stands cw) (node : Node) → node_at cw number ≡ Some node → Ready cw number s.w (still node)
+  idle : (cw : cluster.World) (number : ℕ) (s : Stands cw) (node : Node) → node_at cw number ≡ Some node → Ready cw number s.0 (still node)
   idle cw number s node e =
       let r = heard_is (slice_get cw.replicas number) node e in
-      record { past = s.past; others = λ k x at apart. s.replicas k x at; here = sym (s.replicas number r.0 r.1) ∙ r.2; sent = λ m i. absurd i }
+      record { past = s.1; others = λ k x at apart. s.2 k x at; here = sym (s.2 number r.0 r.1) ∙ r.2; sent = λ m i. absurd i }
 
   module _ (once : AskOnce liar requests) (same : CallsKeepTheReplica) (fair : WhatIsSentIsFair) where
     abbrev taken : World → (number : ℕ) → NodeStep → World
@@ -160,7 +135,7 @@ module _ (settings : Settings) (liar : ℕ → Bool) (requests : List model.Requ
     step_past queue replies number w step past knows =
         let turn : NodeTurn = record { who = number; step = step } in
         record {
-          reached = steps settings liar requests once same fair w past.reached turn knows;
+          reached = steps settings liar requests begun once same fair w past.reached turn knows;
           queue = λ b i. let was = past.queue b i in (was.0, sent_on w (Steps turn) was.0 b.signed was.1);
           replies = λ m i. let was = past.replies m i in (was.0, was_sent_on w (Steps turn) was.0 m was.1);
           signed = past.signed;
@@ -190,15 +165,12 @@ module _ (settings : Settings) (liar : ℕ → Bool) (requests : List model.Requ
     did cw number act can s None at (Some done) e = absurd cc
     did cw number act can s (Some node) at (Some done) e =
         let ready = idle cw number s node at in
-        let step = can s.w s.past node done e in
-        posts cw number (taken s.w number step.0) done (subst (Ready cw number (taken s.w number step.0)) step.2 (then cw number s.w (still node) step.0 ready step.1))
-
-    does : (cw : cluster.World) (number : ℕ) (act : Node → Option Outcome) → Can cw act → Stands cw → Stands (done_if number cw (node_at cw number >>= act))
-    does cw number act can s = did cw number act can s (node_at cw number) refl (node_at cw number >>= act) refl
+        let step = can s.0 s.1 node done e in
+        posts cw number (taken s.0 number step.0) done (subst (Ready cw number (taken s.0 number step.0)) step.2 (then cw number s.0 (still node) step.0 ready step.1))
 
     each_of : (act : Node → Option Outcome) → ((cw : cluster.World) → Can cw act) → (numbers : List ℕ) (cw : cluster.World) → Stands cw → Stands (fold (λ so_far number. done_if number so_far (node_at so_far number >>= act)) cw numbers)
     each_of act can [] cw s = s
-    each_of act can (number ∷ numbers) cw s = each_of act can numbers (done_if number cw (node_at cw number >>= act)) (does cw number act (can cw) s)
+    each_of act can (number ∷ numbers) cw s = each_of act can numbers (done_if number cw (node_at cw number >>= act)) (did cw number act (can cw) s (node_at cw number) refl (node_at cw number >>= act) refl)
 
     each : (act : Node → Option Outcome) → ((cw : cluster.World) → Can cw act) → (cw : cluster.World) → Stands cw → Stands (each_does act cw)
     each act can cw s = each_of act can (range_with_len 0 (length cw.replicas)) cw s
@@ -237,62 +209,50 @@ module _ (settings : Settings) (liar : ℕ → Bool) (requests : List model.Requ
     -- Steps ---------------------------------------------------------------------------------------------------------------------
 
     -- a batch is executed, and then a checkpoint made, if it is due
+    due : (first : Outcome) → with_due_checkpoint first ≡ record { now = (outcome first.now nodes.Checkpoints).now; sent = first.sent ++ (outcome first.now nodes.Checkpoints).sent }
+    due first = go (checkpoint_refusal first.now) (checkpoint first.now)
+      where
+        go : (r : Option NodeError) (o : Option Outcome)
+            → followed_by first (unless_refused r o) ≡ record { now = (unless r first.now (nodes.or_still first.now o)).now; sent = first.sent ++ (unless r first.now (nodes.or_still first.now o)).sent }
+        go (Some refused) o = ap (λ (l : Messages). record { now = first.now; sent = l }) (sym (append-nil first.sent))
+        go None None = ap (λ (l : Messages). record { now = first.now; sent = l }) (sym (append-nil first.sent))
+        go None (Some told) = refl
+
     advanced : (cw : cluster.World) (number : ℕ) → Stands cw → (o : Option Node) → node_at cw number ≡ o → (done : Outcome) → (o >>= advancing) ≡ Some done → Stands (done_by number cw done)
     advanced cw number s None at done e = absurd cc
     advanced cw number s (Some node) at done e = go (execution node) refl e
       where
-        ready : Ready cw number s.w (still node)
-        ready = idle cw number s node at
-
         go : (o : Option (Option Outcome)) → execution node ≡ o → option_map with_due_checkpoint (next_of o) ≡ Some done → Stands (done_by number cw done)
         go None is h = absurd cc
         go (Some None) is h = absurd cc
         go (Some (Some first)) is h =
-            let step : outcome node nodes.Executes ≡ first = ap (nodes.after_execution node) is in
-            let once_done = subst (Ready cw number (taken s.w number nodes.Executes)) step (then cw number s.w (still node) nodes.Executes ready tt) in
-            let more = then cw number (taken s.w number nodes.Executes) first nodes.Checkpoints once_done tt in
-            tells (checkpoint_refusal first.now) (checkpoint first.now) refl refl (some_is (with_due_checkpoint first) done h) once_done more
-          where
-            tells : {v : World} {u : World} (r : Option NodeError) (o : Option Outcome) → checkpoint_refusal first.now ≡ r → checkpoint first.now ≡ o → followed_by first (unless_refused (checkpoint_refusal first.now) (checkpoint first.now)) ≡ done
-                → Ready cw number v first → Ready cw number u (record { now = (outcome first.now nodes.Checkpoints).now; sent = first.sent ++ (outcome first.now nodes.Checkpoints).sent })
-                → Stands (done_by number cw done)
-            tells (Some refused) o a b h quiet more =
-                posts cw number _ done (subst (Ready cw number _) (ap (λ (x : Option NodeError). followed_by first (unless_refused x (checkpoint first.now))) (sym a) ∙ h) quiet)
-            tells None None a b h quiet more =
-                posts cw number _ done (subst (Ready cw number _) (ap₂ (λ (x : Option NodeError) (y : Option Outcome). followed_by first (unless_refused x y)) (sym a) (sym b) ∙ h) quiet)
-            tells None (Some told) a b h quiet more =
-                let is : outcome first.now nodes.Checkpoints ≡ told = ap₂ (λ (x : Option NodeError) (y : Option Outcome). unless x first.now (nodes.or_still first.now y)) a b in
-                posts cw number _ done (subst (Ready cw number _)
-                (ap (λ (x : Outcome). record { now = x.now; sent = first.sent ++ x.sent }) is ∙ ap₂ (λ (x : Option NodeError) (y : Option Outcome). followed_by first (unless_refused x y)) (sym a) (sym b) ∙ h) more)
-
-    turned : (cw : cluster.World) (turn : Option ℕ) → Stands cw → Stands (record cw { turn = turn })
-    turned cw turn s = record { w = s.w; past = s.past; replicas = s.replicas }
+            let v = taken s.0 number nodes.Executes in
+            let executed = subst (Ready cw number v) (ap (nodes.after_execution node) is) (then cw number s.0 (still node) nodes.Executes (idle cw number s node at) tt) in
+            let all = subst (Ready cw number (taken v number nodes.Checkpoints)) (sym (due first) ∙ some_is (with_due_checkpoint first) done h) (then cw number v first nodes.Checkpoints executed tt) in
+            posts cw number (taken v number nodes.Checkpoints) done all
 
     turns : (cw : cluster.World) (number : ℕ) → Stands cw → Stands (turning cw number)
     turns cw number s = elim (nat_lt number (length cw.replicas)) as (λ b. Stands (cond b (turn_taken cw number (node_at cw number >>= advancing)) (record cw { turn = None }))) [
       | true ↦ (elim (node_at cw number >>= advancing) as (λ o. (node_at cw number >>= advancing) ≡ o → Stands (turn_taken cw number o)) [
-        | None ↦ λ e. turned cw (Some (number + 1)) s
+        | None ↦ λ e. s
         | Some done ↦ λ e. advanced cw number s (node_at cw number) refl done e
       ]) refl
-      | false ↦ turned cw None s
+      | false ↦ s
     ]
 
     delivers : (cw : cluster.World) (b : Broadcast) (rest : List Broadcast) → cw.queue ≡ b ∷ rest → Stands cw → Stands (delivering (record cw { queue = rest }) b)
     delivers cw b rest is s =
-        let sent = λ (x : Broadcast). (k : ℕ) × IsIn x.signed (s.w.nodes k).sent in
-        let all : AllIn sent (b ∷ rest) = subst (λ (l : List Broadcast). AllIn sent l) is s.past.queue in
+        let sent = λ (x : Broadcast). (k : ℕ) × IsIn x.signed (s.0.nodes k).sent in
+        let all : AllIn sent (b ∷ rest) = subst (λ (l : List Broadcast). AllIn sent l) is s.1.queue in
         let moved : Broadcast = record b { next = b.next + 1 } in
-        let put : (queue : List Broadcast) → AllIn sent queue → Stands (record cw { queue = queue }) = λ queue each. record {
-          w = s.w;
-          past = record { reached = s.past.reached; queue = each; replies = s.past.replies; signed = s.past.signed; came = s.past.came };
-          replicas = s.replicas;
-        } in
+        let put : (queue : List Broadcast) → AllIn sent queue → Stands (record cw { queue = queue }) =
+        λ queue each. (s.0, record { reached = s.1.reached; queue = each; replies = s.1.replies; signed = s.1.signed; came = s.1.came }, s.2) in
         let later = put (moved ∷ rest) (λ x i. elim i [ inl e ↦ subst sent (sym e) (all b (inl refl)) | inr j ↦ all x (inr j) ]) in
         let world = record cw { queue = moved ∷ rest } in
         elim (nat_lt b.next (length cw.replicas)) as (λ c. Stands (cond c (passed_on (record cw { queue = rest }) b) (record cw { queue = rest }))) [
           | true ↦ elim (b.next == b.sender) as (λ c. Stands (cond c world (handed b.signed world b.next))) [
             | true ↦ later
-            | false ↦ does world b.next (delivery b.signed) (takes world b.signed (λ w past. inl (past.queue moved (inl refl)))) later
+            | false ↦ did world b.next (delivery b.signed) (takes world b.signed (λ w past. inl (past.queue moved (inl refl)))) later (node_at world b.next) refl _ refl
           ]
           | false ↦ put rest (λ x i. all x (inr i))
         ]
@@ -304,7 +264,7 @@ module _ (settings : Settings) (liar : ℕ → Bool) (requests : List model.Requ
         go (Some number) queue is h = subst Stands (some_is (turning cw number) next h) (turns cw number s)
         go None (b ∷ rest) is h = subst Stands (some_is (delivering (record cw { queue = rest }) b) next h) (delivers cw b rest is s)
         go None [] is h = (elim (list_any has_ready cw.replicas) as (λ c. cond c (Some (record cw { turn = Some 0 })) None ≡ Some next → Stands next) [
-          | true ↦ λ f. subst Stands (some_is (record cw { turn = Some 0 }) next f) (turned cw (Some 0) s)
+          | true ↦ λ f. subst Stands (some_is (record cw { turn = Some 0 }) next f) s
           | false ↦ λ f. absurd cc
         ]) h
 
@@ -348,12 +308,12 @@ module _ (settings : Settings) (liar : ℕ → Bool) (requests : List model.Requ
         let c = taking.offer.1 in
         let by = taking.adopts in
         let found = offers node.order.last cw.replicas taking.offer (sym (ap (λ (o : Option Node). o >>= (λ n. ahead_of n.order.last cw.replicas)) taking.node_is) ∙ taking.offer_is) in
-        let shown = subst (IsShownIf (IsSigned s.w) (IsTold s.w)) (ap (λ (n : Node). n.snapshots.stable) (sym (s.replicas found.0 found.1 found.2)) ∙ found.3) (s.past.reached.sound found.0).stable in
+        let shown = subst (IsShownIf (IsSigned s.0) (IsTold s.0)) (ap (λ (n : Node). n.snapshots.stable) (sym (s.2 found.0 found.1 found.2)) ∙ found.3) (s.1.reached.sound found.0).stable in
         let step = nodes.Adopts c by.files by.table in
         let right : outcome node step ≡ still taking.now =
         ap₂ (λ (a b : Bool). cond (a && b) (still (adopted node c by.files by.table)) (still node)) by.may ((bytes_eq-Decides (node_digest by.files by.table) c.digest).1 by.digest) ∙ ap still (sym by.now_is) in
-        let ready = then cw number s.w (still node) step (idle cw number s node taking.node_is) shown in
-        subst Stands (sym taking.next_is) (posts cw number (taken s.w number step) (still taking.now) (subst (Ready cw number (taken s.w number step)) right ready))
+        let ready = then cw number s.0 (still node) step (idle cw number s node taking.node_is) shown in
+        subst Stands (sym taking.next_is) (posts cw number (taken s.0 number step) (still taking.now) (subst (Ready cw number (taken s.0 number step)) right ready))
 
     so_often : (Goes : cluster.World → cluster.World → Type 0) → ((cw next : cluster.World) → Goes cw next → Stands cw → Stands next) → (n : ℕ) (cw other : cluster.World) → Times Goes n cw other → Stands cw → Stands other
     so_often Goes go zero cw other is s = subst Stands is s
@@ -376,11 +336,11 @@ module _ (settings : Settings) (liar : ℕ → Bool) (requests : List model.Requ
     where
       go : (o : Option Replica) → slice_get cw.replicas number ≡ o → Stands (with_hearing heard cw number o)
       go None e = s
-      go (Some replica) e = record {
-        w = s.w;
-        past = s.past;
-        replicas = λ k r at. elim (placed cw.replicas number k (record replica { heard = heard }) r at) [
-          | inl is ↦ ap (λ (x : Replica). x.node) is.1 ∙ s.replicas number replica e ∙ ap (λ (i : ℕ). (s.w.nodes i).node) (sym is.0)
-          | inr other ↦ s.replicas k r other.1
-        ];
-      }
+      go (Some replica) e = (
+        s.0,
+        s.1,
+        λ k r at. elim (placed cw.replicas number k (record replica { heard = heard }) r at) [
+          | inl is ↦ ap (λ (x : Replica). x.node) is.1 ∙ s.2 number replica e ∙ ap (λ (i : ℕ). (s.0.nodes i).node) (sym is.0)
+          | inr other ↦ s.2 k r other.1
+        ],
+      )
