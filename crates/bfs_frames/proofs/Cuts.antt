@@ -22,16 +22,16 @@ length-word : (n : ℕ) → length (word n) ≡ 4
 unfolding word
 length-word n = refl
 
-word_one : (m n : ℕ) (x y : List ℕ) → m < 2 ^ 32 → n < 2 ^ 32 → word m ++ x ≡ word n ++ y → (m ≡ n) × (x ≡ y)
+pub word_one : (m n : ℕ) (x y : List ℕ) → m < 2 ^ 32 → n < 2 ^ 32 → word m ++ x ≡ word n ++ y → (m ≡ n) × (x ≡ y)
 word_one m n x y p q e =
     let same : ◌≡◌ {A = ℕ × List ℕ} (m, x) (n, y) = some_is (m, x) (n, y) (sym (word_exact.again m x p) ∙ ap word_from e ∙ word_exact.again n y q) in
     (ap (λ (r : ℕ × List ℕ). r.0) same, ap (λ (r : ℕ × List ℕ). r.1) same)
 
-tail_one : (a b : ℕ) (x y : List ℕ) → a ∷ x ≡ b ∷ y → x ≡ y
+pub tail_one : (a b : ℕ) (x y : List ℕ) → a ∷ x ≡ b ∷ y → x ≡ y
 tail_one a b x y e = cc
 
 -- two frames end at one place
-frame_one : (f g : RawFrame) (x y : List ℕ) → IsFrame f → IsFrame g → frame_text f ++ x ≡ frame_text g ++ y → x ≡ y
+pub frame_one : (f g : RawFrame) (x y : List ℕ) → IsFrame f → IsFrame g → frame_text f ++ x ≡ frame_text g ++ y → x ≡ y
 frame_one f g x y p q e =
     let left = (word (length f.payload) ++ f.payload) ++ x in
     let right = (word (length g.payload) ++ g.payload) ++ y in
@@ -94,7 +94,7 @@ few_cut bytes lt time frames rest fits e =
 four : (a b c d : List ℕ) → ((a ++ b) ++ c) ++ d ≡ a ++ (b ++ (c ++ d))
 four a b c d = simp append_assoc
 
-five : (a b c d r : List ℕ) → ((a ++ b) ++ (c ++ d)) ++ r ≡ a ++ (b ++ (c ++ (d ++ r)))
+pub five : (a b c d r : List ℕ) → ((a ++ b) ++ (c ++ d)) ++ r ≡ a ++ (b ++ (c ++ (d ++ r)))
 five a b c d r = simp append_assoc
 
 frames_lack : (s u n : ℕ) (left : List ℕ) → s < 2 ^ 32 → u < 2 ^ 32 → n < 2 ^ 32 → LacksFrames n left → IsCut (((word s ++ word u) ++ word n) ++ left)

@@ -2,9 +2,8 @@
 use Rattle.std.specs.Prelude.{◌≡◌, ◌≢◌, ℕ, ◌<◌, ◌≤◌, List, ◌++◌, length}
 use Rattle.std.specs.List.{AllByRecursion, flat_map}
 use Rattle.bfs_model.specs.Bytes.Items.{word}
-use Rattle.bfs_model.specs.Server.Stored.{IsWord, TimeIsSpellable}
 use Rattle.bfs_model.specs.Server.Tree.{Time}
-use Rattle.bfs_frames.specs.Frames.{IsFrame, RawFrame, frame_text, turn_text}
+use Rattle.bfs_frames.specs.Frames.{IsFrame, IsTurn, RawFrame, frame_text, turn_text}
 
 -- fewer bytes than that
 abbrev pub AreFewer : ℕ → List ℕ → Type 0
@@ -14,12 +13,6 @@ AreFewer count bytes = length bytes < count
 abbrev pub LacksFrames : ℕ → List ℕ → Type 0
 LacksFrames count bytes = (frames : List RawFrame) (rest : List ℕ) → length frames ≡ count → AllByRecursion IsFrame frames
     → bytes ≢ flat_map frame_text frames ++ rest
-
--- a turn that has a text
-pub record IsTurn (time : Time) (frames : List RawFrame) : Type 0 where
-  pub time_fits : TimeIsSpellable time
-  pub count : IsWord (length frames)
-  pub each : AllByRecursion IsFrame frames
 
 -- no whole turn stands at the front of the bytes
 abbrev pub IsCut : List ℕ → Type 0

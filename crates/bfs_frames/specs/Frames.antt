@@ -4,7 +4,7 @@ use Rattle.std.specs.List.{AllByRecursion, flat_map}
 use Rattle.std.specs.Io.KnownBytes.{Consumes}
 use Rattle.bfs_model.specs.Bytes.Formats.{list_text}
 use Rattle.bfs_model.specs.Bytes.Items.{word}
-use Rattle.bfs_model.specs.Server.Stored.{IsByte, IsWord}
+use Rattle.bfs_model.specs.Server.Stored.{IsByte, IsWord, TimeIsSpellable}
 use Rattle.bfs_model.specs.Server.Tree.{Time}
 use Rattle.bfs_frames.specs.Kinds.{kind_at, number_of}
 use Rattle.bfs_frames.specs.declared.kind.Kind.{Kind}
@@ -28,6 +28,17 @@ frame_text frame = frame.kind ∷ [] ++ word (length frame.payload) ++ frame.pay
 -- a time, how many frames came by then, and they
 abbrev pub turn_text : Time → List RawFrame → List ℕ
 turn_text time frames = word time.seconds ++ word time.useconds ++ list_text frame_text frames
+
+-- a turn that has a text
+pub record IsTurn (time : Time) (frames : List RawFrame) : Type 0 where
+  pub time_fits : TimeIsSpellable time
+  pub count : IsWord (length frames)
+  pub each : AllByRecursion IsFrame frames
+
+-- no bytes begin with two turns
+abbrev pub BeginWithOneTurn : Type 0
+BeginWithOneTurn = (t u : Time) (fs gs : List RawFrame) (x y : List ℕ) → IsTurn t fs → IsTurn u gs → turn_text t fs ++ x ≡ turn_text u gs ++ y
+    → (t ≡ u) × (fs ≡ gs) × (x ≡ y)
 
 abbrev pub most_of : Limits → Kind → ℕ
 most_of limits Request = limits.request
@@ -77,5 +88,6 @@ pub record ReadsFrames (limits : Limits) (old new : Option (List ℕ)) (count : 
 -- a turn was consumed, and its time was given, and those of its frames that pass, in their order
 pub record ReadsTurn (limits : Limits) (old new : Option (List ℕ)) (turn : Turn) : Type 0 where
   pub all : List RawFrame
+  pub fits : IsTurn turn.time all
   pub consumed : Consumes old new (turn_text turn.time all)
   pub passed : map raw_frame turn.frames.items ≡ filter (passes limits) all
