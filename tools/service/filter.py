@@ -1,0 +1,195 @@
+"""A filter as a child: turns go to its standard input, and its answers come from its standard output."""
+import asyncio
+import fcntl
+import os
+import subprocess
+import time
+
+from service.frames import COUNT, MOST_FRAME, PARCEL, TURN, Pieces
+
+TICK = 0.1  # seconds
+SHARE = 1 << 20  # bytes that a turn takes of one source, or a little more
+MOST_WAITING = 4 << 20  # bytes of one source that wait; where there are more, no more are read of it
+OVERHEAD = 64  # bytes that are counted for a piece beside its own
+PIPE, READ = 1 << 20, 1 << 18  # bytes that a pipe holds, and that are read at a time
+PATIENCE = 2  # seconds that a filter has to end
+
+
+class Inbox:
+    """Frames of one source that wait for a turn, in pieces of whole frames."""
+
+    __slots__ = "filter", "pause", "resume", "pieces", "size", "is_paused", "is_ready"
+
+    def __init__(self, filter, pause=None, resume=None):
+        self.filter, self.pause, self.resume = filter, pause, resume
+        self.pieces, self.size, self.is_paused, self.is_ready = [], 0, False, False
+
+    def put(self, piece, count):
+        """Takes a piece of so many frames."""
+        self.pieces.append((piece, count))
+        self.size += len(piece) + OVERHEAD
+        if self.size > MOST_WAITING and self.pause and not self.is_paused:
+            self.is_paused = True
+            self.pause()
+        if not self.is_ready:
+            self.is_ready = True
+            self.filter.wake(self)
+
+    def take(self, pieces):
+        """Moves the first ones to those of a turn, and tells how many frames they are."""
+        taken = frames = size = 0
+        for piece, count in self.pieces:
+            pieces.append(piece)
+            taken, frames, size = taken + 1, frames + count, size + len(piece) + OVERHEAD
+            if size > SHARE:
+                break
+        del self.pieces[:taken]
+        self.size -= size
+        if self.is_paused and self.size <= MOST_WAITING // 2:
+            self.is_paused = False
+            self.resume()
+        return frames
+
+
+class Filter:
+    """The child. A turn begins when the last answer has come and a frame waits, or a tick is due. Its parcels go to `hand_out`, one by one, and when those
+    that have come are handed out, `flush` is called. `ended` is called once, with words, when the child has ended or answered what is no answer."""
+
+    def __init__(self, command, hand_out, flush, ended):
+        self.command, self.hand_out, self.flush, self.ended = command, hand_out, flush, ended
+        self.ready, self.pieces, self.left = [], Pieces(), None
+        self.is_busy, self.is_due, self.is_awake = False, False, False
+        self.unsent, self.process = b"", None
+        self.turns = self.frames = self.parcels = 0
+
+    def start(self):
+        """Starts it; a fault of the system (OSError) is the caller's. It has a process group of its own, so that ctrl-C comes to its parent alone."""
+        self.loop = asyncio.get_running_loop()
+        self.process = subprocess.Popen(self.command, stdin=subprocess.PIPE, stdout=subprocess.PIPE, bufsize=0, process_group=0)
+        self.into, self.out = self.process.stdin.fileno(), self.process.stdout.fileno()
+        for pipe in (self.into, self.out):
+            os.set_blocking(pipe, False)
+            try:
+                fcntl.fcntl(pipe, fcntl.F_SETPIPE_SZ, PIPE)
+            except OSError:
+                pass  # it is smaller, then
+        self.loop.add_reader(self.out, self.readable)
+        self.ticks = self.loop.call_later(TICK, self.tick)
+
+    def wake(self, inbox):
+        """Something waits in that inbox."""
+        self.ready.append(inbox)
+        if not self.is_busy and not self.is_awake and self.process:
+            # what else has come by now goes into the same turn
+            self.is_awake = True
+            self.loop.call_soon(self.turn)
+
+    def tick(self):
+        self.ticks = self.loop.call_later(TICK, self.tick)
+        self.is_due = True
+        if not self.is_busy and not self.is_awake:
+            self.turn()
+
+    def turn(self):
+        self.is_awake = False
+        if self.is_busy or not self.process:
+            return
+        self.is_busy, self.is_due = True, False
+        ready, self.ready = self.ready, []
+        pieces, count = [b""], 0
+        for inbox in ready:
+            count += inbox.take(pieces)
+            inbox.is_ready = bool(inbox.pieces)
+            if inbox.is_ready:
+                self.ready.append(inbox)
+        now = time.time_ns() // 1_000
+        pieces[0] = TURN.pack(now // 1_000_000, now % 1_000_000, count)
+        self.turns, self.frames = self.turns + 1, self.frames + count
+        self.send(b"".join(pieces))
+
+    def send(self, data):
+        """Writes what the pipe takes, and the rest when it takes more."""
+        try:
+            sent = os.write(self.into, data)
+        except BlockingIOError:
+            sent = 0
+        except OSError:
+            return self.end()
+        if sent < len(data):
+            if not self.unsent:
+                self.loop.add_writer(self.into, self.writable)
+            self.unsent = memoryview(data)[sent:]
+        elif self.unsent:
+            self.unsent = b""
+            self.loop.remove_writer(self.into)
+
+    def writable(self):
+        self.send(self.unsent)
+
+    def readable(self):
+        try:
+            data = os.read(self.out, READ)
+        except BlockingIOError:
+            return
+        except OSError:
+            data = b""
+        if not data:
+            return self.end()
+        data = self.pieces.with_more(data)
+        at = self.take_count(data)
+        at, wanted = self.take_parcels(data, at)
+        self.flush()
+        if self.left == 0 and at == len(data) and self.is_busy:
+            self.left, self.is_busy = None, False
+            if self.ready or self.is_due:
+                self.turn()
+        elif self.left == 0 or wanted > PARCEL.size + MOST_FRAME:
+            self.end("what it writes is no answer")
+        else:
+            self.pieces.keep(data, at, wanted)
+
+    def take_count(self, data):
+        """Where the parcels begin."""
+        if self.left is None and len(data) >= COUNT.size:
+            (self.left,) = COUNT.unpack_from(data)
+            return COUNT.size
+        return 0
+
+    def take_parcels(self, data, at):
+        """Hands out the parcels that are whole. What it gives is where the first one that isn't begins, and how many bytes that wants."""
+        if self.left is None:
+            return at, COUNT.size
+        end, left, unpack, hand_out = len(data), self.left, PARCEL.unpack_from, self.hand_out
+        wanted = PARCEL.size
+        while left and end - at >= PARCEL.size:
+            to, number, kind, length = unpack(data, at)
+            wanted = PARCEL.size + length
+            if wanted > end - at:
+                break
+            # the frame is the bytes behind `to` and `number`
+            hand_out(to, number, kind, data[at + 9 : at + wanted])
+            at, left, wanted = at + wanted, left - 1, PARCEL.size
+        self.parcels += self.left - left
+        self.left = left
+        return at, wanted
+
+    def end(self, why=""):
+        """Ends it where it has not ended yet. Without a reason, it has ended by itself, and how is the reason."""
+        if not self.process:
+            return
+        process, self.process = self.process, None
+        self.ticks.cancel()
+        self.loop.remove_reader(self.out)
+        self.loop.remove_writer(self.into)
+        process.stdin.close()  # at the end of its input a filter ends
+        process.stdout.close()
+        try:
+            process.wait(PATIENCE)
+        except subprocess.TimeoutExpired:
+            process.kill()
+            process.wait()
+        self.ended(why or how_it_ended(process.returncode))
+
+
+def how_it_ended(status):
+    return f"it was ended by signal {-status}" if status < 0 else f"it ended with status {status}"

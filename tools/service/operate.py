@@ -1,0 +1,103 @@
+"""What an operator does: starts all processes on this machine, and asks replicas for reports."""
+import asyncio
+import os
+import signal
+import subprocess
+import sys
+import time
+
+from service.cluster import Fault
+from service.frames import ASK_REPORT, FRAME, HELLO, MAGIC, OPERATOR, REPORT, frame
+
+PATIENCE = 5  # seconds that a process has to end, and a replica to report
+POLL = 0.1
+MOST_REPORT = 1 << 20
+
+
+def up(commands):
+    """Starts these processes by their names and waits for them, until it is told to end; then ends them all. Gives the status."""
+    told = []
+    for number in (signal.SIGTERM, signal.SIGINT, signal.SIGHUP):
+        signal.signal(number, lambda *_: told.append(True))
+    # a process ends at the end of its standard input, so also when this one is killed
+    running = {name: subprocess.Popen(command, stdin=subprocess.PIPE, process_group=0) for name, command in commands.items()}
+    try:
+        while running and not told:
+            for name, process in list(running.items()):
+                if process.poll() is not None:
+                    say(f"{name} has ended with status {process.returncode}; the others go on")
+                    process.stdin.close()
+                    del running[name]
+            time.sleep(POLL)
+    finally:
+        end(running)
+    if not told:
+        say("all have ended")
+    return 0 if told else 1
+
+
+def end(running):
+    """Ends what runs: by its standard input and a signal, and after a while by force."""
+    for process in running.values():
+        process.stdin.close()
+        process.terminate()
+    for process in running.values():
+        try:
+            process.wait(PATIENCE)
+        except subprocess.TimeoutExpired:
+            process.kill()
+            process.wait()
+
+
+def say(text):
+    print(f"up: {text}", file=sys.stderr, flush=True)
+
+
+async def report(address):
+    """What the replica there reports, as pairs of a name and a value."""
+    reader, writer = await asyncio.open_connection(*address)
+    try:
+        writer.write(HELLO.pack(MAGIC, OPERATOR, 0, 0) + frame(ASK_REPORT))
+        while True:
+            kind, length = FRAME.unpack(await reader.readexactly(FRAME.size))
+            if length > MOST_REPORT:
+                return {"report": f"too long: {length} bytes"}
+            payload = await reader.readexactly(length)
+            if kind == REPORT:
+                words = payload.decode(errors="replace").split()
+                return dict(word.partition("=")[::2] for word in words)
+    finally:
+        writer.close()
+
+
+async def asked(address):
+    """A replica's report, or one line on why there is none."""
+    try:
+        return await asyncio.wait_for(report(address), PATIENCE)
+    except asyncio.TimeoutError:
+        return f"no report within {PATIENCE} s"
+    except asyncio.IncompleteReadError:
+        return "the connection was closed"
+    except OSError as fault:
+        return f"no connection: {os.strerror(fault.errno) if fault.errno else fault}"
+
+
+def table(rows):
+    """Lines with the columns of all that was reported, in the order in which names came first."""
+    names = list(dict.fromkeys(name for row in rows if isinstance(row, dict) for name in row))
+    cells = [["replica", *names]]
+    for number, row in enumerate(rows):
+        cells.append([str(number), *([row.get(name, "-") for name in names] if isinstance(row, dict) else [row])])
+    widths = [max(len(line[column]) for line in cells if len(line) == len(cells[0])) for column in range(len(cells[0]))]
+    return ["  ".join(cell.ljust(width) for cell, width in zip(line, [*widths, *[0] * len(line)])).rstrip() for line in cells]
+
+
+def status(cluster):
+    """Prints the table; gives 0 where all replicas reported."""
+    rows = asyncio.run(all_asked(cluster.replicas))
+    print(*table(rows), sep="\n")
+    return 0 if all(isinstance(row, dict) for row in rows) else 1
+
+
+async def all_asked(addresses):
+    return await asyncio.gather(*map(asked, addresses))

@@ -1,0 +1,162 @@
+"""Runs a replica's transport or the relay's until it is told to end, or its filter ends."""
+import asyncio
+import gc
+import os
+import signal
+import sys
+import time
+
+from service.cluster import Fault
+from service.filter import Filter
+from service.frames import ANSWER, HELLO, LOG, MAGIC, MOST_FRAME, RELAY, REPLICA, REPORT, TICKETED
+from service.frames import TO_CALLER, TO_CLIENT, TO_OPERATOR, TO_REPLICA, TO_REPLICAS
+from service.nfs import Calls, Datagrams, Stream
+from service.peers import Greeting, Hub
+
+QUIET = 10  # seconds in which a line isn't told again
+SWEEP = 1  # seconds between two looks for what is too old
+STOPPED, FAILED = 0, 3  # statuses
+
+
+class Log:
+    """Lines for the operator on standard error. One that comes again and again is told once in a while."""
+
+    def __init__(self, name):
+        self.name, self.told = name, {}
+
+    def __call__(self, text):
+        now = time.monotonic()
+        if now - self.told.get(text, -QUIET) < QUIET:
+            return
+        if len(self.told) > 1_000:
+            self.told.clear()
+        self.told[text] = now
+        try:
+            os.write(sys.stderr.fileno(), f"{self.name}: {text}\n".encode())  # in one piece, since several processes write there
+        except OSError:
+            pass  # nobody reads them
+
+
+class Transport:
+    """What the transports of replicas and relays share: a filter, the connections to replicas, and the end."""
+
+    def __init__(self, name, command, replicas, hello, me=None):
+        self.log = Log(name)
+        self.filter = Filter(command, self.hand_out, self.flush, self.filter_ended)
+        self.hub = Hub(self.filter, self.log, replicas, hello, me)
+        self.end = None
+
+    def hand_out(self, to, number, kind, frame):
+        """Brings a frame of the filter to its receiver; to one that isn't there, to nobody."""
+        if len(frame) > MOST_FRAME:
+            self.log(f"its filter sent a frame of kind {kind} and {len(frame)} bytes: dropped")
+        elif to == TO_REPLICAS:
+            self.hub.to_replicas(frame)
+        elif to == TO_REPLICA:
+            self.hub.to_replica(number, frame)
+        elif to == TO_CLIENT:
+            self.hub.to_client(number, frame)
+        elif to == TO_OPERATOR and kind == LOG:
+            self.log(printable(frame[5:]))
+        elif to == TO_OPERATOR and kind == REPORT:
+            self.hub.report(frame)
+
+    def flush(self):
+        self.hub.flush()
+
+    def stop(self, status):
+        if not self.end.done():
+            self.end.set_result(status)
+
+    def filter_ended(self, how):
+        if not self.end.done():
+            self.log(f"its filter: {how}")
+        self.stop(FAILED)
+
+    async def run(self, listen, dials, with_parent):
+        """Listens, starts the filter, connects, and gives the status when it has to end. `with_parent` ends it at the end of standard input, too."""
+        loop = asyncio.get_running_loop()
+        self.end = loop.create_future()
+        for number in (signal.SIGTERM, signal.SIGINT, signal.SIGHUP):
+            loop.add_signal_handler(number, self.stop, STOPPED)
+        if with_parent:
+            loop.add_reader(sys.stdin.fileno(), lambda: os.read(sys.stdin.fileno(), 1 << 10) or self.stop(STOPPED))
+        closing = await listen()
+        try:
+            self.filter.start()
+        except OSError as fault:
+            raise Fault(f"{self.filter.command[0]}: {fault.strerror}") from None
+        tasks = [loop.create_task(self.hub.dial(number)) for number in dials]
+        gc.freeze()  # what is there now stays
+        status = await self.end
+        self.filter.end()
+        for each in (*tasks, *closing):
+            each.cancel() if each in tasks else each.close()
+        await asyncio.gather(*tasks, return_exceptions=True)
+        for transport in list(self.hub.accepted):
+            transport.abort()
+        return status
+
+
+def printable(text):
+    """A line of a filter in one line, without what would change a terminal."""
+    return "".join(letter if letter.isprintable() else "?" for letter in text.decode(errors="replace")[:1_000])
+
+
+async def listening(log, make, address):
+    """A socket of TCP at that address, by `make` for each connection."""
+    try:
+        server = await asyncio.get_running_loop().create_server(make, *address, reuse_address=True)
+    except OSError as fault:
+        raise Fault(f"{address}: can't listen there: {fault.strerror}") from None
+    log(f"listens at {address}")
+    return server
+
+
+class ReplicaTransport(Transport):
+    """It listens for replicas of lower numbers, relays and operators, and dials the replicas of higher numbers."""
+
+    def __init__(self, cluster, number, command):
+        super().__init__(f"replica {number}", command, cluster.replicas, HELLO.pack(MAGIC, REPLICA, number, 1), number)
+        self.cluster, self.number = cluster, number
+
+    async def listen(self):
+        return [await listening(self.log, lambda: Greeting(self.hub), self.cluster.replicas[self.number])]
+
+    async def serve(self, with_parent):
+        return await self.run(self.listen, range(self.number + 1, len(self.cluster.replicas)), with_parent)
+
+
+class RelayTransport(Transport):
+    """It listens for kernels, and dials all replicas."""
+
+    def __init__(self, cluster, clients, command):
+        super().__init__("relay", command, cluster.replicas, HELLO.pack(MAGIC, RELAY, clients[0], len(clients)))
+        self.cluster, self.calls = cluster, Calls(self.filter)
+
+    def hand_out(self, to, number, kind, frame):
+        if to == TO_CALLER and kind == ANSWER:
+            self.calls.answer(number, frame[TICKETED.size :])
+        else:
+            super().hand_out(to, number, kind, frame)
+
+    def flush(self):
+        self.calls.flush()
+        self.hub.flush()
+
+    async def listen(self):
+        loop = asyncio.get_running_loop()
+        server = await listening(self.log, lambda: Stream(self.calls), self.cluster.relay)
+        try:
+            datagrams, _ = await loop.create_datagram_endpoint(lambda: Datagrams(self.calls), local_addr=self.cluster.relay)
+        except OSError as fault:
+            raise Fault(f"{self.cluster.relay}: can't take datagrams there: {fault.strerror}") from None
+        loop.call_later(SWEEP, self.sweep)
+        return [server, datagrams]
+
+    def sweep(self):
+        self.calls.sweep()
+        asyncio.get_running_loop().call_later(SWEEP, self.sweep)
+
+    async def serve(self, with_parent):
+        return await self.run(self.listen, self.hub.replicas, with_parent)
