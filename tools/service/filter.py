@@ -181,13 +181,13 @@ class Filter:
         self.ticks.cancel()
         self.loop.remove_reader(self.out)
         self.loop.remove_writer(self.into)
-        process.stdin.close()  # at the end of its input a filter ends
-        process.stdout.close()
+        if why:
+            process.kill()
         try:
-            process.wait(PATIENCE)
+            process.communicate(timeout=PATIENCE)  # at the end of its input a filter ends, behind the answer that it is at
         except subprocess.TimeoutExpired:
             process.kill()
-            process.wait()
+            process.communicate()
         self.ended(why or how_it_ended(process.returncode))
 
 

@@ -1,5 +1,6 @@
 """Calls of kernels, by TCP with record marks (RFC 5531 section 11) and by UDP. Each goes to the filter with a ticket, and its reply comes back with it."""
 import asyncio
+import collections
 import time
 
 from service.filter import Inbox
@@ -33,7 +34,8 @@ class Calls:
 
     def __init__(self, filter):
         self.inbox = Inbox(filter)
-        self.by_ticket, self.by_key, self.replies = {}, {}, {}
+        self.by_ticket, self.by_key = {}, {}
+        self.replies = collections.OrderedDict()  # by their age
         self.ticket = self.size = self.kept = 0
         self.streams, self.paused, self.dirty = set(), set(), []
 
@@ -84,7 +86,7 @@ class Calls:
             self.drop_oldest()
 
     def drop_oldest(self):
-        self.kept -= size_of(self.replies.pop(next(iter(self.replies))))
+        self.kept -= size_of(self.replies.popitem(last=False)[1])
 
     def go_on(self):
         for stream in [stream for stream in self.paused if stream.may_read()]:
