@@ -2,6 +2,7 @@
 import asyncio
 import fcntl
 import os
+import selectors
 import subprocess
 import time
 
@@ -51,6 +52,18 @@ class Inbox:
         return frames
 
 
+class Selector(selectors.EpollSelector):
+    """That of the loop: before it waits for more, it does something."""
+
+    def __init__(self, before):
+        super().__init__()
+        self.before = before
+
+    def select(self, timeout=None):
+        self.before()
+        return super().select(timeout)
+
+
 class Filter:
     """The child. A turn begins when the last answer has come and a frame waits, or a tick is due. Its parcels go to `hand_out`, one by one, and when those
     that have come are handed out, `flush` is called. `ended` is called once, with words, when the child has ended or answered what is no answer."""
@@ -58,9 +71,8 @@ class Filter:
     def __init__(self, command, hand_out, flush, ended):
         self.command, self.hand_out, self.flush, self.ended = command, hand_out, flush, ended
         self.ready, self.pieces, self.left = [], Pieces(), None
-        self.is_busy, self.is_due, self.is_awake = False, False, False
+        self.is_busy, self.is_due = False, False
         self.unsent, self.process = b"", None
-        self.turns = self.frames = self.parcels = 0
 
     def start(self):
         """Starts it; a fault of the system (OSError) is the caller's. It has a process group of its own, so that ctrl-C comes to its parent alone."""
@@ -79,20 +91,14 @@ class Filter:
     def wake(self, inbox):
         """Something waits in that inbox."""
         self.ready.append(inbox)
-        if not self.is_busy and not self.is_awake and self.process:
-            # what else has come by now goes into the same turn
-            self.is_awake = True
-            self.loop.call_soon(self.turn)
 
     def tick(self):
         self.ticks = self.loop.call_later(TICK, self.tick)
         self.is_due = True
-        if not self.is_busy and not self.is_awake:
-            self.turn()
 
-    def turn(self):
-        self.is_awake = False
-        if self.is_busy or not self.process:
+    def begin_turn(self):
+        """Sends a turn where one is due. The loop calls this when it has taken all that came."""
+        if self.is_busy or not self.process or not (self.ready or self.is_due):
             return
         self.is_busy, self.is_due = True, False
         ready, self.ready = self.ready, []
@@ -104,7 +110,6 @@ class Filter:
                 self.ready.append(inbox)
         now = time.time_ns() // 1_000
         pieces[0] = TURN.pack(now // 1_000_000, now % 1_000_000, count)
-        self.turns, self.frames = self.turns + 1, self.frames + count
         self.send(b"".join(pieces))
 
     def send(self, data):
@@ -114,7 +119,8 @@ class Filter:
         except BlockingIOError:
             sent = 0
         except OSError:
-            return self.end()
+            self.loop.call_soon(self.end)
+            return
         if sent < len(data):
             if not self.unsent:
                 self.loop.add_writer(self.into, self.writable)
@@ -141,8 +147,6 @@ class Filter:
         self.flush()
         if self.left == 0 and at == len(data) and self.is_busy:
             self.left, self.is_busy = None, False
-            if self.ready or self.is_due:
-                self.turn()
         elif self.left == 0 or wanted > PARCEL.size + MOST_FRAME:
             self.end("what it writes is no answer")
         else:
@@ -169,7 +173,6 @@ class Filter:
             # the frame is the bytes behind `to` and `number`
             hand_out(to, number, kind, data[at + 9 : at + wanted])
             at, left, wanted = at + wanted, left - 1, PARCEL.size
-        self.parcels += self.left - left
         self.left = left
         return at, wanted
 

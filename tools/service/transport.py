@@ -7,7 +7,7 @@ import sys
 import time
 
 from service.cluster import Fault
-from service.filter import Filter
+from service.filter import Filter, Selector
 from service.frames import ANSWER, HELLO, LOG, MAGIC, MOST_FRAME, RELAY, REPLICA, REPORT, TICKETED
 from service.frames import TO_CALLER, TO_CLIENT, TO_OPERATOR, TO_REPLICA, TO_REPLICAS
 from service.nfs import Calls, Datagrams, Stream
@@ -44,7 +44,7 @@ class Transport:
         self.log = Log(name)
         self.filter = Filter(command, self.hand_out, self.flush, self.filter_ended)
         self.hub = Hub(self.filter, self.log, replicas, hello, me)
-        self.end = None
+        self.end, self.dialed = None, [number for number in self.hub.replicas if me is None or number > me]
 
     def hand_out(self, to, number, kind, frame):
         """Brings a frame of the filter to its receiver; to one that isn't there, to nobody."""
@@ -73,20 +73,25 @@ class Transport:
             self.log(f"its filter: {how}")
         self.stop(FAILED)
 
-    async def run(self, listen, dials, with_parent):
-        """Listens, starts the filter, connects, and gives the status when it has to end. `with_parent` ends it at the end of standard input, too."""
+    def serve(self, with_parent):
+        """Runs until it has to end, and gives the status. `with_parent` ends it at the end of standard input, too."""
+        with asyncio.Runner(loop_factory=lambda: asyncio.SelectorEventLoop(Selector(self.filter.begin_turn))) as runner:
+            return runner.run(self.run(with_parent))
+
+    async def run(self, with_parent):
+        """Listens, starts the filter, and connects."""
         loop = asyncio.get_running_loop()
         self.end = loop.create_future()
         for number in (signal.SIGTERM, signal.SIGINT, signal.SIGHUP):
             loop.add_signal_handler(number, self.stop, STOPPED)
         if with_parent:
             loop.add_reader(sys.stdin.fileno(), lambda: os.read(sys.stdin.fileno(), 1 << 10) or self.stop(STOPPED))
-        closing = await listen()
+        closing = await self.listen()
         try:
             self.filter.start()
         except OSError as fault:
             raise Fault(f"{self.filter.command[0]}: {fault.strerror}") from None
-        tasks = [loop.create_task(self.hub.dial(number)) for number in dials]
+        tasks = [loop.create_task(self.hub.dial(number)) for number in self.dialed]
         gc.freeze()  # what is there now stays
         status = await self.end
         self.filter.end()
@@ -123,9 +128,6 @@ class ReplicaTransport(Transport):
     async def listen(self):
         return [await listening(self.log, lambda: Greeting(self.hub), self.cluster.replicas[self.number])]
 
-    async def serve(self, with_parent):
-        return await self.run(self.listen, range(self.number + 1, len(self.cluster.replicas)), with_parent)
-
 
 class RelayTransport(Transport):
     """It listens for kernels, and dials all replicas."""
@@ -157,6 +159,3 @@ class RelayTransport(Transport):
     def sweep(self):
         self.calls.sweep()
         asyncio.get_running_loop().call_later(SWEEP, self.sweep)
-
-    async def serve(self, with_parent):
-        return await self.run(self.listen, self.hub.replicas, with_parent)
