@@ -204,6 +204,7 @@ class Hub:
         self.dirty, self.accepted, self.waiting = [], set(), []
         self.replicas = {number: Queue(self.dirty) for number in self.addresses}
         self.clients = {}  # by their numbers: the queues of the relays that speak for them
+        self.relays, self.told = set(), set()  # connections of relays, and the names of what was said to be connected
         self.others = list(self.replicas.values())
 
     def to_replicas(self, frame):
@@ -230,7 +231,6 @@ class Hub:
     def greeted(self, role, first, count, transport):
         """The link for one who has said that hello, if it makes sense."""
         if role == REPLICA and first in self.replicas and first < self.me and count == 1:
-            self.log(f"replica {first} is connected")
             return Link(self.filter, self.replicas[first], self.lost, self.log, f"replica {first}")
         if role == RELAY and 0 < count and first + count <= 1 << 10:
             return self.greeted_relay(range(first, first + count))
@@ -247,8 +247,9 @@ class Hub:
             queues = self.clients.setdefault(client, [])
             queues.append(queue)
             del queues[:-MOST_ROOMS]
-        self.log(f"{name} is connected")
-        return Link(self.filter, queue, lambda link: self.lost_relay(link, clients), self.log, name)
+        link = Link(self.filter, queue, lambda link: self.lost_relay(link, clients), self.log, name)
+        self.relays.add(link)
+        return link
 
     def lost_relay(self, link, clients):
         for client in clients:
@@ -257,14 +258,20 @@ class Hub:
                 queues.remove(link.queue)
             if not queues:
                 self.clients.pop(client, None)
+        self.relays.discard(link)
         self.lost(link)
 
     def lost(self, link):
         self.accepted.discard(link.transport)
         if link in self.waiting:
             self.waiting.remove(link)
-        elif not isinstance(link, OperatorLink):
-            self.log(f"{link.name} is gone")
+
+    def look(self):
+        """Tells who is connected now and wasn't, and who was: once in a while, so that nobody fills the log."""
+        now = {f"replica {number}" for number, queue in self.replicas.items() if queue.link} | {link.name for link in self.relays}
+        for name in sorted(now ^ self.told):
+            self.log(f"{name} is connected" if name in now else f"{name} is gone", is_news=True)
+        self.told = now
 
     async def dial(self, number):
         """Connects to a replica, again and again."""
@@ -279,12 +286,10 @@ class Hub:
             except (OSError, asyncio.TimeoutError):
                 pass
             else:
-                self.log(f"{name} is connected")
                 try:
                     await gone
                 finally:
                     transport.abort()
-                self.log(f"{name} is gone")
                 pause = SHORTEST if loop.time() - begun > LIVES else pause
             await asyncio.sleep(pause * random.uniform(0.5, 1))
             pause = min(2 * pause, LONGEST)

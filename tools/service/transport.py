@@ -14,7 +14,7 @@ from service.nfs import Calls, Datagrams, Stream
 from service.peers import Greeting, Hub
 
 QUIET = 10  # seconds in which a line isn't told again
-SWEEP = 1  # seconds between two looks for what is too old
+LOOK = 0.5  # seconds between two looks at what has changed, or is too old
 STOPPED, FAILED = 0, 3  # statuses
 
 
@@ -24,9 +24,9 @@ class Log:
     def __init__(self, name):
         self.name, self.told = name, {}
 
-    def __call__(self, text):
+    def __call__(self, text, is_news=False):
         now = time.monotonic()
-        if now - self.told.get(text, -QUIET) < QUIET:
+        if now - self.told.get(text, -QUIET) < QUIET and not is_news:
             return
         if len(self.told) > 1_000:
             self.told.clear()
@@ -78,6 +78,10 @@ class Transport:
         with asyncio.Runner(loop_factory=lambda: asyncio.SelectorEventLoop(Selector(self.filter.begin_turn))) as runner:
             return runner.run(self.run(with_parent))
 
+    def look(self):
+        asyncio.get_running_loop().call_later(LOOK, self.look)
+        self.hub.look()
+
     async def run(self, with_parent):
         """Listens, starts the filter, and connects."""
         loop = asyncio.get_running_loop()
@@ -91,6 +95,7 @@ class Transport:
             self.filter.start()
         except OSError as fault:
             raise Fault(f"{self.filter.command[0]}: {fault.strerror}") from None
+        self.look()
         tasks = [loop.create_task(self.hub.dial(number)) for number in self.dialed]
         gc.freeze()  # what is there now stays
         status = await self.end
@@ -153,9 +158,8 @@ class RelayTransport(Transport):
             datagrams, _ = await loop.create_datagram_endpoint(lambda: Datagrams(self.calls), local_addr=self.cluster.relay)
         except OSError as fault:
             raise Fault(f"{self.cluster.relay}: can't take datagrams there: {fault.strerror}") from None
-        loop.call_later(SWEEP, self.sweep)
         return [server, datagrams]
 
-    def sweep(self):
+    def look(self):
+        super().look()
         self.calls.sweep()
-        asyncio.get_running_loop().call_later(SWEEP, self.sweep)
