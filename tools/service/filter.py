@@ -10,26 +10,25 @@ from service.frames import COUNT, MOST_FRAME, PARCEL, TURN, Pieces
 
 TICK = 0.1  # seconds
 SHARE = 1 << 20  # bytes that a turn takes of one source, or a little more
-MOST_WAITING = 4 << 20  # bytes of one source that wait; where there are more, no more are read of it
 OVERHEAD = 64  # bytes that are counted for a piece beside its own
 PIPE, READ = 1 << 20, 1 << 18  # bytes that a pipe holds, and that are read at a time
 PATIENCE = 2  # seconds that a filter has to end
 
 
 class Inbox:
-    """Frames of one source that wait for a turn, in pieces of whole frames."""
+    """Frames of one source that wait for a turn, in pieces of whole frames. Where more bytes than `most` wait, `pause` is called, and later `resume`."""
 
-    __slots__ = "filter", "pause", "resume", "pieces", "size", "is_paused", "is_ready"
+    __slots__ = "filter", "pause", "resume", "most", "pieces", "size", "is_paused", "is_ready"
 
-    def __init__(self, filter, pause=None, resume=None):
-        self.filter, self.pause, self.resume = filter, pause, resume
+    def __init__(self, filter, pause=None, resume=None, most=0):
+        self.filter, self.pause, self.resume, self.most = filter, pause, resume, most
         self.pieces, self.size, self.is_paused, self.is_ready = [], 0, False, False
 
     def put(self, piece, count):
         """Takes a piece of so many frames."""
         self.pieces.append((piece, count))
         self.size += len(piece) + OVERHEAD
-        if self.size > MOST_WAITING and self.pause and not self.is_paused:
+        if self.size > self.most and self.pause and not self.is_paused:
             self.is_paused = True
             self.pause()
         if not self.is_ready:
@@ -46,7 +45,7 @@ class Inbox:
                 break
         del self.pieces[:taken]
         self.size -= size
-        if self.is_paused and self.size <= MOST_WAITING // 2:
+        if self.is_paused and self.size <= self.most // 2:
             self.is_paused = False
             self.resume()
         return frames
@@ -72,7 +71,7 @@ class Filter:
         self.command, self.hand_out, self.flush, self.ended = command, hand_out, flush, ended
         self.ready, self.pieces, self.left = [], Pieces(), None
         self.is_busy, self.is_due = False, False
-        self.unsent, self.process = b"", None
+        self.unsent, self.process, self.turns = b"", None, 0
 
     def start(self):
         """Starts it; a fault of the system (OSError) is the caller's. It has a process group of its own, so that ctrl-C comes to its parent alone."""
@@ -108,6 +107,7 @@ class Filter:
             inbox.is_ready = bool(inbox.pieces)
             if inbox.is_ready:
                 self.ready.append(inbox)
+        self.turns += 1
         now = time.time_ns() // 1_000
         pieces[0] = TURN.pack(now // 1_000_000, now % 1_000_000, count)
         self.send(b"".join(pieces))
@@ -175,6 +175,14 @@ class Filter:
             at, left, wanted = at + wanted, left - 1, PARCEL.size
         self.left = left
         return at, wanted
+
+    def memory(self):
+        """The bytes of memory that it has; none where the system doesn't tell."""
+        try:
+            with open(f"/proc/{self.process.pid}/statm") as file:
+                return int(file.read().split()[1]) * os.sysconf("SC_PAGE_SIZE")
+        except (OSError, AttributeError):
+            return 0
 
     def end(self, why=""):
         """Ends it where it has not ended yet. Without a reason, it has ended by itself, and how is the reason."""

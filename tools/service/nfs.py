@@ -207,7 +207,6 @@ class Datagrams(asyncio.DatagramProtocol):
     def datagram_received(self, data, address):
         if 4 <= len(data) <= MOST_RECORD and not self.calls.is_full():
             self.calls.take(f"udp {address[0]} {address[1]}", data, Caller(self.transport, address))
-            self.calls.flush()
 
 
 class Caller:

@@ -3,15 +3,18 @@ import asyncio
 import collections
 import random
 import socket
+import time
 
 from service.filter import Inbox
-from service.frames import ASK_REPORT, FRAME, HELLO, MAGIC, MOST_FRAME, OPERATOR, RELAY, REPLICA, Pieces, frame
+from service.frames import ASK_REPORT, FRAME, HELLO, MAGIC, MOST_FRAME, OPERATOR, RELAY, REPLICA, REQUEST, Pieces, frame
 
 MOST_QUEUED = 64 << 20  # bytes that wait for a receiver that is connected
 MOST_KEPT = 4 << 20  # bytes that wait for one that is not
 WRITE = 1 << 20  # bytes that the system hasn't taken, above which no more are written
 OVERHEAD = 64  # bytes that are counted for a frame beside its own
+MOST_REQUEST = 64 << 10  # bytes of a frame of a relay
 MOST_ROOMS = 4  # queues of one client
+MOST_CLIENTS = 1 << 10
 MOST_CONNECTIONS = 256  # that were accepted
 GREETING = 10  # seconds that a dialer has to say hello
 SHORTEST, LONGEST = 0.1, 5  # seconds between two attempts to connect
@@ -27,6 +30,14 @@ def tune(transport):
     for option, value in (("TCP_KEEPIDLE", 10), ("TCP_KEEPINTVL", 5), ("TCP_KEEPCNT", 4), ("TCP_USER_TIMEOUT", DEAD_AFTER * 1_000)):
         if hasattr(socket, option):
             connection.setsockopt(socket.IPPROTO_TCP, getattr(socket, option), value)
+
+
+def hosts_of(address):
+    """The addresses of a host; none where they can't be known now."""
+    try:
+        return {found[4][0] for found in socket.getaddrinfo(*address, type=socket.SOCK_STREAM)}
+    except OSError:
+        return set()
 
 
 class Queue:
@@ -78,12 +89,14 @@ def flush(dirty):
 
 
 class Link(asyncio.Protocol):
-    """A connection behind its hello. `closed` is called once, with this link."""
+    """A connection of a replica behind its hello. `closed` is called once, with this link."""
+
+    most_waiting = 4 << 20
 
     def __init__(self, filter, queue, closed, log, name):
         self.queue, self.closed, self.log, self.name = queue, closed, log, name
-        self.inbox = Inbox(filter, self.pause, self.resume)
-        self.pieces, self.is_full, self.transport = Pieces(), False, None
+        self.inbox = Inbox(filter, self.pause, self.resume, self.most_waiting)
+        self.pieces, self.is_full, self.transport, self.heard = Pieces(), False, None, time.monotonic()
 
     def connection_made(self, transport):
         self.transport = transport
@@ -125,12 +138,13 @@ class Link(asyncio.Protocol):
             queue.dropped = 0
 
     def data_received(self, data):
+        self.heard = time.monotonic()
         data = self.pieces.with_more(data)
         at, end, count, wanted = 0, len(data), 0, FRAME.size
         while end - at >= FRAME.size:
             kind, length = FRAME.unpack_from(data, at)
             wanted = FRAME.size + length
-            if length > MOST_FRAME or not self.may_come(kind, length):
+            if not self.may_come(kind, length):
                 self.log(f"{self.name} sent a frame of kind {kind} and {length} bytes: closed")
                 return self.close()
             if wanted > end - at:
@@ -140,11 +154,20 @@ class Link(asyncio.Protocol):
         if count:
             self.came(data if at == end else data[:at], count)
 
-    def may_come(self, _kind, _length):
-        return True
+    def may_come(self, _kind, length):
+        return length <= MOST_FRAME
 
     def came(self, piece, count):
         self.inbox.put(piece, count)
+
+
+class RelayLink(Link):
+    """A connection of a relay, which sends requests and nothing else."""
+
+    most_waiting = 1 << 20
+
+    def may_come(self, kind, length):
+        return kind == REQUEST and length <= MOST_REQUEST
 
 
 class OperatorLink(Link):
@@ -167,15 +190,15 @@ class Greeting(asyncio.Protocol):
         self.hub, self.data = hub, b""
 
     def connection_made(self, transport):
-        self.transport = transport
-        if len(self.hub.accepted) >= MOST_CONNECTIONS:
-            return transport.abort()
+        self.transport, self.heard = transport, time.monotonic()
+        self.hub.make_room()
+        self.hub.accepted[transport] = self
         tune(transport)
-        self.hub.accepted.add(transport)
         self.timer = asyncio.get_running_loop().call_later(GREETING, transport.abort)
 
     def connection_lost(self, _fault):
-        self.hub.accepted.discard(self.transport)
+        self.timer.cancel()
+        self.hub.accepted.pop(self.transport, None)
 
     def data_received(self, data):
         self.data += data
@@ -189,6 +212,7 @@ class Greeting(asyncio.Protocol):
         if not link:
             self.hub.log(f"{self.transport.get_extra_info('peername')[0]} said no hello that counts here: closed")
             return self.transport.abort()
+        self.hub.accepted[self.transport] = link
         self.transport.set_protocol(link)
         link.connection_made(self.transport)
         if len(self.data) > HELLO.size:
@@ -200,8 +224,10 @@ class Hub:
 
     def __init__(self, filter, log, replicas, hello, me=None):
         self.filter, self.log, self.hello, self.me = filter, log, hello, me
+        self.own = None if me is None else replicas[me]
         self.addresses = {number: address for number, address in enumerate(replicas) if number != me}
-        self.dirty, self.accepted, self.waiting = [], set(), []
+        self.hosts = {number: hosts_of(address) for number, address in self.addresses.items()}
+        self.dirty, self.accepted, self.waiting = [], {}, []
         self.replicas = {number: Queue(self.dirty) for number in self.addresses}
         self.clients = {}  # by their numbers: the queues of the relays that speak for them
         self.relays, self.told = set(), set()  # connections of relays, and the names of what was said to be connected
@@ -230,15 +256,30 @@ class Hub:
 
     def greeted(self, role, first, count, transport):
         """The link for one who has said that hello, if it makes sense."""
-        if role == REPLICA and first in self.replicas and first < self.me and count == 1:
+        if role == REPLICA and first in self.replicas and first < self.me and count == 1 and self.comes_from(transport, first):
             return Link(self.filter, self.replicas[first], self.lost, self.log, f"replica {first}")
-        if role == RELAY and 0 < count and first + count <= 1 << 10:
+        if role == RELAY and 0 < count and first + count <= MOST_CLIENTS:
             return self.greeted_relay(range(first, first + count))
         if role == OPERATOR:
             link = OperatorLink(self.filter, Queue(self.dirty), self.lost, self.log, "an operator")
             link.waiting = self.waiting
             return link
         return None
+
+    def comes_from(self, transport, number):
+        """Whether the dialer has the address of that replica; so a stranger on another machine can't take its place."""
+        host, *_ = transport.get_extra_info("peername")
+        if host in self.hosts[number] or not self.hosts[number]:
+            return True
+        self.log(f"{host} says that it is replica {number}, whose address is {self.addresses[number]}")
+        return False
+
+    def make_room(self):
+        """Where there are too many connections, closes the one of a relay, an operator or a stranger that was silent for the longest time."""
+        if len(self.accepted) >= MOST_CONNECTIONS:
+            silent = min((each for each in self.accepted.values() if type(each) is not Link), key=lambda each: each.heard)
+            del self.accepted[silent.transport]
+            silent.transport.abort()
 
     def greeted_relay(self, clients):
         name = f"the relay of clients {clients[0]} to {clients[-1]}"
@@ -247,7 +288,7 @@ class Hub:
             queues = self.clients.setdefault(client, [])
             queues.append(queue)
             del queues[:-MOST_ROOMS]
-        link = Link(self.filter, queue, lambda link: self.lost_relay(link, clients), self.log, name)
+        link = RelayLink(self.filter, queue, lambda link: self.lost_relay(link, clients), self.log, name)
         self.relays.add(link)
         return link
 
@@ -262,9 +303,13 @@ class Hub:
         self.lost(link)
 
     def lost(self, link):
-        self.accepted.discard(link.transport)
+        self.accepted.pop(link.transport, None)
         if link in self.waiting:
             self.waiting.remove(link)
+
+    def dials_from(self):
+        """A replica dials from its own address, by which the others know it."""
+        return None if self.me is None else (self.own.host, 0)
 
     def look(self):
         """Tells who is connected now and wasn't, and who was: once in a while, so that nobody fills the log."""
@@ -282,7 +327,7 @@ class Hub:
             link = Link(self.filter, self.replicas[number], lambda _: gone.done() or gone.set_result(None), self.log, name)
             begun = loop.time()
             try:
-                transport, _ = await asyncio.wait_for(loop.create_connection(lambda: Dialing(self.hello, link), *address), GREETING)
+                transport, _ = await asyncio.wait_for(loop.create_connection(lambda: Dialing(self.hello, link), *address, local_addr=self.dials_from()), GREETING)
             except (OSError, asyncio.TimeoutError):
                 pass
             else:

@@ -2,19 +2,22 @@
 import asyncio
 import gc
 import os
+import resource
 import signal
 import sys
 import time
 
+from service import frames
 from service.cluster import Fault
 from service.filter import Filter, Selector
-from service.frames import ANSWER, HELLO, LOG, MAGIC, MOST_FRAME, RELAY, REPLICA, REPORT, TICKETED
+from service.frames import ANSWER, FRAME, HELLO, LOG, MAGIC, MOST_FRAME, RELAY, REPLICA, REPORT, TICKETED
 from service.frames import TO_CALLER, TO_CLIENT, TO_OPERATOR, TO_REPLICA, TO_REPLICAS
 from service.nfs import Calls, Datagrams, Stream
 from service.peers import Greeting, Hub
 
 QUIET = 10  # seconds in which a line isn't told again
 LOOK = 0.5  # seconds between two looks at what has changed, or is too old
+MOST_FILES = 4_096  # open ones
 STOPPED, FAILED = 0, 3  # statuses
 
 
@@ -57,9 +60,11 @@ class Transport:
         elif to == TO_CLIENT:
             self.hub.to_client(number, frame)
         elif to == TO_OPERATOR and kind == LOG:
-            self.log(printable(frame[5:]))
+            self.log(printable(frame[FRAME.size :]))
         elif to == TO_OPERATOR and kind == REPORT:
-            self.hub.report(frame)
+            # what the filter can't know is told beside its own words
+            more = f" turns={self.filter.turns} memory={self.filter.memory() / (1 << 20):.1f}M"
+            self.hub.report(frames.frame(REPORT, frame[FRAME.size :] + more.encode()))
 
     def flush(self):
         self.hub.flush()
@@ -75,6 +80,8 @@ class Transport:
 
     def serve(self, with_parent):
         """Runs until it has to end, and gives the status. `with_parent` ends it at the end of standard input, too."""
+        _, most = resource.getrlimit(resource.RLIMIT_NOFILE)
+        resource.setrlimit(resource.RLIMIT_NOFILE, (min(most, MOST_FILES) if most != resource.RLIM_INFINITY else MOST_FILES, most))
         with asyncio.Runner(loop_factory=lambda: asyncio.SelectorEventLoop(Selector(self.filter.begin_turn))) as runner:
             return runner.run(self.run(with_parent))
 
