@@ -52,15 +52,21 @@ class Inbox:
 
 
 class Selector(selectors.EpollSelector):
-    """That of the loop: before it waits for more, it does something."""
+    """That of the loop. Before it waits it calls `before`. Where bytes come at a descriptor that is in `readers`, it calls that reader, which spares the loop's
+    own longer way to it; the loop learns of them only where the reader gives False."""
 
     def __init__(self, before):
         super().__init__()
-        self.before = before
+        self.before, self.readers = before, {}
 
     def select(self, timeout=None):
-        self.before()
-        return super().select(timeout)
+        end = time.monotonic() + (TICK if timeout is None else timeout)
+        while True:
+            self.before()
+            found = super().select(timeout)
+            left = [(key, events) for key, events in found if not (events == selectors.EVENT_READ and key.fd in self.readers and self.readers[key.fd]())]
+            if left or not found or (timeout := end - time.monotonic()) <= 0:
+                return left
 
 
 class Filter:
@@ -73,7 +79,7 @@ class Filter:
         self.is_busy, self.is_due = False, False
         self.unsent, self.process, self.turns = b"", None, 0
 
-    def start(self):
+    def start(self, readers):
         """Starts it; a fault of the system (OSError) is the caller's. It has a process group of its own, so that ctrl-C comes to its parent alone."""
         self.loop = asyncio.get_running_loop()
         self.process = subprocess.Popen(self.command, stdin=subprocess.PIPE, stdout=subprocess.PIPE, bufsize=0, process_group=0)
@@ -85,6 +91,7 @@ class Filter:
             except OSError:
                 pass  # it is smaller, then
         self.loop.add_reader(self.out, self.readable)
+        self.readers, readers[self.out] = readers, self.readable
         self.ticks = self.loop.call_later(TICK, self.tick)
 
     def wake(self, inbox):
@@ -133,15 +140,21 @@ class Filter:
         self.send(self.unsent)
 
     def readable(self):
+        """Takes what it has written."""
         try:
             data = os.read(self.out, READ)
         except BlockingIOError:
-            return
+            return True
         except OSError:
             data = b""
-        if not data:
-            return self.end()
-        data = self.pieces.with_more(data)
+        if data:
+            self.take(self.pieces.with_more(data))
+        else:
+            self.end()
+        return True
+
+    def take(self, data):
+        """Takes what there is of an answer."""
         at = self.take_count(data)
         at, wanted = self.take_parcels(data, at)
         self.flush()
@@ -190,6 +203,7 @@ class Filter:
             return
         process, self.process = self.process, None
         self.ticks.cancel()
+        del self.readers[self.out]
         self.loop.remove_reader(self.out)
         self.loop.remove_writer(self.into)
         if why:

@@ -5,7 +5,7 @@ import time
 
 from service.filter import Inbox
 from service.frames import CALL, COUNT, TICKETED, Pieces
-from service.peers import tune
+from service.peers import read_at_once, tune
 
 LAST = 1 << 31  # the mark of a record's last fragment
 MOST_RECORD = 16_384  # bytes of a call
@@ -32,8 +32,8 @@ class Calls:
     """The calls that are under way, by ticket and by caller, and the last replies: a caller that sends a call again (same address, xid and bytes) gets the
     same reply, and the filter sees one call."""
 
-    def __init__(self, filter):
-        self.inbox = Inbox(filter)
+    def __init__(self, filter, readers):
+        self.inbox, self.readers = Inbox(filter), readers
         self.by_ticket, self.by_key = {}, {}
         self.replies = collections.OrderedDict()  # by their age
         self.ticket = self.size = self.kept = 0
@@ -128,9 +128,12 @@ class Stream(asyncio.Protocol):
         host, port, *_ = transport.get_extra_info("peername")
         self.source = f"tcp {host} {port}"
         self.calls.streams.add(self)
+        self.descriptor = read_at_once(transport, self, self.calls.readers)
 
     def connection_lost(self, _fault):
-        self.calls.streams.discard(self)
+        if self in self.calls.streams:
+            self.calls.streams.discard(self)
+            del self.calls.readers[self.descriptor]
         self.calls.paused.discard(self)
 
     def pause_writing(self):

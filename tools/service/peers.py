@@ -1,11 +1,12 @@
 """Connections to other transports: frames that come go to the filter, and frames that go out wait in a queue that drops its oldest."""
 import asyncio
 import collections
+import os
 import random
 import socket
 import time
 
-from service.filter import Inbox
+from service.filter import READ, Inbox
 from service.frames import ASK_REPORT, FRAME, HELLO, MAGIC, MOST_FRAME, OPERATOR, RELAY, REPLICA, REQUEST, Pieces, frame
 
 MOST_QUEUED = 64 << 20  # bytes that wait for a receiver that is connected
@@ -30,6 +31,25 @@ def tune(transport):
     for option, value in (("TCP_KEEPIDLE", 10), ("TCP_KEEPINTVL", 5), ("TCP_KEEPCNT", 4), ("TCP_USER_TIMEOUT", DEAD_AFTER * 1_000)):
         if hasattr(socket, option):
             connection.setsockopt(socket.IPPROTO_TCP, getattr(socket, option), value)
+
+
+def read_at_once(transport, protocol, readers):
+    """Puts the connection among what is read without the loop's own way to it; gives its descriptor. Ends and faults stay the loop's."""
+    descriptor = transport.get_extra_info("socket").fileno()
+
+    def read():
+        try:
+            data = os.read(descriptor, READ)
+        except BlockingIOError:
+            return True
+        except OSError:
+            return False
+        if data:
+            protocol.data_received(data)
+        return bool(data)
+
+    readers[descriptor] = read
+    return descriptor
 
 
 def hosts_of(address):
@@ -93,20 +113,22 @@ class Link(asyncio.Protocol):
 
     most_waiting = 4 << 20
 
-    def __init__(self, filter, queue, closed, log, name):
-        self.queue, self.closed, self.log, self.name = queue, closed, log, name
-        self.inbox = Inbox(filter, self.pause, self.resume, self.most_waiting)
+    def __init__(self, hub, queue, name, closed=None):
+        self.queue, self.closed, self.log, self.name = queue, closed or hub.lost, hub.log, name
+        self.inbox, self.readers = Inbox(hub.filter, self.pause, self.resume, self.most_waiting), hub.readers
         self.pieces, self.is_full, self.transport, self.heard = Pieces(), False, None, time.monotonic()
 
     def connection_made(self, transport):
         self.transport = transport
         transport.set_write_buffer_limits(high=WRITE)
+        self.descriptor = read_at_once(transport, self, self.readers)
         old, self.queue.link = self.queue.link, self
         if old:
             old.close()  # the newest counts: the other side may have lost the old one
         self.flush()
 
     def connection_lost(self, _fault):
+        self.readers.pop(self.descriptor, None)
         if self.queue.link is self:
             self.queue.link = None
             self.queue.drop(MOST_KEPT)
@@ -222,8 +244,8 @@ class Greeting(asyncio.Protocol):
 class Hub:
     """All connections of a transport. `me` is a replica's number; a relay's has none."""
 
-    def __init__(self, filter, log, replicas, hello, me=None):
-        self.filter, self.log, self.hello, self.me = filter, log, hello, me
+    def __init__(self, filter, readers, log, replicas, hello, me=None):
+        self.filter, self.readers, self.log, self.hello, self.me = filter, readers, log, hello, me
         self.own = None if me is None else replicas[me]
         self.addresses = {number: address for number, address in enumerate(replicas) if number != me}
         self.hosts = {number: hosts_of(address) for number, address in self.addresses.items()}
@@ -257,11 +279,11 @@ class Hub:
     def greeted(self, role, first, count, transport):
         """The link for one who has said that hello, if it makes sense."""
         if role == REPLICA and first in self.replicas and first < self.me and count == 1 and self.comes_from(transport, first):
-            return Link(self.filter, self.replicas[first], self.lost, self.log, f"replica {first}")
+            return Link(self, self.replicas[first], f"replica {first}")
         if role == RELAY and 0 < count and first + count <= MOST_CLIENTS:
             return self.greeted_relay(range(first, first + count))
         if role == OPERATOR:
-            link = OperatorLink(self.filter, Queue(self.dirty), self.lost, self.log, "an operator")
+            link = OperatorLink(self, Queue(self.dirty), "an operator")
             link.waiting = self.waiting
             return link
         return None
@@ -288,7 +310,7 @@ class Hub:
             queues = self.clients.setdefault(client, [])
             queues.append(queue)
             del queues[:-MOST_ROOMS]
-        link = RelayLink(self.filter, queue, lambda link: self.lost_relay(link, clients), self.log, name)
+        link = RelayLink(self, queue, name, lambda link: self.lost_relay(link, clients))
         self.relays.add(link)
         return link
 
@@ -324,7 +346,7 @@ class Hub:
         pause = SHORTEST
         while True:
             gone = loop.create_future()
-            link = Link(self.filter, self.replicas[number], lambda _: gone.done() or gone.set_result(None), self.log, name)
+            link = Link(self, self.replicas[number], name, lambda _: gone.done() or gone.set_result(None))
             begun = loop.time()
             try:
                 transport, _ = await asyncio.wait_for(loop.create_connection(lambda: Dialing(self.hello, link), *address, local_addr=self.dials_from()), GREETING)

@@ -46,7 +46,8 @@ class Transport:
     def __init__(self, name, command, replicas, hello, me=None):
         self.log = Log(name)
         self.filter = Filter(command, self.hand_out, self.flush, self.filter_ended)
-        self.hub = Hub(self.filter, self.log, replicas, hello, me)
+        self.selector = Selector(self.filter.begin_turn)
+        self.hub = Hub(self.filter, self.selector.readers, self.log, replicas, hello, me)
         self.end, self.dialed = None, [number for number in self.hub.replicas if me is None or number > me]
 
     def hand_out(self, to, number, kind, frame):
@@ -82,7 +83,7 @@ class Transport:
         """Runs until it has to end, and gives the status. `with_parent` ends it at the end of standard input, too."""
         _, most = resource.getrlimit(resource.RLIMIT_NOFILE)
         resource.setrlimit(resource.RLIMIT_NOFILE, (min(most, MOST_FILES) if most != resource.RLIM_INFINITY else MOST_FILES, most))
-        with asyncio.Runner(loop_factory=lambda: asyncio.SelectorEventLoop(Selector(self.filter.begin_turn))) as runner:
+        with asyncio.Runner(loop_factory=lambda: asyncio.SelectorEventLoop(self.selector)) as runner:
             return runner.run(self.run(with_parent))
 
     def look(self):
@@ -99,7 +100,7 @@ class Transport:
             loop.add_reader(sys.stdin.fileno(), lambda: os.read(sys.stdin.fileno(), 1 << 10) or self.stop(STOPPED))
         closing = await self.listen()
         try:
-            self.filter.start()
+            self.filter.start(self.selector.readers)
         except OSError as fault:
             raise Fault(f"{self.filter.command[0]}: {fault.strerror}") from None
         self.look()
@@ -146,7 +147,7 @@ class RelayTransport(Transport):
 
     def __init__(self, cluster, clients, command):
         super().__init__("relay", command, cluster.replicas, HELLO.pack(MAGIC, RELAY, clients[0], len(clients)))
-        self.cluster, self.calls = cluster, Calls(self.filter)
+        self.cluster, self.calls = cluster, Calls(self.filter, self.selector.readers)
 
     def hand_out(self, to, number, kind, frame):
         if to == TO_CALLER and kind == ANSWER:
