@@ -10,6 +10,7 @@ from service.frames import COUNT, MOST_FRAME, PARCEL, TURN, Pieces
 
 TICK = 0.1  # seconds
 SHARE = 1 << 20  # bytes that a turn takes of one source, or a little more
+MOST_TURN = 16 << 20  # bytes of all sources that a turn takes, or a little more
 OVERHEAD = 64  # bytes that are counted for a piece beside its own
 PIPE, READ = 1 << 20, 1 << 18  # bytes that a pipe holds, and that are read at a time
 PATIENCE = 2  # seconds that a filter has to end
@@ -107,17 +108,27 @@ class Filter:
         if self.is_busy or not self.process or not (self.ready or self.is_due):
             return
         self.is_busy, self.is_due = True, False
-        ready, self.ready = self.ready, []
-        pieces, count = [b""], 0
-        for inbox in ready:
-            count += inbox.take(pieces)
-            inbox.is_ready = bool(inbox.pieces)
-            if inbox.is_ready:
-                self.ready.append(inbox)
+        pieces, count = self.take_turn()
         self.turns += 1
         now = time.time_ns() // 1_000
         pieces[0] = TURN.pack(now // 1_000_000, now % 1_000_000, count)
         self.send(b"".join(pieces))
+
+    def take_turn(self):
+        """The frames of a turn in pieces, behind one for its head, and how many they are. Where some inbox has more, it is looked at after all others."""
+        pieces, count, size, later = [b""], 0, 0, []
+        for index, inbox in enumerate(self.ready):
+            if size > MOST_TURN:
+                later = self.ready[index:] + later
+                break
+            before = inbox.size
+            count += inbox.take(pieces)
+            size += before - inbox.size
+            inbox.is_ready = bool(inbox.pieces)
+            if inbox.is_ready:
+                later.append(inbox)
+        self.ready = later
+        return pieces, count
 
     def send(self, data):
         """Writes what the pipe takes, and the rest when it takes more."""

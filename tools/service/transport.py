@@ -12,8 +12,8 @@ from service.cluster import Fault
 from service.filter import Filter, Selector
 from service.frames import ANSWER, FRAME, HELLO, LOG, MAGIC, MOST_FRAME, RELAY, REPLICA, REPORT, TICKETED
 from service.frames import TO_CALLER, TO_CLIENT, TO_OPERATOR, TO_REPLICA, TO_REPLICAS
+from service.hub import Greeting, Hub
 from service.nfs import Calls, Datagrams, Stream
-from service.peers import Greeting, Hub
 
 QUIET = 10  # seconds in which a line isn't told again
 LOOK = 0.5  # seconds between two looks at what has changed, or is too old

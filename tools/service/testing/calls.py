@@ -3,6 +3,8 @@ import socket
 import struct
 import time
 
+from service.testing.running import check
+
 LAST = 1 << 31
 
 
@@ -19,10 +21,11 @@ def marked(record, *cuts):
 
 
 class Stream:
-    """A connection to the relay."""
+    """A connection to the relay, at that address or made already."""
 
-    def __init__(self, address, timeout=10):
-        self.socket, self.data = socket.create_connection(address, timeout), b""
+    def __init__(self, where, timeout=10):
+        self.socket, self.data = where if isinstance(where, socket.socket) else socket.create_connection(where), b""
+        self.socket.settimeout(timeout)
         self.socket.setsockopt(socket.IPPROTO_TCP, socket.TCP_NODELAY, 1)
 
     def send(self, data):
@@ -58,3 +61,19 @@ class Stream:
 
     def close(self):
         self.socket.close()
+
+
+def executed(reply, xid, arguments=b""):
+    """How many requests were executed before the call of this reply, which is to have that call in it."""
+    check(reply[:24] == struct.pack(">6I", xid, 1, 0, 0, 0, 0), f"reply {reply[:40].hex()} to xid {xid}")
+    check(reply[32:] == call(xid, 1, arguments)[4:], f"reply with the call {reply[32:100].hex()}")
+    return struct.unpack_from(">Q", reply, 24)[0]
+
+
+def one_call(service, xid, arguments=b""):
+    stream = Stream(service.relay)
+    try:
+        stream.send(marked(call(xid, 1, arguments)))
+        return executed(stream.reply(), xid, arguments)
+    finally:
+        stream.close()

@@ -2,6 +2,10 @@
 import socket
 import struct
 
+from service.frames import HELLO, MAGIC, STATE
+
+HUGE = struct.pack(">BI", STATE, 0xFFFFFFFF)  # the head of a frame that is too large
+
 
 class Closed(Exception):
     """The other side has closed the connection."""
@@ -52,4 +56,4 @@ class Peer:
 
 
 def hello(role, first, count):
-    return struct.pack(">4sBII", b"BFS1", role, first, count)
+    return HELLO.pack(MAGIC, role, first, count)

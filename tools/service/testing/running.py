@@ -9,6 +9,7 @@ from pathlib import Path
 
 HERE = Path(__file__).resolve().parent
 BFS = HERE.parents[1] / "bfs"
+MEBIBYTE = 1 << 20
 PATIENCE = 15  # seconds that something has to come about
 
 
@@ -63,6 +64,12 @@ def words_of(process):
         return Path(f"/proc/{process}/cmdline").read_bytes().split(b"\0")[:-1]
     except OSError:
         return []
+
+
+def peak(process):
+    """The most memory that a process had, in bytes."""
+    (line,) = [line for line in Path(f"/proc/{process}/status").read_text().splitlines() if line.startswith("VmHWM")]
+    return int(line.split()[1]) * 1024
 
 
 class Service:
