@@ -10,17 +10,32 @@ from service.peers import read_at_once, tune
 LAST = 1 << 31  # the mark of a record's last fragment
 MOST_RECORD = 16_384  # bytes of a call
 MOST_FRAGMENTS = 1_024  # of a record
-MOST_CALLS = 256  # of one connection that are under way; where there are more, no more are read of it
-MOST_UNDER_WAY = 64 << 20  # bytes of all calls that are under way
+MOST_CALLS, MOST_IN_ALL = 256, 1_024  # that are under way, of one connection and of all: as many as may wait in the relay
+MOST_AUTH = 400  # bytes of a credential or verifier
 MOST_REPLIES = 16 << 20  # bytes of calls and replies that are kept
 KEPT_FOR, LOST_AFTER = 60, 600  # seconds for which a reply is kept, and after which one is waited for no more
-OVERHEAD = 256  # bytes that are counted for a call beside its own
+OVERHEAD = 256  # bytes that are counted for a call and its reply beside their own
+GO_ON = 0.75  # where less than that share of them is under way, more calls are taken
 MOST_CONNECTIONS = 1_024
 WRITE = 1 << 20
 
 
+def is_call(record):
+    """Whether a message is a call whose header can be read (RFC 5531 section 9): anything else has no reply, so nobody waits for one."""
+    return record[4:8] == bytes(4) and (verifier := behind_auth(record, 24)) and behind_auth(record, verifier) is not None
+
+
+def behind_auth(record, at):
+    """Where the credential or verifier that begins there ends, if it does."""
+    if len(record) < at + 8:
+        return None
+    (length,) = COUNT.unpack_from(record, at + 4)
+    end = at + 8 + length + -length % 4
+    return end if length <= MOST_AUTH and end <= len(record) else None
+
+
 class Call:
-    """A call that is under way: who reads it again at its reply, and who is to have that."""
+    """A call that is under way: the connection or socket that it came by, and who is to have its reply."""
 
     __slots__ = "key", "record", "stream", "caller", "since"
 
@@ -36,11 +51,14 @@ class Calls:
         self.inbox, self.readers = Inbox(filter), readers
         self.by_ticket, self.by_key = {}, {}
         self.replies = collections.OrderedDict()  # by their age
-        self.ticket = self.size = self.kept = 0
-        self.streams, self.paused, self.dirty = set(), set(), []
+        self.ticket = self.kept = 0
+        self.streams, self.dirty = set(), []
+        self.paused = {}  # streams, the one that has waited for the longest time first
 
-    def take(self, source, record, caller, stream=None):
-        """A call of that source. Its reply goes to the caller."""
+    def take(self, source, record, caller, stream):
+        """A message of that source. Its reply goes to the caller, if it is a call."""
+        if not is_call(record):
+            return
         key = source, record[:4]
         if (call := self.by_key.get(key)) and call.record == record:
             call.caller = caller
@@ -50,13 +68,11 @@ class Calls:
         self.ticket += 1
         call = Call(key, record, stream, caller, time.monotonic())
         self.by_ticket[self.ticket] = self.by_key[key] = call
-        self.size += len(record) + OVERHEAD
-        if stream:
-            stream.under_way += 1
+        stream.under_way += 1
         self.inbox.put(TICKETED.pack(CALL, 8 + len(record), self.ticket) + record, 1)
 
-    def is_full(self):
-        return self.size > MOST_UNDER_WAY
+    def count(self):
+        return len(self.by_ticket)
 
     def answer(self, ticket, reply):
         """The reply to the call of that ticket; where it has no bytes, there is none."""
@@ -66,15 +82,11 @@ class Calls:
         if reply:
             call.caller.answer(reply)
             self.keep(call, reply)
-        if self.paused:
-            self.go_on()
 
     def forget(self, call):
-        self.size -= len(call.record) + OVERHEAD
         if self.by_key.get(call.key) is call:
             del self.by_key[call.key]
-        if call.stream:
-            call.stream.under_way -= 1
+        call.stream.under_way -= 1
 
     def keep(self, call, reply):
         if old := self.replies.pop(call.key, None):
@@ -89,9 +101,9 @@ class Calls:
         self.kept -= size_of(self.replies.popitem(last=False)[1])
 
     def go_on(self):
-        for stream in [stream for stream in self.paused if stream.may_read()]:
-            self.paused.discard(stream)
-            stream.transport.resume_reading()
+        """Has streams go on that were paused."""
+        for stream in list(self.paused):
+            stream.go_on()
 
     def flush(self):
         """Writes the replies that streams have."""
@@ -134,58 +146,54 @@ class Stream(asyncio.Protocol):
         if self in self.calls.streams:
             self.calls.streams.discard(self)
             del self.calls.readers[self.descriptor]
-        self.calls.paused.discard(self)
+        self.calls.paused.pop(self, None)
 
     def pause_writing(self):
         self.is_stuck = True
-        self.stop_or_go_on()
 
     def resume_writing(self):
         self.is_stuck = False
-        self.stop_or_go_on()
 
-    def may_read(self):
-        return self.under_way < MOST_CALLS and not self.is_stuck and not self.calls.is_full()
+    def may_take(self, share=1):
+        """Whether fewer calls are under way than there may be, or than that share of them, and replies are read."""
+        return self.under_way < MOST_CALLS * share and self.calls.count() < MOST_IN_ALL * share and not self.is_stuck
 
-    def stop_or_go_on(self):
-        if self.transport.is_closing():
-            return
-        if not self.may_read():
-            self.calls.paused.add(self)
-            self.transport.pause_reading()
-        elif self in self.calls.paused:
-            self.calls.paused.discard(self)
+    def go_on(self):
+        """Takes what was left, and reads on, where a good part of the calls that were under way are not any more."""
+        if self.may_take(GO_ON) and not self.transport.is_closing():
+            self.calls.paused.pop(self)
             self.transport.resume_reading()
+            self.take_records(self.pieces.with_more(b""))
 
     def data_received(self, data):
-        """Takes the fragments that are whole. What is no record of a call closes the connection."""
-        data = self.pieces.with_more(data)
+        self.take_records(self.pieces.with_more(data))
+
+    def take_records(self, data):
+        """Takes the fragments that are whole, while calls may be taken. What is no record of a call closes the connection."""
         at, end, wanted = 0, len(data), COUNT.size
-        while end - at >= COUNT.size:
+        while end - at >= COUNT.size and self.may_take():
             (mark,) = COUNT.unpack_from(data, at)
             wanted = COUNT.size + (mark & ~LAST)
-            self.fragments += 1
-            if len(self.record) + wanted - COUNT.size > MOST_RECORD or self.fragments > MOST_FRAGMENTS:
+            if len(self.record) + wanted - COUNT.size > MOST_RECORD or self.fragments >= MOST_FRAGMENTS:
                 return self.transport.abort()
             if wanted > end - at:
-                self.fragments -= 1  # it is seen again
                 break
             fragment = data[at + COUNT.size : at + wanted]
             at, wanted = at + wanted, COUNT.size
             self.take(fragment, mark & LAST)
         self.pieces.keep(data, at, wanted)
         self.calls.flush()
-        if not self.may_read():
-            self.stop_or_go_on()
+        if not self.may_take():
+            self.calls.paused[self] = None
+            self.transport.pause_reading()
 
     def take(self, fragment, is_last):
-        record = self.record + fragment if self.record else fragment
-        if not is_last:
-            self.record = record
-            return
-        self.record, self.fragments = b"", 0
-        if len(record) >= 4:
+        record = self.record + fragment
+        if is_last:
+            self.record, self.fragments = b"", 0
             self.calls.take(self.source, record, self, self)
+        else:
+            self.record, self.fragments = record, self.fragments + 1
 
     def answer(self, reply):
         if not self.replies:
@@ -199,17 +207,17 @@ class Stream(asyncio.Protocol):
 
 
 class Datagrams(asyncio.DatagramProtocol):
-    """The socket of kernels that send datagrams."""
+    """The socket of kernels that send datagrams, all of which have as many calls under way as a connection."""
 
     def __init__(self, calls):
-        self.calls = calls
+        self.calls, self.under_way = calls, 0
 
     def connection_made(self, transport):
         self.transport = transport
 
     def datagram_received(self, data, address):
-        if 4 <= len(data) <= MOST_RECORD and not self.calls.is_full():
-            self.calls.take(f"udp {address[0]} {address[1]}", data, Caller(self.transport, address))
+        if len(data) <= MOST_RECORD and self.under_way < MOST_CALLS and self.calls.count() < MOST_IN_ALL:
+            self.calls.take(f"udp {address[0]} {address[1]}", data, Caller(self.transport, address), self)
 
 
 class Caller:

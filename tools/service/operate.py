@@ -1,7 +1,9 @@
 """What an operator does: starts all processes on this machine, and asks replicas for reports."""
 import asyncio
 import os
+import secrets
 import signal
+import struct
 import subprocess
 import sys
 import time
@@ -12,6 +14,8 @@ from service.frames import ASK_REPORT, FRAME, HELLO, MAGIC, OPERATOR, REPORT, fr
 PATIENCE = 5  # seconds that a process has to end, and a replica to report
 POLL = 0.1
 MOST_REPORT = 1 << 20
+NULL = struct.pack(">9I", 0, 2, 100_003, 2, 0, 0, 0, 0, 0)  # behind its xid: a call of procedure 0 of NFS version 2 (RFC 5531 section 9)
+NULL_HEAD = struct.pack(">I", 1 << 31 | 4 + len(NULL))  # its record mark
 
 
 def up(commands):
@@ -70,12 +74,26 @@ async def report(address):
         writer.close()
 
 
-async def asked(address):
-    """A replica's report, or one line on why there is none."""
+async def null_call(address):
+    """How long the relay there takes to answer a call of NULL."""
+    begun = time.monotonic()
+    reader, writer = await asyncio.open_connection(*address)
     try:
-        return await asyncio.wait_for(report(address), PATIENCE)
+        xid = secrets.token_bytes(4)
+        writer.write(NULL_HEAD + xid + NULL)
+        while (await reader.readexactly(8))[4:] != xid:
+            pass  # what else it says is no reply to this
+        return f"answers in {(time.monotonic() - begun) * 1_000:.1f} ms"
+    finally:
+        writer.close()
+
+
+async def asked(question):
+    """What it gives, or one line on why there is nothing."""
+    try:
+        return await asyncio.wait_for(question, PATIENCE)
     except asyncio.TimeoutError:
-        return f"no report within {PATIENCE} s"
+        return f"no answer within {PATIENCE} s"
     except asyncio.IncompleteReadError:
         return "the connection was closed"
     except OSError as fault:
@@ -93,11 +111,12 @@ def table(rows):
 
 
 def status(cluster):
-    """Prints the table; gives 0 where all replicas reported."""
-    rows = asyncio.run(all_asked(cluster.replicas))
-    print(*table(rows), sep="\n")
-    return 0 if all(isinstance(row, dict) for row in rows) else 1
+    """Prints the table, and whether the relay answers; gives 0 where all do."""
+    *rows, relay = asyncio.run(all_asked(cluster))
+    print(*table(rows), f"relay {cluster.relay}: {relay}", sep="\n")
+    return 0 if all(isinstance(row, dict) for row in rows) and relay.startswith("answers") else 1
 
 
-async def all_asked(addresses):
-    return await asyncio.gather(*map(asked, addresses))
+async def all_asked(cluster):
+    questions = [report(address) for address in cluster.replicas] + [null_call(cluster.relay)]
+    return await asyncio.gather(*map(asked, questions))

@@ -157,6 +157,7 @@ class RelayTransport(Transport):
 
     def flush(self):
         self.calls.flush()
+        self.calls.go_on()
         self.hub.flush()
 
     async def listen(self):

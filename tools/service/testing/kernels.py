@@ -2,6 +2,7 @@
 import random
 import socket
 import struct
+import threading
 import time
 
 from service.testing.calls import Stream, call, executed, marked, one_call
@@ -69,9 +70,13 @@ def again(service):
 
 
 def mute(service):
-    """A call that has no reply gets none, and holds up nothing."""
+    """What is no call, or has no reply, gets none, and holds up nothing, however often it comes."""
     stream = Stream(service.relay)
-    stream.send(marked(call(8, 99)) * 3 + marked(call(9, 1)))
+    xids = iter(range(1_000, 10_000))
+    replies = [struct.pack(">10I", next(xids), 1, *range(8)) for _ in range(1_500)]
+    long = [call(next(xids))[:28] + struct.pack(">I", 401) + bytes(412) for _ in range(1_500)]
+    short = [call(next(xids))[:cut] for cut in (*range(40), *[36] * 1_500)]
+    stream.send(b"".join(map(marked, [call(8, 99), *replies, *long, *short, call(9, 1)])))
     executed(stream.reply(), 9)
     stream.close()
 
@@ -84,6 +89,21 @@ def long_records(service):
         check(peer.is_closed(), f"{rubbish[:8].hex()}: it is open")
         peer.close()
     one_call(service, 11)
+
+
+def thousands(service):
+    """Who sends thousands of calls at once, more than may be under way, has all replies, and others are served meanwhile."""
+    stream, others = Stream(service.relay), Stream(service.relay)
+    calls = b"".join(marked(call(xid, 1)) for xid in range(20_000, 23_000))
+    sender = threading.Thread(target=stream.send, args=(calls,))
+    sender.start()
+    others.send(marked(call(24_000, 1)))
+    executed(others.reply(), 24_000)
+    seen = {struct.unpack_from(">I", stream.reply())[0] for _ in range(3_000)}
+    check(seen == set(range(20_000, 23_000)), f"{len(seen)} replies")
+    sender.join()
+    others.close()
+    stream.close()
 
 
 def deaf(service):
@@ -105,4 +125,4 @@ def deaf(service):
     stream.close()
 
 
-ALL = fragments, datagrams, doubled, again, mute, long_records, deaf
+ALL = fragments, datagrams, doubled, again, mute, long_records, thousands, deaf

@@ -77,7 +77,8 @@ def reports(service):
     """`status` prints a row for each replica; operators that ask at one time are all answered."""
     said, status = service.bfs("status", service.folder)
     lines = said.splitlines()
-    check(status == 0 and len(lines) == 5 and lines[0].split() == ["replica", "view", "last", "executed", "waiting", "turns", "memory"], said)
+    check(status == 0 and len(lines) == 6 and lines[5].startswith("relay 127.0.0.1:") and ": answers in " in lines[5], said)
+    check(lines[0].split() == ["replica", "view", "last", "executed", "waiting", "turns", "memory"], said)
     peers = [Peer(service.replicas[0], hello(OPERATOR, 0, 0) + frame(ASK_REPORT)) for _ in range(5)]
     for peer in peers:
         kind, payload = peer.frame()
