@@ -78,7 +78,7 @@ def reports(service):
     said, status = service.bfs("status", service.folder)
     lines = said.splitlines()
     check(status == 0 and len(lines) == 6 and lines[5].startswith("relay 127.0.0.1:") and ": answers in " in lines[5], said)
-    check(lines[0].split() == ["replica", "view", "last", "executed", "waiting", "turns", "memory"], said)
+    check(lines[0].split() == ["replica", "view", "last", "executed", "waiting", "digest", "turns", "memory"], said)
     peers = [Peer(service.replicas[0], hello(OPERATOR, 0, 0) + frame(ASK_REPORT)) for _ in range(5)]
     for peer in peers:
         kind, payload = peer.frame()
@@ -88,7 +88,7 @@ def reports(service):
 
 def ticks(service):
     """Without anything to do there are ten turns a second, at the clock's time (the fakes end where a turn's time is wrong)."""
-    turns = lambda: int(service.bfs("status", service.folder)[0].splitlines()[4].split()[5])
+    turns = lambda: int(service.bfs("status", service.folder)[0].splitlines()[4].split()[6])
     begun, before = time.monotonic(), turns()
     time.sleep(1)
     after, passed = turns(), time.monotonic() - begun

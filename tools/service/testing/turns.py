@@ -1,6 +1,7 @@
 """Turns of a filter in Python. One that reads what is no turn ends with status 9."""
 import struct
 import sys
+import time
 
 MALFORMED = 9
 MOST_TURN = 256 << 20  # bytes of payloads
@@ -19,7 +20,7 @@ def turns():
     """Each turn: its time in microseconds, and its frames as pairs of a kind and a payload."""
     while True:
         seconds, useconds, count = struct.unpack(">III", take(12))
-        if useconds >= 1_000_000:
+        if useconds >= 1_000_000 or abs(seconds - time.time()) > 60:
             sys.exit(MALFORMED)
         frames, size = [], 0
         for _ in range(count):
