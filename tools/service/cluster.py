@@ -1,4 +1,5 @@
 """The public document of a deployment, cluster.toml: how many replicas and clients there are, and where."""
+import os
 import re
 import tomllib
 from pathlib import Path
@@ -10,6 +11,11 @@ KEYS = "f", "clients", "replicas", "relay"
 
 class Fault(Exception):
     """What is wrong, in words for the operator."""
+
+
+def reason(fault):
+    """Why the system refused something, in its own words."""
+    return os.strerror(fault.errno) if fault.errno and fault.errno > 0 else str(fault)
 
 
 class Address(NamedTuple):

@@ -6,12 +6,13 @@ import selectors
 import subprocess
 import time
 
-from service.frames import COUNT, MOST_FRAME, PARCEL, TURN, Pieces
+from service.frames import COUNT, PARCEL, TURN, Pieces
 
 TICK = 0.1  # seconds
 SHARE = 1 << 20  # bytes that a turn takes of one source, or a little more
 MOST_TURN = 16 << 20  # bytes of all sources that a turn takes, or a little more
 OVERHEAD = 64  # bytes that are counted for a piece beside its own
+MOST_PARCEL = 1 << 30  # bytes
 PIPE, READ = 1 << 20, 1 << 18  # bytes that a pipe holds, and that are read at a time
 PATIENCE = 2  # seconds that a filter has to end
 
@@ -171,7 +172,7 @@ class Filter:
         self.flush()
         if self.left == 0 and at == len(data) and self.is_busy:
             self.left, self.is_busy = None, False
-        elif self.left == 0 or wanted > PARCEL.size + MOST_FRAME:
+        elif self.left == 0 or wanted > MOST_PARCEL:
             self.end("what it writes is no answer")
         else:
             self.pieces.keep(data, at, wanted)

@@ -13,7 +13,7 @@ TICKETED = struct.Struct(">BIQ")  # the head of a frame, and the ticket with whi
 HELLO = struct.Struct(">4sBII")  # MAGIC, role, the first number and the count of what the dialer speaks for
 MAGIC = b"BFS1"
 
-MOST_FRAME = 64 << 20  # bytes of a payload
+MOST_FRAME = 64 << 20  # bytes of a payload between transports
 
 
 class Pieces:
@@ -40,5 +40,6 @@ class Pieces:
             self.kept, self.wanted = bytearray(memoryview(data)[at:]), wanted
 
 
-def frame(kind, payload=b""):
+def framed(kind, payload=b""):
+    """The frame of that payload."""
     return FRAME.pack(kind, len(payload)) + payload

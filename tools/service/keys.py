@@ -3,7 +3,7 @@ import os
 import secrets
 from pathlib import Path
 
-from service.cluster import Address, Cluster, Fault, cluster_in, text_of
+from service.cluster import Address, Fault, cluster_in, reason, text_of
 
 KEY = 32  # bytes
 
@@ -35,7 +35,7 @@ def private(path):
     try:
         mode = os.stat(path).st_mode & 0o777
     except OSError as fault:
-        raise Fault(f"{path}: {fault.strerror}") from None
+        raise Fault(f"{path}: {reason(fault)}") from None
     if mode & 0o077:
         raise Fault(f"{path}: others than its owner may read or write it (mode {mode:04o}): `chmod 600 {path}`")
     return path
@@ -59,5 +59,5 @@ def make(folder, faults, clients, host, port, relay):
             write_new(Path(folder, name), text, 0o600)
         write_new(Path(folder, "cluster.toml"), text_of(cluster), 0o644)
     except OSError as fault:
-        raise Fault(f"{folder}: {fault.strerror}") from None
+        raise Fault(f"{folder}: {reason(fault)}") from None
     return cluster

@@ -1,6 +1,5 @@
 """What an operator does: starts all processes on this machine, and asks replicas for reports."""
 import asyncio
-import os
 import secrets
 import signal
 import struct
@@ -8,8 +7,8 @@ import subprocess
 import sys
 import time
 
-from service.cluster import Fault
-from service.frames import ASK_REPORT, FRAME, HELLO, MAGIC, OPERATOR, REPORT, frame
+from service.cluster import reason
+from service.frames import ASK_REPORT, FRAME, HELLO, MAGIC, OPERATOR, REPORT, framed
 
 PATIENCE = 5  # seconds that a process has to end, and a replica to report
 POLL = 0.1
@@ -61,7 +60,7 @@ async def report(address):
     """What the replica there reports, as pairs of a name and a value."""
     reader, writer = await asyncio.open_connection(*address)
     try:
-        writer.write(HELLO.pack(MAGIC, OPERATOR, 0, 0) + frame(ASK_REPORT))
+        writer.write(HELLO.pack(MAGIC, OPERATOR, 0, 0) + framed(ASK_REPORT))
         while True:
             kind, length = FRAME.unpack(await reader.readexactly(FRAME.size))
             if length > MOST_REPORT:
@@ -97,7 +96,7 @@ async def asked(question):
     except asyncio.IncompleteReadError:
         return "the connection was closed"
     except OSError as fault:
-        return f"no connection: {os.strerror(fault.errno) if fault.errno else fault}"
+        return f"no connection: {reason(fault)}"
 
 
 def table(rows):

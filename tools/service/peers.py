@@ -6,7 +6,7 @@ import socket
 import time
 
 from service.filter import READ, Inbox
-from service.frames import ASK_REPORT, FRAME, MOST_FRAME, REQUEST, Pieces, frame
+from service.frames import ASK_REPORT, FRAME, MOST_FRAME, REQUEST, Pieces, framed
 
 MOST_QUEUED = 64 << 20  # bytes that wait for a receiver that is connected
 MOST_KEPT = 4 << 20  # bytes that wait for one that is not
@@ -194,6 +194,6 @@ class OperatorLink(Link):
 
     def came(self, _piece, _count):
         if not self.waiting:
-            self.inbox.put(frame(ASK_REPORT), 1)
+            self.inbox.put(framed(ASK_REPORT), 1)
         if self not in self.waiting:
             self.waiting.append(self)

@@ -7,10 +7,9 @@ import signal
 import sys
 import time
 
-from service import frames
-from service.cluster import Fault
+from service.cluster import Fault, reason
 from service.filter import Filter, Selector
-from service.frames import ANSWER, FRAME, HELLO, LOG, MAGIC, MOST_FRAME, RELAY, REPLICA, REPORT, TICKETED
+from service.frames import ANSWER, FRAME, HELLO, LOG, MAGIC, MOST_FRAME, RELAY, REPLICA, REPORT, TICKETED, framed
 from service.frames import TO_CALLER, TO_CLIENT, TO_OPERATOR, TO_REPLICA, TO_REPLICAS
 from service.hub import Greeting, Hub
 from service.nfs import Calls, Datagrams, Stream
@@ -65,7 +64,7 @@ class Transport:
         elif to == TO_OPERATOR and kind == REPORT:
             # what the filter can't know is told beside its own words
             more = f" turns={self.filter.turns} memory={self.filter.memory() / (1 << 20):.1f}M"
-            self.hub.report(frames.frame(REPORT, frame[FRAME.size :] + more.encode()))
+            self.hub.report(framed(REPORT, frame[FRAME.size :] + more.encode()))
 
     def flush(self):
         self.hub.flush()
@@ -82,7 +81,7 @@ class Transport:
     def serve(self, with_parent):
         """Runs until it has to end, and gives the status. `with_parent` ends it at the end of standard input, too."""
         _, most = resource.getrlimit(resource.RLIMIT_NOFILE)
-        resource.setrlimit(resource.RLIMIT_NOFILE, (min(most, MOST_FILES) if most != resource.RLIM_INFINITY else MOST_FILES, most))
+        resource.setrlimit(resource.RLIMIT_NOFILE, (MOST_FILES if most == resource.RLIM_INFINITY else min(most, MOST_FILES), most))
         with asyncio.Runner(loop_factory=lambda: asyncio.SelectorEventLoop(self.selector)) as runner:
             return runner.run(self.run(with_parent))
 
@@ -102,14 +101,16 @@ class Transport:
         try:
             self.filter.start(self.selector.readers)
         except OSError as fault:
-            raise Fault(f"{self.filter.command[0]}: {fault.strerror}") from None
+            raise Fault(f"{self.filter.command[0]}: {reason(fault)}") from None
         self.look()
         tasks = [loop.create_task(self.hub.dial(number)) for number in self.dialed]
         gc.freeze()  # what is there now stays
         status = await self.end
         self.filter.end()
-        for each in (*tasks, *closing):
-            each.cancel() if each in tasks else each.close()
+        for each in closing:
+            each.close()
+        for task in tasks:
+            task.cancel()
         await asyncio.gather(*tasks, return_exceptions=True)
         for transport in list(self.hub.accepted):
             transport.abort()
@@ -126,7 +127,7 @@ async def listening(log, make, address):
     try:
         server = await asyncio.get_running_loop().create_server(make, *address, reuse_address=True)
     except OSError as fault:
-        raise Fault(f"{address}: can't listen there: {fault.strerror}") from None
+        raise Fault(f"{address}: can't listen there: {reason(fault)}") from None
     log(f"listens at {address}")
     return server
 
@@ -166,7 +167,7 @@ class RelayTransport(Transport):
         try:
             datagrams, _ = await loop.create_datagram_endpoint(lambda: Datagrams(self.calls), local_addr=self.cluster.relay)
         except OSError as fault:
-            raise Fault(f"{self.cluster.relay}: can't take datagrams there: {fault.strerror}") from None
+            raise Fault(f"{self.cluster.relay}: can't take datagrams there: {reason(fault)}") from None
         return [server, datagrams]
 
     def look(self):

@@ -2,7 +2,7 @@
 import struct
 import time
 
-from service.testing.calls import Stream, call, marked
+from service.testing.calls import Stream, marked
 from service.testing.running import check, until
 
 UNSET = 0xFFFFFFFF

@@ -5,7 +5,7 @@ import signal
 import socket
 import struct
 
-from service.frames import ORDER, RELAY, REPLICA, REQUEST, STATE, frame
+from service.frames import ORDER, RELAY, REPLICA, REQUEST, STATE, framed
 from service.testing.calls import one_call
 from service.testing.peer import HUGE, Peer, hello
 from service.testing.running import MEBIBYTE, PATIENCE, check, children, until, words_of
@@ -56,8 +56,8 @@ def rubbish_of_a_replica(peer):
     """Frames of unknown kinds, of few bytes and of many, are carried and passed over."""
     words = random.Random(2)
     for _ in range(200):
-        peer.send(frame(words.randrange(14, 256), words.randbytes(words.randrange(300))) + frame(words.randrange(1, 6), words.randbytes(words.randrange(12))))
-    peer.send(frame(STATE, bytes(5 * MEBIBYTE)))
+        peer.send(framed(words.randrange(14, 256), words.randbytes(words.randrange(300))) + framed(words.randrange(1, 6), words.randbytes(words.randrange(12))))
+    peer.send(framed(STATE, bytes(5 * MEBIBYTE)))
 
 
 def killed_transport(service):
