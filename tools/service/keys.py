@@ -14,8 +14,11 @@ def pair(sending, receiving):
 
 def document(me, replicas, clients):
     """A private document, of the principal's pairs with all replicas and clients."""
-    lists = "".join(f"{name} = [\n{''.join(f'    {pair},{chr(10)}' for pair in pairs)}]\n" for name, pairs in (("replicas", replicas), ("clients", clients)) if pairs)
-    return f"me = {me}\n{lists}"
+    lines = [f"me = {me}"]
+    for name, pairs in (("replicas", replicas), ("clients", clients)):
+        if pairs:
+            lines += [f"{name} = [", *(f"    {pair}," for pair in pairs), "]"]
+    return "\n".join(lines) + "\n"
 
 
 def documents(cluster):
@@ -31,7 +34,7 @@ def documents(cluster):
 
 
 def private(path):
-    """Says where others than its owner may read or write a file."""
+    """The path of a private file, which others than its owner may not read or write."""
     try:
         mode = os.stat(path).st_mode & 0o777
     except OSError as fault:
