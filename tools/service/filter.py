@@ -14,7 +14,7 @@ MOST_TURN = 16 << 20  # bytes of all sources that a turn takes, or a little more
 OVERHEAD = 64  # bytes that are counted for a piece beside its own
 MOST_PARCEL = 1 << 30  # bytes
 PIPE, READ = 1 << 20, 1 << 18  # bytes that a pipe holds, and that are read at a time
-PATIENCE = 2  # seconds that a filter has to end
+PATIENCE, LONG = 2, 10  # seconds that a filter has to end, and that a turn takes seldom
 
 
 class Inbox:
@@ -79,7 +79,7 @@ class Filter:
         self.command, self.hand_out, self.flush, self.ended = command, hand_out, flush, ended
         self.ready, self.pieces, self.left = [], Pieces(), None
         self.is_busy, self.is_due = False, False
-        self.unsent, self.process, self.turns = b"", None, 0
+        self.unsent, self.process, self.turns, self.since = b"", None, 0, 0
 
     def start(self, readers):
         """Starts it; a fault of the system (OSError) is the caller's. It has a process group of its own, so that ctrl-C comes to its parent alone."""
@@ -108,7 +108,7 @@ class Filter:
         """Sends a turn where one is due. The loop calls this when it has taken all that came."""
         if self.is_busy or not self.process or not (self.ready or self.is_due):
             return
-        self.is_busy, self.is_due = True, False
+        self.is_busy, self.is_due, self.since = True, False, time.monotonic()
         pieces, count = self.take_turn()
         self.turns += 1
         now = time.time_ns() // 1_000
@@ -200,6 +200,10 @@ class Filter:
             at, left, wanted = at + wanted, left - 1, PARCEL.size
         self.left = left
         return at, wanted
+
+    def is_stuck(self):
+        """Whether it has been at one turn for long."""
+        return self.is_busy and time.monotonic() - self.since > LONG
 
     def memory(self):
         """The bytes of memory that it has; none where the system doesn't tell."""

@@ -2,6 +2,7 @@
 import struct
 
 REQUEST, ORDER, VIEW_CHANGE, NEW_VIEW, REPLY, STATUS, ASK_STATE, STATE, ASK_REPORT, REPORT, CALL, ANSWER, LOG = range(1, 14)  # kinds of frames
+OWN = {ASK_REPORT, REPORT, CALL, ANSWER, LOG}  # those that pass between a filter and its own transport alone
 TO_REPLICAS, TO_REPLICA, TO_CLIENT, TO_OPERATOR, TO_CALLER = range(5)
 REPLICA, RELAY, OPERATOR = range(3)  # the roles of those that say hello
 

@@ -6,7 +6,7 @@ import socket
 import time
 
 from service.filter import READ, Inbox
-from service.frames import ASK_REPORT, FRAME, MOST_FRAME, REQUEST, Pieces, framed
+from service.frames import ASK_REPORT, FRAME, MOST_FRAME, OWN, REQUEST, Pieces, framed
 
 MOST_QUEUED = 64 << 20  # bytes that wait for a receiver that is connected
 MOST_KEPT = 4 << 20  # bytes that wait for one that is not
@@ -166,8 +166,9 @@ class Link(asyncio.Protocol):
         if count:
             self.came(data if at == end else data[:at], count)
 
-    def may_come(self, _kind, length):
-        return length <= MOST_FRAME
+    def may_come(self, kind, length):
+        """Whether a frame may come from there. A replica that could send a call would have the relay sign a request for it."""
+        return length <= MOST_FRAME and kind not in OWN
 
     def came(self, piece, count):
         self.inbox.put(piece, count)

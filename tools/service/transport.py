@@ -51,7 +51,7 @@ class Transport:
 
     def hand_out(self, to, number, kind, frame):
         """Brings a frame of the filter to its receiver; to one that isn't there, to nobody."""
-        if len(frame) > MOST_FRAME:
+        if len(frame) > FRAME.size + MOST_FRAME:
             self.log(f"its filter sent a frame of kind {kind} and {len(frame)} bytes: dropped")
         elif to == TO_REPLICAS:
             self.hub.to_replicas(frame)
@@ -88,6 +88,8 @@ class Transport:
     def look(self):
         asyncio.get_running_loop().call_later(LOOK, self.look)
         self.hub.look()
+        if self.filter.is_stuck():
+            self.log("its filter takes long for a turn")
 
     async def run(self, with_parent):
         """Listens, starts the filter, and connects."""

@@ -5,8 +5,8 @@ import signal
 import socket
 import struct
 
-from service.frames import ORDER, RELAY, REPLICA, REQUEST, STATE, framed
-from service.testing.calls import one_call
+from service.frames import ASK_REPORT, CALL, ORDER, RELAY, REPLICA, REQUEST, STATE, framed
+from service.testing.calls import call, one_call
 from service.testing.peer import HUGE, Peer, hello
 from service.testing.running import MEBIBYTE, PATIENCE, check, children, until, words_of
 
@@ -41,15 +41,19 @@ def in_its_place(service):
             steps.add(payload[:1])
     until(lambda: peers[RELAY, 0].frame()[0] == REQUEST, "the request")
     rubbish_of_a_replica(peers[REPLICA, 0])
-    peers[REPLICA, 1].send(HUGE)
-    check(peers[REPLICA, 1].is_closed(), "it is open")
-    peers[REPLICA, 1].close()
-    again = Peer(listener.accept()[0])
-    check(again.take(13) == hello(REPLICA, 1, 1), "another hello")
-    for peer in (*peers.values(), again):
+    for number, data in ((1, HUGE), (2, framed(ASK_REPORT))):
+        peers[REPLICA, number].send(data)
+        check(peers[REPLICA, number].is_closed(), f"{data[:5].hex()}: it is open")
+        peers[REPLICA, number].close()
+        peers[REPLICA, number] = Peer(listener.accept()[0])
+        check(peers[REPLICA, number].take(13) == hello(REPLICA, number, 1), "another hello")
+    # a call with a ticket, which the relay is not to take for one of a kernel
+    peers[RELAY, 0].send(framed(CALL, struct.pack(">Q", 1 << 40) + call(90, 1)))
+    check(peers[RELAY, 0].is_closed(), "a call of a replica: it is open")
+    for peer in peers.values():
         peer.close()
     listener.close()
-    check(one_call(service, 17) == number + 1, "a call between")
+    check(one_call(service, 17) == number + 1, "another call was executed between")
 
 
 def rubbish_of_a_replica(peer):
@@ -107,6 +111,13 @@ def liar(service):
         one_call(service, xid)
     status, left = service.end(process, signal.SIGKILL)
     check(not left, f"left {[words_of(each) for each in left]}")
+
+
+def no_filters(service):
+    """Programs that are no filters: one that ends at once, and one that writes rubbish. The line says which, and the status is 3."""
+    for name, how in (("true", "it ended with status 0"), ("yes", "what it writes is no answer")):
+        said, status = service.bfs("replica", "0", service.folder, f"--replica-program=/usr/bin/{name}")
+        check(status == 3 and f"replica 0: its filter: {how}" in said, f"{name}: {status}, {said}")
 
 
 def alone(service):
