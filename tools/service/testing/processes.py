@@ -41,19 +41,19 @@ def in_its_place(service):
             steps.add(payload[:1])
     until(lambda: peers[RELAY, 0].frame()[0] == REQUEST, "the request")
     rubbish_of_a_replica(peers[REPLICA, 0])
-    for number, data in ((1, HUGE), (2, framed(ASK_REPORT))):
-        peers[REPLICA, number].send(data)
-        check(peers[REPLICA, number].is_closed(), f"{data[:5].hex()}: it is open")
-        peers[REPLICA, number].close()
-        peers[REPLICA, number] = Peer(listener.accept()[0])
-        check(peers[REPLICA, number].take(13) == hello(REPLICA, number, 1), "another hello")
+    for who, data in ((1, HUGE), (2, framed(ASK_REPORT))):
+        peers[REPLICA, who].send(data)
+        check(peers[REPLICA, who].is_closed(), f"{data[:5].hex()}: it is open")
+        peers[REPLICA, who].close()
+        peers[REPLICA, who] = Peer(listener.accept()[0])
+        check(peers[REPLICA, who].take(13) == hello(REPLICA, who, 1), "another hello")
     # a call with a ticket, which the relay is not to take for one of a kernel
     peers[RELAY, 0].send(framed(CALL, struct.pack(">Q", 1 << 40) + call(90, 1)))
     check(peers[RELAY, 0].is_closed(), "a call of a replica: it is open")
     for peer in peers.values():
         peer.close()
     listener.close()
-    check(one_call(service, 17) == number + 1, "another call was executed between")
+    check((found := one_call(service, 17)) == number + 1, f"{found - number - 1} other calls were executed between")
 
 
 def rubbish_of_a_replica(peer):
