@@ -13,7 +13,7 @@ MOST_CONNECTIONS = 256  # that were accepted
 MOST_NEWS = 32  # lines that are told at a time
 GREETING = 10  # seconds that a dialer has to say hello
 SHORTEST, LONGEST = 0.1, 5  # seconds between two attempts to connect
-LIVES = 5  # seconds after which a connection counts as a good one
+LIVES, LATE = 5, 5  # seconds after which a connection counts as a good one, and after which one that isn't there is told of
 
 
 def hosts_of(address):
@@ -71,6 +71,7 @@ class Hub:
         self.dirty, self.accepted, self.waiting = [], {}, []
         self.replicas = {number: Queue(self.dirty) for number in self.addresses}
         self.clients = {}  # by their numbers: the queues of the relays that speak for them
+        self.begun = time.monotonic()
         self.relays, self.told = set(), set()  # connections of relays, and the names of what was said to be connected
         self.others = list(self.replicas.values())
 
@@ -156,6 +157,10 @@ class Hub:
         for name in sorted(now ^ self.told)[:MOST_NEWS]:
             self.log(f"{name} is connected" if name in now else f"{name} is gone", is_news=True)
             self.told ^= {name}
+        if self.begun and time.monotonic() - self.begun > LATE:
+            self.begun = 0
+            for number in sorted(number for number, queue in self.replicas.items() if not queue.link):
+                self.log(f"replica {number} is not connected yet")
 
     async def dial(self, number):
         """Connects to a replica, again and again."""
