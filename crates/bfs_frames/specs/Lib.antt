@@ -1,0 +1,4 @@
+-- What the contracts of bfs_frames cite.
+pub mod Kinds
+pub mod Frames
+pub mod Parcels
