@@ -1,5 +1,5 @@
 -- A relay: what it answers by itself (Mount, OwnReplies), what it tells (Parcels), the clients that it speaks for (Seats), its steps (Relays), its
--- turns (Turns), and views of the code (Views).
+-- turns (Turns), views of the code (Views), and where its answers come from (Origins).
 pub mod Mount
 pub mod OwnReplies
 pub mod Parcels
@@ -7,3 +7,4 @@ pub mod Seats
 pub mod Relays
 pub mod Turns
 pub mod Views
+pub mod Origins

@@ -25,7 +25,7 @@ abbrev pub reply_told : (ticket : ℕ) → (reply : List ℕ) → List Told
 reply_told ticket reply = if length reply == 0 then [] else record { to = Caller ticket; kind = Answer; payload = hyper ticket ++ reply } ∷ []
 
 -- what the operator reads where calls are dropped
-abbrev pub dropped_line : List ℕ
+unfoldable pub dropped_line : List ℕ
 dropped_line = codes "calls are dropped: too many wait"
 
 abbrev pub dropped_told : Told

@@ -2,6 +2,7 @@
 //! answers NULL, MOUNT and what is refused by itself. What it does in a turn is a function of the turn; sockets, files and clocks are others'.
 #![tactic(auto)]
 
+mod laws;
 mod mount;
 mod own_replies;
 mod parcels;
@@ -10,4 +11,5 @@ mod relay;
 mod seats;
 mod turns;
 
+pub use laws::answers_have_origins;
 pub use relay::{MOST_WAITING, Relay};

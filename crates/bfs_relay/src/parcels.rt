@@ -23,9 +23,6 @@ impl Model for Parcels {
     ghost view = { λ told. map told_by told.parcels.items };
 }
 
-// what the operator reads
-const DROPPED_LINE: &[u8] = b"calls are dropped: too many wait";
-
 impl Parcels {
     /// Nothing yet. It takes no memory.
     pub fn new(alloc: Global) -> Parcels
@@ -62,7 +59,7 @@ impl Parcels {
     pub fn tell_dropped(&mut self) -> Result<(), Memory>
         ensures { OnOk result (self.new ≡ self.old ++ dropped_told ∷ []) }
     {
-        let payload = Vec::from_slice(self.alloc, DROPPED_LINE)?;
+        let payload = Vec::from_slice(self.alloc, dropped_line())?;
         self.tell(To::Operator, Kind::Log, payload)
     }
 
@@ -83,4 +80,12 @@ impl Parcels {
     {
         std::mem::replace(&mut self.parcels, Vec::new(self.alloc))
     }
+}
+
+// what the operator reads
+#[tactic(auto, unfolding(crate::specs::Parcels::dropped_line))]
+fn dropped_line() -> &'static [u8]
+    ensures { result.now ≡ dropped_line }
+{
+    b"calls are dropped: too many wait"
 }

@@ -1,4 +1,4 @@
-ghost use Rattle.std.specs.Prelude.{◌≡◌, ◌≤◌, All, slice_get, IfOk, OnOk};
+ghost use Rattle.std.specs.Prelude.{◌≡◌, ◌≤◌, All, length, slice_get, IfOk, OnOk};
 ghost use Rattle.std.specs.List.{position};
 ghost use Rattle.bfs_clients.specs.Tallies.{is_signed_reply};
 ghost use Rattle.bfs_relay.specs.Relays as model;
@@ -70,6 +70,14 @@ impl Relay {
             next = seat.next().max(next);
         }
         next
+    }
+
+    /// How many calls wait for a client to be free.
+    pub fn waiting(&self) -> usize
+        ensures value { result ≡ length self.now.calls }
+        ensures within { result ≤ model.most_waiting }
+    {
+        self.calls.len()
     }
 
     fn free_place(&self) -> Option<usize>
@@ -153,6 +161,7 @@ impl Relay {
     }
 
     /// A message that is to be a reply. `Memory` if memory runs out.
+    #[tactic(auto, using(crate::proofs::Keeping::heard_keeps))]
     pub(crate) fn hear(
         &mut self,
         now: u64,
@@ -160,7 +169,8 @@ impl Relay {
         passes: bool,
     ) -> Result<(), Memory>
         requires { passes ≡ is_signed_reply self.old.clients signed.now }
-        ensures { OnOk result (self.new ≡ model.relay_heard now self.old signed.now) }
+        ensures heard { OnOk result (self.new ≡ model.relay_heard now self.old signed.now) }
+        ensures keys { OnOk result (self.new.clients ≡ self.old.clients) }
     {
         let Message::Reply(reply) = &signed.message else {
             return Ok(());
@@ -197,6 +207,7 @@ impl Relay {
     }
 
     /// Each request whose result was waited for long enough is sent again. `Memory` if memory runs out.
+    #[tactic(auto, using(crate::proofs::Folding::fold_more_numbers))]
     pub(crate) fn ask_all(&mut self, now: u64) -> Result<(), Memory>
         ensures { OnOk result (self.new ≡ model.all_asked now self.old) }
     {

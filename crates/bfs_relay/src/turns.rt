@@ -1,4 +1,4 @@
-ghost use Rattle.std.specs.Prelude.{◌≡◌, [], map, IfOk, OnOk};
+ghost use Rattle.std.specs.Prelude.{◌≡◌, ◌++◌, [], map, option_to_list, IfOk, OnOk};
 ghost use Rattle.std.specs.List.{filter_map};
 ghost use Rattle.bfs_model.specs.Bytes.Items.{hyper_at};
 ghost use Rattle.bfs_codec.specs.Reading.{message_of};
@@ -31,6 +31,7 @@ impl Relay {
         Ok(self.told.take())
     }
 
+    #[tactic(auto, using(crate::proofs::Folding::fold_more))]
     fn hear_all(
         &mut self,
         rt: &(impl Threads + Sync),
@@ -47,6 +48,7 @@ impl Relay {
         Ok(())
     }
 
+    #[tactic(auto, using(crate::proofs::Folding::fold_more))]
     fn take_calls(&mut self, now: u64, frames: &[Frame]) -> Result<(), Memory>
         ensures { OnOk result (self.new ≡ model.calls_taken now frames.now self.old) }
     {
@@ -96,11 +98,18 @@ fn replies_in(alloc: Global, frames: &[Frame]) -> Result<Vec<Signed<Message>>, M
 {
     let mut replies = Vec::new(alloc);
     for frame in frames {
-        if let Some(signed) = reply_in(alloc, frame)? {
-            replies.push(signed)?;
-        }
+        add_reply(alloc, &mut replies, frame)?;
     }
     Ok(replies)
+}
+
+fn add_reply(alloc: Global, replies: &mut Vec<Signed<Message>>, frame: &Frame) -> Result<(), Memory>
+    ensures { OnOk result (replies.new.items ≡ replies.old.items ++ option_to_list (model.reply_in frame.now)) }
+{
+    if let Some(signed) = reply_in(alloc, frame)? {
+        replies.push(signed)?;
+    }
+    Ok(())
 }
 
 fn reply_in(alloc: Global, frame: &Frame) -> Result<Option<Signed<Message>>, Memory>

@@ -1,0 +1,4 @@
+-- What the proofs of the relay share.
+pub mod Folding
+pub mod Keeping
+pub mod Answering
