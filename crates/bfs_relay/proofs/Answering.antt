@@ -1,12 +1,10 @@
 -- Each answer has its origin in what came.
-use Rattle.std.proofs.Common.{◌≡◌, ◌∙◌, ◌⊎◌, ℕ, ◌+◌, ◌-◌, ◌*◌, ◌^◌, min, ◌==◌, Bool, true, false, cond, List, [], ◌∷◌, ◌++◌, length, Option, Some, None, Result, Ok, Err, inl, inr, refl, sym, ap, subst, arith}
+use Rattle.std.proofs.Common.{◌≡◌, ◌∙◌, ℕ, Bool, true, false, cond, List, [], ◌∷◌, ◌++◌, length, map, Option, Some, None, Result, Ok, Err, inl, inr, refl, sym, subst}
 use Rattle.std.specs.Prelude.{All, Contains, nat_lt}
-use Rattle.std.specs.List.{cons_option, filter_map, fold, map, position, range_with_len, slice_get, slice_set}
-use Rattle.std.specs.Option.{option_map}
-use Rattle.std.proofs.lemmas.List.Elements.{All-append, All-cons, All-contains, All-get_or, All-head, All-map, All-nil, All-set, All-tail}
-use Rattle.std.proofs.lemmas.List.Sums.{fold-append}
+use Rattle.std.specs.List.{cons_option, filter_map, fold, position, range_with_len, slice_get, slice_set}
+use Rattle.std.proofs.lemmas.List.Elements.{All-append, All-cons, All-get_or, All-head, All-nil, All-set, All-tail}
 use Rattle.std.proofs.lemmas.Option.{slice_get_cases}
-use Rattle.bfs_model.specs.Bytes.Items.{Fault, hyper, hyper_at}
+use Rattle.bfs_model.specs.Bytes.Items.{Fault, hyper_at}
 use Rattle.bfs_model.specs.Server.Limits.{most_request_bytes}
 use Rattle.bfs_messages.specs.declared.message.Message.{Message}
 use Rattle.bfs_messages.specs.declared.message.Message.TheVariants.{Reply}
@@ -15,35 +13,17 @@ use Rattle.bfs_frames.specs.declared.frames.Frame.{Frame}
 use Rattle.bfs_frames.specs.declared.frames.Turn.{Turn}
 use Rattle.bfs_frames.specs.declared.kind.Kind.{Kind}
 use Rattle.bfs_frames.specs.declared.kind.Kind.TheVariants as kind
-use Rattle.bfs_frames.specs.declared.parcels.To.TheVariants.{Caller}
-use Rattle.bfs_messages.specs.Spelling.{signed_text}
-use Rattle.bfs_clients.specs.Clients.{Clients, signed_request}
+use Rattle.bfs_clients.specs.Clients.{Clients}
 use Rattle.bfs_clients.specs.Counters.{Counter, counted_call}
-use Rattle.bfs_clients.specs.Tallies.{Tally, agreed, no_replies, tallied_by, tally_of}
-use Rattle.bfs_clients.specs.declared.clients.Call as client
-use Rattle.bfs_relay.specs.Origins.{AnswersHaveOrigins, CallCame, Came, FrameCame, HasOrigin, IsAgreed, IsAnswer, IsOwn, IsSignedFor, ReplyCame, TurnCame, call_as, call_at, told_in}
+use Rattle.bfs_relay.specs.Origins.{AnswersHaveOrigins, CallCame, Came, FrameCame, HasOrigin, ReplyCame, TurnCame, call_as, call_at, told_in}
+use Rattle.bfs_relay.proofs.Backed.{SeatHolds, asked_holds, begun_holds, heard_holds, more_told, no_told, one_told, reply_holds}
 use Rattle.bfs_relay.specs.OwnReplies.{own_reply}
-use Rattle.bfs_relay.specs.Parcels.{Told, dropped_told, reply_told, request_told}
-use Rattle.bfs_relay.specs.Relays.{Relay, all_asked, asked_at, asked_by, begun_at, begun_by, called, dropped, heard_as, heard_at, heard_by, is_free_among, most_waiting, next_begun, next_of, placed, queued, relay_heard}
-use Rattle.bfs_relay.specs.Seats.{Call, Outstanding, Seat, begun, counted, heard, most_patience, told_beginning, told_hearing, is_due, is_free, is_of, is_past, outstanding, seat_with, second, sent_again, settled, still_waits, told_again, told_agreed, told_settling, told_with}
-use Rattle.bfs_relay.specs.Turns.{answered, call_taken, calls_taken, frame_taken_as, microseconds, new_relay, replies_heard, reply_in, taken_as, turned, turned_at}
+use Rattle.bfs_relay.specs.Parcels.{dropped_told, reply_told}
+use Rattle.bfs_relay.specs.Relays.{Relay, asked_at, asked_by, begun_at, begun_by, called, dropped, heard_as, heard_at, heard_by, is_free_among, most_waiting, next_begun, next_of, placed, queued, relay_heard}
+use Rattle.bfs_relay.specs.Seats.{Call, Seat, begun, heard, told_beginning, told_hearing, is_free, is_of, is_past, second, told_with}
+use Rattle.bfs_relay.specs.Turns.{answered, call_taken, calls_taken, frame_taken_as, microseconds, new_relay, replies_heard, reply_in, taken_as, turned}
 
 -- What a relay keeps to -----------------------------------------------------------------------------------------------
-
--- a request was signed for a call that came, and its tally has counted replies that came
-record IsBacked (clients : Clients) (came : Came) (client : ℕ) (request : Outstanding) : Type 0 where
-  timestamp : ℕ
-  asked : IsSignedFor clients came request.ticket client timestamp request.text
-  replies : List (Signed Message)
-  heard : All (Contains came.replies) replies
-  tallied : request.tally ≡ tally_of clients replies client timestamp
-
-abbrev IsBackedIf : Clients → Came → (client : ℕ) → Option Outstanding → Type 0
-IsBackedIf clients came client None = Unit {0}
-IsBackedIf clients came client (Some request) = IsBacked clients came client request
-
-abbrev SeatHolds : Clients → Came → Seat → Type 0
-SeatHolds clients came seat = IsBackedIf clients came seat.counter.client seat.request
 
 record Holds (clients : Clients) (came : Came) (relay : Relay) : Type 0 where
   keys : relay.clients ≡ clients
@@ -52,12 +32,6 @@ record Holds (clients : Clients) (came : Came) (relay : Relay) : Type 0 where
   told : All (HasOrigin clients came) relay.told
 
 -- Parts of the definitions, by names -----------------------------------------------------------------------------------
-
-abbrev answer : (ticket : ℕ) (reply : List ℕ) → Told
-answer ticket reply = record { to = Caller ticket; kind = kind.Answer; payload = hyper ticket ++ reply }
-
-abbrev sent : (now : ℕ) → Outstanding → Outstanding
-sent now request = record request { sent_at = now; patience = min (2 * request.patience) most_patience }
 
 abbrev free_seat : Counter → Seat
 free_seat counter = record { counter = counter; request = None }
@@ -71,92 +45,7 @@ abbrev heard_with : Clients → (place : ℕ) → Signed Message → Seat → Re
 heard_with keys place signed seat relay =
     record relay { seats = slice_set relay.seats place (heard keys signed seat); told = relay.told ++ told_hearing keys signed seat }
 
-abbrev made_call : Signed Message → Tally → client.Call
-made_call signed tally = record { request = signed; tally = tally }
-
--- what a call that begins is made of
-made : (may : Bool) (signed : Option (Signed Message)) (tally : Tally) (begun : client.Call)
-    → cond may (option_map (λ (s : Signed Message). made_call s tally) signed) None ≡ Some begun
-    → (signed ≡ Some begun.request) × (begun.tally ≡ tally)
-made true (Some s) tally begun is =
-    let same : made_call s tally ≡ begun = cc in
-    (ap (λ (c : client.Call). Some c.request) same, sym (ap (λ (c : client.Call). c.tally) same))
-made true None tally begun is = absurd cc
-made false signed tally begun is = absurd cc
-
 module _ (clients : Clients) (came : Came) where
-  -- Seats ---------------------------------------------------------------------------------------------------------------
-
-  begun_holds : (now : ℕ) (call : Call) (seat : Seat) → Contains came.calls call → SeatHolds clients came seat → (begun : Option client.Call)
-      → counted_call clients seat.counter call.bytes ≡ begun
-      → SeatHolds clients came (seat_with now call seat begun) × All (HasOrigin clients came) (told_with begun)
-  begun_holds now call seat called holds None is = (holds, All-nil _)
-  begun_holds now call seat called holds (Some begun) is =
-      let parts = made (nat_lt seat.counter.next (2 ^ 64 - 1)) (signed_request clients (record { client = seat.counter.client; timestamp = seat.counter.next; call = call.bytes }))
-      (no_replies clients.f seat.counter.client seat.counter.next) begun is in (
-        record {
-          timestamp = seat.counter.next;
-          asked = record { call = call; called = called; has_ticket = refl; signed = begun.request; is_signed = parts.0; is_text = refl };
-          replies = [];
-          heard = All-nil _;
-          tallied = parts.1;
-        },
-        All-cons _ (request_told (signed_text begun.request)) [] tt (All-nil _),
-      )
-
-  counted_holds : (signed : Signed Message) (client : ℕ) (request : Outstanding) → Contains came.replies signed → IsBacked clients came client request
-      → IsBacked clients came client (counted clients signed request)
-  counted_holds signed client request in_came backed = record {
-    timestamp = backed.timestamp;
-    asked = backed.asked;
-    replies = backed.replies ++ signed ∷ [];
-    heard = All-append _ backed.replies (signed ∷ []) backed.heard (All-cons _ signed [] in_came (All-nil _));
-    tallied = ap (λ (tally : Tally). tallied_by clients tally signed) backed.tallied
-        ∙ sym (fold-append (tallied_by clients) (no_replies clients.f client backed.timestamp) backed.replies (signed ∷ []));
-  }
-
-  reply_holds : (ticket : ℕ) (reply : List ℕ) → IsAgreed clients came ticket reply ⊎ IsOwn came ticket reply → All (HasOrigin clients came) (reply_told ticket reply)
-  reply_holds ticket reply origin = go (length reply == 0)
-    where
-      go : (empty : Bool) → All (HasOrigin clients came) (cond empty [] (answer ticket reply ∷ []))
-      go true = All-nil _
-      go false = All-cons _ (answer ticket reply) [] (record { reply = reply; spelled = refl; origin = origin }) (All-nil _)
-
-  agreed_holds : (client : ℕ) (request : Outstanding) → IsBacked clients came client request → (result : Option (List ℕ)) → agreed request.tally ≡ result
-      → IsBackedIf clients came client (still_waits request result) × All (HasOrigin clients came) (told_agreed request result)
-  agreed_holds client request backed None is = (backed, All-nil _)
-  agreed_holds client request backed (Some result) is = (
-    tt,
-    reply_holds request.ticket result (inl (record {
-      client = client;
-      timestamp = backed.timestamp;
-      text = request.text;
-      asked = backed.asked;
-      replies = backed.replies;
-      heard = backed.heard;
-      accepted = ap agreed (sym backed.tallied) ∙ is;
-    })),
-  )
-
-  heard_holds : (signed : Signed Message) (client : ℕ) (request : Option Outstanding) → Contains came.replies signed → IsBackedIf clients came client request
-      → IsBackedIf clients came client (settled (option_map (counted clients signed) request))
-      × All (HasOrigin clients came) (told_settling (option_map (counted clients signed) request))
-  heard_holds signed client None in_came backed = (tt, All-nil _)
-  heard_holds signed client (Some request) in_came backed =
-      agreed_holds client (counted clients signed request) (counted_holds signed client request in_came backed) (agreed (counted clients signed request).tally) refl
-
-  asked_holds : (now client : ℕ) (request : Option Outstanding) → IsBackedIf clients came client request
-      → IsBackedIf clients came client (option_map (sent_again now) request) × All (HasOrigin clients came) (told_again now request)
-  asked_holds now client None backed = (tt, All-nil _)
-  asked_holds now client (Some request) backed = go (is_due now request)
-    where
-      go : (due : Bool) → IsBacked clients came client (cond due (sent now request) request) × All (HasOrigin clients came) (cond due (request_told request.text ∷ []) [])
-      go true = (
-        record { timestamp = backed.timestamp; asked = backed.asked; replies = backed.replies; heard = backed.heard; tallied = backed.tallied },
-        All-cons _ (request_told request.text) [] tt (All-nil _),
-      )
-      go false = (backed, All-nil _)
-
   -- Relays --------------------------------------------------------------------------------------------------------------
 
   seat_at : (seats : List Seat) (place : ℕ) (seat : Seat) → slice_get seats place ≡ Some seat → All (SeatHolds clients came) seats → SeatHolds clients came seat
@@ -174,12 +63,12 @@ module _ (clients : Clients) (came : Came) where
   begun_by_holds now place call relay called holds (Some seat) is =
       let P : Clients → Type 0 = λ keys. Holds clients came (begun_with keys now place call seat relay) in
       subst P (sym holds.keys) (
-      let parts = begun_holds now call seat called (seat_at relay.seats place seat is holds.seats) (counted_call clients seat.counter call.bytes) refl in
+      let parts = begun_holds clients came now call seat called (seat_at relay.seats place seat is holds.seats) (counted_call clients seat.counter call.bytes) refl in
       record {
         keys = holds.keys;
-        seats = All-set _ relay.seats place _ parts.0 holds.seats;
+        seats = All-set (SeatHolds clients came) relay.seats place _ parts.0 holds.seats;
         calls = holds.calls;
-        told = All-append _ relay.told (told_with (counted_call clients seat.counter call.bytes)) holds.told parts.1;
+        told = more_told clients came relay.told (told_with (counted_call clients seat.counter call.bytes)) holds.told parts.1;
       }
       )
 
@@ -190,8 +79,8 @@ module _ (clients : Clients) (came : Came) where
       → Holds clients came (next_of calls now place relay)
   next_of_holds now place relay holds [] all = holds
   next_of_holds now place relay holds (call ∷ rest) all =
-      begun_at_holds now place call (record relay { calls = rest }) (All-head _ call rest all)
-      (record { keys = holds.keys; seats = holds.seats; calls = All-tail _ call rest all; told = holds.told })
+      begun_at_holds now place call (record relay { calls = rest }) (All-head (Contains came.calls) call rest all)
+      (record { keys = holds.keys; seats = holds.seats; calls = All-tail (Contains came.calls) call rest all; told = holds.told })
 
   next_begun_holds : (now place : ℕ) (relay : Relay) → Holds clients came relay → Holds clients came (next_begun now place relay)
   next_begun_holds now place relay holds = go (is_free_among (slice_get relay.seats place))
@@ -208,7 +97,7 @@ module _ (clients : Clients) (came : Came) where
         keys = holds.keys;
         seats = holds.seats;
         calls = holds.calls;
-        told = All-append _ relay.told (dropped_told ∷ []) holds.told (All-cons _ dropped_told [] tt (All-nil _));
+        told = more_told clients came relay.told (dropped_told ∷ []) holds.told (one_told clients came dropped_told tt);
       }
       go false = holds
 
@@ -220,7 +109,7 @@ module _ (clients : Clients) (came : Came) where
         keys = holds.keys;
         seats = holds.seats;
         told = holds.told;
-        calls = All-append _ relay.calls (call ∷ []) holds.calls (All-cons _ call [] called (All-nil _));
+        calls = All-append (Contains came.calls) relay.calls (call ∷ []) holds.calls (All-cons (Contains came.calls) call [] called (All-nil (Contains came.calls)));
       }
       go false = dropped_holds now relay holds
 
@@ -237,12 +126,12 @@ module _ (clients : Clients) (came : Came) where
   heard_by_holds place signed relay in_came holds (Some seat) is =
       let P : Clients → Type 0 = λ keys. Holds clients came (heard_with keys place signed seat relay) in
       subst P (sym holds.keys) (
-      let parts = heard_holds signed seat.counter.client seat.request in_came (seat_at relay.seats place seat is holds.seats) in
+      let parts = heard_holds clients came signed seat.counter.client seat.request in_came (seat_at relay.seats place seat is holds.seats) in
       record {
         keys = holds.keys;
-        seats = All-set _ relay.seats place _ parts.0 holds.seats;
+        seats = All-set (SeatHolds clients came) relay.seats place _ parts.0 holds.seats;
         calls = holds.calls;
-        told = All-append _ relay.told _ holds.told parts.1;
+        told = more_told clients came relay.told _ holds.told parts.1;
       }
       )
 
@@ -261,12 +150,12 @@ module _ (clients : Clients) (came : Came) where
       → Holds clients came (asked_by seat now place relay)
   asked_by_holds now place relay holds None is = holds
   asked_by_holds now place relay holds (Some seat) is =
-      let parts = asked_holds now seat.counter.client seat.request (seat_at relay.seats place seat is holds.seats) in
+      let parts = asked_holds clients came now seat.counter.client seat.request (seat_at relay.seats place seat is holds.seats) in
       record {
         keys = holds.keys;
-        seats = All-set _ relay.seats place _ parts.0 holds.seats;
+        seats = All-set (SeatHolds clients came) relay.seats place _ parts.0 holds.seats;
         calls = holds.calls;
-        told = All-append _ relay.told _ holds.told parts.1;
+        told = more_told clients came relay.told _ holds.told parts.1;
       }
 
   -- Turns ---------------------------------------------------------------------------------------------------------------
@@ -282,8 +171,8 @@ module _ (clients : Clients) (came : Came) where
     keys = holds.keys;
     seats = holds.seats;
     calls = holds.calls;
-    told = All-append _ relay.told (reply_told ticket reply) holds.told
-        (reply_holds ticket reply (inr (record { call = record { ticket = ticket; bytes = bytes }; called = in_came; has_ticket = refl; own = is })));
+    told = more_told clients came relay.told (reply_told ticket reply) holds.told
+        (reply_holds clients came ticket reply (inr (record { call = record { ticket = ticket; bytes = bytes }; called = in_came; has_ticket = refl; own = is })));
   }
   answered_holds now ticket bytes relay in_came holds None is = called_holds now (record { ticket = ticket; bytes = bytes }) relay in_came holds
 
@@ -304,23 +193,24 @@ module _ (clients : Clients) (came : Came) where
   calls_hold : (now : ℕ) (frames : List Frame) (relay : Relay) → All (FrameCame came) frames → Holds clients came relay → Holds clients came (calls_taken now frames relay)
   calls_hold now [] relay all holds = holds
   calls_hold now (frame ∷ frames) relay all holds =
-      calls_hold now frames (call_taken now relay frame) (All-tail _ frame frames all)
-      (frame_holds now relay frame.kind frame.payload.items (All-head _ frame frames all).call holds)
+      calls_hold now frames (call_taken now relay frame) (All-tail (FrameCame came) frame frames all)
+      (frame_holds now relay frame.kind frame.payload.items (All-head (FrameCame came) frame frames all).call holds)
 
   replies_hold : (now : ℕ) (replies : List (Signed Message)) (relay : Relay) → All (Contains came.replies) replies → Holds clients came relay
       → Holds clients came (fold (relay_heard now) relay replies)
   replies_hold now [] relay all holds = holds
   replies_hold now (signed ∷ replies) relay all holds =
-      replies_hold now replies (relay_heard now relay signed) (All-tail _ signed replies all)
-      (heard_as_holds signed.message now signed relay (All-head _ signed replies all) holds)
+      replies_hold now replies (relay_heard now relay signed) (All-tail (Contains came.replies) signed replies all)
+      (heard_as_holds signed.message now signed relay (All-head (Contains came.replies) signed replies all) holds)
 
   replies_came : (frames : List Frame) → All (FrameCame came) frames → All (Contains came.replies) (filter_map reply_in frames)
-  replies_came [] all = All-nil _
-  replies_came (frame ∷ frames) all = go (reply_in frame) (All-head _ frame frames all).reply
+  replies_came [] all = All-nil (Contains came.replies)
+  replies_came (frame ∷ frames) all = go (replies_came frames (All-tail (FrameCame came) frame frames all)) (reply_in frame) (All-head (FrameCame came) frame frames all).reply
     where
-      go : (reply : Option (Signed Message)) → ReplyCame came reply → All (Contains came.replies) (cons_option reply (filter_map reply_in frames))
-      go None one = replies_came frames (All-tail _ frame frames all)
-      go (Some signed) one = All-cons _ signed _ one (replies_came frames (All-tail _ frame frames all))
+      go : All (Contains came.replies) (filter_map reply_in frames) → (reply : Option (Signed Message)) → ReplyCame came reply
+          → All (Contains came.replies) (cons_option reply (filter_map reply_in frames))
+      go others None one = others
+      go others (Some signed) one = All-cons (Contains came.replies) signed (filter_map reply_in frames) one others
 
   turned_holds : (turn : Turn) (relay : Relay) → TurnCame came turn → Holds clients came relay → Holds clients came (turned turn relay)
   turned_holds turn relay all holds =
@@ -332,19 +222,19 @@ module _ (clients : Clients) (came : Came) where
       (calls_taken now frames (replies_heard now frames relay)) taken
 
   told_holds : (turns : List Turn) (relay : Relay) → All (TurnCame came) turns → Holds clients came relay → All (HasOrigin clients came) (told_in relay turns)
-  told_holds [] relay all holds = All-nil _
+  told_holds [] relay all holds = no_told clients came
   told_holds (turn ∷ turns) relay all holds =
-      let next = turned_holds turn relay (All-head _ turn turns all) holds in
-      All-append _ (turned turn relay).told (told_in (record (turned turn relay) { told = [] }) turns) next.told
-      (told_holds turns (record (turned turn relay) { told = [] }) (All-tail _ turn turns all)
-      (record { keys = next.keys; seats = next.seats; calls = next.calls; told = All-nil _ }))
+      let next = turned_holds turn relay (All-head (TurnCame came) turn turns all) holds in
+      more_told clients came (turned turn relay).told (told_in (record (turned turn relay) { told = [] }) turns) next.told
+      (told_holds turns (record (turned turn relay) { told = [] }) (All-tail (TurnCame came) turn turns all)
+      (record { keys = next.keys; seats = next.seats; calls = next.calls; told = no_told clients came }))
 
   seats_free : (counters : List Counter) → All (SeatHolds clients came) (map (λ counter. free_seat counter) counters)
-  seats_free [] = All-nil _
-  seats_free (counter ∷ counters) = All-cons _ (free_seat counter) (map (λ c. free_seat c) counters) tt (seats_free counters)
+  seats_free [] = All-nil (SeatHolds clients came)
+  seats_free (counter ∷ counters) = All-cons (SeatHolds clients came) (free_seat counter) (map (λ c. free_seat c) counters) tt (seats_free counters)
 
   new_holds : (counters : List Counter) → Holds clients came (new_relay clients counters)
-  new_holds counters = record { keys = refl; seats = seats_free counters; calls = All-nil _; told = All-nil _ }
+  new_holds counters = record { keys = refl; seats = seats_free counters; calls = All-nil (Contains came.calls); told = no_told clients came }
 
 pub answers_have_origins : AnswersHaveOrigins
 answers_have_origins clients counters came turns all = told_holds clients came turns (new_relay clients counters) all (new_holds clients came counters)

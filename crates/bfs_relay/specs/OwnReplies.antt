@@ -1,5 +1,5 @@
 -- What a relay answers by itself to a message of an NFS client: NULL, calls of MOUNT, and calls that are refused. All else the replicas answer.
-use Rattle.std.specs.Prelude.{ℕ, List, [], ◌∷◌, Option, Some, None, Result, Ok, Err, ◌==◌, if◌then◌else◌}
+use Rattle.std.specs.Prelude.{ℕ, List, [], Option, Some, None, Result, Ok, Err, ◌==◌, if◌then◌else◌}
 use Rattle.std.specs.Option.{option_map}
 use Rattle.bfs_model.specs.Bytes.Call as model
 use Rattle.bfs_model.specs.Bytes.Call.{silent, rpc_mismatch, bad_credential, program_unavailable, program_mismatch, procedure_unavailable}

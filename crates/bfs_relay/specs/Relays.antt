@@ -1,7 +1,6 @@
 -- A relay, and what it does, step by step.
 use Rattle.std.specs.Prelude.{ℕ, Bool, false, List, [], ◌∷◌, ◌++◌, fold, length, Option, Some, None, nat_lt, slice_get, slice_set, if◌then◌else◌}
 use Rattle.std.specs.List.{position, range_with_len}
-use Rattle.bfs_model.specs.Bytes.Items.{hyper_at}
 use Rattle.bfs_clients.specs.Clients.{Clients}
 use Rattle.bfs_messages.specs.declared.message.Message.{Message}
 use Rattle.bfs_messages.specs.declared.message.Message.TheVariants.{Reply}
