@@ -1,5 +1,5 @@
 -- One more step of what is done one after another.
-use Rattle.std.proofs.Common.{◌≡◌, ◌∙◌, ℕ, ◌+◌, ◌<◌, List, [], ◌∷◌, ◌++◌, Option, Some, None, get_or, length, take, refl, sym, ap, arith}
+use Rattle.std.proofs.Common.{◌≡◌, ◌∙◌, ℕ, ◌+◌, ◌<◌, List, [], ◌∷◌, ◌++◌, Option, Some, None, get_or, length, map, take, refl, sym, ap, arith}
 use Rattle.std.specs.Prelude.{option_to_list}
 use Rattle.std.specs.List.{filter_map, fold, range_with_len}
 use Rattle.std.proofs.lemmas.List.{map-id, take_more}
@@ -16,6 +16,9 @@ range_more n =
 pub fold_more_numbers : {W : Type 0} (step : W → ℕ → W) (w : W) (n : ℕ)
     → fold step w (range_with_len 0 (n + 1)) ≡ step (fold step w (range_with_len 0 n)) n
 fold_more_numbers step w n = ap (fold step w) (range_more n) ∙ fold-append step w (range_with_len 0 n) (n ∷ [])
+
+pub map_more_numbers : {X : Type 0} (f : ℕ → X) (n : ℕ) → map f (range_with_len 0 (n + 1)) ≡ map f (range_with_len 0 n) ++ f n ∷ []
+map_more_numbers f n = map-range_with_len_more f 0 n n (omega arith)
 
 taken_more : {A : Type 0} (xs : List A) (i : ℕ) (x : A) → i < length xs → x ≡ get_or xs i x → take (i + 1) xs ≡ take i xs ++ x ∷ []
 taken_more xs i x within is = take_more xs i x within ∙ ap (λ last. take i xs ++ last ∷ []) (sym is)

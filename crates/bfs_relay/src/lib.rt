@@ -2,6 +2,7 @@
 //! answers NULL, MOUNT and what is refused by itself. What it does in a turn is a function of the turn; sockets, files and clocks are others'.
 #![tactic(auto)]
 
+mod given_keys;
 mod laws;
 mod mount;
 mod own_replies;

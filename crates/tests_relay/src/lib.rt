@@ -7,6 +7,8 @@ mod again;
 #[cfg(test)]
 mod asking;
 #[cfg(test)]
+mod given_keys;
+#[cfg(test)]
 mod own_replies;
 #[cfg(test)]
 mod rubbish;

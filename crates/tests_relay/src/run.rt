@@ -1,4 +1,7 @@
 //! A relay of some clients, where one of four replicas may be faulty; its turns, and what it tells.
+ghost use Rattle.std.specs.Prelude.{◌<◌, ◌^◌};
+ghost use Rattle.bfs_auth.specs.Principals.{number_of};
+
 use bfs_auth::{Keys, Principal, sign_text_for_client};
 use bfs_clients::{Clients, Counter};
 use bfs_codec::{decode, encode};
@@ -29,9 +32,16 @@ pub fn relay_of(alloc: Global, clients: u32) -> Result<Relay, Fail> {
     Ok(Relay::new(alloc, Clients::new(alloc, &settings)?, counters)?)
 }
 
+/// The keys of a replica or a client, where there are four replicas and 16 clients.
+pub fn keys_of(alloc: Global, me: Principal) -> Result<Keys, Memory>
+    requires { number_of me < 2 ^ 32 }
+{
+    Keys::derive(alloc, SECRET, me, 4, 16)
+}
+
 /// The keys of a replica.
 pub fn keys_of_replica(alloc: Global, number: u32) -> Result<Keys, Memory> {
-    Keys::derive(alloc, SECRET, Principal::Replica(number), 4, 16)
+    keys_of(alloc, Principal::Replica(number))
 }
 
 /// A frame of that kind.
@@ -135,7 +145,8 @@ pub fn request_in(
 
 /// Of which client the request of a parcel is, and of which timestamp.
 pub fn name_in(rt: &impl Abort, alloc: Global, parcel: &Parcel) -> Result<(u32, u64), Fail> {
-    match request_in(rt, alloc, parcel)?.message {
+    let signed = request_in(rt, alloc, parcel)?;
+    match &signed.message {
         Message::Request(request) => Ok((request.client(), request.timestamp())),
         _ => Err("a request".into()),
     }
