@@ -1,4 +1,4 @@
--- Each answer has its origin in what came.
+-- What is told has its origin in what came.
 use Rattle.std.proofs.Common.{◌≡◌, ◌∙◌, ℕ, Bool, true, false, cond, List, [], ◌∷◌, ◌++◌, length, map, Option, Some, None, Result, Ok, Err, inl, inr, refl, sym, subst}
 use Rattle.std.specs.Prelude.{All, Contains, nat_lt}
 use Rattle.std.specs.List.{cons_option, filter_map, fold, position, range_with_len, slice_get, slice_set}
@@ -15,7 +15,7 @@ use Rattle.bfs_frames.specs.declared.kind.Kind.{Kind}
 use Rattle.bfs_frames.specs.declared.kind.Kind.TheVariants as kind
 use Rattle.bfs_clients.specs.Clients.{Clients}
 use Rattle.bfs_clients.specs.Counters.{Counter, counted_call}
-use Rattle.bfs_relay.specs.Origins.{AnswersHaveOrigins, CallCame, Came, FrameCame, HasOrigin, ReplyCame, TurnCame, call_as, call_at, told_in}
+use Rattle.bfs_relay.specs.Origins.{WhatIsToldHasItsOrigin, CallCame, Came, FrameCame, HasOrigin, ReplyCame, TurnCame, call_as, call_at, told_in}
 use Rattle.bfs_relay.proofs.Backed.{SeatHolds, asked_holds, begun_holds, heard_holds, more_told, no_told, one_told, reply_holds}
 use Rattle.bfs_relay.specs.OwnReplies.{own_reply}
 use Rattle.bfs_relay.specs.Parcels.{dropped_told, reply_told}
@@ -236,5 +236,5 @@ module _ (clients : Clients) (came : Came) where
   new_holds : (counters : List Counter) → Holds clients came (new_relay clients counters)
   new_holds counters = record { keys = refl; seats = seats_free counters; calls = All-nil (Contains came.calls); told = no_told clients came }
 
-pub answers_have_origins : AnswersHaveOrigins
-answers_have_origins clients counters came turns all = told_holds clients came turns (new_relay clients counters) all (new_holds clients came counters)
+pub what_is_told_has_its_origin : WhatIsToldHasItsOrigin
+what_is_told_has_its_origin clients counters came turns all = told_holds clients came turns (new_relay clients counters) all (new_holds clients came counters)

@@ -14,10 +14,10 @@ use Rattle.bfs_clients.specs.Clients.{Clients, signed_request}
 use Rattle.bfs_clients.specs.Counters.{counted_call}
 use Rattle.bfs_clients.specs.Tallies.{Tally, agreed, no_replies, tallied_by, tally_of}
 use Rattle.bfs_clients.specs.declared.clients.Call as client
-use Rattle.bfs_relay.specs.Origins.{Came, HasOrigin, IsAgreed, IsOwn, IsSignedFor}
+use Rattle.bfs_relay.specs.Origins.{Came, HasOrigin, IsAgreed, IsOwn, IsRequest, IsSignedFor}
 use Rattle.bfs_relay.specs.Parcels.{Told, reply_told, request_told}
 use Rattle.bfs_relay.specs.Relays.{called}
-use Rattle.bfs_relay.specs.Seats.{Call, Outstanding, Seat, begun, counted, most_patience, is_due, seat_with, sent_again, settled, still_waits, told_again, told_agreed, told_settling, told_with}
+use Rattle.bfs_relay.specs.Seats.{Call, Outstanding, Seat, begun, counted, is_due, most_patience, outstanding, seat_with, sent_again, settled, still_waits, told_again, told_agreed, told_settling, told_with}
 
 -- What a relay keeps to -----------------------------------------------------------------------------------------------
 
@@ -69,22 +69,23 @@ module _ (clients : Clients) (came : Came) where
 
   -- Seats ---------------------------------------------------------------------------------------------------------------
 
+  request_of : (client : ℕ) (request : Outstanding) → IsBacked clients came client request → IsRequest clients came request.text
+  request_of client request backed = record { ticket = request.ticket; client = client; timestamp = backed.timestamp; asked = backed.asked }
+
   pub begun_holds : (now : ℕ) (call : Call) (seat : Seat) → Contains came.calls call → SeatHolds clients came seat → (begun : Option client.Call)
       → counted_call clients seat.counter call.bytes ≡ begun
       → SeatHolds clients came (seat_with now call seat begun) × All (HasOrigin clients came) (told_with begun)
   begun_holds now call seat called holds None is = (holds, no_told)
   begun_holds now call seat called holds (Some begun) is =
       let parts = made (nat_lt seat.counter.next (2 ^ 64 - 1)) (signed_request clients (record { client = seat.counter.client; timestamp = seat.counter.next; call = call.bytes }))
-      (no_replies clients.f seat.counter.client seat.counter.next) begun is in (
-        record {
-          timestamp = seat.counter.next;
-          asked = record { call = call; called = called; has_ticket = refl; signed = begun.request; is_signed = parts.0; is_text = refl };
-          replies = [];
-          heard = All-nil (Contains came.replies);
-          tallied = parts.1;
-        },
-        one_told (request_told (signed_text begun.request)) tt,
-      )
+      (no_replies clients.f seat.counter.client seat.counter.next) begun is in
+      let backed : IsBacked clients came seat.counter.client (outstanding now call.ticket begun) = record {
+        timestamp = seat.counter.next;
+        asked = record { call = call; called = called; has_ticket = refl; signed = begun.request; is_signed = parts.0; is_text = refl };
+        replies = [];
+        heard = All-nil (Contains came.replies);
+        tallied = parts.1;
+      } in (backed, one_told (request_told (signed_text begun.request)) (request_of seat.counter.client (outstanding now call.ticket begun) backed))
 
   counted_holds : (signed : Signed Message) (client : ℕ) (request : Outstanding) → Contains came.replies signed → IsBacked clients came client request
       → IsBacked clients came client (counted clients signed request)
@@ -135,6 +136,6 @@ module _ (clients : Clients) (came : Came) where
       go : (due : Bool) → IsBacked clients came client (cond due (sent now request) request) × All (HasOrigin clients came) (cond due (request_told request.text ∷ []) [])
       go true = (
         record { timestamp = backed.timestamp; asked = backed.asked; replies = backed.replies; heard = backed.heard; tallied = backed.tallied },
-        one_told (request_told request.text) tt,
+        one_told (request_told request.text) (request_of client request backed),
       )
       go false = (backed, no_told)

@@ -1,5 +1,5 @@
--- Where a relay's answers come from: each is the relay's own reply to the call of that ticket, or what f + 1 replicas sent in reply to the request that was
--- signed for it.
+-- Where what a relay tells comes from: each request was signed for a call that came, and each answer is the relay's own reply to the call of that ticket, or
+-- what f + 1 replicas sent in reply to the request that was signed for it.
 use Rattle.std.specs.Prelude.{◌≡◌, ℕ, List, [], ◌∷◌, ◌++◌, ◌⊎◌, All, Contains, Option, Some, None, Result, Ok, Err}
 use Rattle.bfs_model.specs.Bytes.Items.{Fault, hyper, hyper_at}
 use Rattle.bfs_clients.specs.Clients.{Clients, signed_request}
@@ -10,7 +10,7 @@ use Rattle.bfs_frames.specs.declared.frames.Turn.{Turn}
 use Rattle.bfs_frames.specs.declared.kind.Kind.{Kind}
 use Rattle.bfs_frames.specs.declared.kind.Kind.TheVariants as kind
 use Rattle.bfs_frames.specs.declared.parcels.To.{To}
-use Rattle.bfs_frames.specs.declared.parcels.To.TheVariants.{Caller}
+use Rattle.bfs_frames.specs.declared.parcels.To.TheVariants.{Replicas, Caller}
 use Rattle.bfs_messages.specs.Spelling.{signed_text}
 use Rattle.bfs_messages.specs.declared.message.Message.{Message}
 use Rattle.bfs_messages.specs.declared.signed.Signed.{Signed}
@@ -54,7 +54,7 @@ pub record FrameCame (came : Came) (frame : Frame) : Type 0 where
 abbrev pub TurnCame : Came → Turn → Type 0
 TurnCame came turn = All (FrameCame came) turn.frames.items
 
--- What is answered ----------------------------------------------------------------------------------------------------
+-- What is told ---------------------------------------------------------------------------------------------------------
 
 -- the text of the request of a client and a timestamp that has the bytes of a call with that ticket
 pub record IsSignedFor (clients : Clients) (came : Came) (ticket client timestamp : ℕ) (text : List ℕ) : Type 0 where
@@ -64,6 +64,13 @@ pub record IsSignedFor (clients : Clients) (came : Came) (ticket client timestam
   pub signed : Signed Message
   pub is_signed : signed_request clients (record { client = client; timestamp = timestamp; call = call.bytes }) ≡ Some signed
   pub is_text : text ≡ signed_text signed
+
+-- the text of a request that a client signed for a call
+pub record IsRequest (clients : Clients) (came : Came) (text : List ℕ) : Type 0 where
+  pub ticket : ℕ
+  pub client : ℕ
+  pub timestamp : ℕ
+  pub asked : IsSignedFor clients came ticket client timestamp text
 
 -- a client accepts it, as the result of the request that was signed for that ticket
 pub record IsAgreed (clients : Clients) (came : Came) (ticket : ℕ) (reply : List ℕ) : Type 0 where
@@ -88,6 +95,7 @@ pub record IsAnswer (clients : Clients) (came : Came) (ticket : ℕ) (payload : 
   pub origin : IsAgreed clients came ticket reply ⊎ IsOwn came ticket reply
 
 abbrev pub HasOriginTo : Clients → Came → To → (payload : List ℕ) → Type 0
+HasOriginTo clients came Replicas payload = IsRequest clients came payload
 HasOriginTo clients came (Caller ticket) payload = IsAnswer clients came ticket payload
 HasOriginTo clients came _ payload = Unit {0}
 
@@ -101,7 +109,7 @@ abbrev pub told_in : Relay → List Turn → List Told
 told_in relay [] = []
 told_in relay (turn ∷ turns) = (turned turn relay).told ++ told_in (record (turned turn relay) { told = [] }) turns
 
--- whatever comes, each answer has its origin in what came
-abbrev pub AnswersHaveOrigins : Type 0
-AnswersHaveOrigins = (clients : Clients) (counters : List Counter) (came : Came) (turns : List Turn) → All (TurnCame came) turns
+-- whatever comes, all that is told has its origin in it
+abbrev pub WhatIsToldHasItsOrigin : Type 0
+WhatIsToldHasItsOrigin = (clients : Clients) (counters : List Counter) (came : Came) (turns : List Turn) → All (TurnCame came) turns
     → All (HasOrigin clients came) (told_in (new_relay clients counters) turns)

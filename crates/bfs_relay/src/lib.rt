@@ -12,5 +12,5 @@ mod relay;
 mod seats;
 mod turns;
 
-pub use laws::answers_have_origins;
+pub use laws::what_is_told_has_its_origin;
 pub use relay::{MOST_WAITING, Relay};
