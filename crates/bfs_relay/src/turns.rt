@@ -19,7 +19,8 @@ use std::thread::Threads;
 impl Relay {
     /// Takes a turn, and gives what is to be told: it hears the replies, then takes the calls, then asks again where a result was waited for long
     /// enough. Frames of other kinds are passed over, and frames that spell nothing. The keyed hashes of replies are checked by as many threads as there
-    /// are processors, unless there is too little to hash for them. `Memory` if memory runs out; then a part of the turn is taken.
+    /// are processors, unless there is too little to hash for them. `Memory` if memory runs out; then a part of the turn is taken, and what it tells is told in
+    /// the next one.
     pub fn turn(&mut self, rt: &(impl Threads + Sync), turn: &Turn) -> Result<Vec<Parcel>, Memory>
         ensures relay { OnOk result (self.new ≡ record (model.turned turn.now self.old) { told = [] }) }
         ensures told { IfOk result (λ parcels. map told_by parcels.items ≡ (model.turned turn.now self.old).told) }
