@@ -1,0 +1,8 @@
+use Rattle.std.proofs.Common.{◌≡◌, ℕ, List, length, sym, arith}
+use Rattle.std.proofs.lemmas.Nat.{be_bytes_4}
+use Rattle.bfs_model.specs.Bytes.Items.{word}
+use Rattle.bfs_frames.proofs.input.word_of.Goals as goal
+
+pub returns : goal.returns
+unfolding word
+returns c = be_bytes_4 c.args.bytes.now c.from_be_bytes.result c.requires (λ i. omega (arith, c.type_inv.bytes i)) c.from_be_bytes.ensures

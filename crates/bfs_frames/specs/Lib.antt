@@ -1,0 +1,5 @@
+-- What the contracts of bfs_frames cite.
+pub mod Kinds
+pub mod Frames
+pub mod Cuts
+pub mod Parcels

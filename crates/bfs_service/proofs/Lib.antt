@@ -1,0 +1,2 @@
+-- What proofs share.
+pub mod Going

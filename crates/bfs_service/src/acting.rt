@@ -1,0 +1,49 @@
+// The node of a replica in a turn: its calls, one after another, and what they gave to be sent.
+ghost use Rattle.std.specs.Prelude.{OnOk};
+ghost use Rattle.bfs_service.specs.Acting.{GoesOn, IsStepOf};
+
+use bfs_messages::{Message, Signed};
+use bfs_node::{Executor, NoGate, Node, NodeError};
+use bfs_nodes_agree::node_calls::performing::{NodeCall, Sent, perform};
+use bfs_types::Memory;
+use std::alloc::Global;
+use std::marker::Model;
+use std::sync::Wait;
+use std::thread::Threads;
+
+/// A node, by what it executes, and what its calls gave to be sent.
+#[derive(Drop)]
+pub(crate) struct Actor {
+    node: Node,
+    executor: Executor,
+    sent: Vec<Signed<Message>>,
+}
+
+impl Model for Actor {
+    ghost use Rattle.bfs_service.specs.Acting as model;
+
+    ghost Value = { model.Acting };
+
+    ghost view = { λ actor. record { node = actor.node; sent = actor.sent.items } };
+}
+
+impl Actor {
+    // Makes a call, and tells whether it was taken. `Memory` if memory runs out: nothing that is left is to be used then.
+    fn act<R: Threads + Wait + Sync>(&mut self, rt: &R, call: NodeCall<'_>) -> Result<bool, Memory>
+        ensures { OnOk result (GoesOn (IsStepOf call.entry) self.old self.new) }
+    {
+        match perform(&mut self.node, rt, self.executor, &NoGate, call) {
+            Ok(Sent::Nothing) => Ok(true),
+            Ok(Sent::One(signed)) => {
+                self.sent.push(signed)?;
+                Ok(true)
+            }
+            Ok(Sent::All(mut all)) => {
+                self.sent.append(&mut all)?;
+                Ok(true)
+            }
+            Err(NodeError::Memory) => Err(Memory),
+            Err(_) => Ok(false),
+        }
+    }
+}
