@@ -10,3 +10,4 @@ mod Repeated
 mod Rewriting
 mod Readers
 mod Using
+mod Making

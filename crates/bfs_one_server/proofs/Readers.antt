@@ -1,5 +1,5 @@
 -- Who reads behind a WRITE reads what was written.
-use Rattle.std.proofs.Common.{◌≡◌, ◌∙◌, ℕ, ◌+◌, ◌-◌, ◌<◌, ◌≤◌, ◌==◌, Bool, true, false, cond, List, [], ◌∷◌, ◌++◌, length, take, drop, replicate, Option, Some, None, Result, Ok, Err, nat_lt, not, refl, sym, ap, subst, append-nil, arith}
+use Rattle.std.proofs.Common.{◌≡◌, ◌∙◌, ℕ, ◌+◌, ◌-◌, ◌<◌, ◌≤◌, ◌==◌, Bool, true, false, List, [], ◌∷◌, ◌++◌, length, take, drop, replicate, Option, Some, Result, Ok, Err, nat_lt, not, refl, sym, ap, subst, append-nil, arith}
 use Rattle.std.specs.Prelude.{min}
 use Rattle.std.specs.Bool.{⊤}
 use Rattle.std.specs.FinMap.{get}
@@ -36,7 +36,7 @@ serves_behind m o (e ∷ front) rest serves = serves_behind (answer m o e.time e
 pub answers_behind_all : AnswersBehindAll
 answers_behind_all m o front e back serves = (serves_behind m o front (e ∷ back) serves).0
 
-servable_behind : (m : Inodes) (o : ℕ) (front : List Effect) → IsServable m o → IsServable (inodes_by m o front) (ordinal_by o front)
+pub servable_behind : (m : Inodes) (o : ℕ) (front : List Effect) → IsServable m o → IsServable (inodes_by m o front) (ordinal_by o front)
 servable_behind m o [] good = good
 servable_behind m o (e ∷ front) good = servable_behind (answer m o e.time e.request.call).0 (ordinal_after o 1) front (answer_keeps m o e.time e.request.call good)
 
@@ -55,7 +55,7 @@ behind_header : (xid : ℕ) (bytes : List ℕ) → drop 24 (success xid bytes) �
 unfolding success word
 behind_header xid bytes = refl
 
-abbrev under : (o : ℕ) → Effect → rpc.Request → Context
+abbrev pub under : (o : ℕ) → Effect → rpc.Request → Context
 under o e request = record { ordinal = o; time = e.time; caller = request.credential }
 
 -- what the server does and replies to a request that spells a call
@@ -65,13 +65,13 @@ unfolding answer
 answer_is m o e request call spells = ap (answer_call m o e.time) spells.header ∙ ap (answer_arguments m o e.time request) spells.arguments
 
 -- where the reply tells so, it was done
-record WasDone (m : Inodes) (o : ℕ) (e : Effect) (request : rpc.Request) (call : Call) : Type 0 where
-  x : Outcome
-  attempt : attempted m (under o e request) call ≡ Ok x
-  leaves : (answer m o e.time e.request.call).0 ≡ x.0
-  replies : e.reply ≡ success request.xid (results x.1)
+pub record WasDone (m : Inodes) (o : ℕ) (e : Effect) (request : rpc.Request) (call : Call) : Type 0 where
+  pub x : Outcome
+  pub attempt : attempted m (under o e request) call ≡ Ok x
+  pub leaves : (answer m o e.time e.request.call).0 ≡ x.0
+  pub replies : e.reply ≡ success request.xid (results x.1)
 
-was_done : (m : Inodes) (o : ℕ) (e : Effect) (request : rpc.Request) (call : Call) → e.reply ≡ (answer m o e.time e.request.call).1 → Spells e request call → IsDone e → WasDone m o e request call
+pub was_done : (m : Inodes) (o : ℕ) (e : Effect) (request : rpc.Request) (call : Call) → e.reply ≡ (answer m o e.time e.request.call).1 → Spells e request call → IsDone e → WasDone m o e request call
 was_done m o e request call reply spells done =
     let attempt = attempted m (under o e request) call in
     let both = answer_is m o e request call spells in
@@ -104,7 +104,7 @@ rewriting_tells m c id call x rewriting is = absurd cc
 spared : (m : Inodes) (o : ℕ) (e : Effect) (id : ℕ) (bytes : List ℕ) → (o ≡ id → ⊥) → e.reply ≡ (answer m o e.time e.request.call).1
     → ((request : rpc.Request) (call : Call) → Spells e request call → IsDone e → rewrites id call ≡ false) → Keeps id bytes m → Keeps id bytes (answer m o e.time e.request.call).0
 unfolding answer
-spared m o e id bytes older reply spares held = by_call (call_of e.request.call) refl
+spared m o e id bytes older reply spares held = grind (arith, by_call)
   where
     by_attempt : (request : rpc.Request) (call : Call) → Spells e request call → (attempt : Result Outcome Status) → attempted m (under o e request) call ≡ attempt → Keeps id bytes (or_refused m attempt).0
     by_attempt request call spells (Err status) is = held
@@ -117,13 +117,8 @@ spared m o e id bytes older reply spares held = by_call (call_of e.request.call)
         go false rewriting = rewriting
         go true rewriting = spares request call spells (request.xid, drop 4 (results x.1), told ∙ ap (success request.xid) (rewriting_tells m (under o e request) id call x rewriting is))
 
-    by_arguments : (request : rpc.Request) → call_of e.request.call ≡ Ok request → (call : Option Call) → arguments_of request.procedure request.arguments ≡ call → Keeps id bytes (answer_arguments m o e.time request call).0
-    by_arguments request header None is = held
-    by_arguments request header (Some call) is = by_attempt request call (record { header = header; arguments = is }) (attempted m (under o e request) call) refl
-
-    by_call : (call : Result rpc.Request rpc.Refusal) → call_of e.request.call ≡ call → Keeps id bytes (answer_call m o e.time call).0
-    by_call (Err refusal) is = held
-    by_call (Ok request) is = by_arguments request is (arguments_of request.procedure request.arguments) refl
+    by_call : (request : rpc.Request) (call : Call) → call_of e.request.call ≡ Ok request → arguments_of request.procedure request.arguments ≡ Some call → Keeps id bytes (procedure m (under o e request) call).0
+    by_call request call header arguments = by_attempt request call (record { header = header; arguments = arguments }) (attempted m (under o e request) call) refl
 
 all_spared : (m : Inodes) (o : ℕ) (id : ℕ) (bytes : List ℕ) (middle rest : List Effect) → id < o → o ≤ spent_ordinal → Serves m o (middle ++ rest) → NoneRewrites id middle → Keeps id bytes m → Keeps id bytes (inodes_by m o middle)
 all_spared m o id bytes [] rest older most serves spares held = held
@@ -157,21 +152,17 @@ part_is_there offset first (p ∷ more) last bytes few =
     let written : List ℕ = first ++ part ++ last in
     let front : List ℕ = take offset (filled_to offset bytes) in
     let behind : List ℕ = drop (offset + length written) bytes in
-    let count : length written ≡ length first + length part + length last = length-append (first ++ part) last ∙ ap (λ (n : ℕ). n + length last) (length-append first part) in
+    let count : length written ≡ length first + length part + length last = simp length-append in
     let some : (length written == 0) ≡ false = ne_eqb (length written) 0 (λ is. absurd (omega arith)) in
     let long : length front ≡ offset = length-take-le offset (filled_to offset bytes) (omega (arith, length-append bytes (replicate (offset - length bytes) 0), length-replicate {A = ℕ} (offset - length bytes) 0)) in
-    let at : length (front ++ first) ≡ offset + length first = length-append front first ∙ ap (λ (n : ℕ). n + length first) long in
+    let at : length (front ++ first) ≡ offset + length first = simp (length-append, long) in
     let parted : front ++ written ++ behind ≡ (front ++ first) ++ (part ++ (last ++ behind)) = simp append_assoc in
     let least : min (length part) most_data_bytes ≡ length part = omega arith in
-    ap (λ (b : Bool). take (min (length part) most_data_bytes) (drop (offset + length first) (cond b bytes (front ++ written ++ behind)))) some
-    ∙ ap (λ (n : ℕ). take n (drop (offset + length first) (front ++ written ++ behind))) least
-    ∙ ap (λ (l : List ℕ). take (length part) (drop (offset + length first) l)) parted
-    ∙ ap (λ (l : List ℕ). take (length part) l) (drop_at (front ++ first) (part ++ (last ++ behind)) (offset + length first) at)
-    ∙ take_at part (last ++ behind) (length part) refl
+    rw (some, least, parted, drop_at (front ++ first) (part ++ (last ++ behind)) (offset + length first) at, take_at part (last ++ behind) (length part) refl) refl
 
-found : (step : Result FoundFile Status) (next : FoundFile → Result Outcome Status) (x : Outcome) → (step >>= next) ≡ Ok x → (old : FoundFile) × (step ≡ Ok old)
-found (Ok old) next x is = (old, refl)
-found (Err status) next x is = absurd cc
+pub then_was : {X Y : Type 0} (step : Result X Status) (next : X → Result Y Status) (y : Y) → (step >>= next) ≡ Ok y → (x : X) × (step ≡ Ok x) × (next x ≡ Ok y)
+then_was (Ok x) next y is = (x, refl, is)
+then_was (Err status) next y is = absurd cc
 
 is_there : (m : Inodes) (id : ℕ) (old : FoundFile) → file_found m (Some id) ≡ Ok old → get m id ≡ Some old.inode
 is_there m id old is = grind arith
@@ -198,13 +189,13 @@ readers_see_parts files front writing middle reading back one other id offset fi
     let from = serves_behind files.tree files.next_ordinal front (writing ∷ (middle ++ reading ∷ back)) serves in
     let answered = serves_behind after (ordinal_after o 1) middle (reading ∷ back) from.1 in
     let first_done = was_done m o writing one (write (Some id) offset written) from.0 writes wrote in
-    let old = found (file_found m (Some id)) _ first_done.x first_done.attempt in
+    let old = then_was (file_found m (Some id)) _ first_done.x first_done.attempt in
     let older : id < o = (good.numbered id old.0.inode (is_there m id old.0 old.1)).fileid.1 in
     let bytes : List ℕ = overwritten offset written old.0.bytes in
     let left : Keeps id bytes after = subst (Keeps id bytes) (sym first_done.leaves) (write_keeps m (under o writing one) id offset written old.0 first_done.x old.1 first_done.attempt) in
     let kept : Keeps id bytes now = all_spared after (ordinal_after o 1) id bytes middle (reading ∷ back) (omega arith) (omega arith) from.1 spares left in
     let then_done = was_done now at reading other (read (Some id) (offset + length first) (length part)) answered.0 reads done in
-    let new = found (file_found now (Some id)) _ then_done.x then_done.attempt in
+    let new = then_was (file_found now (Some id)) _ then_done.x then_done.attempt in
     let told = read_gives now (under at reading other) id (offset + length first) (length part) bytes new.0 then_done.x new.1 then_done.attempt kept in
     subst (Gives reading other.xid) (part_is_there offset first part last old.0.bytes (written_is_short one.procedure one.arguments (Some id) offset written writes.arguments))
     (attributes_of id new.0.inode, then_done.replies ∙ ap (λ (r : Reply). success other.xid (results r)) told)

@@ -7,3 +7,4 @@ pub mod Counters
 pub mod Examples
 pub mod Reading
 pub mod Users
+pub mod Creating

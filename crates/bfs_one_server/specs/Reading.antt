@@ -12,7 +12,7 @@ use Rattle.bfs_model.specs.Server.Tree.{FileSystem, Inodes}
 use Rattle.bfs_model.specs.Server.WellFormed.{IsWellFormed}
 use Rattle.bfs_one_server.specs.Serving.{Effect, Serves}
 
--- The inodes, and the next ordinal, once one server has answered requests
+-- the inodes, and the next ordinal, once one server has answered requests
 abbrev pub inodes_by : Inodes → (ordinal : ℕ) → List Effect → Inodes
 inodes_by inodes ordinal [] = inodes
 inodes_by inodes ordinal (e ∷ more) = inodes_by (answer inodes ordinal e.time e.request.call).0 (ordinal_after ordinal 1) more
@@ -49,7 +49,8 @@ rewrites id call = false
 
 -- none of them that is done is such a request
 abbrev pub NoneRewrites : (id : ℕ) → List Effect → Type 0
-NoneRewrites id effects = AllByRecursion (λ (e : Effect). (request : rpc.Request) (call : Call) → Spells e request call → IsDone e → IsFalse (rewrites id call)) effects
+NoneRewrites id effects =
+    AllByRecursion (λ (e : Effect). (request : rpc.Request) (call : Call) → Spells e request call → IsDone e → IsFalse (rewrites id call)) effects
 
 -- A READ behind a WRITE --------------------------------------------------------------------------------------------------
 

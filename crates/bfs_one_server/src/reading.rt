@@ -1,4 +1,5 @@
 // What users read from one server. The bodies do nothing: what is said is the contracts.
+ghost use Rattle.bfs_one_server.specs.Creating.{CreatesMakeFiles};
 ghost use Rattle.bfs_one_server.specs.Reading.{AnswersBehindAll, ReadersSeeParts, ReadersSeeWrites};
 ghost use Rattle.bfs_one_server.specs.Users.{AcceptedWritesAreRead, RequestsTakeEffectOnce};
 
@@ -10,8 +11,8 @@ pub fn answers_stand_behind_all()
     ensures { AnswersBehindAll }
 {}
 
-/// Where a WRITE was done, and no request behind it writes the file or sets its size, a READ of as many bytes from there that is
-/// done gives the bytes that were written (RFC 1094 sections 2.2.7 and 2.2.9).
+/// A READ that is done, of as many bytes as a WRITE wrote that was done before it, and from where it wrote them, gives these bytes, unless
+/// a request between them wrote the file or set its size (RFC 1094 sections 2.2.3, 2.2.7 and 2.2.9).
 pub fn readers_see_writes()
     ensures { ReadersSeeWrites }
 {}
@@ -19,6 +20,12 @@ pub fn readers_see_writes()
 /// And a READ of a part of them gives that part.
 pub fn readers_see_parts_of_writes()
     ensures { ReadersSeeParts }
+{}
+
+/// A CREATE that is done makes one file and no other inode, under its name in the directory, and its reply has the file's handle (RFC 1094
+/// section 2.2.10).
+pub fn creates_make_files()
+    ensures { CreatesMakeFiles }
 {}
 
 /// A WRITE and a READ of the same place, of whichever correct clients, the READ signed once the WRITE was accepted: where no request that takes effect

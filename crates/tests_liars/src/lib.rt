@@ -2,16 +2,8 @@
 #![tactic(auto)]
 
 #[cfg(test)]
-mod checks;
-#[cfg(test)]
-mod liars;
-#[cfg(test)]
-mod lies;
+mod playing;
 #[cfg(test)]
 mod schedules;
 #[cfg(test)]
 mod scripts;
-#[cfg(test)]
-mod steps;
-#[cfg(test)]
-mod world;

@@ -1,7 +1,7 @@
 //! No two replicas that don't lie come to different things, in any of many schedules.
-use crate::checks::Seen;
-use crate::steps::play_all;
+use crate::playing::play_all;
 use bfs_testing::same;
+use bfs_testing_liars::checks::Seen;
 use bfs_types::Memory;
 use std::alloc::Global;
 use std::sync::Wait;

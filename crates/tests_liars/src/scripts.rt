@@ -1,12 +1,13 @@
 //! Two worked scripts among four replicas: a primary that proposes two batches for a number, and a checkpoint with an entry that is wrong for its receiver.
-use crate::checks::Set;
-use crate::liars::{Liar, batch_of, spoiled};
-use crate::steps::{draws_of, run_up};
-use crate::world::World;
+use crate::playing::{members, run_up};
 use bfs_codec::encode;
 use bfs_log::StableCheckpoint;
 use bfs_messages::{Message, Signed, Vote};
 use bfs_testing::same;
+use bfs_testing_liars::draws::draws_of;
+use bfs_testing_liars::liars::{Liar, batch_of, spoiled};
+use bfs_testing_liars::sets::Set;
+use bfs_testing_liars::world::World;
 use bfs_testing_nodes::calls::deliver;
 use bfs_testing_nodes::snapshots::{adopt, snapshot_of};
 use bfs_types::{Memory, TryClone};
@@ -115,8 +116,8 @@ fn first_wrong<R: Threads + Wait + Sync>(
     alloc: Global,
     steps: &[Step],
 ) -> Result<Option<usize>, Memory> {
-    let liar = Liar::new(alloc, 1, 0)?;
-    let mut world = World::new(alloc, 1, Set::of(0))?;
+    let liar = Liar::new(alloc, members(1), 0)?;
+    let mut world = World::new(alloc, members(1), Set::of(0))?;
     for (place, step) in steps.iter().enumerate() {
         if !happens(rt, &mut world, &liar, *step)? {
             return Ok(Some(place));
@@ -173,7 +174,7 @@ fn two_adoptions<R: Threads + Wait + Sync>(
     alloc: Global,
 ) -> Result<(u32, u64, u32, u64), Memory> {
     let mut draws = draws_of(1);
-    let mut world = World::new(alloc, 1, Set(0))?;
+    let mut world = World::new(alloc, members(1), Set(0))?;
     run_up(rt, &mut world, &mut draws, Set(0b0111), 17)?;
     let first = adopted(rt, &mut world, Set(0b1000))?;
     let before = world.last(3);

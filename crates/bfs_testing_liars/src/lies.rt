@@ -1,32 +1,35 @@
 //! Which lies are told, to whom, and when.
-use crate::checks::Set;
-use crate::liars::{Liar, as_message, batch_of, changes_with, spoiled};
-use crate::steps::{any_of, below, happens, some};
+use crate::draws::{any_of, below, happens, some};
+use crate::liars::{Liar, as_message, batch_of, spoiled};
+use crate::past::changes_with;
+use crate::sets::Set;
 use crate::world::World;
-use bfs_messages::{Message, OrderMessage, Signed, ViewChange, Vote};
+use bfs_messages::{Message, OrderMessage, OrderedBatch, Signed, ViewChange, Vote};
 use bfs_testing::generated::Generator;
+use bfs_testing_nodes::members::Members;
 use bfs_types::Memory;
 use std::alloc::Global;
+use std::sync::Arc;
 
 /// Those that lie.
 #[derive(Drop)]
 pub struct Lying {
-    liars: Vec<Liar>,
+    pub liars: Vec<Liar>,
 }
 
 impl Lying {
-    pub fn new(alloc: Global, f: u32, of: Set) -> Result<Lying, Memory> {
+    pub fn new(alloc: Global, members: Members, of: Set) -> Result<Lying, Memory> {
         let mut liars = Vec::new(alloc);
         for number in 0..32u32 {
             if of.has(number as usize) {
-                liars.push(Liar::new(alloc, f, number)?)?;
+                liars.push(Liar::new(alloc, members, number)?)?;
             }
         }
         Ok(Lying { liars })
     }
 
-    // the one of that number
-    fn of(&self, number: usize) -> Option<&Liar> {
+    /// The one of that number.
+    pub fn of(&self, number: usize) -> Option<&Liar> {
         for liar in &self.liars {
             if liar.number as usize == number {
                 return Some(liar);
@@ -35,14 +38,15 @@ impl Lying {
         None
     }
 
-    fn any(&self, draws: &mut Generator) -> Option<&Liar> {
+    /// Any of them.
+    pub fn any(&self, draws: &mut Generator) -> Option<&Liar> {
         let place = any_of(draws, self.liars.len());
         self.liars.get(place)
     }
 }
 
-// a message of a liar goes to some, now and then with entries that are wrong for some
-fn tell(
+/// A message of a liar goes to some, now and then with entries that are wrong for some.
+pub fn tell(
     world: &mut World,
     draws: &mut Generator,
     signed: Signed<Message>,
@@ -55,8 +59,8 @@ fn tell(
     world.put(&signed, to, true)
 }
 
-// all liars vote for a batch, with some replicas
-fn vote(
+/// All liars vote for a batch, with some replicas.
+pub fn vote(
     world: &mut World,
     draws: &mut Generator,
     lying: &Lying,
@@ -92,7 +96,7 @@ fn support(world: &mut World, draws: &mut Generator, lying: &Lying) -> Result<()
 
 // a liar votes in another one's name
 fn forge(world: &mut World, draws: &mut Generator, lying: &Lying) -> Result<(), Memory> {
-    let other = below(draws, 3 * (world.f % 11) + 1);
+    let other = below(draws, 3 * (world.members.f % 11) + 1);
     let (Some(liar), Some(on)) = (lying.any(draws), proposed(world, draws)) else {
         return Ok(());
     };
@@ -102,18 +106,31 @@ fn forge(world: &mut World, draws: &mut Generator, lying: &Lying) -> Result<(), 
     tell(world, draws, commit, Set::ALL)
 }
 
-// a batch for a number goes to some, and the liars vote for it with them
+// a batch without requests for a number goes to some, and the liars vote for it with them
 fn propose(
     world: &mut World,
     draws: &mut Generator,
     lying: &Lying,
     liar: &Liar,
-    (view, number): (u64, u64),
+    at: (u64, u64),
     to: Set,
 ) -> Result<(), Memory> {
     let second = if happens(draws, 20) { 0 } else { world.tick() };
     let batch = batch_of(world.alloc, second)?;
-    let proposal = liar.proposal(view, number, &batch)?;
+    propose_batch(world, draws, lying, liar, at, &batch, to)
+}
+
+/// A batch for a view and number goes to some, and the liars vote for it with them.
+pub fn propose_batch(
+    world: &mut World,
+    draws: &mut Generator,
+    lying: &Lying,
+    liar: &Liar,
+    (view, number): (u64, u64),
+    batch: &Arc<OrderedBatch>,
+    to: Set,
+) -> Result<(), Memory> {
+    let proposal = liar.proposal(view, number, batch)?;
     let on = match &proposal.message {
         Message::Order(OrderMessage::PrePrepare(proposal)) => *proposal.vote(),
         _ => return Ok(()),
@@ -122,8 +139,8 @@ fn propose(
     vote(world, draws, lying, &on, to)
 }
 
-// a number that is next for some replica, or near it
-fn number_near(world: &World, draws: &mut Generator, one: usize) -> u64 {
+/// A number that is next for a replica, or near it.
+pub fn number_near(world: &World, draws: &mut Generator, one: usize) -> u64 {
     let last = world.last(one);
     match below(draws, 4) {
         0 => last.saturating_add(2),
@@ -146,8 +163,8 @@ fn equivocate(world: &mut World, draws: &mut Generator, lying: &Lying) -> Result
     propose(world, draws, lying, liar, (view, number), others)
 }
 
-// the others, or any, so that some hear both of two lies
-fn others_or_any(draws: &mut Generator, to: Set) -> Set {
+/// The others, or any, so that some hear both of two lies.
+pub fn others_or_any(draws: &mut Generator, to: Set) -> Set {
     if happens(draws, 50) {
         to.others()
     } else {

@@ -1,33 +1,10 @@
 //! What is checked: that replicas that don't lie execute one batch for each number and come to one digest behind it, over all views, and give a
 //! request one result; and that none of them takes two digests of one sender for one place.
-use crate::world::Head;
+use crate::heads::Head;
+use crate::sets::Set;
 use bfs_messages::Reply;
 use bfs_types::Memory;
 use std::alloc::Global;
-
-/// Replicas, as bits.
-#[derive(Clone, Copy, Debug, PartialEq, Eq)]
-pub struct Set(pub u32);
-
-impl Set {
-    pub const ALL: Set = Set(0xffffffff);
-
-    pub fn of(number: usize) -> Set {
-        Set(1 << (number % 32))
-    }
-
-    pub fn has(self, number: usize) -> bool {
-        self.0 & Set::of(number).0 != 0
-    }
-
-    pub fn with(self, number: usize) -> Set {
-        Set(self.0 | Set::of(number).0)
-    }
-
-    pub fn others(self) -> Set {
-        Set(self.0 ^ Set::ALL.0)
-    }
-}
 
 /// What came about, that a schedule without events does not pass for a good one.
 #[derive(Clone, Copy, Debug, PartialEq, Eq)]
@@ -84,12 +61,12 @@ struct Executed {
     batch: [u8; 32],
 }
 
-// A result of a client's request.
+/// A result of a client's request.
 #[derive(Drop)]
-struct Answer {
-    client: u32,
-    timestamp: u64,
-    result: Vec<u8>,
+pub struct Answer {
+    pub client: u32,
+    pub timestamp: u64,
+    pub result: Vec<u8>,
 }
 
 /// What replicas that don't lie have come to.
@@ -173,6 +150,31 @@ impl Record {
         }
         self.executed.push(Executed { number, batch })?;
         Ok(())
+    }
+
+    /// The digest of the batch that was executed for a number.
+    pub fn batch_at(&self, number: u64) -> Option<[u8; 32]> {
+        for executed in &self.executed {
+            if executed.number == number {
+                return Some(executed.batch);
+            }
+        }
+        None
+    }
+
+    /// The digest behind a number.
+    pub fn digest_at(&self, number: u64) -> Option<[u8; 32]> {
+        for behind in &self.behind {
+            if behind.number == number {
+                return Some(behind.digest);
+            }
+        }
+        None
+    }
+
+    /// What replicas that don't lie have told clients, once for each client and timestamp.
+    pub fn answers(&self) -> &[Answer] {
+        self.answers.as_slice()
     }
 
     /// A replica takes a message that tells a digest.

@@ -1,13 +1,15 @@
 //! What liars sign, under their own names and under others'.
-use crate::checks::Set;
-use crate::world::{Head, World, members};
-use bfs_auth::{Authenticator, Keys};
-use bfs_codec::decode;
+use crate::past::{checkpoints_of, has_sender, prepares_on, proposal_on};
+use crate::sets::Set;
+use crate::world::World;
+use bfs_auth::{Authenticator, Keys, sign_text_for_client};
 use bfs_messages::{
-    Checkpoint, Message, NewView, OrderMessage, OrderedBatch, PrePrepare, PreparedBatch, Signed,
-    ViewChange, Vote, sign_new_view, sign_order, sign_prepare, sign_proposal, sign_view_change,
+    Checkpoint, Message, NewView, OrderMessage, OrderedBatch, PrePrepare, PreparedBatch, Reply,
+    Signed, ViewChange, Vote, sign_new_view, sign_order, sign_prepare, sign_proposal,
+    sign_view_change,
 };
-use bfs_types::{Memory, Time};
+use bfs_testing_nodes::members::Members;
+use bfs_types::{MOST_REPLY_BYTES, Memory, Time};
 use bfs_view_change::{choice_of, make_new_view};
 use std::alloc::Global;
 use std::sync::Arc;
@@ -49,11 +51,11 @@ pub fn spoiled<T: Drop>(alloc: Global, signed: Signed<T>, wrong: Set) -> Result<
 }
 
 impl Liar {
-    pub fn new(alloc: Global, f: u32, number: u32) -> Result<Liar, Memory> {
+    pub fn new(alloc: Global, members: Members, number: u32) -> Result<Liar, Memory> {
         Ok(Liar {
             alloc,
             number,
-            keys: members(f).keys_of(alloc, number)?,
+            keys: members.keys_of(alloc, number)?,
         })
     }
 
@@ -89,6 +91,23 @@ impl Liar {
     pub fn checkpoint(&self, number: u64, digest: [u8; 32]) -> Result<Signed<Message>, Memory> {
         let checkpoint = Checkpoint::new(self.number, number % (1 << 63), digest);
         self.sign(OrderMessage::Checkpoint(checkpoint))
+    }
+
+    /// A REPLY to a client in a replica's name.
+    pub fn reply(
+        &self,
+        sender: u32,
+        client: u32,
+        timestamp: u64,
+        bytes: &[u8],
+    ) -> Result<Signed<Message>, Memory> {
+        if client as usize >= self.keys.clients() || bytes.len() > MOST_REPLY_BYTES {
+            return Err(Memory);
+        }
+        let reply = Reply::new(self.alloc, sender, 0, client, timestamp, bytes)?;
+        let message = Message::Reply(reply);
+        let auth = sign_text_for_client(self.alloc, &self.keys, client, &message)?;
+        Ok(Signed { message, auth })
     }
 
     fn change(
@@ -211,143 +230,6 @@ impl Liar {
         let new = sign_new_view(self.alloc, &self.keys, new)?;
         Ok(new_as_message(new))
     }
-}
-
-fn has_sender(prepares: &[Signed<Vote>], sender: u32) -> bool {
-    for signed in prepares {
-        if signed.message.sender() == sender {
-            return true;
-        }
-    }
-    false
-}
-
-fn is_on(head: &Head, kind: u32, on: &Vote) -> bool {
-    head.kind == kind
-        && head.view == on.view()
-        && head.number == on.number()
-        && head.digest == *on.digest()
-}
-
-fn read(alloc: Global, bytes: &[u8]) -> Result<Signed<Message>, Memory> {
-    match decode(alloc, bytes) {
-        Ok(signed) => Ok(signed),
-        Err(_) => Err(Memory),
-    }
-}
-
-fn proposal_in(signed: Signed<Message>) -> Option<Signed<PrePrepare>> {
-    let Signed { message, auth } = signed;
-    match message {
-        Message::Order(OrderMessage::PrePrepare(message)) => Some(Signed { message, auth }),
-        _ => None,
-    }
-}
-
-fn prepare_in(signed: Signed<Message>) -> Option<Signed<Vote>> {
-    let Signed { message, auth } = signed;
-    match &message {
-        Message::Order(OrderMessage::Prepare(vote)) => Some(Signed {
-            message: *vote,
-            auth,
-        }),
-        _ => None,
-    }
-}
-
-fn checkpoint_in(signed: Signed<Message>) -> Option<Signed<Checkpoint>> {
-    let Signed { message, auth } = signed;
-    match &message {
-        Message::Order(OrderMessage::Checkpoint(checkpoint)) => Some(Signed {
-            message: *checkpoint,
-            auth,
-        }),
-        _ => None,
-    }
-}
-
-fn change_in(signed: Signed<Message>) -> Option<Signed<ViewChange>> {
-    let Signed { message, auth } = signed;
-    match message {
-        Message::ViewChange(message) => Some(Signed { message, auth }),
-        _ => None,
-    }
-}
-
-// the PRE-PREPARE of that sender
-fn proposal_on(world: &World, on: &Vote) -> Result<Option<Signed<PrePrepare>>, Memory> {
-    for sent in &world.sent {
-        if is_on(&sent.head, 2, on) && sent.head.sender == on.sender() {
-            return Ok(proposal_in(read(world.alloc, &sent.bytes)?));
-        }
-    }
-    Ok(None)
-}
-
-// one of each sender
-fn prepares_on(world: &World, on: &Vote) -> Result<Vec<Signed<Vote>>, Memory> {
-    let mut prepares = Vec::new(world.alloc);
-    for sent in &world.sent {
-        if is_on(&sent.head, 3, on) && !has_sender(&prepares, sent.head.sender) {
-            if let Some(prepare) = prepare_in(read(world.alloc, &sent.bytes)?) {
-                prepares.push(prepare)?;
-            }
-        }
-    }
-    Ok(prepares)
-}
-
-// one of each sender, whatever it tells
-fn checkpoints_of(world: &World, number: u64) -> Result<Vec<Signed<Checkpoint>>, Memory> {
-    let mut checkpoints = Vec::new(world.alloc);
-    let mut seen = Set(0);
-    for sent in &world.sent {
-        let sender = sent.head.sender as usize;
-        if sent.head.kind == 5 && sent.head.number == number && !seen.has(sender) {
-            seen = seen.with(sender);
-            if let Some(checkpoint) = checkpoint_in(read(world.alloc, &sent.bytes)?) {
-                checkpoints.push(checkpoint)?;
-            }
-        }
-    }
-    Ok(checkpoints)
-}
-
-/// A VIEW-CHANGE of a liar with those of others for its view, of at most 2f senders, which those that are preferred come first of.
-pub fn changes_with(
-    world: &World,
-    own: Signed<ViewChange>,
-    preferred: Set,
-) -> Result<Vec<Signed<ViewChange>>, Memory> {
-    let mut seen = Set::of(own.message.sender() as usize);
-    let view = own.message.view();
-    let mut changes = Vec::new(world.alloc);
-    changes.push(own)?;
-    seen = add_changes(world, view, preferred, seen, &mut changes)?;
-    add_changes(world, view, Set::ALL, seen, &mut changes)?;
-    Ok(changes)
-}
-
-// those of some senders who have none there yet, and who has then
-fn add_changes(
-    world: &World,
-    view: u64,
-    of: Set,
-    mut seen: Set,
-    changes: &mut Vec<Signed<ViewChange>>,
-) -> Result<Set, Memory> {
-    let quorum = world.nodes.len() / 3 * 2 + 1;
-    for sent in &world.sent {
-        let sender = sent.head.sender as usize;
-        let is_due = sent.head.kind == 6 && sent.head.view == view && of.has(sender);
-        if is_due && !seen.has(sender) && changes.len() < quorum {
-            seen = seen.with(sender);
-            if let Some(change) = change_in(read(world.alloc, &sent.bytes)?) {
-                changes.push(change)?;
-            }
-        }
-    }
-    Ok(seen)
 }
 
 fn new_as_message(new: Signed<NewView>) -> Signed<Message> {
