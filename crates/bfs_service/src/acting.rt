@@ -1,5 +1,6 @@
 // The node of a replica in a turn: its calls, one after another, and what they gave to be sent.
-ghost use Rattle.std.specs.Prelude.{OnOk};
+ghost use Rattle.std.specs.Prelude.{◌≢◌, OnOk};
+ghost use Rattle.bfs_node.specs.declared.error.NodeError.TheVariants as errors;
 ghost use Rattle.bfs_service.specs.Acting.{GoesOn, IsStepOf};
 
 use bfs_messages::{Message, Signed};
@@ -21,8 +22,12 @@ pub(crate) struct Actor {
 
 impl Model for Actor {
     ghost use Rattle.bfs_service.specs.Acting as model;
+    ghost use Rattle.std.specs.Coded.{codes};
+    ghost use Rattle.bfs_serial.specs.Codes.{inodes_code};
 
     ghost Value = { model.Acting };
+
+    ghost coded = { Prim.hlevel (codes, inodes_code) };
 
     ghost view = { λ actor. record { node = actor.node; sent = actor.sent.items } };
 }
@@ -42,8 +47,20 @@ impl Actor {
                 self.sent.append(&mut all)?;
                 Ok(true)
             }
-            Err(NodeError::Memory) => Err(Memory),
-            Err(_) => Ok(false),
+            Err(error) => {
+                unless_memory(error)?;
+                Ok(false)
+            }
         }
+    }
+}
+
+// Want of memory is no refusal: the process ends.
+fn unless_memory(error: NodeError) -> Result<(), Memory>
+    ensures { OnOk result (error ≢ errors.Memory) }
+{
+    match error {
+        NodeError::Memory => Err(Memory),
+        _ => Ok(()),
     }
 }
