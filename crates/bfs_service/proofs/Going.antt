@@ -10,7 +10,7 @@ use Rattle.bfs_nodes_agree.specs.Nodes.Steps.{NodeStep, Delivers, Takes, TakesRe
 use Rattle.bfs_nodes_agree.specs.declared.node_calls.performing.NodeCall.{NodeCall}
 use Rattle.bfs_nodes_agree.specs.declared.node_calls.performing.NodeCall.TheVariants as code
 use Rattle.bfs_nodes_agree.specs.declared.node_calls.performing.Sent.{Sent}
-use Rattle.bfs_service.specs.Acting.{Acting, GoesOn, IsStepOf, after_step, after_steps}
+use Rattle.bfs_service.specs.Acting.{Acting, GoesOn, IsExecution, IsStepOf, after_step, after_steps}
 
 -- One call ------------------------------------------------------------------------------------------------------------------
 
@@ -63,3 +63,6 @@ goes_both P first next last one other = record {
 
 pub goes_as : (P Q : NodeStep → Type 0) (first last : Acting) → ((step : NodeStep) → P step → Q step) → GoesOn P first last → GoesOn Q first last
 goes_as P Q first last so goes = record { steps = goes.steps; each = λ step i. so step (goes.each step i); after_is = goes.after_is }
+
+pub by_itself : (first next : Acting) (call : NodeCall) → ((step : NodeStep) → IsStepOf call step → IsExecution step) → GoesOn (IsStepOf call) first next → GoesOn IsExecution first next
+by_itself first next call so goes = goes_as (IsStepOf call) IsExecution first next so goes

@@ -1,5 +1,5 @@
 -- What a replica does in one go: calls of its node, which are steps of which agreement is proved.
-use Rattle.std.specs.Prelude.{◌≡◌, ℕ, List, [], ◌∷◌, ◌++◌}
+use Rattle.std.specs.Prelude.{◌≡◌, ℕ, List, [], ◌∷◌, ◌++◌, ◌⊎◌}
 use Rattle.bfs_model.specs.Server.Tree.{FileSystem}
 use Rattle.bfs_agreement.specs.Histories.{IsIn}
 use Rattle.bfs_replies.specs.Tables.{Table}
@@ -38,3 +38,7 @@ IsStepOf code.Execute step = step ≡ Executes
 IsStepOf code.Checkpoint step = step ≡ Checkpoints
 IsStepOf code.TimeOut step = step ≡ TimesOut
 IsStepOf (code.Adopt text certificate) step = (files : FileSystem) × (table : Table) × (step ≡ Adopts certificate.now files table)
+
+-- what a replica does by itself: it executes a batch, or makes a checkpoint
+abbrev pub IsExecution : NodeStep → Type 0
+IsExecution step = (step ≡ Executes) ⊎ (step ≡ Checkpoints)

@@ -1,12 +1,13 @@
 // The node of a replica in a turn: its calls, one after another, and what they gave to be sent.
-ghost use Rattle.std.specs.Prelude.{◌≢◌, OnOk};
+ghost use Rattle.std.specs.Prelude.{◌≡◌, ◌≢◌, [], OnOk};
 ghost use Rattle.bfs_node.specs.declared.error.NodeError.TheVariants as errors;
-ghost use Rattle.bfs_service.specs.Acting.{GoesOn, IsStepOf};
+ghost use Rattle.bfs_nodes_agree.specs.Nodes.Steps as steps;
+ghost use Rattle.bfs_service.specs.Acting.{GoesOn, IsExecution, IsStepOf};
 
 use bfs_messages::{Message, Signed};
 use bfs_node::{Executor, NoGate, Node, NodeError};
 use bfs_nodes_agree::node_calls::performing::{NodeCall, Sent, perform};
-use bfs_types::Memory;
+use bfs_types::{Memory, Time};
 use std::alloc::Global;
 use std::marker::Model;
 use std::sync::Wait;
@@ -33,6 +34,80 @@ impl Model for Actor {
 }
 
 impl Actor {
+    pub(crate) fn new(alloc: Global, node: Node, executor: Executor) -> Actor
+        ensures { result ≡ record { node = node; sent = [] } }
+    {
+        Actor {
+            node,
+            executor,
+            sent: Vec::new(alloc),
+        }
+    }
+
+    /// The node as it is now.
+    pub(crate) fn node(&self) -> &Node
+        ensures { result.now ≡ self.now.node }
+    {
+        &self.node
+    }
+
+    /// What its calls gave to be sent; nothing is left of it.
+    pub(crate) fn take_sent(&mut self, alloc: Global) -> Vec<Signed<Message>>
+        ensures all { result.items ≡ self.old.sent }
+        ensures left { self.new ≡ record { node = self.old.node; sent = [] } }
+    {
+        std::mem::replace(&mut self.sent, Vec::new(alloc))
+    }
+
+    /// Bytes come. Whether they were taken.
+    pub(crate) fn deliver<R: Threads + Wait + Sync>(&mut self, rt: &R, bytes: &[u8]) -> Result<bool, Memory>
+        ensures { OnOk result (GoesOn (λ step. step ≡ steps.Delivers bytes.now) self.old self.new) }
+    {
+        self.act(rt, NodeCall::Deliver(bytes))
+    }
+
+    /// REQUESTs come, before it may propose at that time.
+    pub(crate) fn take_requests<R: Threads + Wait + Sync>(
+        &mut self,
+        rt: &R,
+        time: Time,
+        requests: &[Signed<Message>],
+    ) -> Result<(), Memory>
+        ensures { OnOk result (GoesOn (λ step. step ≡ steps.TakesRequests requests.now) self.old self.new) }
+    {
+        self.act(rt, NodeCall::TakeRequestsFor(time, requests))?;
+        Ok(())
+    }
+
+    /// It proposes what waits, if it leads and may. Whether it did.
+    pub(crate) fn propose<R: Threads + Wait + Sync>(&mut self, rt: &R, time: Time) -> Result<bool, Memory>
+        ensures { OnOk result (GoesOn (λ step. step ≡ steps.Proposes time) self.old self.new) }
+    {
+        self.act(rt, NodeCall::Propose(time))
+    }
+
+    /// Time has run out for its view.
+    pub(crate) fn time_out<R: Threads + Wait + Sync>(&mut self, rt: &R) -> Result<bool, Memory>
+        ensures { OnOk result (GoesOn (λ step. step ≡ steps.TimesOut) self.old self.new) }
+    {
+        self.act(rt, NodeCall::TimeOut)
+    }
+
+    /// Executes all that is committed, and makes each checkpoint that is due before the first batch and behind each.
+    pub(crate) fn advance<R: Threads + Wait + Sync>(&mut self, rt: &R) -> Result<(), Memory>
+        ensures { OnOk result (GoesOn IsExecution self.old self.new) }
+    {
+        self.act(rt, NodeCall::Checkpoint)?;
+        for _ in rt.forever() {
+            if !self.node.is_ready() {
+                return Ok(());
+            }
+            self.act(rt, NodeCall::Execute)?;
+            self.act(rt, NodeCall::Checkpoint)?;
+        }
+        unreachable!()
+    }
+
     // Makes a call, and tells whether it was taken. `Memory` if memory runs out: nothing that is left is to be used then.
     fn act<R: Threads + Wait + Sync>(&mut self, rt: &R, call: NodeCall<'_>) -> Result<bool, Memory>
         ensures { OnOk result (GoesOn (IsStepOf call.entry) self.old self.new) }
