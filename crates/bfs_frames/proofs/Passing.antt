@@ -10,7 +10,8 @@ use Rattle.bfs_frames.specs.declared.kind.Kind.TheVariants.{Request, Order, View
 use Rattle.bfs_frames.specs.declared.limits.Limits.{Limits}
 
 -- the kind that is found has the number
-found_by : {X : Type 0} (p : X → Bool) (b : Bool) (y x : X) (rest : Option X) → p y ≡ b → (rest ≡ Some x → p x ≡ true) → cond b (Some y) rest ≡ Some x → p x ≡ true
+found_by : {X : Type 0} (p : X → Bool) (b : Bool) (y x : X) (rest : Option X) → p y ≡ b → (rest ≡ Some x → p x ≡ true) → cond b (Some y) rest ≡ Some x
+    → p x ≡ true
 found_by p true y x rest is more e = cc
 found_by p false y x rest is more e = more e
 
@@ -40,11 +41,16 @@ kind_at_number Log = refl
 abbrev Checked : Limits → ℕ → Kind → Option Kind → Type 0
 Checked limits size kind found = (found ≡ Some kind) × (size ≤ most_of limits kind)
 
-checked_by : (limits : Limits) (size : ℕ) (kind of : Kind) (b : Bool) → nat_le size (most_of limits of) ≡ b → cond b (Some of) None ≡ Some kind → Checked limits size kind (Some of)
-checked_by limits size kind of true le e = let same : of ≡ kind = cc in (ap (λ (k : Kind). Some k) same, leb-true size (most_of limits kind) (ap (λ k. nat_le size (most_of limits k)) (sym same) ∙ le))
+checked_by : (limits : Limits) (size : ℕ) (kind of : Kind) (b : Bool) → nat_le size (most_of limits of) ≡ b → cond b (Some of) None ≡ Some kind
+    → Checked limits size kind (Some of)
+checked_by limits size kind of true le e =
+    let same : of ≡ kind = cc in
+    (ap (λ (k : Kind). Some k) same, leb-true size (most_of limits kind) (ap (λ k. nat_le size (most_of limits k)) (sym same) ∙ le))
 checked_by limits size kind of false le e = absurd cc
 
-checked_in : (limits : Limits) (size : ℕ) (kind : Kind) (found : Option Kind) → (elim found as (λ _. Option Kind) [ None ↦ None | Some of ↦ cond (nat_le size (most_of limits of)) (Some of) None ]) ≡ Some kind → Checked limits size kind found
+checked_in : (limits : Limits) (size : ℕ) (kind : Kind) (found : Option Kind)
+    → (elim found as (λ _. Option Kind) [ None ↦ None | Some of ↦ cond (nat_le size (most_of limits of)) (Some of) None ]) ≡ Some kind
+    → Checked limits size kind found
 checked_in limits size kind None e = absurd cc
 checked_in limits size kind (Some of) e = checked_by limits size kind of (nat_le size (most_of limits of)) refl e
 
@@ -56,7 +62,8 @@ checked limits number size kind e = checked_in limits size kind (kind_at number)
 abbrev IsWithin : Limits → Frame → Type 0
 IsWithin limits frame = length frame.payload.items ≤ most_of limits frame.kind
 
-within : (limits : Limits) (frame : Frame) (found : Option Kind) → kind_within limits (number_of frame.kind) (length frame.payload.items) ≡ found → is_some found ≡ true → IsWithin limits frame
+within : (limits : Limits) (frame : Frame) (found : Option Kind) → kind_within limits (number_of frame.kind) (length frame.payload.items) ≡ found
+    → is_some found ≡ true → IsWithin limits frame
 within limits frame None e is = absurd cc
 within limits frame (Some kind) e is =
     let h = checked limits (number_of frame.kind) (length frame.payload.items) kind e in
@@ -67,7 +74,8 @@ passed_within : (limits : Limits) (frame : Frame) → passes limits (raw_frame f
 passed_within limits frame e = within limits frame (kind_within limits (number_of frame.kind) (length frame.payload.items)) refl e
 
 -- one more frame, of which the test gives b
-more_within : (limits : Limits) (b : Bool) (x : RawFrame) (rest : List RawFrame) (given : List Frame) → passes limits x ≡ b → ((frames : List Frame) → map raw_frame frames ≡ rest → All (IsWithin limits) frames)
+more_within : (limits : Limits) (b : Bool) (x : RawFrame) (rest : List RawFrame) (given : List Frame) → passes limits x ≡ b
+    → ((frames : List Frame) → map raw_frame frames ≡ rest → All (IsWithin limits) frames)
     → map raw_frame given ≡ cond b (x ∷ rest) rest → All (IsWithin limits) given
 more_within limits false x rest given is each e = each given e
 more_within limits true x rest [] is each e = absurd cc
@@ -81,6 +89,7 @@ nothing_within limits [] e = All-nil (IsWithin limits)
 nothing_within limits (frame ∷ frames) e = absurd cc
 
 -- those of the frames that pass keep the limits
-pub given_within : (limits : Limits) (all : List RawFrame) (given : List Frame) → map raw_frame given ≡ filter (passes limits) all → All (IsWithin limits) given
+pub given_within : (limits : Limits) (all : List RawFrame) (given : List Frame) → map raw_frame given ≡ filter (passes limits) all
+    → All (IsWithin limits) given
 given_within limits [] given e = nothing_within limits given e
 given_within limits (x ∷ xs) given e = more_within limits (passes limits x) x (filter (passes limits) xs) given refl (given_within limits xs) e

@@ -2,21 +2,18 @@
 use Rattle.std.specs.Prelude.{◌≡◌, ◌≢◌, ℕ, ◌<◌, ◌≤◌, List, ◌++◌, length}
 use Rattle.std.specs.List.{AllByRecursion, flat_map}
 use Rattle.bfs_model.specs.Bytes.Items.{word}
-use Rattle.bfs_model.specs.Server.Stored.{IsByte, IsWord, TimeIsSpellable}
+use Rattle.bfs_model.specs.Server.Stored.{IsWord, TimeIsSpellable}
 use Rattle.bfs_model.specs.Server.Tree.{Time}
-use Rattle.bfs_frames.specs.Frames.{RawFrame, frame_text, turn_text}
+use Rattle.bfs_frames.specs.Frames.{IsFrame, RawFrame, frame_text, turn_text}
 
 -- fewer bytes than that
 abbrev pub AreFewer : ℕ → List ℕ → Type 0
 AreFewer count bytes = length bytes < count
 
--- a frame that has a text
-abbrev pub IsFrame : RawFrame → Type 0
-IsFrame frame = IsByte frame.kind × IsWord (length frame.payload)
-
 -- so many frames do not stand at the front of the bytes
 abbrev pub LacksFrames : ℕ → List ℕ → Type 0
-LacksFrames count bytes = (frames : List RawFrame) (rest : List ℕ) → length frames ≡ count → AllByRecursion IsFrame frames → bytes ≢ flat_map frame_text frames ++ rest
+LacksFrames count bytes = (frames : List RawFrame) (rest : List ℕ) → length frames ≡ count → AllByRecursion IsFrame frames
+    → bytes ≢ flat_map frame_text frames ++ rest
 
 -- a turn that has a text
 pub record IsTurn (time : Time) (frames : List RawFrame) : Type 0 where

@@ -1,9 +1,10 @@
 -- Frames and turns as bytes, and what is read of them.
 use Rattle.std.specs.Prelude.{◌≡◌, ℕ, Bool, List, [], ◌∷◌, ◌++◌, length, map, filter, nat_le, Option, None, Some, is_some, option_and_then, if◌then◌else◌}
-use Rattle.std.specs.List.{flat_map}
+use Rattle.std.specs.List.{AllByRecursion, flat_map}
 use Rattle.std.specs.Io.KnownBytes.{Consumes}
 use Rattle.bfs_model.specs.Bytes.Formats.{list_text}
 use Rattle.bfs_model.specs.Bytes.Items.{word}
+use Rattle.bfs_model.specs.Server.Stored.{IsByte, IsWord}
 use Rattle.bfs_model.specs.Server.Tree.{Time}
 use Rattle.bfs_frames.specs.Kinds.{kind_at, number_of}
 use Rattle.bfs_frames.specs.declared.kind.Kind.{Kind}
@@ -16,6 +17,10 @@ use Rattle.bfs_frames.specs.declared.frames.Turn.{Turn}
 pub record RawFrame : Type 0 where
   pub kind : ℕ
   pub payload : List ℕ
+
+-- a byte, and a length of one word
+abbrev pub IsFrame : RawFrame → Type 0
+IsFrame frame = IsByte frame.kind × IsWord (length frame.payload)
 
 abbrev pub frame_text : RawFrame → List ℕ
 frame_text frame = frame.kind ∷ [] ++ word (length frame.payload) ++ frame.payload
@@ -65,6 +70,7 @@ pub record ReadsOver (old new : Option (List ℕ)) (count : ℕ) : Type 0 where
 pub record ReadsFrames (limits : Limits) (old new : Option (List ℕ)) (count : ℕ) (given : List Frame) : Type 0 where
   pub all : List RawFrame
   pub counted : length all ≡ count
+  pub each : AllByRecursion IsFrame all
   pub consumed : Consumes old new (flat_map frame_text all)
   pub passed : map raw_frame given ≡ filter (passes limits) all
 

@@ -1,5 +1,6 @@
 ghost use Rattle.std.specs.Prelude.{◌≡◌};
-ghost use Rattle.bfs_frames.specs.declared.error.ReadError.TheVariants as errors;
+ghost use Rattle.bfs_frames.specs.Errors.{read_error};
+ghost use Rattle.bfs_frames.specs.declared.error.InputError.TheVariants as input;
 
 use std::alloc::{AllocError, AllocFailed};
 use std::io;
@@ -22,26 +23,49 @@ pub enum ReadError {
     Input(io::Error),
 }
 
-impl From<io::Error> for ReadError {
-    ghost from_gives = { λ error given. given ≡ errors.Input error };
+/// Why bytes are not read.
+#[derive(Debug, Drop)]
+pub(crate) enum InputError {
+    /// The input ends before them.
+    Cut,
+    /// Memory ran out.
+    Memory,
+    /// The input itself failed.
+    Failed(io::Error),
+}
 
-    fn from(error: io::Error) -> ReadError {
-        ReadError::Input(error)
+impl From<InputError> for ReadError {
+    ghost from_gives = { λ error given. given ≡ read_error error };
+
+    fn from(error: InputError) -> ReadError {
+        match error {
+            InputError::Cut => ReadError::Cut,
+            InputError::Memory => ReadError::Memory,
+            InputError::Failed(error) => ReadError::Input(error),
+        }
     }
 }
 
-impl From<AllocError> for ReadError {
-    ghost from_gives = { λ _ given. given ≡ errors.Memory };
+impl From<io::Error> for InputError {
+    ghost from_gives = { λ error given. given ≡ input.Failed error };
 
-    fn from(_error: AllocError) -> ReadError {
-        ReadError::Memory
+    fn from(error: io::Error) -> InputError {
+        InputError::Failed(error)
     }
 }
 
-impl<T: Drop> From<AllocFailed<T>> for ReadError {
-    ghost from_gives = { λ _ given. given ≡ errors.Memory };
+impl From<AllocError> for InputError {
+    ghost from_gives = { λ _ given. given ≡ input.Memory };
 
-    fn from(_error: AllocFailed<T>) -> ReadError {
-        ReadError::Memory
+    fn from(_error: AllocError) -> InputError {
+        InputError::Memory
+    }
+}
+
+impl<T: Drop> From<AllocFailed<T>> for InputError {
+    ghost from_gives = { λ _ given. given ≡ input.Memory };
+
+    fn from(_error: AllocFailed<T>) -> InputError {
+        InputError::Memory
     }
 }

@@ -1,10 +1,12 @@
 // Bytes that are read one part after another.
-ghost use Rattle.std.specs.Prelude.{◌≡◌, ◌∷◌, [], length, IfOk, IfSome, IfNone, OnOk};
+ghost use Rattle.std.specs.Prelude.{◌≡◌, ◌∷◌, [], length, IfOk, IfSome, IfNone, OnOk, IsErrOf};
 ghost use Rattle.std.specs.Io.KnownBytes.{Consumes, IsAtEnd};
 ghost use Rattle.bfs_model.specs.Bytes.Items.{word};
+ghost use Rattle.bfs_frames.specs.declared.error.InputError.TheVariants as input;
+ghost use Rattle.bfs_frames.specs.Cuts.{AreFewer};
 ghost use Rattle.bfs_frames.specs.Frames.{ReadsOver};
 
-use crate::error::ReadError;
+use crate::error::InputError;
 use std::alloc::Global;
 use std::io;
 use std::io::{Error, ErrorKind, Read};
@@ -29,20 +31,34 @@ pub(crate) fn next_byte<R: Read>(reader: &mut R) -> io::Result<Option<u8>>
     Err(Error::from(ErrorKind::Interrupted))
 }
 
-// Fills the buffer.
-fn fill<R: Read>(reader: &mut R, buffer: &mut [u8]) -> Result<(), ReadError>
-    ensures { OnOk result (Consumes (R.remaining reader.old) (R.remaining reader.new) buffer.new) }
+// Fills the buffer. std's `read_exact` says nothing of an input that ends before.
+#[tactic(auto, using(crate::proofs::Cuts::ended))]
+fn fill<R: Read>(reader: &mut R, buffer: &mut [u8]) -> Result<(), InputError>
+    ensures filled { OnOk result (Consumes (R.remaining reader.old) (R.remaining reader.new) buffer.new) }
+    ensures cut { IsErrOf result input.Cut → IfSome (R.remaining reader.old) (AreFewer (length buffer.old)) }
 {
-    match reader.read_exact(buffer) {
-        Ok(()) => Ok(()),
-        Err(error) if error.kind() == ErrorKind::UnexpectedEof => Err(ReadError::Cut),
-        Err(error) => Err(ReadError::Input(error)),
+    let mut at = 0;
+    for _ in 0..u64::MAX {
+        if at >= buffer.len() {
+            return Ok(());
+        }
+        match reader.read(&mut buffer[at..]) {
+            Ok(0) => return Err(InputError::Cut),
+            Ok(count) => at += count,
+            Err(error) => {
+                if error.kind() != ErrorKind::Interrupted {
+                    return Err(InputError::Failed(error));
+                }
+            }
+        }
     }
+    Err(InputError::Failed(Error::from(ErrorKind::Interrupted)))
 }
 
 /// One byte.
-pub(crate) fn read_byte<R: Read>(reader: &mut R) -> Result<u8, ReadError>
-    ensures { IfOk result (λ byte. Consumes (R.remaining reader.old) (R.remaining reader.new) (byte ∷ [])) }
+pub(crate) fn read_byte<R: Read>(reader: &mut R) -> Result<u8, InputError>
+    ensures byte { IfOk result (λ byte. Consumes (R.remaining reader.old) (R.remaining reader.new) (byte ∷ [])) }
+    ensures cut { IsErrOf result input.Cut → IfSome (R.remaining reader.old) (AreFewer 1) }
 {
     let mut byte = [0u8; 1];
     fill(reader, &mut byte)?;
@@ -50,8 +66,9 @@ pub(crate) fn read_byte<R: Read>(reader: &mut R) -> Result<u8, ReadError>
 }
 
 /// The number in four bytes.
-pub(crate) fn read_word<R: Read>(reader: &mut R) -> Result<u32, ReadError>
-    ensures { IfOk result (λ number. Consumes (R.remaining reader.old) (R.remaining reader.new) (word number)) }
+pub(crate) fn read_word<R: Read>(reader: &mut R) -> Result<u32, InputError>
+    ensures word { IfOk result (λ number. Consumes (R.remaining reader.old) (R.remaining reader.new) (word number)) }
+    ensures cut { IsErrOf result input.Cut → IfSome (R.remaining reader.old) (AreFewer 4) }
 {
     let mut bytes = [0u8; 4];
     fill(reader, &mut bytes)?;
@@ -59,9 +76,14 @@ pub(crate) fn read_word<R: Read>(reader: &mut R) -> Result<u32, ReadError>
 }
 
 /// So many bytes.
-pub(crate) fn read_bytes<R: Read>(alloc: Global, reader: &mut R, len: usize) -> Result<Vec<u8>, ReadError>
+pub(crate) fn read_bytes<R: Read>(
+    alloc: Global,
+    reader: &mut R,
+    len: usize,
+) -> Result<Vec<u8>, InputError>
     ensures bytes { IfOk result (λ bytes. Consumes (R.remaining reader.old) (R.remaining reader.new) bytes.items) }
     ensures len { IfOk result (λ bytes. length bytes.items ≡ len) }
+    ensures cut { IsErrOf result input.Cut → IfSome (R.remaining reader.old) (AreFewer len) }
 {
     let mut bytes = vec![in alloc; 0u8; len]?;
     fill(reader, bytes.as_mut_slice())?;
@@ -69,8 +91,10 @@ pub(crate) fn read_bytes<R: Read>(alloc: Global, reader: &mut R, len: usize) -> 
 }
 
 /// Reads over so many bytes, of which few are held at once.
-pub(crate) fn skip_bytes<R: Read>(reader: &mut R, len: usize) -> Result<(), ReadError>
-    ensures { OnOk result (ReadsOver (R.remaining reader.old) (R.remaining reader.new) len) }
+#[tactic(auto, using(crate::proofs::Cuts::fewer_more))]
+pub(crate) fn skip_bytes<R: Read>(reader: &mut R, len: usize) -> Result<(), InputError>
+    ensures over { OnOk result (ReadsOver (R.remaining reader.old) (R.remaining reader.new) len) }
+    ensures cut { IsErrOf result input.Cut → IfSome (R.remaining reader.old) (AreFewer len) }
 {
     let mut chunk = [0u8; CHUNK];
     let mut left = len;

@@ -1,4 +1,5 @@
-ghost use Rattle.std.specs.Prelude.{◌≡◌};
+ghost use Rattle.std.specs.Prelude.{◌≡◌, ◌+◌, ◌*◌};
+ghost use Rattle.bfs_model.specs.Server.Limits.{most_replicas, most_reply_bytes, most_request_bytes};
 ghost use Rattle.bfs_frames.specs.Frames.{kind_within, most_of};
 
 use crate::kind::Kind;
@@ -28,12 +29,17 @@ pub struct Limits {
 }
 
 impl Limits {
-    /// Room for every REQUEST and REPLY, for batches of one mebibyte, and for what a cluster with them usually sends: 64 MiB of a VIEW-CHANGE,
-    /// 256 MiB of a NEW-VIEW, 1 GiB of a state.
-    pub fn new() -> Limits {
+    /// Room for every REQUEST, REPLY, call and answer, for PRE-PREPAREs whose batches have texts of a mebibyte, and for VIEW-CHANGEs of 64 MiB, which hold
+    /// 32 such batches. The other limits are a choice: NEW-VIEWs of 256 MiB do for seven replicas with full logs, so larger clusters set more.
+    pub fn new() -> Limits
+        ensures request { result.request ≡ 24 + most_request_bytes + 32 * most_replicas }
+        ensures reply { result.reply ≡ 36 + most_reply_bytes + 32 * most_replicas }
+        ensures call { result.call ≡ 8 + most_request_bytes }
+        ensures answer { result.answer ≡ 8 + most_reply_bytes }
+    {
         Limits {
             request: 20 + MOST_REQUEST_BYTES as u32 + HASHES,
-            order: 60 + HASHES + MEBIBYTE,
+            order: 56 + HASHES + MEBIBYTE,
             view_change: 64 * MEBIBYTE,
             new_view: 256 * MEBIBYTE,
             reply: 32 + MOST_REPLY_BYTES as u32 + HASHES,

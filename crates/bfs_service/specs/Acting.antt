@@ -4,6 +4,7 @@ use Rattle.bfs_model.specs.Server.Tree.{FileSystem}
 use Rattle.bfs_agreement.specs.Histories.{IsIn}
 use Rattle.bfs_replies.specs.Tables.{Table}
 use Rattle.bfs_node.specs.Nodes.{Messages, Node}
+use Rattle.bfs_frames.specs.declared.frames.Frame.{Frame}
 use Rattle.bfs_nodes_agree.specs.Nodes.Steps.{NodeStep, Delivers, Takes, TakesRequests, Proposes, Executes, Checkpoints, TimesOut, Adopts, outcome}
 use Rattle.bfs_nodes_agree.specs.declared.node_calls.performing.NodeCall.{NodeCall}
 use Rattle.bfs_nodes_agree.specs.declared.node_calls.performing.NodeCall.TheVariants as code
@@ -42,3 +43,7 @@ IsStepOf (code.Adopt text certificate) step = (files : FileSystem) × (table : T
 -- what a replica does by itself: it executes a batch, or makes a checkpoint
 abbrev pub IsExecution : NodeStep → Type 0
 IsExecution step = (step ≡ Executes) ⊎ (step ≡ Checkpoints)
+
+-- a frame's payload is delivered
+abbrev pub IsDeliveryOf : List Frame → NodeStep → Type 0
+IsDeliveryOf frames step = (frame : Frame) × IsIn frame frames × (step ≡ Delivers frame.payload.items)

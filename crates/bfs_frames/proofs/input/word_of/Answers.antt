@@ -1,4 +1,4 @@
-use Rattle.std.proofs.Common.{◌≡◌, ℕ, List, length, sym, arith}
+use Rattle.std.proofs.Common.{arith}
 use Rattle.std.proofs.lemmas.Nat.{be_bytes_4}
 use Rattle.bfs_model.specs.Bytes.Items.{word}
 use Rattle.bfs_frames.proofs.input.word_of.Goals as goal

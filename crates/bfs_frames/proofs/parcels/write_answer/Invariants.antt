@@ -6,4 +6,6 @@ use Rattle.bfs_frames.specs.Parcels.{parcel_text}
 use Rattle.bfs_frames.proofs.parcels.write_answer.Given as goal
 
 abbrev pub invariant-loop-parcel : goal.invariant-loop-parcel
-invariant-loop-parcel g l = Appends (g.W.Write.contents l.fn.writer) (g.W.Write.contents l.writer) (word (length l.parcels) ++ flat_map parcel_text (take l.parcel-index l.parcels))
+invariant-loop-parcel g l =
+    let written = word (length l.parcels) ++ flat_map parcel_text (take l.parcel-index l.parcels) in
+    Appends (g.W.Write.contents l.fn.writer) (g.W.Write.contents l.writer) written

@@ -1,0 +1,6 @@
+-- What proofs share.
+mod Carrying
+mod Acting
+mod Clusters
+mod Events
+mod Seeing
