@@ -1,9 +1,9 @@
 -- Bytes that end within a turn.
-use Rattle.std.proofs.Common.{◌≡◌, ℕ, suc, ◌+◌, ◌<◌, ◌≤◌, ◌^◌, List, [], ◌∷◌, ◌++◌, length, drop, Option, Some, None, IfSome, refl, sym, ap, subst, ◌∙◌, append-nil, append_assoc, length-append, arith}
+use Rattle.std.proofs.Common.{◌≡◌, ℕ, suc, ◌+◌, ◌<◌, ◌≤◌, ◌^◌, List, [], ◌∷◌, ◌++◌, length, take, drop, Option, Some, None, IfSome, refl, sym, ap, subst, ◌∙◌, append-nil, append_assoc, length-append, arith}
 use Rattle.std.specs.List.{AllByRecursion, flat_map}
 use Rattle.std.specs.Io.KnownBytes.{Consumes, IsAtEnd}
 use Rattle.std.proofs.KnownBytes.{Consumes-trans, Consumes-whole}
-use Rattle.std.proofs.lemmas.List.{drop_at}
+use Rattle.std.proofs.lemmas.List.{drop_at, take_at}
 use Rattle.bfs_model.specs.Bytes.Formats.{list_text, word_from}
 use Rattle.bfs_model.specs.Bytes.Items.{word}
 use Rattle.bfs_model.proofs.Public.{some_is, word_exact}
@@ -27,18 +27,27 @@ word_one m n x y p q e =
     let same : ◌≡◌ {A = ℕ × List ℕ} (m, x) (n, y) = some_is (m, x) (n, y) (sym (word_exact.again m x p) ∙ ap word_from e ∙ word_exact.again n y q) in
     (ap (λ (r : ℕ × List ℕ). r.0) same, ap (λ (r : ℕ × List ℕ). r.1) same)
 
-pub tail_one : (a b : ℕ) (x y : List ℕ) → a ∷ x ≡ b ∷ y → x ≡ y
+tail_one : (a b : ℕ) (x y : List ℕ) → a ∷ x ≡ b ∷ y → x ≡ y
 tail_one a b x y e = cc
 
--- two frames end at one place
-pub frame_one : (f g : RawFrame) (x y : List ℕ) → IsFrame f → IsFrame g → frame_text f ++ x ≡ frame_text g ++ y → x ≡ y
+head_one : (a b : ℕ) (x y : List ℕ) → a ∷ x ≡ b ∷ y → a ≡ b
+head_one a b x y e = cc
+
+frame_is : (f g : RawFrame) → f.kind ≡ g.kind → f.payload ≡ g.payload → f ≡ g
+frame_is f g kinds payloads =
+    ap (λ (k : ℕ). record { kind = k; payload = f.payload }) kinds ∙ ap (λ (l : List ℕ). record { kind = g.kind; payload = l }) payloads
+
+-- two frames at the front are one
+pub frame_one : (f g : RawFrame) (x y : List ℕ) → IsFrame f → IsFrame g → frame_text f ++ x ≡ frame_text g ++ y → (f ≡ g) × (x ≡ y)
 frame_one f g x y p q e =
     let left = (word (length f.payload) ++ f.payload) ++ x in
     let right = (word (length g.payload) ++ g.payload) ++ y in
     let tails : left ≡ right = tail_one f.kind g.kind left right e in
     let regrouped = sym (append_assoc (word (length f.payload)) f.payload x) ∙ tails ∙ append_assoc (word (length g.payload)) g.payload y in
     let both = word_one (length f.payload) (length g.payload) (f.payload ++ x) (g.payload ++ y) p.1 q.1 regrouped in
-    sym (drop_at f.payload x (length g.payload) both.0) ∙ ap (drop (length g.payload)) both.1 ∙ drop_at g.payload y (length g.payload) refl
+    let payloads = sym (take_at f.payload x (length g.payload) both.0) ∙ ap (take (length g.payload)) both.1 ∙ take_at g.payload y (length g.payload) refl in
+    let behind = sym (drop_at f.payload x (length g.payload) both.0) ∙ ap (drop (length g.payload)) both.1 ∙ drop_at g.payload y (length g.payload) refl in
+    (frame_is f g (head_one f.kind g.kind left right e) payloads, behind)
 
 -- fewer frames and no further one are not as many frames as that
 peel : (fs gs : List RawFrame) (x y : List ℕ) → AllByRecursion IsFrame fs → AllByRecursion IsFrame gs → length fs < length gs → LacksFrames 1 x
@@ -51,7 +60,7 @@ peel (f ∷ fs) [] x y p q lt lacks e = omega arith
 peel (f ∷ fs) (g ∷ gs) x y p q lt lacks e =
     peel fs gs x y p.1 q.1 (omega arith) lacks
     (frame_one f g (flat_map frame_text fs ++ x) (flat_map frame_text gs ++ y) p.0 q.0
-    (sym (append_assoc (frame_text f) (flat_map frame_text fs) x) ∙ e ∙ append_assoc (frame_text g) (flat_map frame_text gs) y))
+    (sym (append_assoc (frame_text f) (flat_map frame_text fs) x) ∙ e ∙ append_assoc (frame_text g) (flat_map frame_text gs) y)).1
 
 -- Where a frame is cut -------------------------------------------------------------------------------------------------
 
