@@ -58,6 +58,13 @@ impl Clients {
         })
     }
 
+    /// Those who were given these keys, by their numbers, where at most `f` replicas are faulty.
+    pub fn of_keys(alloc: Global, f: u32, keys: Vec<Keys>) -> Clients
+        ensures { result ≡ record { f = f; keys = keys.items } }
+    {
+        Clients { alloc, f, keys }
+    }
+
     /// How many replicas may be faulty.
     pub fn f(&self) -> u32
         ensures { result ≡ self.now.f }

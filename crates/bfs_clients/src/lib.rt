@@ -3,10 +3,12 @@
 
 mod checking;
 mod clients;
+mod counters;
 mod signing;
 mod tallies;
 mod tally;
 
 pub use clients::{Call, Clients};
+pub use counters::Counter;
 pub use tallies::Tallies;
 pub use tally::Tally;

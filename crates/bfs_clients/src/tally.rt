@@ -101,8 +101,8 @@ impl Tally {
         self.add_checked(clients, signed, clients.is_signed(signed))
     }
 
-    // What `add` does, where it is known whether the message is a REPLY that is signed.
-    pub(crate) fn add_checked(
+    /// What `add` does, where `Clients::are_signed` has told whether the message passes.
+    pub fn add_checked(
         &mut self,
         clients: &Clients,
         signed: &Signed<Message>,

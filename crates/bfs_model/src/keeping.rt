@@ -22,7 +22,7 @@ pub fn a_well_formed_file_system_has_a_well_formed_tree()
     ensures { (files : FileSystem) → IsWellFormed files → IsWellFormedTree files.tree }
 {}
 
-/// A call whose ordinal is fresh where it writes, and whose names and path are no longer than RFC 1094 section 2.3.1 allows, leaves a
+/// A call whose ordinal is fresh where it writes, and whose names and path are no longer than RFC 1094 section 3.5 allows, leaves a
 /// well-formed tree well formed.
 pub fn a_call_keeps_trees_well_formed()
     ensures { CallsKeepTreesWellFormed }

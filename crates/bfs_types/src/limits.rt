@@ -8,13 +8,13 @@ ghost use Rattle.bfs_model.specs.Server.Limits.{most_file_bytes, most_data_bytes
 /// The bytes of a file.
 pub const MOST_FILE_BYTES: usize = 16_777_216;
 
-/// The bytes that one READ or WRITE moves, and those of a page of READDIR (RFC 1094 section 2.3.1, MAXDATA).
+/// The bytes that one READ or WRITE moves, and those of a page of READDIR (RFC 1094 section 3.5, MAXDATA).
 pub const MOST_DATA_BYTES: usize = 8_192;
 
-/// The bytes of a name (RFC 1094 section 2.3.1, MAXNAMLEN).
+/// The bytes of a name (RFC 1094 section 3.5, MAXNAMLEN).
 pub const MOST_NAME_BYTES: usize = 255;
 
-/// The bytes of a symbolic link's path (RFC 1094 section 2.3.1, MAXPATHLEN).
+/// The bytes of a symbolic link's path (RFC 1094 section 3.5, MAXPATHLEN).
 pub const MOST_PATH_BYTES: usize = 1_024;
 
 /// The entries of a directory, `.` and `..` not counted.

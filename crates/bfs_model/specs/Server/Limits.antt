@@ -6,15 +6,15 @@ use Rattle.std.specs.Prelude.{ℕ}
 abbrev pub most_file_bytes : ℕ
 most_file_bytes = 16777216
 
--- the bytes that one READ or WRITE moves, and the bytes of a page of READDIR (RFC 1094 section 2.3.1, MAXDATA)
+-- the bytes that one READ or WRITE moves, and the bytes of a page of READDIR (RFC 1094 section 3.5, MAXDATA)
 abbrev pub most_data_bytes : ℕ
 most_data_bytes = 8192
 
--- the bytes of a name (RFC 1094 section 2.3.1, MAXNAMLEN)
+-- the bytes of a name (RFC 1094 section 3.5, MAXNAMLEN)
 abbrev pub most_name_bytes : ℕ
 most_name_bytes = 255
 
--- the bytes of a symbolic link's path (RFC 1094 section 2.3.1, MAXPATHLEN)
+-- the bytes of a symbolic link's path (RFC 1094 section 3.5, MAXPATHLEN)
 abbrev pub most_path_bytes : ℕ
 most_path_bytes = 1024
 

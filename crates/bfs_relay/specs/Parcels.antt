@@ -1,0 +1,32 @@
+-- What a relay tells: requests to all replicas, replies to callers, and a line to the operator.
+use Rattle.std.specs.Prelude.{ℕ, List, [], ◌∷◌, ◌++◌, length, codes, ◌==◌, if◌then◌else◌}
+use Rattle.bfs_model.specs.Bytes.Items.{hyper}
+use Rattle.bfs_frames.specs.declared.kind.Kind.{Kind}
+use Rattle.bfs_frames.specs.declared.kind.Kind.TheVariants.{Request, Answer, Log}
+use Rattle.bfs_frames.specs.declared.parcels.Parcel.{Parcel}
+use Rattle.bfs_frames.specs.declared.parcels.To.{To}
+use Rattle.bfs_frames.specs.declared.parcels.To.TheVariants.{Replicas, Operator, Caller}
+
+pub record Told : Type 0 where
+  pub to : To
+  pub kind : Kind
+  pub payload : List ℕ
+
+-- a parcel of the code
+abbrev pub told_by : Parcel → Told
+told_by parcel = record { to = parcel.to; kind = parcel.frame.kind; payload = parcel.frame.payload.items }
+
+-- a request's text
+abbrev pub request_told : (text : List ℕ) → Told
+request_told text = record { to = Replicas; kind = Request; payload = text }
+
+-- the caller's ticket, and the reply; nothing where the reply has no bytes
+abbrev pub reply_told : (ticket : ℕ) → (reply : List ℕ) → List Told
+reply_told ticket reply = if length reply == 0 then [] else record { to = Caller ticket; kind = Answer; payload = hyper ticket ++ reply } ∷ []
+
+-- what the operator reads where calls are dropped
+unfoldable pub dropped_line : List ℕ
+dropped_line = codes "calls are dropped: too many wait"
+
+abbrev pub dropped_told : Told
+dropped_told = record { to = Operator; kind = Log; payload = dropped_line }

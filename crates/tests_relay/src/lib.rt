@@ -1,0 +1,18 @@
+//! A relay, as tests: what it answers by itself, on bytes of RFC 1094 appendix A and RFC 5531; calls that replicas answer, and when; calls that wait; what it
+//! sends again, and when; and what it passes over.
+#![tactic(auto)]
+
+#[cfg(test)]
+mod again;
+#[cfg(test)]
+mod asking;
+#[cfg(test)]
+mod given_keys;
+#[cfg(test)]
+mod own_replies;
+#[cfg(test)]
+mod rubbish;
+#[cfg(test)]
+mod run;
+#[cfg(test)]
+mod waiting;
