@@ -15,6 +15,7 @@ mod replying;
 mod requests;
 
 pub use bfs_outcome::{Engine, Executor, Gate, MOST_WORKERS, NoGate, Workers};
+pub use bfs_replies::Class;
 pub use error::NodeError;
 pub use node::Node;
 pub use receivers::{Receivers, receivers_of};

@@ -11,6 +11,7 @@ ghost use Rattle.bfs_checkpoints.specs.Texts.{node_digest};
 ghost use Rattle.bfs_order.specs.Replica.Behind.{is_behind};
 ghost use Rattle.bfs_order.specs.Replica.Proposing.{leads};
 ghost use Rattle.bfs_log.specs.Certificates.{faults};
+ghost use Rattle.bfs_replies.specs.Classes.{class_of};
 ghost use Rattle.bfs_node.specs.Changing.{view_to_follow};
 ghost use Rattle.bfs_node.specs.Errors.{IsTextError};
 ghost use Rattle.bfs_node.specs.Nodes.{BeginsWith, beginning_with, keys_of_replica, new_node};
@@ -22,7 +23,7 @@ use bfs_checkpoints::{AdoptError, Snapshots, StableSnapshot, digest_node, read_n
 use bfs_log::faults_of;
 use bfs_order::Order;
 use bfs_pending::PendingRequests;
-use bfs_replies::ReplyTable;
+use bfs_replies::{Class, ReplyTable};
 use bfs_serial::FileSystem;
 use bfs_settings::Settings;
 use bfs_types::Memory;
@@ -214,6 +215,13 @@ impl Node {
         ensures within { result ≤ most_requests }
     {
         self.pending.len()
+    }
+
+    /// What a request of that client and timestamp is to the client's last one that was executed here: `Class::New` where it has not been executed.
+    pub fn classify(&self, client: u32, timestamp: u64) -> Class
+        ensures { result ≡ class_of self.now.table client timestamp }
+    {
+        self.table.classify(client, timestamp)
     }
 
     /// Whether the file system has not failed.

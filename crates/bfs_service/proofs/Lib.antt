@@ -1,0 +1,3 @@
+-- What proofs share.
+pub mod Going
+pub mod Frames

@@ -1,0 +1,2 @@
+-- What the contracts of bfs_service cite.
+pub mod Acting

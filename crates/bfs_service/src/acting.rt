@@ -1,0 +1,141 @@
+// The node of a replica in a turn: its calls, one after another, and what they gave to be sent.
+ghost use Rattle.std.specs.Prelude.{◌≡◌, ◌≢◌, [], OnOk};
+ghost use Rattle.bfs_node.specs.declared.error.NodeError.TheVariants as errors;
+ghost use Rattle.bfs_nodes_agree.specs.Nodes.Steps as steps;
+ghost use Rattle.bfs_service.specs.Acting.{GoesOn, IsExecution, IsStepOf};
+
+use bfs_messages::{Message, Signed};
+use bfs_node::{Executor, NoGate, Node, NodeError};
+use bfs_nodes_agree::node_calls::performing::{NodeCall, Sent, perform};
+use bfs_types::{Memory, Time};
+use std::alloc::Global;
+use std::marker::Model;
+use std::sync::Wait;
+use std::thread::Threads;
+
+/// A node, by what it executes, and what its calls gave to be sent.
+#[derive(Drop)]
+pub(crate) struct Actor {
+    node: Node,
+    executor: Executor,
+    sent: Vec<Signed<Message>>,
+}
+
+impl Model for Actor {
+    ghost use Rattle.bfs_service.specs.Acting as model;
+    ghost use Rattle.std.specs.Coded.{codes};
+    ghost use Rattle.bfs_serial.specs.Codes.{inodes_code};
+
+    ghost Value = { model.Acting };
+
+    ghost coded = { Prim.hlevel (codes, inodes_code) };
+
+    ghost view = { λ actor. record { node = actor.node; sent = actor.sent.items } };
+}
+
+impl Actor {
+    pub(crate) fn new(alloc: Global, node: Node, executor: Executor) -> Actor
+        ensures { result ≡ record { node = node; sent = [] } }
+    {
+        Actor {
+            node,
+            executor,
+            sent: Vec::new(alloc),
+        }
+    }
+
+    /// The node as it is now.
+    pub(crate) fn node(&self) -> &Node
+        ensures { result.now ≡ self.now.node }
+    {
+        &self.node
+    }
+
+    /// What its calls gave to be sent; nothing is left of it.
+    pub(crate) fn take_sent(&mut self, alloc: Global) -> Vec<Signed<Message>>
+        ensures all { result.items ≡ self.old.sent }
+        ensures left { self.new ≡ record { node = self.old.node; sent = [] } }
+    {
+        std::mem::replace(&mut self.sent, Vec::new(alloc))
+    }
+
+    /// Bytes come. Whether they were taken.
+    pub(crate) fn deliver<R: Threads + Wait + Sync>(&mut self, rt: &R, bytes: &[u8]) -> Result<bool, Memory>
+        ensures { OnOk result (GoesOn (λ step. step ≡ steps.Delivers bytes.now) self.old self.new) }
+    {
+        self.act(rt, NodeCall::Deliver(bytes))
+    }
+
+    /// REQUESTs come, before it may propose at that time.
+    pub(crate) fn take_requests<R: Threads + Wait + Sync>(
+        &mut self,
+        rt: &R,
+        time: Time,
+        requests: &[Signed<Message>],
+    ) -> Result<(), Memory>
+        ensures { OnOk result (GoesOn (λ step. step ≡ steps.TakesRequests requests.now) self.old self.new) }
+    {
+        self.act(rt, NodeCall::TakeRequestsFor(time, requests))?;
+        Ok(())
+    }
+
+    /// It proposes what waits, if it leads and may. Whether it did.
+    pub(crate) fn propose<R: Threads + Wait + Sync>(&mut self, rt: &R, time: Time) -> Result<bool, Memory>
+        ensures { OnOk result (GoesOn (λ step. step ≡ steps.Proposes time) self.old self.new) }
+    {
+        self.act(rt, NodeCall::Propose(time))
+    }
+
+    /// Time has run out for its view.
+    pub(crate) fn time_out<R: Threads + Wait + Sync>(&mut self, rt: &R) -> Result<bool, Memory>
+        ensures { OnOk result (GoesOn (λ step. step ≡ steps.TimesOut) self.old self.new) }
+    {
+        self.act(rt, NodeCall::TimeOut)
+    }
+
+    /// Executes all that is committed, and makes each checkpoint that is due before the first batch and behind each.
+    pub(crate) fn advance<R: Threads + Wait + Sync>(&mut self, rt: &R) -> Result<(), Memory>
+        ensures { OnOk result (GoesOn IsExecution self.old self.new) }
+    {
+        self.act(rt, NodeCall::Checkpoint)?;
+        for _ in rt.forever() {
+            if !self.node.is_ready() {
+                return Ok(());
+            }
+            self.act(rt, NodeCall::Execute)?;
+            self.act(rt, NodeCall::Checkpoint)?;
+        }
+        unreachable!()
+    }
+
+    // Makes a call, and tells whether it was taken. `Memory` if memory runs out: nothing that is left is to be used then.
+    fn act<R: Threads + Wait + Sync>(&mut self, rt: &R, call: NodeCall<'_>) -> Result<bool, Memory>
+        ensures { OnOk result (GoesOn (IsStepOf call.entry) self.old self.new) }
+    {
+        match perform(&mut self.node, rt, self.executor, &NoGate, call) {
+            Ok(Sent::Nothing) => Ok(true),
+            Ok(Sent::One(signed)) => {
+                self.sent.push(signed)?;
+                Ok(true)
+            }
+            Ok(Sent::All(mut all)) => {
+                self.sent.append(&mut all)?;
+                Ok(true)
+            }
+            Err(error) => {
+                unless_memory(error)?;
+                Ok(false)
+            }
+        }
+    }
+}
+
+// Want of memory is no refusal: the process ends.
+fn unless_memory(error: NodeError) -> Result<(), Memory>
+    ensures { OnOk result (error ≢ errors.Memory) }
+{
+    match error {
+        NodeError::Memory => Err(Memory),
+        _ => Ok(()),
+    }
+}

@@ -1,0 +1,89 @@
+"""The public document of a deployment, cluster.toml: how many replicas and clients there are, and where."""
+import os
+import re
+import tomllib
+from pathlib import Path
+from typing import NamedTuple
+
+MOST_FAULTS, MOST_CLIENTS = 10, 1_024
+KEYS = "f", "clients", "replicas", "relay"
+
+
+class Fault(Exception):
+    """What is wrong, in words for the operator."""
+
+
+def reason(fault):
+    """Why the system refused something, in its own words."""
+    return os.strerror(fault.errno) if fault.errno and fault.errno > 0 else str(fault)
+
+
+class Address(NamedTuple):
+    host: str
+    port: int
+
+    def __str__(self):
+        return f"[{self.host}]:{self.port}" if ":" in self.host else f"{self.host}:{self.port}"
+
+
+class Cluster(NamedTuple):
+    """At most `faults` of the replicas may fail; the relay is where kernels send their calls."""
+
+    faults: int
+    clients: int
+    replicas: tuple[Address, ...]
+    relay: Address
+
+
+def address_in(text, key):
+    """HOST:PORT; an address of IPv6 stands in brackets."""
+    host, _, port = text.rpartition(":") if isinstance(text, str) else ("", "", "")
+    host = host[1:-1] if host[:1] == "[" and host[-1:] == "]" else host
+    if not re.fullmatch(r"[\w.:-]+", host) or not (port.isascii() and port.isdigit()) or not 0 < int(port) < 1 << 16:
+        raise Fault(f"{key}: {text!r} is no HOST:PORT")
+    return Address(host, int(port))
+
+
+def number_in(document, key, least, most):
+    number = document[key]
+    if type(number) is not int or not least <= number <= most:
+        raise Fault(f"{key}: {number!r} is no number from {least} to {most}")
+    return number
+
+
+def cluster_in(document):
+    """The cluster that a document describes; a fault names its key."""
+    for key in document:
+        if key not in KEYS:
+            raise Fault(f"{key}: there is no such key")
+    for key in KEYS:
+        if key not in document:
+            raise Fault(f"{key}: it is missing")
+    faults = number_in(document, "f", 0, MOST_FAULTS)
+    clients = number_in(document, "clients", 1, MOST_CLIENTS)
+    replicas = document["replicas"]
+    if not isinstance(replicas, list) or len(replicas) != 3 * faults + 1:
+        raise Fault(f"replicas: with f = {faults} it is a list of {3 * faults + 1} addresses")
+    replicas = tuple(address_in(text, "replicas") for text in replicas)
+    relay = address_in(document["relay"], "relay")
+    if len({*replicas, relay}) != len(replicas) + 1:
+        raise Fault("replicas: two of these addresses, or one of them and the relay's, are one")
+    return Cluster(faults, clients, replicas, relay)
+
+
+def read_cluster(folder):
+    path = Path(folder, "cluster.toml")
+    try:
+        return cluster_in(tomllib.loads(path.read_text()))
+    except FileNotFoundError:
+        raise Fault(f"{path}: there is none; `tools/bfs keys {folder}` makes it") from None
+    except (OSError, UnicodeDecodeError, tomllib.TOMLDecodeError) as fault:
+        raise Fault(f"{path}: {fault}") from None
+    except Fault as fault:
+        raise Fault(f"{path}: {fault}") from None
+
+
+def text_of(cluster):
+    """The document that describes a cluster."""
+    replicas = ", ".join(f'"{address}"' for address in cluster.replicas)
+    return f'f = {cluster.faults}\nclients = {cluster.clients}\nreplicas = [{replicas}]\nrelay = "{cluster.relay}" # NFS version 2 and MOUNT, by TCP and UDP\n'

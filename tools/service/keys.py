@@ -1,0 +1,66 @@
+"""The documents of a deployment: the public one, and a private one for each replica and client (docs/CLUSTER.md, "Keys")."""
+import os
+import secrets
+from pathlib import Path
+
+from service.cluster import Address, Fault, cluster_in, reason, text_of
+
+KEY = 32  # bytes
+
+
+def pair(sending, receiving):
+    return f'{{ sending = "{sending}", receiving = "{receiving}" }}'
+
+
+def document(me, replicas, clients):
+    """A private document, of the principal's pairs with all replicas and clients."""
+    lines = [f"me = {me}"]
+    for name, pairs in (("replicas", replicas), ("clients", clients)):
+        if pairs:
+            lines += [f"{name} = [", *(f"    {pair}," for pair in pairs), "]"]
+    return "\n".join(lines) + "\n"
+
+
+def documents(cluster):
+    """The private documents of a cluster by their names, with new keys."""
+    replicas, clients = range(len(cluster.replicas)), range(cluster.clients)
+    principals = [("replica", number) for number in replicas] + [("client", number) for number in clients]
+    # a key for what one sends to another; of two clients none is ever used
+    key = {(one, other): secrets.token_hex(KEY) for one in principals for other in principals if "replica" in (one[0], other[0])}
+    for me in principals:
+        pairs = {other: pair(key[me, other], key[other, me]) for other in principals if (me, other) in key}
+        of = lambda role, numbers: [pairs[role, number] for number in numbers if (role, number) in pairs]
+        yield f"{me[0]}-{me[1]}.toml", document(f"{{ {me[0]} = {me[1]} }}", of("replica", replicas), of("client", clients))
+
+
+def private(path):
+    """The path of a private file, which others than its owner may not read or write."""
+    try:
+        mode = os.stat(path).st_mode & 0o777
+    except OSError as fault:
+        raise Fault(f"{path}: {reason(fault)}") from None
+    if mode & 0o077:
+        raise Fault(f"{path}: others than its owner may read or write it (mode {mode:04o}): `chmod 600 {path}`")
+    return path
+
+
+def write_new(path, text, mode):
+    with open(os.open(path, os.O_WRONLY | os.O_CREAT | os.O_EXCL, mode), "w") as file:
+        os.fchmod(file.fileno(), mode)
+        file.write(text)
+
+
+def make(folder, faults, clients, host, port, relay):
+    """Makes a deployment's documents in a folder that has none."""
+    texts = [str(Address(host, port + number)) for number in range(3 * faults + 1)]
+    cluster = cluster_in({"f": faults, "clients": clients, "replicas": texts, "relay": relay})
+    try:
+        os.makedirs(folder, mode=0o700, exist_ok=True)
+        if old := sorted(path.name for path in Path(folder).iterdir() if path.suffix == ".toml"):
+            raise Fault(f"{folder}: it has {old[0]}: nothing is written over")
+        for name, text in documents(cluster):
+            write_new(Path(folder, name), text, 0o600)
+        write_new(Path(folder, "cluster.toml"), text_of(cluster), 0o644)
+    except OSError as fault:
+        raise Fault(f"{folder}: {reason(fault)}") from None
+    return cluster

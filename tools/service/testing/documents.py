@@ -1,0 +1,70 @@
+"""Checks of the documents that `tools/bfs keys` makes, and of what is refused."""
+import stat
+import tomllib
+from pathlib import Path
+
+from service.peers import MOST_KEPT, Queue
+from service.testing.running import check
+
+
+def pairs(service):
+    """The pairs of any two are the same keys, the other way round; all keys are different; private files are private."""
+    read = lambda name: tomllib.loads(Path(service.folder, f"{name}.toml").read_text())
+    replicas, clients = [read(f"replica-{k}") for k in range(4)], [read(f"client-{k}") for k in range(8)]
+    check([each["me"] for each in replicas + clients] == [{"replica": k} for k in range(4)] + [{"client": k} for k in range(8)], "me")
+    pairs = [(replicas[one]["replicas"][other], replicas[other]["replicas"][one]) for one in range(4) for other in range(4)]
+    pairs += [(replicas[one]["clients"][other], clients[other]["replicas"][one]) for one in range(4) for other in range(8)]
+    check(all(one["sending"] == other["receiving"] and one["receiving"] == other["sending"] for one, other in pairs), "pairs differ")
+    keys = {key for pair in pairs for each in pair for key in each.values()}
+    check(len(keys) == 16 + 64 and all(len(bytes.fromhex(key)) == 32 for key in keys), f"{len(keys)} keys")
+    check(all("clients" not in each for each in clients), "a client has keys of clients")
+    modes = {stat.S_IMODE(path.stat().st_mode) for path in Path(service.folder).glob("*-*.toml")}
+    check(modes == {0o600}, f"modes {modes}")
+
+
+def refusals(service):
+    """What is missing or wrong is told in one line, with status 1."""
+    said, status = service.bfs("keys", service.folder)
+    check(status == 1 and "nothing is written over" in said, said)
+    said, status = service.bfs("replica", "1", service.folder, "--replica-program=/nowhere/there")
+    check(status == 1 and "/nowhere/there: it isn't built; `cd " in said and said.count("\n") == 1, said)
+    path = Path(service.folder, "replica-1.toml")
+    path.chmod(0o640)
+    for words in (["replica", "1"], ["up"]):
+        said, status = service.bfs(*words, service.folder, "--replica-program=/bin/true", "--relay-program=/bin/true")
+        check(status == 1 and "replica-1.toml: others than its owner" in said and "0640" in said, said)
+    path.chmod(0o600)
+    said, status = service.bfs("replica", "4", service.folder)
+    check(status == 1 and "0 to 3" in said, said)
+
+
+def faults_of_cluster(service):
+    """Each fault of the public document is named with its key."""
+    path = Path(service.folder, "cluster.toml")
+    good = path.read_text()
+    for old, new, told in (
+        ("f = 1", "f = 2", "replicas: with f = 2"),
+        ("f = 1", "f = 11", "f: 11 is no number from 0 to 10"),
+        ("clients = 8", "clients = true", "clients: True is no number"),
+        ("clients = 8", "", "clients: it is missing"),
+        ("clients = 8", "clients = 8\nmore = 1", "more: there is no such key"),
+        ('relay = "127.0.0.1:', 'relay = "127.0.0.1:0', "relay: "),
+        ('relay = "127.0.0.1:', 'relay = "', "relay: "),
+        ("f = 1", "f = ", "cluster.toml: Invalid value"),
+    ):
+        path.write_text(good.replace(old, new) if "relay: " not in told else good.replace(old, new + "x"))
+        said, status = service.bfs("status", service.folder)
+        check(status == 1 and told in said and said.count("\n") == 1, f"{new!r}: {said}")
+    path.write_text(good)
+
+
+def dropped(_service):
+    """What waits for one that isn't connected is bounded: the newest frames stay, and one that is too large alone does."""
+    queue = Queue([])
+    frames = [bytes([number]) * 100_000 for number in range(100)]
+    for each in frames:
+        queue.put(each)
+    check(queue.size <= MOST_KEPT and queue.dropped == 100 - len(queue.frames), f"{queue.size} bytes, {queue.dropped} dropped")
+    check(list(queue.frames) == frames[-len(queue.frames) :] and len(queue.frames) > 40, f"{len(queue.frames)} frames")
+    queue.put(bytes(2 * MOST_KEPT))
+    check(len(queue.frames) == 1 and len(queue.take()) == 2 * MOST_KEPT and queue.size == 0, "the large one")

@@ -1,0 +1,141 @@
+"""Starts fake deployments on loopback, and ends what it started by its ids."""
+import os
+import signal
+import socket
+import subprocess
+import sys
+import time
+from pathlib import Path
+
+HERE = Path(__file__).resolve().parent
+BFS = HERE.parents[1] / "bfs"
+MEBIBYTE = 1 << 20
+PATIENCE = 15  # seconds that something has to come about
+
+
+class Failed(Exception):
+    """What was not as it must be."""
+
+
+def check(holds, text):
+    if not holds:
+        raise Failed(text)
+
+
+def until(condition, text, seconds=PATIENCE):
+    """Waits until the condition gives something true, and gives that."""
+    end = time.monotonic() + seconds
+    while not (found := condition()):
+        check(time.monotonic() < end, f"{text}: not within {seconds} s")
+        time.sleep(0.05)
+    return found
+
+
+def free_ports(count):
+    """Ports that were free a moment ago, for TCP and for UDP."""
+    sockets = []
+    for _ in range(count):
+        stream = socket.socket()
+        stream.bind(("127.0.0.1", 0))
+        datagrams = socket.socket(socket.AF_INET, socket.SOCK_DGRAM)
+        datagrams.bind(stream.getsockname())
+        sockets += stream, datagrams
+    ports = [each.getsockname()[1] for each in sockets[::2]]
+    for each in sockets:
+        each.close()
+    return ports
+
+
+def children(process):
+    """The ids of the processes that one has started."""
+    try:
+        return [int(word) for word in Path(f"/proc/{process}/task/{process}/children").read_text().split()]
+    except OSError:
+        return []
+
+
+def below(process):
+    return [each for child in children(process) for each in (child, *below(child))]
+
+
+def words_of(process):
+    """The words of a process that runs, else none."""
+    try:
+        return Path(f"/proc/{process}/cmdline").read_bytes().split(b"\0")[:-1]
+    except OSError:
+        return []
+
+
+def peak(process):
+    """The most memory that a process had, in bytes."""
+    (line,) = [line for line in Path(f"/proc/{process}/status").read_text().splitlines() if line.startswith("VmHWM")]
+    return int(line.split()[1]) * 1024
+
+
+class Service:
+    """A deployment of fakes in a folder: what `tools/bfs up` started, and what was started beside it."""
+
+    def __init__(self, folder, faults=1, clients=8):
+        self.folder, self.log, self.started = folder, Path(f"{folder}.log"), []
+        ports = free_ports(3 * faults + 2)
+        self.replicas, self.relay = [("127.0.0.1", port) for port in ports[:-1]], ("127.0.0.1", ports[-1])
+        self.bfs("keys", folder, "--f", str(faults), "--clients", str(clients), "--relay", f"127.0.0.1:{ports[-1]}")
+        listed = ", ".join(f'"127.0.0.1:{port}"' for port in ports[:-1])
+        Path(folder, "cluster.toml").write_text(f'f = {faults}\nclients = {clients}\nreplicas = [{listed}]\nrelay = "127.0.0.1:{ports[-1]}"\n')
+
+    def bfs(self, *words):
+        """What a command of `tools/bfs` printed, and its status."""
+        run = subprocess.run([sys.executable, BFS, *words], stdout=subprocess.PIPE, stderr=subprocess.STDOUT, text=True)
+        return run.stdout, run.returncode
+
+    def start(self, *words, **environment):
+        """Starts a command that goes on."""
+        programs = f"--replica-program={HERE}/fake_replica", f"--relay-program={HERE}/fake_relay"
+        with open(self.log, "ab") as log:
+            command = [sys.executable, BFS, *words, self.folder, *programs]
+            self.started.append(subprocess.Popen(command, stdout=log, stderr=log, stdin=subprocess.DEVNULL, env={**os.environ, **environment}))
+        return self.started[-1]
+
+    def said(self, text):
+        return text in self.log.read_text(errors="replace")
+
+    def up(self, **environment):
+        """Starts all, and waits until each is connected with each."""
+        process = self.start("up", **environment)
+        count = len(self.replicas)
+        wanted = [f"replica {one}: replica {other} is connected" for one in range(count) for other in range(count) if one != other]
+        wanted += [f"relay: replica {one} is connected" for one in range(count)] + ["fake relay begins"] + [f"replica {one}: a fake replica begins" for one in range(count)]
+        until(lambda: all(map(self.said, wanted)), "all are connected")
+        return process
+
+    def process_of(self, *words):
+        """The id of the running transport with these words, and of its filter."""
+        for process in self.running():
+            if words_of(process)[2:][: len(words)] == [word.encode() for word in words] and children(process):
+                return process, children(process)[0]
+        return None
+
+    def running(self):
+        own = [process.pid for process in self.started if process.poll() is None]
+        return own + [each for process in own for each in below(process)]
+
+    def end(self, process, number=signal.SIGTERM):
+        """Ends one that was started here, and gives its status and what of its own still runs then."""
+        own = [(each, words_of(each)) for each in below(process.pid)]
+        process.send_signal(number)
+        status = process.wait(PATIENCE)
+        left = lambda: [each for each, words in own if words and words_of(each) == words]
+        end = time.monotonic() + 5
+        while left() and time.monotonic() < end:
+            time.sleep(0.05)
+        return status, left()
+
+    def end_all(self):
+        """By force: nothing of it is left behind a failed check either."""
+        for process in self.running():
+            try:
+                os.kill(process, signal.SIGKILL)
+            except ProcessLookupError:
+                pass
+        for process in self.started:
+            process.wait()
