@@ -1,2 +1,4 @@
--- What the contracts of bfs_service cite.
+-- A replica as a process: the steps of its node (Acting), what it tells (Telling), and its turns (Turns).
 pub mod Acting
+pub mod Telling
+pub mod Turns
