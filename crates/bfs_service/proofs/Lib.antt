@@ -1,3 +1,3 @@
 -- What proofs share.
+pub mod Folding
 pub mod Going
-pub mod Frames
