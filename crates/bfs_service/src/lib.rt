@@ -5,6 +5,7 @@ mod acting;
 mod delivering;
 mod fetching;
 mod giving;
+mod laws;
 mod notes;
 mod pacing;
 mod queue;
@@ -12,4 +13,5 @@ mod service;
 mod states;
 mod telling;
 
+pub use laws::processes_agree;
 pub use service::{Service, Terms};
