@@ -1,0 +1,105 @@
+//! A port mapper of version 2 (RFC 1833 section 3), which knows where NFS and MOUNT are, and learns nothing.
+#![forbid(unsafe_code)]
+
+use crate::frames::number_at;
+use crate::rpc::Header;
+
+const PROGRAM: u32 = 100_000;
+const VERSION: u32 = 2;
+const NFS: (u32, u32) = (100_003, 2); // program and version
+const MOUNT: (u32, u32) = (100_005, 1);
+const TCP: u32 = 6;
+const UDP: u32 = 17;
+
+const SUCCESS: u32 = 0; // statuses of replies (RFC 5531 section 9)
+const PROG_UNAVAIL: u32 = 1;
+const PROG_MISMATCH: u32 = 2;
+const PROC_UNAVAIL: u32 = 3;
+const GARBAGE_ARGS: u32 = 4;
+
+/// The reply to a message, if it has one. Both programs are at that port, by TCP and by UDP.
+pub fn answer(record: &[u8], port: u16) -> Option<Vec<u8>> {
+    let header = Header::of(record)?;
+    let Header { xid, rpc_version, program, version, procedure, arguments } = header;
+    let port = u32::from(port);
+    if rpc_version != 2 {
+        return Some(words(&[xid, 1, 1, 0, 2, 2])); // denied: RPC_MISMATCH
+    }
+    let accepted = |status: u32, results: &[u32]| Some(words(&[&[xid, 1, 0, 0, 0, status], results].concat()));
+    match (program, version, procedure) {
+        (PROGRAM, VERSION, 0) => accepted(SUCCESS, &[]),
+        (PROGRAM, VERSION, 1 | 2) => accepted(SUCCESS, &[0]), // SET and UNSET: refused
+        (PROGRAM, VERSION, 3) => match mapping(record, arguments) {
+            Some((wanted, protocol)) => {
+                let is_here = [NFS, MOUNT].contains(&wanted) && [TCP, UDP].contains(&protocol);
+                accepted(SUCCESS, &[if is_here { port } else { 0 }])
+            }
+            None => accepted(GARBAGE_ARGS, &[]),
+        },
+        (PROGRAM, VERSION, 4) => {
+            let mut list = Vec::new();
+            for (program, version) in [NFS, MOUNT] {
+                for protocol in [TCP, UDP] {
+                    list.extend_from_slice(&[1, program, version, protocol, port]);
+                }
+            }
+            list.push(0);
+            accepted(SUCCESS, &list)
+        }
+        (PROGRAM, VERSION, 5) => None, // CALLIT: nothing is called for others
+        (PROGRAM, VERSION, _) => accepted(PROC_UNAVAIL, &[]),
+        (PROGRAM, _, _) => accepted(PROG_MISMATCH, &[VERSION, VERSION]),
+        _ => accepted(PROG_UNAVAIL, &[]),
+    }
+}
+
+/// The program, its version and the protocol that are asked for.
+fn mapping(record: &[u8], at: usize) -> Option<((u32, u32), u32)> {
+    let word = |place: usize| number_at(record, at + 4 * place);
+    word(3)?; // a port stands behind them
+    Some(((word(0)?, word(1)?), word(2)?))
+}
+
+fn words(words: &[u32]) -> Vec<u8> {
+    words.iter().flat_map(|word| word.to_be_bytes()).collect()
+}
+
+#[cfg(test)]
+mod tests {
+    use super::*;
+    use crate::rpc::tests::call;
+
+    fn answered(program: u32, version: u32, procedure: u32, arguments: &[u32]) -> Option<Vec<u32>> {
+        let reply = answer(&call(9, program, version, procedure, arguments), 2049)?;
+        Some(reply.chunks(4).map(|word| number_at(word, 0).unwrap()).collect())
+    }
+
+    #[test]
+    fn ports() {
+        let port = |program, version, protocol| answered(PROGRAM, 2, 3, &[program, version, protocol, 0]).unwrap();
+        let good = |results: &[u32]| [&[9, 1, 0, 0, 0, SUCCESS], results].concat();
+        for protocol in [TCP, UDP] {
+            assert_eq!(port(100_003, 2, protocol), good(&[2049]));
+            assert_eq!(port(100_005, 1, protocol), good(&[2049]));
+            assert_eq!(port(100_003, 3, protocol), good(&[0]));
+            assert_eq!(port(100_021, 1, protocol), good(&[0]));
+        }
+        assert_eq!(port(100_003, 2, 7), good(&[0]));
+        assert_eq!(answered(PROGRAM, 2, 0, &[]), Some(good(&[])));
+        assert_eq!(answered(PROGRAM, 2, 1, &[1, 2, 3, 4]), Some(good(&[0])));
+        assert_eq!(answered(PROGRAM, 2, 4, &[]).unwrap().len(), 6 + 4 * 5 + 1);
+    }
+
+    #[test]
+    fn what_else_is_asked() {
+        assert_eq!(answered(PROGRAM, 2, 3, &[1, 2, 3]), Some(vec![9, 1, 0, 0, 0, GARBAGE_ARGS]));
+        assert_eq!(answered(PROGRAM, 2, 5, &[]), None);
+        assert_eq!(answered(PROGRAM, 2, 6, &[]), Some(vec![9, 1, 0, 0, 0, PROC_UNAVAIL]));
+        assert_eq!(answered(PROGRAM, 4, 3, &[]), Some(vec![9, 1, 0, 0, 0, PROG_MISMATCH, 2, 2]));
+        assert_eq!(answered(100_003, 2, 0, &[]), Some(vec![9, 1, 0, 0, 0, PROG_UNAVAIL]));
+        let mut old = call(9, PROGRAM, 2, 0, &[]);
+        old[11] = 3;
+        assert_eq!(answer(&old, 1), Some(words(&[9, 1, 1, 0, 2, 2])));
+        assert!((0..40).all(|cut| answer(&call(9, PROGRAM, 2, 0, &[])[..cut], 1).is_none()));
+    }
+}
