@@ -7,6 +7,7 @@ from typing import NamedTuple
 
 MOST_FAULTS, MOST_CLIENTS = 10, 1_024
 KEYS = "f", "clients", "replicas", "relay"
+OTHERS = "portmap", "limits", "patience"  # which may be missing; the last two are for replicas and relays alone
 
 
 class Fault(Exception):
@@ -27,12 +28,13 @@ class Address(NamedTuple):
 
 
 class Cluster(NamedTuple):
-    """At most `faults` of the replicas may fail; the relay is where kernels send their calls."""
+    """At most `faults` of the replicas may fail; the relay is where kernels send their calls, and `portmap` where they may ask for its port."""
 
     faults: int
     clients: int
     replicas: tuple[Address, ...]
     relay: Address
+    portmap: Address | None = None
 
 
 def address_in(text, key):
@@ -54,7 +56,7 @@ def number_in(document, key, least, most):
 def cluster_in(document):
     """The cluster that a document describes; a fault names its key."""
     for key in document:
-        if key not in KEYS:
+        if key not in KEYS + OTHERS:
             raise Fault(f"{key}: there is no such key")
     for key in KEYS:
         if key not in document:
@@ -66,9 +68,11 @@ def cluster_in(document):
         raise Fault(f"replicas: with f = {faults} it is a list of {3 * faults + 1} addresses")
     replicas = tuple(address_in(text, "replicas") for text in replicas)
     relay = address_in(document["relay"], "relay")
-    if len({*replicas, relay}) != len(replicas) + 1:
-        raise Fault("replicas: two of these addresses, or one of them and the relay's, are one")
-    return Cluster(faults, clients, replicas, relay)
+    portmap = address_in(document["portmap"], "portmap") if "portmap" in document else None
+    addresses = [*replicas, relay, *filter(None, [portmap])]
+    if len(set(addresses)) != len(addresses):
+        raise Fault("replicas: two of these addresses, or one of them and that of `relay` or `portmap`, are one")
+    return Cluster(faults, clients, replicas, relay, portmap)
 
 
 def read_cluster(folder):

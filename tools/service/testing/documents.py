@@ -1,9 +1,10 @@
 """Checks of the documents that `tools/bfs keys` makes, and of what is refused."""
 import stat
+import subprocess
 import tomllib
 from pathlib import Path
 
-from service.peers import MOST_KEPT, Queue
+from service.programs import TRANSPORT
 from service.testing.running import check
 
 
@@ -27,7 +28,7 @@ def refusals(service):
     said, status = service.bfs("keys", service.folder)
     check(status == 1 and "nothing is written over" in said, said)
     said, status = service.bfs("replica", "1", service.folder, "--replica-program=/nowhere/there")
-    check(status == 1 and "/nowhere/there: it isn't built; `cd " in said and said.count("\n") == 1, said)
+    check(status == 1 and "/nowhere/there: there is no such program" in said and said.count("\n") == 1, said)
     path = Path(service.folder, "replica-1.toml")
     path.chmod(0o640)
     for words in (["replica", "1"], ["up"]):
@@ -50,6 +51,8 @@ def faults_of_cluster(service):
         ("clients = 8", "clients = 8\nmore = 1", "more: there is no such key"),
         ('relay = "127.0.0.1:', 'relay = "127.0.0.1:0', "relay: "),
         ('relay = "127.0.0.1:', 'relay = "', "relay: "),
+        ("f = 1", 'f = 1\nportmap = "127.0.0.1"', "portmap: '127.0.0.1' is no HOST:PORT"),
+        ("f = 1", f'f = 1\nportmap = "127.0.0.1:{service.relay[1]}"', "replicas: two of these"),
         ("f = 1", "f = ", "cluster.toml: Invalid value"),
     ):
         path.write_text(good.replace(old, new) if "relay: " not in told else good.replace(old, new + "x"))
@@ -58,13 +61,17 @@ def faults_of_cluster(service):
     path.write_text(good)
 
 
-def dropped(_service):
-    """What waits for one that isn't connected is bounded: the newest frames stay, and one that is too large alone does."""
-    queue = Queue([])
-    frames = [bytes([number]) * 100_000 for number in range(100)]
-    for each in frames:
-        queue.put(each)
-    check(queue.size <= MOST_KEPT and queue.dropped == 100 - len(queue.frames), f"{queue.size} bytes, {queue.dropped} dropped")
-    check(list(queue.frames) == frames[-len(queue.frames) :] and len(queue.frames) > 40, f"{len(queue.frames)} frames")
-    queue.put(bytes(2 * MOST_KEPT))
-    check(len(queue.frames) == 1 and len(queue.take()) == 2 * MOST_KEPT and queue.size == 0, "the large one")
+def accepted(service):
+    """What is for replicas and relays alone is passed over."""
+    path = Path(service.folder, "cluster.toml")
+    good = path.read_text()
+    path.write_text(good + "patience = 5\n[limits]\nrequest = 1\n")
+    said, _ = service.bfs("status", service.folder)
+    check("no connection: Connection refused" in said, said)
+    path.write_text(good)
+
+
+def parts(_service):
+    """The tests of the transport's own parts."""
+    tested = subprocess.run(["cargo", "test", "--offline", "--quiet"], cwd=TRANSPORT, stdin=subprocess.DEVNULL, stdout=subprocess.PIPE, stderr=subprocess.STDOUT, text=True)
+    check(tested.returncode == 0 and "test result: ok." in tested.stdout, tested.stdout[-2_000:])

@@ -3,7 +3,7 @@ import random
 import struct
 import time
 
-from service.frames import ASK_REPORT, OPERATOR, RELAY, REPLICA, REPLY, REPORT, REQUEST, STATE, framed
+from service.testing.frames import ASK_REPORT, OPERATOR, RELAY, REPLICA, REPLY, REPORT, REQUEST, STATE, framed
 from service.testing.calls import call, executed, one_call
 from service.testing.peer import HUGE, Peer, hello
 from service.testing.running import MEBIBYTE, check, peak, words_of

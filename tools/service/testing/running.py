@@ -111,7 +111,7 @@ class Service:
     def process_of(self, *words):
         """The id of the running transport with these words, and of its filter."""
         for process in self.running():
-            if words_of(process)[2:][: len(words)] == [word.encode() for word in words] and children(process):
+            if words_of(process)[1:][: len(words)] == [word.encode() for word in words] and children(process):
                 return process, children(process)[0]
         return None
 
