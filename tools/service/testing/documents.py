@@ -51,8 +51,8 @@ def faults_of_cluster(service):
         ("clients = 8", "clients = 8\nmore = 1", "more: there is no such key"),
         ('relay = "127.0.0.1:', 'relay = "127.0.0.1:0', "relay: "),
         ('relay = "127.0.0.1:', 'relay = "', "relay: "),
-        ("f = 1", 'f = 1\nportmap = "127.0.0.1"', "portmap: '127.0.0.1' is no HOST:PORT"),
-        ("f = 1", f'f = 1\nportmap = "127.0.0.1:{service.relay[1]}"', "replicas: two of these"),
+        ("portmap = ", "portmap = 111 #", "portmap: 111 is no HOST:PORT"),
+        (f":{service.portmap[1]}", f":{service.relay[1]}", "replicas: two of these"),
         ("f = 1", "f = ", "cluster.toml: Invalid value"),
     ):
         path.write_text(good.replace(old, new) if "relay: " not in told else good.replace(old, new + "x"))

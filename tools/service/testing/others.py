@@ -6,7 +6,7 @@ import time
 from service.testing.frames import ASK_REPORT, OPERATOR, RELAY, REPLICA, REPLY, REPORT, REQUEST, STATE, framed
 from service.testing.calls import call, executed, one_call
 from service.testing.peer import HUGE, Peer, hello
-from service.testing.running import MEBIBYTE, check, peak, words_of
+from service.testing.running import MEBIBYTE, check, peak, used, words_of
 
 
 def strangers(service):
@@ -95,4 +95,14 @@ def ticks(service):
     check(5 <= (after - before) / passed <= 20, f"{after - before} turns in {passed:.1f} s")
 
 
-ALL = strangers, relays, rubbish, flood, many, reports, ticks
+def quiet(service):
+    """With nothing to do, no transport is busy, whatever came before."""
+    transports = [service.process_of(*words)[0] for words in (["relay"], *(["replica", str(number)] for number in range(4)))]
+    time.sleep(0.5)
+    before = [used(each) for each in transports]
+    time.sleep(2)
+    took = [used(each) - then for each, then in zip(transports, before)]
+    check(max(took) < 0.2, f"seconds of processors in 2 s: {took}")
+
+
+ALL = strangers, relays, rubbish, flood, many, reports, ticks, quiet

@@ -44,7 +44,9 @@ pub struct Filter {
 
 impl Filter {
     pub fn start(program: &str, words: &[String]) -> Result<Filter> {
-        let mut child = Command::new(program).args(words).stdin(Stdio::piped()).stdout(Stdio::piped()).spawn()?;
+        let mut command = Command::new(program);
+        system::set_apart(&mut command);
+        let mut child = command.args(words).stdin(Stdio::piped()).stdout(Stdio::piped()).spawn()?;
         let (into, out) = match (child.stdin.take(), child.stdout.take()) {
             (Some(into), Some(out)) => (File::from(OwnedFd::from(into)), File::from(OwnedFd::from(out))),
             _ => return Err(ErrorKind::BrokenPipe.into()),

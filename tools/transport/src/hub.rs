@@ -10,7 +10,7 @@ use crate::names::Names;
 use crate::queue::Queue;
 use crate::system;
 use crate::wait::{Ready, Waits};
-use std::collections::{BTreeMap, BTreeSet, HashMap};
+use std::collections::{BTreeMap, HashMap};
 use std::io::{ErrorKind, Read, Write};
 use std::net::{IpAddr, SocketAddr, TcpListener, TcpStream};
 use std::time::{Duration, Instant};
@@ -20,7 +20,7 @@ const MOST_ROOMS: usize = 4; // relays that get the replies to one client
 const MOST_CLIENTS: u32 = 1 << 10;
 const MOST_CONNECTIONS: usize = 256; // that were accepted
 const MOST_ACCEPTED: usize = 32; // that are accepted at a time
-const MOST_NEWS: usize = 32; // lines that are told at a time
+const MOST_NEWS: usize = 8; // lines that are told at a time
 const GREETING: Duration = Duration::from_secs(10); // that one has to say hello, or to take a connection
 const LATE: Duration = Duration::from_secs(5); // after which one that isn't there is told of
 const AGAIN: Duration = Duration::from_secs(1); // after which a filter that gave no report is asked again
@@ -48,7 +48,7 @@ pub struct Hub {
     asking: Vec<u64>,                // connections of operators
     asked: Option<Instant>,
     dirty: Vec<u64>, // connections to which more is to be written
-    told: BTreeSet<String>,
+    told: BTreeMap<String, u64>, // whose connections
     begun: Option<Instant>,
 }
 
@@ -70,14 +70,14 @@ impl Hub {
             asking: Vec::new(),
             asked: None,
             dirty: Vec::new(),
-            told: BTreeSet::new(),
+            told: BTreeMap::new(),
             begun: Some(now),
         }
     }
 
     pub fn to_replicas(&mut self, frame: &Frame) {
-        for number in (0..self.peers.len()).filter(|number| Some(*number) != self.me).collect::<Vec<_>>() {
-            self.to_replica(number as u64, frame);
+        for number in 0..self.peers.len() as u64 {
+            self.to_replica(number, frame); // to all but itself
         }
     }
 
@@ -423,24 +423,13 @@ impl Hub {
         }
     }
 
-    /// Closes what is too late, and tells who is connected now and wasn't, and who was: a few, and once in a while, so that nobody fills the log.
+    /// Closes what is too late, and tells what is new.
     pub fn look(&mut self, inboxes: &mut Inboxes, log: &mut Log) {
         self.names.refresh();
         let is_late = |connection: &Connection| matches!(connection.role, Role::Stranger | Role::Dialed(_)) && connection.since.elapsed() > GREETING;
         let late: Vec<u64> = self.connections.iter().filter(|(_, connection)| is_late(connection)).map(|(id, _)| *id).collect();
         late.into_iter().for_each(|id| self.close(id, inboxes));
-        let named = |role| matches!(role, Role::Replica(_) | Role::Relay { .. });
-        let now: BTreeSet<String> = self.connections.values().filter(|connection| named(connection.role)).map(|connection| connection.role.name()).collect();
-        let news: Vec<String> = now.symmetric_difference(&self.told).take(MOST_NEWS).cloned().collect();
-        for name in news {
-            if now.contains(&name) {
-                log.news(&format!("{name} is connected"));
-                self.told.insert(name);
-            } else {
-                log.news(&format!("{name} is gone"));
-                self.told.remove(&name);
-            }
-        }
+        self.tell_news(log);
         if self.begun.map_or(false, |begun| begun.elapsed() > LATE) {
             self.begun = None;
             for number in (0..self.peers.len()).filter(|number| Some(*number) != self.me) {
@@ -448,6 +437,23 @@ impl Hub {
                     log.news(&format!("replica {number} is not connected yet"));
                 }
             }
+        }
+    }
+
+    /// Tells who is connected now and wasn't, and who was: a few, and once in a while, so that nobody fills the log.
+    fn tell_news(&mut self, log: &Log) {
+        let named = |role| matches!(role, Role::Replica(_) | Role::Relay { .. });
+        let of_name = self.connections.iter().filter(|(_, connection)| named(connection.role));
+        let now: BTreeMap<String, u64> = of_name.map(|(id, connection)| (connection.role.name(), *id)).collect();
+        let gone: Vec<String> = self.told.keys().filter(|name| !now.contains_key(*name)).take(MOST_NEWS).cloned().collect();
+        for name in gone {
+            log.news(&format!("{name} is gone"));
+            self.told.remove(&name);
+        }
+        let new: Vec<(String, u64)> = now.into_iter().filter(|(name, id)| self.told.get(name) != Some(id)).take(MOST_NEWS).collect();
+        for (name, id) in new {
+            log.news(&format!("{name} is connected"));
+            self.told.insert(name, id);
         }
     }
 }

@@ -15,6 +15,7 @@ use std::time::{Duration, Instant};
 const MOST_STREAMS: usize = 1_024;
 const MOST_AT_A_TIME: usize = 64; // streams that are accepted, and datagrams that are read
 const MOST_UNREAD: usize = 256 << 10; // bytes of replies that a caller may leave unread until no more calls of it are taken
+const MOST_READ: usize = 64 << 10; // bytes that are read of a stream at a time, and may wait there
 const REST: Duration = Duration::from_millis(100); // for which nothing is accepted where that has failed
 
 /// What is served at an address.
@@ -201,7 +202,8 @@ impl Kernels {
             Some(stream) => stream,
             None => return,
         };
-        let count = match stream.stream.read(buffer) {
+        let most = buffer.len().min(MOST_READ);
+        let count = match stream.stream.read(buffer.get_mut(..most).unwrap_or_default()) {
             Ok(count) => count,
             Err(fault) if matches!(fault.kind(), ErrorKind::WouldBlock | ErrorKind::Interrupted) => return,
             Err(_) => 0,

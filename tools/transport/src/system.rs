@@ -6,6 +6,8 @@ use std::io;
 use std::net::{SocketAddr, TcpStream};
 use std::os::raw::{c_int, c_short, c_ulong, c_void};
 use std::os::unix::io::{AsRawFd, FromRawFd, RawFd};
+use std::os::unix::process::CommandExt;
+use std::process::Command;
 use std::sync::atomic::{AtomicBool, Ordering};
 use std::time::Duration;
 
@@ -50,6 +52,7 @@ extern "C" {
     fn socket(domain: c_int, kind: c_int, protocol: c_int) -> c_int;
     fn bind(socket: c_int, address: *const c_void, length: u32) -> c_int;
     fn connect(socket: c_int, address: *const c_void, length: u32) -> c_int;
+    fn setpgid(process: c_int, group: c_int) -> c_int;
 }
 
 static IS_TOLD: AtomicBool = AtomicBool::new(false);
@@ -68,6 +71,12 @@ pub fn keep_signals() {
 
 pub fn is_told_to_end() -> bool {
     IS_TOLD.load(Ordering::Relaxed)
+}
+
+/// Gives a command a process group of its own, so that ctrl-C comes to its parent alone.
+pub fn set_apart(command: &mut Command) {
+    // SAFETY: between fork and exec this makes one system call, and takes no memory.
+    unsafe { command.pre_exec(|| checked(setpgid(0, 0)).map(|_| ())) };
 }
 
 fn checked(result: c_int) -> io::Result<c_int> {
@@ -146,8 +155,8 @@ pub fn begin_connection(to: &SocketAddr, from: Option<SocketAddr>) -> io::Result
     if let Some(from) = from {
         let (its_family, address) = system_address(&from);
         if its_family == family {
-            // SAFETY: the pointer and the length are those of a vector, which the call reads.
-            checked(unsafe { bind(stream.as_raw_fd(), address.as_ptr().cast(), address.len() as u32) })?;
+            // SAFETY: the pointer and the length are those of a vector, which the call reads. Where it fails, the system chooses an address.
+            let _ = unsafe { bind(stream.as_raw_fd(), address.as_ptr().cast(), address.len() as u32) };
         }
     }
     // SAFETY: the same.
