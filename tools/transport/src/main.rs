@@ -31,6 +31,7 @@ use crate::names::Names;
 use crate::transport::Transport;
 use crate::words::{Role, Words};
 use std::fmt::Display;
+use std::io::{stderr, Write};
 use std::net::TcpListener;
 use std::process::ExitCode;
 
@@ -41,7 +42,7 @@ fn main() -> ExitCode {
     let words = match Words::of(std::env::args().skip(1).collect()) {
         Some(words) => words,
         None => {
-            eprintln!("{}", words::USAGE);
+            let _ = writeln!(stderr(), "{}", words::USAGE);
             return ExitCode::from(USAGE);
         }
     };
