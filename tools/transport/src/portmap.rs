@@ -102,4 +102,22 @@ mod tests {
         assert_eq!(answer(&old, 1), Some(words(&[9, 1, 1, 0, 2, 2])));
         assert!((0..40).all(|cut| answer(&call(9, PROGRAM, 2, 0, &[])[..cut], 1).is_none()));
     }
+
+    #[test]
+    fn rubbish_does_no_harm() {
+        let mut number = 1u64;
+        let mut next = |most: usize| {
+            number = number.wrapping_mul(6_364_136_223_846_793_005).wrapping_add(1_442_695_040_888_963_407);
+            (number >> 33) as usize % most
+        };
+        for _ in 0..100_000 {
+            let mut record = call(9, PROGRAM, 2, next(7) as u32, &[100_003, 2, 6, 0]);
+            for _ in 0..next(4) {
+                let place = next(record.len());
+                record[place] = next(256) as u8;
+            }
+            record.truncate(next(2 * record.len()));
+            assert!(answer(&record, 2049).map_or(true, |reply| reply.len() <= 108 && reply.len() % 4 == 0));
+        }
+    }
 }

@@ -33,7 +33,8 @@ const OPTIONS: [(c_int, c_int, c_int); 5] =
 
 pub const READS: c_short = 1; // POLLIN
 pub const WRITES: c_short = 4; // POLLOUT
-pub const IS_BROKEN: c_short = 8 | 16 | 32; // POLLERR, POLLHUP, POLLNVAL
+pub const IS_OVER: c_short = 0x2000; // POLLRDHUP: the other side writes no more
+pub const IS_BROKEN: c_short = 8 | 16 | 32 | IS_OVER; // POLLERR, POLLHUP, POLLNVAL
 
 /// A descriptor, what is waited for there, and what was found.
 #[repr(C)]

@@ -1,7 +1,7 @@
 //! What is waited for: descriptors, each with a token that says whose it is.
 #![forbid(unsafe_code)]
 
-use crate::system::{self, Polled, IS_BROKEN, READS, WRITES};
+use crate::system::{self, Polled, IS_BROKEN, IS_OVER, READS, WRITES};
 use std::io;
 use std::os::unix::io::AsRawFd;
 use std::time::Duration;
@@ -30,9 +30,9 @@ impl<T: Copy> Waits<T> {
         self.tokens.clear();
     }
 
-    /// Waits at this one, too, until it can be read or written; where neither is wanted, until it is broken.
+    /// Waits at this one, too, until it can be read or written; where it isn't to be read, until the other side has ended it.
     pub fn add(&mut self, file: &impl AsRawFd, token: T, reads: bool, writes: bool) {
-        let wanted = if reads { READS } else { 0 } | if writes { WRITES } else { 0 };
+        let wanted = if reads { READS } else { IS_OVER } | if writes { WRITES } else { 0 };
         self.polled.push(Polled { descriptor: file.as_raw_fd(), wanted, found: 0 });
         self.tokens.push(token);
     }
