@@ -143,7 +143,7 @@ def port_mapper(service):
         stream.send(marked(asked[:39]) + marked(asked, 20))
         check(stream.reply() == port(number), "another port by TCP")
     stream.send(marked(call(30, 4, b"", 100_000)) + marked(call(30, 0, b"", 100_000)))
-    check(len(stream.reply()) == 24 + 4 * 20 + 4 and stream.reply() == head, "DUMP and NULL")
+    check(len(stream.reply()) == 24 + 6 * 20 + 4 and stream.reply() == head, "DUMP and NULL")
     stream.close()
     peer = Peer(service.portmap)
     peer.send(random.randbytes(100_000))

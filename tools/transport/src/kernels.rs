@@ -3,7 +3,7 @@
 
 use crate::calls::{Caller, Calls, Share, Taken};
 use crate::inbox::{Inboxes, Source};
-use crate::portmap;
+use crate::portmap::{self, Ports};
 use crate::rpc::{mark_of, Records, MOST_RECORD};
 use crate::system;
 use crate::wait::{Ready, Waits};
@@ -89,7 +89,7 @@ fn put_record(replies: &mut Vec<u8>, reply: &[u8]) {
 
 /// All streams and datagrams, and the calls that came by them.
 pub struct Kernels {
-    port: u16, // of NFS and MOUNT
+    ports: Ports,
     doors: Vec<Door>,
     streams: BTreeMap<u64, Stream>,
     last: u64, // number of a stream
@@ -100,9 +100,9 @@ pub struct Kernels {
 }
 
 impl Kernels {
-    pub fn new(port: u16) -> Kernels {
+    pub fn new(ports: Ports) -> Kernels {
         let (streams, calls) = (BTreeMap::new(), Calls::default());
-        Kernels { port, doors: Vec::new(), streams, last: 0, calls, paused: VecDeque::new(), dirty: Vec::new(), accepts_after: Instant::now() }
+        Kernels { ports, doors: Vec::new(), streams, last: 0, calls, paused: VecDeque::new(), dirty: Vec::new(), accepts_after: Instant::now() }
     }
 
     /// Listens at that address.
@@ -219,14 +219,14 @@ impl Kernels {
 
     /// Takes what came, while calls may be taken. What is no record of a call closes the connection.
     fn take_records(&mut self, id: u64, came: &[u8], inboxes: &mut Inboxes) {
-        let Kernels { streams, calls, port, .. } = self;
+        let Kernels { streams, calls, ports, .. } = self;
         let Stream { records, address, service, replies, written, .. } = match streams.get_mut(&id) {
             Some(stream) => stream,
             None => return,
         };
         let fed = match service {
             Service::PortMapper => records.feed(came, |record| {
-                portmap::answer(record, *port).iter().for_each(|reply| put_record(replies, reply));
+                portmap::answer(record, *ports).iter().for_each(|reply| put_record(replies, reply));
                 replies.len() - *written < MOST_UNREAD
             }),
             Service::Files => records.feed(came, |record| {
@@ -284,7 +284,7 @@ impl Kernels {
     }
 
     fn read_datagrams(&mut self, place: usize, buffer: &mut [u8], inboxes: &mut Inboxes) {
-        let Kernels { doors, calls, port, .. } = self;
+        let Kernels { doors, calls, ports, .. } = self;
         let Door { service, datagrams, .. } = match doors.get(place) {
             Some(door) => door,
             None => return,
@@ -302,7 +302,7 @@ impl Kernels {
             };
             // where a datagram can't be sent, it is lost, and the caller asks again
             match service {
-                Service::PortMapper => drop(portmap::answer(record, *port).map(|reply| datagrams.send_to(&reply, address))),
+                Service::PortMapper => drop(portmap::answer(record, *ports).map(|reply| datagrams.send_to(&reply, address))),
                 Service::Files if calls.may_take(caller, Share::All) => match calls.take(address, record, caller) {
                     Taken::Nothing => {}
                     Taken::Call(frame) => inboxes.put(Source::Kernels, &frame, 1),

@@ -28,6 +28,7 @@ use crate::hub::Hub;
 use crate::kernels::{Kernels, Service};
 use crate::log::Log;
 use crate::names::Names;
+use crate::portmap::Ports;
 use crate::transport::Transport;
 use crate::words::{Role, Words};
 use std::fmt::Display;
@@ -86,8 +87,8 @@ fn begin(role: Role, replicas: Vec<String>, log: &Log) -> Result<(Hub, Option<Ke
             Ok((Hub::new(Some(number), Names::new(replicas), hello, Some(listener)), None))
         }
         Role::Relay { first, count, address, port_mapper } => {
-            let port = address.rsplit(':').next().and_then(|port| port.parse().ok()).unwrap_or_default();
-            let mut kernels = Kernels::new(port);
+            let ports = Ports { files: port_of(&address), own: port_mapper.as_deref().map_or(0, port_of) };
+            let mut kernels = Kernels::new(ports);
             for (address, service) in port_mapper.iter().map(|mapper| (mapper, Service::PortMapper)).chain([(&address, Service::Files)]) {
                 kernels.open(address, service).map_err(cannot_listen(address))?;
                 log.news(&format!("listens at {address}"));
@@ -96,6 +97,10 @@ fn begin(role: Role, replicas: Vec<String>, log: &Log) -> Result<(Hub, Option<Ke
             Ok((Hub::new(None, Names::new(replicas), hello, None), Some(kernels)))
         }
     }
+}
+
+fn port_of(address: &str) -> u16 {
+    address.rsplit(':').next().and_then(|port| port.parse().ok()).unwrap_or_default()
 }
 
 fn cannot_listen<T: Display>(address: &str) -> impl Fn(T) -> String + '_ {

@@ -1,4 +1,4 @@
-//! A port mapper of version 2 (RFC 1833 section 3), which knows where NFS and MOUNT are, and learns nothing.
+//! A port mapper of version 2 (RFC 1833 section 3), which knows where NFS, MOUNT and itself are, and learns nothing.
 #![forbid(unsafe_code)]
 
 use crate::frames::number_at;
@@ -17,11 +17,24 @@ const PROG_MISMATCH: u32 = 2;
 const PROC_UNAVAIL: u32 = 3;
 const GARBAGE_ARGS: u32 = 4;
 
-/// The reply to a message, if it has one. Both programs are at that port, by TCP and by UDP.
-pub fn answer(record: &[u8], port: u16) -> Option<Vec<u8>> {
+/// Where the programs are, by TCP and by UDP.
+#[derive(Clone, Copy)]
+pub struct Ports {
+    pub files: u16,
+    pub own: u16,
+}
+
+impl Ports {
+    /// The programs with their versions and ports.
+    fn known(self) -> [((u32, u32), u32); 3] {
+        [((PROGRAM, VERSION), self.own.into()), (NFS, self.files.into()), (MOUNT, self.files.into())]
+    }
+}
+
+/// The reply to a message, if it has one.
+pub fn answer(record: &[u8], ports: Ports) -> Option<Vec<u8>> {
     let header = Header::of(record)?;
     let Header { xid, rpc_version, program, version, procedure, arguments } = header;
-    let port = u32::from(port);
     if rpc_version != 2 {
         return Some(words(&[xid, 1, 1, 0, 2, 2])); // denied: RPC_MISMATCH
     }
@@ -31,14 +44,14 @@ pub fn answer(record: &[u8], port: u16) -> Option<Vec<u8>> {
         (PROGRAM, VERSION, 1 | 2) => accepted(SUCCESS, &[0]), // SET and UNSET: refused
         (PROGRAM, VERSION, 3) => match mapping(record, arguments) {
             Some((wanted, protocol)) => {
-                let is_here = [NFS, MOUNT].contains(&wanted) && [TCP, UDP].contains(&protocol);
-                accepted(SUCCESS, &[if is_here { port } else { 0 }])
+                let found = ports.known().iter().find(|(known, _)| *known == wanted && [TCP, UDP].contains(&protocol)).map(|(_, port)| *port);
+                accepted(SUCCESS, &[found.unwrap_or(0)])
             }
             None => accepted(GARBAGE_ARGS, &[]),
         },
         (PROGRAM, VERSION, 4) => {
             let mut list = Vec::new();
-            for (program, version) in [NFS, MOUNT] {
+            for ((program, version), port) in ports.known() {
                 for protocol in [TCP, UDP] {
                     list.extend_from_slice(&[1, program, version, protocol, port]);
                 }
@@ -69,8 +82,10 @@ mod tests {
     use super::*;
     use crate::rpc::tests::call;
 
+    const PORTS: Ports = Ports { files: 2049, own: 111 };
+
     fn answered(program: u32, version: u32, procedure: u32, arguments: &[u32]) -> Option<Vec<u32>> {
-        let reply = answer(&call(9, program, version, procedure, arguments), 2049)?;
+        let reply = answer(&call(9, program, version, procedure, arguments), PORTS)?;
         Some(reply.chunks(4).map(|word| number_at(word, 0).unwrap()).collect())
     }
 
@@ -81,13 +96,14 @@ mod tests {
         for protocol in [TCP, UDP] {
             assert_eq!(port(100_003, 2, protocol), good(&[2049]));
             assert_eq!(port(100_005, 1, protocol), good(&[2049]));
+            assert_eq!(port(PROGRAM, 2, protocol), good(&[111]));
             assert_eq!(port(100_003, 3, protocol), good(&[0]));
             assert_eq!(port(100_021, 1, protocol), good(&[0]));
         }
         assert_eq!(port(100_003, 2, 7), good(&[0]));
         assert_eq!(answered(PROGRAM, 2, 0, &[]), Some(good(&[])));
         assert_eq!(answered(PROGRAM, 2, 1, &[1, 2, 3, 4]), Some(good(&[0])));
-        assert_eq!(answered(PROGRAM, 2, 4, &[]).unwrap().len(), 6 + 4 * 5 + 1);
+        assert_eq!(answered(PROGRAM, 2, 4, &[]).unwrap().len(), 6 + 6 * 5 + 1);
     }
 
     #[test]
@@ -99,8 +115,8 @@ mod tests {
         assert_eq!(answered(100_003, 2, 0, &[]), Some(vec![9, 1, 0, 0, 0, PROG_UNAVAIL]));
         let mut old = call(9, PROGRAM, 2, 0, &[]);
         old[11] = 3;
-        assert_eq!(answer(&old, 1), Some(words(&[9, 1, 1, 0, 2, 2])));
-        assert!((0..40).all(|cut| answer(&call(9, PROGRAM, 2, 0, &[])[..cut], 1).is_none()));
+        assert_eq!(answer(&old, PORTS), Some(words(&[9, 1, 1, 0, 2, 2])));
+        assert!((0..40).all(|cut| answer(&call(9, PROGRAM, 2, 0, &[])[..cut], PORTS).is_none()));
     }
 
     #[test]
@@ -117,7 +133,7 @@ mod tests {
                 record[place] = next(256) as u8;
             }
             record.truncate(next(2 * record.len()));
-            assert!(answer(&record, 2049).map_or(true, |reply| reply.len() <= 108 && reply.len() % 4 == 0));
+            assert!(answer(&record, PORTS).map_or(true, |reply| reply.len() <= 148 && reply.len() % 4 == 0));
         }
     }
 }
