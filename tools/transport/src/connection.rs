@@ -21,7 +21,10 @@ pub enum Role {
     Stranger,
     Replica(usize),
     /// A relay of so many clients, from the first one on.
-    Relay { first: u32, count: u32 },
+    Relay {
+        first: u32,
+        count: u32,
+    },
     Operator,
 }
 
@@ -57,15 +60,28 @@ pub struct Connection {
     pub heard: Instant,
     pub queue: Queue,
     pub is_dirty: bool,
-    rest: Rest,
+    pub is_put_out: bool,  // a relay of some clients whose replies go to others
     pub greeting: Vec<u8>, // bytes of a hello that isn't whole
+    rest: Rest,
 }
 
 impl Connection {
     pub fn new(stream: TcpStream, host: IpAddr, role: Role) -> Connection {
         let now = Instant::now();
         let is_dialed = matches!(role, Role::Dialed(_));
-        Connection { stream, host, role, is_dialed, since: now, heard: now, queue: Queue::default(), is_dirty: false, rest: Rest::default(), greeting: Vec::new() }
+        Connection {
+            stream,
+            host,
+            role,
+            is_dialed,
+            since: now,
+            heard: now,
+            queue: Queue::default(),
+            is_dirty: false,
+            is_put_out: false,
+            rest: Rest::default(),
+            greeting: Vec::new(),
+        }
     }
 
     /// Where its frames wait.
@@ -79,7 +95,11 @@ impl Connection {
 
     /// How many bytes of its frames may wait until no more are read.
     pub fn most_waiting(&self) -> usize {
-        if matches!(self.role, Role::Replica(_)) { 4 << 20 } else { 1 << 20 }
+        if matches!(self.role, Role::Replica(_)) {
+            4 << 20
+        } else {
+            1 << 20
+        }
     }
 
     pub fn put(&mut self, frame: Frame) {

@@ -47,7 +47,7 @@ pub struct Hub {
     clients: HashMap<u32, Vec<u64>>, // the connections of the relays that speak for them
     asking: Vec<u64>,                // connections of operators
     asked: Option<Instant>,
-    dirty: Vec<u64>, // connections to which more is to be written
+    dirty: Vec<u64>,             // connections to which more is to be written
     told: BTreeMap<String, u64>, // whose connections
     begun: Option<Instant>,
 }
@@ -75,13 +75,13 @@ impl Hub {
         }
     }
 
-    pub fn to_replicas(&mut self, frame: &Frame) {
+    pub fn send_to_replicas(&mut self, frame: &Frame) {
         for number in 0..self.peers.len() as u64 {
-            self.to_replica(number, frame); // to all but itself
+            self.send_to_replica(number, frame); // to all but itself
         }
     }
 
-    pub fn to_replica(&mut self, number: u64, frame: &Frame) {
+    pub fn send_to_replica(&mut self, number: u64, frame: &Frame) {
         let number = usize::try_from(number).unwrap_or(usize::MAX);
         match self.peers.get_mut(number) {
             Some(Peer { link: Some(link), .. }) => {
@@ -93,7 +93,7 @@ impl Hub {
         }
     }
 
-    pub fn to_client(&mut self, number: u64, frame: &Frame) {
+    pub fn send_to_client(&mut self, number: u64, frame: &Frame) {
         let links = u32::try_from(number).ok().and_then(|number| self.clients.get(&number));
         for link in links.cloned().unwrap_or_default() {
             self.put(link, frame);
@@ -196,7 +196,7 @@ impl Hub {
             Some(connection) => connection,
             None => return Ok(()),
         };
-        let (role, source) = (connection.role, connection.source(id));
+        let (role, source, is_put_out) = (connection.role, connection.source(id), connection.is_put_out);
         let mut asks = false;
         let put = |frames: &[u8], count| match role {
             Role::Operator => asks = true,
@@ -204,8 +204,10 @@ impl Hub {
         };
         let took = connection.came(bytes, put);
         took.map_err(|head| format!("{} sent a frame of kind {} and {} bytes: closed", role.name(), head.kind, head.length))?;
-        if asks {
-            self.ask(id, inboxes);
+        match role {
+            Role::Operator if asks => self.ask(id, inboxes),
+            Role::Relay { first, count } if is_put_out => self.give_rooms(id, first, count),
+            _ => {}
         }
         Ok(())
     }
@@ -255,7 +257,7 @@ impl Hub {
                 if !may_be {
                     log.tell(&format!("{host} says that it is replica {number}, whose address is {}", self.names.text(number)));
                 }
-                may_be.then(|| Role::Replica(number))
+                may_be.then_some(Role::Replica(number))
             }
             RELAY if count > 0 && first.checked_add(count).map_or(false, |end| end <= MOST_CLIENTS) => Some(Role::Relay { first, count }),
             OPERATOR => Some(Role::Operator),
@@ -283,16 +285,23 @@ impl Hub {
                     connection.queue = std::mem::take(&mut peer.kept);
                 }
             }
-            Role::Relay { first, count } => {
-                for client in first..first.saturating_add(count) {
-                    let links = self.clients.entry(client).or_default();
-                    links.push(id);
-                    links.drain(..links.len().saturating_sub(MOST_ROOMS));
-                }
-            }
+            Role::Relay { first, count } => self.give_rooms(id, first, count),
             _ => {}
         }
         self.write(id, inboxes, log);
+    }
+
+    /// From now on a relay gets the replies to its clients. Where there are too many for one, the oldest of these gets no more until it sends something.
+    fn give_rooms(&mut self, id: u64, first: u32, count: u32) {
+        for client in first..first.saturating_add(count) {
+            let links = self.clients.entry(client).or_default();
+            links.retain(|link| *link != id);
+            links.push(id);
+            for old in links.drain(..links.len().saturating_sub(MOST_ROOMS)) {
+                self.connections.entry(old).and_modify(|connection| connection.is_put_out = true);
+            }
+        }
+        self.connections.entry(id).and_modify(|connection| connection.is_put_out = false);
     }
 
     /// Ends a connection, if it is there.

@@ -159,7 +159,8 @@ impl Kernels {
                     if stream.set_nonblocking(true).is_ok() {
                         self.last += 1;
                         let (records, replies, heard) = (Records::default(), Vec::new(), Instant::now());
-                        self.streams.insert(self.last, Stream { stream, address, service, records, replies, written: 0, is_paused: false, is_dirty: false, heard });
+                        self.streams
+                            .insert(self.last, Stream { stream, address, service, records, replies, written: 0, is_paused: false, is_dirty: false, heard });
                     }
                 }
                 Err(fault) if fault.kind() == ErrorKind::WouldBlock => return,
@@ -188,9 +189,9 @@ impl Kernels {
     }
 
     fn may_take(&self, id: u64, share: Share) -> bool {
-        self.streams.get(&id).map_or(false, |stream| {
-            stream.reads() && (stream.service == Service::PortMapper || self.calls.may_take(Caller::Stream(id), share))
-        })
+        self.streams
+            .get(&id)
+            .map_or(false, |stream| stream.reads() && (stream.service == Service::PortMapper || self.calls.may_take(Caller::Stream(id), share)))
     }
 
     fn read(&mut self, id: u64, is_broken: bool, buffer: &mut [u8], inboxes: &mut Inboxes) {

@@ -139,7 +139,7 @@ impl Transport {
     fn ready(&mut self, token: Token, found: Ready) -> Option<u8> {
         let Transport { hub, kernels, inboxes, log, buffer, .. } = self;
         match token {
-            Token::Parent => return self.parent_ended().then(|| STOPPED),
+            Token::Parent => return self.parent_ended().then_some(STOPPED),
             Token::FilterInput => return if self.filter.send().is_err() { Some(self.failed(None)) } else { None },
             Token::FilterOutput => return self.take_answer(),
             Token::Hub(None) => hub.accept(inboxes),
@@ -179,9 +179,9 @@ impl Transport {
             return self.log.tell(&format!("its filter sent a frame of kind {} and {} bytes: dropped", parcel.kind(), frame.len() - HEAD));
         }
         match (to, parcel.kind()) {
-            (To::Replicas, _) => self.hub.to_replicas(frame),
-            (To::Replica, _) => self.hub.to_replica(*number, frame),
-            (To::Client, _) => self.hub.to_client(*number, frame),
+            (To::Replicas, _) => self.hub.send_to_replicas(frame),
+            (To::Replica, _) => self.hub.send_to_replica(*number, frame),
+            (To::Client, _) => self.hub.send_to_client(*number, frame),
             (To::Operator, LOG) => self.log.tell(&printable(parcel.payload())),
             (To::Operator, REPORT) => {
                 let report: Frame = framed(REPORT, &[parcel.payload(), self.filter.report().as_bytes()]).into();

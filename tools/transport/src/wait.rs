@@ -47,7 +47,7 @@ impl<T: Copy> Waits<T> {
         let (polled, token) = (self.polled.get(place)?, self.tokens.get(place)?);
         let found = |what| polled.found & what != 0;
         let ready = Ready { reads: found(READS), writes: found(WRITES), is_broken: found(IS_BROKEN) };
-        (polled.found != 0).then(|| (*token, ready))
+        (polled.found != 0).then_some((*token, ready))
     }
 
     pub fn count(&self) -> usize {
