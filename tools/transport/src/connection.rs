@@ -5,6 +5,7 @@ use crate::frames::{Frame, Head, ASK_REPORT, HEAD, MOST_FRAME, REQUEST};
 use crate::inbox::Source;
 use crate::queue::Queue;
 use crate::rest::{Read, Rest};
+use crate::wait::Watch;
 use std::net::{IpAddr, TcpStream};
 use std::time::Instant;
 
@@ -62,6 +63,7 @@ pub struct Connection {
     pub is_dirty: bool,
     pub is_put_out: bool,  // a relay of some clients whose replies go to others
     pub greeting: Vec<u8>, // bytes of a hello that isn't whole
+    pub watch: Watch,
     rest: Rest,
 }
 
@@ -79,6 +81,7 @@ impl Connection {
             queue: Queue::default(),
             is_dirty: false,
             is_put_out: false,
+            watch: Watch::default(),
             rest: Rest::default(),
             greeting: Vec::new(),
         }
@@ -150,7 +153,7 @@ mod tests {
         let may = |role: Role, kind, length| role.may_send(Head { kind, length });
         assert!(may(relay, REQUEST, MOST_REQUEST) && !may(relay, REQUEST, MOST_REQUEST + 1) && !may(relay, 2, 0));
         assert!(may(Role::Operator, ASK_REPORT, 0) && !may(Role::Operator, ASK_REPORT, 1) && !may(Role::Operator, REQUEST, 0));
-        assert!((0..=255).all(|kind| may(Role::Replica(1), kind, MOST_FRAME) == !(9..=13).contains(&kind)));
+        assert!((0..=255).all(|kind| may(Role::Replica(1), kind, MOST_FRAME) != (9..=13).contains(&kind)));
         assert!(!may(Role::Replica(1), 2, MOST_FRAME + 1) && !may(Role::Stranger, REQUEST, 0) && !may(Role::Dialed(1), REQUEST, 0));
     }
 

@@ -9,9 +9,9 @@ use crate::log::Log;
 use crate::names::Names;
 use crate::queue::Queue;
 use crate::system;
-use crate::wait::{Ready, Waits};
+use crate::wait::{Ready, Token, Waits, Watch};
 use std::collections::{BTreeMap, HashMap};
-use std::io::{ErrorKind, Read, Write};
+use std::io::{self, ErrorKind, Read, Write};
 use std::net::{IpAddr, SocketAddr, TcpListener, TcpStream};
 use std::time::{Duration, Instant};
 
@@ -40,6 +40,7 @@ pub struct Hub {
     names: Names,
     hello: Hello,
     listener: Option<TcpListener>,
+    watch: Watch, // of the listener
     accepts_after: Instant,
     connections: BTreeMap<u64, Connection>,
     last: u64, // number of a connection
@@ -61,6 +62,7 @@ impl Hub {
             me,
             hello,
             listener,
+            watch: Watch::default(),
             accepts_after: now,
             connections: BTreeMap::new(),
             last: 0,
@@ -140,16 +142,22 @@ impl Hub {
         }
     }
 
-    /// Adds what is waited for; the listener's token is that of no connection.
-    pub fn waits<T: Copy>(&self, waits: &mut Waits<T>, inboxes: &Inboxes, token: impl Fn(Option<u64>) -> T) {
-        if let Some(listener) = self.listener.as_ref().filter(|_| self.accepts_after <= Instant::now()) {
-            waits.add(listener, token(None), true, false);
+    /// Says what is waited for now.
+    pub fn set_waits(&mut self, waits: &Waits, inboxes: &mut Inboxes) -> io::Result<()> {
+        if let Some(listener) = &self.listener {
+            waits.set(&mut self.watch, listener, Token::Listener, self.accepts_after <= Instant::now(), false)?;
         }
-        for (id, connection) in &self.connections {
+        let mut failed = Vec::new();
+        for (id, connection) in &mut self.connections {
             let is_dialed = matches!(connection.role, Role::Dialed(_));
             let reads = !is_dialed && inboxes.waiting(connection.source(*id)) <= connection.most_waiting();
-            waits.add(&connection.stream, token(Some(*id)), reads, is_dialed || !connection.queue.is_empty());
+            let writes = is_dialed || !connection.queue.is_empty();
+            if waits.set(&mut connection.watch, &connection.stream, Token::Connection(*id), reads, writes).is_err() {
+                failed.push(*id);
+            }
         }
+        failed.into_iter().for_each(|id| self.close(id, inboxes));
+        Ok(())
     }
 
     /// Does what may be done at a connection.
