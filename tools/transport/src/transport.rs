@@ -67,7 +67,7 @@ impl Transport {
                 break status;
             }
         };
-        self.filter.end(false);
+        self.end_filter(false);
         status
     }
 
@@ -160,6 +160,15 @@ impl Transport {
     fn take_answer(&mut self) -> Option<u8> {
         let mut parcels = std::mem::take(&mut self.parcels);
         let came = self.filter.read(&mut self.buffer, &mut parcels);
+        self.hand_out_all(parcels);
+        match came {
+            Came::Nothing | Came::Some => None,
+            Came::End => Some(self.failed(None)),
+            Came::Rubbish => Some(self.failed(Some("what it writes is no answer"))),
+        }
+    }
+
+    fn hand_out_all(&mut self, mut parcels: Vec<Parcel>) {
         parcels.iter().for_each(|parcel| self.hand_out(parcel));
         parcels.clear();
         self.parcels = parcels;
@@ -167,11 +176,16 @@ impl Transport {
         if let Some(kernels) = &mut self.kernels {
             kernels.flush(&mut self.inboxes);
         }
-        match came {
-            Came::Nothing | Came::Some => None,
-            Came::End => Some(self.failed(None)),
-            Came::Rubbish => Some(self.failed(Some("what it writes is no answer"))),
+    }
+
+    /// Ends the filter where it has not ended yet, and brings its last answer to whom it is for.
+    fn end_filter(&mut self, by_force: bool) -> String {
+        let mut parcels = Vec::new();
+        let how = self.filter.end(by_force, &mut self.buffer, &mut parcels);
+        if !by_force {
+            self.hand_out_all(parcels);
         }
+        how
     }
 
     /// Brings a frame to its receiver; to one that isn't there, to nobody.
@@ -200,7 +214,7 @@ impl Transport {
 
     /// The filter has ended, or is ended for a reason. What was told to end may have ended it, too.
     fn failed(&mut self, why: Option<&str>) -> u8 {
-        let how = self.filter.end(why.is_some());
+        let how = self.end_filter(why.is_some());
         if system::is_told_to_end() {
             return STOPPED;
         }
