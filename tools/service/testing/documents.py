@@ -72,5 +72,6 @@ def faults_of_cluster(service):
 
 def parts(_service):
     """The tests of the transport's own parts."""
-    tested = subprocess.run(["cargo", "test", "--offline", "--quiet"], cwd=TRANSPORT, stdin=subprocess.DEVNULL, stdout=subprocess.PIPE, stderr=subprocess.STDOUT, text=True)
+    command = ["cargo", "test", "--offline", "--quiet"]
+    tested = subprocess.run(command, cwd=TRANSPORT, stdin=subprocess.DEVNULL, stdout=subprocess.PIPE, stderr=subprocess.STDOUT, text=True)
     check(tested.returncode == 0 and "test result: ok." in tested.stdout, tested.stdout[-2_000:])

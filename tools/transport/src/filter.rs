@@ -141,8 +141,8 @@ impl Filter {
         line.split_whitespace().nth(1)?.parse().ok()
     }
 
-    /// Ends it where it has not ended yet, and tells how it ended. At the end of its input a filter ends, behind the answer that it is at: its parcels are put to
-    /// the others.
+    /// Ends it where it has not ended yet, and tells how it ended. At the end of its input a filter ends, behind the answer that it is at, whose parcels are put
+    /// to the others.
     pub fn end(&mut self, by_force: bool, buffer: &mut [u8], parcels: &mut Vec<Parcel>) -> String {
         self.into = None;
         let begun = Instant::now();
