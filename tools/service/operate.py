@@ -8,8 +8,10 @@ import sys
 import time
 
 from service.cluster import reason
-from service.frames import ASK_REPORT, FRAME, HELLO, MAGIC, OPERATOR, REPORT, framed
 
+FRAME = struct.Struct(">BI")  # kind, length; then the payload
+ASK_REPORT, REPORT = 9, 10  # kinds of frames
+HELLO = struct.pack(">4sBII", b"BFS1", 2, 0, 0)  # that of an operator
 PATIENCE = 5  # seconds that a process has to end, and a replica to report
 POLL = 0.1
 MOST_REPORT = 1 << 20
@@ -60,7 +62,7 @@ async def report(address):
     """What the replica there reports, as pairs of a name and a value."""
     reader, writer = await asyncio.open_connection(*address)
     try:
-        writer.write(HELLO.pack(MAGIC, OPERATOR, 0, 0) + framed(ASK_REPORT))
+        writer.write(HELLO + FRAME.pack(ASK_REPORT, 0))
         while True:
             kind, length = FRAME.unpack(await reader.readexactly(FRAME.size))
             if length > MOST_REPORT:

@@ -8,9 +8,9 @@ from service.testing.running import check
 LAST = 1 << 31
 
 
-def call(xid, procedure=0, arguments=b""):
-    """A call of NFS version 2 without a credential."""
-    return struct.pack(">10I", xid, 0, 2, 100_003, 2, procedure, 0, 0, 0, 0) + arguments
+def call(xid, procedure=0, arguments=b"", program=100_003):
+    """A call of NFS version 2 without a credential, or of another program's version 2."""
+    return struct.pack(">10I", xid, 0, 2, program, 2, procedure, 0, 0, 0, 0) + arguments
 
 
 def marked(record, *cuts):

@@ -1,9 +1,11 @@
 """Checks of the documents that `tools/bfs keys` makes, and of what is refused."""
 import stat
+import subprocess
 import tomllib
 from pathlib import Path
 
-from service.peers import MOST_KEPT, Queue
+from service.cluster import LIMITS, Address, Cluster, cluster_in
+from service.programs import TRANSPORT
 from service.testing.running import check
 
 
@@ -27,7 +29,7 @@ def refusals(service):
     said, status = service.bfs("keys", service.folder)
     check(status == 1 and "nothing is written over" in said, said)
     said, status = service.bfs("replica", "1", service.folder, "--replica-program=/nowhere/there")
-    check(status == 1 and "/nowhere/there: it isn't built; `cd " in said and said.count("\n") == 1, said)
+    check(status == 1 and "/nowhere/there: there is no such program" in said and said.count("\n") == 1, said)
     path = Path(service.folder, "replica-1.toml")
     path.chmod(0o640)
     for words in (["replica", "1"], ["up"]):
@@ -39,7 +41,11 @@ def refusals(service):
 
 
 def faults_of_cluster(service):
-    """Each fault of the public document is named with its key."""
+    """Each fault of the public document is named with its key; what may be left out is read where it is there."""
+    least = {"f": 0, "clients": 1, "replicas": ["a:1"], "relay": "b:2"}
+    most = least | {"portmap": "b:111", "patience": 600_000, "limits": LIMITS}
+    made = Cluster(0, 1, (Address("a", 1),), Address("b", 2), Address("b", 111))
+    check(cluster_in(most) == made and cluster_in(least) == made._replace(portmap=None), "a good document is another cluster")
     path = Path(service.folder, "cluster.toml")
     good = path.read_text()
     for old, new, told in (
@@ -48,8 +54,14 @@ def faults_of_cluster(service):
         ("clients = 8", "clients = true", "clients: True is no number"),
         ("clients = 8", "", "clients: it is missing"),
         ("clients = 8", "clients = 8\nmore = 1", "more: there is no such key"),
+        ("portmap = ", "portmap = 111 #", "portmap: 111 is no HOST:PORT"),
+        ("clients = 8", "clients = 8\npatience = 0", "patience: 0 is no number from 1 to 600000"),
+        ("clients = 8", "clients = 8\nlimits = 1", "limits: 1 is no table"),
+        ("clients = 8", "clients = 8\nlimits.orders = 1", "limits.orders: there is no such key"),
+        ("clients = 8", "clients = 8\nlimits.request = 17399", "limits.request: 17399 is no number from 17400 to 4294967295"),
         ('relay = "127.0.0.1:', 'relay = "127.0.0.1:0', "relay: "),
         ('relay = "127.0.0.1:', 'relay = "', "relay: "),
+        (f":{service.portmap[1]}", f":{service.relay[1]}", "replicas: two of these"),
         ("f = 1", "f = ", "cluster.toml: Invalid value"),
     ):
         path.write_text(good.replace(old, new) if "relay: " not in told else good.replace(old, new + "x"))
@@ -58,13 +70,8 @@ def faults_of_cluster(service):
     path.write_text(good)
 
 
-def dropped(_service):
-    """What waits for one that isn't connected is bounded: the newest frames stay, and one that is too large alone does."""
-    queue = Queue([])
-    frames = [bytes([number]) * 100_000 for number in range(100)]
-    for each in frames:
-        queue.put(each)
-    check(queue.size <= MOST_KEPT and queue.dropped == 100 - len(queue.frames), f"{queue.size} bytes, {queue.dropped} dropped")
-    check(list(queue.frames) == frames[-len(queue.frames) :] and len(queue.frames) > 40, f"{len(queue.frames)} frames")
-    queue.put(bytes(2 * MOST_KEPT))
-    check(len(queue.frames) == 1 and len(queue.take()) == 2 * MOST_KEPT and queue.size == 0, "the large one")
+def parts(_service):
+    """The tests of the transport's own parts."""
+    command = ["cargo", "test", "--offline", "--quiet"]
+    tested = subprocess.run(command, cwd=TRANSPORT, stdin=subprocess.DEVNULL, stdout=subprocess.PIPE, stderr=subprocess.STDOUT, text=True)
+    check(tested.returncode == 0 and "test result: ok." in tested.stdout, tested.stdout[-2_000:])

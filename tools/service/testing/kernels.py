@@ -1,5 +1,6 @@
 """Checks of calls, by TCP and UDP."""
 import random
+import resource
 import socket
 import struct
 import threading
@@ -125,4 +126,43 @@ def deaf(service):
     stream.close()
 
 
-ALL = fragments, datagrams, doubled, again, mute, long_records, thousands, deaf
+def port_mapper(service):
+    """It knows the relay's port, by TCP and UDP, and answers what can be read of rubbish."""
+    wanted = lambda program, version, protocol: struct.pack(">4I", program, version, protocol, 0)
+    head = struct.pack(">6I", 30, 1, 0, 0, 0, 0)
+    port = lambda number: head + struct.pack(">I", number)
+    questions = [(wanted(100_003, 2, 6), service.relay[1]), (wanted(100_005, 1, 17), service.relay[1]), (wanted(100_003, 3, 6), 0), (wanted(100_021, 1, 6), 0)]
+    stream, caller = Stream(service.portmap), socket.socket(socket.AF_INET, socket.SOCK_DGRAM)
+    caller.settimeout(PATIENCE)
+    caller.connect(service.portmap)
+    for arguments, number in questions:
+        asked = call(30, 3, arguments, 100_000)
+        caller.send(random.randbytes(100))
+        caller.send(asked)
+        check(caller.recv(1 << 16) == port(number), "another port by UDP")
+        stream.send(marked(asked[:39]) + marked(asked, 20))
+        check(stream.reply() == port(number), "another port by TCP")
+    stream.send(marked(call(30, 4, b"", 100_000)) + marked(call(30, 0, b"", 100_000)))
+    check(len(stream.reply()) == 24 + 6 * 20 + 4 and stream.reply() == head, "DUMP and NULL")
+    stream.close()
+    peer = Peer(service.portmap)
+    peer.send(random.randbytes(100_000))
+    check(peer.is_closed(), "rubbish: it is open")
+    one_call(service, 28)
+    peer.close()
+    caller.close()
+
+
+def crowd(service):
+    """Where there are too many connections, silent ones go, and who has something to say is heard."""
+    _, most = resource.getrlimit(resource.RLIMIT_NOFILE)
+    resource.setrlimit(resource.RLIMIT_NOFILE, (min(most, 4_096), most))
+    peers = [Peer(service.relay, timeout=3) for _ in range(1_200)]
+    for xid in range(30, 40):
+        one_call(service, xid)
+    check(sum(peer.is_closed() for peer in peers[:20]) == 20, "the oldest are open")
+    for peer in peers:
+        peer.close()
+
+
+ALL = fragments, datagrams, doubled, again, mute, long_records, thousands, deaf, port_mapper, crowd

@@ -3,10 +3,10 @@ import random
 import struct
 import time
 
-from service.frames import ASK_REPORT, OPERATOR, RELAY, REPLICA, REPLY, REPORT, REQUEST, STATE, framed
+from service.testing.frames import ASK_REPORT, OPERATOR, RELAY, REPLICA, REPLY, REPORT, REQUEST, STATE, framed
 from service.testing.calls import call, executed, one_call
 from service.testing.peer import HUGE, Peer, hello
-from service.testing.running import MEBIBYTE, check, peak, words_of
+from service.testing.running import MEBIBYTE, check, peak, used, words_of
 
 
 def strangers(service):
@@ -20,9 +20,10 @@ def strangers(service):
 
 
 def relays(service):
-    """Replies go to the relay that speaks for their client, and to no other."""
+    """Replies go to the relay that speaks for their client, and to no other; also where many say later that they do."""
     mine = [Peer(address, hello(RELAY, 500, 2)) for address in service.replicas]
     others = [Peer(address, hello(RELAY, 502, 2), 0.1) for address in service.replicas]
+    others_for_it = [Peer(address, hello(RELAY, 490, 20)) for address in service.replicas for _ in range(6)]
     time.sleep(0.2)  # that the others are there, too
     request = struct.pack(">IQ", 501, 1) + call(3, 1)
     for peer in mine:
@@ -34,7 +35,7 @@ def relays(service):
     for peer in others:
         check(not peer.is_closed(), "it is closed")
         peer.close()
-    for peer in mine:
+    for peer in mine + others_for_it:
         peer.close()
 
 
@@ -95,4 +96,14 @@ def ticks(service):
     check(5 <= (after - before) / passed <= 20, f"{after - before} turns in {passed:.1f} s")
 
 
-ALL = strangers, relays, rubbish, flood, many, reports, ticks
+def quiet(service):
+    """With nothing to do, no transport is busy, whatever came before."""
+    transports = [service.process_of(*words)[0] for words in (["relay"], *(["replica", str(number)] for number in range(4)))]
+    time.sleep(0.5)
+    before = [used(each) for each in transports]
+    time.sleep(2)
+    took = [used(each) - then for each, then in zip(transports, before)]
+    check(max(took) < 0.2, f"seconds of processors in 2 s: {took}")
+
+
+ALL = strangers, relays, rubbish, flood, many, reports, ticks, quiet

@@ -2,7 +2,7 @@
 import socket
 import struct
 
-from service.frames import HELLO, MAGIC, STATE
+from service.testing.frames import HELLO, MAGIC, STATE
 
 HUGE = struct.pack(">BI", STATE, 0xFFFFFFFF)  # the head of a frame that is too large
 

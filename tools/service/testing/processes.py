@@ -5,7 +5,7 @@ import signal
 import socket
 import struct
 
-from service.frames import ASK_REPORT, CALL, ORDER, RELAY, REPLICA, REQUEST, STATE, framed
+from service.testing.frames import ASK_REPORT, CALL, ORDER, RELAY, REPLICA, REQUEST, STATE, framed
 from service.testing.calls import call, one_call
 from service.testing.peer import HUGE, Peer, hello
 from service.testing.running import MEBIBYTE, PATIENCE, check, children, until, words_of

@@ -66,6 +66,12 @@ def words_of(process):
         return []
 
 
+def used(process):
+    """The seconds of processors that a process has taken."""
+    fields = Path(f"/proc/{process}/stat").read_text().rpartition(")")[2].split()
+    return (int(fields[11]) + int(fields[12])) / os.sysconf("SC_CLK_TCK")
+
+
 def peak(process):
     """The most memory that a process had, in bytes."""
     (line,) = [line for line in Path(f"/proc/{process}/status").read_text().splitlines() if line.startswith("VmHWM")]
@@ -77,11 +83,11 @@ class Service:
 
     def __init__(self, folder, faults=1, clients=8):
         self.folder, self.log, self.started = folder, Path(f"{folder}.log"), []
-        ports = free_ports(3 * faults + 2)
-        self.replicas, self.relay = [("127.0.0.1", port) for port in ports[:-1]], ("127.0.0.1", ports[-1])
-        self.bfs("keys", folder, "--f", str(faults), "--clients", str(clients), "--relay", f"127.0.0.1:{ports[-1]}")
-        listed = ", ".join(f'"127.0.0.1:{port}"' for port in ports[:-1])
-        Path(folder, "cluster.toml").write_text(f'f = {faults}\nclients = {clients}\nreplicas = [{listed}]\nrelay = "127.0.0.1:{ports[-1]}"\n')
+        *self.replicas, self.relay, self.portmap = [("127.0.0.1", port) for port in free_ports(3 * faults + 3)]
+        text = lambda address: f'"{address[0]}:{address[1]}"'
+        self.bfs("keys", folder, "--f", str(faults), "--clients", str(clients), "--relay", text(self.relay).strip('"'))
+        listed, addresses = ", ".join(map(text, self.replicas)), f"relay = {text(self.relay)}\nportmap = {text(self.portmap)}\n"
+        Path(folder, "cluster.toml").write_text(f"f = {faults}\nclients = {clients}\nreplicas = [{listed}]\n{addresses}")
 
     def bfs(self, *words):
         """What a command of `tools/bfs` printed, and its status."""
@@ -111,7 +117,7 @@ class Service:
     def process_of(self, *words):
         """The id of the running transport with these words, and of its filter."""
         for process in self.running():
-            if words_of(process)[2:][: len(words)] == [word.encode() for word in words] and children(process):
+            if words_of(process)[1:][: len(words)] == [word.encode() for word in words] and children(process):
                 return process, children(process)[0]
         return None
 
