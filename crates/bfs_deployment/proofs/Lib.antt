@@ -1,0 +1,2 @@
+-- Lemmas of bfs_deployment.
+pub mod Documents
