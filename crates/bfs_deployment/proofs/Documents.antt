@@ -1,5 +1,5 @@
 -- The table that a document spells, and the names in it, by what `toml` reads.
-use Rattle.std.proofs.Common.{◌≡◌, ℕ, Bool, not, List, [], ◌∷◌, Option, Some, None, String, Global, string_bytes, Bor, option_map, refl, inl, inr, Ok, Err}
+use Rattle.std.proofs.Common.{◌≡◌, ℕ, not, List, [], ◌∷◌, Option, Some, None, String, Global, string_bytes, Bor, option_map, refl, inl, inr, Ok, Err}
 use Rattle.std.proofs.lemmas.Bool.{cases_Bool}
 use Rattle.std.proofs.lemmas.Str.{IsUtf8-from_is_utf8, is_utf8-from_IsUtf8}
 use Rattle.std.specs.List.{find}

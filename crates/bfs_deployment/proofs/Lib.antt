@@ -1,2 +1,3 @@
 -- Lemmas of bfs_deployment.
 pub mod Documents
+pub mod Rows

@@ -1,5 +1,5 @@
 -- A deployment, and how far each part of it goes.
-use Rattle.std.specs.Prelude.{◌≡◌, ℕ, ◌≤◌, List, length, Option}
+use Rattle.std.specs.Prelude.{◌≡◌, ℕ, ◌≤◌, List, Option}
 use Rattle.bfs_frames.specs.declared.limits.Limits.{Limits}
 use Rattle.bfs_model.specs.Server.Limits.{most_clients, most_faults}
 use Rattle.bfs_settings.specs.Settings.{replicas_for}

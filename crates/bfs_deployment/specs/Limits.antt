@@ -29,7 +29,7 @@ default_limits = record {
   report = mebibyte;
   call = 8 + most_request_bytes;
   answer = 8 + most_reply_bytes;
-  log = 4096
+  log = 4096;
 }
 
 -- no kind has less than by default
@@ -71,7 +71,7 @@ limits_said members = do
     report = report;
     call = call;
     answer = answer;
-    log = log
+    log = log;
   })
 
 abbrev pub limits_in : Data → Reading Limits

@@ -1,7 +1,6 @@
 -- How an answer stands to what the definitions give.
-use Rattle.std.specs.Prelude.{◌≡◌, ⊤, Result, Ok, Err}
+use Rattle.std.specs.Prelude.{◌≡◌, ⊤, Ok, Err}
 use Rattle.bfs_deployment.specs.Tables.{Reading}
-use Rattle.bfs_deployment.specs.declared.error.DeploymentError.{DeploymentError}
 use Rattle.bfs_deployment.specs.declared.error.DeploymentError.TheVariants as error
 
 -- a value, as `view` sees it, or a fault is what is given; unspecified where memory ran out

@@ -14,7 +14,9 @@ use crate::deployment::{DEFAULT_PATIENCE, Deployment, MOST_PATIENCE};
 use crate::error::DeploymentError;
 use crate::key::Key;
 use crate::limits::{default_limits, limits_in};
-use crate::tables::{needed, number_at, number_or, read_table, text_in, texts_in, unknown_in, value_at};
+use crate::tables::{
+    needed, number_at, number_or, read_table, text_in, texts_in, unknown_in, value_at,
+};
 use crate::text::Text;
 use bfs_frames::Limits;
 use bfs_types::{MOST_CLIENTS, MOST_FAULTS};

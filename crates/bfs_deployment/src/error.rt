@@ -15,16 +15,16 @@ pub enum DeploymentError {
     #[error("it isn't TOML")]
     NotToml,
     /// It has a key that there isn't.
-    #[error("{0}: there is no such key")]
+    #[error("there is no key {:?}", .0.as_str())]
     UnknownKey(Text),
     /// The table of limits has a key that is no kind of frame.
-    #[error("limits.{0}: there is no such key")]
+    #[error("limits: there is no key {:?}", .0.as_str())]
     UnknownLimit(Text),
     /// A key is missing.
     #[error("{0}: it is missing")]
     Missing(Key),
     /// A key's value is of another type than it is to be.
-    #[error("{0}: its value has the wrong type")]
+    #[error("{}: it is no {}", .0, .0.wanted())]
     WrongType(Key),
     /// A key's number is below the least one, or above the most.
     #[error("{key}: it is no number from {least} to {most}")]

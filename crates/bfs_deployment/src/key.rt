@@ -41,6 +41,16 @@ impl Key {
             Key::Limit(kind) => limit_name(kind),
         }
     }
+
+    /// What its value is to be, in words.
+    pub(crate) fn wanted(self) -> &'static str {
+        match self {
+            Key::F | Key::Clients | Key::Patience | Key::Limit(_) => "whole number",
+            Key::Replicas => "array of texts",
+            Key::Relay | Key::Portmap => "text",
+            Key::Limits => "table",
+        }
+    }
 }
 
 fn limit_name(kind: Kind) -> &'static str

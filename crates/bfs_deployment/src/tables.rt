@@ -41,11 +41,7 @@ fn unknown_name<'a>(table: &'a Table, keys: &[Key]) -> Option<&'a String>
 }
 
 /// The first name in a table that is none of these keys'.
-pub fn unknown_in(
-    alloc: Global,
-    table: &Table,
-    keys: &[Key],
-) -> Result<Option<Text>, Memory>
+pub fn unknown_in(alloc: Global, table: &Table, keys: &[Key]) -> Result<Option<Text>, Memory>
     ensures { IfOk result (λ name. name ≡ unknown_name keys.now (table_view table.now)) }
 {
     match unknown_name(table, keys) {
@@ -76,12 +72,7 @@ pub fn needed<'a>(table: &'a Table, key: Key) -> Result<&'a Value, DeploymentErr
 }
 
 /// A whole number within bounds.
-pub fn number_in(
-    value: &Value,
-    key: Key,
-    least: u32,
-    most: u32,
-) -> Result<u32, DeploymentError>
+pub fn number_in(value: &Value, key: Key, least: u32, most: u32) -> Result<u32, DeploymentError>
     ensures value { result ≡ number_in key least most (view value.now) }
     ensures within { IfOk result (λ number. (least ≤ number) × (number ≤ most)) }
 {
@@ -93,12 +84,7 @@ pub fn number_in(
 }
 
 /// A whole number within bounds at a key, which may not be missing.
-pub fn number_at(
-    table: &Table,
-    key: Key,
-    least: u32,
-    most: u32,
-) -> Result<u32, DeploymentError>
+pub fn number_at(table: &Table, key: Key, least: u32, most: u32) -> Result<u32, DeploymentError>
     ensures value { result ≡ number_at key least most (table_view table.now) }
     ensures within { IfOk result (λ number. (least ≤ number) × (number ≤ most)) }
 {

@@ -2,7 +2,6 @@ ghost use Rattle.std.specs.Prelude.{◌≡◌, IfOk};
 
 use bfs_types::Memory;
 use std::alloc::Global;
-use std::fmt;
 use std::marker::Model;
 
 /// A text that a document says.
@@ -34,11 +33,5 @@ impl Text {
         ensures { result.now ≡ self.now }
     {
         self.text.as_str()
-    }
-}
-
-impl fmt::Display for Text {
-    fn fmt<W: fmt::Write>(&self, f: &mut fmt::Formatter<W>) -> fmt::Result {
-        f.write_str(self.text.as_str())
     }
 }
