@@ -1,5 +1,5 @@
 -- The table that a document spells, and the names in it, by what `toml` reads.
-use Rattle.std.proofs.Common.{◌≡◌, ℕ, not, List, [], ◌∷◌, Option, Some, None, String, Global, string_bytes, Bor, option_map, refl, inl, inr, Ok, Err}
+use Rattle.std.proofs.Common.{◌≡◌, ℕ, Bool, not, List, [], ◌∷◌, Option, Some, None, String, Global, string_bytes, Bor, option_map, refl, inl, inr, Ok, Err}
 use Rattle.std.proofs.lemmas.Bool.{cases_Bool}
 use Rattle.std.proofs.lemmas.Str.{IsUtf8-from_is_utf8, is_utf8-from_IsUtf8}
 use Rattle.std.specs.List.{find}
@@ -10,7 +10,7 @@ use Rattle.toml.specs.Parse.{parse_document}
 use Rattle.toml.specs.View.{members_view}
 use Rattle.toml.specs.declared.value.Value.{Value}
 use Rattle.bfs_deployment.specs.Keys.{is_name_of}
-use Rattle.bfs_deployment.specs.Tables.{names_in, table_spelled}
+use Rattle.bfs_deployment.specs.Tables.{table_spelled, unknown_name}
 use Rattle.bfs_deployment.specs.declared.error.DeploymentError.TheVariants as error
 use Rattle.bfs_deployment.specs.declared.key.Key.{Key}
 
@@ -30,8 +30,12 @@ spelled_nowhere document not_utf8 =
       | inr other ↦ rw other
     ]
 
+-- a text of the code is no name of these keys
+abbrev pub is_unknown : List Key → String Global → Bool
+is_unknown keys name = not (is_name_of keys (string_bytes name))
+
 pub found_name : (keys : List Key) (entries : List (String Global × Value))
-    → option_map string_bytes (find (λ key. not (is_name_of keys (string_bytes key))) (keys_of entries)) ≡ find (λ name. not (is_name_of keys name)) (names_in (members_view entries))
+    → option_map string_bytes (find (is_unknown keys) (keys_of entries)) ≡ unknown_name keys (members_view entries)
 found_name keys [] = refl
 found_name keys (entry ∷ entries) =
     elim (cases_Bool (is_name_of keys (string_bytes entry.0))) [
@@ -39,6 +43,7 @@ found_name keys (entry ∷ entries) =
       | inr unknown ↦ rw unknown
     ]
 
-pub name_behind : (found : Option (Bor (String Global))) → option_map (λ name. string_bytes name.now) found ≡ option_map string_bytes (option_map (λ name. name.now) found)
+pub name_behind : (found : Option (Bor (String Global)))
+    → option_map (λ name. string_bytes name.now) found ≡ option_map string_bytes (option_map (λ name. name.now) found)
 name_behind None = refl
 name_behind (Some name) = refl

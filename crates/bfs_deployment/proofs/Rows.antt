@@ -27,7 +27,12 @@ pub row-smallest : deployment_spelled smallest
 unfolding deployment_on_literals
 row-smallest = refl
 
-pub row-every_key : deployment_spelled (codes "limits.order = 4294967295 # bytes\npatience = 600000\nportmap = 'p'\nrelay = \"r\"\nclients = 1_024\nf = 1\nreplicas = ['a', 'b', 'c', '']\n")
+abbrev largest : List ℕ
+largest =
+    codes "limits.order = 4294967295 # bytes\npatience = 600000\nportmap = 'p'\nrelay = \"r\"\n"
+    ++ codes "clients = 1_024\nf = 1\nreplicas = ['a', 'b', 'c', '']\n"
+
+pub row-every_key : deployment_spelled largest
     ≡ Ok (record {
       f = 1;
       clients = 1024;

@@ -3,7 +3,7 @@ use Rattle.std.specs.Prelude.{ℕ, ◌+◌, ◌*◌, ◌-◌, ◌^◌, ◌≤◌
 use Rattle.toml.specs.Data.{Data, table, Members, get_member}
 use Rattle.bfs_frames.specs.Frames.{most_of}
 use Rattle.bfs_frames.specs.declared.kind.Kind.{Kind}
-use Rattle.bfs_frames.specs.declared.kind.Kind.TheVariants.{Request, Order, ViewChange, NewView, Reply, Status, AskState, State, AskReport, Report, Call, Answer, Log}
+use Rattle.bfs_frames.specs.declared.kind.Kind.TheVariants as kind
 use Rattle.bfs_frames.specs.declared.limits.Limits.{Limits}
 use Rattle.bfs_model.specs.Bytes.Items.{◌>>=◌}
 use Rattle.bfs_model.specs.Server.Limits.{most_replicas, most_reply_bytes, most_request_bytes}
@@ -34,30 +34,30 @@ default_limits = record {
 
 -- no kind has less than by default
 abbrev pub AreRoomy : Limits → Type 0
-AreRoomy limits = (kind : Kind) → most_of default_limits kind ≤ most_of limits kind
+AreRoomy limits = (frames : Kind) → most_of default_limits frames ≤ most_of limits frames
 
 -- a limit may be raised, as far as the length of a frame goes, which is a word of 32 bits
 abbrev pub limit_in : Kind → Members → Reading ℕ
-limit_in kind members =
-    let least = most_of default_limits kind in
-    said_or least (number_in (key.Limit kind) least (2 ^ 32 - 1)) (get_member (name_of (key.Limit kind)) members)
+limit_in frames members =
+    let least = most_of default_limits frames in
+    said_or least (number_in (key.Limit frames) least (2 ^ 32 - 1)) (get_member (name_of (key.Limit frames)) members)
 
 -- whatever other keys there are
 abbrev pub limits_said : Members → Reading Limits
 limits_said members = do
-  request ← limit_in Request members
-  order ← limit_in Order members
-  view_change ← limit_in ViewChange members
-  new_view ← limit_in NewView members
-  reply ← limit_in Reply members
-  status ← limit_in Status members
-  ask_state ← limit_in AskState members
-  state ← limit_in State members
-  ask_report ← limit_in AskReport members
-  report ← limit_in Report members
-  call ← limit_in Call members
-  answer ← limit_in Answer members
-  log ← limit_in Log members
+  request ← limit_in kind.Request members
+  order ← limit_in kind.Order members
+  view_change ← limit_in kind.ViewChange members
+  new_view ← limit_in kind.NewView members
+  reply ← limit_in kind.Reply members
+  status ← limit_in kind.Status members
+  ask_state ← limit_in kind.AskState members
+  state ← limit_in kind.State members
+  ask_report ← limit_in kind.AskReport members
+  report ← limit_in kind.Report members
+  call ← limit_in kind.Call members
+  answer ← limit_in kind.Answer members
+  log ← limit_in kind.Log members
   Ok (record {
     request = request;
     order = order;

@@ -32,7 +32,15 @@ impl Model for Deployment {
 
     ghost Value = { model.Deployment };
 
-    ghost view = { λ held. record { f = held.f; clients = held.clients; replicas = held.replicas.items; relay = held.relay; portmap = held.portmap; patience = held.patience; limits = held.limits } };
+    ghost view = { λ held. record {
+      f = held.f;
+      clients = held.clients;
+      replicas = held.replicas.items;
+      relay = held.relay;
+      portmap = held.portmap;
+      patience = held.patience;
+      limits = held.limits;
+    } };
 
     ghost invariant = { λ held. model.IsDeployment held.f held.clients (length held.replicas.items) held.patience held.limits };
 }

@@ -5,4 +5,6 @@ use Rattle.bfs_deployment.specs.Tables.{texts_in}
 use Rattle.bfs_deployment.proofs.tables.texts_in.Given as goal
 
 abbrev pub invariant-loop-value : goal.invariant-loop-value
-invariant-loop-value l = texts_in l.key (items_view l.values) ≡ (texts_in l.key (items_view (drop l.value-index l.values)) >>= (λ more. Ok (l.texts.items ++ more)))
+invariant-loop-value l =
+    let left = drop l.value-index l.values in
+    texts_in l.key (items_view l.values) ≡ (texts_in l.key (items_view left) >>= (λ more. Ok (l.texts.items ++ more)))
