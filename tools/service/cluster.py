@@ -6,7 +6,27 @@ from pathlib import Path
 from typing import NamedTuple
 
 MOST_FAULTS, MOST_CLIENTS = 10, 1_024
+MOST_PATIENCE = 600_000  # milliseconds
 KEYS = "f", "clients", "replicas", "relay"
+OTHERS = "portmap", "patience", "limits"  # which may be missing; the last two are for replicas and relays alone
+MEBIBYTE = 1 << 20
+# the least limit of each kind of frame, in bytes, and the most; crates/bfs_deployment has them too
+LIMITS = {
+    "request": 17_400,
+    "order": 4 * MEBIBYTE,
+    "view_change": 64 * MEBIBYTE,
+    "new_view": 256 * MEBIBYTE,
+    "reply": 17_412,
+    "status": 2_048,
+    "ask_state": 2_048,
+    "state": 1_024 * MEBIBYTE,
+    "ask_report": 2_048,
+    "report": MEBIBYTE,
+    "call": 16_392,
+    "answer": 16_392,
+    "log": 4_096,
+}
+MOST_LIMIT = (1 << 32) - 1
 
 
 class Fault(Exception):
@@ -27,12 +47,13 @@ class Address(NamedTuple):
 
 
 class Cluster(NamedTuple):
-    """At most `faults` of the replicas may fail; the relay is where kernels send their calls."""
+    """At most `faults` of the replicas may fail; the relay is where kernels send their calls, and `portmap` where they may ask for its port."""
 
     faults: int
     clients: int
     replicas: tuple[Address, ...]
     relay: Address
+    portmap: Address | None = None
 
 
 def address_in(text, key):
@@ -44,18 +65,31 @@ def address_in(text, key):
     return Address(host, int(port))
 
 
-def number_in(document, key, least, most):
+def number_in(document, key, least, most, table=""):
     number = document[key]
     if type(number) is not int or not least <= number <= most:
-        raise Fault(f"{key}: {number!r} is no number from {least} to {most}")
+        raise Fault(f"{table}{key}: {number!r} is no number from {least} to {most}")
     return number
+
+
+def check_keys(document, keys, table=""):
+    for key in sorted(document):
+        if key not in keys:
+            raise Fault(f"{table}{key}: there is no such key")
+
+
+def check_limits(limits):
+    """Limits of frames may be raised, and not lowered: what is below would lose messages of those that don't fail."""
+    if not isinstance(limits, dict):
+        raise Fault(f"limits: {limits!r} is no table")
+    check_keys(limits, LIMITS, "limits.")
+    for key in limits:
+        number_in(limits, key, LIMITS[key], MOST_LIMIT, "limits.")
 
 
 def cluster_in(document):
     """The cluster that a document describes; a fault names its key."""
-    for key in document:
-        if key not in KEYS:
-            raise Fault(f"{key}: there is no such key")
+    check_keys(document, KEYS + OTHERS)
     for key in KEYS:
         if key not in document:
             raise Fault(f"{key}: it is missing")
@@ -66,9 +100,14 @@ def cluster_in(document):
         raise Fault(f"replicas: with f = {faults} it is a list of {3 * faults + 1} addresses")
     replicas = tuple(address_in(text, "replicas") for text in replicas)
     relay = address_in(document["relay"], "relay")
-    if len({*replicas, relay}) != len(replicas) + 1:
-        raise Fault("replicas: two of these addresses, or one of them and the relay's, are one")
-    return Cluster(faults, clients, replicas, relay)
+    portmap = address_in(document["portmap"], "portmap") if "portmap" in document else None
+    addresses = [*replicas, relay, *filter(None, [portmap])]
+    if len(set(addresses)) != len(addresses):
+        raise Fault("replicas: two of these addresses, or one of them and that of `relay` or `portmap`, are one")
+    if "patience" in document:
+        number_in(document, "patience", 1, MOST_PATIENCE)
+    check_limits(document.get("limits", {}))
+    return Cluster(faults, clients, replicas, relay, portmap)
 
 
 def read_cluster(folder):

@@ -15,7 +15,7 @@ fn told(alloc: Global, document: &[u8], more: &str) -> Result<String, AllocError
 }
 
 // keys of which one is missing or of another type, or bytes that are no document
-const FIRST: &[(&[u8], &str)] = &[
+static FIRST: &[(&[u8], &str)] = &[
     (b"f = 0 # \xff", "it isn't in UTF-8"),
     (b"f = 0\nf = 0", "it isn't TOML"),
     (b"secret = 0\nmore = 0", "there is no key \"more\""),
@@ -60,7 +60,7 @@ const FIRST: &[(&[u8], &str)] = &[
 const GOOD: &[u8] = b"f = 0\nclients = 1\nreplicas = ['a']\nrelay = 'b'\n";
 
 // lines behind a good document
-const MORE: &[(&str, &str)] = &[
+static MORE: &[(&str, &str)] = &[
     ("portmap = 111", "portmap: it is no text"),
     ("patience = 0.5", "patience: it is no whole number"),
     ("patience = 0", "patience: it is no number from 1 to 600000"),
