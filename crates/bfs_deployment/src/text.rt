@@ -20,7 +20,7 @@ impl Model for Text {
 
 impl Text {
     /// A copy of that text. `Memory` if memory runs out.
-    pub fn new(alloc: Global, text: &str) -> Result<Text, Memory>
+    pub(crate) fn new(alloc: Global, text: &str) -> Result<Text, Memory>
         ensures { IfOk result (λ held. held ≡ text.now) }
     {
         Ok(Text {
