@@ -1,0 +1,3 @@
+-- What the contracts of bfs_filter cite.
+pub mod Errors
+pub mod Runs
