@@ -38,8 +38,12 @@ is_note kind.Report = true
 is_note kind.Log = true
 is_note _ = false
 
--- the messages that were sent, in their order, and then notes
-pub record Tells (sent : Messages) (told : List Told) : Type 0 where
+-- notes were put behind what was told
+pub record HasNotes (before after : List Told) : Type 0 where
   pub notes : List Told
   pub none_is_a_message : All (λ t. is_note t.kind ≡ true) notes
-  pub told_is : told ≡ map message_told sent ++ notes
+  pub told_is : after ≡ before ++ notes
+
+-- the messages that were sent, in their order, and then notes
+abbrev pub Tells : Messages → List Told → Type 0
+Tells sent told = HasNotes (map message_told sent) told
