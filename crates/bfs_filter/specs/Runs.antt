@@ -10,6 +10,7 @@ use Rattle.bfs_frames.specs.declared.error.ReadError.TheVariants as read
 use Rattle.bfs_frames.specs.declared.frames.Turn.{Turn}
 use Rattle.bfs_frames.specs.declared.limits.Limits.{Limits}
 use Rattle.bfs_frames.specs.declared.parcels.Parcel.{Parcel}
+use Rattle.bfs_filter.specs.Output.{AppendsFront}
 use Rattle.bfs_filter.specs.declared.error.ServeError.{ServeError}
 use Rattle.bfs_filter.specs.declared.error.ServeError.TheVariants as errors
 
@@ -69,12 +70,13 @@ pub record IsUntaken {M : Type 0} (limits : Limits) (old new : Standing M) : Typ
   pub came : ReadsTurn limits old.input new.input turn
   pub unwritten : new.output ≡ old.output
 
--- a turn was read and taken, but its answer is not whole
+-- a turn was read and taken, and a front of its answer was written
 pub record IsUntold {M : Type 0} (takes : M → Turn → List Parcel → M → Type 0) (limits : Limits) (old new : Standing M) : Type 0 where
   pub turn : Turn
   pub came : ReadsTurn limits old.input new.input turn
   pub parcels : List Parcel
   pub taken : takes old.machine turn parcels new.machine
+  pub cut : AppendsFront old.output new.output (answer_text parcels)
 
 -- how the turn behind those that were served fails
 abbrev pub Fails : {M : Type 0} → (M → Turn → List Parcel → M → Type 0) → Limits → ServeError → (old new : Standing M) → Type 0

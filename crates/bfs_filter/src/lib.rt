@@ -4,6 +4,7 @@
 
 mod error;
 mod machine;
+mod output;
 mod serving;
 
 pub use error::{ServeError, TurnError};

@@ -4,7 +4,8 @@ ghost use Rattle.bfs_filter.specs.Runs.{EndsBefore, Serves, Stops, standing};
 
 use crate::error::ServeError;
 use crate::machine::Machine;
-use bfs_frames::{Limits, read_turn, write_answer};
+use crate::output::tell;
+use bfs_frames::{Limits, read_turn};
 use std::alloc::Global;
 use std::io::{Read, Write};
 use std::sync::Wait;
@@ -22,8 +23,10 @@ pub fn serve<M: Machine, H: Threads + Wait + Sync, R: Read, W: Write>(
     writer: &mut W,
 ) -> Result<(), ServeError>
     // The input was turns, one behind another, and nothing else.
-    ensures served { OnOk result (Serves M.takes limits.now (standing machine.old (R.remaining reader.old) (W.contents writer.old)) (standing machine.new (Some []) (W.contents writer.new))) }
-    ensures stopped { IfErr result (λ error. Stops M.takes limits.now error (standing machine.old (R.remaining reader.old) (W.contents writer.old)) (standing machine.new (R.remaining reader.new) (W.contents writer.new))) }
+    ensures served { OnOk result (Serves M.takes limits.now
+        (standing machine.old (R.remaining reader.old) (W.contents writer.old)) (standing machine.new (Some []) (W.contents writer.new))) }
+    ensures stopped { IfErr result (λ error. Stops M.takes limits.now error
+        (standing machine.old (R.remaining reader.old) (W.contents writer.old)) (standing machine.new (R.remaining reader.new) (W.contents writer.new))) }
 {
     for _ in rt.forever() {
         match serve_turn(alloc, rt, machine, limits, reader, writer) {
@@ -45,15 +48,18 @@ fn serve_turn<M: Machine, H: Threads + Wait + Sync, R: Read, W: Write>(
     reader: &mut R,
     writer: &mut W,
 ) -> Result<bool, ServeError>
-    ensures served { IfOk result (λ more. IsTrue more → Serves M.takes limits.now (standing machine.old (R.remaining reader.old) (W.contents writer.old)) (standing machine.new (R.remaining reader.new) (W.contents writer.new))) }
-    ensures end { IfOk result (λ more. EndsBefore more (standing machine.old (R.remaining reader.old) (W.contents writer.old)) (standing machine.new (R.remaining reader.new) (W.contents writer.new))) }
-    ensures stopped { IfErr result (λ error. Stops M.takes limits.now error (standing machine.old (R.remaining reader.old) (W.contents writer.old)) (standing machine.new (R.remaining reader.new) (W.contents writer.new))) }
+    ensures served { IfOk result (λ more. IsTrue more → Serves M.takes limits.now
+        (standing machine.old (R.remaining reader.old) (W.contents writer.old)) (standing machine.new (R.remaining reader.new) (W.contents writer.new))) }
+    ensures end { IfOk result (λ more. EndsBefore more
+        (standing machine.old (R.remaining reader.old) (W.contents writer.old)) (standing machine.new (R.remaining reader.new) (W.contents writer.new))) }
+    ensures stopped { IfErr result (λ error. Stops M.takes limits.now error
+        (standing machine.old (R.remaining reader.old) (W.contents writer.old)) (standing machine.new (R.remaining reader.new) (W.contents writer.new))) }
 {
     let Some(turn) = read_turn(alloc, reader, limits)? else {
         return Ok(false);
     };
     let parcels = machine.turn(rt, turn)?;
-    match write_answer(writer, &parcels) {
+    match tell(alloc, writer, &parcels) {
         Ok(()) => Ok(true),
         Err(error) => Err(ServeError::Write(error)),
     }

@@ -16,4 +16,4 @@ pub returns-clause-stopped : goal.returns-clause-stopped
 returns-clause-stopped g c =
     let came = rw c.in-Some.is at c.in_ok-turn.ensures.turn in
     stops_at g.M.Machine.takes c.args.limits.now (errors.Write c.in-Err.error) _ _
-    (record { turn = c.in-Some.turn; came = came; parcels = c.in_ok-parcels.parcels.items; taken = c.in_ok-parcels.ensures })
+    (record { turn = c.in-Some.turn; came = came; parcels = c.in_ok-parcels.parcels.items; taken = c.in_ok-parcels.ensures; cut = c.in-Err.ensures.front })
