@@ -21,7 +21,8 @@ use Rattle.bfs_clients.specs.Counters.{counted_call}
 use Rattle.bfs_clients.specs.Tallies.{Tally, agreed, no_replies}
 use Rattle.bfs_clients.specs.declared.clients.Call as client
 use Rattle.bfs_relay.specs.OwnReplies.{own_reply}
-use Rattle.bfs_relay.specs.Parcels.{Told, dropped_told, reply_told, request_told}
+use Rattle.bfs_frames.specs.Parcels.{Told}
+use Rattle.bfs_relay.specs.Parcels.{dropped_told, reply_told, request_told}
 use Rattle.bfs_relay.specs.Relays.{Relay, asked_at, asked_by, begun_at, begun_by, called, dropped, heard_as, heard_at, heard_by, is_free_among, most_waiting, next_begun, next_of, placed, queued, relay_heard}
 use Rattle.bfs_relay.specs.Seats.{Call, Outstanding, Seat, asked_again, begun, counted, heard, is_due, is_free, is_of, is_past, most_patience, second, seat_with, sent_again, settled, still_waits, told_again, told_agreed, told_asking, told_beginning, told_hearing, told_settling, told_with}
 use Rattle.bfs_relay.specs.Turns.{answered, call_taken, calls_taken, frame_taken_as, microseconds, replies_heard, reply_in, taken_as, turned}

@@ -12,7 +12,7 @@ use Rattle.bfs_frames.specs.declared.parcels.Parcel.{Parcel}
 use Rattle.bfs_frames.specs.declared.parcels.To.{To}
 use Rattle.bfs_frames.specs.declared.parcels.To.TheVariants as to
 use Rattle.bfs_relay.specs.GivenKeys.{client_of, clients_with, counter_for, counter_from, relay_of}
-use Rattle.bfs_relay.specs.Parcels.{Told, told_by}
+use Rattle.bfs_frames.specs.Parcels.{Told, told_by}
 use Rattle.bfs_relay.specs.Relays.{Relay}
 use Rattle.bfs_relay.specs.Seats.{Seat}
 use Rattle.bfs_relay.specs.Turns.{turned}

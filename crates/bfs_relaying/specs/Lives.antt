@@ -11,7 +11,7 @@ use Rattle.bfs_messages.specs.Spelling.{signed_text}
 use Rattle.bfs_messages.specs.declared.message.Message.{Message}
 use Rattle.bfs_messages.specs.declared.signed.Signed.{Signed}
 use Rattle.bfs_relay.specs.GivenKeys.{clients_with}
-use Rattle.bfs_relay.specs.Parcels.{Told, told_by}
+use Rattle.bfs_frames.specs.Parcels.{Told, told_by}
 use Rattle.bfs_relaying.specs.Reserving.{Reserving, Takes, begun}
 
 -- What is told -----------------------------------------------------------------------------------------------------------

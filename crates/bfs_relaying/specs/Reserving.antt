@@ -4,7 +4,7 @@ use Rattle.bfs_auth.specs.Keys.{Keys}
 use Rattle.bfs_frames.specs.declared.frames.Turn.{Turn}
 use Rattle.bfs_frames.specs.declared.parcels.Parcel.{Parcel}
 use Rattle.bfs_relay.specs.GivenKeys.{relay_of}
-use Rattle.bfs_relay.specs.Parcels.{told_by}
+use Rattle.bfs_frames.specs.Parcels.{told_by}
 use Rattle.bfs_relay.specs.Relays.{Relay}
 use Rattle.bfs_relay.specs.Turns.{turned}
 

@@ -47,6 +47,13 @@ impl<S: Reserve + Drop> Reserving<S> {
         Ok(Reserving { relay, store })
     }
 
+    /// The number that is reserved: timestamps from it on were not used.
+    pub fn reserved(&self) -> u64
+        ensures { result ≡ self.now.reserved }
+    {
+        self.store.reserved()
+    }
+
     // Sees that the timestamps that were used are reserved, and some ahead.
     #[tactic(auto, using(crate::proofs::Counting::reserved_more))]
     fn reserve(&mut self) -> io::Result<()>

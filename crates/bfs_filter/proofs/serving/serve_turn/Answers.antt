@@ -1,4 +1,7 @@
-use Rattle.std.proofs.Common.{refl}
+use Rattle.std.proofs.Common.{List, refl, subst}
+use Rattle.bfs_frames.specs.Parcels.{answer_text}
+use Rattle.bfs_frames.specs.declared.parcels.Parcel.{Parcel}
+use Rattle.bfs_filter.specs.Output.{AppendsFront}
 use Rattle.std.proofs.lemmas.Result.{err_from_is_err_and}
 use Rattle.bfs_filter.specs.declared.error.ServeError.TheVariants as errors
 use Rattle.bfs_filter.proofs.Folding.{refused, stops_at}
@@ -15,5 +18,7 @@ returns-in_err-parcels-clause-stopped g c =
 pub returns-clause-stopped : goal.returns-clause-stopped
 returns-clause-stopped g c =
     let came = rw c.in-Some.is at c.in_ok-turn.ensures.turn in
+    let cut = subst (λ (parcels : List Parcel). AppendsFront (g.W.Write.contents c.args.writer.now) (g.W.Write.contents c.tell.new.writer) (answer_text parcels))
+    c.deref.ensures.value c.in-Err.ensures.front in
     stops_at g.M.Machine.takes c.args.limits.now (errors.Write c.in-Err.error) _ _
-    (record { turn = c.in-Some.turn; came = came; parcels = c.in_ok-parcels.parcels.items; taken = c.in_ok-parcels.ensures; cut = c.in-Err.ensures.front })
+    (record { turn = c.in-Some.turn; came = came; parcels = c.in_ok-parcels.parcels.items; taken = c.in_ok-parcels.ensures; cut = cut })
