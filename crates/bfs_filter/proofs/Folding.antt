@@ -65,17 +65,9 @@ module _ {M : Type 0} (takes : M → Turn → List Parcel → M → Type 0) (lim
   pub stops_at : (error : ServeError) (old new : Standing M) → Fails takes limits error old new → Stops takes limits error old new
   stops_at error old new fails = record { last = old; served = served_none old; failed = fails }
 
--- why no turn was read, by what is said of each error
-pub no_turn : (error : ReadError) (input : Option (List ℕ)) → (error ≡ read.Cut → IfSome input IsCut) → (error ≡ read.BadTime → IfSome input HasBadTime)
-    → NoTurnAt error input
-no_turn read.Cut input cut bad = cut refl
-no_turn read.BadTime input cut bad = bad refl
-no_turn read.Memory input cut bad = tt
-no_turn (read.Input error) input cut bad = tt
-
 -- a machine's error
-pub refused : {M : Type 0} (takes : M → Turn → List Parcel → M → Type 0) (limits : Limits) (error : TurnError) (old new : Standing M) → IsUntaken limits old new
-    → Fails takes limits (refusal error) old new
+pub refused : {M : Type 0} (takes : M → Turn → List Parcel → M → Type 0) (limits : Limits) (error : TurnError) (old new : Standing M)
+    → IsUntaken limits old new → Fails takes limits (refusal error) old new
 refused takes limits turn_error.Memory old new untaken = untaken
 refused takes limits (turn_error.Storage error) old new untaken = untaken
 

@@ -13,7 +13,7 @@ use std::thread::Threads;
 
 /// Reads turns, has the machine take each, and writes its answer, until the input ends. A turn's answer is written once the machine has taken the turn, in
 /// the turns' order. After an `Err` the process is to end: the reader may stand within a turn, and a part of an answer may be written.
-#[tactic(auto, using(crate::proofs::Folding::served_none, crate::proofs::Folding::served_more, crate::proofs::Folding::served_all, crate::proofs::Folding::stops_more))]
+#[tactic(auto, using(crate::proofs::Folding::served_none, crate::proofs::Folding::served_more, crate::proofs::Folding::served_all))]
 pub fn serve<M: Machine, H: Threads + Wait + Sync, R: Read, W: Write>(
     alloc: Global,
     rt: &H,

@@ -18,7 +18,8 @@ returns-in_err-parcels-clause-stopped g c =
 pub returns-clause-stopped : goal.returns-clause-stopped
 returns-clause-stopped g c =
     let came = rw c.in-Some.is at c.in_ok-turn.ensures.turn in
-    let cut = subst (λ (parcels : List Parcel). AppendsFront (g.W.Write.contents c.args.writer.now) (g.W.Write.contents c.tell.new.writer) (answer_text parcels))
-    c.deref.ensures.value c.in-Err.ensures.front in
+    let old = g.W.Write.contents c.args.writer.now in
+    let new = g.W.Write.contents c.tell.new.writer in
+    let cut = subst (λ (parcels : List Parcel). AppendsFront old new (answer_text parcels)) c.deref.ensures.value c.in-Err.ensures.front in
     stops_at g.M.Machine.takes c.args.limits.now (errors.Write c.in-Err.error) _ _
     (record { turn = c.in-Some.turn; came = came; parcels = c.in_ok-parcels.parcels.items; taken = c.in_ok-parcels.ensures; cut = cut })
