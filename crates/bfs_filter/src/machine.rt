@@ -1,0 +1,22 @@
+ghost use Rattle.std.specs.Prelude.{List, IfOk};
+ghost use Rattle.bfs_frames.specs.declared.frames.Turn.{Turn};
+ghost use Rattle.bfs_frames.specs.declared.parcels.Parcel.{Parcel};
+
+use crate::error::TurnError;
+use bfs_frames::{Parcel, Turn};
+use std::sync::Wait;
+use std::thread::Threads;
+
+/// What a filter does with a turn.
+pub trait Machine {
+    // from the machine before, the turn may give these parcels and the machine after
+    ghost takes: { Self → Turn → List Parcel → Self → Type 0 };
+
+    /// Takes a turn, and gives the parcels of its answer. After an `Err` the machine takes no further turn.
+    fn turn<H: Threads + Wait + Sync>(
+        &mut self,
+        rt: &H,
+        turn: Turn,
+    ) -> Result<Vec<Parcel>, TurnError>
+        ensures { IfOk result (λ parcels. takes self.old turn parcels.items self.new) };
+}
