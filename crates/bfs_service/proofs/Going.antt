@@ -11,7 +11,8 @@ use Rattle.bfs_nodes_agree.specs.Nodes.Steps.{NodeStep, Delivers, Takes, TakesRe
 use Rattle.bfs_nodes_agree.specs.declared.node_calls.performing.NodeCall.{NodeCall}
 use Rattle.bfs_nodes_agree.specs.declared.node_calls.performing.NodeCall.TheVariants as code
 use Rattle.bfs_nodes_agree.specs.declared.node_calls.performing.Sent.{Sent}
-use Rattle.bfs_service.specs.Acting.{Acting, GoesOn, IsAfter, after_step, after_steps}
+use Rattle.bfs_model.specs.Server.Tree.{Time}
+use Rattle.bfs_service.specs.Acting.{Acting, GoesOn, IsAdoption, IsAfter, IsOwn, IsOwnCall, after_step, after_steps}
 
 -- One step ------------------------------------------------------------------------------------------------------------------
 
@@ -40,7 +41,7 @@ taken acting code.Checkpoint sent now is = with_sent acting Checkpoints sent now
 taken acting code.TimeOut sent now is = with_sent acting TimesOut sent now is
 taken acting (code.Adopt text certificate) sent now is =
     let step = Adopts certificate.now is.0 is.1 in
-    goes_by_one (λ step. _) acting (record { node = now; sent = acting.sent ++ messages_in sent }) step (is.0, is.1, refl) (with_sent acting step sent now is.3)
+    goes_by_one (IsAdoption certificate.now) acting (record { node = now; sent = acting.sent ++ messages_in sent }) step (is.0, is.1, refl) (with_sent acting step sent now is.3)
 
 without_sent : (acting : Acting) (step : NodeStep) (now : Node) → now ≡ acting.node → outcome acting.node step ≡ still acting.node
     → record { node = now; sent = acting.sent } ≡ after_step acting step
@@ -61,7 +62,7 @@ refused acting code.Execute e now other is = without_sent acting Executes now (i
 refused acting code.Checkpoint e now other is = without_sent acting Checkpoints now (is.1 other).0 (is.1 other).1
 refused acting code.TimeOut e now other is = without_sent acting TimesOut now (is.1 other).0 (is.1 other).1
 refused acting (code.Adopt text certificate) e now other is =
-    subst (λ (n : Node). GoesOn _ acting (record { node = n; sent = acting.sent })) (sym is) (goes_nowhere _ acting)
+    subst (λ (n : Node). GoesOn (IsAdoption certificate.now) acting (record { node = n; sent = acting.sent })) (sym is) (goes_nowhere (IsAdoption certificate.now) acting)
 
 -- Calls one after another -----------------------------------------------------------------------------------------------------
 
@@ -74,3 +75,16 @@ goes_both P first next last one other = record {
 
 pub goes_as : (P Q : NodeStep → Type 0) (first last : Acting) → ((step : NodeStep) → P step → Q step) → GoesOn P first last → GoesOn Q first last
 goes_as P Q first last so goes = record { steps = goes.steps; each = λ step i. so step (goes.each step i); after_is = goes.after_is }
+
+-- a call that it makes of itself
+pub own_goes : (time : Time) (call : NodeCall) (before after : Acting) → IsOwnCall time call → IsAfter call before after → GoesOn (IsOwn time) before after
+own_goes time (code.Deliver bytes) before after own is = absurd own
+own_goes time (code.Take signed) before after own is = absurd own
+own_goes time (code.TakeRequests messages) before after own is = absurd own
+own_goes time (code.TakeRequestsFor t messages) before after own is = absurd own
+own_goes time (code.Propose t) before after own is = goes_by_one (IsOwn time) before after (Proposes t) own is
+own_goes time code.Execute before after own is = goes_by_one (IsOwn time) before after Executes tt is
+own_goes time code.Checkpoint before after own is = goes_by_one (IsOwn time) before after Checkpoints tt is
+own_goes time code.TimeOut before after own is = goes_by_one (IsOwn time) before after TimesOut tt is
+own_goes time (code.Adopt text certificate) before after own is =
+    goes_as (IsAdoption certificate.now) (IsOwn time) before after (λ step adopts. subst (IsOwn time) (sym adopts.2) tt) is

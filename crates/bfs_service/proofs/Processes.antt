@@ -46,7 +46,8 @@ kept_in {A} p (y ∷ ys) x i = go (p y) refl i
     go : (b : Bool) → p y ≡ b → IsIn x (if b then y ∷ filter p ys else filter p ys) → IsIn x (y ∷ ys) × (p x ≡ true)
     go true e j = elim j [
       | inl is ↦ (inl is, ap p is ∙ e)
-      | inr k ↦ let got = kept_in p ys x k in (inr got.0, got.1) ]
+      | inr k ↦ let got = kept_in p ys x k in (inr got.0, got.1)
+    ]
     go false e j = let got = kept_in p ys x j in (inr got.0, got.1)
 
 deliveries_of : (turn : Turn) (step : NodeStep) → IsIn step (deliveries turn.frames.items) → IsStepOf turn step
@@ -90,7 +91,7 @@ steps_of turn before after told t =
     let then = deliveries frames in
     let last = t.acts.steps in
     let delivered : frames_delivered frames t.asked ≡ after_steps before (first ++ then) =
-        deliveries_are frames t.asked ∙ ap (λ (a : Acting). after_steps a then) t.takes.after_is ∙ sym (fold-append after_step before first then) in
+    deliveries_are frames t.asked ∙ ap (λ (a : Acting). after_steps a then) t.takes.after_is ∙ sym (fold-append after_step before first then) in
     record {
       steps = (first ++ then) ++ last;
       each = both_in (IsStepOf turn) (first ++ then) last
@@ -115,10 +116,12 @@ step_tracks Said r a step t =
       node = ap (λ (n : Node). (outcome n step).now) t.node;
       all = λ m i. elim (either_in ours r.sent m i) [
         | inl j ↦ inl (right_in a.sent theirs m (subst (λ (n : Node). IsIn m (outcome n step).sent) t.node j))
-        | inr j ↦ elim (t.all m j) [ inl k ↦ inl (left_in a.sent theirs m k) | inr said ↦ inr said ] ];
+        | inr j ↦ elim (t.all m j) [ inl k ↦ inl (left_in a.sent theirs m k) | inr said ↦ inr said ]
+      ];
       here = λ m i. elim (either_in a.sent theirs m i) [
         | inl j ↦ right_in ours r.sent m (t.here m j)
-        | inr j ↦ left_in ours r.sent m (subst (λ (n : Node). IsIn m (outcome n step).sent) (sym t.node) j) ];
+        | inr j ↦ left_in ours r.sent m (subst (λ (n : Node). IsIn m (outcome n step).sent) (sym t.node) j)
+      ];
     }
 
 turns_of : ℕ → List NodeStep → List NodeTurn
@@ -147,8 +150,8 @@ turns_both w (x ∷ xs) ys = turns_both (after_node_turn w x) xs ys
 sent_stays_one : (w : NodeReplicas) (turn : NodeTurn) (k : ℕ) (m : Signed Message) → IsIn m (w k).sent → IsIn m (after_node_turn w turn k).sent
 sent_stays_one w turn k m i = either (k == turn.who)
     (λ yes. let same = eqb-true k turn.who yes in
-        subst (λ (j : ℕ). IsIn m (after_node_turn w turn j).sent) (sym same)
-        (subst (λ (r : NodeReplica). IsIn m r.sent) (sym (here_after w turn)) (right_in (outcome (w turn.who).node turn.step).sent (w turn.who).sent m (subst (λ (j : ℕ). IsIn m (w j).sent) same i))))
+    subst (λ (j : ℕ). IsIn m (after_node_turn w turn j).sent) (sym same)
+    (subst (λ (r : NodeReplica). IsIn m r.sent) (sym (here_after w turn)) (right_in (outcome (w turn.who).node turn.step).sent (w turn.who).sent m (subst (λ (j : ℕ). IsIn m (w j).sent) same i))))
     (λ no. subst (λ (r : NodeReplica). IsIn m r.sent) (sym (other_stays w turn.who k turn.step no)) i)
 
 sent_stays : (w : NodeReplicas) (turns : List NodeTurn) (k : ℕ) (m : Signed Message) → IsIn m (w k).sent → IsIn m (after_node_turns w turns k).sent
@@ -177,13 +180,15 @@ told_is : (sent : Messages) (notes : List Told) (x : Told) → All (λ t. is_not
     → (m : Signed Message) × IsIn m sent × (x ≡ message_told m)
 told_is sent notes x each i no = elim (either_in (map message_told sent) notes x i) [
   | inl j ↦ out_of_map message_told sent x j
-  | inr j ↦ absurd (no_note notes each j) ]
+  | inr j ↦ absurd (no_note notes each j)
+]
   where
     no_note : (notes : List Told) → All (λ t. is_note t.kind ≡ true) notes → IsIn x notes → ⊥
     no_note [] each j = j
     no_note (t ∷ rest) each j = elim j [
       | inl is ↦ let yes : is_note x.kind ≡ true = ap (λ (s : Told). is_note s.kind) is ∙ each.0 in absurd (sym yes ∙ no)
-      | inr k ↦ no_note rest each.1 k ]
+      | inr k ↦ no_note rest each.1 k
+    ]
 
 one_turn_tracks : (Said : ℕ → Signed Message → Type 0) (w : NodeReplicas) (p next : Processes) (t : ProcessTurn) → AllTrack Said w p → (h : HasTurned p t next)
     → (s : Steps t.turn (p t.who) h.turned.done) → AllTrack (λ k m. Said k m ⊎ ((t.who ≡ k) × IsIn m h.turned.done.sent)) (after_node_turns w (turns_of t.who s.steps)) next
@@ -193,10 +198,10 @@ one_turn_tracks Said w p next t track h s =
     let done = turned.done in
     let w2 = after_node_turns w (turns_of who s.steps) in
     let at_start : Tracks (Said who) (w who) (p who) = record {
-          node = track.node who;
-          all = λ m i. inr (track.all who m i);
-          here = λ m i. absurd (subst (λ (sent : Messages). IsIn m sent) (track.quiet who) i);
-        } in
+      node = track.node who;
+      all = λ m i. inr (track.all who m i);
+      here = λ m i. absurd (subst (λ (sent : Messages). IsIn m sent) (track.quiet who) i);
+    } in
     let at_end : Tracks (Said who) (w2 who) done = subst (λ (a : Acting). Tracks (Said who) (w2 who) a) (sym s.done_is) (steps_track (Said who) w who (p who) s.steps at_start) in
     record {
       node = λ k. either (k == who)
@@ -207,9 +212,10 @@ one_turn_tracks Said w p next t track h s =
           (λ no. ap (λ (a : Acting). a.sent) (h.others k no) ∙ track.quiet k);
       all = λ k m i. either (k == who)
           (λ yes. let same = eqb-true k who yes in
-              elim (at_end.all m (subst (λ (j : ℕ). IsIn m (w2 j).sent) same i)) [
-                | inl j ↦ inr (sym same, j)
-                | inr said ↦ inl (subst (λ (j : ℕ). Said j m) (sym same) said) ])
+          elim (at_end.all m (subst (λ (j : ℕ). IsIn m (w2 j).sent) same i)) [
+            | inl j ↦ inr (sym same, j)
+            | inr said ↦ inl (subst (λ (j : ℕ). Said j m) (sym same) said)
+          ])
           (λ no. inl (track.all k m (subst (λ (r : NodeReplica). IsIn m r.sent) (others_stay w who k s.steps no) i)));
     }
 
@@ -233,32 +239,43 @@ follow (t ∷ turns) Said w p after track have =
     let rest = follow turns Said2 w2 next after (one_turn_tracks Said w p next t track h s) have.2 in
     let both = turns_both w ours rest.steps in
     let at_start : Tracks (Said t.who) (w t.who) (p t.who) = record {
-          node = track.node t.who;
-          all = λ m i. inr (track.all t.who m i);
-          here = λ m i. absurd (subst (λ (sent : Messages). IsIn m sent) (track.quiet t.who) i);
-        } in
+      node = track.node t.who;
+      all = λ m i. inr (track.all t.who m i);
+      here = λ m i. absurd (subst (λ (sent : Messages). IsIn m sent) (track.quiet t.who) i);
+    } in
     let at_end = subst (λ (a : Acting). Tracks (Said t.who) (w2 t.who) a) (sym s.done_is) (steps_track (Said t.who) w t.who (p t.who) s.steps at_start) in
     record {
       steps = ours ++ rest.steps;
       of_turns = both_in (IsOfTurns (t ∷ turns)) ours rest.steps
           (λ step i. let from = out_of_map (λ one. record { who = t.who; step = one }) s.steps step i in
-              subst (IsOfTurns (t ∷ turns)) (sym from.2) (t, inl refl, refl, s.each from.0 from.1))
+          subst (IsOfTurns (t ∷ turns)) (sym from.2) (t, inl refl, refl, s.each from.0 from.1))
           (λ step i. let got = rest.of_turns step i in (got.0, inr got.1, got.2, got.3));
       nodes = λ k. ap (λ (v : NodeReplicas). (v k).node) both ∙ rest.nodes k;
       told = λ k m i. elim (rest.told k m (subst (λ (v : NodeReplicas). IsIn m (v k).sent) both i)) [
         | inl said ↦ elim said [
           | inl before ↦ inl before
-          | inr now ↦ inr (t, inl refl, now.0, subst (λ (told : List Told). IsIn (message_told m) told) (sym turned.tells.told_is)
-              (left_in (map message_told turned.done.sent) turned.tells.notes (message_told m) (in_map message_told turned.done.sent m now.1))) ]
-        | inr later ↦ inr (later.0, inr later.1, later.2, later.3) ];
+          | inr now ↦ inr (
+            t,
+            inl refl,
+            now.0,
+            subst (λ (told : List Told). IsIn (message_told m) told) (sym turned.tells.told_is)
+                (left_in (map message_told turned.done.sent) turned.tells.notes (message_told m) (in_map message_told turned.done.sent m now.1)),
+          )
+        ]
+        | inr later ↦ inr (later.0, inr later.1, later.2, later.3)
+      ];
       sent = λ one x i j no. elim i [
         | inl is ↦
-            let at = told_is turned.done.sent turned.tells.notes x turned.tells.none_is_a_message (subst (λ (told : List Told). IsIn x told) (ap (λ (u : ProcessTurn). u.told) is ∙ turned.tells.told_is) j) no in
-            (at.0, subst (λ (k : ℕ). IsIn at.0 (after_node_turns w (ours ++ rest.steps) k).sent) (sym (ap (λ (u : ProcessTurn). u.who) is))
-                (subst (λ (v : NodeReplicas). IsIn at.0 (v t.who).sent) (sym both) (sent_stays w2 rest.steps t.who at.0 (at_end.here at.0 at.1))), at.2)
+            let at = told_is turned.done.sent turned.tells.notes x turned.tells.none_is_a_message (subst (λ (told : List Told). IsIn x told) (ap (λ (u : ProcessTurn). u.told) is ∙ turned.tells.told_is) j) no in (
+              at.0,
+              subst (λ (k : ℕ). IsIn at.0 (after_node_turns w (ours ++ rest.steps) k).sent) (sym (ap (λ (u : ProcessTurn). u.who) is))
+                  (subst (λ (v : NodeReplicas). IsIn at.0 (v t.who).sent) (sym both) (sent_stays w2 rest.steps t.who at.0 (at_end.here at.0 at.1))),
+              at.2,
+            )
         | inr later ↦
             let got = rest.sent one x later j no in
-            (got.0, subst (λ (v : NodeReplicas). IsIn got.0 (v one.who).sent) (sym both) got.1, got.2) ];
+            (got.0, subst (λ (v : NodeReplicas). IsIn got.0 (v one.who).sent) (sym both) got.1, got.2)
+      ];
     }
 
 -- The law -------------------------------------------------------------------------------------------------------------------------
@@ -267,12 +284,13 @@ pub processes_agree : NodesAgree → ProcessesAgree
 processes_agree agree f keys start turns after have =
     let w = new_node_replicas f keys start in
     let track : AllTrack (λ k m. ⊥) w (new_processes f keys start) = record { node = λ k. refl; quiet = λ k. refl; all = λ k m i. i } in
-    let got = follow turns (λ k m. ⊥) w (new_processes f keys start) after track have in
-    (got.steps,
+    let got = follow turns (λ k m. ⊥) w (new_processes f keys start) after track have in (
+      got.steps,
       record {
         of_turns = got.of_turns;
         nodes = got.nodes;
         told = λ k m i. elim (got.told k m i) [ inl none ↦ absurd none | inr told ↦ told ];
         sent = got.sent;
       },
-      λ faulty shared few authentic batches states. agree f keys start faulty got.steps shared few authentic batches states)
+      λ faulty shared few authentic batches states. agree f keys start faulty got.steps shared few authentic batches states,
+    )

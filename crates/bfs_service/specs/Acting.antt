@@ -56,3 +56,12 @@ IsOwn time Checkpoints = Unit {0}
 IsOwn time TimesOut = Unit {0}
 IsOwn time (Adopts certificate files table) = Unit {0}
 IsOwn time _ = ⊥
+
+-- a call by which it does so
+abbrev pub IsOwnCall : Time → NodeCall → Type 0
+IsOwnCall time (code.Propose t) = t ≡ time
+IsOwnCall time code.Execute = Unit {0}
+IsOwnCall time code.Checkpoint = Unit {0}
+IsOwnCall time code.TimeOut = Unit {0}
+IsOwnCall time (code.Adopt text certificate) = Unit {0}
+IsOwnCall time _ = ⊥

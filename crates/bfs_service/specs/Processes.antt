@@ -67,7 +67,7 @@ ProcessesAgree = (f : ℕ) (keys : Keyring) (start : Beginning) (turns : List Pr
     → HaveTurned (new_processes f keys start) turns after
     → (steps : List NodeTurn) × AreNodes f keys start turns after steps
     × ((faulty : ℕ → Bool) → AreShared f keys → FewAreFaulty f faulty
-        → AreAuthentic faulty (new_node_replicas f keys start) steps
-        → BatchesDontCollide faulty (after_node_turns (new_node_replicas f keys start) steps)
-        → StatesDontCollide faulty (after_node_turns (new_node_replicas f keys start) steps)
-        → Agree start faulty (after_node_turns (new_node_replicas f keys start) steps))
+    → AreAuthentic faulty (new_node_replicas f keys start) steps
+    → BatchesDontCollide faulty (after_node_turns (new_node_replicas f keys start) steps)
+    → StatesDontCollide faulty (after_node_turns (new_node_replicas f keys start) steps)
+    → Agree start faulty (after_node_turns (new_node_replicas f keys start) steps))

@@ -1,12 +1,13 @@
 -- What a replica makes of a turn.
-use Rattle.std.specs.Prelude.{◌≡◌, ℕ, Bool, true, false, List, [], ◌∷◌, fold, if◌then◌else◌, nat_le, ◌==◌, ◌&&◌, Result, Ok, Err, ◌*◌, ◌+◌}
+use Rattle.std.specs.Prelude.{◌≡◌, ℕ, Bool, true, false, List, [], ◌∷◌, fold, map, if◌then◌else◌, nat_le, ◌==◌, ◌&&◌, Result, Ok, Err, ◌*◌, ◌+◌}
 use Rattle.bfs_model.specs.Bytes.Items.{Fault, word_at}
 use Rattle.bfs_model.specs.Server.Tree.{Time}
 use Rattle.bfs_votes.specs.Tags.{pre_prepare_tag, prepare_tag, commit_tag, checkpoint_tag, view_change_tag, new_view_tag}
-use Rattle.bfs_frames.specs.Parcels.{Told}
+use Rattle.bfs_frames.specs.Parcels.{Told, told_by}
 use Rattle.bfs_frames.specs.declared.frames.Frame.{Frame}
 use Rattle.bfs_frames.specs.declared.frames.Turn.{Turn}
 use Rattle.bfs_frames.specs.declared.kind.Kind.{Kind}
+use Rattle.bfs_frames.specs.declared.parcels.Parcel.{Parcel}
 use Rattle.bfs_frames.specs.declared.kind.Kind.TheVariants.{Order, ViewChange, NewView}
 use Rattle.bfs_nodes_agree.specs.Nodes.Steps.{NodeStep, Delivers}
 use Rattle.bfs_service.specs.Acting.{Acting, GoesOn, IsOwn, IsTaking, after_step}
@@ -43,3 +44,7 @@ pub record Turned (turn : Turn) (before after : Acting) (told : List Told) : Typ
   pub acts : GoesOn (IsOwn turn.time) (frames_delivered turn.frames.items asked) done
   pub tells : Tells done.sent told
   pub after_is : after ≡ record { node = done.node; sent = [] }
+
+-- as a machine of a filter
+abbrev pub Takes : Acting → Turn → List Parcel → Acting → Type 0
+Takes before turn parcels after = Turned turn before after (map told_by parcels)

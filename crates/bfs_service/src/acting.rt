@@ -2,7 +2,7 @@
 ghost use Rattle.std.specs.Prelude.{◌≡◌, ◌≢◌, [], OnOk};
 ghost use Rattle.bfs_node.specs.declared.error.NodeError.TheVariants as errors;
 ghost use Rattle.bfs_nodes_agree.specs.Nodes.Steps as steps;
-ghost use Rattle.bfs_service.specs.Acting.{GoesOn, IsAdoption, IsAfter, IsOwn, after_step};
+ghost use Rattle.bfs_service.specs.Acting.{GoesOn, IsAfter, IsOwn, IsOwnCall, after_step};
 
 use bfs_log::StableCheckpoint;
 use bfs_messages::{Message, Signed};
@@ -101,7 +101,7 @@ impl Actor {
     ) -> Result<bool, Memory>
         ensures { OnOk result (GoesOn (IsOwn time) self.old self.new) }
     {
-        self.act(rt, NodeCall::Propose(time))
+        self.act_own(rt, time, NodeCall::Propose(time))
     }
 
     /// Time has run out for its view. Whether it asks for the next one.
@@ -112,7 +112,7 @@ impl Actor {
     ) -> Result<bool, Memory>
         ensures { OnOk result (GoesOn (IsOwn time) self.old self.new) }
     {
-        self.act(rt, NodeCall::TimeOut)
+        self.act_own(rt, time, NodeCall::TimeOut)
     }
 
     /// It adopts another's state, if that is a later one and the certificate shows it. Whether it did.
@@ -125,10 +125,11 @@ impl Actor {
     ) -> Result<bool, Memory>
         ensures { OnOk result (GoesOn (IsOwn time) self.old self.new) }
     {
-        self.act(rt, NodeCall::Adopt { text, certificate })
+        self.act_own(rt, time, NodeCall::Adopt { text, certificate })
     }
 
     /// Executes all that is committed, and makes each checkpoint that is due before the first batch and behind each.
+    #[tactic(auto, using(crate::proofs::Going::goes_both))]
     pub(crate) fn advance<R: Threads + Wait + Sync>(
         &mut self,
         rt: &R,
@@ -136,15 +137,30 @@ impl Actor {
     ) -> Result<(), Memory>
         ensures { OnOk result (GoesOn (IsOwn time) self.old self.new) }
     {
-        self.act(rt, NodeCall::Checkpoint)?;
+        self.act_own(rt, time, NodeCall::Checkpoint)?;
         for _ in rt.forever() {
             if !self.node.is_ready() {
                 return Ok(());
             }
-            self.act(rt, NodeCall::Execute)?;
-            self.act(rt, NodeCall::Checkpoint)?;
+            self.act_own(rt, time, NodeCall::Execute)?;
+            self.act_own(rt, time, NodeCall::Checkpoint)?;
         }
         unreachable!()
+    }
+
+    // Makes a call that a replica makes of itself, and tells whether it was taken.
+    #[tactic(auto, using(crate::proofs::Going::own_goes))]
+    fn act_own<R: Threads + Wait + Sync>(
+        &mut self,
+        rt: &R,
+        time: Time,
+        call: NodeCall<'_>,
+    ) -> Result<bool, Memory>
+        requires { IsOwnCall time call.entry }
+        ensures { OnOk result (GoesOn (IsOwn time) self.old self.new) }
+    {
+        let is_taken = self.act(rt, call)?;
+        Ok(is_taken)
     }
 
     // Makes a call, and tells whether it was taken. `Memory` if memory runs out: nothing that is left is to be used then.

@@ -12,6 +12,8 @@ mod queue;
 mod service;
 mod states;
 mod telling;
+mod terms;
 
 pub use laws::processes_agree;
-pub use service::{Service, Terms};
+pub use service::Service;
+pub use terms::Terms;

@@ -2,7 +2,7 @@ ghost use Rattle.std.specs.Prelude.{◌≡◌, [], map, IfOk, OnOk};
 ghost use Rattle.bfs_frames.specs.Parcels.{told_by};
 ghost use Rattle.bfs_service.specs.Acting.{GoesOn, IsOwn, IsTaking};
 ghost use Rattle.bfs_service.specs.Telling.{Tells};
-ghost use Rattle.bfs_service.specs.Turns.{Turned};
+ghost use Rattle.bfs_service.specs.Turns.{Takes, Turned};
 
 use crate::acting::Actor;
 use crate::delivering::requests_in;
@@ -12,6 +12,8 @@ use crate::notes::Notes;
 use crate::pacing::Pacing;
 use crate::queue::Queue;
 use crate::telling::parcels_of;
+use crate::terms::Terms;
+use bfs_filter::{Machine, TurnError};
 use bfs_frames::{Frame, Kind, Parcel, To, Turn};
 use bfs_messages::{Message, Signed};
 use bfs_node::{Executor, Node};
@@ -20,17 +22,6 @@ use std::alloc::Global;
 use std::marker::Model;
 use std::sync::Wait;
 use std::thread::Threads;
-
-/// How a replica serves.
-#[derive(Clone, Copy, Debug)]
-pub struct Terms {
-    /// How long a request waits before the next view is asked for, in microseconds.
-    pub patience: u64,
-    /// The bytes of the requests that wait at the node, so that a batch of them fits in a frame.
-    pub most_batch_bytes: usize,
-    /// The bytes of a state that is fetched.
-    pub most_state_bytes: u64,
-}
 
 /// A replica as a process: a node, and when it does what. What it is seen as is its node, and what that gave to be sent and nobody was told yet.
 #[derive(Drop)]
@@ -91,7 +82,7 @@ impl Service {
     /// then the replica executes what is committed, makes checkpoints, and adopts a state that has come. Where it leads and its last batch is executed, it proposes all
     /// that waits as one batch of the turn's time. Where a request has waited too long, or f + 1 others ask for later views, it asks for the next view. Where it is
     /// behind it asks another one for its state. `Memory` if memory runs out: the process is to end then, and to tell nothing of this turn.
-    pub fn turn<R: Threads + Wait + Sync>(
+    pub fn take_turn<R: Threads + Wait + Sync>(
         &mut self,
         rt: &R,
         turn: &Turn,
@@ -105,6 +96,7 @@ impl Service {
         self.tell()
     }
 
+    #[tactic(auto, using(crate::proofs::Going::goes_both, crate::proofs::Going::goes_nowhere))]
     fn take_requests<R: Threads + Wait + Sync>(
         &mut self,
         rt: &R,
@@ -119,6 +111,7 @@ impl Service {
         self.give_requests(rt, time, &wanted)
     }
 
+    #[tactic(auto, using(crate::proofs::Going::goes_by_one, crate::proofs::Going::goes_nowhere))]
     fn give_requests<R: Threads + Wait + Sync>(
         &mut self,
         rt: &R,
@@ -134,6 +127,7 @@ impl Service {
     }
 
     // what it does of itself, and what it does about frames that are no messages
+    #[tactic(auto, using(crate::proofs::Going::goes_both, crate::proofs::Going::goes_nowhere))]
     fn go_on<R: Threads + Wait + Sync>(
         &mut self,
         rt: &R,
@@ -150,6 +144,7 @@ impl Service {
         self.time_out(rt, now, time)
     }
 
+    #[tactic(auto, using(crate::proofs::Going::goes_both, crate::proofs::Going::goes_nowhere))]
     fn hear_all<R: Threads + Wait + Sync>(
         &mut self,
         rt: &R,
@@ -189,6 +184,7 @@ impl Service {
             .give(now, self.actor.node(), payload, &mut self.notes)
     }
 
+    #[tactic(auto, using(crate::proofs::Going::goes_both, crate::proofs::Going::goes_nowhere))]
     fn hear_state<R: Threads + Wait + Sync>(
         &mut self,
         rt: &R,
@@ -235,6 +231,7 @@ impl Service {
         }
     }
 
+    #[tactic(auto, using(crate::proofs::Going::goes_both, crate::proofs::Going::goes_nowhere))]
     fn propose<R: Threads + Wait + Sync>(&mut self, rt: &R, time: Time) -> Result<(), Memory>
         ensures { OnOk result (GoesOn (IsOwn time) self.old self.new) }
     {
@@ -255,6 +252,7 @@ impl Service {
             && (self.proposed_in != node.view() || self.proposed <= node.last_executed())
     }
 
+    #[tactic(auto, using(crate::proofs::Going::goes_both, crate::proofs::Going::goes_nowhere))]
     fn time_out<R: Threads + Wait + Sync>(
         &mut self,
         rt: &R,
@@ -317,6 +315,18 @@ impl Service {
         let mut parcels = parcels_of(self.alloc, &sent)?;
         self.notes.move_behind(&mut parcels)?;
         Ok(parcels)
+    }
+}
+
+impl Machine for Service {
+    ghost takes = { Takes };
+
+    fn turn<R: Threads + Wait + Sync>(
+        &mut self,
+        rt: &R,
+        turn: Turn,
+    ) -> Result<Vec<Parcel>, TurnError> {
+        Ok(self.take_turn(rt, &turn)?)
     }
 }
 

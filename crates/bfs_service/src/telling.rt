@@ -11,7 +11,7 @@ use bfs_types::Memory;
 use std::alloc::Global;
 
 /// A parcel for each message, in their order.
-#[tactic(auto, using(crate::proofs::Folding::map_told_more))]
+#[tactic(auto, using(crate::proofs::Folding::map_more))]
 pub(crate) fn parcels_of(alloc: Global, sent: &[Signed<Message>]) -> Result<Vec<Parcel>, Memory>
     ensures { IfOk result (λ parcels. map told_by parcels.items ≡ map message_told sent.now) }
 {

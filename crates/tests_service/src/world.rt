@@ -108,7 +108,7 @@ impl World {
         if up >> number & 1 == 0 {
             return Ok(Vec::new(self.alloc));
         }
-        service.turn(rt, &Turn { time, frames })
+        service.take_turn(rt, &Turn { time, frames })
     }
 
     fn carry(&mut self, from: usize, told: Vec<Parcel>) -> Result<(), Memory> {
