@@ -20,35 +20,41 @@ use Rattle.bfs_service.specs.Telling.{is_note, message_told}
 use Rattle.bfs_service.specs.Turns.{Turned, frame_delivered, frames_delivered, is_message}
 
 either : {P : Type 0} (b : Bool) → (b ≡ true → P) → (b ≡ false → P) → P
-either true yes no = yes refl
-either false yes no = no refl
+either true so other = so refl
+either false so other = other refl
 
 -- The steps of a turn ---------------------------------------------------------------------------------------------------------
 
-to_step : Frame → NodeStep
+abbrev to_step : Frame → NodeStep
 to_step frame = Delivers frame.payload.items
 
-deliveries : List Frame → List NodeStep
+abbrev deliveries : List Frame → List NodeStep
 deliveries frames = map to_step (filter is_message frames)
 
-deliveries_are : (frames : List Frame) (a : Acting) → frames_delivered frames a ≡ after_steps a (deliveries frames)
+abbrev DeliversAll : List Frame → Acting → Type 0
+DeliversAll frames a = frames_delivered frames a ≡ after_steps a (deliveries frames)
+
+deliver_one : (b : Bool) (frame : Frame) (frames : List Frame) (a : Acting) → DeliversAll frames (after_step a (to_step frame)) → DeliversAll frames a
+    → frames_delivered frames (if b then after_step a (to_step frame) else a) ≡ after_steps a (map to_step (if b then frame ∷ filter is_message frames else filter is_message frames))
+deliver_one true frame frames a one none = one
+deliver_one false frame frames a one none = none
+
+deliveries_are : (frames : List Frame) (a : Acting) → DeliversAll frames a
 deliveries_are [] a = refl
-deliveries_are (frame ∷ frames) a = go (is_message frame)
-  where
-    go : (b : Bool) → fold frame_delivered (if b then after_step a (to_step frame) else a) frames ≡ after_steps a (map to_step (if b then frame ∷ filter is_message frames else filter is_message frames))
-    go true = deliveries_are frames (after_step a (to_step frame))
-    go false = deliveries_are frames a
+deliveries_are (frame ∷ frames) a =
+    deliver_one (is_message frame) frame frames a (deliveries_are frames (after_step a (to_step frame))) (deliveries_are frames a)
+
+kept_one : {A : Type 0} (p : A → Bool) (y : A) (ys : List A) (x : A) (b : Bool) → p y ≡ b → (IsIn x (filter p ys) → IsIn x ys × (p x ≡ true))
+    → IsIn x (if b then y ∷ filter p ys else filter p ys) → IsIn x (y ∷ ys) × (p x ≡ true)
+kept_one p y ys x true e rest i = elim i [
+  | inl is ↦ (inl is, ap p is ∙ e)
+  | inr k ↦ let got = rest k in (inr got.0, got.1)
+]
+kept_one p y ys x false e rest i = let got = rest i in (inr got.0, got.1)
 
 kept_in : {A : Type 0} (p : A → Bool) (xs : List A) (x : A) → IsIn x (filter p xs) → IsIn x xs × (p x ≡ true)
 kept_in p [] x i = absurd i
-kept_in {A} p (y ∷ ys) x i = go (p y) refl i
-  where
-    go : (b : Bool) → p y ≡ b → IsIn x (if b then y ∷ filter p ys else filter p ys) → IsIn x (y ∷ ys) × (p x ≡ true)
-    go true e j = elim j [
-      | inl is ↦ (inl is, ap p is ∙ e)
-      | inr k ↦ let got = kept_in p ys x k in (inr got.0, got.1)
-    ]
-    go false e j = let got = kept_in p ys x j in (inr got.0, got.1)
+kept_in p (y ∷ ys) x i = kept_one p y ys x (p y) refl (kept_in p ys x) i
 
 deliveries_of : (turn : Turn) (step : NodeStep) → IsIn step (deliveries turn.frames.items) → IsStepOf turn step
 deliveries_of turn step i =
@@ -88,16 +94,16 @@ steps_of : (turn : Turn) (before after : Acting) (told : List Told) → (t : Tur
 steps_of turn before after told t =
     let frames = turn.frames.items in
     let first = t.takes.steps in
-    let then = deliveries frames in
+    let middle = deliveries frames in
     let last = t.acts.steps in
-    let delivered : frames_delivered frames t.asked ≡ after_steps before (first ++ then) =
-    deliveries_are frames t.asked ∙ ap (λ (a : Acting). after_steps a then) t.takes.after_is ∙ sym (fold-append after_step before first then) in
+    let delivered : frames_delivered frames t.asked ≡ after_steps before (first ++ middle) =
+    deliveries_are frames t.asked ∙ ap (λ (a : Acting). after_steps a middle) t.takes.after_is ∙ sym (fold-append after_step before first middle) in
     record {
-      steps = (first ++ then) ++ last;
-      each = both_in (IsStepOf turn) (first ++ then) last
-          (both_in (IsStepOf turn) first then (λ step i. taking_of turn step (t.takes.each step i)) (deliveries_of turn))
+      steps = (first ++ middle) ++ last;
+      each = both_in (IsStepOf turn) (first ++ middle) last
+          (both_in (IsStepOf turn) first middle (λ step i. taking_of turn step (t.takes.each step i)) (deliveries_of turn))
           (λ step i. own_of turn step (t.acts.each step i));
-      done_is = t.acts.after_is ∙ ap (λ (a : Acting). after_steps a last) delivered ∙ sym (fold-append after_step before (first ++ then) last);
+      done_is = t.acts.after_is ∙ ap (λ (a : Acting). after_steps a last) delivered ∙ sym (fold-append after_step before (first ++ middle) last);
     }
 
 -- Steps of one node -----------------------------------------------------------------------------------------------------------
@@ -124,7 +130,7 @@ step_tracks Said r a step t =
       ];
     }
 
-turns_of : ℕ → List NodeStep → List NodeTurn
+abbrev turns_of : ℕ → List NodeStep → List NodeTurn
 turns_of who steps = map (λ step. record { who = who; step = step }) steps
 
 steps_track : (Said : Signed Message → Type 0) (w : NodeReplicas) (who : ℕ) (a : Acting) (steps : List NodeStep) → Tracks Said (w who) a
@@ -136,12 +142,12 @@ steps_track Said w who a (step ∷ steps) t =
     (subst (λ (r : NodeReplica). Tracks Said r (after_step a step)) (sym (here_after w turn)) (step_tracks Said (w who) a step t))
 
 other_stays : (w : NodeReplicas) (who k : ℕ) (step : NodeStep) → (k == who) ≡ false → after_node_turn w (record { who = who; step = step }) k ≡ w k
-other_stays w who k step no = ap (λ (b : Bool). if b then after_node_step (w who) step else w k) no
+other_stays w who k step differs = ap (λ (b : Bool). if b then after_node_step (w who) step else w k) differs
 
 others_stay : (w : NodeReplicas) (who k : ℕ) (steps : List NodeStep) → (k == who) ≡ false → after_node_turns w (turns_of who steps) k ≡ w k
-others_stay w who k [] no = refl
-others_stay w who k (step ∷ steps) no =
-    others_stay (after_node_turn w (record { who = who; step = step })) who k steps no ∙ other_stays w who k step no
+others_stay w who k [] differs = refl
+others_stay w who k (step ∷ steps) differs =
+    others_stay (after_node_turn w (record { who = who; step = step })) who k steps differs ∙ other_stays w who k step differs
 
 turns_both : (w : NodeReplicas) (xs ys : List NodeTurn) → after_node_turns w (xs ++ ys) ≡ after_node_turns (after_node_turns w xs) ys
 turns_both w [] ys = refl
@@ -149,10 +155,10 @@ turns_both w (x ∷ xs) ys = turns_both (after_node_turn w x) xs ys
 
 sent_stays_one : (w : NodeReplicas) (turn : NodeTurn) (k : ℕ) (m : Signed Message) → IsIn m (w k).sent → IsIn m (after_node_turn w turn k).sent
 sent_stays_one w turn k m i = either (k == turn.who)
-    (λ yes. let same = eqb-true k turn.who yes in
+    (λ is_it. let same = eqb-true k turn.who is_it in
     subst (λ (j : ℕ). IsIn m (after_node_turn w turn j).sent) (sym same)
     (subst (λ (r : NodeReplica). IsIn m r.sent) (sym (here_after w turn)) (right_in (outcome (w turn.who).node turn.step).sent (w turn.who).sent m (subst (λ (j : ℕ). IsIn m (w j).sent) same i))))
-    (λ no. subst (λ (r : NodeReplica). IsIn m r.sent) (sym (other_stays w turn.who k turn.step no)) i)
+    (λ differs. subst (λ (r : NodeReplica). IsIn m r.sent) (sym (other_stays w turn.who k turn.step differs)) i)
 
 sent_stays : (w : NodeReplicas) (turns : List NodeTurn) (k : ℕ) (m : Signed Message) → IsIn m (w k).sent → IsIn m (after_node_turns w turns k).sent
 sent_stays w [] k m i = i
@@ -175,20 +181,20 @@ record Follow (Said : ℕ → Signed Message → Type 0) (w : NodeReplicas) (tur
   pub sent : (t : ProcessTurn) (x : Told) → IsIn t turns → IsIn x t.told → is_note x.kind ≡ false
       → (m : Signed Message) × IsIn m (after_node_turns w steps t.who).sent × (x ≡ message_told m)
 
+none_is_a_note : (notes : List Told) (x : Told) → All (λ t. is_note t.kind ≡ true) notes → IsIn x notes → is_note x.kind ≡ false → ⊥
+none_is_a_note [] x each i differs = i
+none_is_a_note (t ∷ rest) x each i differs = elim i [
+  | inl is ↦ let here : is_note x.kind ≡ true = ap (λ (s : Told). is_note s.kind) is ∙ each.0 in absurd (sym here ∙ differs)
+  | inr k ↦ none_is_a_note rest x each.1 k differs
+]
+
 -- what was told is a message that was sent, or a note
 told_is : (sent : Messages) (notes : List Told) (x : Told) → All (λ t. is_note t.kind ≡ true) notes → IsIn x (map message_told sent ++ notes) → is_note x.kind ≡ false
     → (m : Signed Message) × IsIn m sent × (x ≡ message_told m)
-told_is sent notes x each i no = elim (either_in (map message_told sent) notes x i) [
+told_is sent notes x each i differs = elim (either_in (map message_told sent) notes x i) [
   | inl j ↦ out_of_map message_told sent x j
-  | inr j ↦ absurd (no_note notes each j)
+  | inr j ↦ absurd (none_is_a_note notes x each j differs)
 ]
-  where
-    no_note : (notes : List Told) → All (λ t. is_note t.kind ≡ true) notes → IsIn x notes → ⊥
-    no_note [] each j = j
-    no_note (t ∷ rest) each j = elim j [
-      | inl is ↦ let yes : is_note x.kind ≡ true = ap (λ (s : Told). is_note s.kind) is ∙ each.0 in absurd (sym yes ∙ no)
-      | inr k ↦ no_note rest each.1 k
-    ]
 
 one_turn_tracks : (Said : ℕ → Signed Message → Type 0) (w : NodeReplicas) (p next : Processes) (t : ProcessTurn) → AllTrack Said w p → (h : HasTurned p t next)
     → (s : Steps t.turn (p t.who) h.turned.done) → AllTrack (λ k m. Said k m ⊎ ((t.who ≡ k) × IsIn m h.turned.done.sent)) (after_node_turns w (turns_of t.who s.steps)) next
@@ -205,18 +211,18 @@ one_turn_tracks Said w p next t track h s =
     let at_end : Tracks (Said who) (w2 who) done = subst (λ (a : Acting). Tracks (Said who) (w2 who) a) (sym s.done_is) (steps_track (Said who) w who (p who) s.steps at_start) in
     record {
       node = λ k. either (k == who)
-          (λ yes. let same = eqb-true k who yes in subst (λ (j : ℕ). (w2 j).node ≡ (next j).node) (sym same) (at_end.node ∙ ap (λ (a : Acting). a.node) (sym turned.after_is)))
-          (λ no. ap (λ (r : NodeReplica). r.node) (others_stay w who k s.steps no) ∙ track.node k ∙ ap (λ (a : Acting). a.node) (sym (h.others k no)));
+          (λ is_it. let same = eqb-true k who is_it in subst (λ (j : ℕ). (w2 j).node ≡ (next j).node) (sym same) (at_end.node ∙ ap (λ (a : Acting). a.node) (sym turned.after_is)))
+          (λ differs. ap (λ (r : NodeReplica). r.node) (others_stay w who k s.steps differs) ∙ track.node k ∙ ap (λ (a : Acting). a.node) (sym (h.others k differs)));
       quiet = λ k. either (k == who)
-          (λ yes. ap (λ (j : ℕ). (next j).sent) (eqb-true k who yes) ∙ ap (λ (a : Acting). a.sent) turned.after_is)
-          (λ no. ap (λ (a : Acting). a.sent) (h.others k no) ∙ track.quiet k);
+          (λ is_it. ap (λ (j : ℕ). (next j).sent) (eqb-true k who is_it) ∙ ap (λ (a : Acting). a.sent) turned.after_is)
+          (λ differs. ap (λ (a : Acting). a.sent) (h.others k differs) ∙ track.quiet k);
       all = λ k m i. either (k == who)
-          (λ yes. let same = eqb-true k who yes in
+          (λ is_it. let same = eqb-true k who is_it in
           elim (at_end.all m (subst (λ (j : ℕ). IsIn m (w2 j).sent) same i)) [
             | inl j ↦ inr (sym same, j)
             | inr said ↦ inl (subst (λ (j : ℕ). Said j m) (sym same) said)
           ])
-          (λ no. inl (track.all k m (subst (λ (r : NodeReplica). IsIn m r.sent) (others_stay w who k s.steps no) i)));
+          (λ differs. inl (track.all k m (subst (λ (r : NodeReplica). IsIn m r.sent) (others_stay w who k s.steps differs) i)));
     }
 
 follow : (turns : List ProcessTurn) (Said : ℕ → Signed Message → Type 0) (w : NodeReplicas) (p after : Processes) → AllTrack Said w p → HaveTurned p turns after
@@ -264,16 +270,16 @@ follow (t ∷ turns) Said w p after track have =
         ]
         | inr later ↦ inr (later.0, inr later.1, later.2, later.3)
       ];
-      sent = λ one x i j no. elim i [
+      sent = λ one x i j differs. elim i [
         | inl is ↦
-            let at = told_is turned.done.sent turned.tells.notes x turned.tells.none_is_a_message (subst (λ (told : List Told). IsIn x told) (ap (λ (u : ProcessTurn). u.told) is ∙ turned.tells.told_is) j) no in (
+            let at = told_is turned.done.sent turned.tells.notes x turned.tells.none_is_a_message (subst (λ (told : List Told). IsIn x told) (ap (λ (u : ProcessTurn). u.told) is ∙ turned.tells.told_is) j) differs in (
               at.0,
               subst (λ (k : ℕ). IsIn at.0 (after_node_turns w (ours ++ rest.steps) k).sent) (sym (ap (λ (u : ProcessTurn). u.who) is))
                   (subst (λ (v : NodeReplicas). IsIn at.0 (v t.who).sent) (sym both) (sent_stays w2 rest.steps t.who at.0 (at_end.here at.0 at.1))),
               at.2,
             )
         | inr later ↦
-            let got = rest.sent one x later j no in
+            let got = rest.sent one x later j differs in
             (got.0, subst (λ (v : NodeReplicas). IsIn got.0 (v one.who).sent) (sym both) got.1, got.2)
       ];
     }

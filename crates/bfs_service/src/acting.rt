@@ -156,7 +156,7 @@ impl Actor {
         time: Time,
         call: NodeCall<'_>,
     ) -> Result<bool, Memory>
-        requires { IsOwnCall time call.entry }
+        requires { IsOwnCall time call }
         ensures { OnOk result (GoesOn (IsOwn time) self.old self.new) }
     {
         let is_taken = self.act(rt, call)?;

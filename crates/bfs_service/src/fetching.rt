@@ -123,7 +123,7 @@ impl Fetching {
 
 // the one behind the last one that was asked, other than the node itself
 fn next_replica(last: u32, node: &Node) -> u32 {
-    let replicas = node.f() * 3 + 1;
+    let replicas = node.f().saturating_mul(3).saturating_add(1);
     let next = (last % replicas + 1) % replicas;
     if next == node.number() {
         (next + 1) % replicas

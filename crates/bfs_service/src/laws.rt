@@ -5,7 +5,7 @@ use bfs_nodes_agree::node_calls::laws::nodes_agree;
 
 /// Processes are nodes: over all turns that processes take, of whatever frames, each is what steps of its node make of it, and tells what these gave to be sent, so
 /// replicas agree where they are run as processes. The body does nothing: what is said is its contract.
-#[tactic(auto, using(crate::proofs::Processes::processes_agree))]
+
 pub fn processes_agree()
     ensures { ProcessesAgree }
 {

@@ -96,23 +96,24 @@ struct Room {
     names: BTreeSet<(u32, u64)>,
     count: usize,
     bytes: usize,
-    replicas: usize,
+    // the bytes of a request's keyed hashes
+    hashes: usize,
 }
 
 impl Room {
     fn at(alloc: Global, node: &Node, most_bytes: usize) -> Result<Room, Memory> {
         let mut names = BTreeSet::new(alloc);
-        let replicas = node.f() as usize * 3 + 1;
+        let hashes = (node.f() as usize * 3 + 1) * HASH_BYTES;
         let mut bytes = most_bytes;
         for signed in node.waiting() {
             names.insert((signed.message.client(), signed.message.timestamp()))?;
-            bytes = bytes.saturating_sub(size_of(&signed.message, replicas));
+            bytes = bytes.saturating_sub(size_of(&signed.message, hashes));
         }
         Ok(Room {
             names,
             count: MOST_REQUESTS.saturating_sub(node.waiting().len()),
             bytes,
-            replicas,
+            hashes,
         })
     }
 
@@ -127,7 +128,7 @@ impl Room {
         {
             return Place::Never;
         }
-        let size = size_of(request, self.replicas);
+        let size = size_of(request, self.hashes);
         if size > self.bytes || self.count == 0 {
             return Place::Later;
         }
@@ -137,8 +138,8 @@ impl Room {
     }
 }
 
-fn size_of(request: &Request, replicas: usize) -> usize {
-    request.call().len() + REQUEST_BYTES + HASH_BYTES * replicas
+fn size_of(request: &Request, hashes: usize) -> usize {
+    (request.call().len() + REQUEST_BYTES).saturating_add(hashes)
 }
 
 fn is_new(node: &Node, request: &Request) -> bool {

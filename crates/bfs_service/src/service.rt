@@ -6,7 +6,7 @@ ghost use Rattle.bfs_service.specs.Turns.{Takes, Turned};
 
 use crate::acting::Actor;
 use crate::delivering::requests_in;
-use crate::fetching::Fetching;
+use crate::fetching::{Fetched, Fetching};
 use crate::giving::Giving;
 use crate::notes::Notes;
 use crate::pacing::Pacing;
@@ -123,7 +123,8 @@ impl Service {
         if requests.is_empty() {
             return Ok(());
         }
-        self.actor.take_requests(rt, time, requests)
+        self.actor.take_requests(rt, time, requests)?;
+        Ok(())
     }
 
     // what it does of itself, and what it does about frames that are no messages
@@ -197,13 +198,25 @@ impl Service {
         let heard = self
             .fetching
             .hear(now, self.actor.node(), payload, &mut self.notes)?;
-        let Some(fetched) = heard else {
-            return Ok(());
-        };
-        if self
+        match heard {
+            Some(fetched) => self.adopt(rt, time, &fetched),
+            None => Ok(()),
+        }
+    }
+
+    #[tactic(auto, using(crate::proofs::Going::goes_both, crate::proofs::Going::goes_nowhere))]
+    fn adopt<R: Threads + Wait + Sync>(
+        &mut self,
+        rt: &R,
+        time: Time,
+        fetched: &Fetched,
+    ) -> Result<(), Memory>
+        ensures { OnOk result (GoesOn (IsOwn time) self.old self.new) }
+    {
+        let does = self
             .actor
-            .adopt(rt, time, fetched.text.as_slice(), &fetched.certificate)?
-        {
+            .adopt(rt, time, fetched.text.as_slice(), &fetched.certificate)?;
+        if does {
             self.tell_operator(
                 "a state is adopted, of number ",
                 fetched.certificate.number(),
@@ -238,11 +251,19 @@ impl Service {
         if !self.is_to_propose() {
             return Ok(());
         }
-        if self.actor.propose(rt, time)? {
+        self.propose_now(rt, time)?;
+        self.actor.advance(rt, time)
+    }
+
+    fn propose_now<R: Threads + Wait + Sync>(&mut self, rt: &R, time: Time) -> Result<(), Memory>
+        ensures { OnOk result (GoesOn (IsOwn time) self.old self.new) }
+    {
+        let does = self.actor.propose(rt, time)?;
+        if does {
             self.proposed = self.actor.last_number();
             self.proposed_in = self.actor.node().view();
         }
-        self.actor.advance(rt, time)
+        Ok(())
     }
 
     fn is_to_propose(&self) -> bool {
@@ -264,10 +285,19 @@ impl Service {
         if !self.is_to_time_out(now) {
             return Ok(());
         }
-        if self.actor.time_out(rt, time)? {
-            self.tell_operator("a view is asked for: ", self.actor.node().view_asked())?;
-        }
+        self.time_out_now(rt, time)?;
         self.actor.advance(rt, time)
+    }
+
+    fn time_out_now<R: Threads + Wait + Sync>(&mut self, rt: &R, time: Time) -> Result<(), Memory>
+        ensures { OnOk result (GoesOn (IsOwn time) self.old self.new) }
+    {
+        let does = self.actor.time_out(rt, time)?;
+        if does {
+            let asked = self.actor.node().view_asked();
+            self.tell_operator("a view is asked for: ", asked)?;
+        }
+        Ok(())
     }
 
     fn is_to_time_out(&mut self, now: u64) -> bool
@@ -291,7 +321,7 @@ impl Service {
         let asked = node.view_asked();
         let executed = node.last_executed();
         let stable = node.stable_number();
-        let waiting = node.waiting().len() + self.queue.len();
+        let waiting = node.waiting().len().saturating_add(self.queue.len());
         let text = format!(in self.alloc;
             "view={view} asked={asked} executed={executed} stable={stable} waiting={waiting} digest={digest}"
         )?;

@@ -81,8 +81,10 @@ pub(crate) fn certificate_text(
     let mut text = Vec::new(alloc);
     for signed in certificate.checkpoints() {
         let message = encode(alloc, &as_message(alloc, signed)?)?;
-        put_u32(&mut text, message.len() as u32)?;
-        text.extend_from_slice(message.as_slice())?;
+        if let Ok(length) = u32::try_from(message.len()) {
+            put_u32(&mut text, length)?;
+            text.extend_from_slice(message.as_slice())?;
+        }
     }
     Ok(text)
 }
@@ -132,13 +134,21 @@ fn next_text<'a>(reader: &mut Reader<'a>) -> Option<&'a [u8]> {
 
 fn checkpoint_in(alloc: Global, text: &[u8]) -> Result<Option<Signed<Checkpoint>>, Memory> {
     match decode(alloc, text) {
-        Ok(
-            Signed {
-                message: Message::Order(OrderMessage::Checkpoint(message)),
-                auth,
-            },
-        ) => Ok(Some(Signed { message, auth })),
-        Ok(_) | Err(DecodeError::Malformed) => Ok(None),
+        Ok(signed) => checkpoint_of(alloc, &signed),
+        Err(DecodeError::Malformed) => Ok(None),
         Err(DecodeError::Memory) => Err(Memory),
+    }
+}
+
+fn checkpoint_of(
+    alloc: Global,
+    signed: &Signed<Message>,
+) -> Result<Option<Signed<Checkpoint>>, Memory> {
+    match &signed.message {
+        Message::Order(OrderMessage::Checkpoint(checkpoint)) => Ok(Some(Signed {
+            message: checkpoint.try_clone(alloc)?,
+            auth: signed.auth.try_clone(alloc)?,
+        })),
+        _ => Ok(None),
     }
 }
