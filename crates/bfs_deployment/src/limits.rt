@@ -38,10 +38,10 @@ pub fn default_limits() -> Limits
     Limits {
         order: 4 * MEBIBYTE,
         view_change: 64 * MEBIBYTE,
-        new_view: 256 * MEBIBYTE,
+        new_view: 64 * MEBIBYTE,
         status: 2_048,
         ask_state: 2_048,
-        state: 1_024 * MEBIBYTE,
+        state: 2 * MEBIBYTE,
         ask_report: 2_048,
         report: MEBIBYTE,
         log: 4_096,
