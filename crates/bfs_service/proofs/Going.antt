@@ -2,7 +2,7 @@
 use Rattle.std.proofs.Common.{◌≡◌, ◌≢◌, ◌∙◌, List, [], ◌∷◌, ◌++◌, Result, Ok, Err, refl, sym, ap, subst, append-nil}
 use Rattle.std.proofs.lemmas.List.Sums.{fold-append}
 use Rattle.bfs_agreement.specs.Histories.{IsIn}
-use Rattle.bfs_node.specs.Nodes.{Node}
+use Rattle.bfs_node.specs.Nodes.{Messages, Node}
 use Rattle.bfs_node.specs.declared.error.NodeError.{NodeError}
 use Rattle.bfs_node.specs.declared.error.NodeError.TheVariants.{Memory}
 use Rattle.bfs_nodes_agree.proofs.Public.{both_in, none_in, one_in}
@@ -12,7 +12,7 @@ use Rattle.bfs_nodes_agree.specs.declared.node_calls.performing.NodeCall.{NodeCa
 use Rattle.bfs_nodes_agree.specs.declared.node_calls.performing.NodeCall.TheVariants as code
 use Rattle.bfs_nodes_agree.specs.declared.node_calls.performing.Sent.{Sent}
 use Rattle.bfs_model.specs.Server.Tree.{Time}
-use Rattle.bfs_service.specs.Acting.{Acting, GoesOn, IsAdoption, IsAfter, IsOwn, IsOwnCall, after_step, after_steps}
+use Rattle.bfs_service.specs.Acting.{Acting, GoesOn, IsAdoption, IsAfter, IsOwn, IsOwnCall, IsTaking, after_step, after_steps}
 
 -- One step ------------------------------------------------------------------------------------------------------------------
 
@@ -88,3 +88,6 @@ own_goes time code.Checkpoint before after own is = goes_by_one (IsOwn time) bef
 own_goes time code.TimeOut before after own is = goes_by_one (IsOwn time) before after TimesOut tt is
 own_goes time (code.Adopt text certificate) before after own is =
     goes_as (IsAdoption certificate.now) (IsOwn time) before after (λ step adopts. subst (IsOwn time) (sym adopts.2) tt) is
+
+pub taking_goes : (messages : Messages) (before after : Acting) → after ≡ after_step before (TakesRequests messages) → GoesOn IsTaking before after
+taking_goes messages before after is = goes_by_one IsTaking before after (TakesRequests messages) tt is

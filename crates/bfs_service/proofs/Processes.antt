@@ -2,6 +2,7 @@
 use Rattle.std.proofs.Common.{◌≡◌, ◌∙◌, ℕ, Bool, true, false, ◌==◌, List, [], ◌∷◌, ◌++◌, map, inl, inr, refl, sym, ap, subst, if◌then◌else◌, eqb-true, eq-eqb}
 use Rattle.std.specs.Prelude.{◌⊎◌, All}
 use Rattle.std.specs.List.{filter, fold}
+use Rattle.std.proofs.lemmas.List.Elements.{All-head, All-tail}
 use Rattle.std.proofs.lemmas.List.Sums.{fold-append}
 use Rattle.bfs_agreement.specs.Histories.{IsIn, FewAreFaulty}
 use Rattle.bfs_frames.specs.Parcels.{Told}
@@ -184,8 +185,8 @@ record Follow (Said : ℕ → Signed Message → Type 0) (w : NodeReplicas) (tur
 none_is_a_note : (notes : List Told) (x : Told) → All (λ t. is_note t.kind ≡ true) notes → IsIn x notes → is_note x.kind ≡ false → ⊥
 none_is_a_note [] x each i differs = i
 none_is_a_note (t ∷ rest) x each i differs = elim i [
-  | inl is ↦ let here : is_note x.kind ≡ true = ap (λ (s : Told). is_note s.kind) is ∙ each.0 in absurd (sym here ∙ differs)
-  | inr k ↦ none_is_a_note rest x each.1 k differs
+  | inl is ↦ let here : is_note x.kind ≡ true = ap (λ (s : Told). is_note s.kind) is ∙ All-head (λ (n : Told). is_note n.kind ≡ true) t rest each in absurd (sym here ∙ differs)
+  | inr k ↦ none_is_a_note rest x (All-tail (λ (n : Told). is_note n.kind ≡ true) t rest each) k differs
 ]
 
 -- what was told is a message that was sent, or a note

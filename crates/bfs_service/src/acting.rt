@@ -2,7 +2,7 @@
 ghost use Rattle.std.specs.Prelude.{◌≡◌, ◌≢◌, [], OnOk};
 ghost use Rattle.bfs_node.specs.declared.error.NodeError.TheVariants as errors;
 ghost use Rattle.bfs_nodes_agree.specs.Nodes.Steps as steps;
-ghost use Rattle.bfs_service.specs.Acting.{GoesOn, IsAfter, IsOwn, IsOwnCall, after_step};
+ghost use Rattle.bfs_service.specs.Acting.{GoesOn, IsAfter, IsOwn, IsOwnCall, IsTaking, after_step};
 
 use bfs_log::StableCheckpoint;
 use bfs_messages::{Message, Signed};
@@ -73,13 +73,14 @@ impl Actor {
     }
 
     /// REQUESTs come, before it may propose at that time.
+    #[tactic(auto, using(crate::proofs::Going::taking_goes))]
     pub(crate) fn take_requests<R: Threads + Wait + Sync>(
         &mut self,
         rt: &R,
         time: Time,
         requests: &[Signed<Message>],
     ) -> Result<(), Memory>
-        ensures { OnOk result (self.new ≡ after_step self.old (steps.TakesRequests requests.now)) }
+        ensures { OnOk result (GoesOn IsTaking self.old self.new) }
     {
         self.act(rt, NodeCall::TakeRequestsFor(time, requests))?;
         Ok(())
@@ -129,7 +130,6 @@ impl Actor {
     }
 
     /// Executes all that is committed, and makes each checkpoint that is due before the first batch and behind each.
-    #[tactic(auto, using(crate::proofs::Going::goes_both))]
     pub(crate) fn advance<R: Threads + Wait + Sync>(
         &mut self,
         rt: &R,

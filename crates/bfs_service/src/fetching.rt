@@ -100,10 +100,13 @@ impl Fetching {
         if piece.number != self.number || piece.offset != self.text.len() as u64 {
             return Ok(None);
         }
-        if piece.offset == piece.length {
+        let Some(left) = piece.length.checked_sub(piece.offset) else {
+            return Ok(None);
+        };
+        if left == 0 {
             return self.end(piece.bytes);
         }
-        if piece.bytes.is_empty() || piece.bytes.len() as u64 > piece.length - piece.offset {
+        if piece.bytes.is_empty() || piece.bytes.len() as u64 > left {
             return Ok(None);
         }
         self.text.extend_from_slice(piece.bytes)?;

@@ -111,7 +111,7 @@ impl Service {
         self.give_requests(rt, time, &wanted)
     }
 
-    #[tactic(auto, using(crate::proofs::Going::goes_by_one, crate::proofs::Going::goes_nowhere))]
+    #[tactic(auto, using(crate::proofs::Going::goes_nowhere))]
     fn give_requests<R: Threads + Wait + Sync>(
         &mut self,
         rt: &R,
@@ -123,12 +123,11 @@ impl Service {
         if requests.is_empty() {
             return Ok(());
         }
-        self.actor.take_requests(rt, time, requests)?;
-        Ok(())
+        self.actor.take_requests(rt, time, requests)
     }
 
     // what it does of itself, and what it does about frames that are no messages
-    #[tactic(auto, using(crate::proofs::Going::goes_both, crate::proofs::Going::goes_nowhere))]
+    #[tactic(auto, using(crate::proofs::Going::goes_nowhere))]
     fn go_on<R: Threads + Wait + Sync>(
         &mut self,
         rt: &R,
@@ -138,11 +137,12 @@ impl Service {
     ) -> Result<(), Memory>
         ensures { OnOk result (GoesOn (IsOwn time) self.old self.new) }
     {
-        self.actor.advance(rt, time)?;
+        self.advance(rt, time)?;
         self.hear_all(rt, now, time, frames)?;
         self.look(now)?;
         self.propose(rt, time)?;
-        self.time_out(rt, now, time)
+        self.time_out(rt, now, time)?;
+        Ok(())
     }
 
     #[tactic(auto, using(crate::proofs::Going::goes_both, crate::proofs::Going::goes_nowhere))]
@@ -204,8 +204,20 @@ impl Service {
         }
     }
 
-    #[tactic(auto, using(crate::proofs::Going::goes_both, crate::proofs::Going::goes_nowhere))]
     fn adopt<R: Threads + Wait + Sync>(
+        &mut self,
+        rt: &R,
+        time: Time,
+        fetched: &Fetched,
+    ) -> Result<(), Memory>
+        ensures { OnOk result (GoesOn (IsOwn time) self.old self.new) }
+    {
+        self.adopt_now(rt, time, fetched)?;
+        self.advance(rt, time)?;
+        Ok(())
+    }
+
+    fn adopt_now<R: Threads + Wait + Sync>(
         &mut self,
         rt: &R,
         time: Time,
@@ -222,6 +234,13 @@ impl Service {
                 fetched.certificate.number(),
             )?;
         }
+        Ok(())
+    }
+
+    // Executes what is committed, and makes checkpoints.
+    fn advance<R: Threads + Wait + Sync>(&mut self, rt: &R, time: Time) -> Result<(), Memory>
+        ensures { OnOk result (GoesOn (IsOwn time) self.old self.new) }
+    {
         self.actor.advance(rt, time)
     }
 
@@ -244,7 +263,7 @@ impl Service {
         }
     }
 
-    #[tactic(auto, using(crate::proofs::Going::goes_both, crate::proofs::Going::goes_nowhere))]
+    #[tactic(auto, using(crate::proofs::Going::goes_nowhere))]
     fn propose<R: Threads + Wait + Sync>(&mut self, rt: &R, time: Time) -> Result<(), Memory>
         ensures { OnOk result (GoesOn (IsOwn time) self.old self.new) }
     {
@@ -252,7 +271,8 @@ impl Service {
             return Ok(());
         }
         self.propose_now(rt, time)?;
-        self.actor.advance(rt, time)
+        self.advance(rt, time)?;
+        Ok(())
     }
 
     fn propose_now<R: Threads + Wait + Sync>(&mut self, rt: &R, time: Time) -> Result<(), Memory>
@@ -273,7 +293,7 @@ impl Service {
             && (self.proposed_in != node.view() || self.proposed <= node.last_executed())
     }
 
-    #[tactic(auto, using(crate::proofs::Going::goes_both, crate::proofs::Going::goes_nowhere))]
+    #[tactic(auto, using(crate::proofs::Going::goes_nowhere))]
     fn time_out<R: Threads + Wait + Sync>(
         &mut self,
         rt: &R,
@@ -286,7 +306,8 @@ impl Service {
             return Ok(());
         }
         self.time_out_now(rt, time)?;
-        self.actor.advance(rt, time)
+        self.advance(rt, time)?;
+        Ok(())
     }
 
     fn time_out_now<R: Threads + Wait + Sync>(&mut self, rt: &R, time: Time) -> Result<(), Memory>
