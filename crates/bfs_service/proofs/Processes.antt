@@ -185,7 +185,7 @@ record Follow (Said : ℕ → Signed Message → Type 0) (w : NodeReplicas) (tur
 none_is_a_note : (notes : List Told) (x : Told) → All (λ t. is_note t.kind ≡ true) notes → IsIn x notes → is_note x.kind ≡ false → ⊥
 none_is_a_note [] x each i differs = i
 none_is_a_note (t ∷ rest) x each i differs = elim i [
-  | inl is ↦ let here : is_note x.kind ≡ true = ap (λ (s : Told). is_note s.kind) is ∙ All-head (λ (n : Told). is_note n.kind ≡ true) t rest each in absurd (sym here ∙ differs)
+  | inl is ↦ let here : is_note x.kind ≡ true = ap (λ (s : Told). is_note s.kind) is ∙ All-head (λ (n : Told). is_note n.kind ≡ true) t rest each in absurd cc
   | inr k ↦ none_is_a_note rest x (All-tail (λ (n : Told). is_note n.kind ≡ true) t rest each) k differs
 ]
 
