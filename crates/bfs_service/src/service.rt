@@ -372,9 +372,9 @@ impl Service {
 impl Machine for Service {
     ghost takes = { Takes };
 
-    fn turn<R: Threads + Wait + Sync>(
+    fn turn<H: Threads + Wait + Sync>(
         &mut self,
-        rt: &R,
+        rt: &H,
         turn: Turn,
     ) -> Result<Vec<Parcel>, TurnError> {
         Ok(self.take_turn(rt, &turn)?)
