@@ -1,5 +1,5 @@
 -- What a relay tells in a turn has timestamps from where its clients began to count on, and below where they are behind the turn.
-use Rattle.std.proofs.Common.{◌≡◌, ◌∙◌, ℕ, ◌+◌, ◌-◌, ◌*◌, ◌^◌, ◌<◌, ◌≤◌, min, ◌==◌, Bool, true, false, cond, List, [], ◌∷◌, ◌++◌, length, Option, Some, None, Result, Ok, Err, refl, sym, ap, subst, zero, suc, inl, inr, arith}
+use Rattle.std.proofs.Common.{◌≡◌, ◌∙◌, ℕ, ◌+◌, ◌-◌, ◌*◌, ◌^◌, ◌≤◌, min, ◌==◌, Bool, true, false, cond, List, [], ◌∷◌, ◌++◌, length, Option, Some, None, Result, Ok, Err, refl, sym, ap, subst, zero, suc, inl, inr, arith}
 use Rattle.std.specs.Prelude.{All, nat_lt}
 use Rattle.std.specs.List.{AllByRecursion, filter_map, fold, position, range_with_len, slice_get, slice_set}
 use Rattle.std.specs.Option.{option_map}
@@ -123,8 +123,8 @@ module _ (clients : Clients) (low high : ℕ) where
   begun_goes now call seat holds None is = record { holds = holds; grows = omega arith; told = λ _. no_told }
   begun_goes now call seat holds (Some begun) is =
       let signed = made (nat_lt seat.counter.next (2 ^ 64 - 1))
-          (signed_request clients (record { client = seat.counter.client; timestamp = seat.counter.next; call = call.bytes }))
-          (no_replies clients.f seat.counter.client seat.counter.next) begun is in
+      (signed_request clients (record { client = seat.counter.client; timestamp = seat.counter.next; call = call.bytes }))
+      (no_replies clients.f seat.counter.client seat.counter.next) begun is in
       let request : IsRequestWithin clients low (seat.counter.next + 1) (signed_text begun.request) = record {
         client = seat.counter.client;
         timestamp = seat.counter.next;
@@ -185,7 +185,7 @@ module _ (clients : Clients) (low high : ℕ) where
         seats = All-set (SeatHolds clients low) relay.seats place new goes.holds holds.seats;
         told = λ reserved.
             let before = unset P relay.seats place old new is (λ le. omega (arith, le, goes.grows))
-                (recursion_from_All P (slice_set relay.seats place new) reserved) in
+            (recursion_from_All P (slice_set relay.seats place new) reserved) in
             All-append Within relay.told more (holds.told (All-from_recursion P relay.seats before.0)) (goes.told before.1);
       }
 
@@ -248,8 +248,8 @@ module _ (clients : Clients) (low high : ℕ) where
       subst P (sym holds.keys)
       (seat_steps relay place seat (heard clients signed seat) (told_hearing clients signed seat) is holds
       (λ held.
-          let parts = heard_holds signed seat.counter.next seat.request held.request in
-          record { holds = record { from = held.from; request = parts.0 }; grows = omega arith; told = λ _. parts.1 }))
+      let parts = heard_holds signed seat.counter.next seat.request held.request in
+      record { holds = record { from = held.from; request = parts.0 }; grows = omega arith; told = λ _. parts.1 }))
 
   heard_as_holds : (message : Message) (now : ℕ) (signed : Signed Message) (relay : Relay) → Holds clients low high relay
       → Holds clients low high (heard_as message now signed relay)
@@ -268,8 +268,8 @@ module _ (clients : Clients) (low high : ℕ) where
   asked_by_holds now place relay holds (Some seat) is =
       seat_steps relay place seat (asked_again now seat) (told_asking now seat) is holds
       (λ held.
-          let parts = asked_holds now seat.counter.next seat.request held.request in
-          record { holds = record { from = held.from; request = parts.0 }; grows = omega arith; told = parts.1 })
+      let parts = asked_holds now seat.counter.next seat.request held.request in
+      record { holds = record { from = held.from; request = parts.0 }; grows = omega arith; told = parts.1 })
 
   -- Turns -----------------------------------------------------------------------------------------------------------------
 
