@@ -32,7 +32,8 @@ module _ (clients : Clients) (low high lower higher : ℕ) (from : lower ≤ low
 
   all_wider : (parcels : List Parcel) → All (λ parcel. IsWithin clients low high (told_by parcel)) parcels
       → All (λ parcel. IsWithin clients lower higher (told_by parcel)) parcels
-  all_wider = All-weaker (λ (parcel : Parcel). IsWithin clients low high (told_by parcel)) (λ (parcel : Parcel). IsWithin clients lower higher (told_by parcel))
+  all_wider = All-weaker (λ (parcel : Parcel). IsWithin clients low high (told_by parcel))
+      (λ (parcel : Parcel). IsWithin clients lower higher (told_by parcel))
       (λ parcel is. to_wider parcel.to parcel.frame.payload.items is)
 
   tells_wider : (exchanges : List Exchange) → TellsWithin clients low high exchanges → TellsWithin clients lower higher exchanges
@@ -41,13 +42,15 @@ module _ (clients : Clients) (low high lower higher : ℕ) (from : lower ≤ low
 
 -- One life ----------------------------------------------------------------------------------------------------------------------
 
-told_of : (P : Told → Type 0) (parcels : List Parcel) (told : List Told) → map told_by parcels ≡ told → All P told → All (λ parcel. P (told_by parcel)) parcels
+pub told_of : (P : Told → Type 0) (parcels : List Parcel) (told : List Told) → map told_by parcels ≡ told → All P told
+    → All (λ parcel. P (told_by parcel)) parcels
 told_of P [] told is all = All-nil (λ (parcel : Parcel). P (told_by parcel))
 told_of P (parcel ∷ parcels) [] is all = absurd cc
 told_of P (parcel ∷ parcels) (one ∷ told) is all =
     let first : one ≡ told_by parcel = cc in
     let others : map told_by parcels ≡ told = cc in
-    All-cons (λ (parcel : Parcel). P (told_by parcel)) parcel parcels (subst P first (All-head P one told all)) (told_of P parcels told others (All-tail P one told all))
+    All-cons (λ (parcel : Parcel). P (told_by parcel)) parcel parcels (subst P first (All-head P one told all))
+    (told_of P parcels told others (All-tail P one told all))
 
 -- what is reserved is never less than it was
 grown : (old new : Reserving) (exchanges : List Exchange) → TakesAll Takes old exchanges new → old.reserved ≤ new.reserved
@@ -67,8 +70,8 @@ holds_waiting clients low high relay waits = record {
   told = λ _. subst (λ (told : List Told). All (IsWithin clients low high) told) (sym waits.told) (All-nil (IsWithin clients low high));
 }
 
-life_within : (clients : Clients) (low : ℕ) (old new : Reserving) (exchanges : List Exchange) → Waits clients low old.relay → TakesAll Takes old exchanges new
-    → TellsWithin clients low new.reserved exchanges
+life_within : (clients : Clients) (low : ℕ) (old new : Reserving) (exchanges : List Exchange) → Waits clients low old.relay
+    → TakesAll Takes old exchanges new → TellsWithin clients low new.reserved exchanges
 life_within clients low old new [] waits taken = tt
 life_within clients low old new (exchange ∷ exchanges) waits taken =
     let next = taken.0 in
