@@ -1,5 +1,5 @@
 -- Turns that are served one after another.
-use Rattle.std.proofs.Common.{◌≡◌, ℕ, List, [], ◌∷◌, ◌++◌, Option, Some, None, IfSome, refl, sym, ap, subst, ◌∙◌, append-nil}
+use Rattle.std.proofs.Common.{◌≡◌, ℕ, List, [], ◌∷◌, ◌++◌, Option, Some, None, refl, sym, ap, subst, ◌∙◌, append-nil}
 use Rattle.std.specs.List.{AllByRecursion}
 use Rattle.std.specs.Io.KnownBytes.{Appends, Consumes, IsAtEnd}
 use Rattle.std.proofs.KnownBytes.{Appends-nil, Appends-trans, Consumes-nil, Consumes-trans}
@@ -9,13 +9,10 @@ use Rattle.bfs_frames.specs.Parcels.{answer_text}
 use Rattle.bfs_frames.specs.declared.frames.Turn.{Turn}
 use Rattle.bfs_frames.specs.declared.limits.Limits.{Limits}
 use Rattle.bfs_frames.specs.declared.parcels.Parcel.{Parcel}
-use Rattle.bfs_frames.specs.Cuts.{HasBadTime, IsCut}
-use Rattle.bfs_frames.specs.declared.error.ReadError.{ReadError}
-use Rattle.bfs_frames.specs.declared.error.ReadError.TheVariants as read
 use Rattle.bfs_filter.specs.Errors.{refusal}
 use Rattle.bfs_filter.specs.declared.error.TurnError.{TurnError}
 use Rattle.bfs_filter.specs.declared.error.TurnError.TheVariants as turn_error
-use Rattle.bfs_filter.specs.Runs.{Exchange, Fails, IsFiltered, IsUntaken, NoTurnAt, Serves, Standing, Stops, TakesAll, input_text, output_text}
+use Rattle.bfs_filter.specs.Runs.{Exchange, Fails, IsFiltered, IsUntaken, Serves, Standing, Stops, TakesAll, input_text, output_text}
 use Rattle.bfs_filter.specs.declared.error.ServeError.{ServeError}
 
 module _ {M : Type 0} (takes : M → Turn → List Parcel → M → Type 0) (limits : Limits) where

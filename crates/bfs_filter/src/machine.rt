@@ -1,4 +1,5 @@
 ghost use Rattle.std.specs.Prelude.{List, IfOk};
+ghost use Rattle.std.specs.Thread.{IsSync};
 ghost use Rattle.bfs_frames.specs.declared.frames.Turn.{Turn};
 ghost use Rattle.bfs_frames.specs.declared.parcels.Parcel.{Parcel};
 
@@ -18,5 +19,7 @@ pub trait Machine {
         rt: &H,
         turn: Turn,
     ) -> Result<Vec<Parcel>, TurnError>
+        // It is what the bound says, which the proof of a trait's method doesn't take from there.
+        requires { IsSync H.row }
         ensures { IfOk result (λ parcels. takes self.old turn parcels.items self.new) };
 }

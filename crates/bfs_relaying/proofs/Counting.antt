@@ -1,5 +1,5 @@
 -- What a relay tells in a turn has timestamps from where its clients began to count on, and below where they are behind the turn.
-use Rattle.std.proofs.Common.{◌≡◌, ◌∙◌, ℕ, ◌+◌, ◌-◌, ◌*◌, ◌^◌, ◌<◌, ◌≤◌, min, ◌==◌, Bool, true, false, cond, List, [], ◌∷◌, ◌++◌, length, Option, Some, None, Result, Ok, Err, refl, sym, ap, subst, zero, suc, inl, inr, arith}
+use Rattle.std.proofs.Common.{◌≡◌, ◌∙◌, ℕ, ◌+◌, ◌-◌, ◌*◌, ◌^◌, ◌≤◌, min, ◌==◌, Bool, true, false, cond, List, [], ◌∷◌, ◌++◌, length, Option, Some, None, Result, Ok, Err, refl, sym, ap, subst, zero, suc, inl, inr, arith}
 use Rattle.std.specs.Prelude.{All, nat_lt}
 use Rattle.std.specs.List.{AllByRecursion, filter_map, fold, position, range_with_len, slice_get, slice_set}
 use Rattle.std.specs.Option.{option_map}
@@ -33,7 +33,8 @@ use Rattle.bfs_relaying.specs.Reserving.{AreReserved}
 
 pub reserved_more : (next reserved : ℕ) (relay : Relay) → next ≤ reserved → AreReserved next relay → AreReserved reserved relay
 reserved_more next reserved relay le all =
-    All-weaker (λ (seat : Seat). seat.counter.next ≤ next) (λ (seat : Seat). seat.counter.next ≤ reserved) (λ seat h. omega (arith, le, h)) relay.seats all
+    All-weaker (λ (seat : Seat). seat.counter.next ≤ next) (λ (seat : Seat). seat.counter.next ≤ reserved)
+    (λ seat h. omega (arith, le, h)) relay.seats all
 
 -- What a relay keeps to -----------------------------------------------------------------------------------------------------
 
@@ -93,8 +94,8 @@ made true None tally begun is = absurd cc
 made false signed tally begun is = absurd cc
 
 -- a list with one element in the place of another
-unset : {X : Type 0} (P : X → Type 0) (xs : List X) (i : ℕ) (x y : X) → slice_get xs i ≡ Some x → (P y → P x) → AllByRecursion P (slice_set xs i y)
-    → AllByRecursion P xs × P y
+unset : {X : Type 0} (P : X → Type 0) (xs : List X) (i : ℕ) (x y : X) → slice_get xs i ≡ Some x → (P y → P x)
+    → AllByRecursion P (slice_set xs i y) → AllByRecursion P xs × P y
 unset P [] i x y is weaker all = absurd cc
 unset P (z ∷ xs) zero x y is weaker all = let same : x ≡ z = cc in ((subst P same (weaker all.0), all.1), all.0)
 unset P (z ∷ xs) (suc i) x y is weaker all = let rest = unset P xs i x y is weaker all.1 in ((all.0, rest.0), rest.1)
@@ -102,6 +103,9 @@ unset P (z ∷ xs) (suc i) x y is weaker all = let rest = unset P xs i x y is we
 module _ (clients : Clients) (low high : ℕ) where
   abbrev Within : Told → Type 0
   Within told = IsWithin clients low high told
+
+  abbrev pub Held : Relay → Type 0
+  Held relay = Holds clients low high relay
 
   no_told : All Within []
   no_told = All-nil Within
@@ -123,8 +127,8 @@ module _ (clients : Clients) (low high : ℕ) where
   begun_goes now call seat holds None is = record { holds = holds; grows = omega arith; told = λ _. no_told }
   begun_goes now call seat holds (Some begun) is =
       let signed = made (nat_lt seat.counter.next (2 ^ 64 - 1))
-          (signed_request clients (record { client = seat.counter.client; timestamp = seat.counter.next; call = call.bytes }))
-          (no_replies clients.f seat.counter.client seat.counter.next) begun is in
+      (signed_request clients (record { client = seat.counter.client; timestamp = seat.counter.next; call = call.bytes }))
+      (no_replies clients.f seat.counter.client seat.counter.next) begun is in
       let request : IsRequestWithin clients low (seat.counter.next + 1) (signed_text begun.request) = record {
         client = seat.counter.client;
         timestamp = seat.counter.next;
@@ -165,7 +169,8 @@ module _ (clients : Clients) (low high : ℕ) where
 
   -- Relays ----------------------------------------------------------------------------------------------------------------
 
-  seat_at : (seats : List Seat) (place : ℕ) (seat : Seat) → slice_get seats place ≡ Some seat → All (SeatHolds clients low) seats → SeatHolds clients low seat
+  seat_at : (seats : List Seat) (place : ℕ) (seat : Seat) → slice_get seats place ≡ Some seat → All (SeatHolds clients low) seats
+      → SeatHolds clients low seat
   seat_at seats place seat is all =
       elim (slice_get_cases seats place).1 [
         | inl found ↦
@@ -175,8 +180,8 @@ module _ (clients : Clients) (low high : ℕ) where
       ]
 
   -- one client takes a step
-  seat_steps : (relay : Relay) (place : ℕ) (old new : Seat) (more : List Told) → slice_get relay.seats place ≡ Some old → Holds clients low high relay
-      → (SeatHolds clients low old → SeatGoes clients low high old new more) → Holds clients low high (with_seat place new more relay)
+  seat_steps : (relay : Relay) (place : ℕ) (old new : Seat) (more : List Told) → slice_get relay.seats place ≡ Some old → Held relay
+      → (SeatHolds clients low old → SeatGoes clients low high old new more) → Held (with_seat place new more relay)
   seat_steps relay place old new more is holds step =
       let goes = step (seat_at relay.seats place old is holds.seats) in
       let P : Seat → Type 0 = λ seat. seat.counter.next ≤ high in
@@ -185,128 +190,132 @@ module _ (clients : Clients) (low high : ℕ) where
         seats = All-set (SeatHolds clients low) relay.seats place new goes.holds holds.seats;
         told = λ reserved.
             let before = unset P relay.seats place old new is (λ le. omega (arith, le, goes.grows))
-                (recursion_from_All P (slice_set relay.seats place new) reserved) in
+            (recursion_from_All P (slice_set relay.seats place new) reserved) in
             All-append Within relay.told more (holds.told (All-from_recursion P relay.seats before.0)) (goes.told before.1);
       }
 
   -- something is told that is no request, or nothing
-  tells : (relay : Relay) (more : List Told) → All Within more → Holds clients low high relay → Holds clients low high (record relay { told = relay.told ++ more })
-  tells relay more all holds = record { keys = holds.keys; seats = holds.seats; told = λ reserved. All-append Within relay.told more (holds.told reserved) all }
+  tells : (relay : Relay) (more : List Told) → All Within more → Held relay → Held (record relay { told = relay.told ++ more })
+  tells relay more all holds = record {
+    keys = holds.keys;
+    seats = holds.seats;
+    told = λ reserved. All-append Within relay.told more (holds.told reserved) all;
+  }
 
-  begun_by_holds : (now place : ℕ) (call : Call) (relay : Relay) → Holds clients low high relay → (seat : Option Seat) → slice_get relay.seats place ≡ seat
-      → Holds clients low high (begun_by seat now place call relay)
+  begun_by_holds : (now place : ℕ) (call : Call) (relay : Relay) → Held relay → (seat : Option Seat) → slice_get relay.seats place ≡ seat
+      → Held (begun_by seat now place call relay)
   begun_by_holds now place call relay holds None is = holds
   begun_by_holds now place call relay holds (Some seat) is =
-      let P : Clients → Type 0 = λ keys. Holds clients low high (with_seat place (begun keys now call seat) (told_beginning keys call seat) relay) in
+      let P : Clients → Type 0 = λ keys. Held (with_seat place (begun keys now call seat) (told_beginning keys call seat) relay) in
       subst P (sym holds.keys)
       (seat_steps relay place seat (begun clients now call seat) (told_beginning clients call seat) is holds
       (λ held. begun_goes now call seat held (counted_call clients seat.counter call.bytes) refl))
 
-  begun_at_holds : (now place : ℕ) (call : Call) (relay : Relay) → Holds clients low high relay → Holds clients low high (begun_at now place call relay)
+  begun_at_holds : (now place : ℕ) (call : Call) (relay : Relay) → Held relay → Held (begun_at now place call relay)
   begun_at_holds now place call relay holds = begun_by_holds now place call relay holds (slice_get relay.seats place) refl
 
-  next_of_holds : (now place : ℕ) (relay : Relay) → Holds clients low high relay → (calls : List Call) → Holds clients low high (next_of calls now place relay)
+  next_of_holds : (now place : ℕ) (relay : Relay) → Held relay → (calls : List Call) → Held (next_of calls now place relay)
   next_of_holds now place relay holds [] = holds
   next_of_holds now place relay holds (call ∷ rest) =
       begun_at_holds now place call (record relay { calls = rest }) (record { keys = holds.keys; seats = holds.seats; told = holds.told })
 
-  next_begun_holds : (now place : ℕ) (relay : Relay) → Holds clients low high relay → Holds clients low high (next_begun now place relay)
+  next_begun_holds : (now place : ℕ) (relay : Relay) → Held relay → Held (next_begun now place relay)
   next_begun_holds now place relay holds = go (is_free_among (slice_get relay.seats place))
     where
-      go : (free : Bool) → Holds clients low high (cond free (next_of relay.calls now place relay) relay)
+      go : (free : Bool) → Held (cond free (next_of relay.calls now place relay) relay)
       go true = next_of_holds now place relay holds relay.calls
       go false = holds
 
-  dropped_holds : (now : ℕ) (relay : Relay) → Holds clients low high relay → Holds clients low high (dropped now relay)
+  dropped_holds : (now : ℕ) (relay : Relay) → Held relay → Held (dropped now relay)
   dropped_holds now relay holds = go (is_past relay.dropped_at second now)
     where
-      go : (past : Bool) → Holds clients low high (cond past (record relay { dropped_at = now; told = relay.told ++ dropped_told ∷ [] }) relay)
+      go : (past : Bool) → Held (cond past (record relay { dropped_at = now; told = relay.told ++ dropped_told ∷ [] }) relay)
       go true =
           let more = tells relay (dropped_told ∷ []) (one_told dropped_told tt) holds in
           record { keys = more.keys; seats = more.seats; told = more.told }
       go false = holds
 
-  queued_holds : (now : ℕ) (call : Call) (relay : Relay) → Holds clients low high relay → Holds clients low high (queued now call relay)
+  queued_holds : (now : ℕ) (call : Call) (relay : Relay) → Held relay → Held (queued now call relay)
   queued_holds now call relay holds = go (nat_lt (length relay.calls) most_waiting)
     where
-      go : (room : Bool) → Holds clients low high (cond room (record relay { calls = relay.calls ++ call ∷ [] }) (dropped now relay))
+      go : (room : Bool) → Held (cond room (record relay { calls = relay.calls ++ call ∷ [] }) (dropped now relay))
       go true = record { keys = holds.keys; seats = holds.seats; told = holds.told }
       go false = dropped_holds now relay holds
 
-  called_holds : (now : ℕ) (call : Call) (relay : Relay) → Holds clients low high relay → Holds clients low high (called now call relay)
+  called_holds : (now : ℕ) (call : Call) (relay : Relay) → Held relay → Held (called now call relay)
   called_holds now call relay holds = go (position is_free relay.seats)
     where
-      go : (place : Option ℕ) → Holds clients low high (placed place now call relay)
+      go : (place : Option ℕ) → Held (placed place now call relay)
       go (Some place) = begun_at_holds now place call relay holds
       go None = queued_holds now call relay holds
 
-  heard_by_holds : (place : ℕ) (signed : Signed Message) (relay : Relay) → Holds clients low high relay → (seat : Option Seat)
-      → slice_get relay.seats place ≡ seat → Holds clients low high (heard_by seat place signed relay)
+  heard_by_holds : (place : ℕ) (signed : Signed Message) (relay : Relay) → Held relay → (seat : Option Seat)
+      → slice_get relay.seats place ≡ seat → Held (heard_by seat place signed relay)
   heard_by_holds place signed relay holds None is = holds
   heard_by_holds place signed relay holds (Some seat) is =
-      let P : Clients → Type 0 = λ keys. Holds clients low high (with_seat place (heard keys signed seat) (told_hearing keys signed seat) relay) in
+      let P : Clients → Type 0 = λ keys. Held (with_seat place (heard keys signed seat) (told_hearing keys signed seat) relay) in
       subst P (sym holds.keys)
       (seat_steps relay place seat (heard clients signed seat) (told_hearing clients signed seat) is holds
       (λ held.
-          let parts = heard_holds signed seat.counter.next seat.request held.request in
-          record { holds = record { from = held.from; request = parts.0 }; grows = omega arith; told = λ _. parts.1 }))
+      let parts = heard_holds signed seat.counter.next seat.request held.request in
+      record { holds = record { from = held.from; request = parts.0 }; grows = omega arith; told = λ _. parts.1 }))
 
-  heard_as_holds : (message : Message) (now : ℕ) (signed : Signed Message) (relay : Relay) → Holds clients low high relay
-      → Holds clients low high (heard_as message now signed relay)
+  heard_as_holds : (message : Message) (now : ℕ) (signed : Signed Message) (relay : Relay) → Held relay
+      → Held (heard_as message now signed relay)
   heard_as_holds (Reply reply) now signed relay holds = go (position (is_of reply.client) relay.seats)
     where
-      go : (place : Option ℕ) → Holds clients low high (heard_at place now signed relay)
+      go : (place : Option ℕ) → Held (heard_at place now signed relay)
       go None = holds
       go (Some place) =
           next_begun_holds now place (heard_by (slice_get relay.seats place) place signed relay)
           (heard_by_holds place signed relay holds (slice_get relay.seats place) refl)
   heard_as_holds _ now signed relay holds = holds
 
-  asked_by_holds : (now place : ℕ) (relay : Relay) → Holds clients low high relay → (seat : Option Seat) → slice_get relay.seats place ≡ seat
-      → Holds clients low high (asked_by seat now place relay)
+  asked_by_holds : (now place : ℕ) (relay : Relay) → Held relay → (seat : Option Seat) → slice_get relay.seats place ≡ seat
+      → Held (asked_by seat now place relay)
   asked_by_holds now place relay holds None is = holds
   asked_by_holds now place relay holds (Some seat) is =
       seat_steps relay place seat (asked_again now seat) (told_asking now seat) is holds
       (λ held.
-          let parts = asked_holds now seat.counter.next seat.request held.request in
-          record { holds = record { from = held.from; request = parts.0 }; grows = omega arith; told = parts.1 })
+      let parts = asked_holds now seat.counter.next seat.request held.request in
+      record { holds = record { from = held.from; request = parts.0 }; grows = omega arith; told = parts.1 })
 
   -- Turns -----------------------------------------------------------------------------------------------------------------
 
-  asked_all_holds : (now : ℕ) (places : List ℕ) (relay : Relay) → Holds clients low high relay → Holds clients low high (fold (asked_at now) relay places)
+  asked_all_holds : (now : ℕ) (places : List ℕ) (relay : Relay) → Held relay → Held (fold (asked_at now) relay places)
   asked_all_holds now [] relay holds = holds
   asked_all_holds now (place ∷ places) relay holds =
       asked_all_holds now places (asked_at now relay place) (asked_by_holds now place relay holds (slice_get relay.seats place) refl)
 
-  answered_holds : (now ticket : ℕ) (bytes : List ℕ) (relay : Relay) → Holds clients low high relay → (own : Option (List ℕ))
-      → Holds clients low high (answered own now ticket bytes relay)
+  answered_holds : (now ticket : ℕ) (bytes : List ℕ) (relay : Relay) → Held relay → (own : Option (List ℕ))
+      → Held (answered own now ticket bytes relay)
   answered_holds now ticket bytes relay holds (Some reply) = tells relay (reply_told ticket reply) (reply_within ticket reply) holds
   answered_holds now ticket bytes relay holds None = called_holds now (record { ticket = ticket; bytes = bytes }) relay holds
 
-  taken_holds : (now : ℕ) (relay : Relay) (read : Result (ℕ × List ℕ) Fault) → Holds clients low high relay → Holds clients low high (taken_as read now relay)
+  taken_holds : (now : ℕ) (relay : Relay) (read : Result (ℕ × List ℕ) Fault) → Held relay → Held (taken_as read now relay)
   taken_holds now relay (Ok call) holds = go (nat_lt most_request_bytes (length call.1))
     where
-      go : (long : Bool) → Holds clients low high (cond long relay (answered (own_reply call.1) now call.0 call.1 relay))
+      go : (long : Bool) → Held (cond long relay (answered (own_reply call.1) now call.0 call.1 relay))
       go true = holds
       go false = answered_holds now call.0 call.1 relay holds (own_reply call.1)
   taken_holds now relay (Err fault) holds = holds
 
-  frame_holds : (now : ℕ) (relay : Relay) (k : Kind) (payload : List ℕ) → Holds clients low high relay → Holds clients low high (frame_taken_as k payload now relay)
+  frame_holds : (now : ℕ) (relay : Relay) (k : Kind) (payload : List ℕ) → Held relay → Held (frame_taken_as k payload now relay)
   frame_holds now relay kind.Call payload holds = taken_holds now relay (hyper_at payload) holds
   frame_holds now relay _ payload holds = holds
 
-  calls_hold : (now : ℕ) (frames : List Frame) (relay : Relay) → Holds clients low high relay → Holds clients low high (calls_taken now frames relay)
+  calls_hold : (now : ℕ) (frames : List Frame) (relay : Relay) → Held relay → Held (calls_taken now frames relay)
   calls_hold now [] relay holds = holds
   calls_hold now (frame ∷ frames) relay holds =
       calls_hold now frames (call_taken now relay frame) (frame_holds now relay frame.kind frame.payload.items holds)
 
-  replies_hold : (now : ℕ) (replies : List (Signed Message)) (relay : Relay) → Holds clients low high relay
-      → Holds clients low high (fold (relay_heard now) relay replies)
+  replies_hold : (now : ℕ) (replies : List (Signed Message)) (relay : Relay) → Held relay
+      → Held (fold (relay_heard now) relay replies)
   replies_hold now [] relay holds = holds
   replies_hold now (signed ∷ replies) relay holds =
       replies_hold now replies (relay_heard now relay signed) (heard_as_holds signed.message now signed relay holds)
 
-  pub turned_holds : (turn : Turn) (relay : Relay) → Holds clients low high relay → Holds clients low high (turned turn relay)
+  pub turned_holds : (turn : Turn) (relay : Relay) → Held relay → Held (turned turn relay)
   turned_holds turn relay holds =
       let now = microseconds turn.time in
       let frames = turn.frames.items in

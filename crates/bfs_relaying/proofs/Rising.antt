@@ -1,7 +1,7 @@
 -- The timestamps of a relay rise over its lives.
-use Rattle.std.proofs.Common.{◌≡◌, ◌∙◌, ℕ, ◌≤◌, Bool, true, false, cond, List, [], ◌∷◌, map, Option, Some, None, refl, sym, ap, subst, arith}
-use Rattle.std.specs.Prelude.{All, nat_lt}
-use Rattle.std.specs.List.{AllByRecursion, cons_option, filter_map}
+use Rattle.std.proofs.Common.{◌≡◌, ℕ, ◌≤◌, List, [], ◌∷◌, map, Option, Some, None, refl, sym, subst, arith}
+use Rattle.std.specs.Prelude.{All}
+use Rattle.std.specs.List.{cons_option, filter_map}
 use Rattle.std.specs.Option.{option_map}
 use Rattle.std.proofs.lemmas.List.Elements.{All-cons, All-head, All-nil, All-tail, All-weaker}
 use Rattle.bfs_auth.specs.Keys.{Keys}
@@ -16,7 +16,7 @@ use Rattle.bfs_frames.specs.Parcels.{Told, told_by}
 use Rattle.bfs_relay.specs.Relays.{Relay}
 use Rattle.bfs_relay.specs.Seats.{Seat}
 use Rattle.bfs_relay.specs.Turns.{turned}
-use Rattle.bfs_relaying.specs.Lives.{Follow, IsWithin, IsWithinTo, Life, Rise, TellsWithin, TimestampsRise}
+use Rattle.bfs_relaying.specs.Lives.{IsWithin, IsWithinTo, TellsWithin, TimestampsRise}
 use Rattle.bfs_relaying.specs.Reserving.{Reserving, Takes, begun}
 use Rattle.bfs_relaying.proofs.Counting.{Holds, SeatHolds, turned_holds, wider}
 
@@ -32,7 +32,8 @@ module _ (clients : Clients) (low high lower higher : ℕ) (from : lower ≤ low
 
   all_wider : (parcels : List Parcel) → All (λ parcel. IsWithin clients low high (told_by parcel)) parcels
       → All (λ parcel. IsWithin clients lower higher (told_by parcel)) parcels
-  all_wider = All-weaker (λ (parcel : Parcel). IsWithin clients low high (told_by parcel)) (λ (parcel : Parcel). IsWithin clients lower higher (told_by parcel))
+  all_wider = All-weaker (λ (parcel : Parcel). IsWithin clients low high (told_by parcel))
+      (λ (parcel : Parcel). IsWithin clients lower higher (told_by parcel))
       (λ parcel is. to_wider parcel.to parcel.frame.payload.items is)
 
   tells_wider : (exchanges : List Exchange) → TellsWithin clients low high exchanges → TellsWithin clients lower higher exchanges
@@ -41,13 +42,15 @@ module _ (clients : Clients) (low high lower higher : ℕ) (from : lower ≤ low
 
 -- One life ----------------------------------------------------------------------------------------------------------------------
 
-told_of : (P : Told → Type 0) (parcels : List Parcel) (told : List Told) → map told_by parcels ≡ told → All P told → All (λ parcel. P (told_by parcel)) parcels
+pub told_of : (P : Told → Type 0) (parcels : List Parcel) (told : List Told) → map told_by parcels ≡ told → All P told
+    → All (λ parcel. P (told_by parcel)) parcels
 told_of P [] told is all = All-nil (λ (parcel : Parcel). P (told_by parcel))
 told_of P (parcel ∷ parcels) [] is all = absurd cc
 told_of P (parcel ∷ parcels) (one ∷ told) is all =
     let first : one ≡ told_by parcel = cc in
     let others : map told_by parcels ≡ told = cc in
-    All-cons (λ (parcel : Parcel). P (told_by parcel)) parcel parcels (subst P first (All-head P one told all)) (told_of P parcels told others (All-tail P one told all))
+    All-cons (λ (parcel : Parcel). P (told_by parcel)) parcel parcels (subst P first (All-head P one told all))
+    (told_of P parcels told others (All-tail P one told all))
 
 -- what is reserved is never less than it was
 grown : (old new : Reserving) (exchanges : List Exchange) → TakesAll Takes old exchanges new → old.reserved ≤ new.reserved
@@ -67,8 +70,8 @@ holds_waiting clients low high relay waits = record {
   told = λ _. subst (λ (told : List Told). All (IsWithin clients low high) told) (sym waits.told) (All-nil (IsWithin clients low high));
 }
 
-life_within : (clients : Clients) (low : ℕ) (old new : Reserving) (exchanges : List Exchange) → Waits clients low old.relay → TakesAll Takes old exchanges new
-    → TellsWithin clients low new.reserved exchanges
+life_within : (clients : Clients) (low : ℕ) (old new : Reserving) (exchanges : List Exchange) → Waits clients low old.relay
+    → TakesAll Takes old exchanges new → TellsWithin clients low new.reserved exchanges
 life_within clients low old new [] waits taken = tt
 life_within clients low old new (exchange ∷ exchanges) waits taken =
     let next = taken.0 in
@@ -80,28 +83,26 @@ life_within clients low old new (exchange ∷ exchanges) waits taken =
     subst (λ (relay : Relay). All (λ (seat : Seat). seat.counter.next ≤ high) relay.seats) takes.relay takes.within in
     let told = told_of (IsWithin clients low high) exchange.parcels (turned exchange.turn old.relay).told takes.told (behind.told reserved) in
     let still : Waits clients low next.relay =
-    subst (Waits clients low) (sym takes.relay) (record { keys = behind.keys; seats = behind.seats; told = refl }) in
-    (
+    subst (Waits clients low) (sym takes.relay) (record { keys = behind.keys; seats = behind.seats; told = refl }) in (
       all_wider clients low high low new.reserved (omega arith) (grown next new exchanges taken.2) exchange.parcels told,
       life_within clients low next new exchanges still taken.2,
     )
 
 -- The beginning --------------------------------------------------------------------------------------------------------------------
 
+abbrev seats_of : List Counter → List Seat
+seats_of counters = map (λ (counter : Counter). record { counter = counter; request = None }) counters
 
 begun_counters : (clients : Clients) (next : ℕ) (given : List Keys)
-    → All (SeatHolds clients next) (map (λ (counter : Counter). record { counter = counter; request = None }) (filter_map (counter_for next) given))
+    → All (SeatHolds clients next) (seats_of (filter_map (counter_for next) given))
 begun_counters clients next [] = All-nil (SeatHolds clients next)
 begun_counters clients next (keys ∷ given) = go (begun_counters clients next given) (client_of keys)
   where
-    abbrev seats : List Counter → List Seat
-    seats counters = map (λ (counter : Counter). record { counter = counter; request = None }) counters
-
-    go : All (SeatHolds clients next) (seats (filter_map (counter_for next) given)) → (client : Option ℕ)
-        → All (SeatHolds clients next) (seats (cons_option (option_map (counter_from next) client) (filter_map (counter_for next) given)))
+    go : All (SeatHolds clients next) (seats_of (filter_map (counter_for next) given)) → (client : Option ℕ)
+        → All (SeatHolds clients next) (seats_of (cons_option (option_map (counter_from next) client) (filter_map (counter_for next) given)))
     go others None = others
     go others (Some client) =
-        All-cons (SeatHolds clients next) (record { counter = counter_from next client; request = None }) (seats (filter_map (counter_for next) given))
+        All-cons (SeatHolds clients next) (record { counter = counter_from next client; request = None }) (seats_of (filter_map (counter_for next) given))
         (record { from = omega arith; request = tt }) others
 
 begun_waits : (f : ℕ) (given : List Keys) (next : ℕ) → Waits (clients_with f given) next (relay_of f given next)
@@ -112,9 +113,8 @@ begun_waits f given next = record { keys = refl; seats = begun_counters (clients
 pub timestamps_rise : TimestampsRise
 timestamps_rise reserved [] follow = tt
 timestamps_rise reserved (life ∷ lives) follow =
-    let clients = clients_with life.f life.keys in
-    (
+    let clients = clients_with life.f life.keys in (
       tells_wider clients life.from life.last.reserved reserved life.last.reserved follow.0 (omega arith) life.exchanges
-      (life_within clients life.from (begun life.f life.keys life.from) life.last life.exchanges (begun_waits life.f life.keys life.from) follow.1),
+          (life_within clients life.from (begun life.f life.keys life.from) life.last life.exchanges (begun_waits life.f life.keys life.from) follow.1),
       timestamps_rise life.last.reserved lives follow.2,
     )

@@ -1,12 +1,11 @@
 -- Lives of a relay: each begins at what is reserved, and takes turns until its process ends.
-use Rattle.std.specs.Prelude.{◌≡◌, ℕ, ◌<◌, ◌≤◌, List, [], ◌∷◌, All, Option, Some}
+use Rattle.std.specs.Prelude.{◌≡◌, ℕ, ◌<◌, ◌≤◌, List, [], ◌∷◌, All, Some}
 use Rattle.std.specs.List.{AllByRecursion}
 use Rattle.bfs_auth.specs.Keys.{Keys}
 use Rattle.bfs_clients.specs.Clients.{Clients, signed_request}
 use Rattle.bfs_filter.specs.Runs.{Exchange, TakesAll}
 use Rattle.bfs_frames.specs.declared.parcels.To.{To}
 use Rattle.bfs_frames.specs.declared.parcels.To.TheVariants.{Replicas}
-use Rattle.bfs_frames.specs.declared.parcels.Parcel.{Parcel}
 use Rattle.bfs_messages.specs.Spelling.{signed_text}
 use Rattle.bfs_messages.specs.declared.message.Message.{Message}
 use Rattle.bfs_messages.specs.declared.signed.Signed.{Signed}

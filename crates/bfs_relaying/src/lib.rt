@@ -5,6 +5,6 @@ mod laws;
 mod reserve;
 mod reserving;
 
-pub use laws::timestamps_rise_over_lives;
+pub use laws::{timestamps_rise_over_lives, what_leaves_has_its_origin};
 pub use reserve::Reserve;
 pub use reserving::{AHEAD, Reserving};

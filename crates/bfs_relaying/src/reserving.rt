@@ -35,12 +35,7 @@ impl<S: Reserve> Model for Reserving<S> {
 impl<S: Reserve + Drop> Reserving<S> {
     /// A relay that has done nothing, for the clients whose keys these are: different ones, of numbers below `MOST_CLIENTS`; others are passed over. It
     /// counts timestamps from the number on that is reserved. At most `f` replicas are faulty. `Memory` if memory runs out.
-    pub fn of_keys(
-        alloc: Global,
-        f: u32,
-        keys: Vec<Keys>,
-        store: S,
-    ) -> Result<Reserving<S>, Memory>
+    pub fn of_keys(alloc: Global, f: u32, keys: Vec<Keys>, store: S) -> Result<Reserving<S>, Memory>
         ensures { IfOk result (λ relay. relay ≡ begun f keys.items (S.kept store)) }
     {
         let relay = Relay::of_keys(alloc, f, keys, store.reserved())?;

@@ -1,11 +1,10 @@
 use anyhow::Error;
 use bfs_relaying::Reserve;
-use std::fs;
 use std::fs::{File, OpenFile};
-use std::io;
 use std::io::Write;
 use std::path::Path;
 use std::rt::Runtime;
+use std::{fs, io};
 
 /// A file with a number in decimal digits, and a line's end behind it. A new number is written to a file beside it, which takes its place once it is on the
 /// disk.

@@ -11,13 +11,12 @@ use bfs_deployment::{Deployment, parse_deployment};
 use bfs_filter::serve;
 use bfs_relaying::Reserving;
 use bfs_settings::parse_keys;
-use std::fs;
-use std::io;
 use std::io::BufReader;
 use std::process::ExitCode;
 use std::rt::Runtime;
 use std::sync::Wait;
 use std::thread::Threads;
+use std::{fs, io};
 
 fn main(rt: HostRuntime) -> ExitCode {
     match run(&rt) {
@@ -46,7 +45,14 @@ fn run<R: Runtime + AllocGlobal + Threads + Wait + Sync>(rt: &R) -> Result<(), E
     let mut relay = Reserving::of_keys(alloc, deployment.f(), keys, store)?;
     let mut reader = BufReader::new(alloc, rt.reader())?;
     let mut writer = io::writer(rt);
-    serve(alloc, rt, &mut relay, &deployment.limits(), &mut reader, &mut writer)?;
+    serve(
+        alloc,
+        rt,
+        &mut relay,
+        &deployment.limits(),
+        &mut reader,
+        &mut writer,
+    )?;
     Ok(())
 }
 
@@ -67,7 +73,9 @@ fn all_keys<R: Runtime + AllocGlobal>(
     for path in paths {
         let keys = keys_at(rt, deployment, path.as_str()).context(path.clone()?)?;
         if has_keys_of(&all, keys.me()) {
-            return Err(Error::msg("the keys of this client are given twice")).context(path.clone()?);
+            return Err(Error::msg("the keys of this client are given twice")).context(
+                path.clone()?,
+            );
         }
         all.push(keys)?;
     }

@@ -105,7 +105,10 @@ fn a_request_leaves_once_its_timestamp_is_reserved(rt: HostRuntime) -> Result<()
     let (ended, written) = served(&rt, alloc, &mut relay, turns.as_str())?;
     holds!(rt; ended.as_str() == "the end");
     let front = format!(in alloc; "{OWN_ANSWERS}{ASKING}")?;
-    let rest = written.as_str().strip_prefix(front.as_str()).ok_or("another answer")?;
+    let rest = written
+        .as_str()
+        .strip_prefix(front.as_str())
+        .ok_or("another answer")?;
     let text = rest.get(8..).ok_or("a length")?;
     same!(rt; timestamp_in(alloc, text)?, FIRST);
     same!(rt; relay.reserved(), FIRST + 1 + AHEAD);
@@ -113,7 +116,9 @@ fn a_request_leaves_once_its_timestamp_is_reserved(rt: HostRuntime) -> Result<()
 }
 
 #[test]
-fn nothing_leaves_of_a_turn_whose_timestamps_cannot_be_reserved(rt: HostRuntime) -> Result<(), Fail> {
+fn nothing_leaves_of_a_turn_whose_timestamps_cannot_be_reserved(
+    rt: HostRuntime,
+) -> Result<(), Fail> {
     let alloc = rt.alloc();
     let mut relay = relay(alloc, true)?;
     let turns = format!(in alloc; "{OWN}{CALL}{ROOT_REQUEST}{OWN}")?;

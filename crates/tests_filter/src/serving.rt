@@ -68,7 +68,14 @@ fn served<R: Threads + Wait + Sync>(
     let mut echo = Echo { alloc, turns: 0 };
     let mut reader = input.as_slice();
     let mut writer = Narrow::new(alloc, room);
-    let ended = match serve(alloc, rt, &mut echo, &Limits::new(), &mut reader, &mut writer) {
+    let ended = match serve(
+        alloc,
+        rt,
+        &mut echo,
+        &Limits::new(),
+        &mut reader,
+        &mut writer,
+    ) {
         Ok(()) => String::from_str(alloc, "the end")?,
         Err(error) => format!(in alloc; "{error}")?,
     };
@@ -90,9 +97,17 @@ fn turns_are_answered_until_the_end(rt: HostRuntime) -> Result<(), Fail> {
 // the turn behind a whole one, how many are taken, and how it ends
 static ROWS: &[(&str, u32, &str)] = &[
     (STATUS, 2, "out of memory"),
-    (REPORT, 2, "what is to be kept cannot be written: no storage space"),
+    (
+        REPORT,
+        2,
+        "what is to be kept cannot be written: no storage space",
+    ),
     (CUT, 1, "the input ends within a turn"),
-    (BAD_TIME, 1, "the time of a turn has 1,000,000 microseconds or more"),
+    (
+        BAD_TIME,
+        1,
+        "the time of a turn has 1,000,000 microseconds or more",
+    ),
 ];
 
 #[test]
