@@ -1,4 +1,5 @@
 -- What proofs share.
 pub mod Folding
 pub mod Going
+pub mod Hearing
 pub mod Processes

@@ -1,7 +1,6 @@
 -- Turns of processes are steps of nodes.
 use Rattle.std.proofs.Common.{◌≡◌, ◌∙◌, ℕ, Bool, true, false, ◌==◌, List, [], ◌∷◌, ◌++◌, map, inl, inr, refl, sym, ap, subst, if◌then◌else◌, eqb-true, eq-eqb}
 use Rattle.std.specs.Prelude.{◌⊎◌, All}
-use Rattle.std.specs.List.{filter, fold}
 use Rattle.std.proofs.lemmas.List.Elements.{All-head, All-tail}
 use Rattle.std.proofs.lemmas.List.Sums.{fold-append}
 use Rattle.bfs_agreement.specs.Histories.{IsIn, FewAreFaulty}
@@ -11,57 +10,20 @@ use Rattle.bfs_frames.specs.declared.frames.Turn.{Turn}
 use Rattle.bfs_messages.specs.declared.message.Message.{Message}
 use Rattle.bfs_messages.specs.declared.signed.Signed.{Signed}
 use Rattle.bfs_node.specs.Nodes.{Messages, Node}
-use Rattle.bfs_nodes_agree.proofs.Public.{both_in, either_in, here_after, in_map, left_in, none_in, out_of_map, right_in}
+use Rattle.bfs_nodes_agree.proofs.Public.{both_in, either_in, here_after, in_map, left_in, none_in, one_in, out_of_map, right_in}
 use Rattle.bfs_nodes_agree.specs.Nodes.Laws.{NodesAgree}
 use Rattle.bfs_nodes_agree.specs.Nodes.Replicas.{Beginning, Keyring, NodeReplica, NodeReplicas, NodeTurn, after_node_step, after_node_turn, after_node_turns, new_node_replicas}
 use Rattle.bfs_nodes_agree.specs.Nodes.Steps.{NodeStep, Delivers, Takes, TakesRequests, Proposes, Executes, Fails, Checkpoints, TimesOut, Adopts, outcome}
 use Rattle.bfs_service.specs.Acting.{Acting, GoesOn, IsOwn, IsTaking, after_step, after_steps}
 use Rattle.bfs_service.specs.Processes.{AreNodes, HasTold, HasTurned, HaveTurned, IsOfTurns, IsStepOf, Processes, ProcessesAgree, ProcessTurn, new_processes}
 use Rattle.bfs_service.specs.Telling.{is_note, message_told}
-use Rattle.bfs_service.specs.Turns.{Turned, frame_delivered, frames_delivered, is_message}
+use Rattle.bfs_service.specs.Turns.{Hears, Turned, frame_delivered, is_message}
 
 either : {P : Type 0} (b : Bool) → (b ≡ true → P) → (b ≡ false → P) → P
 either true so other = so refl
 either false so other = other refl
 
 -- The steps of a turn ---------------------------------------------------------------------------------------------------------
-
-abbrev to_step : Frame → NodeStep
-to_step frame = Delivers frame.payload.items
-
-abbrev deliveries : List Frame → List NodeStep
-deliveries frames = map to_step (filter is_message frames)
-
-abbrev DeliversAll : List Frame → Acting → Type 0
-DeliversAll frames a = frames_delivered frames a ≡ after_steps a (deliveries frames)
-
-deliver_one : (b : Bool) (frame : Frame) (frames : List Frame) (a : Acting) → DeliversAll frames (after_step a (to_step frame)) → DeliversAll frames a
-    → frames_delivered frames (if b then after_step a (to_step frame) else a) ≡ after_steps a (map to_step (if b then frame ∷ filter is_message frames else filter is_message frames))
-deliver_one true frame frames a one none = one
-deliver_one false frame frames a one none = none
-
-deliveries_are : (frames : List Frame) (a : Acting) → DeliversAll frames a
-deliveries_are [] a = refl
-deliveries_are (frame ∷ frames) a =
-    deliver_one (is_message frame) frame frames a (deliveries_are frames (after_step a (to_step frame))) (deliveries_are frames a)
-
-kept_one : {A : Type 0} (p : A → Bool) (y : A) (ys : List A) (x : A) (b : Bool) → p y ≡ b → (IsIn x (filter p ys) → IsIn x ys × (p x ≡ true))
-    → IsIn x (if b then y ∷ filter p ys else filter p ys) → IsIn x (y ∷ ys) × (p x ≡ true)
-kept_one p y ys x true e rest i = elim i [
-  | inl is ↦ (inl is, ap p is ∙ e)
-  | inr k ↦ let got = rest k in (inr got.0, got.1)
-]
-kept_one p y ys x false e rest i = let got = rest i in (inr got.0, got.1)
-
-kept_in : {A : Type 0} (p : A → Bool) (xs : List A) (x : A) → IsIn x (filter p xs) → IsIn x xs × (p x ≡ true)
-kept_in p [] x i = absurd i
-kept_in p (y ∷ ys) x i = kept_one p y ys x (p y) refl (kept_in p ys x) i
-
-deliveries_of : (turn : Turn) (step : NodeStep) → IsIn step (deliveries turn.frames.items) → IsStepOf turn step
-deliveries_of turn step i =
-    let from = out_of_map to_step (filter is_message turn.frames.items) step i in
-    let got = kept_in is_message turn.frames.items from.0 from.1 in
-    subst (IsStepOf turn) (sym from.2) (from.0, got.0, got.1, refl)
 
 taking_of : (turn : Turn) (step : NodeStep) → IsTaking step → IsStepOf turn step
 taking_of turn (TakesRequests messages) is = is
@@ -91,21 +53,42 @@ record Steps (turn : Turn) (before : Acting) (done : Acting) : Type 0 where
   pub each : (step : NodeStep) → IsIn step steps → IsStepOf turn step
   pub done_is : done ≡ after_steps before steps
 
+no_steps : (turn : Turn) (a b : Acting) → a ≡ b → Steps turn a b
+no_steps turn a b same = record { steps = []; each = none_in (IsStepOf turn); done_is = sym same }
+
+both_steps : (turn : Turn) (a b c : Acting) → Steps turn a b → Steps turn b c → Steps turn a c
+both_steps turn a b c one other = record {
+  steps = one.steps ++ other.steps;
+  each = both_in (IsStepOf turn) one.steps other.steps one.each other.each;
+  done_is = other.done_is ∙ ap (λ (x : Acting). after_steps x other.steps) one.done_is ∙ sym (fold-append after_step a one.steps other.steps);
+}
+
+steps_by : (turn : Turn) (P : NodeStep → Type 0) (a b : Acting) → ((step : NodeStep) → P step → IsStepOf turn step) → GoesOn P a b → Steps turn a b
+steps_by turn P a b so goes = record { steps = goes.steps; each = λ step i. so step (goes.each step i); done_is = goes.after_is }
+
+-- a frame is delivered where it is to hold a message
+deliver_steps : (turn : Turn) (frame : Frame) (a : Acting) (b : Bool) → IsIn frame turn.frames.items → is_message frame ≡ b
+    → Steps turn a (if b then after_step a (Delivers frame.payload.items) else a)
+deliver_steps turn frame a true there e =
+    let step = Delivers frame.payload.items in
+    record { steps = step ∷ []; each = one_in (IsStepOf turn) step (frame, there, e, refl); done_is = refl }
+deliver_steps turn frame a false there e = no_steps turn a a refl
+
+hears_steps : (turn : Turn) (frames : List Frame) (a b : Acting) → ((frame : Frame) → IsIn frame frames → IsIn frame turn.frames.items) → Hears turn.time frames a b
+    → Steps turn a b
+hears_steps turn [] a b all same = no_steps turn a b same
+hears_steps turn (frame ∷ frames) a b all hears =
+    let next = hears.0 in
+    let delivered = frame_delivered a frame in
+    both_steps turn a delivered b (deliver_steps turn frame a (is_message frame) (all frame (inl refl)) refl)
+    (both_steps turn delivered next b (steps_by turn (IsOwn turn.time) delivered next (own_of turn) hears.1)
+    (hears_steps turn frames next b (λ other i. all other (inr i)) hears.2))
+
 steps_of : (turn : Turn) (before after : Acting) (told : List Told) → (t : Turned turn before after told) → Steps turn before t.done
 steps_of turn before after told t =
-    let frames = turn.frames.items in
-    let first = t.takes.steps in
-    let middle = deliveries frames in
-    let last = t.acts.steps in
-    let delivered : frames_delivered frames t.asked ≡ after_steps before (first ++ middle) =
-    deliveries_are frames t.asked ∙ ap (λ (a : Acting). after_steps a middle) t.takes.after_is ∙ sym (fold-append after_step before first middle) in
-    record {
-      steps = (first ++ middle) ++ last;
-      each = both_in (IsStepOf turn) (first ++ middle) last
-          (both_in (IsStepOf turn) first middle (λ step i. taking_of turn step (t.takes.each step i)) (deliveries_of turn))
-          (λ step i. own_of turn step (t.acts.each step i));
-      done_is = t.acts.after_is ∙ ap (λ (a : Acting). after_steps a last) delivered ∙ sym (fold-append after_step before (first ++ middle) last);
-    }
+    both_steps turn before t.asked t.done (steps_by turn IsTaking before t.asked (taking_of turn) t.takes)
+    (both_steps turn t.asked t.heard t.done (hears_steps turn turn.frames.items t.asked t.heard (λ frame i. i) t.hears)
+    (steps_by turn (IsOwn turn.time) t.heard t.done (own_of turn) t.acts))
 
 -- Steps of one node -----------------------------------------------------------------------------------------------------------
 

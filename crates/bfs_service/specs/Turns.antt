@@ -1,5 +1,5 @@
 -- What a replica makes of a turn.
-use Rattle.std.specs.Prelude.{◌≡◌, ℕ, Bool, true, false, List, [], ◌∷◌, fold, map, if◌then◌else◌, nat_le, ◌==◌, ◌&&◌, Result, Ok, Err, ◌*◌, ◌+◌}
+use Rattle.std.specs.Prelude.{◌≡◌, ℕ, Bool, true, false, List, [], ◌∷◌, map, if◌then◌else◌, nat_le, ◌==◌, ◌&&◌, Result, Ok, Err, ◌*◌, ◌+◌}
 use Rattle.bfs_model.specs.Bytes.Items.{Fault, word_at}
 use Rattle.bfs_model.specs.Server.Tree.{Time}
 use Rattle.bfs_votes.specs.Tags.{pre_prepare_tag, prepare_tag, commit_tag, checkpoint_tag, view_change_tag, new_view_tag}
@@ -31,17 +31,24 @@ is_message frame = begins_as frame.kind (word_at frame.payload.items)
 abbrev pub frame_delivered : Acting → Frame → Acting
 frame_delivered acting frame = if is_message frame then after_step acting (Delivers frame.payload.items) else acting
 
--- each message of a replica comes, one after another
-abbrev pub frames_delivered : List Frame → Acting → Acting
-frames_delivered frames acting = fold frame_delivered acting frames
+-- a frame comes, and then the replica does what it does of itself
+abbrev pub HearsOne : Time → Frame → Acting → Acting → Type 0
+HearsOne time frame before after = GoesOn (IsOwn time) (frame_delivered before frame) after
 
--- REQUESTs are taken, each message of a replica comes, in their order, then the replica does what it does of itself; and then all is told
--- that its node gave to be sent
+-- frames come, one after another
+abbrev pub Hears : Time → List Frame → Acting → Acting → Type 0
+Hears time [] before after = before ≡ after
+Hears time (frame ∷ frames) before after = (next : Acting) × HearsOne time frame before next × Hears time frames next after
+
+-- REQUESTs are taken, each message of a replica comes, in their order, and between them and behind them the replica does what it does of itself; then
+-- all is told that its node gave to be sent
 pub record Turned (turn : Turn) (before after : Acting) (told : List Told) : Type 0 where
   pub asked : Acting
+  pub heard : Acting
   pub done : Acting
   pub takes : GoesOn IsTaking before asked
-  pub acts : GoesOn (IsOwn turn.time) (frames_delivered turn.frames.items asked) done
+  pub hears : Hears turn.time turn.frames.items asked heard
+  pub acts : GoesOn (IsOwn turn.time) heard done
   pub tells : Tells done.sent told
   pub after_is : after ≡ record { node = done.node; sent = [] }
 

@@ -148,6 +148,21 @@ impl Actor {
         unreachable!()
     }
 
+    /// The same where something is committed, else nothing.
+    #[tactic(auto, using(crate::proofs::Going::goes_nowhere))]
+    pub(crate) fn advance_if_ready<R: Threads + Wait + Sync>(
+        &mut self,
+        rt: &R,
+        time: Time,
+    ) -> Result<(), Memory>
+        ensures { OnOk result (GoesOn (IsOwn time) self.old self.new) }
+    {
+        if !self.node.is_ready() {
+            return Ok(());
+        }
+        self.advance(rt, time)
+    }
+
     // Makes a call that a replica makes of itself, and tells whether it was taken.
     #[tactic(auto, using(crate::proofs::Going::own_goes))]
     fn act_own<R: Threads + Wait + Sync>(

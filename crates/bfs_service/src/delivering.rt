@@ -1,13 +1,13 @@
 // What frames of a turn say to a node.
 ghost use Rattle.std.specs.Prelude.{◌≡◌, OnOk};
 ghost use Rattle.bfs_model.specs.Bytes.Items.{word_at};
-ghost use Rattle.bfs_service.specs.Turns.{begins_as, frame_delivered, frames_delivered, is_message, is_of_kind};
+ghost use Rattle.bfs_service.specs.Turns.{Hears, HearsOne, begins_as, frame_delivered, is_message, is_of_kind};
 
 use crate::acting::Actor;
 use bfs_codec::{DecodeError, decode};
 use bfs_frames::{Frame, Kind};
 use bfs_messages::{Message, Signed};
-use bfs_types::Memory;
+use bfs_types::{Memory, Time};
 use bfs_xdr::Reader;
 use std::alloc::Global;
 use std::sync::Wait;
@@ -23,18 +23,33 @@ const VIEW_CHANGE: u32 = 6;
 const NEW_VIEW: u32 = 7;
 
 impl Actor {
-    /// Gives its node each message of a replica among the frames, one after another. What it refuses is passed over.
-    #[tactic(auto, using(crate::proofs::Folding::fold_more))]
+    /// Gives its node each message of a replica among the frames, one after another. What it refuses is passed over. All that is committed is executed before the
+    /// next one comes: a CHECKPOINT that makes a later number stable would drop it (OSDI 1999 section 4.3).
+    #[tactic(auto, using(crate::proofs::Hearing::hears_more))]
     pub(crate) fn deliver_all<R: Threads + Wait + Sync>(
         &mut self,
         rt: &R,
+        time: Time,
         frames: &[Frame],
     ) -> Result<(), Memory>
-        ensures { OnOk result (self.new ≡ frames_delivered frames.now self.old) }
+        ensures { OnOk result (Hears time frames.now self.old self.new) }
     {
         for frame in frames {
-            self.deliver_frame(rt, frame)?;
+            self.hear_frame(rt, time, frame)?;
         }
+        Ok(())
+    }
+
+    fn hear_frame<R: Threads + Wait + Sync>(
+        &mut self,
+        rt: &R,
+        time: Time,
+        frame: &Frame,
+    ) -> Result<(), Memory>
+        ensures { OnOk result (HearsOne time frame.now self.old self.new) }
+    {
+        self.deliver_frame(rt, frame)?;
+        self.advance_if_ready(rt, time)?;
         Ok(())
     }
 

@@ -79,7 +79,7 @@ impl Service {
     }
 
     /// Takes a turn, and gives what is to be told. The node takes the REQUESTs for which there is room, then each message of a replica, in the order of the frames;
-    /// then the replica executes what is committed, makes checkpoints, and adopts a state that has come. Where it leads and its last batch is executed, it proposes all
+    /// whatever is committed meanwhile is executed, with the checkpoints that are due. Then it adopts a state that has come. Where it leads and its last batch is executed, it proposes all
     /// that waits as one batch of the turn's time. Where a request has waited too long, or f + 1 others ask for later views, it asks for the next view. Where it is
     /// behind it asks another one for its state. `Memory` if memory runs out: the process is to end then, and to tell nothing of this turn.
     pub fn take_turn<R: Threads + Wait + Sync>(
@@ -91,7 +91,7 @@ impl Service {
     {
         let now = microseconds(turn.time);
         self.take_requests(rt, turn.time, &turn.frames)?;
-        self.actor.deliver_all(rt, &turn.frames)?;
+        self.actor.deliver_all(rt, turn.time, &turn.frames)?;
         self.go_on(rt, now, turn.time, &turn.frames)?;
         self.tell()
     }

@@ -1,0 +1,6 @@
+use Rattle.std.proofs.Common.{subst}
+use Rattle.bfs_service.specs.Acting.{Acting, GoesOn, IsOwn}
+use Rattle.bfs_service.proofs.acting.Actor.hear_frame.Goals as goal
+
+pub returns : goal.returns
+returns g c = subst (λ (a : Acting). GoesOn (IsOwn c.args.time) a c.advance_if_ready.new.self) c.in_ok-deliver_frame.ensures c.in_ok-advance_if_ready.ensures
