@@ -27,6 +27,8 @@ pub(crate) struct Fetching {
     number: u64,
     text: Vec<u8>,
     asked_at: Option<u64>,
+    // how often it has asked for a state
+    asks: u32,
 }
 
 impl Fetching {
@@ -39,6 +41,7 @@ impl Fetching {
             number: 0,
             text: Vec::new(alloc),
             asked_at: None,
+            asks: 0,
         }
     }
 
@@ -49,8 +52,14 @@ impl Fetching {
             _ => {}
         }
         self.from = next_replica(self.from, node);
+        self.asks = self.asks.saturating_add(1);
         self.begin();
         self.ask_on(now, node, notes)
+    }
+
+    /// Whether the node has executed nothing, and not asked each other replica twice: it may have been started again, and have forgotten all.
+    pub(crate) fn is_starting(&self, node: &Node) -> bool {
+        node.last_executed() == 0 && self.asks < node.f().saturating_mul(6)
     }
 
     /// Nothing is fetched any more.

@@ -5,6 +5,7 @@ mod acting;
 mod delivering;
 mod fetching;
 mod giving;
+mod hints;
 mod laws;
 mod notes;
 mod pacing;

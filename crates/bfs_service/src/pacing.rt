@@ -32,8 +32,8 @@ impl Pacing {
         }
     }
 
-    /// Looks where the node stands, and whether a request waits.
-    pub(crate) fn look(&mut self, now: u64, node: &Node, waits: bool) {
+    /// Looks where the node stands, whether a request waits, and whether it seems to be behind.
+    pub(crate) fn look(&mut self, now: u64, node: &Node, waits: bool, is_behind: bool) {
         if node.last_executed() > self.last {
             self.last = node.last_executed();
             self.patience = self.least;
@@ -45,7 +45,7 @@ impl Pacing {
             self.waits_since = None;
         }
         self.waits_since = since(self.waits_since, waits, now);
-        self.behind_since = since(self.behind_since, node.is_behind(), now);
+        self.behind_since = since(self.behind_since, is_behind, now);
     }
 
     /// Whether a request has waited too long. If so, it begins to wait anew, and twice as long.

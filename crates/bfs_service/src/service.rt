@@ -8,6 +8,7 @@ use crate::acting::Actor;
 use crate::delivering::requests_in;
 use crate::fetching::{Fetched, Fetching};
 use crate::giving::Giving;
+use crate::hints::Hints;
 use crate::notes::Notes;
 use crate::pacing::Pacing;
 use crate::queue::Queue;
@@ -32,6 +33,7 @@ pub struct Service {
     pacing: Pacing,
     giving: Giving,
     fetching: Fetching,
+    hints: Hints,
     notes: Notes,
     // the number and the view of the last batch that it proposed
     proposed: u64,
@@ -64,6 +66,7 @@ impl Service {
             pacing: Pacing::new(terms.patience),
             giving: Giving::new(alloc),
             fetching: Fetching::new(alloc, terms.most_state_bytes),
+            hints: Hints::new(alloc),
             notes: Notes::new(alloc),
             proposed: 0,
             proposed_in: 0,
@@ -139,7 +142,7 @@ impl Service {
     {
         self.advance(rt, time)?;
         self.hear_all(rt, now, time, frames)?;
-        self.look(now)?;
+        self.look(now, frames)?;
         self.propose(rt, time)?;
         self.time_out(rt, now, time)?;
         Ok(())
@@ -244,23 +247,48 @@ impl Service {
         self.actor.advance(rt, time)
     }
 
-    // Looks what waits, and fetches a state where it has been behind for too long.
-    fn look(&mut self, now: u64) -> Result<(), Memory>
+    // Looks what waits, and fetches a state where it has been behind for too long, or may have forgotten all.
+    fn look(&mut self, now: u64, frames: &[Frame]) -> Result<(), Memory>
         ensures { self.new ≡ self.old }
     {
-        let waits = self.queue.has_new(self.actor.node());
-        self.pacing.look(now, self.actor.node(), waits);
+        self.hints.hear_all(self.actor.node(), frames)?;
         self.giving.forget(now);
-        let view = self.actor.node().view();
-        if view != self.told_view {
-            self.told_view = view;
-            self.tell_operator("a view is entered: ", view)?;
-        }
-        if self.pacing.is_left_behind(now) {
-            self.fetching.ask(now, self.actor.node(), &mut self.notes)
+        self.tell_view()?;
+        self.wait(now);
+        self.fetch(now)
+    }
+
+    // how long something waits, and how long it is behind
+    fn wait(&mut self, now: u64)
+        ensures { self.new ≡ self.old }
+    {
+        let node = self.actor.node();
+        let waits = self.queue.has_new(node);
+        let is_behind = node.is_behind() || self.hints.are_ahead(node);
+        self.pacing.look(now, node, waits, is_behind);
+    }
+
+    fn fetch(&mut self, now: u64) -> Result<(), Memory>
+        ensures { self.new ≡ self.old }
+    {
+        let node = self.actor.node();
+        if self.pacing.is_left_behind(now) || self.fetching.is_starting(node) {
+            self.fetching.ask(now, node, &mut self.notes)
         } else {
             Ok(())
         }
+    }
+
+    // The operator is told of another view.
+    fn tell_view(&mut self) -> Result<(), Memory>
+        ensures { self.new ≡ self.old }
+    {
+        let view = self.actor.node().view();
+        if view == self.told_view {
+            return Ok(());
+        }
+        self.told_view = view;
+        self.tell_operator("a view is entered: ", view)
     }
 
     #[tactic(auto, using(crate::proofs::Going::goes_nowhere))]
