@@ -31,12 +31,12 @@ pub struct World {
 }
 
 /// The settings of all: one of four replicas may be faulty, and there are 16 clients.
-pub fn settings(alloc: Global) -> Result<Settings, Memory> {
-    Settings::new(alloc, 1, 16, b"a secret")
+pub fn settings(alloc: Global) -> Result<Settings, Fail> {
+    Ok(Settings::new(alloc, 1, 16, b"a secret")?)
 }
 
 impl World {
-    pub fn new(alloc: Global, terms: Terms) -> Result<World, Memory> {
+    pub fn new(alloc: Global, terms: Terms) -> Result<World, Fail> {
         let settings = settings(alloc)?;
         let mut replicas = Vec::new(alloc);
         let mut inboxes = Vec::new(alloc);
