@@ -27,7 +27,7 @@ pub(crate) struct Fetching {
     number: u64,
     text: Vec<u8>,
     asked_at: Option<u64>,
-    // how often it has asked for a state
+    // how often it has asked for a state since it got one
     asks: u32,
 }
 
@@ -57,9 +57,19 @@ impl Fetching {
         self.ask_on(now, node, notes)
     }
 
-    /// Whether the node has executed nothing, and not asked each other replica twice: it may have been started again, and have forgotten all.
+    /// Whether the node has executed nothing, and may hope for a state: it may have been started again, and have forgotten all.
     pub(crate) fn is_starting(&self, node: &Node) -> bool {
-        node.last_executed() == 0 && self.asks < node.f().saturating_mul(6)
+        node.last_executed() == 0 && self.is_hopeful(node)
+    }
+
+    /// Whether it has not asked each other replica twice in vain.
+    pub(crate) fn is_hopeful(&self, node: &Node) -> bool {
+        self.asks < node.f().saturating_mul(6)
+    }
+
+    /// A state was fetched, and adopted.
+    pub(crate) fn succeed(&mut self) {
+        self.asks = 0;
     }
 
     /// Nothing is fetched any more.

@@ -1,22 +1,29 @@
-// What others seem to have executed.
-use bfs_codec::{DecodeError, decode};
+// How far others seem to be.
 use bfs_frames::{Frame, Kind};
-use bfs_messages::{Message, OrderMessage};
 use bfs_node::Node;
 use bfs_types::Memory;
-use bfs_xdr::Reader;
+use bfs_xdr::{Reader, XdrError};
 use std::alloc::Global;
 
 // the number that the text of a CHECKPOINT begins with
 const CHECKPOINT: u32 = 5;
 
-/// The greatest number of which a CHECKPOINT came in each replica's name. The node refuses those above its high mark, and their keyed hashes are not looked at
-/// here: so nothing rests on them, but that a state is asked for.
+// What messages in a replica's name said.
+#[derive(Clone, Copy, Drop)]
+struct Hint {
+    // the greatest number of a CHECKPOINT
+    executed: u64,
+    // the greatest view of a VIEW-CHANGE
+    asked: u64,
+}
+
+/// What CHECKPOINTs and VIEW-CHANGEs say by their heads, in whosever name they came. The node refuses those that are far above its own, and their keyed hashes are
+/// not looked at here: so nothing rests on them, but when a state is asked for, and how long a view is waited for.
 #[derive(Drop)]
 pub(crate) struct Hints {
     alloc: Global,
     // by the replicas' numbers
-    told: Vec<u64>,
+    told: Vec<Hint>,
 }
 
 impl Hints {
@@ -30,34 +37,35 @@ impl Hints {
     /// Frames come.
     pub(crate) fn hear_all(&mut self, node: &Node, frames: &[Frame]) -> Result<(), Memory> {
         for frame in frames {
-            if is_checkpoint(frame) {
-                self.hear(node, frame.payload.as_slice())?;
-            }
+            self.hear(node, frame)?;
         }
         Ok(())
     }
 
-    fn hear(&mut self, node: &Node, payload: &[u8]) -> Result<(), Memory> {
-        let signed = match decode(self.alloc, payload) {
-            Ok(signed) => signed,
-            Err(DecodeError::Malformed) => return Ok(()),
-            Err(DecodeError::Memory) => return Err(Memory),
+    fn hear(&mut self, node: &Node, frame: &Frame) -> Result<(), Memory> {
+        let Ok(head) = Head::read(frame.payload.as_slice()) else {
+            return Ok(());
         };
-        if let Message::Order(OrderMessage::Checkpoint(checkpoint)) = &signed.message {
-            self.note(node, checkpoint.sender(), checkpoint.number())?;
+        match frame.kind {
+            Kind::Order if head.tag == CHECKPOINT => self.note(node, head.sender, head.number, 0),
+            Kind::ViewChange => self.note(node, head.sender, 0, head.number),
+            _ => Ok(()),
         }
-        Ok(())
     }
 
-    fn note(&mut self, node: &Node, sender: u32, number: u64) -> Result<(), Memory> {
+    fn note(&mut self, node: &Node, sender: u32, executed: u64, asked: u64) -> Result<(), Memory> {
         if sender == node.number() || sender >= node.f().saturating_mul(3).saturating_add(1) {
             return Ok(());
         }
         for _ in self.told.len()..sender as usize + 1 {
-            self.told.push(0)?;
+            self.told.push(Hint {
+                executed: 0,
+                asked: 0,
+            })?;
         }
-        if let Some(told) = self.told.get_mut(sender as usize) {
-            *told = number.max(*told);
+        if let Some(hint) = self.told.get_mut(sender as usize) {
+            hint.executed = hint.executed.max(executed);
+            hint.asked = hint.asked.max(asked);
         }
         Ok(())
     }
@@ -65,13 +73,33 @@ impl Hints {
     /// Whether f + 1 others seem to have executed more than the node.
     pub(crate) fn are_ahead(&self, node: &Node) -> bool {
         let last = node.last_executed();
-        self.told.iter().filter(|told| **told > last).count() > node.f() as usize
+        let ahead = self.told.iter().filter(|hint| hint.executed > last).count();
+        ahead > node.f() as usize
+    }
+
+    /// Whether the node is in its view, or 2f + 1 replicas seem to ask for the view that it asks for, or for later ones: it waits for that view from then on
+    /// (OSDI 1999 section 4.5.2).
+    pub(crate) fn let_wait(&self, node: &Node) -> bool {
+        let asked = node.view_asked();
+        let others = self.told.iter().filter(|hint| hint.asked >= asked).count();
+        asked <= node.view() || others >= 2 * node.f() as usize
     }
 }
 
-fn is_checkpoint(frame: &Frame) -> bool {
-    match frame.kind {
-        Kind::Order => Reader::new(frame.payload.as_slice()).u32() == Ok(CHECKPOINT),
-        _ => false,
+// What such a message begins with.
+struct Head {
+    tag: u32,
+    sender: u32,
+    number: u64,
+}
+
+impl Head {
+    fn read(payload: &[u8]) -> Result<Head, XdrError> {
+        let mut reader = Reader::new(payload);
+        Ok(Head {
+            tag: reader.u32()?,
+            sender: reader.u32()?,
+            number: reader.u64()?,
+        })
     }
 }

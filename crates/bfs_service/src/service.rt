@@ -232,6 +232,7 @@ impl Service {
             .actor
             .adopt(rt, time, fetched.text.as_slice(), &fetched.certificate)?;
         if does {
+            self.fetching.succeed();
             self.tell_operator(
                 "a state is adopted, of number ",
                 fetched.certificate.number(),
@@ -263,7 +264,7 @@ impl Service {
         ensures { self.new ≡ self.old }
     {
         let node = self.actor.node();
-        let waits = self.queue.has_new(node);
+        let waits = self.queue.has_new(node) && self.hints.let_wait(node);
         let is_behind = node.is_behind() || self.hints.are_ahead(node);
         self.pacing.look(now, node, waits, is_behind);
     }
@@ -352,9 +353,10 @@ impl Service {
     fn is_to_time_out(&mut self, now: u64) -> bool
         ensures { self.new ≡ self.old }
     {
-        let follows = self.actor.node().view_to_follow().is_some();
-        let is_behind = self.actor.node().is_behind();
-        (self.pacing.is_late(now) && !is_behind) || follows
+        let node = self.actor.node();
+        let is_behind = node.is_behind()
+            || (self.hints.are_ahead(node) && self.fetching.is_hopeful(node));
+        node.view_to_follow().is_some() || (!is_behind && self.pacing.is_late(now))
     }
 
     // what it says of itself: words NAME=VALUE
