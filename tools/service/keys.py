@@ -6,6 +6,7 @@ from pathlib import Path
 from service.cluster import Address, Fault, cluster_in, reason, text_of
 
 KEY = 32  # bytes
+FIRST = 1  # the timestamp that a relay may use first
 
 
 def pair(sending, receiving):
@@ -60,6 +61,7 @@ def make(folder, faults, clients, host, port, relay):
             raise Fault(f"{folder}: it has {old[0]}: nothing is written over")
         for name, text in documents(cluster):
             write_new(Path(folder, name), text, 0o600)
+        write_new(Path(folder, "relay.counter"), f"{FIRST}\n", 0o600)
         write_new(Path(folder, "cluster.toml"), text_of(cluster), 0o644)
     except OSError as fault:
         raise Fault(f"{folder}: {reason(fault)}") from None

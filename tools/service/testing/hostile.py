@@ -1,0 +1,162 @@
+"""A check with a replica and a relay that send frames of all kinds: random ones, true ones with changes, and false votes that are signed."""
+import os
+import random
+import signal
+import socket
+import struct
+import threading
+import time
+from pathlib import Path
+
+from service.testing.frames import ASK_STATE, HELLO, NEW_VIEW, ORDER, RELAY, REPLICA, REPLY, REQUEST, STATE, STATUS, VIEW_CHANGE, framed
+from service.testing.peer import Closed, Peer, hello
+from service.testing.running import MEBIBYTE, check, peak, until, words_of
+from service.testing.sessions import SLOW, Worker, kill, same
+from service.testing.signing import CHECKPOINT, COMMIT, PREPARE, Signer
+
+LIAR = 3  # the replica in whose place frames are sent
+OF_REPLICAS = REQUEST, ORDER, VIEW_CHANGE, NEW_VIEW, REPLY, STATUS, ASK_STATE, STATE
+SIZES = 0, 3, 12, 40, 60, 300, 5_000, 60_000  # of random payloads
+KEPT = 64  # true frames of each kind
+AT_ONCE = 20  # frames
+MOST_MEMORY = 400 * MEBIBYTE
+EDGES = 0, 1, 16, 32, 33, 1 << 31, (1 << 32) - 1
+
+
+class Place:
+    """Where a replica was: a listener, the connections of others to it, and some of the frames that came, by their kinds."""
+
+    def __init__(self, address, words):
+        self.listener, self.peers, self.words = socket.create_server(address), {}, words
+        self.frames = {ASK_STATE: [struct.pack(">IQQQ", LIAR, 0, 0, 0)]}
+        threading.Thread(target=self.accept, daemon=True).start()
+
+    def accept(self):
+        try:
+            while True:
+                peer = Peer(self.listener.accept()[0], timeout=None)
+                threading.Thread(target=self.hear, args=(peer,), daemon=True).start()
+        except OSError:
+            pass  # it is closed
+
+    def hear(self, peer):
+        try:
+            _, role, first, _ = HELLO.unpack(peer.take(HELLO.size))
+            self.peers[role, first] = peer
+            while True:
+                kind, payload = peer.frame()
+                kept = self.frames.setdefault(kind, [])
+                if len(kept) < KEPT:
+                    kept.append(payload)
+                elif self.words.random() < 0.1:
+                    kept[self.words.randrange(KEPT)] = payload
+        except (Closed, OSError):
+            peer.close()
+
+    def close(self):
+        self.listener.close()
+        for peer in self.peers.values():
+            peer.close()
+
+
+class Thrower:
+    """Makes frames that one of the f faulty replicas, or a relay, may send."""
+
+    def __init__(self, words, signer, frames):
+        self.words, self.signer, self.frames = words, signer, frames
+
+    def payload(self, kind):
+        way = self.words.randrange(4)
+        if way == 0:
+            return self.words.randbytes(self.words.choice(SIZES))
+        if way == 1 and kind == ORDER:
+            return self.vote()
+        if true := self.frames.get(kind if way < 3 else self.words.choice(list(self.frames))):
+            return self.changed(self.words.choice(true))
+        return self.words.randbytes(self.words.choice(SIZES))
+
+    def number(self):
+        return self.words.choice((*EDGES, self.words.randrange(200), self.words.randrange(1 << 64)))
+
+    def vote(self):
+        """One of this replica's, of any view, number and digest."""
+        tag, digest = self.words.choice((PREPARE, COMMIT, CHECKPOINT)), self.words.randbytes(32)
+        view = b"" if tag == CHECKPOINT else struct.pack(">Q", self.number())
+        return self.signer.for_replicas(struct.pack(">II", tag, LIAR) + view + struct.pack(">Q", self.number()) + digest)
+
+    def changed(self, true):
+        """A true payload with some bytes changed, cut or added."""
+        data = bytearray(true)
+        for _ in range(self.words.randrange(4)):
+            at, way = self.words.randrange(len(data) + 1), self.words.randrange(4)
+            if way == 0:
+                data[at : at + 1] = self.words.randbytes(1)
+            elif way == 1:
+                data[at & ~3 : (at & ~3) + 4] = struct.pack(">I", self.words.choice(EDGES))
+            elif way == 2:
+                del data[at : at + self.words.choice((1, 4, 1 << 16))]
+            else:
+                data[at:at] = self.words.randbytes(self.words.choice((1, 4, 32)))
+        return bytes(data)
+
+    def several(self, kinds):
+        kinds = [self.words.choice(kinds) for _ in range(AT_ONCE)]
+        return b"".join(framed(kind, self.payload(kind)[: 1 << 16]) for kind in kinds)
+
+
+def heard_of_views(service, place):
+    """The primary is stopped for a while, so that frames of a change of views come, too."""
+    _, primary = service.process_of("replica", "0")
+    os.kill(primary, signal.SIGSTOP)
+    end = time.monotonic() + 3
+    try:
+        while time.monotonic() < end and VIEW_CHANGE not in place.frames:
+            time.sleep(0.1)
+    finally:
+        os.kill(primary, signal.SIGCONT)
+
+
+def throw(service, thrower, place, count):
+    """Sends so many frames: to replicas as one of them and as a relay, and to the relay as a replica."""
+    relays = {}
+    for sent in range(0, count, AT_ONCE):
+        number = thrower.words.randrange(LIAR)
+        way = thrower.words.randrange(4)
+        if way == 0:
+            if number not in relays or sent % 5_000 == 0:
+                relays[number] = Peer(service.replicas[number], hello(RELAY, 900, 1), SLOW)
+            relays[number].send(thrower.several([REQUEST]))
+        elif way == 1:
+            place.peers[RELAY, 0].send(thrower.several([REPLY, REPLY, *OF_REPLICAS]))
+        else:
+            place.peers[REPLICA, number].send(thrower.several(OF_REPLICAS))
+    for peer in relays.values():
+        peer.close()
+
+
+def hostile(service):
+    """Frames are thrown at replicas and the relay: none of these ends or takes much memory, and calls go on."""
+    service.up()
+    kill(service, "replica", str(LIAR))
+    words = random.Random(service.frames)
+    place = Place(service.replicas[LIAR], words)
+    until(lambda: len(place.peers) == 4, "all are connected")
+    worker = Worker(service, b"work")
+    worker.goes_on()
+    heard_of_views(service, place)
+    worker.goes_on()
+    processes = [process for name in (["relay"], ["replica", "0"], ["replica", "1"], ["replica", "2"]) for process in service.process_of(*name)]
+    before, begun = worker.done, time.monotonic()
+    throw(service, Thrower(words, Signer(Path(service.folder, f"replica-{LIAR}.toml")), place.frames), place, service.frames)
+    thrown = time.monotonic() - begun
+    worker.goes_on()
+    kinds = ", ".join(f"{len(place.frames[kind])} of kind {kind}" for kind in sorted(place.frames))
+    check(all(words_of(process) for process in processes), "one has ended")
+    peaks = [peak(process) / MEBIBYTE for process in processes]
+    print(f"hostile: {service.frames} frames in {thrown:.1f} s, {(worker.done - before) * 2} calls meanwhile, peaks of MiB: {' '.join(f'{each:.0f}' for each in peaks)}; true ones: {kinds}")
+    worker.end()
+    check(max(peaks) * MEBIBYTE < MOST_MEMORY, f"MiB: {peaks}")
+    place.close()
+    same(service, range(LIAR))
+    status, left = service.end(service.started[0])
+    check(status == 0 and not left, f"status {status}, left {left}")
