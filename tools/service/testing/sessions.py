@@ -10,7 +10,7 @@ from pathlib import Path
 from service.testing.calls import Stream
 from service.testing.files import MOUNT, Client, settings, text
 from service.testing.packages import install
-from service.testing.running import HERE, check, children, until
+from service.testing.running import HERE, check, children, until, words_of
 
 SLOW = 60  # seconds that something may take while a view changes or a state is fetched
 BLOCK = 8_192
@@ -127,12 +127,13 @@ def same(service, numbers):
 
 def kill(service, *words):
     """Kills a transport and its filter with -9."""
-    for process in service.process_of(*words):
+    both = service.process_of(*words)
+    for process in both:
         try:
             os.kill(process, signal.SIGKILL)
         except ProcessLookupError:
             pass  # it has followed the other one
-    until(lambda: not service.process_of(*words), "it is gone")
+    until(lambda: not any(map(words_of, both)), "they are gone")
 
 
 def end(service):
