@@ -1,4 +1,4 @@
-"""A check with a replica and a relay that send frames of all kinds: random ones, true ones with changes, and false votes that are signed."""
+"""A check with a replica, a relay and a kernel that send all that they can: random frames, true ones with changes, false votes that are signed, and calls."""
 import os
 import random
 import signal
@@ -8,6 +8,8 @@ import threading
 import time
 from pathlib import Path
 
+from service.testing.calls import marked
+from service.testing.files import MOUNT, text
 from service.testing.frames import ASK_STATE, HELLO, NEW_VIEW, ORDER, RELAY, REPLICA, REPLY, REQUEST, STATE, STATUS, VIEW_CHANGE, framed
 from service.testing.peer import Closed, Peer, hello
 from service.testing.running import MEBIBYTE, check, peak, until, words_of
@@ -20,6 +22,7 @@ SIZES = 0, 3, 12, 40, 60, 300, 5_000, 60_000  # of random payloads
 KEPT = 64  # true frames of each kind
 AT_ONCE = 20  # frames
 MOST_MEMORY = 400 * MEBIBYTE
+NFS, ROOT = 100_003, b"BFS2" + struct.pack(">II", 1, 2) + bytes(20)  # the program, and the root's handle
 EDGES = 0, 1, 16, 32, 33, 1 << 31, (1 << 32) - 1
 
 
@@ -104,6 +107,38 @@ class Thrower:
         return b"".join(framed(kind, self.payload(kind)[: 1 << 16]) for kind in kinds)
 
 
+class Caller:
+    """A kernel that sends calls of which the heads can be read, and reads what comes."""
+
+    def __init__(self, address, words):
+        self.socket, self.words, self.xid = socket.create_connection(address), words, 0
+        self.socket.settimeout(SLOW)
+        threading.Thread(target=self.hear, daemon=True).start()
+
+    def hear(self):
+        try:
+            while self.socket.recv(1 << 18):
+                pass
+        except OSError:
+            pass  # it is closed
+
+    def send(self):
+        """Calls of any procedure, most of them with the root's handle and a name, and bytes behind these."""
+        records = []
+        for _ in range(AT_ONCE):
+            self.xid += 1
+            handle = self.words.choice((ROOT, ROOT, ROOT[:11] + self.words.randbytes(1) + ROOT[12:], self.words.randbytes(32)))
+            name = text(self.words.choice((b"..", b"x", b"y", self.words.randbytes(self.words.choice((0, 1, 8, 255, 256))))))
+            rest = struct.pack(">I", self.words.choice(EDGES)) * 8 if self.words.randrange(2) else self.words.randbytes(self.words.choice((0, 4, 36, 1_000, 8_192)))
+            program, version = self.words.choice(((NFS, 2), (NFS, 2), (NFS, 2), (NFS, 3), (MOUNT, 1)))
+            head = struct.pack(">6I7I2I", self.xid, 0, 2, program, version, self.words.randrange(20), 1, 20, 0, 0, self.words.choice((0, 1)), 0, 0, 0, 0)
+            records.append(marked(head + self.words.choice((handle + name + rest, handle + name + handle + name, handle + rest))))
+        self.socket.sendall(b"".join(records))
+
+    def close(self):
+        self.socket.close()
+
+
 def heard_of_views(service, place):
     """The primary is stopped for a while, so that frames of a change of views come, too."""
     _, primary = service.process_of("replica", "0")
@@ -117,21 +152,23 @@ def heard_of_views(service, place):
 
 
 def throw(service, thrower, place, count):
-    """Sends so many frames: to replicas as one of them and as a relay, and to the relay as a replica."""
-    relays = {}
+    """Sends so many frames and calls: to replicas as one of them and as a relay, and to the relay as a replica and as a kernel."""
+    relays, caller = {}, Caller(service.relay, thrower.words)
     for sent in range(0, count, AT_ONCE):
         number = thrower.words.randrange(LIAR)
-        way = thrower.words.randrange(4)
+        way = thrower.words.randrange(8)
         if way == 0:
+            caller.send()
+        elif way == 1:
             if number not in relays or sent % 5_000 == 0:
                 relays[number] = Peer(service.replicas[number], hello(RELAY, 900, 1), SLOW)
             relays[number].send(thrower.several([REQUEST]))
-        elif way == 1:
+        elif way < 4:
             place.peers[RELAY, 0].send(thrower.several([REPLY, REPLY, *OF_REPLICAS]))
         else:
             place.peers[REPLICA, number].send(thrower.several(OF_REPLICAS))
-    for peer in relays.values():
-        peer.close()
+    for each in (*relays.values(), caller):
+        each.close()
 
 
 def hostile(service):
@@ -153,7 +190,8 @@ def hostile(service):
     kinds = ", ".join(f"{len(place.frames[kind])} of kind {kind}" for kind in sorted(place.frames))
     check(all(words_of(process) for process in processes), "one has ended")
     peaks = [peak(process) / MEBIBYTE for process in processes]
-    print(f"hostile: {service.frames} frames in {thrown:.1f} s, {(worker.done - before) * 2} calls meanwhile, peaks of MiB: {' '.join(f'{each:.0f}' for each in peaks)}; true ones: {kinds}")
+    print(f"hostile: {service.frames} frames and calls in {thrown:.1f} s, {(worker.done - before) * 2} true calls meanwhile; true frames: {kinds}")
+    print(f"hostile: the most MiB of the relay's transport and filter, and of three replicas': {' '.join(f'{each:.0f}' for each in peaks)}")
     worker.end()
     check(max(peaks) * MEBIBYTE < MOST_MEMORY, f"MiB: {peaks}")
     place.close()
