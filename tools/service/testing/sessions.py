@@ -12,7 +12,7 @@ from service.testing.files import MOUNT, Client, settings, text
 from service.testing.packages import install
 from service.testing.running import HERE, check, children, until, words_of
 
-SLOW = 60  # seconds that something may take while a view changes or a state is fetched
+SLOW = 20  # seconds that something may take while a view changes or a state is fetched
 BLOCK = 8_192
 
 
@@ -115,14 +115,17 @@ def reports(service):
 
 
 def same(service, numbers):
-    """Waits until these replicas have executed as much, and have one digest. Gives that."""
-
-    def found():
+    """Waits until these replicas have executed as much, and have one digest, which it gives. One that was left behind fetches a state at the next checkpoint, so calls are made meanwhile."""
+    kernel = Kernel(service.relay)
+    handle, end = kernel.make(b"after %d" % time.monotonic_ns()), time.monotonic() + SLOW
+    while True:
         rows = reports(service)
         states = {(rows[number].get("executed"), rows[number].get("digest")) for number in numbers}
-        return len(states) == 1 and None not in (state := states.pop()) and state
-
-    return until(found, f"replicas {list(numbers)} have one digest", SLOW)
+        if len(states) == 1 and None not in (state := states.pop()):
+            return state
+        check(time.monotonic() < end, f"replicas {list(numbers)}: {states or state}")
+        for block in range(4):
+            kernel.write(handle, block, b"after")
 
 
 def kill(service, *words):
@@ -169,12 +172,6 @@ def returned(service):
     until(lambda: children(transport.pid), "its filter")
     until(lambda: service.log.read_text().count("replica 0: replica 3 is connected") > 1, "it is connected")
     Session(service, "third", 2).end()  # more batches than two checkpoints have
-    kernel = Kernel(service.relay)
-    handle, begun, written = kernel.make(b"after"), time.monotonic(), 0
-    while "" in (executed := [row.get("executed", "") for row in reports(service)]) or len(set(executed)) > 1:
-        check(time.monotonic() - begun < SLOW, f"executed {executed}")
-        kernel.write(handle, 0, b"%d" % written)
-        written += 1
     same(service, range(4))
     end(service)
 
