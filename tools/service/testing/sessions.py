@@ -12,7 +12,7 @@ from service.testing.files import MOUNT, Client, settings, text
 from service.testing.packages import install
 from service.testing.running import HERE, check, children, until, words_of
 
-SLOW = 20  # seconds that something may take while a view changes or a state is fetched
+SLOW = 60  # seconds that something may take while a view changes or a state is fetched
 BLOCK = 8_192
 
 
@@ -115,7 +115,8 @@ def reports(service):
 
 
 def same(service, numbers):
-    """Waits until these replicas have executed as much, and have one digest, which it gives. One that was left behind fetches a state at the next checkpoint, so calls are made meanwhile."""
+    """Waits until these replicas have executed as much, and have one digest. Gives both. One that was left behind fetches a state at the next checkpoint, so
+    calls are made meanwhile."""
     kernel = Kernel(service.relay)
     handle, end = kernel.make(b"after %d" % time.monotonic_ns()), time.monotonic() + SLOW
     while True:
@@ -123,7 +124,7 @@ def same(service, numbers):
         states = {(rows[number].get("executed"), rows[number].get("digest")) for number in numbers}
         if len(states) == 1 and None not in (state := states.pop()):
             return state
-        check(time.monotonic() < end, f"replicas {list(numbers)}: {states or state}")
+        check(time.monotonic() < end, f"replicas {list(numbers)}: {[' '.join(row.values()) for row in rows]}")
         for block in range(4):
             kernel.write(handle, block, b"after")
 
@@ -204,6 +205,16 @@ def lies(number, words, views=False):
 
     lied.__name__ = f"liar_{number}_{words.replace(',', '_')}"
     return lied
+
+
+def another_hand(service):
+    """One replica is that of outside/, and without another one it is needed: sessions go on, and it has the others' digest."""
+    service.up(LIAR="2", LIES="plain", REPLICA=str(service.true))
+    Session(service, "first", 2).end()
+    kill(service, "replica", "3")
+    Session(service, "second", 2).end()
+    same(service, range(3))
+    end(service)
 
 
 def relay_again(service):
