@@ -23,14 +23,23 @@ KEPT = 64  # true frames of each kind
 AT_ONCE = 20  # frames
 MOST_MEMORY = 400 * MEBIBYTE
 NFS, ROOT = 100_003, b"BFS2" + struct.pack(">II", 1, 2) + bytes(20)  # the program, and the root's handle
+SIGNED = 8, 16  # bytes of each message that its keyed hashes are of
 EDGES = 0, 1, 16, 32, 33, 1 << 31, (1 << 32) - 1
+
+
+def listener_at(address):
+    """None where one that was killed still listens there."""
+    try:
+        return socket.create_server(address)
+    except OSError:
+        return None
 
 
 class Place:
     """Where a replica was: a listener, the connections of others to it, and some of the frames that came, by their kinds."""
 
     def __init__(self, address, words):
-        self.listener, self.peers, self.words = socket.create_server(address), {}, words
+        self.listener, self.peers, self.words = until(lambda: listener_at(address), "its port is free"), {}, words
         self.frames = {ASK_STATE: [struct.pack(">IQQQ", LIAR, 0, 0, 0)]}
         threading.Thread(target=self.accept, daemon=True).start()
 
@@ -88,8 +97,12 @@ class Thrower:
         return self.signer.for_replicas(struct.pack(">II", tag, LIAR) + view + struct.pack(">Q", self.number()) + digest)
 
     def changed(self, true):
-        """A true payload with some bytes changed, cut or added."""
+        """A true payload, or one with bytes changed, cut or added; one of those that its sender has signed among them. Where those alone were true, who passes it
+        on could stop the service (docs/THREATS.md)."""
         data = bytearray(true)
+        if len(data) < SIGNED[1] or self.words.randrange(8) == 0:
+            return true
+        data[self.words.randrange(*SIGNED)] ^= self.words.randrange(1, 256)
         for _ in range(self.words.randrange(4)):
             at, way = self.words.randrange(len(data) + 1), self.words.randrange(4)
             if way == 0:
