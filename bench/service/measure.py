@@ -168,12 +168,11 @@ def measure(service, seconds):
             took = client.run(outstanding, seconds, calls)
             passed = time.monotonic() - begun
             transports, filters = (now - then for now, then in zip((used(service.transports), used(service.filters)), before))
-            part = transports / (transports + filters or 1)
-            late = statistics.quantiles(took, n=100)[-1]
-            print(
-                f"{name:12}  {outstanding:9}  {len(took) / passed:8,.0f}  {statistics.median(took) * 1_000:10.2f}  {late * 1_000:8.2f}  {transports / len(took) * 1e6:14,.0f}"
-                f"  {filters / len(took) * 1e6:11,.0f}  {part:10.0%}  {(transports + filters) / passed:11.2f}"
-            )
+            part, all_used = transports / (transports + filters or 1), (transports + filters) / passed
+            median, late = statistics.median(took) * 1_000, statistics.quantiles(took, n=100)[-1] * 1_000
+            each = lambda seconds: f"{seconds / len(took) * 1e6:,.0f}"
+            line = f"{name:12}  {outstanding:9}  {len(took) / passed:8,.0f}  {median:10.2f}  {late:8.2f}  {each(transports):>14}  {each(filters):>11}"
+            print(f"{line}  {part:10.0%}  {all_used:11.2f}")
 
 
 def main(room, words):

@@ -1,1 +1,1 @@
-"""The part of the file service that owns sockets and clocks: it starts a filter as its child, and carries frames between filters. It is not trusted."""
+"""What an operator does with the file service: its documents, its programs, and what is asked of it."""

@@ -6,8 +6,27 @@ from pathlib import Path
 from typing import NamedTuple
 
 MOST_FAULTS, MOST_CLIENTS = 10, 1_024
+MOST_PATIENCE = 600_000  # milliseconds
 KEYS = "f", "clients", "replicas", "relay"
-OTHERS = "portmap", "limits", "patience"  # which may be missing; the last two are for replicas and relays alone
+OTHERS = "portmap", "patience", "limits"  # which may be missing; the last two are for replicas and relays alone
+MEBIBYTE = 1 << 20
+# the least limit of each kind of frame, in bytes, and the most; crates/bfs_deployment has them too
+LIMITS = {
+    "request": 17_400,
+    "order": 4 * MEBIBYTE,
+    "view_change": 64 * MEBIBYTE,
+    "new_view": 256 * MEBIBYTE,
+    "reply": 17_412,
+    "status": 2_048,
+    "ask_state": 2_048,
+    "state": 1_024 * MEBIBYTE,
+    "ask_report": 2_048,
+    "report": MEBIBYTE,
+    "call": 16_392,
+    "answer": 16_392,
+    "log": 4_096,
+}
+MOST_LIMIT = (1 << 32) - 1
 
 
 class Fault(Exception):
@@ -46,18 +65,31 @@ def address_in(text, key):
     return Address(host, int(port))
 
 
-def number_in(document, key, least, most):
+def number_in(document, key, least, most, table=""):
     number = document[key]
     if type(number) is not int or not least <= number <= most:
-        raise Fault(f"{key}: {number!r} is no number from {least} to {most}")
+        raise Fault(f"{table}{key}: {number!r} is no number from {least} to {most}")
     return number
+
+
+def check_keys(document, keys, table=""):
+    for key in sorted(document):
+        if key not in keys:
+            raise Fault(f"{table}{key}: there is no such key")
+
+
+def check_limits(limits):
+    """Limits of frames may be raised, and not lowered: what is below would lose messages of those that don't fail."""
+    if not isinstance(limits, dict):
+        raise Fault(f"limits: {limits!r} is no table")
+    check_keys(limits, LIMITS, "limits.")
+    for key in limits:
+        number_in(limits, key, LIMITS[key], MOST_LIMIT, "limits.")
 
 
 def cluster_in(document):
     """The cluster that a document describes; a fault names its key."""
-    for key in document:
-        if key not in KEYS + OTHERS:
-            raise Fault(f"{key}: there is no such key")
+    check_keys(document, KEYS + OTHERS)
     for key in KEYS:
         if key not in document:
             raise Fault(f"{key}: it is missing")
@@ -72,6 +104,9 @@ def cluster_in(document):
     addresses = [*replicas, relay, *filter(None, [portmap])]
     if len(set(addresses)) != len(addresses):
         raise Fault("replicas: two of these addresses, or one of them and that of `relay` or `portmap`, are one")
+    if "patience" in document:
+        number_in(document, "patience", 1, MOST_PATIENCE)
+    check_limits(document.get("limits", {}))
     return Cluster(faults, clients, replicas, relay, portmap)
 
 

@@ -4,6 +4,7 @@ import subprocess
 import tomllib
 from pathlib import Path
 
+from service.cluster import LIMITS, Address, Cluster, cluster_in
 from service.programs import TRANSPORT
 from service.testing.running import check
 
@@ -40,7 +41,11 @@ def refusals(service):
 
 
 def faults_of_cluster(service):
-    """Each fault of the public document is named with its key."""
+    """Each fault of the public document is named with its key; what may be left out is read where it is there."""
+    least = {"f": 0, "clients": 1, "replicas": ["a:1"], "relay": "b:2"}
+    most = least | {"portmap": "b:111", "patience": 600_000, "limits": LIMITS}
+    made = Cluster(0, 1, (Address("a", 1),), Address("b", 2), Address("b", 111))
+    check(cluster_in(most) == made and cluster_in(least) == made._replace(portmap=None), "a good document is another cluster")
     path = Path(service.folder, "cluster.toml")
     good = path.read_text()
     for old, new, told in (
@@ -49,9 +54,13 @@ def faults_of_cluster(service):
         ("clients = 8", "clients = true", "clients: True is no number"),
         ("clients = 8", "", "clients: it is missing"),
         ("clients = 8", "clients = 8\nmore = 1", "more: there is no such key"),
+        ("portmap = ", "portmap = 111 #", "portmap: 111 is no HOST:PORT"),
+        ("clients = 8", "clients = 8\npatience = 0", "patience: 0 is no number from 1 to 600000"),
+        ("clients = 8", "clients = 8\nlimits = 1", "limits: 1 is no table"),
+        ("clients = 8", "clients = 8\nlimits.orders = 1", "limits.orders: there is no such key"),
+        ("clients = 8", "clients = 8\nlimits.request = 17399", "limits.request: 17399 is no number from 17400 to 4294967295"),
         ('relay = "127.0.0.1:', 'relay = "127.0.0.1:0', "relay: "),
         ('relay = "127.0.0.1:', 'relay = "', "relay: "),
-        ("portmap = ", "portmap = 111 #", "portmap: 111 is no HOST:PORT"),
         (f":{service.portmap[1]}", f":{service.relay[1]}", "replicas: two of these"),
         ("f = 1", "f = ", "cluster.toml: Invalid value"),
     ):
@@ -61,17 +70,8 @@ def faults_of_cluster(service):
     path.write_text(good)
 
 
-def accepted(service):
-    """What is for replicas and relays alone is passed over."""
-    path = Path(service.folder, "cluster.toml")
-    good = path.read_text()
-    path.write_text(good + "patience = 5\n[limits]\nrequest = 1\n")
-    said, _ = service.bfs("status", service.folder)
-    check("no connection: Connection refused" in said, said)
-    path.write_text(good)
-
-
 def parts(_service):
     """The tests of the transport's own parts."""
-    tested = subprocess.run(["cargo", "test", "--offline", "--quiet"], cwd=TRANSPORT, stdin=subprocess.DEVNULL, stdout=subprocess.PIPE, stderr=subprocess.STDOUT, text=True)
+    command = ["cargo", "test", "--offline", "--quiet"]
+    tested = subprocess.run(command, cwd=TRANSPORT, stdin=subprocess.DEVNULL, stdout=subprocess.PIPE, stderr=subprocess.STDOUT, text=True)
     check(tested.returncode == 0 and "test result: ok." in tested.stdout, tested.stdout[-2_000:])

@@ -20,9 +20,10 @@ def strangers(service):
 
 
 def relays(service):
-    """Replies go to the relay that speaks for their client, and to no other."""
+    """Replies go to the relay that speaks for their client, and to no other; also where many say later that they do."""
     mine = [Peer(address, hello(RELAY, 500, 2)) for address in service.replicas]
     others = [Peer(address, hello(RELAY, 502, 2), 0.1) for address in service.replicas]
+    others_for_it = [Peer(address, hello(RELAY, 490, 20)) for address in service.replicas for _ in range(6)]
     time.sleep(0.2)  # that the others are there, too
     request = struct.pack(">IQ", 501, 1) + call(3, 1)
     for peer in mine:
@@ -34,7 +35,7 @@ def relays(service):
     for peer in others:
         check(not peer.is_closed(), "it is closed")
         peer.close()
-    for peer in mine:
+    for peer in mine + others_for_it:
         peer.close()
 
 

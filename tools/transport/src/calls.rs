@@ -178,7 +178,9 @@ impl Calls {
     /// Drops what is too old.
     pub fn sweep(&mut self, now: Instant) {
         while self.drop_oldest(|kept| now.saturating_duration_since(kept.since) > KEPT_FOR) {}
-        let lost = |calls: &BTreeMap<u64, Call>| calls.iter().next().filter(|(_, call)| now.saturating_duration_since(call.since) > LOST_AFTER).map(|(ticket, _)| *ticket);
+        let lost = |calls: &BTreeMap<u64, Call>| {
+            calls.iter().next().filter(|(_, call)| now.saturating_duration_since(call.since) > LOST_AFTER).map(|(ticket, _)| *ticket)
+        };
         while let Some(ticket) = lost(&self.by_ticket) {
             self.answer(ticket, &[]);
         }

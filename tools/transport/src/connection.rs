@@ -5,6 +5,7 @@ use crate::frames::{Frame, Head, ASK_REPORT, HEAD, MOST_FRAME, REQUEST};
 use crate::inbox::Source;
 use crate::queue::Queue;
 use crate::rest::{Read, Rest};
+use crate::wait::Watch;
 use std::net::{IpAddr, TcpStream};
 use std::time::Instant;
 
@@ -21,7 +22,10 @@ pub enum Role {
     Stranger,
     Replica(usize),
     /// A relay of so many clients, from the first one on.
-    Relay { first: u32, count: u32 },
+    Relay {
+        first: u32,
+        count: u32,
+    },
     Operator,
 }
 
@@ -57,15 +61,30 @@ pub struct Connection {
     pub heard: Instant,
     pub queue: Queue,
     pub is_dirty: bool,
-    rest: Rest,
+    pub is_put_out: bool,  // a relay of some clients whose replies go to others
     pub greeting: Vec<u8>, // bytes of a hello that isn't whole
+    pub watch: Watch,
+    rest: Rest,
 }
 
 impl Connection {
     pub fn new(stream: TcpStream, host: IpAddr, role: Role) -> Connection {
         let now = Instant::now();
         let is_dialed = matches!(role, Role::Dialed(_));
-        Connection { stream, host, role, is_dialed, since: now, heard: now, queue: Queue::default(), is_dirty: false, rest: Rest::default(), greeting: Vec::new() }
+        Connection {
+            stream,
+            host,
+            role,
+            is_dialed,
+            since: now,
+            heard: now,
+            queue: Queue::default(),
+            is_dirty: false,
+            is_put_out: false,
+            watch: Watch::default(),
+            rest: Rest::default(),
+            greeting: Vec::new(),
+        }
     }
 
     /// Where its frames wait.
@@ -79,7 +98,11 @@ impl Connection {
 
     /// How many bytes of its frames may wait until no more are read.
     pub fn most_waiting(&self) -> usize {
-        if matches!(self.role, Role::Replica(_)) { 4 << 20 } else { 1 << 20 }
+        if matches!(self.role, Role::Replica(_)) {
+            4 << 20
+        } else {
+            1 << 20
+        }
     }
 
     pub fn put(&mut self, frame: Frame) {
@@ -130,7 +153,7 @@ mod tests {
         let may = |role: Role, kind, length| role.may_send(Head { kind, length });
         assert!(may(relay, REQUEST, MOST_REQUEST) && !may(relay, REQUEST, MOST_REQUEST + 1) && !may(relay, 2, 0));
         assert!(may(Role::Operator, ASK_REPORT, 0) && !may(Role::Operator, ASK_REPORT, 1) && !may(Role::Operator, REQUEST, 0));
-        assert!((0..=255).all(|kind| may(Role::Replica(1), kind, MOST_FRAME) == !(9..=13).contains(&kind)));
+        assert!((0..=255).all(|kind| may(Role::Replica(1), kind, MOST_FRAME) != (9..=13).contains(&kind)));
         assert!(!may(Role::Replica(1), 2, MOST_FRAME + 1) && !may(Role::Stranger, REQUEST, 0) && !may(Role::Dialed(1), REQUEST, 0));
     }
 

@@ -141,22 +141,22 @@ impl Filter {
         line.split_whitespace().nth(1)?.parse().ok()
     }
 
-    /// Ends it where it has not ended yet, and tells how it ended. At the end of its input a filter ends, behind the answer that it is at.
-    pub fn end(&mut self, by_force: bool) -> String {
+    /// Ends it where it has not ended yet, and tells how it ended. At the end of its input a filter ends, behind the answer that it is at, whose parcels are put
+    /// to the others.
+    pub fn end(&mut self, by_force: bool, buffer: &mut [u8], parcels: &mut Vec<Parcel>) -> String {
         self.into = None;
         let begun = Instant::now();
-        let mut buffer = vec![0; 1 << 16];
         let mut is_killed = false;
         loop {
-            while matches!(self.out.read(&mut buffer), Ok(count) if count > 0) && begun.elapsed() < PATIENCE {}
+            if !is_killed && (by_force || begun.elapsed() >= PATIENCE) {
+                let _ = self.child.kill();
+                is_killed = true;
+            }
+            while matches!(self.read(buffer, parcels), Came::Some | Came::Rubbish) && begun.elapsed() < PATIENCE {}
             match self.child.try_wait() {
                 Ok(Some(status)) => return how_it_ended(status),
                 Ok(None) => {}
                 Err(fault) => return format!("it can't be waited for: {fault}"),
-            }
-            if !is_killed && (by_force || begun.elapsed() >= PATIENCE) {
-                let _ = self.child.kill();
-                is_killed = true;
             }
             sleep(Duration::from_millis(5));
         }
@@ -193,13 +193,13 @@ mod tests {
         // its count of parcels is the seconds of the time
         assert!(matches!(came, Came::Rubbish | Came::Some));
         assert!(filter.report().starts_with(" turns=1 memory="));
-        assert_eq!(filter.end(false), "it ended with status 0");
+        assert_eq!(filter.end(false, &mut buffer, &mut parcels), "it ended with status 0");
     }
 
     #[test]
     fn one_that_does_not_end_is_ended() {
         let mut filter = Filter::start("/bin/sleep", &["60".to_string()]).unwrap();
-        assert_eq!(filter.end(true), "it was ended by signal 9");
+        assert_eq!(filter.end(true, &mut [0; 100], &mut Vec::new()), "it was ended by signal 9");
         assert!(Filter::start("/nowhere/there", &[]).is_err());
     }
 }

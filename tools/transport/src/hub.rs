@@ -9,9 +9,9 @@ use crate::log::Log;
 use crate::names::Names;
 use crate::queue::Queue;
 use crate::system;
-use crate::wait::{Ready, Waits};
+use crate::wait::{Ready, Token, Waits, Watch};
 use std::collections::{BTreeMap, HashMap};
-use std::io::{ErrorKind, Read, Write};
+use std::io::{self, ErrorKind, Read, Write};
 use std::net::{IpAddr, SocketAddr, TcpListener, TcpStream};
 use std::time::{Duration, Instant};
 
@@ -40,6 +40,7 @@ pub struct Hub {
     names: Names,
     hello: Hello,
     listener: Option<TcpListener>,
+    watch: Watch, // of the listener
     accepts_after: Instant,
     connections: BTreeMap<u64, Connection>,
     last: u64, // number of a connection
@@ -47,7 +48,7 @@ pub struct Hub {
     clients: HashMap<u32, Vec<u64>>, // the connections of the relays that speak for them
     asking: Vec<u64>,                // connections of operators
     asked: Option<Instant>,
-    dirty: Vec<u64>, // connections to which more is to be written
+    dirty: Vec<u64>,             // connections to which more is to be written
     told: BTreeMap<String, u64>, // whose connections
     begun: Option<Instant>,
 }
@@ -61,6 +62,7 @@ impl Hub {
             me,
             hello,
             listener,
+            watch: Watch::default(),
             accepts_after: now,
             connections: BTreeMap::new(),
             last: 0,
@@ -75,13 +77,13 @@ impl Hub {
         }
     }
 
-    pub fn to_replicas(&mut self, frame: &Frame) {
+    pub fn send_to_replicas(&mut self, frame: &Frame) {
         for number in 0..self.peers.len() as u64 {
-            self.to_replica(number, frame); // to all but itself
+            self.send_to_replica(number, frame); // to all but itself
         }
     }
 
-    pub fn to_replica(&mut self, number: u64, frame: &Frame) {
+    pub fn send_to_replica(&mut self, number: u64, frame: &Frame) {
         let number = usize::try_from(number).unwrap_or(usize::MAX);
         match self.peers.get_mut(number) {
             Some(Peer { link: Some(link), .. }) => {
@@ -93,7 +95,7 @@ impl Hub {
         }
     }
 
-    pub fn to_client(&mut self, number: u64, frame: &Frame) {
+    pub fn send_to_client(&mut self, number: u64, frame: &Frame) {
         let links = u32::try_from(number).ok().and_then(|number| self.clients.get(&number));
         for link in links.cloned().unwrap_or_default() {
             self.put(link, frame);
@@ -140,16 +142,22 @@ impl Hub {
         }
     }
 
-    /// Adds what is waited for; the listener's token is that of no connection.
-    pub fn waits<T: Copy>(&self, waits: &mut Waits<T>, inboxes: &Inboxes, token: impl Fn(Option<u64>) -> T) {
-        if let Some(listener) = self.listener.as_ref().filter(|_| self.accepts_after <= Instant::now()) {
-            waits.add(listener, token(None), true, false);
+    /// Says what is waited for now.
+    pub fn set_waits(&mut self, waits: &Waits, inboxes: &mut Inboxes) -> io::Result<()> {
+        if let Some(listener) = &self.listener {
+            waits.set(&mut self.watch, listener, Token::Listener, self.accepts_after <= Instant::now(), false)?;
         }
-        for (id, connection) in &self.connections {
+        let mut failed = Vec::new();
+        for (id, connection) in &mut self.connections {
             let is_dialed = matches!(connection.role, Role::Dialed(_));
             let reads = !is_dialed && inboxes.waiting(connection.source(*id)) <= connection.most_waiting();
-            waits.add(&connection.stream, token(Some(*id)), reads, is_dialed || !connection.queue.is_empty());
+            let writes = is_dialed || !connection.queue.is_empty();
+            if waits.set(&mut connection.watch, &connection.stream, Token::Connection(*id), reads, writes).is_err() {
+                failed.push(*id);
+            }
         }
+        failed.into_iter().for_each(|id| self.close(id, inboxes));
+        Ok(())
     }
 
     /// Does what may be done at a connection.
@@ -196,7 +204,7 @@ impl Hub {
             Some(connection) => connection,
             None => return Ok(()),
         };
-        let (role, source) = (connection.role, connection.source(id));
+        let (role, source, is_put_out) = (connection.role, connection.source(id), connection.is_put_out);
         let mut asks = false;
         let put = |frames: &[u8], count| match role {
             Role::Operator => asks = true,
@@ -204,8 +212,10 @@ impl Hub {
         };
         let took = connection.came(bytes, put);
         took.map_err(|head| format!("{} sent a frame of kind {} and {} bytes: closed", role.name(), head.kind, head.length))?;
-        if asks {
-            self.ask(id, inboxes);
+        match role {
+            Role::Operator if asks => self.ask(id, inboxes),
+            Role::Relay { first, count } if is_put_out => self.give_rooms(id, first, count),
+            _ => {}
         }
         Ok(())
     }
@@ -255,7 +265,7 @@ impl Hub {
                 if !may_be {
                     log.tell(&format!("{host} says that it is replica {number}, whose address is {}", self.names.text(number)));
                 }
-                may_be.then(|| Role::Replica(number))
+                may_be.then_some(Role::Replica(number))
             }
             RELAY if count > 0 && first.checked_add(count).map_or(false, |end| end <= MOST_CLIENTS) => Some(Role::Relay { first, count }),
             OPERATOR => Some(Role::Operator),
@@ -283,16 +293,23 @@ impl Hub {
                     connection.queue = std::mem::take(&mut peer.kept);
                 }
             }
-            Role::Relay { first, count } => {
-                for client in first..first.saturating_add(count) {
-                    let links = self.clients.entry(client).or_default();
-                    links.push(id);
-                    links.drain(..links.len().saturating_sub(MOST_ROOMS));
-                }
-            }
+            Role::Relay { first, count } => self.give_rooms(id, first, count),
             _ => {}
         }
         self.write(id, inboxes, log);
+    }
+
+    /// From now on a relay gets the replies to its clients. Where there are too many for one, the oldest of these gets no more until it sends something.
+    fn give_rooms(&mut self, id: u64, first: u32, count: u32) {
+        for client in first..first.saturating_add(count) {
+            let links = self.clients.entry(client).or_default();
+            links.retain(|link| *link != id);
+            links.push(id);
+            for old in links.drain(..links.len().saturating_sub(MOST_ROOMS)) {
+                self.connections.entry(old).and_modify(|connection| connection.is_put_out = true);
+            }
+        }
+        self.connections.entry(id).and_modify(|connection| connection.is_put_out = false);
     }
 
     /// Ends a connection, if it is there.

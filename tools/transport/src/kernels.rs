@@ -6,7 +6,7 @@ use crate::inbox::{Inboxes, Source};
 use crate::portmap::{self, Ports};
 use crate::rpc::{mark_of, Records, MOST_RECORD};
 use crate::system;
-use crate::wait::{Ready, Waits};
+use crate::wait::{Ready, Token, Waits, Watch};
 use std::collections::{BTreeMap, VecDeque};
 use std::io::{ErrorKind, Read, Result, Write};
 use std::net::{SocketAddr, TcpListener, TcpStream, UdpSocket};
@@ -25,19 +25,12 @@ pub enum Service {
     PortMapper,
 }
 
-/// Where something was found: by the place of a door, or the number of a stream.
-#[derive(Clone, Copy)]
-pub enum At {
-    Listener(usize),
-    Datagrams(usize),
-    Stream(u64),
-}
-
 /// An address at which calls come.
 struct Door {
     service: Service,
     listener: TcpListener,
     datagrams: UdpSocket,
+    watches: (Watch, Watch), // of both
 }
 
 /// A connection of a kernel.
@@ -51,9 +44,25 @@ struct Stream {
     is_paused: bool,
     is_dirty: bool,
     heard: Instant,
+    watch: Watch,
 }
 
 impl Stream {
+    fn new(stream: TcpStream, address: SocketAddr, service: Service) -> Stream {
+        Stream {
+            stream,
+            address,
+            service,
+            records: Records::default(),
+            replies: Vec::new(),
+            written: 0,
+            is_paused: false,
+            is_dirty: false,
+            heard: Instant::now(),
+            watch: Watch::default(),
+        }
+    }
+
     /// Whether it reads its replies.
     fn reads(&self) -> bool {
         self.replies.len() - self.written < MOST_UNREAD
@@ -96,13 +105,24 @@ pub struct Kernels {
     calls: Calls,
     paused: VecDeque<u64>, // the one that has waited for the longest time first
     dirty: Vec<u64>,       // streams that have more replies
+    changed: Vec<u64>,     // those of which something else may be wanted now
     accepts_after: Instant,
 }
 
 impl Kernels {
     pub fn new(ports: Ports) -> Kernels {
         let (streams, calls) = (BTreeMap::new(), Calls::default());
-        Kernels { ports, doors: Vec::new(), streams, last: 0, calls, paused: VecDeque::new(), dirty: Vec::new(), accepts_after: Instant::now() }
+        Kernels {
+            ports,
+            doors: Vec::new(),
+            streams,
+            last: 0,
+            calls,
+            paused: VecDeque::new(),
+            dirty: Vec::new(),
+            changed: Vec::new(),
+            accepts_after: Instant::now(),
+        }
     }
 
     /// Listens at that address.
@@ -110,41 +130,41 @@ impl Kernels {
         let (listener, datagrams) = (TcpListener::bind(address)?, UdpSocket::bind(address)?);
         listener.set_nonblocking(true)?;
         datagrams.set_nonblocking(true)?;
-        self.doors.push(Door { service, listener, datagrams });
+        self.doors.push(Door { service, listener, datagrams, watches: Default::default() });
         Ok(())
     }
 
-    /// Adds what is waited for.
-    pub fn waits<T: Copy>(&self, waits: &mut Waits<T>, token: impl Fn(At) -> T) {
+    /// Says what is waited for now.
+    pub fn set_waits(&mut self, waits: &Waits) -> Result<()> {
         let accepts = self.accepts_after <= Instant::now();
-        for (place, door) in self.doors.iter().enumerate() {
-            if accepts {
-                waits.add(&door.listener, token(At::Listener(place)), true, false);
-            }
-            waits.add(&door.datagrams, token(At::Datagrams(place)), true, false);
+        for (place, door) in self.doors.iter_mut().enumerate() {
+            waits.set(&mut door.watches.0, &door.listener, Token::Door(place), accepts, false)?;
+            waits.set(&mut door.watches.1, &door.datagrams, Token::Datagrams(place), true, false)?;
         }
-        for (id, stream) in &self.streams {
-            waits.add(&stream.stream, token(At::Stream(*id)), !stream.is_paused, stream.written < stream.replies.len());
-        }
-    }
-
-    pub fn ready(&mut self, at: At, found: Ready, buffer: &mut [u8], inboxes: &mut Inboxes) {
-        match at {
-            At::Listener(place) => self.accept(place),
-            At::Datagrams(place) => self.read_datagrams(place, buffer, inboxes),
-            At::Stream(id) => {
-                if found.writes {
-                    self.write(id);
-                    self.go_on(inboxes);
-                }
-                if found.reads || found.is_broken {
-                    self.read(id, found.is_broken, buffer, inboxes);
+        for id in std::mem::take(&mut self.changed) {
+            if let Some(stream) = self.streams.get_mut(&id) {
+                let (reads, writes) = (!stream.is_paused, stream.written < stream.replies.len());
+                if waits.set(&mut stream.watch, &stream.stream, Token::Stream(id), reads, writes).is_err() {
+                    self.close(id);
                 }
             }
         }
+        Ok(())
     }
 
-    fn accept(&mut self, place: usize) {
+    /// Does what may be done at a stream.
+    pub fn ready(&mut self, id: u64, found: Ready, buffer: &mut [u8], inboxes: &mut Inboxes) {
+        if found.writes {
+            self.write(id);
+            self.go_on(inboxes);
+        }
+        if found.reads || found.is_broken {
+            self.read(id, found.is_broken, buffer, inboxes);
+        }
+    }
+
+    /// Accepts those that wait at a door.
+    pub fn accept(&mut self, place: usize) {
         for _ in 0..MOST_AT_A_TIME {
             let (accepted, service) = match self.doors.get(place) {
                 Some(door) => (door.listener.accept(), door.service),
@@ -158,8 +178,8 @@ impl Kernels {
                     system::tune(&stream);
                     if stream.set_nonblocking(true).is_ok() {
                         self.last += 1;
-                        let (records, replies, heard) = (Records::default(), Vec::new(), Instant::now());
-                        self.streams.insert(self.last, Stream { stream, address, service, records, replies, written: 0, is_paused: false, is_dirty: false, heard });
+                        self.streams.insert(self.last, Stream::new(stream, address, service));
+                        self.changed.push(self.last);
                     }
                 }
                 Err(fault) if fault.kind() == ErrorKind::WouldBlock => return,
@@ -188,9 +208,9 @@ impl Kernels {
     }
 
     fn may_take(&self, id: u64, share: Share) -> bool {
-        self.streams.get(&id).map_or(false, |stream| {
-            stream.reads() && (stream.service == Service::PortMapper || self.calls.may_take(Caller::Stream(id), share))
-        })
+        self.streams
+            .get(&id)
+            .map_or(false, |stream| stream.reads() && (stream.service == Service::PortMapper || self.calls.may_take(Caller::Stream(id), share)))
     }
 
     fn read(&mut self, id: u64, is_broken: bool, buffer: &mut [u8], inboxes: &mut Inboxes) {
@@ -251,6 +271,7 @@ impl Kernels {
         if let Some(stream) = self.streams.get_mut(&id).filter(|stream| !stream.is_paused) {
             stream.is_paused = true;
             self.paused.push_back(id);
+            self.changed.push(id);
         }
     }
 
@@ -267,6 +288,7 @@ impl Kernels {
             }
             if let Some(stream) = self.streams.get_mut(&id) {
                 stream.is_paused = false;
+                self.changed.push(id);
             }
             self.take_records(id, &[], inboxes);
         }
@@ -278,12 +300,14 @@ impl Kernels {
             None => return,
         };
         stream.is_dirty = false;
+        self.changed.push(id);
         if stream.write().is_err() {
             self.close(id);
         }
     }
 
-    fn read_datagrams(&mut self, place: usize, buffer: &mut [u8], inboxes: &mut Inboxes) {
+    /// Takes calls that were sent as datagrams.
+    pub fn read_datagrams(&mut self, place: usize, buffer: &mut [u8], inboxes: &mut Inboxes) {
         let Kernels { doors, calls, ports, .. } = self;
         let Door { service, datagrams, .. } = match doors.get(place) {
             Some(door) => door,

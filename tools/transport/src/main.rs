@@ -30,6 +30,7 @@ use crate::log::Log;
 use crate::names::Names;
 use crate::portmap::Ports;
 use crate::transport::Transport;
+use crate::wait::Waits;
 use crate::words::{Role, Words};
 use std::fmt::Display;
 use std::io::{stderr, Write};
@@ -67,10 +68,11 @@ fn transport(words: Words) -> Result<Transport, (Log, String)> {
     let log = Log::new(name);
     let begun = begin(role, replicas, &log).and_then(|(hub, kernels)| {
         let filter = Filter::start(&program, &filter_words).map_err(|fault| format!("{program}: {fault}"))?;
-        Ok((hub, kernels, filter))
+        let waits = Waits::new().map_err(|fault| fault.to_string())?;
+        Ok((hub, kernels, filter, waits))
     });
     match begun {
-        Ok((hub, kernels, filter)) => Ok(Transport::new(log, filter, hub, kernels, ends_with_parent)),
+        Ok((hub, kernels, filter, waits)) => Ok(Transport::new(log, filter, hub, kernels, ends_with_parent, waits)),
         Err(fault) => Err((log, fault)),
     }
 }

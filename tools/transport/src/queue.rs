@@ -100,7 +100,11 @@ mod tests {
         fn write(&mut self, data: &[u8]) -> Result<usize> {
             let count = data.len().min(self.at_a_time).min(self.most - self.taken.len());
             self.taken.extend_from_slice(&data[..count]);
-            if count == 0 { Err(ErrorKind::WouldBlock.into()) } else { Ok(count) }
+            if count == 0 {
+                Err(ErrorKind::WouldBlock.into())
+            } else {
+                Ok(count)
+            }
         }
 
         fn flush(&mut self) -> Result<()> {

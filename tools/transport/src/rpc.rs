@@ -39,7 +39,7 @@ impl Header {
 fn behind_auth(record: &[u8], at: usize) -> Option<usize> {
     let length = number_at(record, at + 4)? as usize;
     let end = at + 8 + length.checked_add(3)? / 4 * 4;
-    (length <= MOST_AUTH && end <= record.len()).then(|| end)
+    (length <= MOST_AUTH && end <= record.len()).then_some(end)
 }
 
 /// The mark of a record in one fragment.
@@ -138,22 +138,24 @@ pub mod tests {
         for size in 1..=bytes.len() {
             let (mut records, mut found) = (Records::default(), Vec::new());
             for piece in bytes.chunks(size) {
-                records.feed(piece, |record| {
-                    found.push(record.to_vec());
-                    true
-                })
-                .unwrap();
+                records
+                    .feed(piece, |record| {
+                        found.push(record.to_vec());
+                        true
+                    })
+                    .unwrap();
             }
             assert_eq!(found, [&b"onetwo"[..], b"three", b""]);
         }
         let (mut records, mut found) = (Records::default(), Vec::new());
         let mut came = &bytes[..];
         for _ in 0..3 {
-            records.feed(came, |record| {
-                found.push(record.to_vec());
-                false
-            })
-            .unwrap();
+            records
+                .feed(came, |record| {
+                    found.push(record.to_vec());
+                    false
+                })
+                .unwrap();
             came = &[];
         }
         assert_eq!(found, [&b"onetwo"[..], b"three", b""]);

@@ -1,11 +1,11 @@
-//! What the standard library doesn't have: poll(2), signals, options of sockets and pipes, and connections that are begun without waiting. All that is unsafe
+//! What the standard library doesn't have: epoll(7), signals, options of sockets and pipes, and connections that are begun without waiting. All that is unsafe
 //! is in this file.
 #![allow(unsafe_code)]
 
 use std::io;
 use std::net::{SocketAddr, TcpStream};
-use std::os::raw::{c_int, c_short, c_ulong, c_void};
-use std::os::unix::io::{AsRawFd, FromRawFd, RawFd};
+use std::os::raw::{c_int, c_void};
+use std::os::unix::io::{AsRawFd, FromRawFd, OwnedFd, RawFd};
 use std::os::unix::process::CommandExt;
 use std::process::Command;
 use std::sync::atomic::{AtomicBool, Ordering};
@@ -31,22 +31,26 @@ const IPPROTO_TCP: c_int = 6;
 const OPTIONS: [(c_int, c_int, c_int); 5] =
     [(SOL_SOCKET, 9, 1), (IPPROTO_TCP, 4, 10), (IPPROTO_TCP, 5, 5), (IPPROTO_TCP, 6, 4), (IPPROTO_TCP, 18, DEAD_AFTER * 1_000)];
 
-pub const READS: c_short = 1; // POLLIN
-pub const WRITES: c_short = 4; // POLLOUT
-pub const IS_OVER: c_short = 0x2000; // POLLRDHUP: the other side writes no more
-pub const IS_BROKEN: c_short = 8 | 16 | 32 | IS_OVER; // POLLERR, POLLHUP, POLLNVAL
+const EPOLL_CTL_ADD: c_int = 1;
+const EPOLL_CTL_MOD: c_int = 3;
+pub const READS: u32 = 1; // EPOLLIN
+pub const WRITES: u32 = 4; // EPOLLOUT
+pub const IS_OVER: u32 = 0x2000; // EPOLLRDHUP: the other side writes no more
+pub const IS_BROKEN: u32 = 8 | 16 | IS_OVER; // EPOLLERR, EPOLLHUP
 
-/// A descriptor, what is waited for there, and what was found.
+/// What is waited for or was found at a descriptor, and the number that its owner gave it.
 #[repr(C)]
-#[derive(Clone, Copy)]
-pub struct Polled {
-    pub descriptor: c_int,
-    pub wanted: c_short,
-    pub found: c_short,
+#[cfg_attr(target_arch = "x86_64", repr(packed))]
+#[derive(Clone, Copy, Default)]
+pub struct Event {
+    pub found: u32,
+    pub number: u64,
 }
 
 extern "C" {
-    fn poll(polled: *mut Polled, count: c_ulong, milliseconds: c_int) -> c_int;
+    fn epoll_create1(flags: c_int) -> c_int;
+    fn epoll_ctl(epoll: c_int, command: c_int, descriptor: c_int, event: *mut Event) -> c_int;
+    fn epoll_wait(epoll: c_int, events: *mut Event, most: c_int, milliseconds: c_int) -> c_int;
     fn signal(number: c_int, handler: extern "C" fn(c_int)) -> usize;
     fn fcntl(descriptor: c_int, command: c_int, ...) -> c_int;
     fn setsockopt(socket: c_int, level: c_int, name: c_int, value: *const c_void, length: u32) -> c_int;
@@ -87,18 +91,35 @@ fn checked(result: c_int) -> io::Result<c_int> {
     Ok(result)
 }
 
-/// Waits until something is found at one of them, a signal has come, or the time has passed.
-pub fn wait(polled: &mut [Polled], time: Duration) -> io::Result<()> {
-    let milliseconds = time.as_micros().saturating_add(999) / 1_000;
-    let milliseconds = milliseconds.min(60_000) as c_int;
-    // SAFETY: the pointer and the count are those of a slice of what poll(2) calls pollfd, which it may write to.
-    let found = checked(unsafe { poll(polled.as_mut_ptr(), polled.len() as c_ulong, milliseconds) });
-    match found {
-        Err(fault) if fault.kind() == io::ErrorKind::Interrupted => {
-            polled.iter_mut().for_each(|each| each.found = 0);
-            Ok(())
+/// Descriptors that are waited for. One that is closed is waited for no more.
+pub struct Watcher {
+    epoll: OwnedFd,
+}
+
+impl Watcher {
+    pub fn new() -> io::Result<Watcher> {
+        // SAFETY: the call takes a number alone, and the descriptor that it gives is nobody else's.
+        let epoll = unsafe { OwnedFd::from_raw_fd(checked(epoll_create1(O_CLOEXEC))?) };
+        Ok(Watcher { epoll })
+    }
+
+    /// From now on waits for that at a descriptor.
+    pub fn set(&self, file: &impl AsRawFd, is_new: bool, wanted: u32, number: u64) -> io::Result<()> {
+        let command = if is_new { EPOLL_CTL_ADD } else { EPOLL_CTL_MOD };
+        let mut event = Event { found: wanted, number };
+        // SAFETY: the pointer is to what epoll(7) calls epoll_event.
+        checked(unsafe { epoll_ctl(self.epoll.as_raw_fd(), command, file.as_raw_fd(), &mut event) }).map(|_| ())
+    }
+
+    /// Waits until something is found at one of them, a signal has come, or the time has passed; tells of how many something was found.
+    pub fn wait(&self, events: &mut [Event], time: Duration) -> io::Result<usize> {
+        let milliseconds = time.as_micros().saturating_add(999) / 1_000;
+        let milliseconds = milliseconds.min(60_000) as c_int;
+        // SAFETY: the pointer and the count are those of a slice of what epoll(7) calls epoll_event, which it may write to.
+        match checked(unsafe { epoll_wait(self.epoll.as_raw_fd(), events.as_mut_ptr(), events.len() as c_int, milliseconds) }) {
+            Err(fault) if fault.kind() == io::ErrorKind::Interrupted => Ok(0),
+            found => found.map(|count| count as usize),
         }
-        found => found.map(|_| ()),
     }
 }
 
@@ -172,6 +193,17 @@ mod tests {
     use super::*;
     use std::net::TcpListener;
 
+    /// What is found where a connection can be written to, or can't be.
+    fn found_at(stream: &TcpStream) -> u32 {
+        let (watcher, mut events) = (Watcher::new().unwrap(), [Event::default(); 4]);
+        watcher.set(stream, true, READS, 1).unwrap();
+        watcher.set(stream, false, WRITES, 1 << 60).unwrap();
+        assert_eq!(watcher.wait(&mut events, Duration::from_secs(5)).unwrap(), 1);
+        let Event { found, number } = events[0];
+        assert_eq!(number, 1 << 60);
+        found
+    }
+
     #[test]
     fn a_connection_comes_about() {
         for host in ["127.0.0.1:0", "[::1]:0"] {
@@ -180,9 +212,7 @@ mod tests {
                 Err(_) => continue, // a machine without IPv6
             };
             let stream = begin_connection(&listener.local_addr().unwrap(), Some(host.parse().unwrap())).unwrap();
-            let mut polled = [Polled { descriptor: stream.as_raw_fd(), wanted: WRITES, found: 0 }];
-            wait(&mut polled, Duration::from_secs(5)).unwrap();
-            assert_eq!(polled[0].found, WRITES);
+            assert_eq!(found_at(&stream), WRITES);
             assert!(stream.take_error().unwrap().is_none());
             let (_, address) = listener.accept().unwrap();
             assert_eq!(address, stream.local_addr().unwrap());
@@ -197,8 +227,6 @@ mod tests {
             Ok(stream) => stream,
             Err(_) => return,
         };
-        let mut polled = [Polled { descriptor: stream.as_raw_fd(), wanted: WRITES, found: 0 }];
-        wait(&mut polled, Duration::from_secs(5)).unwrap();
-        assert!(polled[0].found & IS_BROKEN != 0 && stream.take_error().unwrap().is_some());
+        assert!(found_at(&stream) & IS_BROKEN != 0 && stream.take_error().unwrap().is_some());
     }
 }

@@ -6,10 +6,10 @@ use crate::filter::{Came, Filter};
 use crate::frames::{framed, Frame, ANSWER, HEAD, LOG, MOST_FRAME, REPORT, TICKET};
 use crate::hub::Hub;
 use crate::inbox::Inboxes;
-use crate::kernels::{At, Kernels};
+use crate::kernels::Kernels;
 use crate::log::{printable, Log};
 use crate::system;
-use crate::wait::{Ready, Waits};
+use crate::wait::{Ready, Token, Waits, Watch};
 use std::io::{self, Read};
 use std::time::{Duration, Instant};
 
@@ -19,17 +19,6 @@ const BUFFER: usize = 256 << 10; // bytes that are read at a time
 pub const STOPPED: u8 = 0; // statuses
 pub const FAILED: u8 = 3;
 
-/// Whose a descriptor is.
-#[derive(Clone, Copy)]
-enum Token {
-    Parent,
-    FilterInput,
-    FilterOutput,
-    /// The listener of other transports, or a connection of that number.
-    Hub(Option<u64>),
-    Kernels(At),
-}
-
 /// The one transport of a process.
 pub struct Transport {
     log: Log,
@@ -38,7 +27,10 @@ pub struct Transport {
     hub: Hub,
     kernels: Option<Kernels>, // a relay's
     ends_with_parent: bool,
-    waits: Waits<Token>,
+    waits: Waits,
+    parent: Watch,
+    input: Watch, // of the filter
+    output: Watch,
     buffer: Vec<u8>,
     parcels: Vec<Parcel>,
     next_tick: Instant,
@@ -47,8 +39,8 @@ pub struct Transport {
 }
 
 impl Transport {
-    pub fn new(log: Log, filter: Filter, hub: Hub, kernels: Option<Kernels>, ends_with_parent: bool) -> Transport {
-        let (waits, now) = (Waits::new(), Instant::now());
+    pub fn new(log: Log, filter: Filter, hub: Hub, kernels: Option<Kernels>, ends_with_parent: bool, waits: Waits) -> Transport {
+        let now = Instant::now();
         Transport {
             log,
             filter,
@@ -57,6 +49,9 @@ impl Transport {
             kernels,
             ends_with_parent,
             waits,
+            parent: Watch::default(),
+            input: Watch::default(),
+            output: Watch::default(),
             buffer: vec![0; BUFFER],
             parcels: Vec::new(),
             next_tick: now + TICK,
@@ -72,7 +67,7 @@ impl Transport {
                 break status;
             }
         };
-        self.filter.end(false);
+        self.end_filter(false);
         status
     }
 
@@ -85,16 +80,17 @@ impl Transport {
                 return Some(self.failed(None));
             }
         }
-        self.add_waits();
-        let most = self.next_tick.saturating_duration_since(Instant::now());
-        if let Err(fault) = self.waits.wait(most) {
-            self.log.news(&format!("it can't wait: {fault}"));
-            return Some(FAILED);
-        }
+        let count = match self.wait() {
+            Ok(count) => count,
+            Err(fault) => {
+                self.log.news(&format!("it can't wait: {fault}"));
+                return Some(FAILED);
+            }
+        };
         if system::is_told_to_end() {
             return Some(STOPPED);
         }
-        (0..self.waits.count()).find_map(|place| {
+        (0..count).find_map(|place| {
             let (token, found) = self.waits.at(place)?;
             self.ready(token, found)
         })
@@ -120,31 +116,37 @@ impl Transport {
         }
     }
 
-    fn add_waits(&mut self) {
-        let waits = &mut self.waits;
-        waits.clear();
-        waits.add(&self.filter.out, Token::FilterOutput, true, false);
-        if let Some(into) = self.filter.into.as_ref().filter(|_| self.filter.has_unsent()) {
-            waits.add(into, Token::FilterInput, false, true);
+    /// Waits until something has come, or a tick is due; tells at how many places.
+    fn wait(&mut self) -> io::Result<usize> {
+        let Transport { filter, waits, hub, kernels, inboxes, .. } = self;
+        waits.set(&mut self.output, &filter.out, Token::FilterOutput, true, false)?;
+        let has_unsent = filter.has_unsent();
+        if let Some(into) = &filter.into {
+            waits.set(&mut self.input, into, Token::FilterInput, false, has_unsent)?;
         }
         if self.ends_with_parent {
-            waits.add(&io::stdin(), Token::Parent, true, false);
+            waits.set(&mut self.parent, &io::stdin(), Token::Parent, true, false)?;
         }
-        self.hub.waits(waits, &self.inboxes, Token::Hub);
-        if let Some(kernels) = &self.kernels {
-            kernels.waits(waits, Token::Kernels);
+        hub.set_waits(waits, inboxes)?;
+        if let Some(kernels) = kernels {
+            kernels.set_waits(waits)?;
         }
+        waits.wait(self.next_tick.saturating_duration_since(Instant::now()))
     }
 
     fn ready(&mut self, token: Token, found: Ready) -> Option<u8> {
         let Transport { hub, kernels, inboxes, log, buffer, .. } = self;
-        match token {
-            Token::Parent => return self.parent_ended().then(|| STOPPED),
-            Token::FilterInput => return if self.filter.send().is_err() { Some(self.failed(None)) } else { None },
-            Token::FilterOutput => return self.take_answer(),
-            Token::Hub(None) => hub.accept(inboxes),
-            Token::Hub(Some(id)) => hub.ready(id, found, buffer, inboxes, log),
-            Token::Kernels(at) => kernels.iter_mut().for_each(|kernels| kernels.ready(at, found, buffer, inboxes)),
+        match (token, kernels) {
+            (Token::Parent, _) => return self.parent_ended().then_some(STOPPED),
+            // where it reads no more, it has no more turns
+            (Token::FilterInput, _) => return if self.filter.send().is_err() || found.is_broken { Some(self.failed(None)) } else { None },
+            (Token::FilterOutput, _) => return self.take_answer(),
+            (Token::Listener, _) => hub.accept(inboxes),
+            (Token::Connection(id), _) => hub.ready(id, found, buffer, inboxes, log),
+            (Token::Door(place), Some(kernels)) => kernels.accept(place),
+            (Token::Datagrams(place), Some(kernels)) => kernels.read_datagrams(place, buffer, inboxes),
+            (Token::Stream(id), Some(kernels)) => kernels.ready(id, found, buffer, inboxes),
+            (_, None) => {}
         }
         None
     }
@@ -158,6 +160,15 @@ impl Transport {
     fn take_answer(&mut self) -> Option<u8> {
         let mut parcels = std::mem::take(&mut self.parcels);
         let came = self.filter.read(&mut self.buffer, &mut parcels);
+        self.hand_out_all(parcels);
+        match came {
+            Came::Nothing | Came::Some => None,
+            Came::End => Some(self.failed(None)),
+            Came::Rubbish => Some(self.failed(Some("what it writes is no answer"))),
+        }
+    }
+
+    fn hand_out_all(&mut self, mut parcels: Vec<Parcel>) {
         parcels.iter().for_each(|parcel| self.hand_out(parcel));
         parcels.clear();
         self.parcels = parcels;
@@ -165,11 +176,16 @@ impl Transport {
         if let Some(kernels) = &mut self.kernels {
             kernels.flush(&mut self.inboxes);
         }
-        match came {
-            Came::Nothing | Came::Some => None,
-            Came::End => Some(self.failed(None)),
-            Came::Rubbish => Some(self.failed(Some("what it writes is no answer"))),
+    }
+
+    /// Ends the filter where it has not ended yet, and brings its last answer to whom it is for.
+    fn end_filter(&mut self, by_force: bool) -> String {
+        let mut parcels = Vec::new();
+        let how = self.filter.end(by_force, &mut self.buffer, &mut parcels);
+        if !by_force {
+            self.hand_out_all(parcels);
         }
+        how
     }
 
     /// Brings a frame to its receiver; to one that isn't there, to nobody.
@@ -179,9 +195,9 @@ impl Transport {
             return self.log.tell(&format!("its filter sent a frame of kind {} and {} bytes: dropped", parcel.kind(), frame.len() - HEAD));
         }
         match (to, parcel.kind()) {
-            (To::Replicas, _) => self.hub.to_replicas(frame),
-            (To::Replica, _) => self.hub.to_replica(*number, frame),
-            (To::Client, _) => self.hub.to_client(*number, frame),
+            (To::Replicas, _) => self.hub.send_to_replicas(frame),
+            (To::Replica, _) => self.hub.send_to_replica(*number, frame),
+            (To::Client, _) => self.hub.send_to_client(*number, frame),
             (To::Operator, LOG) => self.log.tell(&printable(parcel.payload())),
             (To::Operator, REPORT) => {
                 let report: Frame = framed(REPORT, &[parcel.payload(), self.filter.report().as_bytes()]).into();
@@ -198,7 +214,7 @@ impl Transport {
 
     /// The filter has ended, or is ended for a reason. What was told to end may have ended it, too.
     fn failed(&mut self, why: Option<&str>) -> u8 {
-        let how = self.filter.end(why.is_some());
+        let how = self.end_filter(why.is_some());
         if system::is_told_to_end() {
             return STOPPED;
         }

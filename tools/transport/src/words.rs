@@ -44,7 +44,9 @@ impl Words {
         }
         let role = match (&*name, &*numbers, address) {
             ("replica", [number], None) if (*number as usize) < replicas.len() => Role::Replica { number: *number as usize },
-            ("relay", [first, count], Some(address)) if *count > 0 && !replicas.is_empty() => Role::Relay { first: *first, count: *count, address, port_mapper },
+            ("relay", [first, count], Some(address)) if *count > 0 && !replicas.is_empty() => {
+                Role::Relay { first: *first, count: *count, address, port_mapper }
+            }
             _ => return None,
         };
         Some(Words { role, replicas, ends_with_parent, program: words.next()?, filter_words: words.collect() })
@@ -67,7 +69,16 @@ mod tests {
         let relay = read("relay 4 2 --replicas a:1 --listen c:3 -- filter").unwrap();
         assert_eq!(relay.role, Role::Relay { first: 4, count: 2, address: "c:3".to_string(), port_mapper: None });
         assert!(!relay.ends_with_parent && relay.filter_words.is_empty());
-        for wrong in ["", "replica", "replica 1 --replicas a:1 -- f", "replica 0 --replicas a:1 --", "replica 0 -- f", "relay 0 0 --replicas a:1 --listen b:2 -- f", "relay 0 1 --replicas a:1 -- f", "relay x 1 -- f"] {
+        for wrong in [
+            "",
+            "replica",
+            "replica 1 --replicas a:1 -- f",
+            "replica 0 --replicas a:1 --",
+            "replica 0 -- f",
+            "relay 0 0 --replicas a:1 --listen b:2 -- f",
+            "relay 0 1 --replicas a:1 -- f",
+            "relay x 1 -- f",
+        ] {
             assert_eq!(read(wrong), None, "{wrong}");
         }
     }
