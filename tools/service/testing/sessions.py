@@ -174,6 +174,13 @@ def returned(service):
     until(lambda: service.log.read_text().count("replica 0: replica 3 is connected") > 1, "it is connected")
     Session(service, "third", 2).end()  # more batches than two checkpoints have
     same(service, range(4))
+
+
+def needed(service):
+    """The primary is killed with -9: the one that has come back is needed now, and calls go on."""
+    kill(service, "replica", "0")
+    Session(service, "fourth").end()
+    same(service, range(1, 4))
     end(service)
 
 
