@@ -97,8 +97,8 @@ class Thrower:
         return self.signer.for_replicas(struct.pack(">II", tag, LIAR) + view + struct.pack(">Q", self.number()) + digest)
 
     def changed(self, true):
-        """A true payload, or one with bytes changed, cut or added; one of those that its sender has signed among them. Where those alone were true, who passes it
-        on could stop the service (docs/THREATS.md)."""
+        """A true payload, or one with bytes changed, cut or added, one of those that its sender has signed among them. Who spoils the keyed hashes alone, of
+        some receivers, can stop the service (docs/THREATS.md)."""
         data = bytearray(true)
         if len(data) < SIGNED[1] or self.words.randrange(8) == 0:
             return true
@@ -142,7 +142,7 @@ class Caller:
             self.xid += 1
             handle = self.words.choice((ROOT, ROOT, ROOT[:11] + self.words.randbytes(1) + ROOT[12:], self.words.randbytes(32)))
             name = text(self.words.choice((b"..", b"x", b"y", self.words.randbytes(self.words.choice((0, 1, 8, 255, 256))))))
-            rest = struct.pack(">I", self.words.choice(EDGES)) * 8 if self.words.randrange(2) else self.words.randbytes(self.words.choice((0, 4, 36, 1_000, 8_192)))
+            rest = self.words.choice((struct.pack(">I", self.words.choice(EDGES)) * 8, self.words.randbytes(self.words.choice((0, 4, 36, 1_000, 8_192)))))
             program, version = self.words.choice(((NFS, 2), (NFS, 2), (NFS, 2), (NFS, 3), (MOUNT, 1)))
             head = struct.pack(">6I7I2I", self.xid, 0, 2, program, version, self.words.randrange(20), 1, 20, 0, 0, self.words.choice((0, 1)), 0, 0, 0, 0)
             records.append(marked(head + self.words.choice((handle + name + rest, handle + name + handle + name, handle + rest))))

@@ -7,8 +7,9 @@ from service.testing.running import Failed
 
 def install(*names):
     """Installs those that are missing."""
-    state = subprocess.run(["dpkg-query", "-W", "-f=${db:Status-Abbrev}${Package}\n", *names], stdout=subprocess.PIPE, stderr=subprocess.DEVNULL, text=True).stdout
-    missing = [name for name in names if f"ii {name}" not in state.splitlines()]
+    question = ["dpkg-query", "-W", "-f=${db:Status-Abbrev}${Package}\n", *names]
+    states = subprocess.run(question, stdout=subprocess.PIPE, stderr=subprocess.DEVNULL, text=True).stdout.splitlines()
+    missing = [name for name in names if f"ii {name}" not in states]
     if missing:
         print(f"installs {', '.join(missing)}")
         environment = {**os.environ, "DEBIAN_FRONTEND": "noninteractive"}

@@ -184,6 +184,23 @@ def needed(service):
     end(service)
 
 
+def returned_quietly(service):
+    """Replica 3 is started again while calls are few, so that no checkpoint comes; then another one is killed, and it is needed."""
+    service.up()
+    Session(service, "first").end()
+    kill(service, "replica", "3")
+    service.start("replica", "3")
+    kernel = Kernel(service.relay)
+    handle = kernel.make(b"slowly")
+    for number in range(8):
+        kernel.write(handle, 0, b"%d" % number)
+        time.sleep(0.5)
+    kill(service, "replica", "1")
+    Session(service, "second").end()
+    same(service, (0, 2, 3))
+    end(service)
+
+
 def killed_primary(service):
     """The primary is killed with -9 within a session: that goes on in the next view."""
     service.up()
