@@ -3,6 +3,7 @@ use Rattle.std.specs.Prelude.{ℕ, List, [], ◌∷◌, ◌++◌}
 use Rattle.bfs_model.specs.Bytes.Formats.{list_text}
 use Rattle.bfs_model.specs.Bytes.Items.{hyper}
 use Rattle.bfs_frames.specs.Frames.{frame_text, raw_frame}
+use Rattle.bfs_frames.specs.declared.kind.Kind.{Kind}
 use Rattle.bfs_frames.specs.declared.parcels.Parcel.{Parcel}
 use Rattle.bfs_frames.specs.declared.parcels.To.{To}
 use Rattle.bfs_frames.specs.declared.parcels.To.TheVariants.{Replicas, Replica, Client, Operator, Caller}
@@ -28,3 +29,12 @@ parcel_text parcel = place_of parcel.to ∷ [] ++ hyper (number_of parcel.to) ++
 -- how many parcels there are, and they
 abbrev pub answer_text : List Parcel → List ℕ
 answer_text parcels = list_text parcel_text parcels
+
+-- what a parcel tells, and whom
+pub record Told : Type 0 where
+  pub to : To
+  pub kind : Kind
+  pub payload : List ℕ
+
+abbrev pub told_by : Parcel → Told
+told_by parcel = record { to = parcel.to; kind = parcel.frame.kind; payload = parcel.frame.payload.items }

@@ -29,8 +29,8 @@ pub struct Limits {
 }
 
 impl Limits {
-    /// Room for every REQUEST, REPLY, call and answer, for PRE-PREPAREs whose batches have texts of a mebibyte, and for VIEW-CHANGEs of 64 MiB, which hold
-    /// 32 such batches. The other limits are a choice: NEW-VIEWs of 256 MiB do for seven replicas with full logs, so larger clusters set more.
+    /// Room for every REQUEST, REPLY, call and answer, for PRE-PREPAREs whose batches have texts of a mebibyte, for VIEW-CHANGEs and NEW-VIEWs of 64 MiB, and for
+    /// pieces of a state of two mebibytes. The latter are a choice: 64 MiB is the most that transports carry.
     pub fn new() -> Limits
         ensures request { result.request ≡ 24 + most_request_bytes + 32 * most_replicas }
         ensures reply { result.reply ≡ 36 + most_reply_bytes + 32 * most_replicas }
@@ -41,11 +41,11 @@ impl Limits {
             request: 20 + MOST_REQUEST_BYTES as u32 + HASHES,
             order: 56 + HASHES + MEBIBYTE,
             view_change: 64 * MEBIBYTE,
-            new_view: 256 * MEBIBYTE,
+            new_view: 64 * MEBIBYTE,
             reply: 32 + MOST_REPLY_BYTES as u32 + HASHES,
             status: 2_048,
             ask_state: 2_048,
-            state: 1_024 * MEBIBYTE,
+            state: 2 * MEBIBYTE,
             ask_report: 2_048,
             report: MEBIBYTE,
             call: 8 + MOST_REQUEST_BYTES as u32,

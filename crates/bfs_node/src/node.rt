@@ -21,6 +21,7 @@ use crate::error::NodeError;
 use bfs_auth::{Keys, Principal, derived_keys_are_of_replicas};
 use bfs_checkpoints::{AdoptError, Snapshots, StableSnapshot, digest_node, read_node};
 use bfs_log::faults_of;
+use bfs_messages::{Request, Signed};
 use bfs_order::Order;
 use bfs_pending::PendingRequests;
 use bfs_replies::{Class, ReplyTable};
@@ -215,6 +216,13 @@ impl Node {
         ensures within { result ≤ most_requests }
     {
         self.pending.len()
+    }
+
+    /// The requests that wait to be ordered, in the order in which they came. Each has passed, so its client has signed it for this replica.
+    pub fn waiting(&self) -> &[Signed<Request>]
+        ensures { result.now ≡ self.now.pending }
+    {
+        self.pending.as_slice()
     }
 
     /// What a request of that client and timestamp is to the client's last one that was executed here: `Class::New` where it has not been executed.

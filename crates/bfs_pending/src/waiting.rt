@@ -67,6 +67,13 @@ impl PendingRequests {
         self.requests.len() as u32
     }
 
+    /// Those that wait, in the order in which they came.
+    pub fn as_slice(&self) -> &[Signed<Request>]
+        ensures { result.now ≡ self.now }
+    {
+        self.requests.as_slice()
+    }
+
     /// Whether as many wait as a batch can have.
     pub fn is_full(&self) -> bool
         ensures { result ≡ nat_le most_requests (length self.now) }

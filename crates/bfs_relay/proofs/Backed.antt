@@ -15,7 +15,8 @@ use Rattle.bfs_clients.specs.Counters.{counted_call}
 use Rattle.bfs_clients.specs.Tallies.{Tally, agreed, no_replies, tallied_by, tally_of}
 use Rattle.bfs_clients.specs.declared.clients.Call as client
 use Rattle.bfs_relay.specs.Origins.{Came, HasOrigin, IsAgreed, IsOwn, IsRequest, IsSignedFor}
-use Rattle.bfs_relay.specs.Parcels.{Told, reply_told, request_told}
+use Rattle.bfs_frames.specs.Parcels.{Told}
+use Rattle.bfs_relay.specs.Parcels.{reply_told, request_told}
 use Rattle.bfs_relay.specs.Relays.{called}
 use Rattle.bfs_relay.specs.Seats.{Call, Outstanding, Seat, begun, counted, is_due, most_patience, outstanding, seat_with, sent_again, settled, still_waits, told_again, told_agreed, told_settling, told_with}
 

@@ -15,7 +15,7 @@ use Rattle.bfs_messages.specs.Spelling.{signed_text}
 use Rattle.bfs_messages.specs.declared.message.Message.{Message}
 use Rattle.bfs_messages.specs.declared.signed.Signed.{Signed}
 use Rattle.bfs_relay.specs.OwnReplies.{own_reply}
-use Rattle.bfs_relay.specs.Parcels.{Told}
+use Rattle.bfs_frames.specs.Parcels.{Told}
 use Rattle.bfs_relay.specs.Relays.{Relay}
 use Rattle.bfs_relay.specs.Seats.{Call}
 use Rattle.bfs_relay.specs.Turns.{new_relay, reply_in, turned}

@@ -3,18 +3,8 @@ use Rattle.std.specs.Prelude.{ℕ, List, [], ◌∷◌, ◌++◌, length, codes,
 use Rattle.bfs_model.specs.Bytes.Items.{hyper}
 use Rattle.bfs_frames.specs.declared.kind.Kind.{Kind}
 use Rattle.bfs_frames.specs.declared.kind.Kind.TheVariants.{Request, Answer, Log}
-use Rattle.bfs_frames.specs.declared.parcels.Parcel.{Parcel}
-use Rattle.bfs_frames.specs.declared.parcels.To.{To}
+use Rattle.bfs_frames.specs.Parcels.{Told}
 use Rattle.bfs_frames.specs.declared.parcels.To.TheVariants.{Replicas, Operator, Caller}
-
-pub record Told : Type 0 where
-  pub to : To
-  pub kind : Kind
-  pub payload : List ℕ
-
--- a parcel of the code
-abbrev pub told_by : Parcel → Told
-told_by parcel = record { to = parcel.to; kind = parcel.frame.kind; payload = parcel.frame.payload.items }
 
 -- a request's text
 abbrev pub request_told : (text : List ℕ) → Told

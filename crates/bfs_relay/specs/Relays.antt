@@ -5,7 +5,8 @@ use Rattle.bfs_clients.specs.Clients.{Clients}
 use Rattle.bfs_messages.specs.declared.message.Message.{Message}
 use Rattle.bfs_messages.specs.declared.message.Message.TheVariants.{Reply}
 use Rattle.bfs_messages.specs.declared.signed.Signed.{Signed}
-use Rattle.bfs_relay.specs.Parcels.{Told, dropped_told}
+use Rattle.bfs_frames.specs.Parcels.{Told}
+use Rattle.bfs_relay.specs.Parcels.{dropped_told}
 use Rattle.bfs_relay.specs.Seats.{Call, Seat, asked_again, begun, heard, is_free, is_of, is_past, second, told_asking, told_beginning, told_hearing}
 
 pub record Relay : Type 0 where

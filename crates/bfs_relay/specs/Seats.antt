@@ -8,7 +8,8 @@ use Rattle.bfs_clients.specs.declared.clients.Call as client
 use Rattle.bfs_messages.specs.Spelling.{signed_text}
 use Rattle.bfs_messages.specs.declared.message.Message.{Message}
 use Rattle.bfs_messages.specs.declared.signed.Signed.{Signed}
-use Rattle.bfs_relay.specs.Parcels.{Told, reply_told, request_told}
+use Rattle.bfs_frames.specs.Parcels.{Told}
+use Rattle.bfs_relay.specs.Parcels.{reply_told, request_told}
 
 -- a call that came, and by what its caller knows the reply
 pub record Call : Type 0 where

@@ -1,5 +1,6 @@
 ghost use Rattle.std.specs.Prelude.{◌≡◌, [], ◌∷◌, ◌++◌, map, OnOk};
-ghost use Rattle.bfs_relay.specs.Parcels.{dropped_line, dropped_told, reply_told, request_told, told_by};
+ghost use Rattle.bfs_frames.specs.Parcels.{told_by};
+ghost use Rattle.bfs_relay.specs.Parcels.{dropped_line, dropped_told, reply_told, request_told};
 
 use bfs_frames::{Frame, Kind, Parcel, To};
 use bfs_types::Memory;
@@ -16,7 +17,7 @@ pub(crate) struct Parcels {
 
 impl Model for Parcels {
     ghost use Rattle.std.specs.Prelude.{List, map};
-    ghost use Rattle.bfs_relay.specs.Parcels.{Told, told_by};
+    ghost use Rattle.bfs_frames.specs.Parcels.{Told, told_by};
 
     ghost Value = { List Told };
 

@@ -2,7 +2,7 @@ ghost use Rattle.std.specs.Prelude.{◌≡◌, ◌++◌, [], map, option_to_list
 ghost use Rattle.std.specs.List.{filter_map};
 ghost use Rattle.bfs_model.specs.Bytes.Items.{hyper_at};
 ghost use Rattle.bfs_codec.specs.Reading.{message_of};
-ghost use Rattle.bfs_relay.specs.Parcels.{told_by};
+ghost use Rattle.bfs_frames.specs.Parcels.{told_by};
 ghost use Rattle.bfs_relay.specs.Turns as model;
 
 use crate::own_replies::own_reply;

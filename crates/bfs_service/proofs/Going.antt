@@ -1,68 +1,93 @@
 -- A node goes on by steps.
-use Rattle.std.proofs.Common.{◌≡◌, ◌≢◌, ◌∙◌, List, [], ◌∷◌, ◌++◌, Result, Ok, Err, inl, inr, refl, sym, ap, subst, append-nil}
+use Rattle.std.proofs.Common.{◌≡◌, ◌≢◌, ◌∙◌, List, [], ◌∷◌, ◌++◌, Result, Ok, Err, refl, sym, ap, subst, append-nil}
+use Rattle.std.proofs.lemmas.List.Sums.{fold-append}
 use Rattle.bfs_agreement.specs.Histories.{IsIn}
-use Rattle.bfs_node.specs.Nodes.{Node}
+use Rattle.bfs_node.specs.Nodes.{Messages, Node}
 use Rattle.bfs_node.specs.declared.error.NodeError.{NodeError}
 use Rattle.bfs_node.specs.declared.error.NodeError.TheVariants.{Memory}
 use Rattle.bfs_nodes_agree.proofs.Public.{both_in, none_in, one_in}
 use Rattle.bfs_nodes_agree.specs.Nodes.Performing.{Performs, messages_in}
-use Rattle.bfs_nodes_agree.specs.Nodes.Steps.{NodeStep, Delivers, Takes, TakesRequests, Proposes, Executes, Checkpoints, TimesOut, Adopts, outcome}
+use Rattle.bfs_nodes_agree.specs.Nodes.Steps.{NodeStep, Delivers, Takes, TakesRequests, Proposes, Executes, Checkpoints, TimesOut, Adopts, outcome, still}
 use Rattle.bfs_nodes_agree.specs.declared.node_calls.performing.NodeCall.{NodeCall}
 use Rattle.bfs_nodes_agree.specs.declared.node_calls.performing.NodeCall.TheVariants as code
 use Rattle.bfs_nodes_agree.specs.declared.node_calls.performing.Sent.{Sent}
-use Rattle.bfs_service.specs.Acting.{Acting, GoesOn, IsExecution, IsStepOf, after_step, after_steps}
+use Rattle.bfs_model.specs.Server.Tree.{Time}
+use Rattle.bfs_service.specs.Acting.{Acting, GoesOn, IsAdoption, IsAfter, IsOwn, IsOwnCall, IsTaking, after_step, after_steps}
 
--- One call ------------------------------------------------------------------------------------------------------------------
-
-taken : (node : Node) (call : NodeCall) (sent : Sent) (now : Node) → Performs node call (Ok sent) now → (step : NodeStep) × IsStepOf call step × (outcome node step ≡ record { now = now; sent = messages_in sent })
-taken node (code.Deliver bytes) sent now is = (Delivers bytes.now, refl, is)
-taken node (code.Take signed) sent now is = (Takes signed, refl, is)
-taken node (code.TakeRequests messages) sent now is = (TakesRequests messages.now, refl, is)
-taken node (code.TakeRequestsFor time messages) sent now is = (TakesRequests messages.now, refl, is)
-taken node (code.Propose time) sent now is = (Proposes time, refl, is)
-taken node code.Execute sent now is = (Executes, refl, is)
-taken node code.Checkpoint sent now is = (Checkpoints, refl, is)
-taken node code.TimeOut sent now is = (TimesOut, refl, is)
-taken node (code.Adopt text certificate) sent now is = (Adopts certificate.now is.0 is.1, (is.0, is.1, refl), is.3)
-
-pub refused : (node : Node) (call : NodeCall) (e : NodeError) (now : Node) → e ≢ Memory → Performs node call (Err e) now → now ≡ node
-refused node (code.Deliver bytes) e now other is = (is.1 other).0
-refused node (code.Take signed) e now other is = (is.1 other).0
-refused node (code.TakeRequests messages) e now other is = (is.1 other).0
-refused node (code.TakeRequestsFor time messages) e now other is = (is.1 other).0
-refused node (code.Propose time) e now other is = (is.1 other).0
-refused node code.Execute e now other is = (is.1 other).0
-refused node code.Checkpoint e now other is = (is.1 other).0
-refused node code.TimeOut e now other is = (is.1 other).0
-refused node (code.Adopt text certificate) e now other is = is
-
-pub goes_by : (acting : Acting) (call : NodeCall) (sent : Sent) (now : Node) → Performs acting.node call (Ok sent) now → GoesOn (IsStepOf call) acting (record { node = now; sent = acting.sent ++ messages_in sent })
-goes_by acting call sent now is =
-    let step = taken acting.node call sent now is in
-    record {
-      steps = step.0 ∷ [];
-      each = one_in (IsStepOf call) step.0 step.1;
-      after_is = ap (λ out. record { node = out.now; sent = acting.sent ++ out.sent }) (sym step.2);
-    }
+-- One step ------------------------------------------------------------------------------------------------------------------
 
 pub goes_nowhere : (P : NodeStep → Type 0) (acting : Acting) → GoesOn P acting acting
 goes_nowhere P acting = record { steps = []; each = none_in P; after_is = refl }
 
--- Calls one after another -----------------------------------------------------------------------------------------------------
+pub goes_by_one : (P : NodeStep → Type 0) (before after : Acting) (step : NodeStep) → P step → after ≡ after_step before step → GoesOn P before after
+goes_by_one P before after step so is = record { steps = step ∷ []; each = one_in P step so; after_is = is }
 
-steps_both : (acting : Acting) (one other : List NodeStep) → after_steps acting (one ++ other) ≡ after_steps (after_steps acting one) other
-steps_both acting [] other = refl
-steps_both acting (step ∷ one) other = steps_both (after_step acting step) one other
+-- One call ------------------------------------------------------------------------------------------------------------------
+
+with_sent : (acting : Acting) (step : NodeStep) (sent : Sent) (now : Node) → outcome acting.node step ≡ record { now = now; sent = messages_in sent }
+    → record { node = now; sent = acting.sent ++ messages_in sent } ≡ after_step acting step
+with_sent acting step sent now is = ap (λ out. record { node = out.now; sent = acting.sent ++ out.sent }) (sym is)
+
+-- a call that is taken
+pub taken : (acting : Acting) (call : NodeCall) (sent : Sent) (now : Node) → Performs acting.node call (Ok sent) now
+    → IsAfter call acting (record { node = now; sent = acting.sent ++ messages_in sent })
+taken acting (code.Deliver bytes) sent now is = with_sent acting (Delivers bytes.now) sent now is
+taken acting (code.Take signed) sent now is = with_sent acting (Takes signed) sent now is
+taken acting (code.TakeRequests messages) sent now is = with_sent acting (TakesRequests messages.now) sent now is
+taken acting (code.TakeRequestsFor time messages) sent now is = with_sent acting (TakesRequests messages.now) sent now is
+taken acting (code.Propose time) sent now is = with_sent acting (Proposes time) sent now is
+taken acting code.Execute sent now is = with_sent acting Executes sent now is
+taken acting code.Checkpoint sent now is = with_sent acting Checkpoints sent now is
+taken acting code.TimeOut sent now is = with_sent acting TimesOut sent now is
+taken acting (code.Adopt text certificate) sent now is =
+    let step = Adopts certificate.now is.0 is.1 in
+    goes_by_one (IsAdoption certificate.now) acting (record { node = now; sent = acting.sent ++ messages_in sent }) step (is.0, is.1, refl) (with_sent acting step sent now is.3)
+
+without_sent : (acting : Acting) (step : NodeStep) (now : Node) → now ≡ acting.node → outcome acting.node step ≡ still acting.node
+    → record { node = now; sent = acting.sent } ≡ after_step acting step
+without_sent acting step now same is =
+    ap (λ (n : Node). record { node = n; sent = acting.sent }) same
+    ∙ ap (λ sent. record { node = acting.node; sent = sent }) (sym (append-nil acting.sent))
+    ∙ ap (λ out. record { node = out.now; sent = acting.sent ++ out.sent }) (sym is)
+
+-- a call that is refused
+pub refused : (acting : Acting) (call : NodeCall) (e : NodeError) (now : Node) → e ≢ Memory → Performs acting.node call (Err e) now
+    → IsAfter call acting (record { node = now; sent = acting.sent })
+refused acting (code.Deliver bytes) e now other is = without_sent acting (Delivers bytes.now) now (is.1 other).0 (is.1 other).1
+refused acting (code.Take signed) e now other is = without_sent acting (Takes signed) now (is.1 other).0 (is.1 other).1
+refused acting (code.TakeRequests messages) e now other is = without_sent acting (TakesRequests messages.now) now (is.1 other).0 (is.1 other).1
+refused acting (code.TakeRequestsFor time messages) e now other is = without_sent acting (TakesRequests messages.now) now (is.1 other).0 (is.1 other).1
+refused acting (code.Propose time) e now other is = without_sent acting (Proposes time) now (is.1 other).0 (is.1 other).1
+refused acting code.Execute e now other is = without_sent acting Executes now (is.1 other).0 (is.1 other).1
+refused acting code.Checkpoint e now other is = without_sent acting Checkpoints now (is.1 other).0 (is.1 other).1
+refused acting code.TimeOut e now other is = without_sent acting TimesOut now (is.1 other).0 (is.1 other).1
+refused acting (code.Adopt text certificate) e now other is =
+    subst (λ (n : Node). GoesOn (IsAdoption certificate.now) acting (record { node = n; sent = acting.sent })) (sym is) (goes_nowhere (IsAdoption certificate.now) acting)
+
+-- Calls one after another -----------------------------------------------------------------------------------------------------
 
 pub goes_both : (P : NodeStep → Type 0) (first next last : Acting) → GoesOn P first next → GoesOn P next last → GoesOn P first last
 goes_both P first next last one other = record {
   steps = one.steps ++ other.steps;
   each = both_in P one.steps other.steps one.each other.each;
-  after_is = other.after_is ∙ ap (λ (a : Acting). after_steps a other.steps) one.after_is ∙ sym (steps_both first one.steps other.steps);
+  after_is = other.after_is ∙ ap (λ (a : Acting). after_steps a other.steps) one.after_is ∙ sym (fold-append after_step first one.steps other.steps);
 }
 
 pub goes_as : (P Q : NodeStep → Type 0) (first last : Acting) → ((step : NodeStep) → P step → Q step) → GoesOn P first last → GoesOn Q first last
 goes_as P Q first last so goes = record { steps = goes.steps; each = λ step i. so step (goes.each step i); after_is = goes.after_is }
 
-pub by_itself : (first next : Acting) (call : NodeCall) → ((step : NodeStep) → IsStepOf call step → IsExecution step) → GoesOn (IsStepOf call) first next → GoesOn IsExecution first next
-by_itself first next call so goes = goes_as (IsStepOf call) IsExecution first next so goes
+-- a call that it makes of itself
+pub own_goes : (time : Time) (call : NodeCall) (before after : Acting) → IsOwnCall time call → IsAfter call before after → GoesOn (IsOwn time) before after
+own_goes time (code.Deliver bytes) before after own is = absurd own
+own_goes time (code.Take signed) before after own is = absurd own
+own_goes time (code.TakeRequests messages) before after own is = absurd own
+own_goes time (code.TakeRequestsFor t messages) before after own is = absurd own
+own_goes time (code.Propose t) before after own is = goes_by_one (IsOwn time) before after (Proposes t) own is
+own_goes time code.Execute before after own is = goes_by_one (IsOwn time) before after Executes tt is
+own_goes time code.Checkpoint before after own is = goes_by_one (IsOwn time) before after Checkpoints tt is
+own_goes time code.TimeOut before after own is = goes_by_one (IsOwn time) before after TimesOut tt is
+own_goes time (code.Adopt text certificate) before after own is =
+    goes_as (IsAdoption certificate.now) (IsOwn time) before after (λ step adopts. subst (IsOwn time) (sym adopts.2) tt) is
+
+pub taking_goes : (messages : Messages) (before after : Acting) → after ≡ after_step before (TakesRequests messages) → GoesOn IsTaking before after
+taking_goes messages before after is = goes_by_one IsTaking before after (TakesRequests messages) tt is

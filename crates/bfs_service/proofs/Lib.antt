@@ -1,3 +1,4 @@
 -- What proofs share.
+pub mod Folding
 pub mod Going
-pub mod Frames
+pub mod Processes

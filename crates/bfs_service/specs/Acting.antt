@@ -1,15 +1,15 @@
 -- What a replica does in one go: calls of its node, which are steps of which agreement is proved.
-use Rattle.std.specs.Prelude.{◌≡◌, ℕ, List, [], ◌∷◌, ◌++◌, ◌⊎◌}
-use Rattle.bfs_model.specs.Server.Tree.{FileSystem}
+use Rattle.std.specs.Prelude.{◌≡◌, ℕ, Bool, true, false, List, [], ◌∷◌, ◌++◌, fold, if◌then◌else◌}
+use Rattle.bfs_model.specs.Server.Tree.{FileSystem, Time}
 use Rattle.bfs_agreement.specs.Histories.{IsIn}
+use Rattle.bfs_log.specs.Certificates.{StableCheckpoint}
 use Rattle.bfs_replies.specs.Tables.{Table}
 use Rattle.bfs_node.specs.Nodes.{Messages, Node}
-use Rattle.bfs_frames.specs.declared.frames.Frame.{Frame}
 use Rattle.bfs_nodes_agree.specs.Nodes.Steps.{NodeStep, Delivers, Takes, TakesRequests, Proposes, Executes, Checkpoints, TimesOut, Adopts, outcome}
 use Rattle.bfs_nodes_agree.specs.declared.node_calls.performing.NodeCall.{NodeCall}
 use Rattle.bfs_nodes_agree.specs.declared.node_calls.performing.NodeCall.TheVariants as code
 
--- a node, and what its calls gave to be sent so far
+-- a node, and what its calls gave to be sent and nobody was told yet
 pub record Acting : Type 0 where
   pub node : Node
   pub sent : Messages
@@ -19,8 +19,7 @@ after_step acting step = record { node = (outcome acting.node step).now; sent = 
 
 -- one step after another
 abbrev pub after_steps : Acting → List NodeStep → Acting
-after_steps acting [] = acting
-after_steps acting (step ∷ steps) = after_steps (after_step acting step) steps
+after_steps acting steps = fold after_step acting steps
 
 -- it went on by steps of that sort, and nothing else
 pub record GoesOn (P : NodeStep → Type 0) (before after : Acting) : Type 0 where
@@ -28,22 +27,41 @@ pub record GoesOn (P : NodeStep → Type 0) (before after : Acting) : Type 0 whe
   pub each : (step : NodeStep) → IsIn step steps → P step
   pub after_is : after ≡ after_steps before steps
 
--- the step that a call is, where it is taken; of an adoption, with what the text spells
-abbrev pub IsStepOf : NodeCall → NodeStep → Type 0
-IsStepOf (code.Deliver bytes) step = step ≡ Delivers bytes.now
-IsStepOf (code.Take signed) step = step ≡ Takes signed
-IsStepOf (code.TakeRequests messages) step = step ≡ TakesRequests messages.now
-IsStepOf (code.TakeRequestsFor time messages) step = step ≡ TakesRequests messages.now
-IsStepOf (code.Propose time) step = step ≡ Proposes time
-IsStepOf code.Execute step = step ≡ Executes
-IsStepOf code.Checkpoint step = step ≡ Checkpoints
-IsStepOf code.TimeOut step = step ≡ TimesOut
-IsStepOf (code.Adopt text certificate) step = (files : FileSystem) × (table : Table) × (step ≡ Adopts certificate.now files table)
+-- an adoption by that certificate, whatever the text spells
+abbrev pub IsAdoption : StableCheckpoint → NodeStep → Type 0
+IsAdoption certificate step = (files : FileSystem) × (table : Table) × (step ≡ Adopts certificate files table)
 
--- what a replica does by itself: it executes a batch, or makes a checkpoint
-abbrev pub IsExecution : NodeStep → Type 0
-IsExecution step = (step ≡ Executes) ⊎ (step ≡ Checkpoints)
+-- a call that isn't refused for want of memory is the step, which changes nothing where it is refused
+abbrev pub IsAfter : NodeCall → Acting → Acting → Type 0
+IsAfter (code.Deliver bytes) before after = after ≡ after_step before (Delivers bytes.now)
+IsAfter (code.Take signed) before after = after ≡ after_step before (Takes signed)
+IsAfter (code.TakeRequests messages) before after = after ≡ after_step before (TakesRequests messages.now)
+IsAfter (code.TakeRequestsFor time messages) before after = after ≡ after_step before (TakesRequests messages.now)
+IsAfter (code.Propose time) before after = after ≡ after_step before (Proposes time)
+IsAfter code.Execute before after = after ≡ after_step before Executes
+IsAfter code.Checkpoint before after = after ≡ after_step before Checkpoints
+IsAfter code.TimeOut before after = after ≡ after_step before TimesOut
+IsAfter (code.Adopt text certificate) before after = GoesOn (IsAdoption certificate.now) before after
 
--- a frame's payload is delivered
-abbrev pub IsDeliveryOf : List Frame → NodeStep → Type 0
-IsDeliveryOf frames step = (frame : Frame) × IsIn frame frames × (step ≡ Delivers frame.payload.items)
+-- REQUESTs are taken
+abbrev pub IsTaking : NodeStep → Type 0
+IsTaking (TakesRequests messages) = Unit {0}
+IsTaking _ = ⊥
+
+-- what a replica does of itself at a time: it executes a batch, makes a checkpoint, proposes at that time, times out, or adopts a state
+abbrev pub IsOwn : Time → NodeStep → Type 0
+IsOwn time (Proposes t) = t ≡ time
+IsOwn time Executes = Unit {0}
+IsOwn time Checkpoints = Unit {0}
+IsOwn time TimesOut = Unit {0}
+IsOwn time (Adopts certificate files table) = Unit {0}
+IsOwn time _ = ⊥
+
+-- a call by which it does so
+abbrev pub IsOwnCall : Time → NodeCall → Type 0
+IsOwnCall time (code.Propose t) = t ≡ time
+IsOwnCall time code.Execute = Unit {0}
+IsOwnCall time code.Checkpoint = Unit {0}
+IsOwnCall time code.TimeOut = Unit {0}
+IsOwnCall time (code.Adopt text certificate) = Unit {0}
+IsOwnCall time _ = ⊥

@@ -2,8 +2,9 @@
 ghost use Rattle.std.specs.Prelude.{◌≡◌, ◌≢◌, [], OnOk};
 ghost use Rattle.bfs_node.specs.declared.error.NodeError.TheVariants as errors;
 ghost use Rattle.bfs_nodes_agree.specs.Nodes.Steps as steps;
-ghost use Rattle.bfs_service.specs.Acting.{GoesOn, IsExecution, IsStepOf};
+ghost use Rattle.bfs_service.specs.Acting.{GoesOn, IsAfter, IsOwn, IsOwnCall, IsTaking, after_step};
 
+use bfs_log::StableCheckpoint;
 use bfs_messages::{Message, Signed};
 use bfs_node::{Executor, NoGate, Node, NodeError};
 use bfs_nodes_agree::node_calls::performing::{NodeCall, Sent, perform};
@@ -59,58 +60,112 @@ impl Actor {
         std::mem::replace(&mut self.sent, Vec::new(alloc))
     }
 
-    /// Bytes come. Whether they were taken.
-    pub(crate) fn deliver<R: Threads + Wait + Sync>(&mut self, rt: &R, bytes: &[u8]) -> Result<bool, Memory>
-        ensures { OnOk result (GoesOn (λ step. step ≡ steps.Delivers bytes.now) self.old self.new) }
+    /// Bytes come.
+    pub(crate) fn deliver<R: Threads + Wait + Sync>(
+        &mut self,
+        rt: &R,
+        bytes: &[u8],
+    ) -> Result<(), Memory>
+        ensures { OnOk result (self.new ≡ after_step self.old (steps.Delivers bytes.now)) }
     {
-        self.act(rt, NodeCall::Deliver(bytes))
+        self.act(rt, NodeCall::Deliver(bytes))?;
+        Ok(())
     }
 
     /// REQUESTs come, before it may propose at that time.
+    #[tactic(auto, using(crate::proofs::Going::taking_goes))]
     pub(crate) fn take_requests<R: Threads + Wait + Sync>(
         &mut self,
         rt: &R,
         time: Time,
         requests: &[Signed<Message>],
     ) -> Result<(), Memory>
-        ensures { OnOk result (GoesOn (λ step. step ≡ steps.TakesRequests requests.now) self.old self.new) }
+        ensures { OnOk result (GoesOn IsTaking self.old self.new) }
     {
         self.act(rt, NodeCall::TakeRequestsFor(time, requests))?;
         Ok(())
     }
 
-    /// It proposes what waits, if it leads and may. Whether it did.
-    pub(crate) fn propose<R: Threads + Wait + Sync>(&mut self, rt: &R, time: Time) -> Result<bool, Memory>
-        ensures { OnOk result (GoesOn (λ step. step ≡ steps.Proposes time) self.old self.new) }
-    {
-        self.act(rt, NodeCall::Propose(time))
+    /// The number of the last message of the order among what its calls gave to be sent, 0 where there is none.
+    pub(crate) fn last_number(&self) -> u64 {
+        match self.sent.last() {
+            Some(signed) => number_of(&signed.message),
+            None => 0,
+        }
     }
 
-    /// Time has run out for its view.
-    pub(crate) fn time_out<R: Threads + Wait + Sync>(&mut self, rt: &R) -> Result<bool, Memory>
-        ensures { OnOk result (GoesOn (λ step. step ≡ steps.TimesOut) self.old self.new) }
+    /// It proposes what waits, if it leads and may. Whether it did.
+    pub(crate) fn propose<R: Threads + Wait + Sync>(
+        &mut self,
+        rt: &R,
+        time: Time,
+    ) -> Result<bool, Memory>
+        ensures { OnOk result (GoesOn (IsOwn time) self.old self.new) }
     {
-        self.act(rt, NodeCall::TimeOut)
+        self.act_own(rt, time, NodeCall::Propose(time))
+    }
+
+    /// Time has run out for its view. Whether it asks for the next one.
+    pub(crate) fn time_out<R: Threads + Wait + Sync>(
+        &mut self,
+        rt: &R,
+        time: Time,
+    ) -> Result<bool, Memory>
+        ensures { OnOk result (GoesOn (IsOwn time) self.old self.new) }
+    {
+        self.act_own(rt, time, NodeCall::TimeOut)
+    }
+
+    /// It adopts another's state, if that is a later one and the certificate shows it. Whether it did.
+    pub(crate) fn adopt<R: Threads + Wait + Sync>(
+        &mut self,
+        rt: &R,
+        time: Time,
+        text: &[u8],
+        certificate: &StableCheckpoint,
+    ) -> Result<bool, Memory>
+        ensures { OnOk result (GoesOn (IsOwn time) self.old self.new) }
+    {
+        self.act_own(rt, time, NodeCall::Adopt { text, certificate })
     }
 
     /// Executes all that is committed, and makes each checkpoint that is due before the first batch and behind each.
-    pub(crate) fn advance<R: Threads + Wait + Sync>(&mut self, rt: &R) -> Result<(), Memory>
-        ensures { OnOk result (GoesOn IsExecution self.old self.new) }
+    pub(crate) fn advance<R: Threads + Wait + Sync>(
+        &mut self,
+        rt: &R,
+        time: Time,
+    ) -> Result<(), Memory>
+        ensures { OnOk result (GoesOn (IsOwn time) self.old self.new) }
     {
-        self.act(rt, NodeCall::Checkpoint)?;
+        self.act_own(rt, time, NodeCall::Checkpoint)?;
         for _ in rt.forever() {
             if !self.node.is_ready() {
                 return Ok(());
             }
-            self.act(rt, NodeCall::Execute)?;
-            self.act(rt, NodeCall::Checkpoint)?;
+            self.act_own(rt, time, NodeCall::Execute)?;
+            self.act_own(rt, time, NodeCall::Checkpoint)?;
         }
         unreachable!()
     }
 
+    // Makes a call that a replica makes of itself, and tells whether it was taken.
+    #[tactic(auto, using(crate::proofs::Going::own_goes))]
+    fn act_own<R: Threads + Wait + Sync>(
+        &mut self,
+        rt: &R,
+        time: Time,
+        call: NodeCall<'_>,
+    ) -> Result<bool, Memory>
+        requires { IsOwnCall time call }
+        ensures { OnOk result (GoesOn (IsOwn time) self.old self.new) }
+    {
+        let is_taken = self.act(rt, call)?;
+        Ok(is_taken)
+    }
+
     // Makes a call, and tells whether it was taken. `Memory` if memory runs out: nothing that is left is to be used then.
     fn act<R: Threads + Wait + Sync>(&mut self, rt: &R, call: NodeCall<'_>) -> Result<bool, Memory>
-        ensures { OnOk result (GoesOn (IsStepOf call.entry) self.old self.new) }
+        ensures { OnOk result (IsAfter call.entry self.old self.new) }
     {
         match perform(&mut self.node, rt, self.executor, &NoGate, call) {
             Ok(Sent::Nothing) => Ok(true),
@@ -127,6 +182,13 @@ impl Actor {
                 Ok(false)
             }
         }
+    }
+}
+
+fn number_of(message: &Message) -> u64 {
+    match message {
+        Message::Order(message) => message.number(),
+        _ => 0,
     }
 }
 

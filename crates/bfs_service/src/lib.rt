@@ -1,5 +1,19 @@
-//! One replica as a process: what it does in a turn, as calls of its node of which agreement is proved.
+//! One replica as a process: what it makes of a turn, as calls of its node of which agreement is proved.
 #![tactic(auto)]
 
 mod acting;
-mod turns;
+mod delivering;
+mod fetching;
+mod giving;
+mod laws;
+mod notes;
+mod pacing;
+mod queue;
+mod service;
+mod states;
+mod telling;
+mod terms;
+
+pub use laws::processes_agree;
+pub use service::Service;
+pub use terms::Terms;

@@ -61,7 +61,7 @@ def rubbish_of_a_replica(peer):
     words = random.Random(2)
     for _ in range(200):
         peer.send(framed(words.randrange(14, 256), words.randbytes(words.randrange(300))) + framed(words.randrange(1, 6), words.randbytes(words.randrange(12))))
-    peer.send(framed(STATE, bytes(5 * MEBIBYTE)))
+    peer.send(framed(STATE, struct.pack(">I", 3) + bytes(5 * MEBIBYTE)))
 
 
 def killed_transport(service):

@@ -1,7 +1,7 @@
 //! A connection with another transport, or with an operator.
 #![forbid(unsafe_code)]
 
-use crate::frames::{Frame, Head, ASK_REPORT, HEAD, MOST_FRAME, REQUEST};
+use crate::frames::{number_at, Frame, Head, ASK_REPORT, ASK_STATE, HEAD, MOST_FRAME, REQUEST, STATE};
 use crate::inbox::Source;
 use crate::queue::Queue;
 use crate::rest::{Read, Rest};
@@ -37,6 +37,14 @@ impl Role {
             Role::Replica(_) => head.length <= MOST_FRAME && !head.is_own(),
             Role::Relay { .. } => head.kind == REQUEST && head.length <= MOST_REQUEST,
             Role::Operator => head.kind == ASK_REPORT && head.length == 0,
+        }
+    }
+
+    /// Whether a whole frame is its own. What is said of states begins with the number of the replica that says it, so that none speaks for another.
+    fn owns(self, head: Head, payload: &[u8]) -> bool {
+        match self {
+            Role::Replica(number) if head.kind == ASK_STATE || head.kind == STATE => number_at(payload, 0).map_or(false, |word| word as usize == number),
+            _ => true,
         }
     }
 
@@ -134,6 +142,9 @@ fn whole_frames(bytes: &[u8], role: Role) -> Result<(usize, u32, usize), Head> {
         if bytes.len() - at < wanted {
             return Ok((at, count, wanted));
         }
+        if !role.owns(head, bytes.get(at + HEAD..at + wanted).unwrap_or_default()) {
+            return Err(head);
+        }
         at += wanted;
         count += 1;
     }
@@ -155,6 +166,16 @@ mod tests {
         assert!(may(Role::Operator, ASK_REPORT, 0) && !may(Role::Operator, ASK_REPORT, 1) && !may(Role::Operator, REQUEST, 0));
         assert!((0..=255).all(|kind| may(Role::Replica(1), kind, MOST_FRAME) != (9..=13).contains(&kind)));
         assert!(!may(Role::Replica(1), 2, MOST_FRAME + 1) && !may(Role::Stranger, REQUEST, 0) && !may(Role::Dialed(1), REQUEST, 0));
+    }
+
+    #[test]
+    fn each_speaks_for_itself_of_states() {
+        for kind in [ASK_STATE, STATE] {
+            let frame = framed(kind, &[&[0, 0, 0, 2], b"more"]);
+            assert_eq!(whole_frames(&frame, Role::Replica(2)), Ok((frame.len(), 1, HEAD)));
+            assert_eq!(whole_frames(&frame, Role::Replica(1)), Err(Head { kind, length: 8 }));
+            assert_eq!(whole_frames(&framed(kind, &[&[0, 0, 2]]), Role::Replica(2)), Err(Head { kind, length: 3 }));
+        }
     }
 
     #[test]

@@ -4,6 +4,8 @@
 use std::rc::Rc;
 
 pub const REQUEST: u8 = 1;
+pub const ASK_STATE: u8 = 7;
+pub const STATE: u8 = 8;
 pub const ASK_REPORT: u8 = 9;
 pub const REPORT: u8 = 10;
 pub const CALL: u8 = 11;

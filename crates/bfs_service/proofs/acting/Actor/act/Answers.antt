@@ -1,10 +1,10 @@
-use Rattle.std.proofs.Common.{◌≡◌, ◌++◌, false, Ok, Err, sym, subst, append-nil}
+use Rattle.std.proofs.Common.{◌≡◌, ◌++◌, Ok, Err, sym, subst, append-nil}
 use Rattle.bfs_node.specs.Nodes.{Messages, Node}
 use Rattle.bfs_nodes_agree.specs.Nodes.Performing.{Performs}
 use Rattle.bfs_nodes_agree.specs.declared.node_calls.performing.Sent.{Sent}
 use Rattle.bfs_nodes_agree.specs.declared.node_calls.performing.Sent.TheVariants.{Nothing, One, All}
-use Rattle.bfs_service.specs.Acting.{Acting, GoesOn, IsStepOf}
-use Rattle.bfs_service.proofs.Going.{goes_by, goes_nowhere, refused}
+use Rattle.bfs_service.specs.Acting.{Acting, IsAfter}
+use Rattle.bfs_service.proofs.Going.{taken}
 use Rattle.bfs_service.proofs.acting.Actor.act.Goals as goal
 
 pub returns-in-Ok-Nothing : goal.returns-in-Ok-Nothing
@@ -12,21 +12,21 @@ returns-in-Ok-Nothing g c =
     let acting : Acting = record { node = c.self.inside.node; sent = c.self.inside.sent.items } in
     let now = c.perform.new.node in
     let is = subst (λ (s : Sent). Performs acting.node c.args.call (Ok s) now) c.in-Ok-Nothing.field-0-is (subst (λ r. Performs acting.node c.args.call r now) c.in-Ok-Nothing.is c.perform.ensures) in
-    subst (λ (a : Acting). GoesOn (IsStepOf c.args.call) a (record { node = now; sent = acting.sent })) c.self.view_is
-    (subst (λ (sent : Messages). GoesOn (IsStepOf c.args.call) acting (record { node = now; sent = sent })) (append-nil acting.sent) (goes_by acting c.args.call Nothing now is))
+    subst (λ (a : Acting). IsAfter c.args.call a (record { node = now; sent = acting.sent })) c.self.view_is
+    (subst (λ (sent : Messages). IsAfter c.args.call acting (record { node = now; sent = sent })) (append-nil acting.sent) (taken acting c.args.call Nothing now is))
 
 pub returns-in_ok-push-in-Ok-One : goal.returns-in_ok-push-in-Ok-One
 returns-in_ok-push-in-Ok-One g c =
     let acting : Acting = record { node = c.self.inside.node; sent = c.self.inside.sent.items } in
     let now = c.perform.new.node in
     let is = subst (λ (s : Sent). Performs acting.node c.args.call (Ok s) now) c.in-Ok-One.field-0-is (subst (λ r. Performs acting.node c.args.call r now) c.in-Ok-One.is c.perform.ensures) in
-    subst (λ (a : Acting). GoesOn (IsStepOf c.args.call) a (record { node = now; sent = c.push.new.self.items })) c.self.view_is
-    (subst (λ (sent : Messages). GoesOn (IsStepOf c.args.call) acting (record { node = now; sent = sent })) (sym (c.in_ok-push-in-Ok-One.ensures.items)) (goes_by acting c.args.call (One c.in-Ok-One.signed) now is))
+    subst (λ (a : Acting). IsAfter c.args.call a (record { node = now; sent = c.push.new.self.items })) c.self.view_is
+    (subst (λ (sent : Messages). IsAfter c.args.call acting (record { node = now; sent = sent })) (sym (c.in_ok-push-in-Ok-One.ensures.items)) (taken acting c.args.call (One c.in-Ok-One.signed) now is))
 
 pub returns-in_ok-append-in-Ok-All : goal.returns-in_ok-append-in-Ok-All
 returns-in_ok-append-in-Ok-All g c =
     let acting : Acting = record { node = c.self.inside.node; sent = c.self.inside.sent.items } in
     let now = c.perform.new.node in
     let is = subst (λ (s : Sent). Performs acting.node c.args.call (Ok s) now) c.in-Ok-All.field-0-is (subst (λ r. Performs acting.node c.args.call r now) c.in-Ok-All.is c.perform.ensures) in
-    subst (λ (a : Acting). GoesOn (IsStepOf c.args.call) a (record { node = now; sent = c.append.new.self.items })) c.self.view_is
-    (subst (λ (sent : Messages). GoesOn (IsStepOf c.args.call) acting (record { node = now; sent = sent })) (sym (c.in_ok-append-in-Ok-All.ensures.items)) (goes_by acting c.args.call (All c.in-Ok-All.all) now is))
+    subst (λ (a : Acting). IsAfter c.args.call a (record { node = now; sent = c.append.new.self.items })) c.self.view_is
+    (subst (λ (sent : Messages). IsAfter c.args.call acting (record { node = now; sent = sent })) (sym (c.in_ok-append-in-Ok-All.ensures.items)) (taken acting c.args.call (All c.in-Ok-All.all) now is))

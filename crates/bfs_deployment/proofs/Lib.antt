@@ -1,0 +1,3 @@
+-- Lemmas of bfs_deployment.
+pub mod Documents
+pub mod Rows

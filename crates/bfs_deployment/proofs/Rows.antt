@@ -1,0 +1,88 @@
+-- Documents that are written out, and the deployment or the fault of each.
+use Rattle.std.proofs.Common.{◌≡◌, ◌∷◌, ◌++◌, [], List, ℕ, None, Some, Ok, Err, codes, refl}
+use Rattle.std.specs.Prelude.{⊤}
+use Rattle.std.specs.Str.{chars, is_utf8}
+use Rattle.toml.proofs.OnLiterals.{toml_on_literals}
+use Rattle.bfs_frames.specs.declared.kind.Kind.TheVariants as kind
+use Rattle.bfs_deployment.specs.Document.{deployment_in, deployment_spelled}
+use Rattle.bfs_deployment.specs.Limits.{default_limits}
+use Rattle.bfs_deployment.specs.Tables.{table_spelled}
+use Rattle.bfs_deployment.specs.declared.error.DeploymentError.TheVariants as error
+use Rattle.bfs_deployment.specs.declared.key.Key.TheVariants as key
+
+-- what computes the deployment that a document says
+unfoldable pub deployment_on_literals : ⊤
+unfolding toml_on_literals chars is_utf8 table_spelled deployment_in deployment_spelled
+deployment_on_literals = tt
+
+-- what every document says, but for f
+abbrev rest : List ℕ
+rest = codes "clients = 1\nreplicas = [\"a\"]\nrelay = \"b\"\n"
+
+abbrev smallest : List ℕ
+smallest = codes "f = 0\n" ++ rest
+
+pub row-smallest : deployment_spelled smallest
+    ≡ Ok (record { f = 0; clients = 1; replicas = codes "a" ∷ []; relay = codes "b"; portmap = None; patience = 2000; limits = default_limits })
+unfolding deployment_on_literals
+row-smallest = refl
+
+abbrev largest : List ℕ
+largest =
+    codes "limits.order = 4294967295 # bytes\npatience = 600000\nportmap = 'p'\nrelay = \"r\"\n"
+    ++ codes "clients = 1_024\nf = 1\nreplicas = ['a', 'b', 'c', '']\n"
+
+pub row-every_key : deployment_spelled largest
+    ≡ Ok (record {
+      f = 1;
+      clients = 1024;
+      replicas = codes "a" ∷ codes "b" ∷ codes "c" ∷ [] ∷ [];
+      relay = codes "r";
+      portmap = Some (codes "p");
+      patience = 600000;
+      limits = record default_limits { order = 4294967295 };
+    })
+unfolding deployment_on_literals
+row-every_key = refl
+
+pub row-no_text : deployment_spelled (255 ∷ []) ≡ Err error.NotUtf8
+unfolding deployment_on_literals
+row-no_text = refl
+
+pub row-twice : deployment_spelled (codes "f = 1\nf = 1\n") ≡ Err error.NotToml
+unfolding deployment_on_literals
+row-twice = refl
+
+pub row-nothing : deployment_spelled [] ≡ Err (error.Missing key.F)
+unfolding deployment_on_literals
+row-nothing = refl
+
+-- before what is missing
+pub row-another_key : deployment_spelled (codes "secret = \"00\"\ng = 1\n") ≡ Err (error.UnknownKey (codes "g"))
+unfolding deployment_on_literals
+row-another_key = refl
+
+pub row-below_zero : deployment_spelled (codes "f = -1\n" ++ rest) ≡ Err (error.OutOfBounds key.F 0 10)
+unfolding deployment_on_literals
+row-below_zero = refl
+
+pub row-no_number : deployment_spelled (codes "f = 0.0\n" ++ rest) ≡ Err (error.WrongType key.F)
+unfolding deployment_on_literals
+row-no_number = refl
+
+pub row-a_replica_too_few : deployment_spelled (codes "f = 1\n" ++ rest) ≡ Err (error.WrongCount 4)
+unfolding deployment_on_literals
+row-a_replica_too_few = refl
+
+pub row-no_patience : deployment_spelled (codes "patience = 0\n" ++ smallest) ≡ Err (error.OutOfBounds key.Patience 1 600000)
+unfolding deployment_on_literals
+row-no_patience = refl
+
+-- a REQUEST of the most bytes has 17,400
+pub row-requests_cut : deployment_spelled (smallest ++ codes "[limits]\nrequest = 17399\n") ≡ Err (error.OutOfBounds (key.Limit kind.Request) 17400 4294967295)
+unfolding deployment_on_literals
+row-requests_cut = refl
+
+pub row-another_limit : deployment_spelled (smallest ++ codes "[limits]\norders = 1\n") ≡ Err (error.UnknownLimit (codes "orders"))
+unfolding deployment_on_literals
+row-another_limit = refl

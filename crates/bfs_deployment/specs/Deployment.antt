@@ -1,0 +1,31 @@
+-- A deployment, and how far each part of it goes.
+use Rattle.std.specs.Prelude.{◌≡◌, ℕ, ◌≤◌, List, Option}
+use Rattle.bfs_frames.specs.declared.limits.Limits.{Limits}
+use Rattle.bfs_model.specs.Server.Limits.{most_clients, most_faults}
+use Rattle.bfs_settings.specs.Settings.{replicas_for}
+use Rattle.bfs_deployment.specs.Limits.{AreRoomy}
+
+-- addresses are texts; the patience is in milliseconds
+pub record Deployment : Type 0 where
+  pub f : ℕ
+  pub clients : ℕ
+  pub replicas : List (List ℕ)
+  pub relay : List ℕ
+  pub portmap : Option (List ℕ)
+  pub patience : ℕ
+  pub limits : Limits
+
+abbrev pub default_patience : ℕ
+default_patience = 2000
+
+abbrev pub most_patience : ℕ
+most_patience = 600000
+
+pub record IsDeployment (f clients replicas patience : ℕ) (limits : Limits) : Type 0 where
+  pub faults : f ≤ most_faults
+  pub some_clients : 1 ≤ clients
+  pub clients_within : clients ≤ most_clients
+  pub count : replicas ≡ replicas_for f
+  pub some_patience : 1 ≤ patience
+  pub patience_within : patience ≤ most_patience
+  pub roomy : AreRoomy limits

@@ -1,0 +1,7 @@
+-- What the contracts of bfs_deployment cite.
+pub mod Keys
+pub mod Tables
+pub mod Limits
+pub mod Deployment
+pub mod Document
+pub mod Outcomes

@@ -1,0 +1,303 @@
+-- Turns of processes are steps of nodes.
+use Rattle.std.proofs.Common.{◌≡◌, ◌∙◌, ℕ, Bool, true, false, ◌==◌, List, [], ◌∷◌, ◌++◌, map, inl, inr, refl, sym, ap, subst, if◌then◌else◌, eqb-true, eq-eqb}
+use Rattle.std.specs.Prelude.{◌⊎◌, All}
+use Rattle.std.specs.List.{filter, fold}
+use Rattle.std.proofs.lemmas.List.Elements.{All-head, All-tail}
+use Rattle.std.proofs.lemmas.List.Sums.{fold-append}
+use Rattle.bfs_agreement.specs.Histories.{IsIn, FewAreFaulty}
+use Rattle.bfs_frames.specs.Parcels.{Told}
+use Rattle.bfs_frames.specs.declared.frames.Frame.{Frame}
+use Rattle.bfs_frames.specs.declared.frames.Turn.{Turn}
+use Rattle.bfs_messages.specs.declared.message.Message.{Message}
+use Rattle.bfs_messages.specs.declared.signed.Signed.{Signed}
+use Rattle.bfs_node.specs.Nodes.{Messages, Node}
+use Rattle.bfs_nodes_agree.proofs.Public.{both_in, either_in, here_after, in_map, left_in, none_in, out_of_map, right_in}
+use Rattle.bfs_nodes_agree.specs.Nodes.Laws.{NodesAgree}
+use Rattle.bfs_nodes_agree.specs.Nodes.Replicas.{Beginning, Keyring, NodeReplica, NodeReplicas, NodeTurn, after_node_step, after_node_turn, after_node_turns, new_node_replicas}
+use Rattle.bfs_nodes_agree.specs.Nodes.Steps.{NodeStep, Delivers, Takes, TakesRequests, Proposes, Executes, Fails, Checkpoints, TimesOut, Adopts, outcome}
+use Rattle.bfs_service.specs.Acting.{Acting, GoesOn, IsOwn, IsTaking, after_step, after_steps}
+use Rattle.bfs_service.specs.Processes.{AreNodes, HasTold, HasTurned, HaveTurned, IsOfTurns, IsStepOf, Processes, ProcessesAgree, ProcessTurn, new_processes}
+use Rattle.bfs_service.specs.Telling.{is_note, message_told}
+use Rattle.bfs_service.specs.Turns.{Turned, frame_delivered, frames_delivered, is_message}
+
+either : {P : Type 0} (b : Bool) → (b ≡ true → P) → (b ≡ false → P) → P
+either true so other = so refl
+either false so other = other refl
+
+-- The steps of a turn ---------------------------------------------------------------------------------------------------------
+
+abbrev to_step : Frame → NodeStep
+to_step frame = Delivers frame.payload.items
+
+abbrev deliveries : List Frame → List NodeStep
+deliveries frames = map to_step (filter is_message frames)
+
+abbrev DeliversAll : List Frame → Acting → Type 0
+DeliversAll frames a = frames_delivered frames a ≡ after_steps a (deliveries frames)
+
+deliver_one : (b : Bool) (frame : Frame) (frames : List Frame) (a : Acting) → DeliversAll frames (after_step a (to_step frame)) → DeliversAll frames a
+    → frames_delivered frames (if b then after_step a (to_step frame) else a) ≡ after_steps a (map to_step (if b then frame ∷ filter is_message frames else filter is_message frames))
+deliver_one true frame frames a one none = one
+deliver_one false frame frames a one none = none
+
+deliveries_are : (frames : List Frame) (a : Acting) → DeliversAll frames a
+deliveries_are [] a = refl
+deliveries_are (frame ∷ frames) a =
+    deliver_one (is_message frame) frame frames a (deliveries_are frames (after_step a (to_step frame))) (deliveries_are frames a)
+
+kept_one : {A : Type 0} (p : A → Bool) (y : A) (ys : List A) (x : A) (b : Bool) → p y ≡ b → (IsIn x (filter p ys) → IsIn x ys × (p x ≡ true))
+    → IsIn x (if b then y ∷ filter p ys else filter p ys) → IsIn x (y ∷ ys) × (p x ≡ true)
+kept_one p y ys x true e rest i = elim i [
+  | inl is ↦ (inl is, ap p is ∙ e)
+  | inr k ↦ let got = rest k in (inr got.0, got.1)
+]
+kept_one p y ys x false e rest i = let got = rest i in (inr got.0, got.1)
+
+kept_in : {A : Type 0} (p : A → Bool) (xs : List A) (x : A) → IsIn x (filter p xs) → IsIn x xs × (p x ≡ true)
+kept_in p [] x i = absurd i
+kept_in p (y ∷ ys) x i = kept_one p y ys x (p y) refl (kept_in p ys x) i
+
+deliveries_of : (turn : Turn) (step : NodeStep) → IsIn step (deliveries turn.frames.items) → IsStepOf turn step
+deliveries_of turn step i =
+    let from = out_of_map to_step (filter is_message turn.frames.items) step i in
+    let got = kept_in is_message turn.frames.items from.0 from.1 in
+    subst (IsStepOf turn) (sym from.2) (from.0, got.0, got.1, refl)
+
+taking_of : (turn : Turn) (step : NodeStep) → IsTaking step → IsStepOf turn step
+taking_of turn (TakesRequests messages) is = is
+taking_of turn (Delivers bytes) is = absurd is
+taking_of turn (Takes signed) is = absurd is
+taking_of turn (Proposes time) is = absurd is
+taking_of turn Executes is = absurd is
+taking_of turn Fails is = absurd is
+taking_of turn Checkpoints is = absurd is
+taking_of turn TimesOut is = absurd is
+taking_of turn (Adopts certificate files table) is = absurd is
+
+own_of : (turn : Turn) (step : NodeStep) → IsOwn turn.time step → IsStepOf turn step
+own_of turn (TakesRequests messages) is = absurd is
+own_of turn (Delivers bytes) is = absurd is
+own_of turn (Takes signed) is = is
+own_of turn (Proposes time) is = is
+own_of turn Executes is = is
+own_of turn Fails is = is
+own_of turn Checkpoints is = is
+own_of turn TimesOut is = is
+own_of turn (Adopts certificate files table) is = is
+
+-- all steps of a turn
+record Steps (turn : Turn) (before : Acting) (done : Acting) : Type 0 where
+  pub steps : List NodeStep
+  pub each : (step : NodeStep) → IsIn step steps → IsStepOf turn step
+  pub done_is : done ≡ after_steps before steps
+
+steps_of : (turn : Turn) (before after : Acting) (told : List Told) → (t : Turned turn before after told) → Steps turn before t.done
+steps_of turn before after told t =
+    let frames = turn.frames.items in
+    let first = t.takes.steps in
+    let middle = deliveries frames in
+    let last = t.acts.steps in
+    let delivered : frames_delivered frames t.asked ≡ after_steps before (first ++ middle) =
+    deliveries_are frames t.asked ∙ ap (λ (a : Acting). after_steps a middle) t.takes.after_is ∙ sym (fold-append after_step before first middle) in
+    record {
+      steps = (first ++ middle) ++ last;
+      each = both_in (IsStepOf turn) (first ++ middle) last
+          (both_in (IsStepOf turn) first middle (λ step i. taking_of turn step (t.takes.each step i)) (deliveries_of turn))
+          (λ step i. own_of turn step (t.acts.each step i));
+      done_is = t.acts.after_is ∙ ap (λ (a : Acting). after_steps a last) delivered ∙ sym (fold-append after_step before (first ++ middle) last);
+    }
+
+-- Steps of one node -----------------------------------------------------------------------------------------------------------
+
+-- a replica is the node of a process; what it has sent waits to be told, or was said
+record Tracks (Said : Signed Message → Type 0) (r : NodeReplica) (a : Acting) : Type 0 where
+  pub node : r.node ≡ a.node
+  pub all : (m : Signed Message) → IsIn m r.sent → IsIn m a.sent ⊎ Said m
+  pub here : (m : Signed Message) → IsIn m a.sent → IsIn m r.sent
+
+step_tracks : (Said : Signed Message → Type 0) (r : NodeReplica) (a : Acting) (step : NodeStep) → Tracks Said r a → Tracks Said (after_node_step r step) (after_step a step)
+step_tracks Said r a step t =
+    let ours = (outcome r.node step).sent in
+    let theirs = (outcome a.node step).sent in
+    record {
+      node = ap (λ (n : Node). (outcome n step).now) t.node;
+      all = λ m i. elim (either_in ours r.sent m i) [
+        | inl j ↦ inl (right_in a.sent theirs m (subst (λ (n : Node). IsIn m (outcome n step).sent) t.node j))
+        | inr j ↦ elim (t.all m j) [ inl k ↦ inl (left_in a.sent theirs m k) | inr said ↦ inr said ]
+      ];
+      here = λ m i. elim (either_in a.sent theirs m i) [
+        | inl j ↦ right_in ours r.sent m (t.here m j)
+        | inr j ↦ left_in ours r.sent m (subst (λ (n : Node). IsIn m (outcome n step).sent) (sym t.node) j)
+      ];
+    }
+
+abbrev turns_of : ℕ → List NodeStep → List NodeTurn
+turns_of who steps = map (λ step. record { who = who; step = step }) steps
+
+steps_track : (Said : Signed Message → Type 0) (w : NodeReplicas) (who : ℕ) (a : Acting) (steps : List NodeStep) → Tracks Said (w who) a
+    → Tracks Said (after_node_turns w (turns_of who steps) who) (after_steps a steps)
+steps_track Said w who a [] t = t
+steps_track Said w who a (step ∷ steps) t =
+    let turn : NodeTurn = record { who = who; step = step } in
+    steps_track Said (after_node_turn w turn) who (after_step a step) steps
+    (subst (λ (r : NodeReplica). Tracks Said r (after_step a step)) (sym (here_after w turn)) (step_tracks Said (w who) a step t))
+
+other_stays : (w : NodeReplicas) (who k : ℕ) (step : NodeStep) → (k == who) ≡ false → after_node_turn w (record { who = who; step = step }) k ≡ w k
+other_stays w who k step differs = ap (λ (b : Bool). if b then after_node_step (w who) step else w k) differs
+
+others_stay : (w : NodeReplicas) (who k : ℕ) (steps : List NodeStep) → (k == who) ≡ false → after_node_turns w (turns_of who steps) k ≡ w k
+others_stay w who k [] differs = refl
+others_stay w who k (step ∷ steps) differs =
+    others_stay (after_node_turn w (record { who = who; step = step })) who k steps differs ∙ other_stays w who k step differs
+
+turns_both : (w : NodeReplicas) (xs ys : List NodeTurn) → after_node_turns w (xs ++ ys) ≡ after_node_turns (after_node_turns w xs) ys
+turns_both w [] ys = refl
+turns_both w (x ∷ xs) ys = turns_both (after_node_turn w x) xs ys
+
+sent_stays_one : (w : NodeReplicas) (turn : NodeTurn) (k : ℕ) (m : Signed Message) → IsIn m (w k).sent → IsIn m (after_node_turn w turn k).sent
+sent_stays_one w turn k m i = either (k == turn.who)
+    (λ is_it. let same = eqb-true k turn.who is_it in
+    subst (λ (j : ℕ). IsIn m (after_node_turn w turn j).sent) (sym same)
+    (subst (λ (r : NodeReplica). IsIn m r.sent) (sym (here_after w turn)) (right_in (outcome (w turn.who).node turn.step).sent (w turn.who).sent m (subst (λ (j : ℕ). IsIn m (w j).sent) same i))))
+    (λ differs. subst (λ (r : NodeReplica). IsIn m r.sent) (sym (other_stays w turn.who k turn.step differs)) i)
+
+sent_stays : (w : NodeReplicas) (turns : List NodeTurn) (k : ℕ) (m : Signed Message) → IsIn m (w k).sent → IsIn m (after_node_turns w turns k).sent
+sent_stays w [] k m i = i
+sent_stays w (turn ∷ turns) k m i = sent_stays (after_node_turn w turn) turns k m (sent_stays_one w turn k m i)
+
+-- Turns of processes ------------------------------------------------------------------------------------------------------------
+
+-- between turns nothing waits to be told
+record AllTrack (Said : ℕ → Signed Message → Type 0) (w : NodeReplicas) (p : Processes) : Type 0 where
+  pub node : (k : ℕ) → (w k).node ≡ (p k).node
+  pub quiet : (k : ℕ) → (p k).sent ≡ []
+  pub all : (k : ℕ) (m : Signed Message) → IsIn m (w k).sent → Said k m
+
+-- what these turns are to nodes that are in that state
+record Follow (Said : ℕ → Signed Message → Type 0) (w : NodeReplicas) (turns : List ProcessTurn) (after : Processes) : Type 0 where
+  pub steps : List NodeTurn
+  pub of_turns : (step : NodeTurn) → IsIn step steps → IsOfTurns turns step
+  pub nodes : (k : ℕ) → (after_node_turns w steps k).node ≡ (after k).node
+  pub told : (k : ℕ) (m : Signed Message) → IsIn m (after_node_turns w steps k).sent → Said k m ⊎ HasTold turns k m
+  pub sent : (t : ProcessTurn) (x : Told) → IsIn t turns → IsIn x t.told → is_note x.kind ≡ false
+      → (m : Signed Message) × IsIn m (after_node_turns w steps t.who).sent × (x ≡ message_told m)
+
+none_is_a_note : (notes : List Told) (x : Told) → All (λ t. is_note t.kind ≡ true) notes → IsIn x notes → is_note x.kind ≡ false → ⊥
+none_is_a_note [] x each i differs = i
+none_is_a_note (t ∷ rest) x each i differs = elim i [
+  | inl is ↦ let here : is_note x.kind ≡ true = ap (λ (s : Told). is_note s.kind) is ∙ All-head (λ (n : Told). is_note n.kind ≡ true) t rest each in absurd cc
+  | inr k ↦ none_is_a_note rest x (All-tail (λ (n : Told). is_note n.kind ≡ true) t rest each) k differs
+]
+
+-- what was told is a message that was sent, or a note
+told_is : (sent : Messages) (notes : List Told) (x : Told) → All (λ t. is_note t.kind ≡ true) notes → IsIn x (map message_told sent ++ notes) → is_note x.kind ≡ false
+    → (m : Signed Message) × IsIn m sent × (x ≡ message_told m)
+told_is sent notes x each i differs = elim (either_in (map message_told sent) notes x i) [
+  | inl j ↦ out_of_map message_told sent x j
+  | inr j ↦ absurd (none_is_a_note notes x each j differs)
+]
+
+one_turn_tracks : (Said : ℕ → Signed Message → Type 0) (w : NodeReplicas) (p next : Processes) (t : ProcessTurn) → AllTrack Said w p → (h : HasTurned p t next)
+    → (s : Steps t.turn (p t.who) h.turned.done) → AllTrack (λ k m. Said k m ⊎ ((t.who ≡ k) × IsIn m h.turned.done.sent)) (after_node_turns w (turns_of t.who s.steps)) next
+one_turn_tracks Said w p next t track h s =
+    let who = t.who in
+    let turned = h.turned in
+    let done = turned.done in
+    let w2 = after_node_turns w (turns_of who s.steps) in
+    let at_start : Tracks (Said who) (w who) (p who) = record {
+      node = track.node who;
+      all = λ m i. inr (track.all who m i);
+      here = λ m i. absurd (subst (λ (sent : Messages). IsIn m sent) (track.quiet who) i);
+    } in
+    let at_end : Tracks (Said who) (w2 who) done = subst (λ (a : Acting). Tracks (Said who) (w2 who) a) (sym s.done_is) (steps_track (Said who) w who (p who) s.steps at_start) in
+    record {
+      node = λ k. either (k == who)
+          (λ is_it. let same = eqb-true k who is_it in subst (λ (j : ℕ). (w2 j).node ≡ (next j).node) (sym same) (at_end.node ∙ ap (λ (a : Acting). a.node) (sym turned.after_is)))
+          (λ differs. ap (λ (r : NodeReplica). r.node) (others_stay w who k s.steps differs) ∙ track.node k ∙ ap (λ (a : Acting). a.node) (sym (h.others k differs)));
+      quiet = λ k. either (k == who)
+          (λ is_it. ap (λ (j : ℕ). (next j).sent) (eqb-true k who is_it) ∙ ap (λ (a : Acting). a.sent) turned.after_is)
+          (λ differs. ap (λ (a : Acting). a.sent) (h.others k differs) ∙ track.quiet k);
+      all = λ k m i. either (k == who)
+          (λ is_it. let same = eqb-true k who is_it in
+          elim (at_end.all m (subst (λ (j : ℕ). IsIn m (w2 j).sent) same i)) [
+            | inl j ↦ inr (sym same, j)
+            | inr said ↦ inl (subst (λ (j : ℕ). Said j m) (sym same) said)
+          ])
+          (λ differs. inl (track.all k m (subst (λ (r : NodeReplica). IsIn m r.sent) (others_stay w who k s.steps differs) i)));
+    }
+
+follow : (turns : List ProcessTurn) (Said : ℕ → Signed Message → Type 0) (w : NodeReplicas) (p after : Processes) → AllTrack Said w p → HaveTurned p turns after
+    → Follow Said w turns after
+follow [] Said w p after track same = record {
+  steps = [];
+  of_turns = none_in (IsOfTurns []);
+  nodes = λ k. track.node k ∙ ap (λ (a : Acting). a.node) (sym (same k));
+  told = λ k m i. inl (track.all k m i);
+  sent = λ t x i. absurd i;
+}
+follow (t ∷ turns) Said w p after track have =
+    let next = have.0 in
+    let h = have.1 in
+    let turned = h.turned in
+    let s = steps_of t.turn (p t.who) (next t.who) t.told turned in
+    let ours = turns_of t.who s.steps in
+    let w2 = after_node_turns w ours in
+    let Said2 : ℕ → Signed Message → Type 0 = λ k m. Said k m ⊎ ((t.who ≡ k) × IsIn m turned.done.sent) in
+    let rest = follow turns Said2 w2 next after (one_turn_tracks Said w p next t track h s) have.2 in
+    let both = turns_both w ours rest.steps in
+    let at_start : Tracks (Said t.who) (w t.who) (p t.who) = record {
+      node = track.node t.who;
+      all = λ m i. inr (track.all t.who m i);
+      here = λ m i. absurd (subst (λ (sent : Messages). IsIn m sent) (track.quiet t.who) i);
+    } in
+    let at_end = subst (λ (a : Acting). Tracks (Said t.who) (w2 t.who) a) (sym s.done_is) (steps_track (Said t.who) w t.who (p t.who) s.steps at_start) in
+    record {
+      steps = ours ++ rest.steps;
+      of_turns = both_in (IsOfTurns (t ∷ turns)) ours rest.steps
+          (λ step i. let from = out_of_map (λ one. record { who = t.who; step = one }) s.steps step i in
+          subst (IsOfTurns (t ∷ turns)) (sym from.2) (t, inl refl, refl, s.each from.0 from.1))
+          (λ step i. let got = rest.of_turns step i in (got.0, inr got.1, got.2, got.3));
+      nodes = λ k. ap (λ (v : NodeReplicas). (v k).node) both ∙ rest.nodes k;
+      told = λ k m i. elim (rest.told k m (subst (λ (v : NodeReplicas). IsIn m (v k).sent) both i)) [
+        | inl said ↦ elim said [
+          | inl before ↦ inl before
+          | inr now ↦ inr (
+            t,
+            inl refl,
+            now.0,
+            subst (λ (told : List Told). IsIn (message_told m) told) (sym turned.tells.told_is)
+                (left_in (map message_told turned.done.sent) turned.tells.notes (message_told m) (in_map message_told turned.done.sent m now.1)),
+          )
+        ]
+        | inr later ↦ inr (later.0, inr later.1, later.2, later.3)
+      ];
+      sent = λ one x i j differs. elim i [
+        | inl is ↦
+            let at = told_is turned.done.sent turned.tells.notes x turned.tells.none_is_a_message (subst (λ (told : List Told). IsIn x told) (ap (λ (u : ProcessTurn). u.told) is ∙ turned.tells.told_is) j) differs in (
+              at.0,
+              subst (λ (k : ℕ). IsIn at.0 (after_node_turns w (ours ++ rest.steps) k).sent) (sym (ap (λ (u : ProcessTurn). u.who) is))
+                  (subst (λ (v : NodeReplicas). IsIn at.0 (v t.who).sent) (sym both) (sent_stays w2 rest.steps t.who at.0 (at_end.here at.0 at.1))),
+              at.2,
+            )
+        | inr later ↦
+            let got = rest.sent one x later j differs in
+            (got.0, subst (λ (v : NodeReplicas). IsIn got.0 (v one.who).sent) (sym both) got.1, got.2)
+      ];
+    }
+
+-- The law -------------------------------------------------------------------------------------------------------------------------
+
+pub processes_agree : NodesAgree → ProcessesAgree
+processes_agree agree f keys start turns after have =
+    let w = new_node_replicas f keys start in
+    let track : AllTrack (λ k m. ⊥) w (new_processes f keys start) = record { node = λ k. refl; quiet = λ k. refl; all = λ k m i. i } in
+    let got = follow turns (λ k m. ⊥) w (new_processes f keys start) after track have in (
+      got.steps,
+      record {
+        of_turns = got.of_turns;
+        nodes = got.nodes;
+        told = λ k m i. elim (got.told k m i) [ inl none ↦ absurd none | inr told ↦ told ];
+        sent = got.sent;
+      },
+      λ faulty shared few authentic batches states. agree f keys start faulty got.steps shared few authentic batches states,
+    )

@@ -1,0 +1,6 @@
+use Rattle.bfs_service.specs.Acting.{IsOwn}
+use Rattle.bfs_service.proofs.Going.{goes_both}
+use Rattle.bfs_service.proofs.service.Service.adopt.Goals as goal
+
+pub returns : goal.returns
+returns g c = goes_both (IsOwn c.args.time) c.args.self.now c.adopt_now.new.self c.advance.new.self c.in_ok-adopt_now.ensures c.in_ok-advance.ensures

@@ -1,0 +1,89 @@
+// What frames of a turn say to a node.
+ghost use Rattle.std.specs.Prelude.{◌≡◌, OnOk};
+ghost use Rattle.bfs_model.specs.Bytes.Items.{word_at};
+ghost use Rattle.bfs_service.specs.Turns.{begins_as, frame_delivered, frames_delivered, is_message, is_of_kind};
+
+use crate::acting::Actor;
+use bfs_codec::{DecodeError, decode};
+use bfs_frames::{Frame, Kind};
+use bfs_messages::{Message, Signed};
+use bfs_types::Memory;
+use bfs_xdr::Reader;
+use std::alloc::Global;
+use std::sync::Wait;
+use std::thread::Threads;
+
+// the numbers that texts of messages begin with
+const PRE_PREPARE: u32 = 2;
+
+const CHECKPOINT: u32 = 5;
+
+const VIEW_CHANGE: u32 = 6;
+
+const NEW_VIEW: u32 = 7;
+
+impl Actor {
+    /// Gives its node each message of a replica among the frames, one after another. What it refuses is passed over.
+    #[tactic(auto, using(crate::proofs::Folding::fold_more))]
+    pub(crate) fn deliver_all<R: Threads + Wait + Sync>(
+        &mut self,
+        rt: &R,
+        frames: &[Frame],
+    ) -> Result<(), Memory>
+        ensures { OnOk result (self.new ≡ frames_delivered frames.now self.old) }
+    {
+        for frame in frames {
+            self.deliver_frame(rt, frame)?;
+        }
+        Ok(())
+    }
+
+    fn deliver_frame<R: Threads + Wait + Sync>(
+        &mut self,
+        rt: &R,
+        frame: &Frame,
+    ) -> Result<(), Memory>
+        ensures { OnOk result (self.new ≡ frame_delivered self.old frame.now) }
+    {
+        if is_message(frame) {
+            self.deliver(rt, frame.payload.as_slice())?;
+        }
+        Ok(())
+    }
+}
+
+// whether a frame is to hold a message of a replica
+fn is_message(frame: &Frame) -> bool
+    ensures { result ≡ is_message frame.now }
+{
+    match Reader::new(frame.payload.as_slice()).u32() {
+        Ok(tag) => is_of_kind(frame.kind, tag),
+        Err(_) => false,
+    }
+}
+
+fn is_of_kind(kind: Kind, tag: u32) -> bool
+    ensures { result ≡ is_of_kind kind tag }
+{
+    match kind {
+        Kind::Order => PRE_PREPARE <= tag && tag <= CHECKPOINT,
+        Kind::ViewChange => tag == VIEW_CHANGE,
+        Kind::NewView => tag == NEW_VIEW,
+        _ => false,
+    }
+}
+
+/// The REQUESTs among the frames, in their order.
+pub(crate) fn requests_in(alloc: Global, frames: &[Frame]) -> Result<Vec<Signed<Message>>, Memory> {
+    let mut requests = Vec::new(alloc);
+    for frame in frames {
+        if let Kind::Request = frame.kind {
+            match decode(alloc, frame.payload.as_slice()) {
+                Ok(signed) => requests.push(signed)?,
+                Err(DecodeError::Malformed) => {}
+                Err(DecodeError::Memory) => return Err(Memory),
+            }
+        }
+    }
+    Ok(requests)
+}

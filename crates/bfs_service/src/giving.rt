@@ -1,0 +1,113 @@
+// A stable state is given to those who are behind, piece by piece.
+use crate::notes::Notes;
+use crate::states::{Ask, Piece, certificate_text};
+use bfs_frames::{Kind, To};
+use bfs_node::Node;
+use bfs_types::Memory;
+use std::alloc::Global;
+
+// the bytes of a piece
+const PIECE: u64 = 1 << 20;
+
+// how long a state is kept for those who fetch it, in microseconds
+const KEPT: u64 = 10_000_000;
+
+// A state that is given.
+#[derive(Drop)]
+struct Offered {
+    number: u64,
+    text: Vec<u8>,
+    certificate: Vec<u8>,
+    since: u64,
+}
+
+/// The state that is being given, if one is. It is a copy, so that it stays while the node goes on.
+#[derive(Drop)]
+pub(crate) struct Giving {
+    alloc: Global,
+    offered: Option<Offered>,
+}
+
+impl Giving {
+    pub(crate) fn new(alloc: Global) -> Giving {
+        Giving {
+            alloc,
+            offered: None,
+        }
+    }
+
+    /// A piece goes to one who asks, of the state of which it has the first bytes, else of one that begins. Nothing goes where there is none above what it has.
+    pub(crate) fn give(
+        &mut self,
+        now: u64,
+        node: &Node,
+        payload: &[u8],
+        notes: &mut Notes,
+    ) -> Result<(), Memory> {
+        let Ok(ask) = Ask::read(payload) else {
+            return Ok(());
+        };
+        self.choose(now, node, ask.above)?;
+        match &self.offered {
+            Some(offered) if offered.number > ask.above => {
+                let piece = piece_of(offered, node.number(), ask);
+                notes.add(To::Replica(ask.asker), Kind::State, piece.text(self.alloc)?)
+            }
+            _ => Ok(()),
+        }
+    }
+
+    // A state that is kept long enough, and isn't above what is asked for, makes room for a later one.
+    fn choose(&mut self, now: u64, node: &Node, above: u64) -> Result<(), Memory> {
+        if let Some(offered) = &self.offered {
+            if offered.number > above || (offered.since <= now && now - offered.since < KEPT) {
+                return Ok(());
+            }
+        }
+        self.offered = offered_by(self.alloc, now, node)?;
+        Ok(())
+    }
+
+    /// Forgets a state that nobody has begun to fetch for long.
+    pub(crate) fn forget(&mut self, now: u64) {
+        if let Some(offered) = &self.offered {
+            if offered.since > now || now - offered.since >= 6 * KEPT {
+                self.offered = None;
+            }
+        }
+    }
+}
+
+fn offered_by(alloc: Global, now: u64, node: &Node) -> Result<Option<Offered>, Memory> {
+    let Some(stable) = node.stable() else {
+        return Ok(None);
+    };
+    Ok(Some(Offered {
+        number: stable.checkpoint.number(),
+        text: Vec::from_slice(alloc, stable.text)?,
+        certificate: certificate_text(alloc, stable.checkpoint)?,
+        since: now,
+    }))
+}
+
+fn piece_of(offered: &Offered, sender: u32, ask: Ask) -> Piece<'_> {
+    let length = offered.text.len() as u64;
+    let offset = if ask.number == offered.number {
+        ask.offset.min(length)
+    } else {
+        0
+    };
+    let bytes = if offset == length {
+        offered.certificate.as_slice()
+    } else {
+        let end = length.min(offset + PIECE);
+        &offered.text.as_slice()[offset as usize..end as usize]
+    };
+    Piece {
+        sender,
+        number: offered.number,
+        length,
+        offset,
+        bytes,
+    }
+}

@@ -1,0 +1,31 @@
+use bfs_frames::Limits;
+use bfs_types::LOG_SIZE;
+
+// the bytes of a state that is fetched
+const MOST_STATE_BYTES: u64 = 1 << 32;
+
+/// How a replica serves.
+#[derive(Clone, Copy, Debug)]
+pub struct Terms {
+    /// How long a request waits before the next view is asked for, in microseconds.
+    pub patience: u64,
+    /// The bytes of the requests that wait at the node, which are those of its next batch.
+    pub most_batch_bytes: usize,
+    /// The bytes of a state that is fetched.
+    pub most_state_bytes: u64,
+}
+
+impl Terms {
+    /// For a replica that waits so many milliseconds, among 3f + 1. A batch is so small that its PRE-PREPARE fits in a frame, and that NEW-VIEWs do which have
+    /// 2f + 1 VIEW-CHANGEs with a whole log each, and a log of their own (OSDI 1999 section 4.4).
+    pub fn of(f: u32, patience: u32, limits: &Limits) -> Terms {
+        let logs = 2 * f as usize + 2;
+        let in_a_view = limits.new_view as usize / (logs * LOG_SIZE);
+        let in_a_frame = limits.order as usize / 2;
+        Terms {
+            patience: u64::from(patience) * 1_000,
+            most_batch_bytes: in_a_view.min(in_a_frame),
+            most_state_bytes: MOST_STATE_BYTES,
+        }
+    }
+}

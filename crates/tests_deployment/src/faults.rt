@@ -1,0 +1,100 @@
+//! Documents that describe no deployment, each with what an operator is told of it.
+use bfs_deployment::parse_deployment;
+use bfs_testing::holds;
+use std::alloc::{AllocError, Global};
+use std::test::Fail;
+
+// of a document and the lines behind it
+fn told(alloc: Global, document: &[u8], more: &str) -> Result<String, AllocError> {
+    let mut whole = document.to_vec(alloc)?;
+    whole.extend_from_slice(more.as_bytes())?;
+    match parse_deployment(alloc, whole.as_slice()) {
+        Ok(deployment) => format!(in alloc; "{deployment:?}"),
+        Err(error) => format!(in alloc; "{error}"),
+    }
+}
+
+// keys of which one is missing or of another type, or bytes that are no document
+static FIRST: &[(&[u8], &str)] = &[
+    (b"f = 0 # \xff", "it isn't in UTF-8"),
+    (b"f = 0\nf = 0", "it isn't TOML"),
+    (b"secret = 0\nmore = 0", "there is no key \"more\""),
+    (b"\"a\\nb\" = 0", "there is no key \"a\\nb\""),
+    (b"", "f: it is missing"),
+    (b"f = '0'", "f: it is no whole number"),
+    (b"f = -1", "f: it is no number from 0 to 10"),
+    (b"f = 11", "f: it is no number from 0 to 10"),
+    (b"f = 0", "clients: it is missing"),
+    (b"f = 0\nclients = true", "clients: it is no whole number"),
+    (
+        b"f = 0\nclients = 0",
+        "clients: it is no number from 1 to 1024",
+    ),
+    (
+        b"f = 0\nclients = 1025",
+        "clients: it is no number from 1 to 1024",
+    ),
+    (b"f = 0\nclients = 1", "replicas: it is missing"),
+    (
+        b"f = 0\nclients = 1\nreplicas = 'a'",
+        "replicas: it is no array of texts",
+    ),
+    (
+        b"f = 0\nclients = 1\nreplicas = [7000]",
+        "replicas: it is no array of texts",
+    ),
+    (
+        b"f = 1\nclients = 1\nreplicas = ['a', 'b', 'c']",
+        "replicas: there are to be 4 of them",
+    ),
+    (
+        b"f = 0\nclients = 1\nreplicas = ['a']",
+        "relay: it is missing",
+    ),
+    (
+        b"f = 0\nclients = 1\nreplicas = ['a']\nrelay = 2049",
+        "relay: it is no text",
+    ),
+];
+
+const GOOD: &[u8] = b"f = 0\nclients = 1\nreplicas = ['a']\nrelay = 'b'\n";
+
+// lines behind a good document
+static MORE: &[(&str, &str)] = &[
+    ("portmap = 111", "portmap: it is no text"),
+    ("patience = 0.5", "patience: it is no whole number"),
+    ("patience = 0", "patience: it is no number from 1 to 600000"),
+    (
+        "patience = 600001",
+        "patience: it is no number from 1 to 600000",
+    ),
+    ("limits = 1", "limits: it is no table"),
+    (
+        "[limits]\norder = 4194304\norders = 1",
+        "limits: there is no key \"orders\"",
+    ),
+    (
+        "[limits]\nview_change = '1'",
+        "limits.view_change: it is no whole number",
+    ),
+    (
+        "[limits]\nrequest = 17399",
+        "limits.request: it is no number from 17400 to 4294967295",
+    ),
+    (
+        "[limits]\nlog = 4294967296",
+        "limits.log: it is no number from 4096 to 4294967295",
+    ),
+];
+
+#[test]
+fn each_fault_is_told_with_its_key(rt: HostRuntime) -> Result<(), Fail> {
+    let alloc = rt.alloc();
+    for (document, wanted) in FIRST.iter() {
+        holds!(rt; told(alloc, document, "")?.as_str() == *wanted);
+    }
+    for (lines, wanted) in MORE.iter() {
+        holds!(rt; told(alloc, GOOD, lines)?.as_str() == *wanted);
+    }
+    Ok(())
+}

@@ -1,0 +1,130 @@
+//! A relay as a filter's machine: what it answers by itself, and what it reserves before it tells a request.
+use bfs_auth::{Keys, Principal};
+use bfs_codec::decode;
+use bfs_filter::serve;
+use bfs_frames::Limits;
+use bfs_messages::Message;
+use bfs_relaying::{AHEAD, Reserve, Reserving};
+use bfs_testing::words::ROOT_REQUEST;
+use bfs_testing::{holds, same};
+use std::alloc::Global;
+use std::io;
+use std::io::{Error, ErrorKind};
+use std::sync::Wait;
+use std::test::Fail;
+use std::thread::Threads;
+
+// what is reserved where a life begins
+const FIRST: u64 = 1_000;
+
+// a number in memory, which may not be raised where it is full
+#[derive(Drop)]
+struct Store {
+    number: u64,
+    full: bool,
+}
+
+impl Reserve for Store {
+    ghost kept = { λ store. store.number };
+
+    fn reserved(&self) -> u64 {
+        self.number
+    }
+
+    fn reserve(&mut self, next: u64) -> io::Result<()> {
+        if self.full {
+            return Err(Error::from(ErrorKind::StorageFull));
+        }
+        self.number = self.number.max(next);
+        Ok(())
+    }
+}
+
+// a turn of NULL under the ticket 5, and of MNT of `/` under the ticket 6; and the answers (RFC 1094 2.2.1 and appendix A; RFC 5531 section 9)
+const OWN: &str = "000000010000000000000002\
+    0b000000300000000000000005\
+    000000130000000000000002000186a3000000020000000000000000000000000000000000000000\
+    0b000000380000000000000006\
+    000000110000000000000002000186a50000000100000001\
+    00000000000000000000000000000000000000012f000000";
+
+const OWN_ANSWERS: &str = "00000002\
+    0400000000000000050c00000020\
+    0000000000000005000000130000000100000000000000000000000000000000\
+    0400000000000000060c00000044\
+    0000000000000006000000110000000100000000000000000000000000000000\
+    000000004246533200000001000000020000000000000000000000000000000000000000";
+
+// a turn of one call, without its message
+const CALL: &str = "0000000100000000000000010b000000500000000000000007";
+
+// one parcel, to all replicas, a request: up to its length
+const ASKING: &str = "0000000100000000000000000001";
+
+fn relay(alloc: Global, full: bool) -> Result<Reserving<Store>, Fail> {
+    let mut keys = Vec::new(alloc);
+    keys.push(Keys::derive(alloc, b"a secret", Principal::Client(3), 4, 16)?)?;
+    let store = Store {
+        number: FIRST,
+        full,
+    };
+    Ok(Reserving::of_keys(alloc, 1, keys, store)?)
+}
+
+// how it ends, and what is written in hexadecimal
+fn served<R: Threads + Wait + Sync>(
+    rt: &R,
+    alloc: Global,
+    relay: &mut Reserving<Store>,
+    turns: &str,
+) -> Result<(String, String), Fail> {
+    let input = hex::decode(alloc, turns)?;
+    let mut reader = input.as_slice();
+    let mut writer = Vec::new(alloc);
+    let ended = match serve(alloc, rt, relay, &Limits::new(), &mut reader, &mut writer) {
+        Ok(()) => String::from_str(alloc, "the end")?,
+        Err(error) => format!(in alloc; "{error}")?,
+    };
+    Ok((ended, hex::encode(alloc, &writer)?))
+}
+
+// the timestamp of a request in hexadecimal
+fn timestamp_in(alloc: Global, text: &str) -> Result<u64, Fail> {
+    let text = hex::decode(alloc, text)?;
+    match &decode(alloc, text.as_slice())?.message {
+        Message::Request(request) => Ok(request.timestamp()),
+        _ => Err("a request".into()),
+    }
+}
+
+#[test]
+fn a_request_leaves_once_its_timestamp_is_reserved(rt: HostRuntime) -> Result<(), Fail> {
+    let alloc = rt.alloc();
+    let mut relay = relay(alloc, false)?;
+    let turns = format!(in alloc; "{OWN}{CALL}{ROOT_REQUEST}")?;
+    let (ended, written) = served(&rt, alloc, &mut relay, turns.as_str())?;
+    holds!(rt; ended.as_str() == "the end");
+    let front = format!(in alloc; "{OWN_ANSWERS}{ASKING}")?;
+    let rest = written
+        .as_str()
+        .strip_prefix(front.as_str())
+        .ok_or("another answer")?;
+    let text = rest.get(8..).ok_or("a length")?;
+    same!(rt; timestamp_in(alloc, text)?, FIRST);
+    same!(rt; relay.reserved(), FIRST + 1 + AHEAD);
+    Ok(())
+}
+
+#[test]
+fn nothing_leaves_of_a_turn_whose_timestamps_cannot_be_reserved(
+    rt: HostRuntime,
+) -> Result<(), Fail> {
+    let alloc = rt.alloc();
+    let mut relay = relay(alloc, true)?;
+    let turns = format!(in alloc; "{OWN}{CALL}{ROOT_REQUEST}{OWN}")?;
+    let (ended, written) = served(&rt, alloc, &mut relay, turns.as_str())?;
+    holds!(rt; ended.as_str() == "what is to be kept cannot be written: no storage space");
+    holds!(rt; written.as_str() == OWN_ANSWERS);
+    same!(rt; relay.reserved(), FIRST);
+    Ok(())
+}

@@ -1,0 +1,143 @@
+//! A machine that tells the operator each frame, and refuses two kinds of them.
+use crate::writers::Narrow;
+use bfs_filter::{Machine, TurnError, serve};
+use bfs_frames::{Kind, Limits, Parcel, To, Turn};
+use bfs_testing::{holds, same};
+use std::alloc::Global;
+use std::io::{Error, ErrorKind};
+use std::sync::Wait;
+use std::test::Fail;
+use std::thread::Threads;
+
+#[derive(Drop)]
+struct Echo {
+    alloc: Global,
+    turns: u32,
+}
+
+impl Machine for Echo {
+    ghost takes = { λ _ _ _ _. Unit {0} };
+
+    fn turn<H: Threads + Wait + Sync>(
+        &mut self,
+        _rt: &H,
+        turn: Turn,
+    ) -> Result<Vec<Parcel>, TurnError> {
+        self.turns = self.turns.saturating_add(1);
+        let mut parcels = Vec::new(self.alloc);
+        for frame in turn.frames {
+            match frame.kind {
+                Kind::Status => return Err(TurnError::Memory),
+                Kind::Report => return Err(TurnError::Storage(Error::from(ErrorKind::StorageFull))),
+                _ => {}
+            }
+            let to = To::Operator;
+            if parcels.push(Parcel { to, frame }).is_err() {
+                return Err(TurnError::Memory);
+            }
+        }
+        Ok(parcels)
+    }
+}
+
+// a turn of a line and of a frame of no kind, and its answer; a turn without frames, and its answer; turns that are refused, and one that is cut
+const LINE: &str = "0000000100000002000000020d000000026f6bff00000000";
+
+const LINE_TOLD: &str = "000000010300000000000000000d000000026f6b";
+
+const EMPTY: &str = "000000010000000300000000";
+
+const EMPTY_TOLD: &str = "00000000";
+
+const STATUS: &str = "0000000100000004000000010600000000";
+
+const REPORT: &str = "0000000100000004000000010a00000000";
+
+const CUT: &str = "0000000100000004000000010a000000";
+
+const BAD_TIME: &str = "00000001ffffffff000000010a00000000";
+
+// what comes of turns: how many were taken, how it ended, and what was written; the writer takes so many bytes
+fn served<R: Threads + Wait + Sync>(
+    rt: &R,
+    alloc: Global,
+    turns: &str,
+    room: usize,
+) -> Result<String, Fail> {
+    let input = hex::decode(alloc, turns)?;
+    let mut echo = Echo { alloc, turns: 0 };
+    let mut reader = input.as_slice();
+    let mut writer = Narrow::new(alloc, room);
+    let ended = match serve(
+        alloc,
+        rt,
+        &mut echo,
+        &Limits::new(),
+        &mut reader,
+        &mut writer,
+    ) {
+        Ok(()) => String::from_str(alloc, "the end")?,
+        Err(error) => format!(in alloc; "{error}")?,
+    };
+    let written = hex::encode(alloc, &writer.taken)?;
+    Ok(format!(in alloc; "{} {ended} {written}", echo.turns)?)
+}
+
+#[test]
+fn turns_are_answered_until_the_end(rt: HostRuntime) -> Result<(), Fail> {
+    let alloc = rt.alloc();
+    let input = format!(in alloc; "{LINE}{EMPTY}{LINE}")?;
+    let output = format!(in alloc; "3 the end {LINE_TOLD}{EMPTY_TOLD}{LINE_TOLD}")?;
+    same!(rt; served(&rt, alloc, input.as_str(), 100)?, output);
+    let nothing = served(&rt, alloc, "", 100)?;
+    holds!(rt; nothing.as_str() == "0 the end ");
+    Ok(())
+}
+
+// the turn behind a whole one, how many are taken, and how it ends
+static ROWS: &[(&str, u32, &str)] = &[
+    (STATUS, 2, "out of memory"),
+    (
+        REPORT,
+        2,
+        "what is to be kept cannot be written: no storage space",
+    ),
+    (CUT, 1, "the input ends within a turn"),
+    (
+        BAD_TIME,
+        1,
+        "the time of a turn has 1,000,000 microseconds or more",
+    ),
+];
+
+#[test]
+fn nothing_is_written_of_a_turn_that_fails(rt: HostRuntime) -> Result<(), Fail> {
+    let alloc = rt.alloc();
+    for (turn, taken, error) in ROWS {
+        let input = format!(in alloc; "{LINE}{turn}{LINE}")?;
+        let output = format!(in alloc; "{taken} {error} {LINE_TOLD}")?;
+        if *taken == 1 {
+            let cut = format!(in alloc; "{LINE}{turn}")?;
+            same!(rt; served(&rt, alloc, cut.as_str(), 100)?, output);
+        } else {
+            same!(rt; served(&rt, alloc, input.as_str(), 100)?, output);
+        }
+    }
+    Ok(())
+}
+
+#[test]
+fn a_writer_may_refuse_each_byte(rt: HostRuntime) -> Result<(), Fail> {
+    let alloc = rt.alloc();
+    let input = format!(in alloc; "{LINE}{EMPTY}")?;
+    for room in 0usize..24 {
+        let taken = if room < 20 { 1 } else { 2 };
+        let told = format!(in alloc; "{LINE_TOLD}{EMPTY_TOLD}")?;
+        let Some(front) = told.as_str().get(..2 * room) else {
+            return Err("a shorter text".into());
+        };
+        let output = format!(in alloc; "{taken} the answer cannot be written: timed out {front}")?;
+        same!(rt; served(&rt, alloc, input.as_str(), room)?, output);
+    }
+    Ok(())
+}
