@@ -116,8 +116,13 @@ class Thrower:
         return bytes(data)
 
     def several(self, kinds):
-        kinds = [self.words.choice(kinds) for _ in range(AT_ONCE)]
-        return b"".join(framed(kind, self.payload(kind)[: 1 << 16]) for kind in kinds)
+        return b"".join(self.one(self.words.choice(kinds)) for _ in range(AT_ONCE))
+
+    def one(self, kind):
+        payload = self.payload(kind)[: 1 << 16]
+        if kind in (ASK_STATE, STATE):  # in another's name they would close the connection
+            payload = struct.pack(">I", LIAR) + payload[4:]
+        return framed(kind, payload)
 
 
 class Caller:
