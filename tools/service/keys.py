@@ -6,7 +6,6 @@ from pathlib import Path
 from service.cluster import Address, Fault, cluster_in, reason, text_of
 
 KEY = 32  # bytes
-FIRST = 1  # the timestamp that a relay may use first
 
 
 def pair(sending, receiving):
@@ -34,6 +33,9 @@ def documents(cluster):
         yield f"{me[0]}-{me[1]}.toml", document(f"{{ {me[0]} = {me[1]} }}", of("replica", replicas), of("client", clients))
 
 
+COUNTER = "relay.counter"  # the relay's next timestamp
+
+
 def private(path):
     """The path of a private file, which others than its owner may not read or write."""
     try:
@@ -57,11 +59,11 @@ def make(folder, faults, clients, host, port, relay):
     cluster = cluster_in({"f": faults, "clients": clients, "replicas": texts, "relay": relay})
     try:
         os.makedirs(folder, mode=0o700, exist_ok=True)
-        if old := sorted(path.name for path in Path(folder).iterdir() if path.suffix == ".toml"):
+        if old := sorted(path.name for path in Path(folder).iterdir() if path.suffix == ".toml" or path.name == COUNTER):
             raise Fault(f"{folder}: it has {old[0]}: nothing is written over")
         for name, text in documents(cluster):
             write_new(Path(folder, name), text, 0o600)
-        write_new(Path(folder, "relay.counter"), f"{FIRST}\n", 0o600)
+        write_new(Path(folder, COUNTER), "0\n", 0o600)
         write_new(Path(folder, "cluster.toml"), text_of(cluster), 0o644)
     except OSError as fault:
         raise Fault(f"{folder}: {reason(fault)}") from None

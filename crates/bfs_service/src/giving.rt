@@ -19,6 +19,8 @@ struct Offered {
     text: Vec<u8>,
     certificate: Vec<u8>,
     since: u64,
+    // when a piece of it was given last
+    used: u64,
 }
 
 /// The state that is being given, if one is. It is a copy, so that it stays while the node goes on.
@@ -48,8 +50,9 @@ impl Giving {
             return Ok(());
         };
         self.choose(now, node, ask.above)?;
-        match &self.offered {
+        match &mut self.offered {
             Some(offered) if offered.number > ask.above => {
+                offered.used = now;
                 let piece = piece_of(offered, node.number(), ask);
                 notes.add(To::Replica(ask.asker), Kind::State, piece.text(self.alloc)?)
             }
@@ -68,10 +71,10 @@ impl Giving {
         Ok(())
     }
 
-    /// Forgets a state that nobody has begun to fetch for long.
+    /// Forgets a state of which no piece was asked for in a minute.
     pub(crate) fn forget(&mut self, now: u64) {
         if let Some(offered) = &self.offered {
-            if offered.since > now || now - offered.since >= 6 * KEPT {
+            if offered.used > now || now - offered.used >= 6 * KEPT {
                 self.offered = None;
             }
         }
@@ -87,6 +90,7 @@ fn offered_by(alloc: Global, now: u64, node: &Node) -> Result<Option<Offered>, M
         text: Vec::from_slice(alloc, stable.text)?,
         certificate: certificate_text(alloc, stable.checkpoint)?,
         since: now,
+        used: now,
     }))
 }
 
