@@ -22,6 +22,7 @@ def pairs(service):
     check(all("clients" not in each for each in clients), "a client has keys of clients")
     modes = {stat.S_IMODE(path.stat().st_mode) for path in Path(service.folder).glob("*-*.toml")}
     check(modes == {0o600}, f"modes {modes}")
+    check(Path(service.folder, "relay.counter").read_text() == "0\n", "the relay's first timestamp is another")
 
 
 def refusals(service):

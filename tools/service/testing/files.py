@@ -30,6 +30,8 @@ class Client:
         head = struct.pack(">6I", self.xid, 0, 2, program, version, procedure)
         self.stream.send(marked(head + credential + bytes(8) + arguments))
         reply = self.stream.reply()
+        if not reply:
+            raise ConnectionError("the connection was closed")
         check(reply[:24] == struct.pack(">6I", self.xid, 1, 0, 0, 0, 0), f"procedure {procedure}: {reply[:28].hex()}")
         return reply[24:]
 

@@ -9,6 +9,7 @@ from pathlib import Path
 
 HERE = Path(__file__).resolve().parent
 BFS = HERE.parents[1] / "bfs"
+FAKES = {"replica": f"{HERE}/fake_replica", "relay": f"{HERE}/fake_relay"}
 MEBIBYTE = 1 << 20
 PATIENCE = 15  # seconds that something has to come about
 
@@ -79,15 +80,15 @@ def peak(process):
 
 
 class Service:
-    """A deployment of fakes in a folder: what `tools/bfs up` started, and what was started beside it."""
+    """A deployment of these filters in a folder: what `tools/bfs up` started, and what was started beside it. `more` stands in cluster.toml, too."""
 
-    def __init__(self, folder, faults=1, clients=8):
-        self.folder, self.log, self.started = folder, Path(f"{folder}.log"), []
+    def __init__(self, folder, faults=1, clients=8, programs=FAKES, more=""):
+        self.folder, self.log, self.started, self.programs = folder, Path(f"{folder}.log"), [], programs
         *self.replicas, self.relay, self.portmap = [("127.0.0.1", port) for port in free_ports(3 * faults + 3)]
         text = lambda address: f'"{address[0]}:{address[1]}"'
         self.bfs("keys", folder, "--f", str(faults), "--clients", str(clients), "--relay", text(self.relay).strip('"'))
         listed, addresses = ", ".join(map(text, self.replicas)), f"relay = {text(self.relay)}\nportmap = {text(self.portmap)}\n"
-        Path(folder, "cluster.toml").write_text(f"f = {faults}\nclients = {clients}\nreplicas = [{listed}]\n{addresses}")
+        Path(folder, "cluster.toml").write_text(f"f = {faults}\nclients = {clients}\nreplicas = [{listed}]\n{addresses}{more}")
 
     def bfs(self, *words):
         """What a command of `tools/bfs` printed, and its status."""
@@ -96,7 +97,7 @@ class Service:
 
     def start(self, *words, **environment):
         """Starts a command that goes on."""
-        programs = f"--replica-program={HERE}/fake_replica", f"--relay-program={HERE}/fake_relay"
+        programs = [f"--{name}-program={path}" for name, path in self.programs.items()]
         with open(self.log, "ab") as log:
             command = [sys.executable, BFS, *words, self.folder, *programs]
             self.started.append(subprocess.Popen(command, stdout=log, stderr=log, stdin=subprocess.DEVNULL, env={**os.environ, **environment}))
@@ -110,7 +111,9 @@ class Service:
         process = self.start("up", **environment)
         count = len(self.replicas)
         wanted = [f"replica {one}: replica {other} is connected" for one in range(count) for other in range(count) if one != other]
-        wanted += [f"relay: replica {one} is connected" for one in range(count)] + ["fake relay begins"] + [f"replica {one}: a fake replica begins" for one in range(count)]
+        wanted += [f"relay: replica {one} is connected" for one in range(count)]
+        if self.programs is FAKES:
+            wanted += ["fake relay begins"] + [f"replica {one}: a fake replica begins" for one in range(count)]
         until(lambda: all(map(self.said, wanted)), "all are connected")
         return process
 

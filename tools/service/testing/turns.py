@@ -1,4 +1,5 @@
 """Turns of a filter in Python. One that reads what is no turn ends with status 9."""
+import os
 import struct
 import sys
 import time
@@ -38,5 +39,8 @@ def parcel(to, number, kind, payload):
 
 def answer(parcels):
     """Writes an answer of these parcels."""
-    sink.write(struct.pack(">I", len(parcels)) + b"".join(parcels))
-    sink.flush()
+    try:
+        sink.write(struct.pack(">I", len(parcels)) + b"".join(parcels))
+        sink.flush()
+    except BrokenPipeError:
+        os._exit(0)  # its transport was killed
