@@ -87,6 +87,7 @@ impl Hints {
 }
 
 // What such a message begins with.
+#[derive(Clone, Copy, Drop)]
 struct Head {
     tag: u32,
     sender: u32,

@@ -3,7 +3,6 @@ use crate::world::{World, settings};
 use bfs_clients::{Call, Clients};
 use bfs_codec::{decode, encode};
 use bfs_frames::Kind;
-use bfs_types::Memory;
 use std::alloc::Global;
 use std::test::Fail;
 
@@ -21,11 +20,8 @@ pub fn ask(alloc: Global, world: &mut World, client: u32, timestamp: u64) -> Res
 }
 
 /// Whether what clients were told gives the call a result that begins as one that was accepted does (RFC 5531 section 9).
-pub fn is_answered(alloc: Global, world: &World, call: &mut Call) -> Result<bool, Memory> {
-    let Ok(settings) = settings(alloc) else {
-        return Err(Memory);
-    };
-    let clients = Clients::new(alloc, &settings)?;
+pub fn is_answered(alloc: Global, world: &World, call: &mut Call) -> Result<bool, Fail> {
+    let clients = Clients::new(alloc, &settings(alloc)?)?;
     for reply in &world.replies {
         if let Ok(signed) = decode(alloc, reply.as_slice()) {
             call.tally.add(&clients, &signed)?;
