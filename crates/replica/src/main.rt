@@ -38,12 +38,21 @@ fn run<R: Runtime + AllocGlobal + Threads + Wait + Sync>(rt: &R) -> Result<(), E
     let deployment = deployment_at(rt, cluster.as_str()).context(cluster.clone()?)?;
     let node = node_at(rt, &deployment, keys.as_str()).context(keys.clone()?)?;
     let mut service = Service::new(alloc, node, Executor::serial(), terms_of(&deployment));
+    answer(rt, &deployment, &mut service)
+}
+
+fn answer<R: Runtime + AllocGlobal + Threads + Wait + Sync>(
+    rt: &R,
+    deployment: &Deployment,
+    service: &mut Service,
+) -> Result<(), Error> {
+    let alloc = rt.alloc();
     let mut reader = BufReader::new(alloc, rt.reader())?;
     let mut writer = io::writer(rt);
     serve(
         alloc,
         rt,
-        &mut service,
+        service,
         &deployment.limits(),
         &mut reader,
         &mut writer,
