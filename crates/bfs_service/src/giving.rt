@@ -12,6 +12,9 @@ const PIECE: u64 = 1 << 20;
 // how long a state is kept for those who fetch it, in microseconds
 const KEPT: u64 = 10_000_000;
 
+// how long the next piece may take to be asked for
+const MOMENT: u64 = 1_000_000;
+
 // A state that is given.
 #[derive(Drop)]
 struct Offered {
@@ -19,8 +22,18 @@ struct Offered {
     text: Vec<u8>,
     certificate: Vec<u8>,
     since: u64,
-    // when a piece of it was given last
+    // when a piece of it was given last, and to whom
     used: u64,
+    asker: u32,
+}
+
+impl Offered {
+    // whether another one than this has got a piece a moment ago, of a state that is not kept for long
+    fn is_fetched(&self, now: u64, asker: u32) -> bool {
+        self.asker != asker
+            && self.used.saturating_add(MOMENT) > now
+            && self.since.saturating_add(KEPT) > now
+    }
 }
 
 /// The state that is being given, if one is. It is a copy, so that it stays while the node goes on.
@@ -49,10 +62,11 @@ impl Giving {
         let Ok(ask) = Ask::read(payload) else {
             return Ok(());
         };
-        self.choose(now, node, ask.above)?;
+        self.choose(now, node, ask)?;
         match &mut self.offered {
             Some(offered) if offered.number > ask.above => {
                 offered.used = now;
+                offered.asker = ask.asker;
                 let piece = piece_of(offered, node.number(), ask);
                 notes.add(To::Replica(ask.asker), Kind::State, piece.text(self.alloc)?)
             }
@@ -60,10 +74,13 @@ impl Giving {
         }
     }
 
-    // A state that is kept long enough, and isn't above what is asked for, makes room for a later one.
-    fn choose(&mut self, now: u64, node: &Node, above: u64) -> Result<(), Memory> {
+    // A state that isn't above what is asked for makes room for a later one, unless another replica was fetching it a moment ago.
+    fn choose(&mut self, now: u64, node: &Node, ask: Ask) -> Result<(), Memory> {
+        if node.stable_number() <= ask.above {
+            return Ok(());
+        }
         if let Some(offered) = &self.offered {
-            if offered.number > above || (offered.since <= now && now - offered.since < KEPT) {
+            if offered.number > ask.above || offered.is_fetched(now, ask.asker) {
                 return Ok(());
             }
         }
@@ -91,6 +108,7 @@ fn offered_by(alloc: Global, now: u64, node: &Node) -> Result<Option<Offered>, M
         certificate: certificate_text(alloc, stable.checkpoint)?,
         since: now,
         used: now,
+        asker: node.number(),
     }))
 }
 
