@@ -1,5 +1,5 @@
 //! Clients that call, and the results that f + 1 replicas tell them.
-use crate::world::{World, settings};
+use crate::world::{Up, World, settings};
 use bfs_clients::{Call, Clients};
 use bfs_codec::{decode, encode};
 use bfs_frames::Kind;
@@ -38,7 +38,7 @@ pub fn answered_of<R: std::thread::Threads + std::sync::Wait + Sync>(
     rt: &R,
     alloc: Global,
     world: &mut World,
-    up: u32,
+    up: &Up,
     timestamps: std::ops::Range<u64>,
 ) -> Result<u32, Fail> {
     let mut answered = 0;

@@ -40,10 +40,10 @@ fn rubbish_changes_nothing(rt: HostRuntime) -> Result<(), Fail> {
         &mut world,
         b"\0\0\0\x01\0\0\0\0\0\0\0\0\0\0\0\0\0\0\0\0\0\0\0\0\0\0\0\0\0\0\0\0\0\0\0\0\0\0\0\0",
     )?;
-    world.play(&rt, 0, ALL, 3)?;
+    world.play(&rt, 0, &ALL, 3)?;
     same!(rt; (world.replies.len(), world.notes.len()), (0, 0));
     same!(rt; world.standing(0), (0, 0, 0));
-    same!(rt; answered_of(&rt, alloc, &mut world, ALL, 1..2)?, 1);
+    same!(rt; answered_of(&rt, alloc, &mut world, &ALL, 1..2)?, 1);
     Ok(())
 }
 
@@ -51,9 +51,9 @@ fn rubbish_changes_nothing(rt: HostRuntime) -> Result<(), Fail> {
 fn operators_are_told(rt: HostRuntime) -> Result<(), Fail> {
     let alloc = rt.alloc();
     let mut world = World::new(alloc, TERMS)?;
-    same!(rt; answered_of(&rt, alloc, &mut world, ALL, 1..3)?, 2);
+    same!(rt; answered_of(&rt, alloc, &mut world, &ALL, 1..3)?, 2);
     world.send(Kind::AskReport, b"")?;
-    world.play(&rt, 0, ALL, 1)?;
+    world.play(&rt, 0, &ALL, 1)?;
     same!(rt; world.notes.len(), 4);
     let note = world.notes.first().ok_or("a report")?;
     same!(rt; note.starts_with(b"view=0 asked=0 executed=2 stable=0 waiting=0 digest="), true);

@@ -9,8 +9,17 @@ use std::sync::Wait;
 use std::test::Fail;
 use std::thread::Threads;
 
-/// Which replicas are up, one bit each.
-pub const ALL: u32 = 0b1111;
+/// Which replicas are up, by their numbers.
+pub type Up = [bool; 4];
+
+/// All of them.
+pub static ALL: Up = [true; 4];
+
+/// All but the primary of the first view.
+pub static BACKUPS: Up = [false, true, true, true];
+
+/// All but replica 3.
+pub static THREE: Up = [true, true, true, false];
 
 /// How they serve: they wait two seconds.
 pub const TERMS: Terms = Terms {
@@ -68,7 +77,7 @@ impl World {
         &mut self,
         rt: &R,
         millis: u32,
-        up: u32,
+        up: &Up,
         rounds: u32,
     ) -> Result<(), Memory> {
         for _ in 0..rounds {
@@ -81,7 +90,7 @@ impl World {
         &mut self,
         rt: &R,
         millis: u32,
-        up: u32,
+        up: &Up,
     ) -> Result<(), Memory> {
         for number in 0..self.replicas.len() {
             let told = self.take_turn(rt, millis, up, number)?;
@@ -94,7 +103,7 @@ impl World {
         &mut self,
         rt: &R,
         millis: u32,
-        up: u32,
+        up: &Up,
         number: usize,
     ) -> Result<Vec<Parcel>, Memory> {
         let time = Time::new(millis / 1_000, millis % 1_000 * 1_000).unwrap_or(Time::epoch());
@@ -105,7 +114,7 @@ impl World {
             return Ok(Vec::new(self.alloc));
         };
         let frames = std::mem::replace(inbox, Vec::new(self.alloc));
-        if up >> number & 1 == 0 {
+        if up.get(number) != Some(&true) {
             return Ok(Vec::new(self.alloc));
         }
         service.take_turn(rt, &Turn { time, frames })
