@@ -46,7 +46,7 @@ pub fn answered_of<R: std::thread::Threads + std::sync::Wait + Sync>(
         let mut call = ask(alloc, world, 0, timestamp)?;
         world.play(rt, 0, up, 8)?;
         if is_answered(alloc, world, &mut call)? {
-            answered += 1;
+            answered = answered.saturating_add(1);
         }
         world.replies.clear();
     }
