@@ -41,7 +41,7 @@ pub fn answered_of<R: std::thread::Threads + std::sync::Wait + Sync>(
     up: &Up,
     timestamps: std::ops::Range<u64>,
 ) -> Result<u32, Fail> {
-    let mut answered = 0;
+    let mut answered = 0u32;
     for timestamp in timestamps {
         let mut call = ask(alloc, world, 0, timestamp)?;
         world.play(rt, 0, up, 8)?;
