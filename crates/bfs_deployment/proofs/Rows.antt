@@ -5,7 +5,7 @@ use Rattle.std.specs.Str.{chars, is_utf8}
 use Rattle.toml.proofs.OnLiterals.{toml_on_literals}
 use Rattle.bfs_frames.specs.declared.kind.Kind.TheVariants as kind
 use Rattle.bfs_deployment.specs.Document.{deployment_in, deployment_spelled}
-use Rattle.bfs_deployment.specs.Limits.{default_limits}
+use Rattle.bfs_frames.specs.Limits.{default_limits}
 use Rattle.bfs_deployment.specs.Tables.{table_spelled}
 use Rattle.bfs_deployment.specs.declared.error.DeploymentError.TheVariants as error
 use Rattle.bfs_deployment.specs.declared.key.Key.TheVariants as key

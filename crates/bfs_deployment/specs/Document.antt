@@ -6,7 +6,8 @@ use Rattle.bfs_model.specs.Server.Limits.{most_clients, most_faults}
 use Rattle.bfs_settings.specs.Settings.{replicas_for}
 use Rattle.bfs_deployment.specs.Deployment.{Deployment, default_patience, most_patience}
 use Rattle.bfs_deployment.specs.Keys.{document_keys, name_of}
-use Rattle.bfs_deployment.specs.Limits.{default_limits, limits_in}
+use Rattle.bfs_deployment.specs.Limits.{limits_in}
+use Rattle.bfs_frames.specs.Limits.{default_limits}
 use Rattle.bfs_deployment.specs.Tables.{Reading, needed, number_at, number_in, refused_or, said_or, table_spelled, text_in, texts_in, unknown_name}
 use Rattle.bfs_deployment.specs.declared.error.DeploymentError.TheVariants as error
 use Rattle.bfs_deployment.specs.declared.key.Key.TheVariants.{F, Clients, Replicas, Relay, Portmap, Patience, Limits}

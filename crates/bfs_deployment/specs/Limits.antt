@@ -1,36 +1,16 @@
--- The most bytes of a frame of each kind, and how a document raises them.
-use Rattle.std.specs.Prelude.{ℕ, ◌+◌, ◌*◌, ◌-◌, ◌^◌, ◌≤◌, Ok, Err, option_map}
+-- How a document raises the most bytes of a frame of each kind.
+use Rattle.std.specs.Prelude.{ℕ, ◌-◌, ◌^◌, ◌≤◌, Ok, Err, option_map}
 use Rattle.toml.specs.Data.{Data, table, Members, get_member}
 use Rattle.bfs_frames.specs.Frames.{most_of}
+use Rattle.bfs_frames.specs.Limits.{default_limits}
 use Rattle.bfs_frames.specs.declared.kind.Kind.{Kind}
 use Rattle.bfs_frames.specs.declared.kind.Kind.TheVariants as kind
 use Rattle.bfs_frames.specs.declared.limits.Limits.{Limits}
 use Rattle.bfs_model.specs.Bytes.Items.{◌>>=◌}
-use Rattle.bfs_model.specs.Server.Limits.{most_replicas, most_reply_bytes, most_request_bytes}
 use Rattle.bfs_deployment.specs.Keys.{limit_keys, name_of}
 use Rattle.bfs_deployment.specs.Tables.{Reading, number_in, refused_or, said_or, unknown_name}
 use Rattle.bfs_deployment.specs.declared.error.DeploymentError.TheVariants as error
 use Rattle.bfs_deployment.specs.declared.key.Key.TheVariants as key
-
-abbrev pub mebibyte : ℕ
-mebibyte = 2 ^ 20
-
-abbrev pub default_limits : Limits
-default_limits = record {
-  request = 24 + most_request_bytes + 32 * most_replicas;
-  order = 4 * mebibyte;
-  view_change = 64 * mebibyte;
-  new_view = 64 * mebibyte;
-  reply = 36 + most_reply_bytes + 32 * most_replicas;
-  status = 2048;
-  ask_state = 2048;
-  state = 2 * mebibyte;
-  ask_report = 2048;
-  report = mebibyte;
-  call = 8 + most_request_bytes;
-  answer = 8 + most_reply_bytes;
-  log = 4096;
-}
 
 -- no kind has less than by default
 abbrev pub AreRoomy : Limits → Type 0

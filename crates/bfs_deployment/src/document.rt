@@ -5,7 +5,8 @@ ghost use Rattle.bfs_model.specs.Server.Limits.{most_faults};
 ghost use Rattle.bfs_settings.specs.Settings.{replicas_for};
 ghost use Rattle.bfs_deployment.specs.Document.{deployment_in, deployment_said, deployment_spelled, portmap_in, replicas_in};
 ghost use Rattle.bfs_deployment.specs.Keys.{document_keys, name_of};
-ghost use Rattle.bfs_deployment.specs.Limits.{AreRoomy, default_limits, limits_in};
+ghost use Rattle.bfs_frames.specs.Limits.{default_limits};
+ghost use Rattle.bfs_deployment.specs.Limits.{AreRoomy, limits_in};
 ghost use Rattle.bfs_deployment.specs.Outcomes.{Gives};
 ghost use Rattle.bfs_deployment.specs.Tables.{said_or};
 ghost use Rattle.bfs_deployment.specs.declared.key.Key.TheVariants as key;
@@ -13,7 +14,7 @@ ghost use Rattle.bfs_deployment.specs.declared.key.Key.TheVariants as key;
 use crate::deployment::{DEFAULT_PATIENCE, Deployment, MOST_PATIENCE};
 use crate::error::DeploymentError;
 use crate::key::Key;
-use crate::limits::{default_limits, limits_in};
+use crate::limits::limits_in;
 use crate::tables::{
     needed, number_at, number_or, read_table, text_in, texts_in, unknown_in, value_at,
 };
@@ -65,7 +66,7 @@ fn limits_at(alloc: Global, table: &Table) -> Result<Limits, DeploymentError>
 {
     match value_at(table, Key::Limits) {
         Some(value) => limits_in(alloc, value),
-        None => Ok(default_limits()),
+        None => Ok(Limits::new()),
     }
 }
 
@@ -111,7 +112,7 @@ fn deployment_in(alloc: Global, table: &Table) -> Result<Deployment, DeploymentE
 /// | `relay` | a text, where the relay listens |
 /// | `portmap` | a text, where the relay tells its port; it may be left out |
 /// | `patience` | milliseconds, 1 to 600,000, that a replica waits for a request before it asks for the next view; 2,000 where it is left out |
-/// | `limits` | a table of the most bytes of frames, with the names of `Limits`' fields; what is left out is as in `default_limits`, which is also the least |
+/// | `limits` | a table of the most bytes of frames, with the names of `Limits`' fields; what is left out is as in `Limits::new`, which is also the least |
 ///
 /// No other key may stand there. What a text says is not looked into.
 #[tactic(auto, unfolding(crate::specs::Document::deployment_spelled))]

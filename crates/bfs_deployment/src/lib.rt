@@ -14,5 +14,4 @@ pub use deployment::{DEFAULT_PATIENCE, Deployment, MOST_PATIENCE};
 pub use document::parse_deployment;
 pub use error::DeploymentError;
 pub use key::Key;
-pub use limits::default_limits;
 pub use text::Text;

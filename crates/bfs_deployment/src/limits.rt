@@ -2,7 +2,8 @@ ghost use Rattle.std.specs.Prelude.{◌≡◌, ◌≤◌, IfOk};
 ghost use Rattle.toml.specs.View.{table_view, view};
 ghost use Rattle.bfs_frames.specs.Frames.{most_of};
 ghost use Rattle.bfs_deployment.specs.Keys.{limit_keys};
-ghost use Rattle.bfs_deployment.specs.Limits.{AreRoomy, default_limits, limit_in, limits_in, limits_said};
+ghost use Rattle.bfs_frames.specs.Limits.{default_limits};
+ghost use Rattle.bfs_deployment.specs.Limits.{AreRoomy, limit_in, limits_in, limits_said};
 ghost use Rattle.bfs_deployment.specs.Outcomes.{Gives};
 
 use crate::error::DeploymentError;
@@ -11,8 +12,6 @@ use crate::tables::{number_or, unknown_in};
 use bfs_frames::{Kind, Limits};
 use std::alloc::Global;
 use toml::{Table, Value};
-
-const MEBIBYTE: u32 = 1 << 20;
 
 const LIMIT_KEYS: [Key; 13] = [
     Key::Limit(Kind::Request),
@@ -30,30 +29,11 @@ const LIMIT_KEYS: [Key; 13] = [
     Key::Limit(Kind::Log),
 ];
 
-/// The limits where a document raises none. They are those of `Limits::new`, but for messages of the order, which have 4 MiB: a PRE-PREPARE fits whose
-/// requests have a mebibyte, however small each of them is.
-pub fn default_limits() -> Limits
-    ensures { result ≡ default_limits }
-{
-    Limits {
-        order: 4 * MEBIBYTE,
-        view_change: 64 * MEBIBYTE,
-        new_view: 64 * MEBIBYTE,
-        status: 2_048,
-        ask_state: 2_048,
-        state: 2 * MEBIBYTE,
-        ask_report: 2_048,
-        report: MEBIBYTE,
-        log: 4_096,
-        ..Limits::new()
-    }
-}
-
 fn limit_in(table: &Table, kind: Kind) -> Result<u32, DeploymentError>
     ensures value { result ≡ limit_in kind (table_view table.now) }
     ensures least { IfOk result (λ limit. most_of default_limits kind ≤ limit) }
 {
-    let least = default_limits().of(kind);
+    let least = Limits::new().of(kind);
     number_or(least, table, Key::Limit(kind), least, u32::MAX)
 }
 

@@ -1,5 +1,5 @@
 -- Frames and turns as bytes, and what is read of them.
-use Rattle.std.specs.Prelude.{◌≡◌, ℕ, Bool, List, [], ◌∷◌, ◌++◌, length, map, filter, nat_le, Option, None, Some, is_some, option_and_then, if◌then◌else◌}
+use Rattle.std.specs.Prelude.{◌≡◌, ℕ, ◌+◌, ◌*◌, Bool, List, [], ◌∷◌, ◌++◌, length, map, filter, nat_le, Option, None, Some, is_some, option_and_then, if◌then◌else◌}
 use Rattle.std.specs.List.{AllByRecursion, flat_map}
 use Rattle.std.specs.Io.KnownBytes.{Consumes}
 use Rattle.bfs_model.specs.Bytes.Formats.{list_text}
@@ -24,6 +24,9 @@ IsFrame frame = IsByte frame.kind × IsWord (length frame.payload)
 
 abbrev pub frame_text : RawFrame → List ℕ
 frame_text frame = frame.kind ∷ [] ++ word (length frame.payload) ++ frame.payload
+
+abbrev pub microseconds : Time → ℕ
+microseconds time = 1000000 * time.seconds + time.useconds
 
 -- a time, how many frames came by then, and they
 abbrev pub turn_text : Time → List RawFrame → List ℕ

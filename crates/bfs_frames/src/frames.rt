@@ -1,3 +1,6 @@
+ghost use Rattle.std.specs.Prelude.{◌≡◌};
+ghost use Rattle.bfs_frames.specs.Frames.{microseconds};
+
 use crate::kind::Kind;
 use bfs_types::Time;
 
@@ -14,4 +17,13 @@ pub struct Turn {
     pub time: Time,
     /// In the order in which they came.
     pub frames: Vec<Frame>,
+}
+
+impl Turn {
+    /// The time when it was gathered, in microseconds since 1970.
+    pub fn microseconds(&self) -> u64
+        ensures { result ≡ microseconds self.now.time }
+    {
+        u64::from(self.time.seconds()) * 1_000_000 + u64::from(self.time.useconds())
+    }
 }

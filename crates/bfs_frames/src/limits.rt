@@ -1,6 +1,6 @@
-ghost use Rattle.std.specs.Prelude.{◌≡◌, ◌+◌, ◌*◌};
-ghost use Rattle.bfs_model.specs.Server.Limits.{most_replicas, most_reply_bytes, most_request_bytes};
+ghost use Rattle.std.specs.Prelude.{◌≡◌};
 ghost use Rattle.bfs_frames.specs.Frames.{kind_within, most_of};
+ghost use Rattle.bfs_frames.specs.Limits.{default_limits};
 
 use crate::kind::Kind;
 use bfs_types::{MOST_REPLICAS, MOST_REPLY_BYTES, MOST_REQUEST_BYTES};
@@ -29,17 +29,15 @@ pub struct Limits {
 }
 
 impl Limits {
-    /// Room for every REQUEST, REPLY, call and answer, for PRE-PREPAREs whose batches have texts of a mebibyte, for VIEW-CHANGEs and NEW-VIEWs of 64 MiB, and for
-    /// pieces of a state of two mebibytes. The latter are a choice: 64 MiB is the most that transports carry.
+    /// Room for every REQUEST, REPLY, call and answer, for messages of the order of 4 MiB, which a PRE-PREPARE has whose requests have a mebibyte, however
+    /// small each of them is, for VIEW-CHANGEs and NEW-VIEWs of 64 MiB, and for pieces of a state of two mebibytes. The latter are a choice: 64 MiB is the
+    /// most that transports carry.
     pub fn new() -> Limits
-        ensures request { result.request ≡ 24 + most_request_bytes + 32 * most_replicas }
-        ensures reply { result.reply ≡ 36 + most_reply_bytes + 32 * most_replicas }
-        ensures call { result.call ≡ 8 + most_request_bytes }
-        ensures answer { result.answer ≡ 8 + most_reply_bytes }
+        ensures { result ≡ default_limits }
     {
         Limits {
             request: 20 + MOST_REQUEST_BYTES as u32 + HASHES,
-            order: 56 + HASHES + MEBIBYTE,
+            order: 4 * MEBIBYTE,
             view_change: 64 * MEBIBYTE,
             new_view: 64 * MEBIBYTE,
             reply: 32 + MOST_REPLY_BYTES as u32 + HASHES,

@@ -1,5 +1,5 @@
 //! Each part of a deployment that a document describes.
-use bfs_deployment::{Deployment, default_limits, parse_deployment};
+use bfs_deployment::{Deployment, parse_deployment};
 use bfs_frames::Limits;
 use bfs_testing::{holds, same};
 use std::test::Fail;
@@ -69,12 +69,8 @@ fn what_may_be_left_out_has_defaults(rt: HostRuntime) -> Result<(), Fail> {
     holds!(rt; deployment.relay() == "127.0.0.1:2049");
     holds!(rt; deployment.portmap().is_none());
     same!(rt; deployment.patience(), 2_000);
-    same!(rt; deployment.limits(), default_limits());
-    let limits = Limits {
-        order: 4_194_304,
-        ..Limits::new()
-    };
-    same!(rt; default_limits(), limits);
+    same!(rt; deployment.limits(), Limits::new());
+    same!(rt; Limits::new().order, 4_194_304);
     Ok(())
 }
 
