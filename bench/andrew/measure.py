@@ -1,8 +1,8 @@
 """andrew [rounds=N replica=PATH relay=PATH]: phases like those of the Andrew benchmark, by a real kernel on one replica and on four.
 
 `tools/kernel` does each, as often as there are rounds (2), in turn: the least seconds of a phase. The machine is QEMU's, without a processor's help, and the
-same for both: what it takes itself is in all figures. Debian 12 has no server in user space that speaks version 2, to stand beside them: NFS-Ganesha and
-unfs3 speak 3 and later. Without programs these are the built ones.
+same for both: what it takes itself is in all figures. Debian 12 has no server in user space that speaks version 2, to stand beside them: its one,
+NFS-Ganesha, speaks 3 and later. Without programs these are the built ones.
 """
 import subprocess
 import sys

@@ -1,8 +1,9 @@
-"""service [f=N seconds=N clients=N replica=PATH relay=PATH bfs=PATH]: what calls take through a relay and replicas as processes.
+"""service [f=N seconds=N clients=N replica=PATH relay=PATH bfs=PATH ganesha=1]: what calls take through a relay and replicas as processes.
 
 GETATTRs and WRITEs of 8 KiB, 1 and 64 at a time, on this machine: calls a second, the median and the slowest hundredth of the times that calls took, and the
 processor time of a call in transports (their part of both) and in filters. Without programs the filters are bench/service/fakes.rs, which do next to nothing.
-`bfs=` names another checkout's tools/bfs.
+`bfs=` names another checkout's tools/bfs. With `ganesha=1` it is Debian's one NFS server in user space instead, alone and with its files in memory, by
+version 3 of NFS, since it speaks no version 2.
 """
 import os
 import pathlib
@@ -15,8 +16,9 @@ import sys
 import time
 
 import lib
+from service import ganesha
 
-SETTINGS = {"f": 1, "seconds": 5, "clients": 64, "replica": "", "relay": "", "bfs": str(lib.TOP / "tools/bfs")}
+SETTINGS = {"f": 1, "seconds": 5, "clients": 64, "replica": "", "relay": "", "bfs": str(lib.TOP / "tools/bfs"), "ganesha": 0}
 BLOCK, BLOCKS = 8_192, 64  # bytes of a WRITE, and how many of them the file has
 AT_A_TIME = 1, 64
 WARM = 0.5  # seconds before it is measured
@@ -82,6 +84,12 @@ class Client:
             if now < end:
                 send(len(replies))
         return took
+
+
+def made_file(client):
+    """The handle of a new file."""
+    root = client.ask(MOUNT, 1, struct.pack(">I4s", 1, b"/"))[:32]
+    return client.ask(NFS, 9, root + struct.pack(">I4s", 4, b"file") + struct.pack(">I", 0o644) + UNSET * 7)[:32]
 
 
 def getattrs(handle):
@@ -156,12 +164,9 @@ def fakes(room):
     return built
 
 
-def measure(service, seconds):
-    client = Client(service.port)
-    root = client.ask(MOUNT, 1, struct.pack(">I4s", 1, b"/"))[:32]
-    handle = client.ask(NFS, 9, root + struct.pack(">I4s", 4, b"file") + struct.pack(">I", 0o644) + UNSET * 7)[:32]
+def measure(service, client, all_calls, seconds):
     print("calls         at a time   calls/s   median ms   99 % ms   transports us   filters us   transports   processors")
-    for name, calls in ("GETATTR", getattrs(handle)), ("WRITE 8 KiB", writes(handle)):
+    for name, calls in zip(("GETATTR", "WRITE 8 KiB"), all_calls):
         for outstanding in AT_A_TIME:
             client.run(outstanding, WARM, calls)
             before, begun = (used(service.transports), used(service.filters)), time.monotonic()
@@ -179,11 +184,18 @@ def main(room, words):
     pairs = [word.partition("=") for word in words]
     lib.chosen([name for name, *_ in pairs], SETTINGS)
     settings = {**SETTINGS, **{name: type(SETTINGS[name])(value) for name, _, value in pairs}}
+    if settings["ganesha"]:
+        with ganesha.Server(room) as server:
+            client = Client(server.port)
+            measure(server, client, ganesha.calls(client, Client(server.mount_port), BLOCK, BLOCKS), settings["seconds"])
+        return
     programs = {name: settings[name] for name in ("replica", "relay")}
     if not any(programs.values()):
         programs = fakes(room)
     service = Service(room, settings, programs)
     try:
-        measure(service, settings["seconds"])
+        client = Client(service.port)
+        handle = made_file(client)
+        measure(service, client, (getattrs(handle), writes(handle)), settings["seconds"])
     finally:
         service.end()
