@@ -9,6 +9,7 @@ use Rattle.bfs_model.specs.Server.Limits.{most_request_bytes}
 use Rattle.bfs_messages.specs.declared.message.Message.{Message}
 use Rattle.bfs_messages.specs.declared.message.Message.TheVariants.{Reply}
 use Rattle.bfs_messages.specs.declared.signed.Signed.{Signed}
+use Rattle.bfs_frames.specs.Frames.{microseconds}
 use Rattle.bfs_frames.specs.declared.frames.Frame.{Frame}
 use Rattle.bfs_frames.specs.declared.frames.Turn.{Turn}
 use Rattle.bfs_frames.specs.declared.kind.Kind.{Kind}
@@ -16,12 +17,14 @@ use Rattle.bfs_frames.specs.declared.kind.Kind.TheVariants as kind
 use Rattle.bfs_clients.specs.Clients.{Clients}
 use Rattle.bfs_clients.specs.Counters.{Counter, counted_call}
 use Rattle.bfs_relay.specs.Origins.{WhatIsToldHasItsOrigin, CallCame, Came, FrameCame, HasOrigin, ReplyCame, TurnCame, call_as, call_at, told_in}
+use Rattle.bfs_relay.proofs.Leading.{leader_is_replica}
 use Rattle.bfs_relay.proofs.Backed.{SeatHolds, asked_holds, begun_holds, heard_holds, more_told, no_told, one_told, reply_holds}
 use Rattle.bfs_relay.specs.OwnReplies.{own_reply}
 use Rattle.bfs_relay.specs.Parcels.{dropped_told, reply_told}
-use Rattle.bfs_relay.specs.Relays.{Relay, asked_at, asked_by, begun_at, begun_by, called, dropped, heard_as, heard_at, heard_by, is_free_among, most_waiting, next_begun, next_of, placed, queued, relay_heard}
+use Rattle.bfs_frames.specs.declared.parcels.To.{To}
+use Rattle.bfs_relay.specs.Relays.{Relay, asked_at, asked_first, asked_by, begun_at, begun_by, called, dropped, heard_as, heard_at, heard_by, is_free_among, most_waiting, next_begun, next_of, placed, queued, relay_heard, with_views}
 use Rattle.bfs_relay.specs.Seats.{Call, Seat, begun, heard, told_beginning, told_hearing, is_free, is_of, is_past, second, told_with}
-use Rattle.bfs_relay.specs.Turns.{answered, call_taken, calls_taken, frame_taken_as, microseconds, new_relay, replies_heard, reply_in, taken_as, turned}
+use Rattle.bfs_relay.specs.Turns.{answered, call_taken, calls_taken, frame_taken_as, new_relay, replies_heard, reply_in, taken_as, turned}
 
 -- What a relay keeps to -----------------------------------------------------------------------------------------------
 
@@ -37,9 +40,9 @@ abbrev free_seat : Counter → Seat
 free_seat counter = record { counter = counter; request = None }
 
 -- with the keys of clients beside it
-abbrev begun_with : Clients → (now place : ℕ) → Call → Seat → Relay → Relay
-begun_with keys now place call seat relay =
-    record relay { seats = slice_set relay.seats place (begun keys now call seat); told = relay.told ++ told_beginning keys call seat }
+abbrev begun_with : Clients → (now place : ℕ) → To → Call → Seat → Relay → Relay
+begun_with keys now place to call seat relay =
+    record relay { seats = slice_set relay.seats place (begun keys now call seat); told = relay.told ++ told_beginning keys to call seat }
 
 abbrev heard_with : Clients → (place : ℕ) → Signed Message → Seat → Relay → Relay
 heard_with keys place signed seat relay =
@@ -61,14 +64,15 @@ module _ (clients : Clients) (came : Came) where
       → slice_get relay.seats place ≡ seat → Holds clients came (begun_by seat now place call relay)
   begun_by_holds now place call relay called holds None is = holds
   begun_by_holds now place call relay called holds (Some seat) is =
-      let P : Clients → Type 0 = λ keys. Holds clients came (begun_with keys now place call seat relay) in
+      let P : Clients → Type 0 = λ keys. Holds clients came (begun_with keys now place (asked_first relay) call seat relay) in
       subst P (sym holds.keys) (
-      let parts = begun_holds clients came now call seat called (seat_at relay.seats place seat is holds.seats) (counted_call clients seat.counter call.bytes) refl in
+      let to = asked_first relay in
+      let parts = begun_holds clients came now to call seat (leader_is_replica relay.clients.f relay.views) called (seat_at relay.seats place seat is holds.seats) (counted_call clients seat.counter call.bytes) refl in
       record {
         keys = holds.keys;
         seats = All-set (SeatHolds clients came) relay.seats place _ parts.0 holds.seats;
         calls = holds.calls;
-        told = more_told clients came relay.told (told_with (counted_call clients seat.counter call.bytes)) holds.told parts.1;
+        told = more_told clients came relay.told (told_with to (counted_call clients seat.counter call.bytes)) holds.told parts.1;
       }
       )
 
@@ -201,7 +205,8 @@ module _ (clients : Clients) (came : Came) where
   replies_hold now [] relay all holds = holds
   replies_hold now (signed ∷ replies) relay all holds =
       replies_hold now replies (relay_heard now relay signed) (All-tail (Contains came.replies) signed replies all)
-      (heard_as_holds signed.message now signed relay (All-head (Contains came.replies) signed replies all) holds)
+      (heard_as_holds signed.message now signed (with_views signed relay) (All-head (Contains came.replies) signed replies all)
+      (record { keys = holds.keys; seats = holds.seats; calls = holds.calls; told = holds.told }))
 
   replies_came : (frames : List Frame) → All (FrameCame came) frames → All (Contains came.replies) (filter_map reply_in frames)
   replies_came [] all = All-nil (Contains came.replies)

@@ -8,7 +8,8 @@ use Rattle.bfs_model.specs.Bytes.Items.{hyper}
 use Rattle.bfs_messages.specs.declared.message.Message.{Message}
 use Rattle.bfs_messages.specs.declared.signed.Signed.{Signed}
 use Rattle.bfs_frames.specs.declared.kind.Kind.TheVariants as kind
-use Rattle.bfs_frames.specs.declared.parcels.To.TheVariants.{Caller}
+use Rattle.bfs_frames.specs.declared.parcels.To.{To}
+use Rattle.bfs_frames.specs.declared.parcels.To.TheVariants.{Caller, Client, Operator, Replica, Replicas}
 use Rattle.bfs_messages.specs.Spelling.{signed_text}
 use Rattle.bfs_clients.specs.Clients.{Clients, signed_request}
 use Rattle.bfs_clients.specs.Counters.{counted_call}
@@ -16,6 +17,7 @@ use Rattle.bfs_clients.specs.Tallies.{Tally, agreed, no_replies, tallied_by, tal
 use Rattle.bfs_clients.specs.declared.clients.Call as client
 use Rattle.bfs_relay.specs.Origins.{Came, HasOrigin, IsAgreed, IsOwn, IsRequest, IsSignedFor}
 use Rattle.bfs_frames.specs.Parcels.{Told}
+use Rattle.bfs_relay.specs.Leaders.{IsToReplicas}
 use Rattle.bfs_relay.specs.Parcels.{reply_told, request_told}
 use Rattle.bfs_relay.specs.Relays.{called}
 use Rattle.bfs_relay.specs.Seats.{Call, Outstanding, Seat, begun, counted, is_due, most_patience, outstanding, seat_with, sent_again, settled, still_waits, told_again, told_agreed, told_settling, told_with}
@@ -73,11 +75,19 @@ module _ (clients : Clients) (came : Came) where
   request_of : (client : ℕ) (request : Outstanding) → IsBacked clients came client request → IsRequest clients came request.text
   request_of client request backed = record { ticket = request.ticket; client = client; timestamp = backed.timestamp; asked = backed.asked }
 
-  pub begun_holds : (now : ℕ) (call : Call) (seat : Seat) → Contains came.calls call → SeatHolds clients came seat → (begun : Option client.Call)
-      → counted_call clients seat.counter call.bytes ≡ begun
-      → SeatHolds clients came (seat_with now call seat begun) × All (HasOrigin clients came) (told_with begun)
-  begun_holds now call seat called holds None is = (holds, no_told)
-  begun_holds now call seat called holds (Some begun) is =
+  -- to whichever replicas it goes
+  request_origin : (to : To) (text : List ℕ) → IsToReplicas to → IsRequest clients came text → HasOrigin clients came (request_told to text)
+  request_origin Replicas text goes is = is
+  request_origin (Replica number) text goes is = is
+  request_origin (Client number) text goes is = absurd goes
+  request_origin Operator text goes is = absurd goes
+  request_origin (Caller ticket) text goes is = absurd goes
+
+  pub begun_holds : (now : ℕ) (to : To) (call : Call) (seat : Seat) → IsToReplicas to → Contains came.calls call → SeatHolds clients came seat
+      → (begun : Option client.Call) → counted_call clients seat.counter call.bytes ≡ begun
+      → SeatHolds clients came (seat_with now call seat begun) × All (HasOrigin clients came) (told_with to begun)
+  begun_holds now to call seat goes called holds None is = (holds, no_told)
+  begun_holds now to call seat goes called holds (Some begun) is =
       let parts = made (nat_lt seat.counter.next (2 ^ 64 - 1)) (signed_request clients (record { client = seat.counter.client; timestamp = seat.counter.next; call = call.bytes }))
       (no_replies clients.f seat.counter.client seat.counter.next) begun is in
       let backed : IsBacked clients came seat.counter.client (outstanding now call.ticket begun) = record {
@@ -86,7 +96,7 @@ module _ (clients : Clients) (came : Came) where
         replies = [];
         heard = All-nil (Contains came.replies);
         tallied = parts.1;
-      } in (backed, one_told (request_told (signed_text begun.request)) (request_of seat.counter.client (outstanding now call.ticket begun) backed))
+      } in (backed, one_told (request_told to (signed_text begun.request)) (request_origin to (signed_text begun.request) goes (request_of seat.counter.client (outstanding now call.ticket begun) backed)))
 
   counted_holds : (signed : Signed Message) (client : ℕ) (request : Outstanding) → Contains came.replies signed → IsBacked clients came client request
       → IsBacked clients came client (counted clients signed request)
@@ -134,9 +144,9 @@ module _ (clients : Clients) (came : Came) where
   asked_holds now client None backed = (tt, no_told)
   asked_holds now client (Some request) backed = go (is_due now request)
     where
-      go : (due : Bool) → IsBacked clients came client (cond due (sent now request) request) × All (HasOrigin clients came) (cond due (request_told request.text ∷ []) [])
+      go : (due : Bool) → IsBacked clients came client (cond due (sent now request) request) × All (HasOrigin clients came) (cond due (request_told Replicas request.text ∷ []) [])
       go true = (
         record { timestamp = backed.timestamp; asked = backed.asked; replies = backed.replies; heard = backed.heard; tallied = backed.tallied },
-        one_told (request_told request.text) (request_of client request backed),
+        one_told (request_told Replicas request.text) (request_of client request backed),
       )
       go false = (backed, no_told)

@@ -6,7 +6,7 @@ use Rattle.bfs_messages.specs.declared.message.Message.TheVariants.{Reply}
 use Rattle.bfs_messages.specs.declared.signed.Signed.{Signed}
 use Rattle.bfs_clients.specs.Clients.{Clients}
 use Rattle.bfs_relay.specs.Seats.{Call, Seat, is_of}
-use Rattle.bfs_relay.specs.Relays.{Relay, begun_at, begun_by, heard_as, heard_at, heard_by, is_free_among, next_begun, next_of, relay_heard}
+use Rattle.bfs_relay.specs.Relays.{Relay, begun_at, begun_by, heard_as, heard_at, heard_by, is_free_among, next_begun, next_of, relay_heard, with_views}
 
 begun_keeps : (seat : Option Seat) (now place : ℕ) (call : Call) (relay : Relay) → (begun_by seat now place call relay).clients ≡ relay.clients
 begun_keeps None now place call relay = refl
@@ -37,4 +37,4 @@ as_keeps (Reply reply) now signed relay = at_keeps (position (is_of reply.client
 as_keeps _ now signed relay = refl
 
 pub heard_keeps : (now : ℕ) (relay : Relay) (signed : Signed Message) → (relay_heard now relay signed).clients ≡ relay.clients
-heard_keeps now relay signed = as_keeps signed.message now signed relay
+heard_keeps now relay signed = as_keeps signed.message now signed (with_views signed relay)

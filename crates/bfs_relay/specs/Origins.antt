@@ -10,7 +10,7 @@ use Rattle.bfs_frames.specs.declared.frames.Turn.{Turn}
 use Rattle.bfs_frames.specs.declared.kind.Kind.{Kind}
 use Rattle.bfs_frames.specs.declared.kind.Kind.TheVariants as kind
 use Rattle.bfs_frames.specs.declared.parcels.To.{To}
-use Rattle.bfs_frames.specs.declared.parcels.To.TheVariants.{Replicas, Caller}
+use Rattle.bfs_frames.specs.declared.parcels.To.TheVariants.{Replicas, Replica, Caller}
 use Rattle.bfs_messages.specs.Spelling.{signed_text}
 use Rattle.bfs_messages.specs.declared.message.Message.{Message}
 use Rattle.bfs_messages.specs.declared.signed.Signed.{Signed}
@@ -96,6 +96,7 @@ pub record IsAnswer (clients : Clients) (came : Came) (ticket : ℕ) (payload : 
 
 abbrev pub HasOriginTo : Clients → Came → To → (payload : List ℕ) → Type 0
 HasOriginTo clients came Replicas payload = IsRequest clients came payload
+HasOriginTo clients came (Replica number) payload = IsRequest clients came payload
 HasOriginTo clients came (Caller ticket) payload = IsAnswer clients came ticket payload
 HasOriginTo clients came _ payload = Unit {0}
 

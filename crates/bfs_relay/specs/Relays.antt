@@ -6,6 +6,8 @@ use Rattle.bfs_messages.specs.declared.message.Message.{Message}
 use Rattle.bfs_messages.specs.declared.message.Message.TheVariants.{Reply}
 use Rattle.bfs_messages.specs.declared.signed.Signed.{Signed}
 use Rattle.bfs_frames.specs.Parcels.{Told}
+use Rattle.bfs_frames.specs.declared.parcels.To.{To}
+use Rattle.bfs_relay.specs.Leaders.{leader, views_told}
 use Rattle.bfs_relay.specs.Parcels.{dropped_told}
 use Rattle.bfs_relay.specs.Seats.{Call, Seat, asked_again, begun, heard, is_free, is_of, is_past, second, told_asking, told_beginning, told_hearing}
 
@@ -18,6 +20,8 @@ pub record Relay : Type 0 where
   pub calls : List Call
   -- when the operator was told last that calls are dropped, in microseconds
   pub dropped_at : ℕ
+  -- the latest view that each replica told, by its number
+  pub views : List ℕ
   -- what it has told in this turn
   pub told : List Told
 
@@ -25,11 +29,15 @@ pub record Relay : Type 0 where
 abbrev pub most_waiting : ℕ
 most_waiting = 1024
 
+-- whom it asks first
+abbrev pub asked_first : Relay → To
+asked_first relay = leader relay.clients.f relay.views
+
 -- Beginning calls ----------------------------------------------------------------------------------------------------
 
 abbrev pub begun_by : Option Seat → (now place : ℕ) → Call → Relay → Relay
 begun_by None now place call relay = relay
-begun_by (Some seat) now place call relay = record relay { seats = slice_set relay.seats place (begun relay.clients now call seat); told = relay.told ++ told_beginning relay.clients call seat }
+begun_by (Some seat) now place call relay = record relay { seats = slice_set relay.seats place (begun relay.clients now call seat); told = relay.told ++ told_beginning relay.clients (asked_first relay) call seat }
 
 -- the client at that place begins the call
 abbrev pub begun_at : (now place : ℕ) → Call → Relay → Relay
@@ -78,9 +86,13 @@ abbrev pub heard_as : Message → (now : ℕ) → Signed Message → Relay → R
 heard_as (Reply reply) now signed relay = heard_at (position (is_of reply.client) relay.seats) now signed relay
 heard_as _ now signed relay = relay
 
+-- with the view that a REPLY tells
+abbrev pub with_views : Signed Message → Relay → Relay
+with_views signed relay = record relay { views = views_told relay.clients signed relay.views }
+
 -- the client to whom a REPLY goes counts it, and begins the next call if that gives it a result
 abbrev pub relay_heard : (now : ℕ) → Relay → Signed Message → Relay
-relay_heard now relay signed = heard_as signed.message now signed relay
+relay_heard now relay signed = heard_as signed.message now signed (with_views signed relay)
 
 -- Asking again -------------------------------------------------------------------------------------------------------
 

@@ -9,6 +9,8 @@ use Rattle.bfs_messages.specs.Spelling.{signed_text}
 use Rattle.bfs_messages.specs.declared.message.Message.{Message}
 use Rattle.bfs_messages.specs.declared.signed.Signed.{Signed}
 use Rattle.bfs_frames.specs.Parcels.{Told}
+use Rattle.bfs_frames.specs.declared.parcels.To.{To}
+use Rattle.bfs_frames.specs.declared.parcels.To.TheVariants.{Replicas}
 use Rattle.bfs_relay.specs.Parcels.{reply_told, request_told}
 
 -- a call that came, and by what its caller knows the reply
@@ -64,16 +66,16 @@ abbrev pub seat_with : (now : ℕ) → Call → Seat → Option client.Call → 
 seat_with now call seat (Some begun) = record { counter = record seat.counter { next = seat.counter.next + 1 }; request = Some (outstanding now call.ticket begun) }
 seat_with now call seat None = seat
 
-abbrev pub told_with : Option client.Call → List Told
-told_with (Some begun) = request_told (signed_text begun.request) ∷ []
-told_with None = []
+abbrev pub told_with : To → Option client.Call → List Told
+told_with to (Some begun) = request_told to (signed_text begun.request) ∷ []
+told_with to None = []
 
--- the client signs the call's bytes, with its next timestamp
+-- the client signs the call's bytes, with its next timestamp, and asks one replica
 abbrev pub begun : Clients → (now : ℕ) → Call → Seat → Seat
 begun clients now call seat = seat_with now call seat (counted_call clients seat.counter call.bytes)
 
-abbrev pub told_beginning : Clients → Call → Seat → List Told
-told_beginning clients call seat = told_with (counted_call clients seat.counter call.bytes)
+abbrev pub told_beginning : Clients → To → Call → Seat → List Told
+told_beginning clients to call seat = told_with to (counted_call clients seat.counter call.bytes)
 
 -- Hearing a reply ----------------------------------------------------------------------------------------------------
 
@@ -105,6 +107,7 @@ told_hearing clients signed seat = told_settling (option_map (counted clients si
 
 -- Asking again -------------------------------------------------------------------------------------------------------
 
+-- all replicas are asked
 abbrev pub is_due : (now : ℕ) → Outstanding → Bool
 is_due now request = is_past request.sent_at request.patience now
 
@@ -113,7 +116,7 @@ sent_again now request = if is_due now request then record request { sent_at = n
 
 abbrev pub told_again : (now : ℕ) → Option Outstanding → List Told
 told_again now None = []
-told_again now (Some request) = if is_due now request then request_told request.text ∷ [] else []
+told_again now (Some request) = if is_due now request then request_told Replicas request.text ∷ [] else []
 
 abbrev pub asked_again : (now : ℕ) → Seat → Seat
 asked_again now seat = record { counter = seat.counter; request = option_map (sent_again now) seat.request }

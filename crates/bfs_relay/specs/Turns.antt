@@ -1,24 +1,22 @@
 -- What a relay does in a turn: first it hears the replies, then it takes the calls, then it asks again.
-use Rattle.std.specs.Prelude.{ℕ, ◌+◌, ◌*◌, List, [], ◌++◌, fold, map, length, Option, Some, None, Result, Ok, Err, nat_lt, if◌then◌else◌}
+use Rattle.std.specs.Prelude.{ℕ, List, [], ◌++◌, fold, map, length, Option, Some, None, Result, Ok, Err, nat_lt, if◌then◌else◌}
 use Rattle.std.specs.List.{filter_map}
 use Rattle.bfs_model.specs.Bytes.Items.{Fault, hyper_at}
 use Rattle.bfs_model.specs.Server.Limits.{most_request_bytes}
-use Rattle.bfs_model.specs.Server.Tree.{Time}
 use Rattle.bfs_codec.specs.Reading.{message_of}
 use Rattle.bfs_clients.specs.Clients.{Clients}
 use Rattle.bfs_clients.specs.Counters.{Counter}
+use Rattle.bfs_frames.specs.Frames.{microseconds}
 use Rattle.bfs_frames.specs.declared.frames.Frame.{Frame}
 use Rattle.bfs_frames.specs.declared.frames.Turn.{Turn}
 use Rattle.bfs_frames.specs.declared.kind.Kind.{Kind}
 use Rattle.bfs_frames.specs.declared.kind.Kind.TheVariants.{Call, Reply}
 use Rattle.bfs_messages.specs.declared.message.Message.{Message}
 use Rattle.bfs_messages.specs.declared.signed.Signed.{Signed}
+use Rattle.bfs_relay.specs.Leaders.{no_views}
 use Rattle.bfs_relay.specs.OwnReplies.{own_reply}
 use Rattle.bfs_relay.specs.Parcels.{reply_told}
 use Rattle.bfs_relay.specs.Relays.{Relay, all_asked, called, relay_heard}
-
-abbrev pub microseconds : Time → ℕ
-microseconds time = 1000000 * time.seconds + time.useconds
 
 -- Replies ------------------------------------------------------------------------------------------------------------
 
@@ -67,4 +65,4 @@ turned turn relay = turned_at (microseconds turn.time) turn.frames.items relay
 -- A relay that has done nothing --------------------------------------------------------------------------------------
 
 abbrev pub new_relay : Clients → List Counter → Relay
-new_relay clients counters = record { clients = clients; seats = map (λ counter. record { counter = counter; request = None }) counters; calls = []; dropped_at = 0; told = [] }
+new_relay clients counters = record { clients = clients; seats = map (λ counter. record { counter = counter; request = None }) counters; calls = []; dropped_at = 0; views = no_views; told = [] }

@@ -4,6 +4,7 @@
 
 mod given_keys;
 mod laws;
+mod leaders;
 mod mount;
 mod own_replies;
 mod parcels;

@@ -35,12 +35,12 @@ impl Parcels {
         }
     }
 
-    /// All replicas are told a request's text. `Memory` if memory runs out.
-    pub fn tell_request(&mut self, text: &[u8]) -> Result<(), Memory>
-        ensures { OnOk result (self.new ≡ self.old ++ request_told text.now ∷ []) }
+    /// One replica, or all, are told a request's text. `Memory` if memory runs out.
+    pub fn tell_request(&mut self, to: To, text: &[u8]) -> Result<(), Memory>
+        ensures { OnOk result (self.new ≡ self.old ++ request_told to text.now ∷ []) }
     {
         let payload = Vec::from_slice(self.alloc, text)?;
-        self.tell(To::Replicas, Kind::Request, payload)
+        self.tell(to, Kind::Request, payload)
     }
 
     /// The caller with that ticket is told the reply, unless that has no bytes. `Memory` if memory runs out.

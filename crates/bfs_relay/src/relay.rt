@@ -5,6 +5,7 @@ ghost use Rattle.bfs_relay.specs.Relays as model;
 ghost use Rattle.bfs_relay.specs.Seats.{is_free, is_of};
 ghost use Rattle.bfs_relay.specs.Turns.{new_relay};
 
+use crate::leaders::Views;
 use crate::parcels::Parcels;
 use crate::seats::{Call, Seat, is_past};
 use bfs_clients::{Clients, Counter};
@@ -30,6 +31,7 @@ pub struct Relay {
     calls: VecDeque<Call>,
     // in microseconds
     dropped_at: u64,
+    views: Views,
     pub(crate) told: Parcels,
 }
 
@@ -39,7 +41,7 @@ impl Model for Relay {
 
     ghost Value = { model.Relay };
 
-    ghost view = { λ relay. record { clients = relay.clients; seats = relay.seats.items; calls = relay.calls.items; dropped_at = relay.dropped_at; told = relay.told } };
+    ghost view = { λ relay. record { clients = relay.clients; seats = relay.seats.items; calls = relay.calls.items; dropped_at = relay.dropped_at; views = relay.views; told = relay.told } };
 
     ghost invariant = { λ relay. length relay.calls.items ≤ model.most_waiting };
 }
@@ -57,6 +59,7 @@ impl Relay {
             seats,
             calls: VecDeque::new(alloc),
             dropped_at: 0,
+            views: Views::new(alloc)?,
             told: Parcels::new(alloc),
         })
     }
@@ -112,8 +115,9 @@ impl Relay {
     fn begin_at(&mut self, now: u64, place: usize, call: &Call) -> Result<(), Memory>
         ensures { OnOk result (self.new ≡ model.begun_at now place call.now self.old) }
     {
+        let first = self.views.leader(self.clients.f());
         match self.seats.get_mut(place) {
-            Some(seat) => seat.begin(self.alloc, &self.clients, now, call, &mut self.told),
+            Some(seat) => seat.begin(self.alloc, &self.clients, now, first, call, &mut self.told),
             None => Ok(()),
         }
     }
@@ -160,7 +164,7 @@ impl Relay {
         }
     }
 
-    /// A message that is to be a reply. `Memory` if memory runs out.
+    /// A message that is to be a reply. Where it is one, it tells its sender's view too. `Memory` if memory runs out.
     #[tactic(auto, using(crate::proofs::Keeping::heard_keeps))]
     pub(crate) fn hear(
         &mut self,
@@ -171,6 +175,19 @@ impl Relay {
         requires { passes ≡ is_signed_reply self.old.clients signed.now }
         ensures heard { OnOk result (self.new ≡ model.relay_heard now self.old signed.now) }
         ensures keys { OnOk result (self.new.clients ≡ self.old.clients) }
+    {
+        self.views.hear(signed, passes);
+        self.hear_reply(now, signed, passes)
+    }
+
+    fn hear_reply(
+        &mut self,
+        now: u64,
+        signed: &Signed<Message>,
+        passes: bool,
+    ) -> Result<(), Memory>
+        requires { passes ≡ is_signed_reply self.old.clients signed.now }
+        ensures { OnOk result (self.new ≡ model.heard_as signed.now.message now signed.now self.old) }
     {
         let Message::Reply(reply) = &signed.message else {
             return Ok(());

@@ -6,6 +6,7 @@ ghost use Rattle.bfs_clients.specs.Tallies.{agreed, is_signed_reply};
 use crate::parcels::Parcels;
 use bfs_clients::{Clients, Counter, Tally};
 use bfs_codec::encode;
+use bfs_frames::To;
 use bfs_messages::{Message, Signed};
 use bfs_types::{Bytes, MOST_REQUEST_BYTES, Memory};
 use std::alloc::Global;
@@ -99,13 +100,13 @@ impl Outstanding {
         }
     }
 
-    // The replicas are told it again, where it is due.
+    // All replicas are told it, where it is due.
     fn ask_again(&mut self, now: u64, told: &mut Parcels) -> Result<(), Memory>
         ensures request { OnOk result (self.new ≡ model.sent_again now self.old) }
         ensures told { OnOk result (told.new ≡ told.old ++ model.told_again now (Some self.old)) }
     {
         if is_past(self.sent_at, self.patience, now) {
-            told.tell_request(self.text.as_slice())?;
+            told.tell_request(To::Replicas, self.text.as_slice())?;
             self.sent_at = now;
             self.patience = self.patience.saturating_mul(2).min(MOST_PATIENCE);
         }
@@ -160,24 +161,25 @@ impl Seat {
         self.counter.next()
     }
 
-    /// The client begins a call: it signs its bytes with its next timestamp, and all replicas are told the request. Nothing happens where it has no keys,
-    /// or its timestamps are used up. `Memory` if memory runs out.
+    /// The client begins a call: it signs its bytes with its next timestamp, and the one that is asked first is told the request. Nothing happens where it
+    /// has no keys, or its timestamps are used up. `Memory` if memory runs out.
     pub fn begin(
         &mut self,
         alloc: Global,
         clients: &Clients,
         now: u64,
+        first: To,
         call: &Call,
         told: &mut Parcels,
     ) -> Result<(), Memory>
         ensures seat { OnOk result (self.new ≡ model.begun clients.now now call.now self.old) }
-        ensures told { OnOk result (told.new ≡ told.old ++ model.told_beginning clients.now call.now self.old) }
+        ensures told { OnOk result (told.new ≡ told.old ++ model.told_beginning clients.now first call.now self.old) }
     {
         let Some(begun) = self.counter.call(clients, call.bytes.as_slice())? else {
             return Ok(());
         };
         let text = encode(alloc, &begun.request)?;
-        told.tell_request(text.as_slice())?;
+        told.tell_request(first, text.as_slice())?;
         self.request = Some(Outstanding {
             ticket: call.ticket,
             text,
@@ -211,7 +213,7 @@ impl Seat {
         Ok(())
     }
 
-    /// The replicas are told its request again, where it was waited for long enough. `Memory` if memory runs out.
+    /// All replicas are told its request, where it was waited for long enough. `Memory` if memory runs out.
     pub fn ask_again(&mut self, now: u64, told: &mut Parcels) -> Result<(), Memory>
         ensures seat { OnOk result (self.new ≡ model.asked_again now self.old) }
         ensures told { OnOk result (told.new ≡ told.old ++ model.told_asking now self.old) }

@@ -11,7 +11,7 @@ use crate::seats::Call;
 use bfs_codec::{DecodeError, decode};
 use bfs_frames::{Frame, Kind, Parcel, Turn};
 use bfs_messages::{Message, Signed};
-use bfs_types::{MOST_REQUEST_BYTES, Memory, Time};
+use bfs_types::{MOST_REQUEST_BYTES, Memory};
 use bfs_xdr::Reader;
 use std::alloc::Global;
 use std::thread::Threads;
@@ -25,7 +25,7 @@ impl Relay {
         ensures relay { OnOk result (self.new ≡ record (model.turned turn.now self.old) { told = [] }) }
         ensures told { IfOk result (λ parcels. map told_by parcels.items ≡ (model.turned turn.now self.old).told) }
     {
-        let now = microseconds(turn.time);
+        let now = turn.microseconds();
         self.hear_all(rt, now, &turn.frames)?;
         self.take_calls(now, &turn.frames)?;
         self.ask_all(now)?;
@@ -85,12 +85,6 @@ impl Relay {
             None => self.take_call(now, Call::new(self.alloc, ticket, message)?),
         }
     }
-}
-
-fn microseconds(time: Time) -> u64
-    ensures { result ≡ model.microseconds time }
-{
-    u64::from(time.seconds()) * 1_000_000 + u64::from(time.useconds())
 }
 
 // the messages of frames that are to be replies, in their order

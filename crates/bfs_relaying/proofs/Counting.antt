@@ -11,21 +11,25 @@ use Rattle.bfs_messages.specs.Spelling.{signed_text}
 use Rattle.bfs_messages.specs.declared.message.Message.{Message}
 use Rattle.bfs_messages.specs.declared.message.Message.TheVariants.{Reply}
 use Rattle.bfs_messages.specs.declared.signed.Signed.{Signed}
+use Rattle.bfs_frames.specs.Frames.{microseconds}
 use Rattle.bfs_frames.specs.declared.frames.Frame.{Frame}
 use Rattle.bfs_frames.specs.declared.frames.Turn.{Turn}
 use Rattle.bfs_frames.specs.declared.kind.Kind.{Kind}
 use Rattle.bfs_frames.specs.declared.kind.Kind.TheVariants as kind
-use Rattle.bfs_frames.specs.declared.parcels.To.TheVariants.{Caller}
+use Rattle.bfs_frames.specs.declared.parcels.To.{To}
+use Rattle.bfs_frames.specs.declared.parcels.To.TheVariants.{Caller, Client, Operator, Replica, Replicas}
 use Rattle.bfs_clients.specs.Clients.{Clients, signed_request}
 use Rattle.bfs_clients.specs.Counters.{counted_call}
 use Rattle.bfs_clients.specs.Tallies.{Tally, agreed, no_replies}
 use Rattle.bfs_clients.specs.declared.clients.Call as client
+use Rattle.bfs_relay.proofs.Public.{leader_is_replica}
+use Rattle.bfs_relay.specs.Leaders.{IsToReplicas}
 use Rattle.bfs_relay.specs.OwnReplies.{own_reply}
 use Rattle.bfs_frames.specs.Parcels.{Told}
 use Rattle.bfs_relay.specs.Parcels.{dropped_told, reply_told, request_told}
-use Rattle.bfs_relay.specs.Relays.{Relay, asked_at, asked_by, begun_at, begun_by, called, dropped, heard_as, heard_at, heard_by, is_free_among, most_waiting, next_begun, next_of, placed, queued, relay_heard}
+use Rattle.bfs_relay.specs.Relays.{Relay, asked_at, asked_first, asked_by, begun_at, begun_by, called, dropped, heard_as, heard_at, heard_by, is_free_among, most_waiting, next_begun, next_of, placed, queued, relay_heard, with_views}
 use Rattle.bfs_relay.specs.Seats.{Call, Outstanding, Seat, asked_again, begun, counted, heard, is_due, is_free, is_of, is_past, most_patience, second, seat_with, sent_again, settled, still_waits, told_again, told_agreed, told_asking, told_beginning, told_hearing, told_settling, told_with}
-use Rattle.bfs_relay.specs.Turns.{answered, call_taken, calls_taken, frame_taken_as, microseconds, replies_heard, reply_in, taken_as, turned}
+use Rattle.bfs_relay.specs.Turns.{answered, call_taken, calls_taken, frame_taken_as, replies_heard, reply_in, taken_as, turned}
 use Rattle.bfs_relaying.specs.Lives.{IsRequestWithin, IsWithin}
 use Rattle.bfs_relaying.specs.Reserving.{AreReserved}
 
@@ -122,10 +126,18 @@ module _ (clients : Clients) (low high : ℕ) where
 
   -- Clients ---------------------------------------------------------------------------------------------------------------
 
-  begun_goes : (now : ℕ) (call : Call) (seat : Seat) → SeatHolds clients low seat → (begun : Option client.Call)
-      → counted_call clients seat.counter call.bytes ≡ begun → SeatGoes clients low high seat (seat_with now call seat begun) (told_with begun)
-  begun_goes now call seat holds None is = record { holds = holds; grows = omega arith; told = λ _. no_told }
-  begun_goes now call seat holds (Some begun) is =
+  -- to whichever replicas it goes
+  request_within : (to : To) (text : List ℕ) → IsToReplicas to → IsRequestWithin clients low high text → Within (request_told to text)
+  request_within Replicas text goes is = is
+  request_within (Replica number) text goes is = is
+  request_within (Client number) text goes is = absurd goes
+  request_within Operator text goes is = absurd goes
+  request_within (Caller ticket) text goes is = absurd goes
+
+  begun_goes : (now : ℕ) (to : To) (call : Call) (seat : Seat) → IsToReplicas to → SeatHolds clients low seat → (begun : Option client.Call)
+      → counted_call clients seat.counter call.bytes ≡ begun → SeatGoes clients low high seat (seat_with now call seat begun) (told_with to begun)
+  begun_goes now to call seat goes holds None is = record { holds = holds; grows = omega arith; told = λ _. no_told }
+  begun_goes now to call seat goes holds (Some begun) is =
       let signed = made (nat_lt seat.counter.next (2 ^ 64 - 1))
       (signed_request clients (record { client = seat.counter.client; timestamp = seat.counter.next; call = call.bytes }))
       (no_replies clients.f seat.counter.client seat.counter.next) begun is in
@@ -142,8 +154,9 @@ module _ (clients : Clients) (low high : ℕ) where
       record {
         holds = record { from = omega (arith, holds.from); request = request };
         grows = omega arith;
-        told = λ le. one_told (request_told (signed_text begun.request))
-            (wider clients low (seat.counter.next + 1) low high (signed_text begun.request) (omega arith) le request);
+        told = λ le. one_told (request_told to (signed_text begun.request))
+            (request_within to (signed_text begun.request) goes
+            (wider clients low (seat.counter.next + 1) low high (signed_text begun.request) (omega arith) le request));
       }
 
   settled_holds : (below : ℕ) (request : Outstanding) → IsRequestWithin clients low below request.text → (result : Option (List ℕ))
@@ -163,8 +176,8 @@ module _ (clients : Clients) (low high : ℕ) where
   asked_holds now below (Some request) is = go (is_due now request)
     where
       go : (due : Bool) → IsRequestWithin clients low below (cond due (sent now request) request).text
-          × (below ≤ high → All Within (cond due (request_told request.text ∷ []) []))
-      go true = (is, λ le. one_told (request_told request.text) (wider clients low below low high request.text (omega arith) le is))
+          × (below ≤ high → All Within (cond due (request_told Replicas request.text ∷ []) []))
+      go true = (is, λ le. one_told (request_told Replicas request.text) (wider clients low below low high request.text (omega arith) le is))
       go false = (is, λ _. no_told)
 
   -- Relays ----------------------------------------------------------------------------------------------------------------
@@ -206,10 +219,11 @@ module _ (clients : Clients) (low high : ℕ) where
       → Held (begun_by seat now place call relay)
   begun_by_holds now place call relay holds None is = holds
   begun_by_holds now place call relay holds (Some seat) is =
-      let P : Clients → Type 0 = λ keys. Held (with_seat place (begun keys now call seat) (told_beginning keys call seat) relay) in
+      let P : Clients → Type 0 = λ keys. Held (with_seat place (begun keys now call seat) (told_beginning keys (asked_first relay) call seat) relay) in
+      let to = asked_first relay in
       subst P (sym holds.keys)
-      (seat_steps relay place seat (begun clients now call seat) (told_beginning clients call seat) is holds
-      (λ held. begun_goes now call seat held (counted_call clients seat.counter call.bytes) refl))
+      (seat_steps relay place seat (begun clients now call seat) (told_beginning clients to call seat) is holds
+      (λ held. begun_goes now to call seat (leader_is_replica relay.clients.f relay.views) held (counted_call clients seat.counter call.bytes) refl))
 
   begun_at_holds : (now place : ℕ) (call : Call) (relay : Relay) → Held relay → Held (begun_at now place call relay)
   begun_at_holds now place call relay holds = begun_by_holds now place call relay holds (slice_get relay.seats place) refl
@@ -313,7 +327,8 @@ module _ (clients : Clients) (low high : ℕ) where
       → Held (fold (relay_heard now) relay replies)
   replies_hold now [] relay holds = holds
   replies_hold now (signed ∷ replies) relay holds =
-      replies_hold now replies (relay_heard now relay signed) (heard_as_holds signed.message now signed relay holds)
+      replies_hold now replies (relay_heard now relay signed)
+      (heard_as_holds signed.message now signed (with_views signed relay) (record { keys = holds.keys; seats = holds.seats; told = holds.told }))
 
   pub turned_holds : (turn : Turn) (relay : Relay) → Held relay → Held (turned turn relay)
   turned_holds turn relay holds =

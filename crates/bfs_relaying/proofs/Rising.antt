@@ -25,7 +25,7 @@ use Rattle.bfs_relaying.proofs.Counting.{Holds, SeatHolds, turned_holds, wider}
 module _ (clients : Clients) (low high lower higher : ℕ) (from : lower ≤ low) (upto : high ≤ higher) where
   to_wider : (place : To) (payload : List ℕ) → IsWithinTo clients low high place payload → IsWithinTo clients lower higher place payload
   to_wider to.Replicas payload is = wider clients low high lower higher payload from upto is
-  to_wider (to.Replica number) payload is = tt
+  to_wider (to.Replica number) payload is = wider clients low high lower higher payload from upto is
   to_wider (to.Client number) payload is = tt
   to_wider to.Operator payload is = tt
   to_wider (to.Caller ticket) payload is = tt

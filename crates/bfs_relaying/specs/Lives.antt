@@ -5,7 +5,7 @@ use Rattle.bfs_auth.specs.Keys.{Keys}
 use Rattle.bfs_clients.specs.Clients.{Clients, signed_request}
 use Rattle.bfs_filter.specs.Runs.{Exchange, TakesAll}
 use Rattle.bfs_frames.specs.declared.parcels.To.{To}
-use Rattle.bfs_frames.specs.declared.parcels.To.TheVariants.{Replicas}
+use Rattle.bfs_frames.specs.declared.parcels.To.TheVariants.{Replica, Replicas}
 use Rattle.bfs_messages.specs.Spelling.{signed_text}
 use Rattle.bfs_messages.specs.declared.message.Message.{Message}
 use Rattle.bfs_messages.specs.declared.signed.Signed.{Signed}
@@ -26,9 +26,10 @@ pub record IsRequestWithin (clients : Clients) (low high : ℕ) (text : List ℕ
   pub from : low ≤ timestamp
   pub below : timestamp < high
 
--- all that goes to the replicas is such requests
+-- all that goes to replicas is such requests
 abbrev pub IsWithinTo : Clients → (low high : ℕ) → To → (payload : List ℕ) → Type 0
 IsWithinTo clients low high Replicas payload = IsRequestWithin clients low high payload
+IsWithinTo clients low high (Replica number) payload = IsRequestWithin clients low high payload
 IsWithinTo clients low high _ payload = Unit {0}
 
 abbrev pub IsWithin : Clients → (low high : ℕ) → Told → Type 0

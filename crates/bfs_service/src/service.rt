@@ -92,7 +92,7 @@ impl Service {
     ) -> Result<Vec<Parcel>, Memory>
         ensures { IfOk result (λ parcels. Turned turn.now self.old self.new (map told_by parcels.items)) }
     {
-        let now = microseconds(turn.time);
+        let now = turn.microseconds();
         self.take_requests(rt, turn.time, &turn.frames)?;
         self.actor.deliver_all(rt, turn.time, &turn.frames)?;
         self.go_on(rt, now, turn.time, &turn.frames)?;
@@ -409,8 +409,4 @@ impl Machine for Service {
     ) -> Result<Vec<Parcel>, TurnError> {
         Ok(self.take_turn(rt, &turn)?)
     }
-}
-
-fn microseconds(time: Time) -> u64 {
-    u64::from(time.seconds()) * 1_000_000 + u64::from(time.useconds())
 }

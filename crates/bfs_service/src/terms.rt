@@ -1,3 +1,6 @@
+ghost use Rattle.std.specs.Prelude.{◌≡◌};
+ghost use Rattle.bfs_service.specs.Terms.{terms_of};
+
 use bfs_frames::Limits;
 use bfs_types::LOG_SIZE;
 
@@ -18,7 +21,9 @@ pub struct Terms {
 impl Terms {
     /// For a replica that waits so many milliseconds, among 3f + 1. A batch is so small that its PRE-PREPARE fits in a frame, and that NEW-VIEWs do which have
     /// 2f + 1 VIEW-CHANGEs with a whole log each, and a log of their own (OSDI 1999 section 4.4).
-    pub fn of(f: u32, patience: u32, limits: &Limits) -> Terms {
+    pub fn of(f: u32, patience: u32, limits: &Limits) -> Terms
+        ensures { result ≡ terms_of f patience limits.now }
+    {
         let logs = 2 * f as usize + 2;
         let in_a_view = limits.new_view as usize / (logs * LOG_SIZE);
         let in_a_frame = limits.order as usize / 2;

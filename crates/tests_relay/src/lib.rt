@@ -9,6 +9,8 @@ mod asking;
 #[cfg(test)]
 mod given_keys;
 #[cfg(test)]
+mod leading;
+#[cfg(test)]
 mod own_replies;
 #[cfg(test)]
 mod rubbish;

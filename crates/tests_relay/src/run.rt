@@ -9,9 +9,9 @@ use bfs_frames::{Frame, Kind, Parcel, To, Turn};
 use bfs_messages::{Message, Reply, Signed};
 use bfs_relay::Relay;
 use bfs_settings::Settings;
-use bfs_testing::same;
+use bfs_testing::{holds, same};
 use bfs_testing::words::{same_bytes, spells};
-use bfs_types::{MOST_REPLY_BYTES, Memory, Time};
+use bfs_types::{MOST_NUMBER, MOST_REPLY_BYTES, Memory, Time};
 use std::alloc::Global;
 use std::process::Abort;
 use std::test::Fail;
@@ -58,20 +58,32 @@ pub fn call_frame(alloc: Global, ticket: u64, message: &[u8]) -> Result<Frame, M
     frame_of(alloc, Kind::Call, payload.as_slice())
 }
 
-fn signed_reply(
-    alloc: Global,
-    sender: u32,
-    client: u32,
-    timestamp: u64,
-    bytes: &[u8],
-) -> Result<Signed<Message>, Fail> {
-    let keys = keys_of_replica(alloc, sender)?;
-    if bytes.len() > MOST_REPLY_BYTES || client as usize >= keys.clients() {
-        return Err("no such reply".into());
+// signed by a replica
+fn signed_reply(alloc: Global, signer: u32, reply: Reply) -> Result<Signed<Message>, Fail> {
+    let keys = keys_of_replica(alloc, signer)?;
+    let client = reply.client();
+    if client as usize >= keys.clients() {
+        return Err("no such client".into());
     }
-    let message = Message::Reply(Reply::new(alloc, sender, 0, client, timestamp, bytes)?);
+    let message = Message::Reply(reply);
     let auth = sign_text_for_client(alloc, &keys, client, &message)?;
     Ok(Signed { message, auth })
+}
+
+/// The frame of a reply that says to be of the first replica, in a view, and is signed by the second one.
+pub fn reply_frame_by(
+    alloc: Global,
+    (sender, signer): (u32, u32),
+    view: u64,
+    (client, timestamp): (u32, u64),
+    bytes: &[u8],
+) -> Result<Frame, Fail> {
+    if bytes.len() > MOST_REPLY_BYTES || view > MOST_NUMBER {
+        return Err("no such reply".into());
+    }
+    let reply = Reply::new(alloc, sender, view, client, timestamp, bytes)?;
+    let text = encode(alloc, &signed_reply(alloc, signer, reply)?)?;
+    Ok(frame_of(alloc, Kind::Reply, text.as_slice())?)
 }
 
 /// The frame of a replica's reply to the request of a client and a timestamp.
@@ -81,9 +93,7 @@ pub fn reply_frame(
     request: (u32, u64),
     bytes: &[u8],
 ) -> Result<Frame, Fail> {
-    let signed = signed_reply(alloc, sender, request.0, request.1, bytes)?;
-    let text = encode(alloc, &signed)?;
-    Ok(frame_of(alloc, Kind::Reply, text.as_slice())?)
+    reply_frame_by(alloc, (sender, sender), 0, request, bytes)
 }
 
 /// What it tells in a turn of these frames.
@@ -133,13 +143,14 @@ pub fn answers(
     spells(alloc, rest, reply)
 }
 
-/// The message of a parcel to all replicas.
+/// The message of a parcel to replicas.
 pub fn request_in(
     rt: &impl Abort,
     alloc: Global,
     parcel: &Parcel,
 ) -> Result<Signed<Message>, Fail> {
-    same!(rt; (parcel.to, parcel.frame.kind), (To::Replicas, Kind::Request));
+    holds!(rt; matches!(parcel.to, To::Replica(_) | To::Replicas));
+    same!(rt; parcel.frame.kind, Kind::Request);
     Ok(decode(alloc, parcel.frame.payload.as_slice())?)
 }
 
