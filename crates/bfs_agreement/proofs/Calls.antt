@@ -43,7 +43,7 @@ pub say_join : (f me : ℕ) (s : State) (xs ys : List Header) → MaySayAll f me
 say_join f me s [] ys a b = b
 say_join f me s (x ∷ xs) ys a b = (a.0, say_join f me (record s { log = x ∷ s.log }) xs ys a.1 b)
 
-joined_more : (hs log : List Header) (t k v n : ℕ) (d : List ℕ) → Told log t k v n d → Told (with_said hs log) t k v n d
+pub joined_more : (hs log : List Header) (t k v n : ℕ) (d : List ℕ) → Told log t k v n d → Told (with_said hs log) t k v n d
 joined_more [] log t k v n d x = x
 joined_more (h ∷ hs) log t k v n d x = joined_more hs (h ∷ log) t k v n d (told_more h log t k v n d x)
 

@@ -34,7 +34,7 @@ into_all (l ∷ ms) m c h i = elim h [
   | inr j ↦ in_right c l.certificates (all_certificates ms) (into_all ms m c j i)
 ]
 
-out_of_all : (ms : List ViewChange) (c : Certificate) → IsIn c (all_certificates ms) → (m : ViewChange) × IsIn m ms × IsIn c m.certificates
+pub out_of_all : (ms : List ViewChange) (c : Certificate) → IsIn c (all_certificates ms) → (m : ViewChange) × IsIn m ms × IsIn c m.certificates
 out_of_all [] c h = absurd h
 out_of_all (l ∷ ms) c h = elim (in_either c l.certificates (all_certificates ms) h) [
   | inl a ↦ (l, inl refl, a)
@@ -136,7 +136,7 @@ proposed_is f view null cs n (suc count) t k v m d h =
       }
     ]
 
-is_proposed : (f view : ℕ) (null : List ℕ) (cs : List Certificate) (n count m : ℕ) → n ≤ m → m < n + count → Told (proposals_from f view null cs n count) 2 (primary f view) view m (digest_or null (highest_of cs m))
+pub is_proposed : (f view : ℕ) (null : List ℕ) (cs : List Certificate) (n count m : ℕ) → n ≤ m → m < n + count → Told (proposals_from f view null cs n count) 2 (primary f view) view m (digest_or null (highest_of cs m))
 is_proposed f view null cs n zero m le lt = absurd (omega (arith, le, lt))
 is_proposed f view null cs n (suc count) m le lt =
     let h : Header = record { tag = 2; sender = primary f view; view = view; number = n; digest = digest_or null (highest_of cs n) } in

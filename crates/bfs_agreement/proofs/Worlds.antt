@@ -40,7 +40,7 @@ grows f me p (Executes h) = record { sent = λ t k v n d x. x; offers = λ t k v
 pub at_each : (P : ℕ → History → Type 0) (w : World) (i : ℕ) (p : History) → P i p → ((j : ℕ) → P j (w j)) → (j : ℕ) → P j (with_history w i p j)
 at_each P w i p here all j = cond_both (j == i) p (w j) (P j) (λ e. subst (λ (k : ℕ). P k p) (sym (eqb-true j i e)) here) (λ e. all j)
 
-world_grows : (f : ℕ) (w : World) (step : Step) (j : ℕ) → Grows (w j) (after_step f w step j)
+pub world_grows : (f : ℕ) (w : World) (step : Step) (j : ℕ) → Grows (w j) (after_step f w step j)
 world_grows f w step = at_each (λ j q. Grows (w j) q) w step.who (after_move f step.who (w step.who) step.move) (grows f step.who (w step.who) step.move) (λ j. grows_same (w j))
 
 pub said_on : (faulty : ℕ → Bool) (w new : World) → ((j : ℕ) → Grows (w j) (new j)) → (t k v n : ℕ) (d : List ℕ) → WasSent faulty w t k v n d → WasSent faulty new t k v n d
