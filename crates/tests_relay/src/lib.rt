@@ -15,4 +15,6 @@ mod rubbish;
 #[cfg(test)]
 mod run;
 #[cfg(test)]
+mod script;
+#[cfg(test)]
 mod waiting;
