@@ -1,8 +1,12 @@
 //! What a relay answers by itself: MOUNT (RFC 1094 appendix A), NULL, and what is refused (RFC 5531 section 9). The bytes are written by hand from those
 //! documents.
-use crate::run::{answers, call_frame, parcel_at, relay_of, turn_with};
+use crate::run::{call_frame, count_told, is_answer, only_one, relay_of, turn_with};
+use bfs_relay::Relay;
 use bfs_testing::same;
+use std::alloc::Global;
+use std::process::Abort;
 use std::test::Fail;
+use std::thread::Threads;
 
 // a call of MOUNT, version 1, with xid 17 and no credential, up to its procedure; what stands behind it; and the reply up to its results
 const MOUNT: &str = "000000110000000000000002000186a500000001";
@@ -94,47 +98,83 @@ static ROWS: &[(&str, &str)] = &[
     ),
 ];
 
+// whether it answers the message in hexadecimal with that reply, under the ticket 5
+fn is_answered_so<R: Threads + Sync>(
+    rt: &R,
+    alloc: Global,
+    relay: &mut Relay,
+    message: &str,
+    reply: &str,
+) -> Result<bool, Fail> {
+    let message = hex::decode(alloc, message)?;
+    let frame = call_frame(alloc, 5, message.as_slice())?;
+    let told = turn_with(rt, alloc, relay, 1, frame)?;
+    let reply = hex::decode(alloc, reply)?;
+    is_answer(alloc, only_one(&told)?, 5, reply.as_slice())
+}
+
+fn answers_mount<R: Threads + Sync + Abort>(
+    rt: &R,
+    alloc: Global,
+    relay: &mut Relay,
+) -> Result<(), Fail> {
+    for (place, row) in MOUNT_ROWS.iter().enumerate() {
+        let (procedure, arguments, header, results) = *row;
+        let message = format!(in alloc; "{MOUNT}{procedure}{NO_CREDENTIAL}{arguments}")?;
+        let reply = format!(in alloc; "{header}{results}")?;
+        let answered = is_answered_so(rt, alloc, relay, message.as_str(), reply.as_str())?;
+        same!(rt; (place, answered), (place, true));
+    }
+    Ok(())
+}
+
 #[test]
 fn mount_is_answered_by_the_relay(rt: HostRuntime) -> Result<(), Fail> {
-    let alloc = rt.alloc();
-    let mut relay = relay_of(alloc, 1)?;
-    for (procedure, arguments, header, results) in MOUNT_ROWS {
-        let message = format!(in alloc; "{MOUNT}{procedure}{NO_CREDENTIAL}{arguments}")?;
-        let message = hex::decode(alloc, message.as_str())?;
-        let frame = call_frame(alloc, 5, message.as_slice())?;
-        let told = turn_with(&rt, alloc, &mut relay, 1, frame)?;
-        let reply = format!(in alloc; "{header}{results}")?;
-        answers(&rt, alloc, parcel_at(&told, 0, 1)?, 5, reply.as_str())?;
+    let mut relay = relay_of(rt.alloc(), 1)?;
+    answers_mount(&rt, rt.alloc(), &mut relay)
+}
+
+fn answers_rows<R: Threads + Sync + Abort>(
+    rt: &R,
+    alloc: Global,
+    relay: &mut Relay,
+) -> Result<(), Fail> {
+    for (place, row) in ROWS.iter().enumerate() {
+        let (message, reply) = *row;
+        let answered = is_answered_so(rt, alloc, relay, message, reply)?;
+        same!(rt; (place, answered), (place, true));
     }
     Ok(())
 }
 
 #[test]
 fn null_and_what_is_refused_are_answered_by_the_relay(rt: HostRuntime) -> Result<(), Fail> {
-    let alloc = rt.alloc();
-    let mut relay = relay_of(alloc, 1)?;
-    for (message, reply) in ROWS {
+    let mut relay = relay_of(rt.alloc(), 1)?;
+    answers_rows(&rt, rt.alloc(), &mut relay)
+}
+
+// nothing, a reply, and a call whose verifier is cut
+static NO_CALLS: [&str; 3] = [
+    "",
+    "000000130000000100000000000000000000000000000000",
+    "000000130000000000000002000186a30000000200000000000000000000000000000000",
+];
+
+fn replies_to_none<R: Threads + Sync + Abort>(
+    rt: &R,
+    alloc: Global,
+    relay: &mut Relay,
+) -> Result<(), Fail> {
+    for message in &NO_CALLS {
         let message = hex::decode(alloc, *message)?;
         let frame = call_frame(alloc, 6, message.as_slice())?;
-        let told = turn_with(&rt, alloc, &mut relay, 1, frame)?;
-        answers(&rt, alloc, parcel_at(&told, 0, 1)?, 6, *reply)?;
+        same!(rt; count_told(rt, alloc, relay, frame)?, 0);
     }
     Ok(())
 }
 
 #[test]
 fn what_is_no_call_gets_no_reply(rt: HostRuntime) -> Result<(), Fail> {
-    let alloc = rt.alloc();
-    let mut relay = relay_of(alloc, 1)?;
-    // nothing, a reply, and a call whose verifier is cut
-    for message in [
-        "",
-        "000000130000000100000000000000000000000000000000",
-        "000000130000000000000002000186a30000000200000000000000000000000000000000",
-    ] {
-        let message = hex::decode(alloc, message)?;
-        let frame = call_frame(alloc, 6, message.as_slice())?;
-        same!(rt; turn_with(&rt, alloc, &mut relay, 1, frame)?.len(), 0);
-    }
-    Ok(())
+    let mut relay = relay_of(rt.alloc(), 1)?;
+    replies_to_none(&rt, rt.alloc(), &mut relay)
 }

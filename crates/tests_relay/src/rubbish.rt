@@ -1,11 +1,12 @@
 //! Frames that a relay passes over.
-use crate::run::{FIRST, call_frame, frame_of, relay_of, reply_frame, turn_with};
+use crate::run::{FIRST, call_frame, count_told, frame_of, relay_of, reply_frame};
 use bfs_frames::Kind;
 use bfs_relay::Relay;
 use bfs_testing::same;
 use bfs_testing::words::ROOT_REQUEST;
 use bfs_types::MOST_REQUEST_BYTES;
 use std::alloc::Global;
+use std::process::Abort;
 use std::test::Fail;
 use std::thread::Threads;
 
@@ -27,44 +28,55 @@ static KINDS: &[Kind] = &[
     Kind::Log,
 ];
 
-// how many parcels are told in a turn of one frame
-fn told(
-    rt: &(impl Threads + Sync),
+// nothing is told in a turn of a frame of each kind but that one
+fn passes_over<R: Threads + Sync + Abort>(
+    rt: &R,
     alloc: Global,
     relay: &mut Relay,
-    kind: Kind,
     payload: &[u8],
-) -> Result<usize, Fail> {
-    let frame = frame_of(alloc, kind, payload)?;
-    Ok(turn_with(rt, alloc, relay, 1, frame)?.len())
+    but: Option<Kind>,
+) -> Result<(), Fail> {
+    for kind in KINDS {
+        if but != Some(*kind) {
+            let frame = frame_of(alloc, *kind, payload)?;
+            same!(rt; (*kind, count_told(rt, alloc, relay, frame)?), (*kind, 0));
+        }
+    }
+    Ok(())
+}
+
+fn passes_rubbish_over<R: Threads + Sync + Abort>(
+    rt: &R,
+    alloc: Global,
+    relay: &mut Relay,
+) -> Result<(), Fail> {
+    passes_over(rt, alloc, relay, b"", None)?;
+    passes_over(rt, alloc, relay, b"7 bytes", None)?;
+    passes_over(rt, alloc, relay, b"a ticket and then rubbish", None)?;
+    passes_over(rt, alloc, relay, &TOO_LONG, None)
 }
 
 #[test]
 fn rubbish_is_passed_over(rt: HostRuntime) -> Result<(), Fail> {
-    let alloc = rt.alloc();
-    let mut relay = relay_of(alloc, 1)?;
-    for kind in KINDS {
-        same!(rt; told(&rt, alloc, &mut relay, *kind, b"")?, 0);
-        same!(rt; told(&rt, alloc, &mut relay, *kind, b"7 bytes")?, 0);
-        same!(rt; told(&rt, alloc, &mut relay, *kind, b"a ticket and then rubbish")?, 0);
-        same!(rt; told(&rt, alloc, &mut relay, *kind, &TOO_LONG)?, 0);
-    }
-    Ok(())
+    let mut relay = relay_of(rt.alloc(), 1)?;
+    passes_rubbish_over(&rt, rt.alloc(), &mut relay)
 }
 
-// a whole call, under another kind
-#[test]
-fn frames_of_other_kinds_are_passed_over(rt: HostRuntime) -> Result<(), Fail> {
-    let alloc = rt.alloc();
-    let mut relay = relay_of(alloc, 1)?;
+// a whole call, and a whole reply
+fn passes_messages_over<R: Threads + Sync + Abort>(
+    rt: &R,
+    alloc: Global,
+    relay: &mut Relay,
+) -> Result<(), Fail> {
     let message = hex::decode(alloc, ROOT_REQUEST)?;
     let call = call_frame(alloc, 7, message.as_slice())?;
+    passes_over(rt, alloc, relay, call.payload.as_slice(), Some(Kind::Call))?;
     let reply = reply_frame(alloc, 0, (0, FIRST), b"right")?;
-    for kind in KINDS {
-        if *kind != Kind::Call {
-            same!(rt; told(&rt, alloc, &mut relay, *kind, call.payload.as_slice())?, 0);
-        }
-        same!(rt; told(&rt, alloc, &mut relay, *kind, reply.payload.as_slice())?, 0);
-    }
-    Ok(())
+    passes_over(rt, alloc, relay, reply.payload.as_slice(), None)
+}
+
+#[test]
+fn frames_of_other_kinds_are_passed_over(rt: HostRuntime) -> Result<(), Fail> {
+    let mut relay = relay_of(rt.alloc(), 1)?;
+    passes_messages_over(&rt, rt.alloc(), &mut relay)
 }

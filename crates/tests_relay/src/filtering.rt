@@ -58,8 +58,8 @@ const OWN_ANSWERS: &str = "00000002\
 // a turn of one call, without its message
 const CALL: &str = "0000000100000000000000010b000000500000000000000007";
 
-// one parcel, to all replicas, a request: up to its length
-const ASKING: &str = "0000000100000000000000000001";
+// one parcel, to replica 0, a request: up to its length
+const ASKING: &str = "0000000101000000000000000001";
 
 fn relay(alloc: Global, full: bool) -> Result<Reserving<Store>, Fail> {
     let mut keys = Vec::new(alloc);
