@@ -5,6 +5,7 @@ ghost use Rattle.bfs_auth.specs.Principals.{number_of};
 
 use bfs_auth::{Authenticator, Keys, Pair, Principal, check, sign, sign_for_client};
 use bfs_settings::parse_keys;
+use bfs_testing::asserts::compared;
 use bfs_testing::{holds, same};
 use bfs_types::Memory;
 use std::alloc::{AllocError, Global};
@@ -198,58 +199,6 @@ fn refusal_of(
     )
 }
 
-#[test]
-fn there_are_3f_and_1_replicas(rt: HostRuntime) -> Result<(), Fail> {
-    let alloc = rt.alloc();
-    let me = b"{ replica = 0 }".as_slice();
-    same!(rt; refusal_of(alloc, me, 0, 1)?, 43);
-    same!(rt; refusal_of(alloc, me, 1, 1)?, 0);
-    same!(rt; refusal_of(alloc, me, 2, 1)?, 43);
-    same!(rt; refusal_of(alloc, me, 3, 1)?, 43);
-    same!(rt; refusal_of(alloc, me, 4, 1)?, 0);
-    same!(rt; refusal_of(alloc, me, 5, 1)?, 43);
-    same!(rt; refusal_of(alloc, me, 31, 1)?, 0);
-    same!(rt; refusal_of(alloc, me, 34, 1)?, 43);
-    Ok(())
-}
-
-#[test]
-fn a_replica_has_keys_of_1_to_1024_clients(rt: HostRuntime) -> Result<(), Fail> {
-    let alloc = rt.alloc();
-    let me = b"{ replica = 0 }".as_slice();
-    same!(rt; refusal_of(alloc, me, 1, 0)?, 43);
-    same!(rt; refusal_of(alloc, me, 1, 1_024)?, 0);
-    same!(rt; refusal_of(alloc, me, 1, 1_025)?, 43);
-    same!(rt; refusal(alloc, &[b"me = { replica = 0 }\nreplicas = [", PAIR, b"]\n"])?, 43);
-    Ok(())
-}
-
-#[test]
-fn a_client_has_keys_of_no_client(rt: HostRuntime) -> Result<(), Fail> {
-    let alloc = rt.alloc();
-    same!(rt; refusal_of(alloc, b"{ client = 0 }", 1, 0)?, 0);
-    same!(rt; refusal_of(alloc, b"{ client = 0 }", 1, 1)?, 43);
-    same!(rt; refusal(alloc, &[b"me = { client = 0 }\nreplicas = [", PAIR, b"]\n"])?, 0);
-    Ok(())
-}
-
-#[test]
-fn a_document_says_whose_it_is(rt: HostRuntime) -> Result<(), Fail> {
-    let alloc = rt.alloc();
-    same!(rt; refusal_of(alloc, b"{ replica = 3 }", 4, 1)?, 0);
-    same!(rt; refusal_of(alloc, b"{ replica = 4 }", 4, 1)?, 43);
-    same!(rt; refusal_of(alloc, b"{ replica = -1 }", 4, 1)?, 43);
-    same!(rt; refusal_of(alloc, b"{ replica = 4294967296 }", 4, 1)?, 43);
-    same!(rt; refusal_of(alloc, b"{ replica = '0' }", 4, 1)?, 43);
-    same!(rt; refusal_of(alloc, b"{ client = 1023 }", 4, 0)?, 0);
-    same!(rt; refusal_of(alloc, b"{ client = 1024 }", 4, 0)?, 43);
-    same!(rt; refusal_of(alloc, b"{ replica = 0, client = 0 }", 4, 1)?, 43);
-    same!(rt; refusal_of(alloc, b"{ replica = 0, f = 1 }", 4, 1)?, 43);
-    same!(rt; refusal_of(alloc, b"{ }", 4, 1)?, 43);
-    same!(rt; refusal_of(alloc, b"0", 4, 1)?, 43);
-    Ok(())
-}
-
 // of the document of a replica of that number, with these pairs with replicas
 fn refusal_among(alloc: Global, number: &[u8], pairs: &[&[u8]]) -> Result<u32, AllocError> {
     let mut parts = Vec::new(alloc);
@@ -266,20 +215,6 @@ fn refusal_among(alloc: Global, number: &[u8], pairs: &[&[u8]]) -> Result<u32, A
     refusal(alloc, parts.as_slice())
 }
 
-#[test]
-fn a_replica_has_one_key_with_itself(rt: HostRuntime) -> Result<(), Fail> {
-    let alloc = rt.alloc();
-    same!(rt; refusal_among(alloc, b"0", &[OWN_PAIR])?, 0);
-    same!(rt; refusal_among(alloc, b"0", &[PAIR])?, 43);
-    same!(rt; refusal_among(alloc, b"0", &[OWN_PAIR, PAIR, PAIR, PAIR])?, 0);
-    same!(rt; refusal_among(alloc, b"0", &[PAIR, OWN_PAIR, OWN_PAIR, OWN_PAIR])?, 43);
-    same!(rt; refusal_among(alloc, b"3", &[PAIR, PAIR, PAIR, OWN_PAIR])?, 0);
-    same!(rt; refusal_among(alloc, b"3", &[OWN_PAIR, OWN_PAIR, OWN_PAIR, PAIR])?, 43);
-    // a client has none
-    same!(rt; refusal(alloc, &[b"me = { client = 0 }\nreplicas = [", PAIR, b"]\n"])?, 0);
-    Ok(())
-}
-
 // of the document of a client of one replica, with these parts in place of the pair
 fn refusal_with(alloc: Global, pair: &[&[u8]]) -> Result<u32, AllocError> {
     let mut parts = Vec::new(alloc);
@@ -289,51 +224,202 @@ fn refusal_with(alloc: Global, pair: &[&[u8]]) -> Result<u32, AllocError> {
     refusal(alloc, parts.as_slice())
 }
 
+/// A document.
+#[derive(Clone, Copy)]
+enum Document {
+    /// It says who it is of, and has so many pairs with replicas and with clients.
+    Of(&'static [u8], usize, usize),
+    /// That of a replica of that number, with these pairs with replicas.
+    Among(&'static [u8], &'static [&'static [u8]]),
+    /// That of a client of one replica, with these parts in place of the pair.
+    With(&'static [&'static [u8]]),
+    /// It has these parts.
+    Parts(&'static [&'static [u8]]),
+}
+
+use Document::{Among, Of, Parts, With};
+
+impl Document {
+    fn refusal(self, alloc: Global) -> Result<u32, AllocError> {
+        match self {
+            Of(me, replicas, clients) => refusal_of(alloc, me, replicas, clients),
+            Among(number, pairs) => refusal_among(alloc, number, pairs),
+            With(pair) => refusal_with(alloc, pair),
+            Parts(parts) => refusal(alloc, parts),
+        }
+    }
+}
+
+/// A document, and the code of its refusal, or 0.
+struct Case(Document, u32);
+
+// the place of the first document that comes to something else
+fn first_wrong(alloc: Global, cases: &[Case]) -> Result<Option<usize>, AllocError> {
+    for (place, case) in cases.iter().enumerate() {
+        if case.0.refusal(alloc)? != case.1 {
+            return Ok(Some(place));
+        }
+    }
+    Ok(None)
+}
+
+const A_REPLICA: &[u8] = b"{ replica = 0 }";
+
+static REPLICAS: [Case; 8] = [
+    Case(Of(A_REPLICA, 0, 1), 43),
+    Case(Of(A_REPLICA, 1, 1), 0),
+    Case(Of(A_REPLICA, 2, 1), 43),
+    Case(Of(A_REPLICA, 3, 1), 43),
+    Case(Of(A_REPLICA, 4, 1), 0),
+    Case(Of(A_REPLICA, 5, 1), 43),
+    Case(Of(A_REPLICA, 31, 1), 0),
+    Case(Of(A_REPLICA, 34, 1), 43),
+];
+
 #[test]
-fn a_key_has_64_digits(rt: HostRuntime) -> Result<(), Fail> {
-    let alloc = rt.alloc();
-    let (head, middle) = (b"{ sending = '".as_slice(), b"', receiving = '".as_slice());
-    let end = b"' }".as_slice();
-    same!(rt; refusal_with(alloc, &[head, DIGITS, middle, DIGITS, end])?, 0);
-    same!(rt; refusal_with(alloc, &[head, DIGITS, middle, &[b'g'; 64], end])?, 43);
-    same!(rt; refusal_with(alloc, &[head, DIGITS, middle, &DIGITS[..62], end])?, 43);
-    same!(rt; refusal_with(alloc, &[head, DIGITS, middle, &DIGITS[..63], end])?, 43);
-    same!(rt; refusal_with(alloc, &[head, DIGITS, middle, end])?, 43);
-    same!(rt; refusal_with(alloc, &[head, &DIGITS[1..], middle, DIGITS, end])?, 43);
-    same!(rt; refusal_with(alloc, &[head, DIGITS, b"00", middle, DIGITS, end])?, 43);
+fn there_are_3f_and_1_replicas(rt: HostRuntime) -> Result<(), Fail> {
+    compared(first_wrong(rt.alloc(), &REPLICAS)?, None)?;
     Ok(())
 }
+
+static CLIENTS: [Case; 4] = [
+    Case(Of(A_REPLICA, 1, 0), 43),
+    Case(Of(A_REPLICA, 1, 1_024), 0),
+    Case(Of(A_REPLICA, 1, 1_025), 43),
+    Case(
+        Parts(&[b"me = { replica = 0 }\nreplicas = [", PAIR, b"]\n"]),
+        43,
+    ),
+];
+
+#[test]
+fn a_replica_has_keys_of_1_to_1024_clients(rt: HostRuntime) -> Result<(), Fail> {
+    compared(first_wrong(rt.alloc(), &CLIENTS)?, None)?;
+    Ok(())
+}
+
+static NO_CLIENTS: [Case; 3] = [
+    Case(Of(b"{ client = 0 }", 1, 0), 0),
+    Case(Of(b"{ client = 0 }", 1, 1), 43),
+    Case(
+        Parts(&[b"me = { client = 0 }\nreplicas = [", PAIR, b"]\n"]),
+        0,
+    ),
+];
+
+#[test]
+fn a_client_has_keys_of_no_client(rt: HostRuntime) -> Result<(), Fail> {
+    compared(first_wrong(rt.alloc(), &NO_CLIENTS)?, None)?;
+    Ok(())
+}
+
+static OWNERS: [Case; 11] = [
+    Case(Of(b"{ replica = 3 }", 4, 1), 0),
+    Case(Of(b"{ replica = 4 }", 4, 1), 43),
+    Case(Of(b"{ replica = -1 }", 4, 1), 43),
+    Case(Of(b"{ replica = 4294967296 }", 4, 1), 43),
+    Case(Of(b"{ replica = '0' }", 4, 1), 43),
+    Case(Of(b"{ client = 1023 }", 4, 0), 0),
+    Case(Of(b"{ client = 1024 }", 4, 0), 43),
+    Case(Of(b"{ replica = 0, client = 0 }", 4, 1), 43),
+    Case(Of(b"{ replica = 0, f = 1 }", 4, 1), 43),
+    Case(Of(b"{ }", 4, 1), 43),
+    Case(Of(b"0", 4, 1), 43),
+];
+
+#[test]
+fn a_document_says_whose_it_is(rt: HostRuntime) -> Result<(), Fail> {
+    compared(first_wrong(rt.alloc(), &OWNERS)?, None)?;
+    Ok(())
+}
+
+static OWN_KEYS: [Case; 7] = [
+    Case(Among(b"0", &[OWN_PAIR]), 0),
+    Case(Among(b"0", &[PAIR]), 43),
+    Case(Among(b"0", &[OWN_PAIR, PAIR, PAIR, PAIR]), 0),
+    Case(Among(b"0", &[PAIR, OWN_PAIR, OWN_PAIR, OWN_PAIR]), 43),
+    Case(Among(b"3", &[PAIR, PAIR, PAIR, OWN_PAIR]), 0),
+    Case(Among(b"3", &[OWN_PAIR, OWN_PAIR, OWN_PAIR, PAIR]), 43),
+    // a client has none
+    Case(
+        Parts(&[b"me = { client = 0 }\nreplicas = [", PAIR, b"]\n"]),
+        0,
+    ),
+];
+
+#[test]
+fn a_replica_has_one_key_with_itself(rt: HostRuntime) -> Result<(), Fail> {
+    compared(first_wrong(rt.alloc(), &OWN_KEYS)?, None)?;
+    Ok(())
+}
+
+const SENDING: &[u8] = b"{ sending = '";
+
+const RECEIVING: &[u8] = b"', receiving = '";
+
+const END: &[u8] = b"' }";
+
+// the digits without the last two, without the last one, and without the first one
+const FIRST_62: &[u8] = b"0123456789abcdefABCDEF0123456789abcdef0123456789ABCDEF01234567";
+
+const FIRST_63: &[u8] = b"0123456789abcdefABCDEF0123456789abcdef0123456789ABCDEF012345678";
+
+const LAST_63: &[u8] = b"123456789abcdefABCDEF0123456789abcdef0123456789ABCDEF0123456789";
+
+static DIGITS_OF_KEYS: [Case; 7] = [
+    Case(With(&[SENDING, DIGITS, RECEIVING, DIGITS, END]), 0),
+    Case(With(&[SENDING, DIGITS, RECEIVING, &[b'g'; 64], END]), 43),
+    Case(With(&[SENDING, DIGITS, RECEIVING, FIRST_62, END]), 43),
+    Case(With(&[SENDING, DIGITS, RECEIVING, FIRST_63, END]), 43),
+    Case(With(&[SENDING, DIGITS, RECEIVING, END]), 43),
+    Case(With(&[SENDING, LAST_63, RECEIVING, DIGITS, END]), 43),
+    Case(With(&[SENDING, DIGITS, b"00", RECEIVING, DIGITS, END]), 43),
+];
+
+#[test]
+fn a_key_has_64_digits(rt: HostRuntime) -> Result<(), Fail> {
+    compared(first_wrong(rt.alloc(), &DIGITS_OF_KEYS)?, None)?;
+    Ok(())
+}
+
+static TWO_KEYS: [Case; 7] = [
+    Case(With(&[PAIR]), 0),
+    Case(With(&[SENDING, DIGITS, END]), 43),
+    Case(With(&[b"{ receiving = '", DIGITS, END]), 43),
+    Case(With(&[SENDING, DIGITS, b"', receiving = 0 }"]), 43),
+    Case(
+        With(&[SENDING, DIGITS, b"', f = 1, receiving = '", DIGITS, END]),
+        43,
+    ),
+    Case(With(&[b"'", DIGITS, b"'"]), 43),
+    Case(With(&[b"[", PAIR, b"]"]), 43),
+];
 
 #[test]
 fn a_pair_has_two_keys(rt: HostRuntime) -> Result<(), Fail> {
-    let alloc = rt.alloc();
-    let (head, end) = (b"{ sending = '".as_slice(), b"' }".as_slice());
-    same!(rt; refusal_with(alloc, &[PAIR])?, 0);
-    same!(rt; refusal_with(alloc, &[head, DIGITS, end])?, 43);
-    same!(rt; refusal_with(alloc, &[b"{ receiving = '", DIGITS, end])?, 43);
-    same!(rt; refusal_with(alloc, &[head, DIGITS, b"', receiving = 0 }"])?, 43);
-    same!(rt; refusal_with(alloc, &[head, DIGITS, b"', f = 1, receiving = '", DIGITS, end])?, 43);
-    same!(rt; refusal_with(alloc, &[b"'", DIGITS, b"'"])?, 43);
-    same!(rt; refusal_with(alloc, &[b"[", PAIR, b"]"])?, 43);
+    compared(first_wrong(rt.alloc(), &TWO_KEYS)?, None)?;
     Ok(())
 }
 
+const A_CLIENT: &[u8] = b"me = { client = 0 }\n";
+
+const PAIRS: &[u8] = b"replicas = [";
+
+static FAULTS: [Case; 10] = [
+    Case(Parts(&[A_CLIENT, PAIRS, PAIR, b"]\n"]), 0),
+    Case(Parts(&[PAIRS, PAIR, b"]\n"]), 43),
+    Case(Parts(&[A_CLIENT]), 43),
+    Case(Parts(&[]), 43),
+    Case(Parts(&[A_CLIENT, b"f = 0\n", PAIRS, PAIR, b"]\n"]), 43),
+    Case(Parts(&[A_CLIENT, A_CLIENT, PAIRS, PAIR, b"]\n"]), 43),
+    Case(Parts(&[A_CLIENT, PAIRS, PAIR, b"]\nclients = 0\n"]), 43),
+    Case(Parts(&[A_CLIENT, b"replicas = ", PAIR]), 43),
+    Case(Parts(&[A_CLIENT, PAIRS, PAIR]), 43),
+    Case(Parts(&[A_CLIENT, PAIRS, PAIR, b"]\n# \xff\n"]), 43),
+];
+
 #[test]
 fn other_keys_and_texts_are_faults(rt: HostRuntime) -> Result<(), Fail> {
-    let alloc = rt.alloc();
-    let (me, replicas) = (
-        b"me = { client = 0 }\n".as_slice(),
-        b"replicas = [".as_slice(),
-    );
-    same!(rt; refusal(alloc, &[me, replicas, PAIR, b"]\n"])?, 0);
-    same!(rt; refusal(alloc, &[replicas, PAIR, b"]\n"])?, 43);
-    same!(rt; refusal(alloc, &[me])?, 43);
-    same!(rt; refusal(alloc, &[])?, 43);
-    same!(rt; refusal(alloc, &[me, b"f = 0\n", replicas, PAIR, b"]\n"])?, 43);
-    same!(rt; refusal(alloc, &[me, me, replicas, PAIR, b"]\n"])?, 43);
-    same!(rt; refusal(alloc, &[me, replicas, PAIR, b"]\nclients = 0\n"])?, 43);
-    same!(rt; refusal(alloc, &[me, b"replicas = ", PAIR])?, 43);
-    same!(rt; refusal(alloc, &[me, replicas, PAIR])?, 43);
-    same!(rt; refusal(alloc, &[me, replicas, PAIR, b"]\n# \xff\n"])?, 43);
+    compared(first_wrong(rt.alloc(), &FAULTS)?, None)?;
     Ok(())
 }

@@ -3,54 +3,121 @@ ghost use Rattle.std.specs.Prelude.{◌≤◌, length};
 ghost use Rattle.bfs_model.specs.Server.Limits.{most_reply_bytes};
 
 use bfs_replies::{Class, MOST_CLIENTS, ReadError, RecordError, ReplyTable};
+use bfs_testing::asserts::compared;
 use bfs_testing::words::{same_bytes, spells};
 use bfs_testing::{holds, same};
 use bfs_types::{MOST_REPLY_BYTES, TryClone};
 use sha2::{Digest, Sha256};
 use std::test::Fail;
 
+/// What is done to a table, or what it answers.
+#[derive(Clone, Copy)]
+enum Step {
+    /// A client's reply is recorded, with the timestamp.
+    Record(u32, u64, &'static [u8]),
+    /// It is refused, as not newer.
+    Refuse(u32, u64, &'static [u8]),
+    /// What a client's request with that timestamp is.
+    Is(u32, u64, Class),
+    /// A client's last timestamp and reply.
+    Last(u32, u64, &'static [u8]),
+    /// A client has no reply.
+    HasNone(u32),
+}
+
+use Step::{HasNone, Is, Last, Record, Refuse};
+
+// why it is refused
+fn record(
+    table: &mut ReplyTable,
+    client: u32,
+    timestamp: u64,
+    reply: &[u8],
+) -> Option<RecordError> {
+    if client >= table.clients() || reply.len() > MOST_REPLY_BYTES {
+        return Some(RecordError::Memory);
+    }
+    table.record(client, timestamp, reply).err()
+}
+
+fn is_last(table: &ReplyTable, client: u32, timestamp: u64, reply: &[u8]) -> bool {
+    match table.last(client) {
+        Some((last, bytes)) => last == timestamp && bytes == reply,
+        None => false,
+    }
+}
+
+fn happens(table: &mut ReplyTable, step: Step) -> bool {
+    match step {
+        Record(client, timestamp, reply) => record(table, client, timestamp, reply) == None,
+        Refuse(client, timestamp, reply) => {
+            record(table, client, timestamp, reply) == Some(RecordError::NotNewer)
+        }
+        Is(client, timestamp, class) => table.classify(client, timestamp) == class,
+        Last(client, timestamp, reply) => is_last(table, client, timestamp, reply),
+        HasNone(client) => table.last(client).is_none(),
+    }
+}
+
+// the place of the first step that does not come as it is told
+fn first_wrong(table: &mut ReplyTable, steps: &[Step]) -> Option<usize> {
+    for (place, step) in steps.iter().enumerate() {
+        if !happens(table, *step) {
+            return Some(place);
+        }
+    }
+    None
+}
+
+static CLASSES: [Step; 16] = [
+    Is(0, 5, Class::New),
+    Record(0, 5, b"five"),
+    Is(0, 5, Class::Repeat),
+    Is(0, 4, Class::Old),
+    Is(0, 6, Class::New),
+    Is(16, 1, Class::Unknown),
+    Refuse(0, 5, b"again"),
+    Refuse(0, 4, b"earlier"),
+    Record(0, 6, b"six"),
+    Is(0, 6, Class::Repeat),
+    Is(0, 5, Class::Old),
+    Is(0, 7, Class::New),
+    Refuse(0, 6, b"again"),
+    Last(0, 6, b"six"),
+    HasNone(1),
+    HasNone(16),
+];
+
 #[test]
 fn requests_are_classified_by_the_last_one(rt: HostRuntime) -> Result<(), Fail> {
-    let alloc = rt.alloc();
-    let mut table = ReplyTable::new(alloc, 16)?;
-    same!(rt; table.classify(0, 5), Class::New);
-    table.record(0, 5, b"five")?;
-    same!(rt; table.classify(0, 5), Class::Repeat);
-    same!(rt; table.classify(0, 4), Class::Old);
-    same!(rt; table.classify(0, 6), Class::New);
-    same!(rt; table.classify(16, 1), Class::Unknown);
-    same!(rt; table.record(0, 5, b"again"), Err(RecordError::NotNewer));
-    same!(rt; table.record(0, 4, b"earlier"), Err(RecordError::NotNewer));
-    table.record(0, 6, b"six")?;
-    same!(rt; table.classify(0, 6), Class::Repeat);
-    same!(rt; table.classify(0, 5), Class::Old);
-    same!(rt; table.classify(0, 7), Class::New);
-    same!(rt; table.record(0, 6, b"again"), Err(RecordError::NotNewer));
-    let (timestamp, reply) = table.last(0).ok_or("a reply")?;
-    same!(rt; timestamp, 6);
-    same_bytes(alloc, reply, b"six")?;
-    holds!(rt; table.last(1).is_none());
-    holds!(rt; table.last(16).is_none());
+    let mut table = ReplyTable::new(rt.alloc(), 16)?;
+    compared(first_wrong(&mut table, &CLASSES), None)?;
     Ok(())
 }
 
+static SEVEN: [Step; 1] = [Record(1, 7, b"seven")];
+
+static EIGHT: [Step; 1] = [Record(1, 8, b"eight")];
+
+static COPY: [Step; 7] = [
+    Is(0, 0, Class::New),
+    Is(1, 6, Class::Old),
+    Is(1, 7, Class::Repeat),
+    Is(1, 8, Class::New),
+    Is(2, 8, Class::Unknown),
+    HasNone(0),
+    Last(1, 7, b"seven"),
+];
+
 #[test]
 fn a_copy_answers_alike(rt: HostRuntime) -> Result<(), Fail> {
-    let alloc = rt.alloc();
-    let mut table = ReplyTable::new(alloc, 2)?;
-    table.record(1, 7, b"seven")?;
-    let copy = table.try_clone(alloc)?;
-    table.record(1, 8, b"eight")?;
+    let mut table = ReplyTable::new(rt.alloc(), 2)?;
+    compared(first_wrong(&mut table, &SEVEN), None)?;
+    let mut copy = table.try_clone(rt.alloc())?;
+    compared(first_wrong(&mut table, &EIGHT), None)?;
     same!(rt; copy.clients(), 2);
-    same!(rt; copy.classify(0, 0), Class::New);
-    same!(rt; copy.classify(1, 6), Class::Old);
-    same!(rt; copy.classify(1, 7), Class::Repeat);
-    same!(rt; copy.classify(1, 8), Class::New);
-    same!(rt; copy.classify(2, 8), Class::Unknown);
-    holds!(rt; copy.last(0).is_none());
-    let (timestamp, reply) = copy.last(1).ok_or("a reply")?;
-    same!(rt; timestamp, 7);
-    same_bytes(alloc, reply, b"seven")
+    compared(first_wrong(&mut copy, &COPY), None)?;
+    Ok(())
 }
 
 // three clients, of which the second has a reply of 3 bytes to its request 5

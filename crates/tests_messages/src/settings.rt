@@ -1,6 +1,7 @@
 //! Settings: what a document says and where it breaks the rules, and the keys that principals have under them.
 use bfs_auth::{Keys, Principal};
 use bfs_settings::{Settings, SettingsError, default_settings, parse_settings};
+use bfs_testing::asserts::compared;
 use bfs_testing::{holds, same};
 use std::alloc::{AllocError, Global};
 use std::test::Fail;
@@ -11,6 +12,19 @@ fn refusal(alloc: Global, document: &[u8]) -> u32 {
         Ok(_) => 0,
         Err(error) => error.code(),
     }
+}
+
+/// A document, and the code of its refusal, or 0.
+struct Case(&'static [u8], u32);
+
+// the place of the first document that comes to something else
+fn first_wrong(alloc: Global, cases: &[Case]) -> Option<usize> {
+    for (place, case) in cases.iter().enumerate() {
+        if refusal(alloc, case.0) != case.1 {
+            return Some(place);
+        }
+    }
+    None
 }
 
 fn numbers(settings: &Settings) -> (u32, u32, u32) {
@@ -53,45 +67,55 @@ fn each_key_says_its_setting(rt: HostRuntime) -> Result<(), Fail> {
     Ok(())
 }
 
+static LIMITS: [Case; 9] = [
+    Case(b"f = 0", 0),
+    Case(b"f = -1", 43),
+    Case(b"f = 10", 0),
+    Case(b"f = 11", 43),
+    Case(b"f = 4294967296", 43),
+    Case(b"clients = 1", 0),
+    Case(b"clients = 0", 43),
+    Case(b"clients = 1024", 0),
+    Case(b"clients = 1025", 43),
+];
+
 #[test]
 fn each_limit_is_allowed_and_its_neighbour_refused(rt: HostRuntime) -> Result<(), Fail> {
-    let alloc = rt.alloc();
-    same!(rt; refusal(alloc, b"f = 0"), 0);
-    same!(rt; refusal(alloc, b"f = -1"), 43);
-    same!(rt; refusal(alloc, b"f = 10"), 0);
-    same!(rt; refusal(alloc, b"f = 11"), 43);
-    same!(rt; refusal(alloc, b"f = 4294967296"), 43);
-    same!(rt; refusal(alloc, b"clients = 1"), 0);
-    same!(rt; refusal(alloc, b"clients = 0"), 43);
-    same!(rt; refusal(alloc, b"clients = 1024"), 0);
-    same!(rt; refusal(alloc, b"clients = 1025"), 43);
+    compared(first_wrong(rt.alloc(), &LIMITS), None)?;
     Ok(())
 }
+
+static SECRETS: [Case; 4] = [
+    Case(b"secret = \"00\"", 0),
+    Case(b"secret = \"\"", 43),
+    Case(b"secret = \"0\"", 43),
+    Case(b"secret = \"0g\"", 43),
+];
 
 #[test]
 fn a_secret_has_1_to_64_bytes(rt: HostRuntime) -> Result<(), Fail> {
     let alloc = rt.alloc();
-    same!(rt; refusal(alloc, b"secret = \"00\""), 0);
-    same!(rt; refusal(alloc, b"secret = \"\""), 43);
-    same!(rt; refusal(alloc, b"secret = \"0\""), 43);
-    same!(rt; refusal(alloc, b"secret = \"0g\""), 43);
+    compared(first_wrong(alloc, &SECRETS), None)?;
     same!(rt; refusal(alloc, with_secret_of(alloc, 64)?.as_slice()), 0);
     same!(rt; refusal(alloc, with_secret_of(alloc, 65)?.as_slice()), 43);
     Ok(())
 }
 
+static FAULTS: [Case; 9] = [
+    Case(b"g = 1", 43),
+    Case(b"F = 1", 43),
+    Case(b"f = \"1\"", 43),
+    Case(b"f = 1.0", 43),
+    Case(b"secret = 0", 43),
+    Case(b"f = 1\nf = 1\n", 43),
+    Case(b"[f]\n", 43),
+    Case(b"f", 43),
+    Case(b"# \xff\n", 43),
+];
+
 #[test]
 fn other_keys_types_and_texts_are_faults(rt: HostRuntime) -> Result<(), Fail> {
-    let alloc = rt.alloc();
-    same!(rt; refusal(alloc, b"g = 1"), 43);
-    same!(rt; refusal(alloc, b"F = 1"), 43);
-    same!(rt; refusal(alloc, b"f = \"1\""), 43);
-    same!(rt; refusal(alloc, b"f = 1.0"), 43);
-    same!(rt; refusal(alloc, b"secret = 0"), 43);
-    same!(rt; refusal(alloc, b"f = 1\nf = 1\n"), 43);
-    same!(rt; refusal(alloc, b"[f]\n"), 43);
-    same!(rt; refusal(alloc, b"f"), 43);
-    same!(rt; refusal(alloc, b"# \xff\n"), 43);
+    compared(first_wrong(rt.alloc(), &FAULTS), None)?;
     Ok(())
 }
 
