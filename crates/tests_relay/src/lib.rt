@@ -1,11 +1,13 @@
 //! A relay, as tests: what it answers by itself, on bytes of RFC 1094 appendix A and RFC 5531; calls that replicas answer, and when; calls that wait; what it
-//! sends again, and when; and what it passes over.
+//! sends again, and when; what it passes over; and, where it is a filter's machine, which timestamps it reserves before a request leaves.
 #![tactic(auto)]
 
 #[cfg(test)]
 mod again;
 #[cfg(test)]
 mod asking;
+#[cfg(test)]
+mod filtering;
 #[cfg(test)]
 mod given_keys;
 #[cfg(test)]
