@@ -47,15 +47,19 @@ impl<R: Runtime> Reserve for CounterFile<'_, R> {
 
     fn reserve(&mut self, next: u64) -> io::Result<()> {
         if next > self.number {
-            let mut file = File::create(self.rt, self.beside.as_str())?;
-            write!(file, "{next}\n")?;
-            file.sync_all()?;
+            write_number(self.rt, self.beside.as_str(), next)?;
             fs::rename(self.rt, self.beside.as_str(), self.path)?;
             sync_folder(self.rt, self.path)?;
             self.number = next;
         }
         Ok(())
     }
+}
+
+fn write_number<R: Runtime>(rt: &R, path: &str, number: u64) -> io::Result<()> {
+    let mut file = File::create(rt, path)?;
+    write!(file, "{number}\n")?;
+    file.sync_all()
 }
 
 // A file that has taken another's place outlives a crash once their folder is on the disk.

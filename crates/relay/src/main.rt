@@ -41,14 +41,33 @@ fn run<R: Runtime + AllocGlobal + Threads + Wait + Sync>(rt: &R) -> Result<(), E
     }
     let deployment = deployment_at(rt, cluster.as_str()).context(cluster.clone()?)?;
     let keys = all_keys(rt, &deployment, clients)?;
+    speak_for(rt, &deployment, counter, keys)
+}
+
+/// Speaks for the clients whose keys these are, with the counter's file at that path.
+fn speak_for<R: Runtime + AllocGlobal + Threads + Wait + Sync>(
+    rt: &R,
+    deployment: &Deployment,
+    counter: &String,
+    keys: Vec<Keys>,
+) -> Result<(), Error> {
     let store = CounterFile::open(rt, counter.as_str()).context(counter.clone()?)?;
-    let mut relay = Reserving::of_keys(alloc, deployment.f(), keys, store)?;
+    let mut relay = Reserving::of_keys(rt.alloc(), deployment.f(), keys, store)?;
+    answer(rt, deployment, &mut relay)
+}
+
+fn answer<R: Runtime + AllocGlobal + Threads + Wait + Sync>(
+    rt: &R,
+    deployment: &Deployment,
+    relay: &mut Reserving<CounterFile<'_, R>>,
+) -> Result<(), Error> {
+    let alloc = rt.alloc();
     let mut reader = BufReader::new(alloc, rt.reader())?;
     let mut writer = io::writer(rt);
     serve(
         alloc,
         rt,
-        &mut relay,
+        relay,
         &deployment.limits(),
         &mut reader,
         &mut writer,
@@ -71,15 +90,24 @@ fn all_keys<R: Runtime + AllocGlobal>(
 ) -> Result<Vec<Keys>, Error> {
     let mut all: Vec<Keys> = Vec::new(rt.alloc());
     for path in paths {
-        let keys = keys_at(rt, deployment, path.as_str()).context(path.clone()?)?;
-        if has_keys_of(&all, keys.me()) {
-            return Err(Error::msg("the keys of this client are given twice")).context(
-                path.clone()?,
-            );
-        }
+        let keys = further_keys_at(rt, deployment, &all, path.as_str()).context(path.clone()?)?;
         all.push(keys)?;
     }
     Ok(all)
+}
+
+/// The keys of a client of that cluster, whose keys are not among these.
+fn further_keys_at<R: Runtime + AllocGlobal>(
+    rt: &R,
+    deployment: &Deployment,
+    all: &[Keys],
+    path: &str,
+) -> Result<Keys, Error> {
+    let keys = keys_at(rt, deployment, path)?;
+    if has_keys_of(all, keys.me()) {
+        return Err(Error::msg("the keys of this client are given twice"));
+    }
+    Ok(keys)
 }
 
 fn has_keys_of(all: &[Keys], me: Principal) -> bool {

@@ -1,10 +1,11 @@
 //! A machine that tells the operator each frame, and refuses two kinds of them.
 use crate::writers::Narrow;
-use bfs_filter::{Machine, TurnError, serve};
+use bfs_filter::{Machine, ServeError, TurnError, serve};
 use bfs_frames::{Kind, Limits, Parcel, To, Turn};
+use bfs_testing::asserts::compared;
 use bfs_testing::{holds, same};
-use std::alloc::Global;
-use std::io::{Error, ErrorKind};
+use std::alloc::{AllocError, Global};
+use std::io::{Error, ErrorKind, Write};
 use std::sync::Wait;
 use std::test::Fail;
 use std::thread::Threads;
@@ -57,6 +58,23 @@ const CUT: &str = "0000000100000004000000010a000000";
 
 const BAD_TIME: &str = "00000001ffffffff000000010a00000000";
 
+fn serves<R: Threads + Wait + Sync, W: Write>(
+    rt: &R,
+    echo: &mut Echo,
+    turns: &[u8],
+    writer: &mut W,
+) -> Result<(), ServeError> {
+    let mut reader = turns;
+    serve(echo.alloc, rt, echo, &Limits::new(), &mut reader, writer)
+}
+
+fn words_of(alloc: Global, ended: Result<(), ServeError>) -> Result<String, AllocError> {
+    match ended {
+        Ok(()) => String::from_str(alloc, "the end"),
+        Err(error) => format!(in alloc; "{error}"),
+    }
+}
+
 // what comes of turns: how many were taken, how it ended, and what was written; the writer takes so many bytes
 fn served<R: Threads + Wait + Sync>(
     rt: &R,
@@ -66,21 +84,11 @@ fn served<R: Threads + Wait + Sync>(
 ) -> Result<String, Fail> {
     let input = hex::decode(alloc, turns)?;
     let mut echo = Echo { alloc, turns: 0 };
-    let mut reader = input.as_slice();
     let mut writer = Narrow::new(alloc, room);
-    let ended = match serve(
-        alloc,
-        rt,
-        &mut echo,
-        &Limits::new(),
-        &mut reader,
-        &mut writer,
-    ) {
-        Ok(()) => String::from_str(alloc, "the end")?,
-        Err(error) => format!(in alloc; "{error}")?,
-    };
+    let ended = serves(rt, &mut echo, input.as_slice(), &mut writer);
+    let words = words_of(alloc, ended)?;
     let written = hex::encode(alloc, &writer.taken)?;
-    Ok(format!(in alloc; "{} {ended} {written}", echo.turns)?)
+    Ok(format!(in alloc; "{} {words} {written}", echo.turns)?)
 }
 
 #[test]
@@ -110,33 +118,52 @@ static ROWS: &[(&str, u32, &str)] = &[
     ),
 ];
 
+// a turn between whole ones, or behind one where it ends the input
+fn turns_with(alloc: Global, turn: &str, taken: u32) -> Result<String, AllocError> {
+    if taken == 1 {
+        format!(in alloc; "{LINE}{turn}")
+    } else {
+        format!(in alloc; "{LINE}{turn}{LINE}")
+    }
+}
+
+fn fails_so<R: Threads + Wait + Sync>(
+    rt: &R,
+    alloc: Global,
+    turn: &str,
+    taken: u32,
+    error: &str,
+) -> Result<(), Fail> {
+    let input = turns_with(alloc, turn, taken)?;
+    let output = format!(in alloc; "{taken} {error} {LINE_TOLD}")?;
+    compared(served(rt, alloc, input.as_str(), 100)?, output)?;
+    Ok(())
+}
+
 #[test]
 fn nothing_is_written_of_a_turn_that_fails(rt: HostRuntime) -> Result<(), Fail> {
-    let alloc = rt.alloc();
     for (turn, taken, error) in ROWS {
-        let input = format!(in alloc; "{LINE}{turn}{LINE}")?;
-        let output = format!(in alloc; "{taken} {error} {LINE_TOLD}")?;
-        if *taken == 1 {
-            let cut = format!(in alloc; "{LINE}{turn}")?;
-            same!(rt; served(&rt, alloc, cut.as_str(), 100)?, output);
-        } else {
-            same!(rt; served(&rt, alloc, input.as_str(), 100)?, output);
-        }
+        fails_so(&rt, rt.alloc(), *turn, *taken, *error)?;
     }
     Ok(())
+}
+
+// what is written before a writer that takes so many bytes of two answers
+fn front_of(alloc: Global, told: &str, room: usize) -> Result<String, Fail> {
+    let taken = if room < 20 { 1 } else { 2 };
+    let Some(front) = told.get(..room.saturating_mul(2)) else {
+        return Err("a shorter text".into());
+    };
+    Ok(format!(in alloc; "{taken} the answer cannot be written: timed out {front}")?)
 }
 
 #[test]
 fn a_writer_may_refuse_each_byte(rt: HostRuntime) -> Result<(), Fail> {
     let alloc = rt.alloc();
     let input = format!(in alloc; "{LINE}{EMPTY}")?;
+    let told = format!(in alloc; "{LINE_TOLD}{EMPTY_TOLD}")?;
     for room in 0usize..24 {
-        let taken = if room < 20 { 1 } else { 2 };
-        let told = format!(in alloc; "{LINE_TOLD}{EMPTY_TOLD}")?;
-        let Some(front) = told.as_str().get(..2 * room) else {
-            return Err("a shorter text".into());
-        };
-        let output = format!(in alloc; "{taken} the answer cannot be written: timed out {front}")?;
+        let output = front_of(alloc, told.as_str(), room)?;
         same!(rt; served(&rt, alloc, input.as_str(), room)?, output);
     }
     Ok(())

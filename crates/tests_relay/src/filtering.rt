@@ -1,13 +1,14 @@
 //! A relay as a filter's machine: what it answers by itself, and what it reserves before it tells a request.
 use bfs_auth::{Keys, Principal};
 use bfs_codec::decode;
-use bfs_filter::serve;
+use bfs_filter::{ServeError, serve};
 use bfs_frames::Limits;
 use bfs_messages::Message;
 use bfs_relaying::{AHEAD, Reserve, Reserving};
+use bfs_testing::asserts::compared;
+use bfs_testing::same;
 use bfs_testing::words::ROOT_REQUEST;
-use bfs_testing::{holds, same};
-use std::alloc::Global;
+use std::alloc::{AllocError, Global};
 use std::io;
 use std::io::{Error, ErrorKind};
 use std::sync::Wait;
@@ -71,6 +72,24 @@ fn relay(alloc: Global, full: bool) -> Result<Reserving<Store>, Fail> {
     Ok(Reserving::of_keys(alloc, 1, keys, store)?)
 }
 
+fn serves<R: Threads + Wait + Sync>(
+    rt: &R,
+    alloc: Global,
+    relay: &mut Reserving<Store>,
+    turns: &[u8],
+    writer: &mut Vec<u8>,
+) -> Result<(), ServeError> {
+    let mut reader = turns;
+    serve(alloc, rt, relay, &Limits::new(), &mut reader, writer)
+}
+
+fn words_of(alloc: Global, ended: Result<(), ServeError>) -> Result<String, AllocError> {
+    match ended {
+        Ok(()) => String::from_str(alloc, "the end"),
+        Err(error) => format!(in alloc; "{error}"),
+    }
+}
+
 // how it ends, and what is written in hexadecimal
 fn served<R: Threads + Wait + Sync>(
     rt: &R,
@@ -79,13 +98,9 @@ fn served<R: Threads + Wait + Sync>(
     turns: &str,
 ) -> Result<(String, String), Fail> {
     let input = hex::decode(alloc, turns)?;
-    let mut reader = input.as_slice();
     let mut writer = Vec::new(alloc);
-    let ended = match serve(alloc, rt, relay, &Limits::new(), &mut reader, &mut writer) {
-        Ok(()) => String::from_str(alloc, "the end")?,
-        Err(error) => format!(in alloc; "{error}")?,
-    };
-    Ok((ended, hex::encode(alloc, &writer)?))
+    let ended = serves(rt, alloc, relay, input.as_slice(), &mut writer);
+    Ok((words_of(alloc, ended)?, hex::encode(alloc, &writer)?))
 }
 
 // the timestamp of a request in hexadecimal
@@ -97,21 +112,46 @@ fn timestamp_in(alloc: Global, text: &str) -> Result<u64, Fail> {
     }
 }
 
-#[test]
-fn a_request_leaves_once_its_timestamp_is_reserved(rt: HostRuntime) -> Result<(), Fail> {
-    let alloc = rt.alloc();
-    let mut relay = relay(alloc, false)?;
-    let turns = format!(in alloc; "{OWN}{CALL}{ROOT_REQUEST}")?;
-    let (ended, written) = served(&rt, alloc, &mut relay, turns.as_str())?;
-    holds!(rt; ended.as_str() == "the end");
+// the timestamp of the request that leaves behind the own answers
+fn timestamp_behind_own(alloc: Global, written: &str) -> Result<u64, Fail> {
     let front = format!(in alloc; "{OWN_ANSWERS}{ASKING}")?;
     let rest = written
-        .as_str()
         .strip_prefix(front.as_str())
         .ok_or("another answer")?;
-    let text = rest.get(8..).ok_or("a length")?;
-    same!(rt; timestamp_in(alloc, text)?, FIRST);
+    timestamp_in(alloc, rest.get(8..).ok_or("a length")?)
+}
+
+fn leaves<R: Threads + Wait + Sync>(
+    rt: &R,
+    alloc: Global,
+    relay: &mut Reserving<Store>,
+) -> Result<u64, Fail> {
+    let turns = format!(in alloc; "{OWN}{CALL}{ROOT_REQUEST}")?;
+    let (ended, written) = served(rt, alloc, relay, turns.as_str())?;
+    compared(ended.as_str(), "the end")?;
+    timestamp_behind_own(alloc, written.as_str())
+}
+
+#[test]
+fn a_request_leaves_once_its_timestamp_is_reserved(rt: HostRuntime) -> Result<(), Fail> {
+    let mut relay = relay(rt.alloc(), false)?;
+    same!(rt; leaves(&rt, rt.alloc(), &mut relay)?, FIRST);
     same!(rt; relay.reserved(), FIRST + 1 + AHEAD);
+    Ok(())
+}
+
+fn is_stopped<R: Threads + Wait + Sync>(
+    rt: &R,
+    alloc: Global,
+    relay: &mut Reserving<Store>,
+) -> Result<(), Fail> {
+    let turns = format!(in alloc; "{OWN}{CALL}{ROOT_REQUEST}{OWN}")?;
+    let (ended, written) = served(rt, alloc, relay, turns.as_str())?;
+    compared(
+        ended.as_str(),
+        "what is to be kept cannot be written: no storage space",
+    )?;
+    compared(written.as_str(), OWN_ANSWERS)?;
     Ok(())
 }
 
@@ -119,12 +159,8 @@ fn a_request_leaves_once_its_timestamp_is_reserved(rt: HostRuntime) -> Result<()
 fn nothing_leaves_of_a_turn_whose_timestamps_cannot_be_reserved(
     rt: HostRuntime,
 ) -> Result<(), Fail> {
-    let alloc = rt.alloc();
-    let mut relay = relay(alloc, true)?;
-    let turns = format!(in alloc; "{OWN}{CALL}{ROOT_REQUEST}{OWN}")?;
-    let (ended, written) = served(&rt, alloc, &mut relay, turns.as_str())?;
-    holds!(rt; ended.as_str() == "what is to be kept cannot be written: no storage space");
-    holds!(rt; written.as_str() == OWN_ANSWERS);
+    let mut relay = relay(rt.alloc(), true)?;
+    is_stopped(&rt, rt.alloc(), &mut relay)?;
     same!(rt; relay.reserved(), FIRST);
     Ok(())
 }
