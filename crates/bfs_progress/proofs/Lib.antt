@@ -1,0 +1,17 @@
+mod Numbers
+mod Turns
+mod Logs
+mod Speaks
+mod Heard
+mod Answered
+mod High
+mod Changes
+mod Reached
+mod Quiet
+mod Exchange
+mod Entrance
+mod Asking
+mod Ways
+mod Windows
+mod Anywhere
+mod Premises

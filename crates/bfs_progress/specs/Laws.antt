@@ -1,0 +1,75 @@
+-- The statements that are proved of the definitions: contracts of functions of src/laws.rt, which do nothing.
+use Rattle.std.specs.Prelude.{◌≡◌, ℕ, ◌<◌, Bool, true, List, ◌++◌}
+use Rattle.bfs_votes.specs.Votes.{Told, primary}
+use Rattle.bfs_votes.specs.Tags.{pre_prepare_tag}
+use Rattle.bfs_agreement.specs.Histories.{ViewChange}
+use Rattle.bfs_agreement.specs.Calls.{Orders, HeaderTurn, next_number, after_header_turn, after_header_turns, AreAuthentic}
+use Rattle.bfs_progress.specs.Premises.{AreOffered, IsARun, reached}
+use Rattle.bfs_progress.specs.Members.{AreTogether, HasRoom, AllIsHeard, IsCommitted, HaveAsked, MayMeet, AreChangesOf}
+use Rattle.bfs_progress.specs.Exchanges.{exchange, entrance}
+use Rattle.bfs_progress.specs.Ways.{AreTurnsOf, IsWay}
+
+-- In a view -----------------------------------------------------------------------------------------------------------
+
+-- a number above all low marks for which the primary has a PRE-PREPARE, and of which nothing is unheard, is committed at each
+abbrev pub QuietIsCommitted : Type 0
+QuietIsCommitted = (f : ℕ) (null : List ℕ) (faulty members : ℕ → Bool) (turns : List HeaderTurn) (view number : ℕ) (digest : List ℕ)
+    → IsARun f null faulty turns
+    → AreTogether f faulty members (reached f null turns) view
+    → ((k : ℕ) → members k ≡ true → (reached f null turns k).now.low < number)
+    → Told (reached f null turns (primary f view)).now.log pre_prepare_tag (primary f view) view number digest
+    → AllIsHeard members (reached f null turns) view number
+    → IsCommitted f members (reached f null turns) view number digest
+
+-- the exchange of a number for which the primary has a PRE-PREPARE is of what was sent, and leaves it committed at each
+abbrev pub ExchangeCommits : Type 0
+ExchangeCommits = (f : ℕ) (null : List ℕ) (faulty members : ℕ → Bool) (turns : List HeaderTurn) (view number : ℕ) (digest : List ℕ)
+    → IsARun f null faulty turns
+    → AreTogether f faulty members (reached f null turns) view
+    → HasRoom members (reached f null turns) number
+    → Told (reached f null turns (primary f view)).now.log pre_prepare_tag (primary f view) view number digest
+    → AreAuthentic f null faulty (reached f null turns) (exchange f members view number digest)
+    × AreTogether f faulty members (after_header_turns f null (reached f null turns) (exchange f members view number digest)) view
+    × IsCommitted f members (after_header_turns f null (reached f null turns) (exchange f members view number digest)) view number digest
+
+-- what the primary proposes next is committed at each behind an exchange
+abbrev pub ProposalCommits : Type 0
+ProposalCommits = (f : ℕ) (null : List ℕ) (faulty members : ℕ → Bool) (turns : List HeaderTurn) (view : ℕ) (digest : List ℕ)
+    → IsARun f null faulty turns
+    → AreTogether f faulty members (reached f null turns) view
+    → HasRoom members (reached f null turns) (next_number (reached f null turns (primary f view)).now)
+    → IsCommitted f members
+    (after_header_turns f null (after_header_turn f null (reached f null turns) (record { who = primary f view; call = Orders digest }))
+    (exchange f members view (next_number (reached f null turns (primary f view)).now) digest))
+    view (next_number (reached f null turns (primary f view)).now) digest
+
+-- Between views -------------------------------------------------------------------------------------------------------
+
+-- who have asked for one view have sent VIEW-CHANGEs by which they enter it together
+abbrev pub EntersTogether : Type 0
+EntersTogether = (f : ℕ) (null : List ℕ) (faulty members : ℕ → Bool) (turns : List HeaderTurn) (view : ℕ)
+    → IsARun f null faulty turns
+    → HaveAsked f faulty members (reached f null turns) view
+    → (changes : List ViewChange) × AreChangesOf members (reached f null turns) view changes
+    × AreAuthentic f null faulty (reached f null turns) (entrance f members view changes)
+    × AreOffered f null faulty (reached f null turns) (entrance f members view changes)
+    × AreTogether f faulty members (after_header_turns f null (reached f null turns) (entrance f members view changes)) view
+
+-- From every state ----------------------------------------------------------------------------------------------------
+
+-- by turns of theirs, in which nothing comes but what was sent, they are together in any later view that one of them leads
+abbrev pub NoStateIsADeadEnd : Type 0
+NoStateIsADeadEnd = (f : ℕ) (null : List ℕ) (faulty members : ℕ → Bool) (turns : List HeaderTurn) (view : ℕ)
+    → IsARun f null faulty turns
+    → MayMeet f faulty members (reached f null turns) view
+    → (further : List HeaderTurn) × AreTurnsOf members further
+    × IsARun f null faulty (turns ++ further)
+    × AreTogether f faulty members (reached f null (turns ++ further)) view
+
+-- and there is a way on, to any later view that one of them leads, on which a batch of any digest is committed at each
+abbrev pub EachBatchCanBeCommitted : Type 0
+EachBatchCanBeCommitted = (f : ℕ) (null : List ℕ) (faulty members : ℕ → Bool) (turns : List HeaderTurn) (view : ℕ) (digest : List ℕ)
+    → IsARun f null faulty turns
+    → MayMeet f faulty members (reached f null turns) view
+    → (further : List HeaderTurn) × IsWay f null faulty members (reached f null turns) further
+    × ((number : ℕ) × IsCommitted f members (after_header_turns f null (reached f null turns) further) view number digest)
