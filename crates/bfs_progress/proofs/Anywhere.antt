@@ -15,7 +15,7 @@ use Rattle.bfs_progress.proofs.Logs.{greatest_le}
 use Rattle.bfs_progress.proofs.Reached.{Facts, turns_done, always}
 use Rattle.bfs_progress.proofs.Exchange.{proposal_turn, proposed, together_on}
 use Rattle.bfs_progress.proofs.Entrance.{entrance_done, changes_there, together_then}
-use Rattle.bfs_progress.proofs.Asking.{enters_by, meets}
+use Rattle.bfs_progress.proofs.Asking.{enters_by, all_timed, meets}
 use Rattle.bfs_progress.proofs.Ways.{SettledAt, asking_settles, entering_settles, exchange_way, each_settled, ways_end}
 use Rattle.bfs_progress.proofs.Windows.{stable_le, certified_le, max_low, low_le_max, max_at, several, ranged}
 
@@ -106,15 +106,15 @@ each_batch_can_be_committed f null faulty members turns v d run may =
     let leads = may.quorum.leads in
     let among = may.quorum.among in
     -- they ask for the view
-    let asking = all_time_out members w0 v reps in
-    let meeting = meets f null faulty members w0 v facts0 may in
+    let asking = all_time_out members w0 (λ _. v) reps in
+    let timed = all_timed f null faulty members w0 (λ _. v) v facts0 may.quorum in
     let w1 = after_header_turns f null w0 asking in
-    let asked1 = meeting.asked in
+    let asked1 = meets f null faulty members w0 v facts0 may in
     let way1 : IsWay f null faulty members w0 asking = record {
-      of_members = meeting.further.of_members;
-      authentic = meeting.further.authentic;
-      offered = meeting.further.offered;
-      settled = asking_settles f null faulty members w0 w0 v reps;
+      of_members = timed.further.of_members;
+      authentic = timed.further.authentic;
+      offered = timed.further.offered;
+      settled = asking_settles f null faulty members w0 w0 (λ _. v) reps;
     } in
     let facts1 = turns_done f null faulty w0 asking positive few facts0 way1.authentic way1.offered in
     let got = changes_there f null faulty members w1 v positive few facts1 asked1 in

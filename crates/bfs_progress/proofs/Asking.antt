@@ -6,7 +6,7 @@ use Rattle.bfs_agreement.specs.Histories.{History, World, ViewChange}
 use Rattle.bfs_agreement.specs.Moves.{new_world}
 use Rattle.bfs_agreement.specs.Calls.{TimesOut, ChangesView, HeaderTurn, after_header_turn, after_header_turns, AreAuthentic}
 use Rattle.bfs_progress.specs.Premises.{AreOffered, IsARun, reached}
-use Rattle.bfs_progress.specs.Members.{AreTogether, HaveAsked, MayMeet}
+use Rattle.bfs_progress.specs.Members.{IsQuorum, AreTogether, HaveAsked, MayMeet}
 use Rattle.bfs_progress.specs.Exchanges.{backups_of, timeouts, all_time_out, all_enter, entrance}
 use Rattle.bfs_progress.specs.Ways.{AreTurnsOf}
 use Rattle.bfs_progress.specs.Laws.{NoStateIsADeadEnd}
@@ -20,6 +20,10 @@ pub record IsFurther (f : ℕ) (null : List ℕ) (faulty members : ℕ → Bool)
   pub of_members : AreTurnsOf members turns
   pub authentic : AreAuthentic f null faulty w turns
   pub offered : AreOffered f null faulty w turns
+
+-- asked for a view, unless for a later one
+abbrev pub HasAsked : (p q : History) (view : ℕ) → Type 0
+HasAsked p q view = (q.now.asked ≡ max p.now.asked view) × (q.now.view ≡ p.now.view)
 
 module _ (f : ℕ) (null : List ℕ) (faulty members : ℕ → Bool) where
   further_join : (w : World) (xs ys : List HeaderTurn) → IsFurther f null faulty members w xs → IsFurther f null faulty members (after_header_turns f null w xs) ys
@@ -60,43 +64,39 @@ module _ (f : ℕ) (null : List ℕ) (faulty members : ℕ → Bool) where
   -- Each --------------------------------------------------------------------------------------------------------------
 
   -- from a world that has, for those below the bound, the histories of the one by which it is counted
-  pub record AllAsked (w new : World) (view bound : ℕ) (turns : List HeaderTurn) (from : World) : Type 0 where
-    pub asked : (k : ℕ) → k < bound → members k ≡ true → ((new k).now.asked ≡ view) × ((new k).now.view ≡ (from k).now.view)
+  pub record AllAsked (w new : World) (views : ℕ → ℕ) (bound : ℕ) (turns : List HeaderTurn) (from : World) : Type 0 where
+    pub asked : (k : ℕ) → k < bound → members k ≡ true → HasAsked (from k) (new k) (views k)
     pub others : (k : ℕ) → bound ≤ k → new k ≡ w k
     pub further : IsFurther f null faulty members w turns
 
-  all_asked : (from w : World) (view bound : ℕ) → ((k : ℕ) → k < bound → w k ≡ from k)
-      → ((k : ℕ) → members k ≡ true → ((from k).now.view ≤ (from k).now.asked) × ((from k).now.asked ≤ view))
-      → AllAsked w (after_header_turns f null w (all_time_out members from view bound)) view bound (all_time_out members from view bound) from
-  all_asked from w view zero same marks =
+  pub all_asked : (from w : World) (views : ℕ → ℕ) (bound : ℕ) → ((k : ℕ) → k < bound → w k ≡ from k) → ((k : ℕ) → members k ≡ true → (from k).now.view ≤ (from k).now.asked)
+      → AllAsked w (after_header_turns f null w (all_time_out members from views bound)) views bound (all_time_out members from views bound) from
+  all_asked from w views zero same marks =
       record { asked = λ k low. absurd (omega (arith, low)); others = λ k x. refl; further = record { of_members = tt; authentic = tt; offered = tt } }
-  all_asked from w view (suc b) same marks =
-      let count = view - (from b).now.asked in
+  all_asked from w views (suc b) same marks =
+      let count = views b - (from b).now.asked in
       let first = timeouts b count in
-      let rest = all_time_out members from view b in
-      cond_both (members b) (first ++ rest) rest (λ (l : List HeaderTurn). AllAsked w (after_header_turns f null w l) view (suc b) l from)
+      let rest = all_time_out members from views b in
+      cond_both (members b) (first ++ rest) rest (λ (l : List HeaderTurn). AllAsked w (after_header_turns f null w l) views (suc b) l from)
       (λ in_b.
       let at_b : w b ≡ from b = same b (omega arith) in
-      let m = marks b in_b in
-      let got = asks w b count (subst (λ (p : History). p.now.view ≤ p.now.asked) (sym at_b) m.0) in
+      let got = asks w b count (subst (λ (p : History). p.now.view ≤ p.now.asked) (sym at_b) (marks b in_b)) in
       let w1 = after_header_turns f null w first in
-      let more = all_asked from w1 view b (λ k low. got.others k (differs k b (λ e. omega (arith, low, e))) ∙ same k (omega (arith, low))) marks in
+      let more = all_asked from w1 views b (λ k low. got.others k (differs k b (λ e. omega (arith, low, e))) ∙ same k (omega (arith, low))) marks in
       let counted = got.asked in
       let was : (w b).now.asked ≡ (from b).now.asked = ap (λ (p : History). p.now.asked) at_b in
-      let le = m.1 in
-      let asked_b : (w1 b).now.asked ≡ view = omega (arith, counted, was, le) in
-      let view_b : (w1 b).now.view ≡ (from b).now.view = got.view ∙ ap (λ (p : History). p.now.view) at_b in
-      subst (λ (x : World). AllAsked w x view (suc b) (first ++ rest) from) (sym (after_join f null w first rest))
+      let asked_b : HasAsked (from b) (w1 b) (views b) = (omega (arith, counted, was), got.view ∙ ap (λ (p : History). p.now.view) at_b) in
+      subst (λ (x : World). AllAsked w x views (suc b) (first ++ rest) from) (sym (after_join f null w first rest))
       (record {
-        asked = each_below b (λ k. members k ≡ true → ((after_header_turns f null w1 rest k).now.asked ≡ view) × ((after_header_turns f null w1 rest k).now.view ≡ (from k).now.view))
-            (λ _. subst (λ (p : History). (p.now.asked ≡ view) × (p.now.view ≡ (from b).now.view)) (sym (more.others b (omega arith))) (asked_b, view_b)) more.asked;
+        asked = each_below b (λ k. members k ≡ true → HasAsked (from k) (after_header_turns f null w1 rest k) (views k))
+            (λ _. subst (λ (p : History). HasAsked (from b) p (views b)) (sym (more.others b (omega arith))) asked_b) more.asked;
         others = λ k high. more.others k (omega (arith, high)) ∙ got.others k (differs k b (λ e. omega (arith, high, e)));
         further = further_join w first rest (asks_further w b count in_b) more.further;
       }))
       (λ out.
-      let more = all_asked from w view b (λ k low. same k (omega (arith, low))) marks in
+      let more = all_asked from w views b (λ k low. same k (omega (arith, low))) marks in
       record {
-        asked = each_below b (λ k. members k ≡ true → ((after_header_turns f null w rest k).now.asked ≡ view) × ((after_header_turns f null w rest k).now.view ≡ (from k).now.view)) (λ in_b. absurd cc) more.asked;
+        asked = each_below b (λ k. members k ≡ true → HasAsked (from k) (after_header_turns f null w rest k) (views k)) (λ in_b. absurd cc) more.asked;
         others = λ k high. more.others k (omega (arith, high));
         further = more.further;
       })
@@ -108,48 +108,59 @@ module _ (f : ℕ) (null : List ℕ) (faulty members : ℕ → Bool) where
       (λ x. (among b x, enters_by some view ms b among))
       (λ _. enters_by some view ms b among)
 
--- who may meet asks for the view
-pub record Meeting (f : ℕ) (null : List ℕ) (faulty members : ℕ → Bool) (w : World) (view : ℕ) : Type 0 where
-  pub further : IsFurther f null faulty members w (all_time_out members w view (replicas f))
-  pub asked : HaveAsked f faulty members (after_header_turns f null w (all_time_out members w view (replicas f))) view
+-- each has asked for its view then
+pub record Timed (f : ℕ) (null : List ℕ) (faulty members : ℕ → Bool) (w new : World) (views : ℕ → ℕ) (turns : List HeaderTurn) : Type 0 where
+  pub asked : (k : ℕ) → members k ≡ true → HasAsked (w k) (new k) (views k)
+  pub further : IsFurther f null faulty members w turns
 
-pub meets : (f : ℕ) (null : List ℕ) (faulty members : ℕ → Bool) (w : World) (view : ℕ) → Facts f faulty w → MayMeet f faulty members w view → Meeting f null faulty members w view
-meets f null faulty members w v facts may =
-    let got = all_asked f null faulty members w w v (replicas f) (λ k low. refl) (λ k x. ((facts.sound.kept k (may.quorum.correct k x)).asked, may.asked k x)) in
+pub all_timed : (f : ℕ) (null : List ℕ) (faulty members : ℕ → Bool) (w : World) (views : ℕ → ℕ) (view : ℕ) → Facts f faulty w → IsQuorum f faulty members view
+    → Timed f null faulty members w (after_header_turns f null w (all_time_out members w views (replicas f))) views (all_time_out members w views (replicas f))
+all_timed f null faulty members w views view facts quorum =
+    let got = all_asked f null faulty members w w views (replicas f) (λ k low. refl) (λ k x. (facts.sound.kept k (quorum.correct k x)).asked) in
+    record { asked = λ k x. got.asked k (quorum.among k x) x; further = got.further }
+
+-- who may meet asks for the view
+pub meets : (f : ℕ) (null : List ℕ) (faulty members : ℕ → Bool) (w : World) (view : ℕ) → Facts f faulty w → MayMeet f faulty members w view
+    → HaveAsked f faulty members (after_header_turns f null w (all_time_out members w (λ _. view) (replicas f))) view
+meets f null faulty members w view facts may =
+    let got = all_timed f null faulty members w (λ _. view) view facts may.quorum in
     record {
-      further = got.further;
-      asked = record {
-        quorum = may.quorum;
-        asked = λ k x. (got.asked k (may.quorum.among k x) x).0;
-        before = λ k x. subst (λ (y : ℕ). y < v) (sym (got.asked k (may.quorum.among k x) x).1) (may.before k x);
-      };
+      quorum = may.quorum;
+      asked = λ k x. let e = (got.asked k x).0 in let le = may.asked k x in omega (arith, e, le);
+      before = λ k x. subst (λ (y : ℕ). y < view) (sym (got.asked k x).1) (may.before k x);
+    }
+
+pub run_on : (f : ℕ) (null : List ℕ) (faulty members : ℕ → Bool) (turns further : List HeaderTurn) → IsARun f null faulty turns → IsFurther f null faulty members (reached f null turns) further
+    → IsARun f null faulty (turns ++ further)
+run_on f null faulty members turns further run more =
+    record {
+      others = run.others;
+      few = run.few;
+      authentic = authentic_join f null faulty new_world turns further run.authentic more.authentic;
+      offered = offered_join f null faulty new_world turns further run.offered more.offered;
     }
 
 pub no_state_is_a_dead_end : NoStateIsADeadEnd
 no_state_is_a_dead_end f null faulty members turns v run may =
     let w = reached f null turns in
-    let asking = all_time_out members w v (replicas f) in
-    let got = meets f null faulty members w v (always f null faulty turns run) may in
+    let asking = all_time_out members w (λ _. v) (replicas f) in
+    let facts = always f null faulty turns run in
+    let timed = all_timed f null faulty members w (λ _. v) v facts may.quorum in
     let all = turns ++ asking in
-    let joined : reached f null all ≡ after_header_turns f null w asking = after_join f null new_world turns asking in
-    let run1 : IsARun f null faulty all = record {
-      others = run.others;
-      few = run.few;
-      authentic = authentic_join f null faulty new_world turns asking run.authentic got.further.authentic;
-      offered = offered_join f null faulty new_world turns asking run.offered got.further.offered;
-    } in
-    let done = enters_together f null faulty members all v run1 (subst (λ (x : World). HaveAsked f faulty members x v) (sym joined) got.asked) in
+    let run1 = run_on f null faulty members turns asking run timed.further in
+    let asked : HaveAsked f faulty members (reached f null all) v = subst (λ (x : World). HaveAsked f faulty members x v) (sym (after_join f null new_world turns asking)) (meets f null faulty members w v facts may) in
+    let done = enters_together f null faulty members all v run1 asked in
     let entering = entrance f members v done.0 in
+    let backups = backups_of f members v in
+    let more : IsFurther f null faulty members (reached f null all) entering = record {
+      of_members = (may.quorum.leads, enters_by f null faulty members backups v done.0 (replicas f) (λ k x. (and_parts (members k) (not (k == primary f v)) x).0));
+      authentic = done.2;
+      offered = done.3;
+    } in
     let joins : all ++ entering ≡ turns ++ (asking ++ entering) = append_assoc turns asking entering in (
       asking ++ entering,
-      turns_of_join members asking entering got.further.of_members
-          (may.quorum.leads, enters_by f null faulty members (backups_of f members v) v done.0 (replicas f) (λ k x. (and_parts (members k) (not (k == primary f v)) x).0)),
-      subst (λ (l : List HeaderTurn). IsARun f null faulty l) joins (record {
-        others = run.others;
-        few = run.few;
-        authentic = authentic_join f null faulty new_world all entering run1.authentic done.2;
-        offered = offered_join f null faulty new_world all entering run1.offered done.3;
-      }),
+      turns_of_join members asking entering timed.further.of_members more.of_members,
+      subst (λ (l : List HeaderTurn). IsARun f null faulty l) joins (run_on f null faulty members all entering run1 more),
       subst (λ (l : List HeaderTurn). AreTogether f faulty members (reached f null l) v) joins
           (subst (λ (x : World). AreTogether f faulty members x v) (sym (after_join f null new_world all entering)) done.4),
     )

@@ -11,6 +11,7 @@ mod Quiet
 mod Exchange
 mod Entrance
 mod Asking
+mod Following
 mod Ways
 mod Windows
 mod Anywhere

@@ -56,13 +56,14 @@ module _ (f : ℕ) (null : List ℕ) (faulty members : ℕ → Bool) where
   timeouts_settle w j zero = tt
   timeouts_settle w j (suc c) = (tt, timeouts_settle (after_header_turn f null w (record { who = j; call = TimesOut })) j c)
 
-  pub asking_settles : (from w : World) (view bound : ℕ) → MaySettleAll f null members w (all_time_out members from view bound)
-  asking_settles from w view zero = tt
-  asking_settles from w view (suc b) =
-      let first = timeouts b (view - (from b).now.asked) in
-      cond_both (members b) (first ++ all_time_out members from view b) (all_time_out members from view b) (λ (l : List HeaderTurn). MaySettleAll f null members w l)
-      (λ _. settle_join w first (all_time_out members from view b) (timeouts_settle w b (view - (from b).now.asked)) (asking_settles from (after_header_turns f null w first) view b))
-      (λ _. asking_settles from w view b)
+  pub asking_settles : (from w : World) (views : ℕ → ℕ) (bound : ℕ) → MaySettleAll f null members w (all_time_out members from views bound)
+  asking_settles from w views zero = tt
+  asking_settles from w views (suc b) =
+      let count = views b - (from b).now.asked in
+      let rest = all_time_out members from views b in
+      cond_both (members b) (timeouts b count ++ rest) rest (λ (l : List HeaderTurn). MaySettleAll f null members w l)
+      (λ _. settle_join w (timeouts b count) rest (timeouts_settle w b count) (asking_settles from (after_header_turns f null w (timeouts b count)) views b))
+      (λ _. asking_settles from w views b)
 
   pub entering_settles : (w : World) (some : ℕ → Bool) (view : ℕ) (ms : List ViewChange) (bound : ℕ) → MaySettleAll f null members w (all_enter some view ms bound)
   entering_settles w some view ms zero = tt

@@ -38,11 +38,11 @@ abbrev pub timeouts : (who count : ℕ) → List HeaderTurn
 timeouts who zero = []
 timeouts who (suc count) = record { who = who; call = TimesOut } ∷ timeouts who count
 
--- each member below a bound times out until it has asked for the view
-abbrev pub all_time_out : (members : ℕ → Bool) → World → (view bound : ℕ) → List HeaderTurn
-all_time_out members w view zero = []
-all_time_out members w view (suc k) =
-    if members k then timeouts k (view - (w k).now.asked) ++ all_time_out members w view k else all_time_out members w view k
+-- each member below a bound times out until it has asked for its view
+abbrev pub all_time_out : (members : ℕ → Bool) → World → (views : ℕ → ℕ) → (bound : ℕ) → List HeaderTurn
+all_time_out members w views zero = []
+all_time_out members w views (suc k) =
+    if members k then timeouts k (views k - (w k).now.asked) ++ all_time_out members w views k else all_time_out members w views k
 
 -- each of some replicas below a bound enters a view by a NEW-VIEW with these
 abbrev pub all_enter : (some : ℕ → Bool) (view : ℕ) → List ViewChange → (bound : ℕ) → List HeaderTurn

@@ -1,12 +1,13 @@
 -- The statements that are proved of the definitions: contracts of functions of src/laws.rt, which do nothing.
-use Rattle.std.specs.Prelude.{◌≡◌, ℕ, ◌<◌, Bool, true, List, ◌++◌}
-use Rattle.bfs_votes.specs.Votes.{Told, primary}
+use Rattle.std.specs.Prelude.{◌≡◌, ℕ, ◌+◌, ◌*◌, ◌<◌, ◌≤◌, Bool, true, List, ◌++◌}
+use Rattle.bfs_votes.specs.Votes.{Told, count_below, replicas, primary}
 use Rattle.bfs_votes.specs.Tags.{pre_prepare_tag}
-use Rattle.bfs_agreement.specs.Histories.{ViewChange}
+use Rattle.bfs_agreement.specs.Histories.{ViewChange, World}
 use Rattle.bfs_agreement.specs.Calls.{Orders, HeaderTurn, next_number, after_header_turn, after_header_turns, AreAuthentic}
 use Rattle.bfs_progress.specs.Premises.{AreOffered, IsARun, reached}
 use Rattle.bfs_progress.specs.Members.{AreTogether, HasRoom, AllIsHeard, IsCommitted, HaveAsked, MayMeet, AreChangesOf}
-use Rattle.bfs_progress.specs.Exchanges.{exchange, entrance}
+use Rattle.bfs_progress.specs.Exchanges.{exchange, all_time_out, entrance}
+use Rattle.bfs_progress.specs.Following.{may_follow, follows, AskedIsHeard, SomeHaveAsked}
 use Rattle.bfs_progress.specs.Ways.{AreTurnsOf, IsWay}
 
 -- In a view -----------------------------------------------------------------------------------------------------------
@@ -54,6 +55,25 @@ EntersTogether = (f : ℕ) (null : List ℕ) (faulty members : ℕ → Bool) (tu
     × AreAuthentic f null faulty (reached f null turns) (entrance f members view changes)
     × AreOffered f null faulty (reached f null turns) (entrance f members view changes)
     × AreTogether f faulty members (after_header_turns f null (reached f null turns) (entrance f members view changes)) view
+
+-- who asks for less than f + 1 of them have asked for may follow to there; and where one may follow to, one of them has asked for, whatever others claim
+abbrev pub NoneLags : Type 0
+NoneLags = (f : ℕ) (members : ℕ → Bool) (w : World) (heard : ℕ → ℕ → ℕ) (k view : ℕ)
+    → 2 * f + 1 ≤ count_below members (replicas f)
+    → AskedIsHeard members w heard
+    → members k ≡ true
+    → (SomeHaveAsked f members w view → (w k).now.asked < view → may_follow f k (heard k) view ≡ true)
+    × (may_follow f k (heard k) view ≡ true → (j : ℕ) × (members j ≡ true) × (view ≤ (w j).now.asked))
+
+-- so where f + 1 of them have asked for a view, and none for a later one, all ask for it by following
+abbrev pub AllAsk : Type 0
+AllAsk = (f : ℕ) (null : List ℕ) (faulty members : ℕ → Bool) (turns : List HeaderTurn) (heard : ℕ → ℕ → ℕ) (view : ℕ)
+    → IsARun f null faulty turns
+    → MayMeet f faulty members (reached f null turns) view
+    → AskedIsHeard members (reached f null turns) heard
+    → SomeHaveAsked f members (reached f null turns) view
+    → IsARun f null faulty (turns ++ all_time_out members (reached f null turns) (follows f heard) (replicas f))
+    × HaveAsked f faulty members (reached f null (turns ++ all_time_out members (reached f null turns) (follows f heard) (replicas f))) view
 
 -- From every state ----------------------------------------------------------------------------------------------------
 

@@ -2,6 +2,7 @@
 pub mod Premises
 pub mod Members
 pub mod Exchanges
+pub mod Following
 pub mod Ways
 pub mod Laws
 pub mod Examples

@@ -1,6 +1,6 @@
 // What goes on. The bodies do nothing: what is said is the contracts. Their premises are on the calls and deliveries so far (`IsARun`): there is
 // another replica than one, at most f lie, and no message of a correct one is forged, those within a NEW-VIEW too.
-ghost use Rattle.bfs_progress.specs.Laws.{EachBatchCanBeCommitted, EntersTogether, ExchangeCommits, NoStateIsADeadEnd, ProposalCommits, QuietIsCommitted};
+ghost use Rattle.bfs_progress.specs.Laws.{AllAsk, EachBatchCanBeCommitted, EntersTogether, ExchangeCommits, NoStateIsADeadEnd, NoneLags, ProposalCommits, QuietIsCommitted};
 
 /// Where 2f + 1 correct replicas, its primary among them, are in one view, and each has all that the others have said of a number that the
 /// primary has proposed, it is committed at each of them, whatever came before and whatever liars said.
@@ -27,6 +27,16 @@ pub fn proposal_commits()
 #[tactic(auto, using(crate::proofs::Entrance::enters_together))]
 pub fn enters_together()
     ensures { EntersTogether }
+{}
+
+/// By following.
+pub fn none_lags()
+    ensures { NoneLags }
+{}
+
+/// By following.
+pub fn all_ask()
+    ensures { AllAsk }
 {}
 
 /// From every state: 2f + 1 correct replicas come together in any later view that one of them leads, where none has gone past it, by turns of theirs alone.
