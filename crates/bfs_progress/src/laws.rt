@@ -1,52 +1,56 @@
-// What goes on. The bodies do nothing: what is said is the contracts. Their premises are on the calls and deliveries so far (`IsARun`): there is
-// another replica than one, at most f lie, and no message of a correct one is forged, those within a NEW-VIEW too.
+// What goes on. The bodies do nothing: what is said is the contracts. They are over every run (`IsARun`): calls and deliveries of 3f + 1 replicas,
+// more than one, of which at most f lie, and nothing that passes under a correct one's name is forged, in a NEW-VIEW either. "Members" are 2f + 1
+// correct replicas or more, and the view's primary is one of them.
 ghost use Rattle.bfs_progress.specs.Laws.{AllAsk, EachBatchCanBeCommitted, EntersTogether, ExchangeCommits, NoStateIsADeadEnd, NoneLags, ProposalCommits, QuietIsCommitted};
 
-/// Where 2f + 1 correct replicas, its primary among them, are in one view, and each has all that the others have said of a number that the
-/// primary has proposed, it is committed at each of them, whatever came before and whatever liars said.
+/// For members that are in one view: where the primary has a PRE-PREPARE for a number above all their low marks, and each has in its log what any of
+/// them has said of it, the number is committed at each.
 #[tactic(auto, using(crate::proofs::Quiet::quiet_is_committed))]
 pub fn quiet_is_committed()
     ensures { QuietIsCommitted }
 {}
 
-/// For such replicas: where the number lies between the marks of each, and they send one another once more what stands in their logs of it, it is committed
-/// at each of them, and all that comes was sent.
+/// For members that are in one view: where the primary has a PRE-PREPARE for a number between the marks of each, and they send one another once more
+/// what their logs have of it, all that comes was sent, they stay together, and the number is committed at each.
 pub fn exchange_commits()
     ensures { ExchangeCommits }
 {}
 
-/// For such replicas: where the primary's next number lies between the marks of each, the batch that it proposes is committed at each of them once they have
-/// heard one another.
+/// For members that are in one view: where the primary's next number lies between the marks of each, the batch that it proposes is committed at each
+/// once they have so heard one another.
 #[tactic(auto, using(crate::proofs::Exchange::proposal_commits))]
 pub fn proposal_commits()
     ensures { ProposalCommits }
 {}
 
-/// 2f + 1 correct replicas that have asked for one view, which one of them leads, and have not entered it, have sent VIEW-CHANGEs by which the primary begins
-/// the view, and its NEW-VIEW takes the others into it, whatever liars have put into their logs.
+/// For members that have asked for one view, and not entered it: they have sent VIEW-CHANGEs by which its primary begins it, and by its NEW-VIEW the
+/// others enter, whatever liars have put into their logs.
 #[tactic(auto, using(crate::proofs::Entrance::enters_together))]
 pub fn enters_together()
     ensures { EntersTogether }
 {}
 
-/// By following.
+/// For 2f + 1 replicas that have heard what each of them has asked for, and of others anything: one that asks for less than f + 1 of them may follow
+/// to what these ask for, and where one may follow to, one of them has asked for.
 pub fn none_lags()
     ensures { NoneLags }
 {}
 
-/// By following.
+/// For members that have heard what each has asked for, and of others anything: where f + 1 of them have asked for a view, and none for a later one,
+/// all have asked for it once each has followed.
 pub fn all_ask()
     ensures { AllAsk }
 {}
 
-/// From every state: 2f + 1 correct replicas come together in any later view that one of them leads, where none has gone past it, by turns of theirs alone.
+/// For members in any state: they come to be together in any view that none of them has gone past, by turns of theirs in which nothing comes but what
+/// was sent.
 #[tactic(auto, using(crate::proofs::Asking::no_state_is_a_dead_end))]
 pub fn no_state_is_a_dead_end()
     ensures { NoStateIsADeadEnd }
 {}
 
-/// From every state: for such replicas there is a way on to that view, on which a batch of any digest is committed at each of them. On it they may take a number
-/// for stable that is stable at one of them, or that each can have reached.
+/// For members in any state: there is a way on to any view that none of them has gone past, on which a batch of any digest is committed at each. On it
+/// a number is taken for stable only where it is so at one of them, or where each has all up to it committed.
 #[tactic(auto, using(crate::proofs::Anywhere::each_batch_can_be_committed))]
 pub fn each_batch_can_be_committed()
     ensures { EachBatchCanBeCommitted }
