@@ -14,7 +14,7 @@ use Rattle.bfs_progress.specs.Laws.{EachBatchCanBeCommitted}
 use Rattle.bfs_progress.proofs.Logs.{greatest_le}
 use Rattle.bfs_progress.proofs.Reached.{Facts, turns_done, always}
 use Rattle.bfs_progress.proofs.Exchange.{proposal_turn, proposed, together_on}
-use Rattle.bfs_progress.proofs.Entrance.{entrance_done, changes_there, together_then}
+use Rattle.bfs_progress.proofs.Entrance.{they_make, entrance_done, changes_there, together_then}
 use Rattle.bfs_progress.proofs.Asking.{enters_by, all_timed, meets}
 use Rattle.bfs_progress.proofs.Ways.{SettledAt, asking_settles, entering_settles, exchange_way, each_settled, ways_end}
 use Rattle.bfs_progress.proofs.Windows.{stable_le, certified_le, max_low, low_le_max, max_at, several, ranged}
@@ -142,7 +142,7 @@ each_batch_can_be_committed f null faulty members turns v d run may =
       each = theirs1.each;
     } in
     -- they enter
-    let ent = entrance_done f null faulty members w2 v ms positive few facts2 asked2 theirs2 in
+    let ent = entrance_done f null faulty members w2 v ms positive few facts2 asked2 (they_make f null faulty members v positive few may.quorum w2 ms facts2 theirs2) in
     let entering = entrance f members v ms in
     let w3 = after_header_turns f null w2 entering in
     let backups = backups_of f members v in

@@ -149,18 +149,20 @@ no_state_is_a_dead_end f null faulty members turns v run may =
     let all = turns ++ asking in
     let run1 = run_on f null faulty members turns asking run timed.further in
     let asked : HaveAsked f faulty members (reached f null all) v = subst (λ (x : World). HaveAsked f faulty members x v) (sym (after_join f null new_world turns asking)) (meets f null faulty members w v facts may) in
-    let done = enters_together f null faulty members all v run1 asked in
-    let entering = entrance f members v done.0 in
+    let enters = enters_together f null faulty members all v run1 asked in
+    let changes = enters.0.0 in
+    let done = enters.1 changes enters.0.2 in
+    let entering = entrance f members v changes in
     let backups = backups_of f members v in
     let more : IsFurther f null faulty members (reached f null all) entering = record {
-      of_members = (may.quorum.leads, enters_by f null faulty members backups v done.0 (replicas f) (λ k x. (and_parts (members k) (not (k == primary f v)) x).0));
-      authentic = done.2;
-      offered = done.3;
+      of_members = (may.quorum.leads, enters_by f null faulty members backups v changes (replicas f) (λ k x. (and_parts (members k) (not (k == primary f v)) x).0));
+      authentic = done.0;
+      offered = done.1;
     } in
     let joins : all ++ entering ≡ turns ++ (asking ++ entering) = append_assoc turns asking entering in (
       asking ++ entering,
       turns_of_join members asking entering timed.further.of_members more.of_members,
       subst (λ (l : List HeaderTurn). IsARun f null faulty l) joins (run_on f null faulty members all entering run1 more),
       subst (λ (l : List HeaderTurn). AreTogether f faulty members (reached f null l) v) joins
-          (subst (λ (x : World). AreTogether f faulty members x v) (sym (after_join f null new_world all entering)) done.4),
+          (subst (λ (x : World). AreTogether f faulty members x v) (sym (after_join f null new_world all entering)) done.2),
     )

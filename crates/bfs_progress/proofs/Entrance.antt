@@ -9,10 +9,10 @@ use Rattle.bfs_agreement.specs.Histories.{IsIn, ViewChange, NewView, State, Hist
 use Rattle.bfs_agreement.specs.Moves.{Move, Says, Enters, after_move, Step, after_step, after_steps, taken_in}
 use Rattle.bfs_agreement.specs.Nodes.{after_moves}
 use Rattle.bfs_agreement.specs.Choice.{chosen}
-use Rattle.bfs_agreement.specs.Calls.{all_said, is_valid_change, is_new_view, entry_answers, entering, ChangesView, moves_of, IsAuthentic, HeaderTurn, steps_of, after_header_turn, after_header_turns, AreAuthentic}
+use Rattle.bfs_agreement.specs.Calls.{all_said, is_valid_change, is_new_view, entry_answers, entering, ChangesView, moves_of, HeaderTurn, steps_of, after_header_turn, after_header_turns, AreAuthentic}
 use Rattle.bfs_agreement.proofs.Public.{joined_more, handed_taken, taken_told, choice_is_by_its_rule, world_grows}
 use Rattle.bfs_progress.specs.Premises.{AreOffered, IsOffered, reached}
-use Rattle.bfs_progress.specs.Members.{IsQuorum, AreTogether, HaveAsked, AreChangesOf}
+use Rattle.bfs_progress.specs.Members.{IsQuorum, AreTogether, HaveAsked, AreChangesOf, MakeNewView}
 use Rattle.bfs_progress.specs.Exchanges.{backups_of, all_enter, entrance}
 use Rattle.bfs_progress.specs.Laws.{EntersTogether}
 use Rattle.bfs_progress.proofs.Numbers.{each_below, differs}
@@ -112,24 +112,30 @@ module _ (f : ℕ) (null : List ℕ) (faulty members : ℕ → Bool) (v : ℕ) (
         )
       ]
 
-  -- they make a NEW-VIEW, and are authentic
-  make_new_view : (w : World) (ms : List ViewChange) → Facts f faulty w → AreChangesOf members w v ms → is_new_view f v ms ≡ true
-  make_new_view w ms facts theirs =
+  -- they make a NEW-VIEW
+  pub they_make : (w : World) (ms : List ViewChange) → Facts f faulty w → AreChangesOf members w v ms → MakeNewView f faulty w v ms
+  they_make w ms facts theirs =
       let senders = λ (k : ℕ). list_any (λ m. m.sender == k) ms in
       let enough = quorum.enough in
       let grown : count_below members (replicas f) ≤ count_below senders (replicas f) = more members senders (replicas f) theirs.each in
-      and_from (list_all (is_valid_change f v) ms) (nat_le (2 * f + 1) (count_below senders (replicas f)))
-      (all_from (is_valid_change f v) ms (λ m x. subst (λ (u : ℕ). is_valid_change f u m ≡ true) (theirs.views m x)
-      (facts.good m.sender m (quorum.correct m.sender (theirs.of_members m x)) (theirs.sent m x)).valid))
-      (le-leb (2 * f + 1) (count_below senders (replicas f)) (omega (arith, enough, grown)))
+      let good = λ (m : ViewChange) (x : IsIn m ms). facts.good m.sender m (quorum.correct m.sender (theirs.of_members m x)) (theirs.sent m x) in
+      record {
+        valid = and_from (list_all (is_valid_change f v) ms) (nat_le (2 * f + 1) (count_below senders (replicas f)))
+            (all_from (is_valid_change f v) ms (λ m x. subst (λ (u : ℕ). is_valid_change f u m ≡ true) (theirs.views m x) (good m x).valid))
+            (le-leb (2 * f + 1) (count_below senders (replicas f)) (omega (arith, enough, grown)));
+        authentic = λ m x. ((λ _. theirs.sent m x), (good m x).authentic);
+      }
 
-  are_authentic : (w : World) (ms : List ViewChange) → Facts f faulty w → AreChangesOf members w v ms → IsAuthentic faulty w (ChangesView v ms)
-  are_authentic w ms facts theirs = λ m x. ((λ _. theirs.sent m x), (facts.good m.sender m (quorum.correct m.sender (theirs.of_members m x)) (theirs.sent m x)).authentic)
-
-  theirs_on : (w : World) (turn : HeaderTurn) (ms : List ViewChange) → AreChangesOf members w v ms → AreChangesOf members (after_header_turn f null w turn) v ms
-  theirs_on w turn ms theirs =
+  makes_on : (w : World) (turn : HeaderTurn) (ms : List ViewChange) → MakeNewView f faulty w v ms → MakeNewView f faulty (after_header_turn f null w turn) v ms
+  makes_on w turn ms make =
       let steps = steps_of turn.who (moves_of f null turn.who (w turn.who).now turn.call) in
-      record { of_members = theirs.of_members; sent = λ m x. changes_on f w steps m.sender m (theirs.sent m x); views = theirs.views; each = theirs.each }
+      record {
+        valid = make.valid;
+        authentic = λ m x. (
+          (λ correct. changes_on f w steps m.sender m ((make.authentic m x).0 correct)),
+          λ c y t s u n d z. sent_on f faulty w steps t s u n d ((make.authentic m x).1 c y t s u n d z),
+        );
+      }
 
   -- Each enters -------------------------------------------------------------------------------------------------------
 
@@ -144,9 +150,9 @@ module _ (f : ℕ) (null : List ℕ) (faulty members : ℕ → Bool) (v : ℕ) (
     IsOfferedIn w = (k u n : ℕ) (d : List ℕ) → Told r.proposals 2 k u n d → WasSent faulty w 2 k u n d
 
     -- a turn that enters
-    in_then : (w : World) (j : ℕ) → Facts f faulty w → AreChangesOf members w v ms → Waits w j → Entered f j (w j) (after_header_turn f null w (entry j) j) r
-    in_then w j facts theirs waits =
-        at_caller f null (λ (q : History). Entered f j (w j) q r) w (entry j) (enter_one f null j (w j) v ms waits.1 waits.0 (make_new_view w ms facts theirs))
+    in_then : (w : World) (j : ℕ) → MakeNewView f faulty w v ms → Waits w j → Entered f j (w j) (after_header_turn f null w (entry j) j) r
+    in_then w j make waits =
+        at_caller f null (λ (q : History). Entered f j (w j) q r) w (entry j) (enter_one f null j (w j) v ms waits.1 waits.0 make.valid)
 
     pub record Done (w : World) (turns : List HeaderTurn) (some : ℕ → Bool) (bound : ℕ) : Type 0 where
       pub authentic : AreAuthentic f null faulty w turns
@@ -154,25 +160,24 @@ module _ (f : ℕ) (null : List ℕ) (faulty members : ℕ → Bool) (v : ℕ) (
       pub entered : (k : ℕ) → k < bound → some k ≡ true → Entered f k (w k) (after_header_turns f null w turns k) r
       pub stay : (k : ℕ) → (some k ≡ false) ⊎ (bound ≤ k) → after_header_turns f null w turns k ≡ w k
 
-    each_done : (w : World) (some : ℕ → Bool) (bound : ℕ) → Facts f faulty w → AreChangesOf members w v ms → IsOfferedIn w → ((k : ℕ) → k < bound → some k ≡ true → Waits w k)
+    each_done : (w : World) (some : ℕ → Bool) (bound : ℕ) → Facts f faulty w → MakeNewView f faulty w v ms → IsOfferedIn w → ((k : ℕ) → k < bound → some k ≡ true → Waits w k)
         → Done w (all_enter some v ms bound) some bound
-    each_done w some zero facts theirs offered waits = record { authentic = tt; offered = tt; entered = λ k low. absurd (omega (arith, low)); stay = λ k x. refl }
-    each_done w some (suc b) facts theirs offered waits =
+    each_done w some zero facts make offered waits = record { authentic = tt; offered = tt; entered = λ k low. absurd (omega (arith, low)); stay = λ k x. refl }
+    each_done w some (suc b) facts make offered waits =
         let turns = all_enter some v ms b in
         cond_both (some b) (entry b ∷ turns) turns (λ (l : List HeaderTurn). Done w l some (suc b))
         (λ enters.
         let w1 = after_header_turn f null w (entry b) in
-        let authentic = are_authentic w ms facts theirs in
         let steps = steps_of b (moves_of f null b (w b).now (ChangesView v ms)) in
         let same : (k : ℕ) → (k ≡ b → ⊥) → w1 k ≡ w k = λ k other. others_stay f null w (entry b) k (differs k b other) in
-        let rest = each_done w1 some b (turn_done f null faulty w (entry b) positive few facts authentic (λ _. offered)) (theirs_on w (entry b) ms theirs)
+        let rest = each_done w1 some b (turn_done f null faulty w (entry b) positive few facts make.authentic (λ _. offered)) (makes_on w (entry b) ms make)
         (λ k u n d x. sent_on f faulty w steps 2 k u n d (offered k u n d x))
         (λ k low x. subst (λ (y : History). (y.now.asked ≡ v) × (y.now.view < v)) (sym (same k (λ e. omega (arith, low, e)))) (waits k (omega (arith, low)) x)) in
         record {
-          authentic = (authentic, rest.authentic);
+          authentic = (make.authentic, rest.authentic);
           offered = ((λ _. offered), rest.offered);
           entered = each_below b (λ k. some k ≡ true → Entered f k (w k) (after_header_turns f null w1 turns k) r)
-              (λ _. subst (λ (y : History). Entered f b (w b) y r) (sym (rest.stay b (inr (omega arith)))) (in_then w b facts theirs (waits b (omega arith) enters)))
+              (λ _. subst (λ (y : History). Entered f b (w b) y r) (sym (rest.stay b (inr (omega arith)))) (in_then w b make (waits b (omega arith) enters)))
               (λ k low x. subst (λ (y : History). Entered f k y (after_header_turns f null w1 turns k) r) (same k (λ e. omega (arith, low, e))) (rest.entered k low x));
           stay = λ k x. elim x [
             | inl out ↦ rest.stay k (inl out) ∙ same k (λ e. let here : some b ≡ false = subst (λ (y : ℕ). some y ≡ false) e out in absurd cc)
@@ -180,7 +185,7 @@ module _ (f : ℕ) (null : List ℕ) (faulty members : ℕ → Bool) (v : ℕ) (
           ];
         })
         (λ passes.
-        let rest = each_done w some b facts theirs offered (λ k low x. waits k (omega (arith, low)) x) in
+        let rest = each_done w some b facts make offered (λ k low x. waits k (omega (arith, low)) x) in
         record {
           authentic = rest.authentic;
           offered = rest.offered;
@@ -196,28 +201,27 @@ pub record Entrance (f : ℕ) (null : List ℕ) (faulty members : ℕ → Bool) 
   pub entered : (k : ℕ) → members k ≡ true → Entered f k (w k) (after_header_turns f null w (entrance f members v ms) k) (chosen f v null ms)
 
 pub entrance_done : (f : ℕ) (null : List ℕ) (faulty members : ℕ → Bool) (w : World) (v : ℕ) (ms : List ViewChange) → 0 < f → FewAreFaulty f faulty → Facts f faulty w
-    → HaveAsked f faulty members w v → AreChangesOf members w v ms → Entrance f null faulty members w v ms
-entrance_done f null faulty members w v ms positive few facts asked theirs =
+    → HaveAsked f faulty members w v → MakeNewView f faulty w v ms → Entrance f null faulty members w v ms
+entrance_done f null faulty members w v ms positive few facts asked make =
     let p = primary f v in
     let r = chosen f v null ms in
     let quorum = asked.quorum in
     let turn : HeaderTurn = record { who = p; call = ChangesView v ms } in
     let w1 = after_header_turn f null w turn in
     let leads_offered : IsOffered f null faulty w p (ChangesView v ms) = λ backs. absurd (eqb-false p p backs refl) in
-    let authentic = are_authentic f null faulty members v positive few quorum w ms facts theirs in
-    let facts1 = turn_done f null faulty w turn positive few facts authentic leads_offered in
-    let first = in_then f null faulty members v positive few quorum ms w p facts theirs (asked.asked p quorum.leads, asked.before p quorum.leads) in
+    let facts1 = turn_done f null faulty w turn positive few facts make.authentic leads_offered in
+    let first = in_then f null faulty members v positive few quorum ms w p make (asked.asked p quorum.leads, asked.before p quorum.leads) in
     let choice = choice_is_by_its_rule f v null ms in
     let in_offers : (k u n : ℕ) (d : List ℕ) → Told (chosen f v null ms).proposals 2 k u n d → WasSent faulty w1 2 k u n d = λ k u n d x _.
     inr (refl, subst (λ (y : ℕ). Told (w1 y).offers 2 k u n d) (sym (choice.kinds 2 k u n d x).1) (first.offers refl k u n d x)) in
     let backups = backups_of f members v in
-    let rest = each_done f null faulty members v positive few quorum ms w1 backups (replicas f) facts1 (theirs_on f null faulty members v positive few quorum w turn ms theirs) in_offers
+    let rest = each_done f null faulty members v positive few quorum ms w1 backups (replicas f) facts1 (makes_on f null faulty members v positive few quorum w turn ms make) in_offers
     (λ k low x.
     let c = and_parts (members k) (not (k == p)) x in
     subst (λ (y : History). (y.now.asked ≡ v) × (y.now.view < v)) (sym (others_stay f null w turn k (not-true (k == p) c.1))) (asked.asked k c.0, asked.before k c.0)) in
     let last = after_header_turns f null w1 (all_enter backups v ms (replicas f)) in
     record {
-      authentic = (authentic, rest.authentic);
+      authentic = (make.authentic, rest.authentic);
       offered = (leads_offered, rest.offered);
       entered = λ k x. elim (cases_Bool (k == p)) [
         | inl same ↦ subst (λ (y : ℕ). Entered f y (w y) (last y) r) (sym (eqb-true k p same)) (subst (λ (y : History). Entered f p (w p) y r) (sym (rest.stay p (inl (not_backup members p)))) first)
@@ -234,10 +238,11 @@ entrance_done f null faulty members w v ms positive few facts asked theirs =
 
 -- VIEW-CHANGEs of each of them
 pub changes_there : (f : ℕ) (null : List ℕ) (faulty members : ℕ → Bool) (w : World) (v : ℕ) → 0 < f → FewAreFaulty f faulty → Facts f faulty w → HaveAsked f faulty members w v
-    → (ms : List ViewChange) × AreChangesOf members w v ms
+    → (ms : List ViewChange) × AreChangesOf members w v ms × MakeNewView f faulty w v ms
 changes_there f null faulty members w v positive few facts asked =
     let got = gather f null faulty members v positive few asked.quorum w (replicas f) facts (λ k x. (asked.asked k x, asked.before k x)) in
-    (got.0, record { of_members = got.1.of_members; sent = got.1.sent; views = got.1.views; each = λ k x. got.1.each k (asked.quorum.among k x) x })
+    let theirs : AreChangesOf members w v got.0 = record { of_members = got.1.of_members; sent = got.1.sent; views = got.1.views; each = λ k x. got.1.each k (asked.quorum.among k x) x } in
+    (got.0, theirs, they_make f null faulty members v positive few asked.quorum w got.0 facts theirs)
 
 pub together_then : (f : ℕ) (null : List ℕ) (faulty members : ℕ → Bool) (w : World) (v : ℕ) (ms : List ViewChange) → HaveAsked f faulty members w v → Entrance f null faulty members w v ms
     → AreTogether f faulty members (after_header_turns f null w (entrance f members v ms)) v
@@ -247,7 +252,9 @@ together_then f null faulty members w v ms asked done =
 pub enters_together : EntersTogether
 enters_together f null faulty members turns v run asked =
     let w = reached f null turns in
-    let facts = always f null faulty turns run in
-    let got = changes_there f null faulty members w v run.others run.few facts asked in
-    let done = entrance_done f null faulty members w v got.0 run.others run.few facts asked got.1 in
-    (got.0, got.1, done.authentic, done.offered, together_then f null faulty members w v got.0 asked done)
+    let facts = always f null faulty turns run in (
+      changes_there f null faulty members w v run.others run.few facts asked,
+      λ ms make.
+          let done = entrance_done f null faulty members w v ms run.others run.few facts asked make in
+          (done.authentic, done.offered, together_then f null faulty members w v ms asked done),
+    )

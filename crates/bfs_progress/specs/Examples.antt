@@ -6,7 +6,7 @@ use Rattle.bfs_votes.specs.Tags.{pre_prepare_tag}
 use Rattle.bfs_agreement.specs.Calls.{Orders, Receives, TimesOut, HeaderTurn}
 use Rattle.bfs_agreement.specs.Examples.{digest, saying, silent, of}
 use Rattle.bfs_progress.specs.Premises.{IsARun, reached}
-use Rattle.bfs_progress.specs.Members.{AreTogether, HasRoom, HaveAsked, MayMeet}
+use Rattle.bfs_progress.specs.Members.{AreTogether, HasRoom, AllIsHeard, HaveAsked, MayMeet}
 use Rattle.bfs_progress.specs.Exchanges.{exchange, all_time_out}
 use Rattle.bfs_progress.specs.Following.{follows, AskedIsHeard, SomeHaveAsked}
 
@@ -47,10 +47,12 @@ Follows = ((reached 1 [] then_followed 0).now.asked ≡ 2) × ((reached 1 [] the
 
 -- The premises --------------------------------------------------------------------------------------------------------
 
--- of the laws in a view: the few turns are a run, the primary's PRE-PREPARE is there, and the present ones are together in view 0, with room for number 1
+-- of the laws in a view: the few turns are a run, the primary's PRE-PREPARE is there, and the present ones are together in view 0, with room for number 1;
+-- behind the exchange nothing is unheard
 abbrev pub HoldInAView : Type 0
 HoldInAView = IsARun 1 [] silent lossy
     × AreTogether 1 silent present (reached 1 [] lossy) 0 × HasRoom present (reached 1 [] lossy) 1 × Told (reached 1 [] lossy 0).now.log pre_prepare_tag 0 0 1 digest
+    × AllIsHeard present (reached 1 [] then_heard) 0 1
 
 -- and between views: they may meet in view 2, two of them have asked for it, and after following all have
 abbrev pub HoldBetweenViews : Type 0

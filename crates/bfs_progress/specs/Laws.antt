@@ -5,7 +5,7 @@ use Rattle.bfs_votes.specs.Tags.{pre_prepare_tag}
 use Rattle.bfs_agreement.specs.Histories.{ViewChange, World}
 use Rattle.bfs_agreement.specs.Calls.{Orders, HeaderTurn, next_number, after_header_turn, after_header_turns, AreAuthentic}
 use Rattle.bfs_progress.specs.Premises.{AreOffered, IsARun, reached}
-use Rattle.bfs_progress.specs.Members.{AreTogether, HasRoom, AllIsHeard, IsCommitted, HaveAsked, MayMeet, AreChangesOf}
+use Rattle.bfs_progress.specs.Members.{AreTogether, HasRoom, AllIsHeard, IsCommitted, HaveAsked, MayMeet, AreChangesOf, MakeNewView}
 use Rattle.bfs_progress.specs.Exchanges.{exchange, all_time_out, entrance}
 use Rattle.bfs_progress.specs.Following.{may_follow, follows, AskedIsHeard, SomeHaveAsked}
 use Rattle.bfs_progress.specs.Ways.{AreTurnsOf, IsWay}
@@ -46,15 +46,16 @@ ProposalCommits = (f : ℕ) (null : List ℕ) (faulty members : ℕ → Bool) (t
 
 -- Between views -------------------------------------------------------------------------------------------------------
 
--- who have asked for one view have sent VIEW-CHANGEs by which they enter it together
+-- who have asked for one view have sent VIEW-CHANGEs that make a NEW-VIEW; and by any that make one, those of liars among them, they enter it together
 abbrev pub EntersTogether : Type 0
 EntersTogether = (f : ℕ) (null : List ℕ) (faulty members : ℕ → Bool) (turns : List HeaderTurn) (view : ℕ)
     → IsARun f null faulty turns
     → HaveAsked f faulty members (reached f null turns) view
-    → (changes : List ViewChange) × AreChangesOf members (reached f null turns) view changes
-    × AreAuthentic f null faulty (reached f null turns) (entrance f members view changes)
+    → ((changes : List ViewChange) × AreChangesOf members (reached f null turns) view changes × MakeNewView f faulty (reached f null turns) view changes)
+    × ((changes : List ViewChange) → MakeNewView f faulty (reached f null turns) view changes
+    → AreAuthentic f null faulty (reached f null turns) (entrance f members view changes)
     × AreOffered f null faulty (reached f null turns) (entrance f members view changes)
-    × AreTogether f faulty members (after_header_turns f null (reached f null turns) (entrance f members view changes)) view
+    × AreTogether f faulty members (after_header_turns f null (reached f null turns) (entrance f members view changes)) view)
 
 -- who asks for less than f + 1 of them have asked for may follow to there; and where one may follow to, one of them has asked for, whatever others claim
 abbrev pub NoneLags : Type 0

@@ -3,6 +3,7 @@ use Rattle.std.specs.Prelude.{◌≡◌, ℕ, ◌+◌, ◌*◌, ◌<◌, ◌≤�
 use Rattle.std.specs.List.{list_any}
 use Rattle.bfs_votes.specs.Votes.{Told, count_below, replicas, primary, committed}
 use Rattle.bfs_agreement.specs.Histories.{IsIn, ViewChange, World}
+use Rattle.bfs_agreement.specs.Calls.{is_new_view, ChangesView, IsAuthentic}
 
 -- 2f + 1 correct replicas or more, the primary of the view among them (OSDI 1999 section 4.2)
 pub record IsQuorum (f : ℕ) (faulty members : ℕ → Bool) (view : ℕ) : Type 0 where
@@ -54,3 +55,9 @@ pub record AreChangesOf (members : ℕ → Bool) (w : World) (view : ℕ) (chang
   pub sent : (m : ViewChange) → IsIn m changes → IsIn m (w m.sender).changes
   pub views : (m : ViewChange) → IsIn m changes → m.view ≡ view
   pub each : (k : ℕ) → members k ≡ true → list_any (λ m. m.sender == k) changes ≡ true
+
+-- VIEW-CHANGEs by which the primary may begin the view, whoever sent them: valid ones of 2f + 1 replicas, and no correct one's is forged
+-- (OSDI 1999 section 4.4)
+pub record MakeNewView (f : ℕ) (faulty : ℕ → Bool) (w : World) (view : ℕ) (changes : List ViewChange) : Type 0 where
+  pub valid : is_new_view f view changes ≡ true
+  pub authentic : IsAuthentic faulty w (ChangesView view changes)

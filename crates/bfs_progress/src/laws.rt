@@ -23,8 +23,8 @@ pub fn proposal_commits()
     ensures { ProposalCommits }
 {}
 
-/// For members that have asked for one view, and not entered it: they have sent VIEW-CHANGEs by which its primary begins it, and by its NEW-VIEW the
-/// others enter, whatever liars have put into their logs.
+/// For members that have asked for one view, and not entered it: they have sent VIEW-CHANGEs that make a NEW-VIEW; and by any that make one, those of
+/// liars among them, its primary begins the view, and its NEW-VIEW takes the others into it, whatever liars have put into their logs.
 #[tactic(auto, using(crate::proofs::Entrance::enters_together))]
 pub fn enters_together()
     ensures { EntersTogether }
