@@ -10,7 +10,8 @@ use Rattle.bfs_agreement.specs.Choice.{chosen}
 use Rattle.bfs_agreement.specs.Calls.{vote, is_within, answers_in, commits_in, all_said, is_acceptable, next_number, matching, candidates, is_highest, highest_among, view_change_of, is_valid_change, is_new_view, entry_answers, HeaderCall, Receives, Orders, Settles, TimesOut, ChangesView, Runs, moves_of}
 use Rattle.bfs_agreement.proofs.Public.{in_told, Kept, told_cases, told_more, moved, says_itself, world_grows, said_on}
 use Rattle.bfs_progress.proofs.Heard.{Heard}
-use Rattle.bfs_progress.proofs.High.{LogHigh, run_low}
+use Rattle.bfs_progress.proofs.Later.{run_later}
+use Rattle.bfs_progress.proofs.High.{LogHigh}
 use Rattle.bfs_progress.proofs.Logs.{backed_from, prepared_is, backups_more}
 use Rattle.bfs_progress.proofs.Answered.{said_now}
 
@@ -128,8 +129,18 @@ pub sent_on : (f : ℕ) (faulty : ℕ → Bool) (w : World) (steps : List Step) 
 sent_on f faulty w [] t k v n d x = x
 sent_on f faulty w (step ∷ steps) t k v n d x = sent_on f faulty (after_step f w step) steps t k v n d (said_on faulty w (after_step f w step) (world_grows f w step) t k v n d x)
 
-pub good_on : (f : ℕ) (faulty : ℕ → Bool) (w : World) (steps : List Step) (k : ℕ) (m : ViewChange) → AreAllowed f faulty w steps → IsGood f faulty w k m → IsGood f faulty (after_steps f w steps) k m
-good_on f faulty w steps k m may good = record { sender = good.sender; valid = good.valid; near = good.near; stable = (let one = good.stable in let two = run_low f faulty w steps may k in omega (arith, one, two)); authentic = λ c x t s v n d y. sent_on f faulty w steps t s v n d (good.authentic c x t s v n d y) }
+pub good_on : (f : ℕ) (faulty : ℕ → Bool) (w : World) (steps : List Step) (k : ℕ) (m : ViewChange) → AreAllowed f faulty w steps → IsGood f faulty w k m
+    → IsGood f faulty (after_steps f w steps) k m
+good_on f faulty w steps k m may good =
+    let one = good.stable in
+    let two = (run_later f faulty w steps may k).low in
+    record {
+      sender = good.sender;
+      valid = good.valid;
+      stable = omega (arith, one, two);
+      near = good.near;
+      authentic = λ c x t s v n d y. sent_on f faulty w steps t s v n d (good.authentic c x t s v n d y);
+    }
 
 -- After a call ------------------------------------------------------------------------------------------------------------------
 

@@ -37,7 +37,7 @@ pub record Entered (f : ℕ) (me : ℕ) (p q : History) (r : NewView) : Type 0 w
   pub from : (k v n : ℕ) (d : List ℕ) → Told q.now.log 2 k v n d → Told r.proposals 2 k v n d ⊎ Told p.now.log 2 k v n d
   pub offers : me ≡ primary f r.view → (k v n : ℕ) (d : List ℕ) → Told r.proposals 2 k v n d → Told q.offers 2 k v n d
 
-enter_one : (f : ℕ) (null : List ℕ) (me : ℕ) (p : History) (v : ℕ) (ms : List ViewChange) → p.now.view < v → p.now.asked ≡ v → is_new_view f v ms ≡ true
+pub enter_one : (f : ℕ) (null : List ℕ) (me : ℕ) (p : History) (v : ℕ) (ms : List ViewChange) → p.now.view < v → p.now.asked ≡ v → is_new_view f v ms ≡ true
     → Entered f me p (after_moves f me p (entering f null me p.now v ms)) (chosen f v null ms)
 enter_one f null me p v ms above asked new =
     let s = p.now in

@@ -2,7 +2,7 @@
 use Rattle.std.proofs.Common.{◌≡◌, ℕ, zero, suc, ◌+◌, ◌<◌, ◌≤◌, ◌==◌, Bool, true, false, ◌&&◌, ◌||◌, not, cond, nat_lt, nat_le, List, [], ◌∷◌, ◌++◌, inl, inr, refl, sym, ap, subst, ◌∙◌, arith}
 use Rattle.std.proofs.lemmas.Bool.{and_parts, and_from, or_left, cond_both, eqb-true, eq-eqb, lt-ltb, le-leb, cases_Bool, not-true, and_cases, not_from_false}
 use Rattle.bfs_votes.specs.Votes.{Header, has_slot, is_taken, says, told, Told, replicas, primary, prepared}
-use Rattle.bfs_agreement.specs.Histories.{World, State, History, FewAreFaulty}
+use Rattle.bfs_agreement.specs.Histories.{World, State, History, HasSaid, FewAreFaulty}
 use Rattle.bfs_agreement.specs.Moves.{Move, Accepts, Says, after_move}
 use Rattle.bfs_agreement.specs.Nodes.{after_moves}
 use Rattle.bfs_agreement.specs.Calls.{vote, is_within, with_said, answers_in, commits_in, all_said, is_acceptable, accepting, next_number, proposing, moves_of, Receives, Orders, HeaderTurn, after_header_turn, after_header_turns, AreAuthentic}
@@ -89,7 +89,7 @@ within_from s v n view asked low min_s high =
     (and_from (nat_lt s.min_s n) (nat_le n (s.low + 32)) (lt-ltb s.min_s n min_s) (le-leb n (s.low + 32) high))))
 
 -- a member takes messages of the number where it has room
-open_at : (f : ℕ) (faulty members : ℕ → Bool) (w : World) (v n j : ℕ) → AreTogether f faulty members w v → HasRoom members w n → members j ≡ true → is_within (w j).now v n ≡ true
+pub open_at : (f : ℕ) (faulty members : ℕ → Bool) (w : World) (v n j : ℕ) → AreTogether f faulty members w v → HasRoom members w n → members j ≡ true → is_within (w j).now v n ≡ true
 open_at f faulty members w v n j together room in_j =
     let here = sym (together.entered j in_j) in
     within_from (w j).now v n here (together.asked j in_j ∙ here) (room.low j in_j) (room.min_s j in_j) (room.high j in_j)
@@ -105,20 +105,19 @@ module _ (f : ℕ) (null : List ℕ) (faulty members : ℕ → Bool) (v n : ℕ)
   abbrev HasAt : World → (k t i : ℕ) → Type 0
   HasAt w k t i = Told (w k).now.log t i v n d
 
-  -- what a member has in its log as its own, is in the log of whom it comes to
-  delivered : (w : World) (i j t : ℕ) → Facts f faulty w → AreTogether f faulty members w v → HasRoom members w n → members i ≡ true → members j ≡ true → IsVote f t i v
-      → HasAt w i t i → HasAt (after_header_turn f null w (receipt j (vote t i v n d))) j t i
-  delivered w i j t facts together room in_i in_j kind own =
+  -- what a correct replica said is in the log of whom it comes to, where that one takes messages of the number
+  pub delivered : (w : World) (i j t : ℕ) → Facts f faulty w → faulty i ≡ false → is_within (w j).now v n ≡ true → IsVote f t i v → HasSaid (w i) t i v n d
+      → HasAt (after_header_turn f null w (receipt j (vote t i v n d))) j t i
+  delivered w i j t facts correct within kind said =
       let h = vote t i v n d in
       let s = (w j).now in
-      let correct = together.quorum.correct i in_i in
       at_caller f null (λ (q : History). Told q.now.log t i v n d) w (receipt j h) (elim (cases_Bool (is_taken s.log h)) [
         | inl taken ↦
             let got = slot_told s.log t i v n taken in
-            let same = one_digest f faulty w facts.sound i t t v n got.0 d correct (facts.heard.said j t i v n got.0 correct got.1) (facts.heard.said i t i v n d correct own) in
+            let same = one_digest f faulty w facts.sound i t t v n got.0 d correct (facts.heard.said j t i v n got.0 correct got.1) said in
             (receives_stays f j (w j) h).log t i v n d (subst (λ (e : List ℕ). Told s.log t i v n e) same got.1)
         | inr free ↦
-            let acceptable : is_acceptable f s h ≡ true = and_from (is_within s v n) (not (is_taken s.log h) && (not (t == 2) || (i == primary f v))) (open_at f faulty members w v n j together room in_j)
+            let acceptable : is_acceptable f s h ≡ true = and_from (is_within s v n) (not (is_taken s.log h) && (not (t == 2) || (i == primary f v))) within
             (and_from (not (is_taken s.log h)) (not (t == 2) || (i == primary f v)) (not_from_false (is_taken s.log h) free) kind) in
             let hs = answers_in f j (h ∷ s.log) h in
             cond_both (is_acceptable f s h) (Accepts h ∷ all_said hs) [] (λ (l : List Move). Told (after_moves f j (w j) l).now.log t i v n d)
@@ -170,7 +169,8 @@ module _ (f : ℕ) (null : List ℕ) (faulty members : ℕ → Bool) (v n : ℕ)
       let first = one_goes w i b t facts (together.quorum.correct i in_i) own in
       let w1 = after_header_turn f null w turn in
       let got = each_goes w1 i t b first.facts (together_on f faulty members w w1 v first.stays together) (room_on members w w1 n first.stays room) in_i kind ((first.stays i).log t i v n d own) in
-      let new = delivered w i b t facts together room in_i (and_parts (members b) (not (b == i)) comes).0 kind own in
+      let new = delivered w i b t facts (together.quorum.correct i in_i) (open_at f faulty members w v n b together room (and_parts (members b) (not (b == i)) comes).0) kind
+      (facts.heard.said i t i v n d (together.quorum.correct i in_i) own) in
       (goes_join w (turn ∷ []) rest first got.0, each_below b (λ x. members x ≡ true → HasAt (after_header_turns f null w1 rest) x t i) (λ _. (got.0.stays b).log t i v n d new) got.1))
       (λ passes.
       let got = each_goes w i t b facts together room in_i kind own in (

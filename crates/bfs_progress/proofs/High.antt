@@ -1,4 +1,4 @@
--- The marks: numbers of a log lie up to the high one, and the low one never falls.
+-- Numbers of a log lie up to the high mark.
 use Rattle.std.proofs.Common.{ℕ, ◌+◌, ◌≤◌, Bool, ltb, leb, List, [], ◌∷◌, inl, inr, subst, arith}
 use Rattle.std.proofs.lemmas.Bool.{and_parts, leb-true}
 use Rattle.bfs_votes.specs.Votes.{Told}
@@ -31,25 +31,9 @@ high_after f me faulty w p (Enters r) may high t k v n d x = elim (taken_from p.
 ]
 high_after f me faulty w p (Executes h) may high t k v n d x = high t k v n d x
 
-low_after : (f me : ℕ) (faulty : ℕ → Bool) (w : World) (p : History) (move : Move) → IsAllowed f faulty w me p move → p.now.low ≤ (after_move f me p move).now.low
-low_after f me faulty w p (Accepts h) may = omega arith
-low_after f me faulty w p (Says h) may = omega arith
-low_after f me faulty w p (Drops m) may = omega (arith, may)
-low_after f me faulty w p (Leaves m) may = omega arith
-low_after f me faulty w p (Enters r) may = omega arith
-low_after f me faulty w p (Executes h) may = omega arith
-
 pub run_high : (f : ℕ) (faulty : ℕ → Bool) (w : World) (steps : List Step) → ((k : ℕ) → LogHigh (w k)) → AreAllowed f faulty w steps → (k : ℕ) → LogHigh (after_steps f w steps k)
 run_high f faulty w [] high all = high
 run_high f faulty w (step ∷ steps) high all =
     let i = step.who in
     run_high f faulty (after_step f w step) steps
     (at_each (λ k p. LogHigh p) w i (after_move f i (w i) step.move) (high_after f i faulty w (w i) step.move all.0 (high i)) high) all.1
-
-pub run_low : (f : ℕ) (faulty : ℕ → Bool) (w : World) (steps : List Step) → AreAllowed f faulty w steps → (k : ℕ) → (w k).now.low ≤ (after_steps f w steps k).now.low
-run_low f faulty w [] all k = omega arith
-run_low f faulty w (step ∷ steps) all k =
-    let i = step.who in
-    let one = at_each (λ k p. (w k).now.low ≤ p.now.low) w i (after_move f i (w i) step.move) (low_after f i faulty w (w i) step.move all.0) (λ k. omega arith) k in
-    let rest = run_low f faulty (after_step f w step) steps all.1 k in
-    omega (arith, one, rest)

@@ -1,5 +1,6 @@
 mod Numbers
 mod Turns
+mod Later
 mod Logs
 mod Speaks
 mod Heard
@@ -9,7 +10,9 @@ mod Changes
 mod Reached
 mod Quiet
 mod Exchange
+mod Rounds
 mod Entrance
+mod NewViews
 mod Asking
 mod Following
 mod Ways

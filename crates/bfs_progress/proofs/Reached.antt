@@ -55,7 +55,7 @@ turns_done f null faulty w [] positive few facts authentic offered = facts
 turns_done f null faulty w (turn ∷ turns) positive few facts authentic offered =
     turns_done f null faulty (after_header_turn f null w turn) turns positive few (turn_done f null faulty w turn positive few facts authentic.0 offered.0) authentic.1 offered.1
 
-start_facts : (f : ℕ) (faulty : ℕ → Bool) → Facts f faulty new_world
+pub start_facts : (f : ℕ) (faulty : ℕ → Bool) → Facts f faulty new_world
 start_facts f faulty =
     record {
       sound = start_sound f faulty;

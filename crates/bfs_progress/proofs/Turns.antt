@@ -40,6 +40,16 @@ module _ (f : ℕ) (null : List ℕ) where
   offered_join faulty w [] ys a b = b
   offered_join faulty w (x ∷ xs) ys a b = (a.0, offered_join faulty (after_header_turn f null w x) xs ys a.1 b)
 
+  pub authentic_parts : (faulty : ℕ → Bool) (w : World) (xs ys : List HeaderTurn) → AreAuthentic f null faulty w (xs ++ ys)
+      → AreAuthentic f null faulty w xs × AreAuthentic f null faulty (after_header_turns f null w xs) ys
+  authentic_parts faulty w [] ys a = (tt, a)
+  authentic_parts faulty w (x ∷ xs) ys a = let rest = authentic_parts faulty (after_header_turn f null w x) xs ys a.1 in ((a.0, rest.0), rest.1)
+
+  pub offered_parts : (faulty : ℕ → Bool) (w : World) (xs ys : List HeaderTurn) → AreOffered f null faulty w (xs ++ ys)
+      → AreOffered f null faulty w xs × AreOffered f null faulty (after_header_turns f null w xs) ys
+  offered_parts faulty w [] ys a = (tt, a)
+  offered_parts faulty w (x ∷ xs) ys a = let rest = offered_parts faulty (after_header_turn f null w x) xs ys a.1 in ((a.0, rest.0), rest.1)
+
 pub turns_of_join : (members : ℕ → Bool) (xs ys : List HeaderTurn) → AreTurnsOf members xs → AreTurnsOf members ys → AreTurnsOf members (xs ++ ys)
 turns_of_join members [] ys a b = b
 turns_of_join members (x ∷ xs) ys a b = (a.0, turns_of_join members xs ys a.1 b)

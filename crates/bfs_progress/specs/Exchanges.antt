@@ -1,8 +1,8 @@
 -- Turns in which members hear one another, each a finite list.
-use Rattle.std.specs.Prelude.{ℕ, zero, suc, ◌-◌, ◌==◌, Bool, ◌&&◌, not, List, [], ◌∷◌, ◌++◌, if◌then◌else◌}
-use Rattle.bfs_votes.specs.Votes.{Header, replicas, primary}
+use Rattle.std.specs.Prelude.{◌≡◌, ℕ, zero, suc, ◌-◌, ◌==◌, Bool, true, false, ◌&&◌, not, List, [], ◌∷◌, ◌++◌, if◌then◌else◌}
+use Rattle.bfs_votes.specs.Votes.{Header, Told, replicas, primary}
 use Rattle.bfs_votes.specs.Tags.{commit_tag, pre_prepare_tag, prepare_tag}
-use Rattle.bfs_agreement.specs.Histories.{ViewChange, World}
+use Rattle.bfs_agreement.specs.Histories.{IsIn, ViewChange, World}
 use Rattle.bfs_agreement.specs.Calls.{vote, Receives, Settles, TimesOut, ChangesView, HeaderTurn}
 
 -- members other than the primary of a view (OSDI 1999 section 4)
@@ -30,6 +30,11 @@ exchange f members view number digest =
     deliveries members (vote pre_prepare_tag (primary f view) view number digest) (replicas f)
     ++ (votes f members (backups_of f members view) prepare_tag view number digest (replicas f)
     ++ votes f members members commit_tag view number digest (replicas f))
+
+-- among other turns, what each has said of the number, as its log has it at first, comes to each other
+abbrev pub IsRound : (members : ℕ → Bool) → World → (view number : ℕ) → List HeaderTurn → Type 0
+IsRound members w view number turns = (i j tag : ℕ) (digest : List ℕ) → members i ≡ true → members j ≡ true → (i == j) ≡ false
+    → Told (w i).now.log tag i view number digest → IsIn (record { who = j; call = Receives (vote tag i view number digest) }) turns
 
 -- Between views -------------------------------------------------------------------------------------------------------
 

@@ -2,11 +2,11 @@
 use Rattle.std.specs.Prelude.{◌≡◌, ℕ, ◌+◌, ◌*◌, ◌<◌, ◌≤◌, Bool, true, List, ◌++◌}
 use Rattle.bfs_votes.specs.Votes.{Told, count_below, replicas, primary}
 use Rattle.bfs_votes.specs.Tags.{pre_prepare_tag}
-use Rattle.bfs_agreement.specs.Histories.{ViewChange, World}
-use Rattle.bfs_agreement.specs.Calls.{Orders, HeaderTurn, next_number, after_header_turn, after_header_turns, AreAuthentic}
+use Rattle.bfs_agreement.specs.Histories.{IsIn, ViewChange, World}
+use Rattle.bfs_agreement.specs.Calls.{Orders, ChangesView, HeaderTurn, next_number, is_new_view, after_header_turn, after_header_turns, AreAuthentic}
 use Rattle.bfs_progress.specs.Premises.{AreOffered, IsARun, reached}
 use Rattle.bfs_progress.specs.Members.{AreTogether, HasRoom, AllIsHeard, IsCommitted, HaveAsked, MayMeet, AreChangesOf, MakeNewView}
-use Rattle.bfs_progress.specs.Exchanges.{exchange, all_time_out, entrance}
+use Rattle.bfs_progress.specs.Exchanges.{IsRound, exchange, all_time_out, entrance}
 use Rattle.bfs_progress.specs.Following.{may_follow, follows, AskedIsHeard, SomeHaveAsked}
 use Rattle.bfs_progress.specs.Ways.{AreTurnsOf, IsWay}
 
@@ -21,6 +21,21 @@ QuietIsCommitted = (f : ℕ) (null : List ℕ) (faulty members : ℕ → Bool) (
     → Told (reached f null turns (primary f view)).now.log pre_prepare_tag (primary f view) view number digest
     → AllIsHeard members (reached f null turns) view number
     → IsCommitted f members (reached f null turns) view number digest
+
+-- where they stay together and have room, and what they have said of such a number comes to each in three rounds, whatever else comes and whoever lies
+-- meanwhile, it is committed at each
+abbrev pub RoundsCommit : Type 0
+RoundsCommit = (f : ℕ) (null : List ℕ) (faulty members : ℕ → Bool) (turns one two three : List HeaderTurn) (view number : ℕ) (digest : List ℕ)
+    → IsARun f null faulty (turns ++ (one ++ (two ++ three)))
+    → AreTogether f faulty members (reached f null turns) view
+    → AreTogether f faulty members (reached f null (turns ++ (one ++ (two ++ three)))) view
+    → HasRoom members (reached f null turns) number
+    → HasRoom members (reached f null (turns ++ (one ++ (two ++ three)))) number
+    → Told (reached f null turns (primary f view)).now.log pre_prepare_tag (primary f view) view number digest
+    → IsRound members (reached f null turns) view number one
+    → IsRound members (reached f null (turns ++ one)) view number two
+    → IsRound members (reached f null ((turns ++ one) ++ two)) view number three
+    → IsCommitted f members (reached f null (turns ++ (one ++ (two ++ three)))) view number digest
 
 -- the exchange of a number for which the primary has a PRE-PREPARE is of what was sent, and leaves it committed at each
 abbrev pub ExchangeCommits : Type 0
@@ -56,6 +71,15 @@ EntersTogether = (f : ℕ) (null : List ℕ) (faulty members : ℕ → Bool) (tu
     → AreAuthentic f null faulty (reached f null turns) (entrance f members view changes)
     × AreOffered f null faulty (reached f null turns) (entrance f members view changes)
     × AreTogether f faulty members (after_header_turns f null (reached f null turns) (entrance f members view changes)) view)
+
+-- where a NEW-VIEW comes to each, of whatever VIEW-CHANGEs, and none asks for a later view meanwhile, they are together in it, whatever else comes
+abbrev pub NewViewsAreEntered : Type 0
+NewViewsAreEntered = (f : ℕ) (null : List ℕ) (faulty members : ℕ → Bool) (turns further : List HeaderTurn) (view : ℕ)
+    → IsARun f null faulty (turns ++ further)
+    → HaveAsked f faulty members (reached f null turns) view
+    → ((k : ℕ) → members k ≡ true → (reached f null (turns ++ further) k).now.asked ≡ view)
+    → ((k : ℕ) → members k ≡ true → (changes : List ViewChange) × (is_new_view f view changes ≡ true) × IsIn (record { who = k; call = ChangesView view changes }) further)
+    → AreTogether f faulty members (reached f null (turns ++ further)) view
 
 -- who asks for less than f + 1 of them have asked for may follow to there; and where one may follow to, one of them has asked for, whatever others claim
 abbrev pub NoneLags : Type 0

@@ -1,13 +1,20 @@
 // What goes on. The bodies do nothing: what is said is the contracts. They are over every run (`IsARun`): calls and deliveries of 3f + 1 replicas,
 // more than one, of which at most f lie, and nothing that passes under a correct one's name is forged, in a NEW-VIEW either. "Members" are 2f + 1
 // correct replicas or more, and the view's primary is one of them.
-ghost use Rattle.bfs_progress.specs.Laws.{AllAsk, EachBatchCanBeCommitted, EntersTogether, ExchangeCommits, NoStateIsADeadEnd, NoneLags, ProposalCommits, QuietIsCommitted};
+ghost use Rattle.bfs_progress.specs.Laws.{AllAsk, EachBatchCanBeCommitted, EntersTogether, ExchangeCommits, NewViewsAreEntered, NoStateIsADeadEnd, NoneLags, ProposalCommits, QuietIsCommitted, RoundsCommit};
 
 /// For members that are in one view: where the primary has a PRE-PREPARE for a number above all their low marks, and each has in its log what any of
 /// them has said of it, the number is committed at each.
 #[tactic(auto, using(crate::proofs::Quiet::quiet_is_committed))]
 pub fn quiet_is_committed()
     ensures { QuietIsCommitted }
+{}
+
+/// For members that stay in one view: where the primary has a PRE-PREPARE for a number that stays between the marks of each, and in three rounds what
+/// their logs have of their own of it comes to each other one, whatever else comes meanwhile, the number is committed at each.
+#[tactic(auto, using(crate::proofs::Rounds::rounds_commit))]
+pub fn rounds_commit()
+    ensures { RoundsCommit }
 {}
 
 /// For members that are in one view: where the primary has a PRE-PREPARE for a number between the marks of each, and they send one another once more
@@ -28,6 +35,13 @@ pub fn proposal_commits()
 #[tactic(auto, using(crate::proofs::Entrance::enters_together))]
 pub fn enters_together()
     ensures { EntersTogether }
+{}
+
+/// For members that have asked for one view, and not entered it: where a NEW-VIEW for it comes to each, of whatever VIEW-CHANGEs, and none asks for a
+/// later view meanwhile, they are together in it, whatever else comes.
+#[tactic(auto, using(crate::proofs::NewViews::new_views_are_entered))]
+pub fn new_views_are_entered()
+    ensures { NewViewsAreEntered }
 {}
 
 /// For 2f + 1 replicas that have heard what each of them has asked for, and of others anything: one that asks for less than f + 1 of them may follow
