@@ -15,7 +15,7 @@ use Rattle.bfs_progress.proofs.High.{LogHigh}
 use Rattle.bfs_progress.proofs.Logs.{backed_from, prepared_is, backups_more}
 use Rattle.bfs_progress.proofs.Answered.{said_now}
 
--- Lists -------------------------------------------------------------------------------------------------------------------
+-- Lists ---------------------------------------------------------------------------------------------------------------
 
 pub all_from : {A : Type 0} (test : A → Bool) (xs : List A) → ((x : A) → IsIn x xs → test x ≡ true) → list_all test xs ≡ true
 all_from test [] each = refl
@@ -88,7 +88,7 @@ backed_alone f me log h two from ready =
     (moved h 2 p v n d (record { tag = two; sender = from; view = refl; number = refl; digest = refl }) (λ t k v n d. says t k v n d h ≡ true) (says_itself h)) in
     backed_from f l v n d itself (omega (arith, enough, grown))
 
--- A VIEW-CHANGE -----------------------------------------------------------------------------------------------------------------
+-- A VIEW-CHANGE -------------------------------------------------------------------------------------------------------
 
 pub record IsGood (f : ℕ) (faulty : ℕ → Bool) (w : World) (k : ℕ) (m : ViewChange) : Type 0 where
   pub sender : m.sender ≡ k
@@ -142,7 +142,7 @@ good_on f faulty w steps k m may good =
       authentic = λ c x t s v n d y. sent_on f faulty w steps t s v n d (good.authentic c x t s v n d y);
     }
 
--- After a call ------------------------------------------------------------------------------------------------------------------
+-- After a call --------------------------------------------------------------------------------------------------------
 
 said_changes : (f me : ℕ) (p : History) (hs : List Header) → (after_moves f me p (all_said hs)).changes ≡ p.changes
 said_changes f me p [] = refl

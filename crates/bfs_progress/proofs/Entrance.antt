@@ -193,7 +193,7 @@ module _ (f : ℕ) (null : List ℕ) (faulty members : ℕ → Bool) (v : ℕ) (
           stay = λ k x. elim x [ inl out ↦ rest.stay k (inl out) | inr high ↦ rest.stay k (inr (omega (arith, high))) ];
         })
 
--- The primary begins the view, and the others enter it ------------------------------------------------------------------
+-- The primary begins the view, and the others enter it ----------------------------------------------------------------
 
 pub record Entrance (f : ℕ) (null : List ℕ) (faulty members : ℕ → Bool) (w : World) (v : ℕ) (ms : List ViewChange) : Type 0 where
   pub authentic : AreAuthentic f null faulty w (entrance f members v ms)
