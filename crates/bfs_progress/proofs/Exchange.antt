@@ -298,28 +298,32 @@ ordered_told f me q e leads within =
 abbrev pub proposal_turn : (who : ℕ) → List ℕ → HeaderTurn
 proposal_turn who d = record { who = who; call = Orders d }
 
--- the primary proposes in a world of which the facts hold
-pub record Proposed (f : ℕ) (null : List ℕ) (faulty members : ℕ → Bool) (w : World) (v n : ℕ) (d : List ℕ) : Type 0 where
-  pub authentic : AreAuthentic f null faulty w (proposal_turn (primary f v) d ∷ exchange f members v n d)
-  pub done : IsCommitted f members (after_header_turns f null (after_header_turn f null w (proposal_turn (primary f v) d)) (exchange f members v n d)) v n d
+-- the primary has proposed
+pub record Ordered (f : ℕ) (faulty : ℕ → Bool) (w new : World) (v n : ℕ) (d : List ℕ) : Type 0 where
+  pub facts : Facts f faulty new
+  pub stays : Stays w new
+  pub own : Told (new (primary f v)).now.log 2 (primary f v) v n d
 
-pub proposed : (f : ℕ) (null : List ℕ) (faulty members : ℕ → Bool) (w : World) (v : ℕ) (d : List ℕ) → 0 < f → FewAreFaulty f faulty → Facts f faulty w → AreTogether f faulty members w v
-    → HasRoom members w (next_number (w (primary f v)).now) → Proposed f null faulty members w v (next_number (w (primary f v)).now) d
-proposed f null faulty members w v d positive few facts together room =
+pub ordered : (f : ℕ) (null : List ℕ) (faulty members : ℕ → Bool) (w : World) (v : ℕ) (d : List ℕ) → 0 < f → FewAreFaulty f faulty → Facts f faulty w → AreTogether f faulty members w v
+    → HasRoom members w (next_number (w (primary f v)).now) → Ordered f faulty w (after_header_turn f null w (proposal_turn (primary f v) d)) v (next_number (w (primary f v)).now) d
+ordered f null faulty members w v d positive few facts together room =
     let p = primary f v in
     let s = (w p).now in
     let n = next_number s in
     let turn = proposal_turn p d in
-    let w1 = after_header_turn f null w turn in
     let here = together.entered p together.quorum.leads in
     let within = subst (λ (x : ℕ). is_within s x n ≡ true) (sym here) (open_at f faulty members w v n p together room together.quorum.leads) in
-    let stays1 : Stays w w1 = one_stays f null w turn (orders_stays f p (w p) d) in
-    let own : Told (w1 p).now.log 2 p v n d = at_caller f null (λ (q : History). Told q.now.log 2 p v n d) w turn
-    (subst (λ (x : ℕ). Told (after_call f null w p (Orders d)).now.log 2 p x n d) here (ordered_told f p (w p) d (ap (λ (x : ℕ). primary f x) (sym here)) within)) in
-    let facts1 = turn_done f null faulty w turn positive few facts tt tt in
-    let got = exchanged f null faulty members v n d positive few w1 facts1 (together_on f faulty members w w1 v stays1 together) (room_on members w w1 n stays1 room) own in
-    record { authentic = (tt, got.0.authentic); done = got.1 }
+    record {
+      facts = turn_done f null faulty w turn positive few facts tt tt;
+      stays = one_stays f null w turn (orders_stays f p (w p) d);
+      own = at_caller f null (λ (q : History). Told q.now.log 2 p v n d) w turn
+          (subst (λ (x : ℕ). Told (after_call f null w p (Orders d)).now.log 2 p x n d) here (ordered_told f p (w p) d (ap (λ (x : ℕ). primary f x) (sym here)) within));
+    }
 
 pub proposal_commits : ProposalCommits
 proposal_commits f null faulty members turns v d run together room =
-    (proposed f null faulty members (reached f null turns) v d run.others run.few (always f null faulty turns run) together room).done
+    let w = reached f null turns in
+    let n = next_number (w (primary f v)).now in
+    let w1 = after_header_turn f null w (proposal_turn (primary f v) d) in
+    let o = ordered f null faulty members w v d run.others run.few (always f null faulty turns run) together room in
+    (exchanged f null faulty members v n d run.others run.few w1 o.facts (together_on f faulty members w w1 v o.stays together) (room_on members w w1 n o.stays room) o.own).1

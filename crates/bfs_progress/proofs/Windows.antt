@@ -63,6 +63,9 @@ committed_more f me log new v n d grows e =
     and_from (prepared f me new v n d) (nat_le (2 * f + 1) (tellers f new 4 v n d) && told new 4 me v n d) (prepared_by f me log new v n d (λ t k low small x. grows t k x) a.0)
     (and_from (nat_le (2 * f + 1) (tellers f new 4 v n d)) (told new 4 me v n d) (le-leb (2 * f + 1) (tellers f new 4 v n d) (omega (arith, enough, grown))) (grows 4 me b.1))
 
+committed_on : (f : ℕ) (members : ℕ → Bool) (w new : World) (v n : ℕ) (d : List ℕ) → Stays w new → IsCommitted f members w v n d → IsCommitted f members new v n d
+committed_on f members w new v n d on done k x = committed_more f k (w k).now.log (new k).now.log v n d (λ t j y. (on k).log t j v n d y) (done k x)
+
 module _ (f : ℕ) (null : List ℕ) (faulty members : ℕ → Bool) (v : ℕ) (digest_of : ℕ → List ℕ) (positive : 0 < f) (few : FewAreFaulty f faulty) where
   abbrev pub several : (base count : ℕ) → List HeaderTurn
   several base zero = []
@@ -74,11 +77,11 @@ module _ (f : ℕ) (null : List ℕ) (faulty members : ℕ → Bool) (v : ℕ) (
     pub stays : Stays w (after_header_turns f null w (several base count))
     pub done : (n : ℕ) → base < n → n ≤ base + count → IsCommitted f members (after_header_turns f null w (several base count)) v n (digest_of n)
 
-  pub ranged : (w : World) (base : ℕ) → Facts f faulty w → AreTogether f faulty members w v → ((n : ℕ) → base < n → n ≤ base + 32 → HasRoom members w n)
-      → ((n : ℕ) → base < n → n ≤ base + 32 → Told (w (primary f v)).now.log 2 (primary f v) v n (digest_of n)) → (count : ℕ) → count ≤ 32 → Ranged w base count
-  ranged w base facts together rooms own zero le = record { way = no_way f null faulty members w; facts = facts; stays = all_stay w; done = λ n lo hi. absurd (omega (arith, lo, hi)) }
-  ranged w base facts together rooms own (suc c) le =
-      let got = ranged w base facts together rooms own c (omega (arith, le)) in
+  pub ranged : (w : World) (base most : ℕ) → Facts f faulty w → AreTogether f faulty members w v → ((n : ℕ) → base < n → n ≤ base + most → HasRoom members w n)
+      → ((n : ℕ) → base < n → n ≤ base + most → Told (w (primary f v)).now.log 2 (primary f v) v n (digest_of n)) → (count : ℕ) → count ≤ most → Ranged w base count
+  ranged w base most facts together rooms own zero le = record { way = no_way f null faulty members w; facts = facts; stays = all_stay w; done = λ n lo hi. absurd (omega (arith, lo, hi)) }
+  ranged w base most facts together rooms own (suc c) le =
+      let got = ranged w base most facts together rooms own c (omega (arith, le)) in
       let xs = several base c in
       let w1 = after_header_turns f null w xs in
       let n = base + suc c in
@@ -86,7 +89,7 @@ module _ (f : ℕ) (null : List ℕ) (faulty members : ℕ → Bool) (v : ℕ) (
       let w2 = after_header_turns f null w1 ys in
       let p = primary f v in
       let lo : base < n = omega arith in
-      let hi : n ≤ base + 32 = omega (arith, le) in
+      let hi : n ≤ base + most = omega (arith, le) in
       let ex = exchanged f null faulty members v n (digest_of n) positive few w1 got.facts (together_on f faulty members w w1 v got.stays together) (room_on members w w1 n got.stays (rooms n lo hi))
       ((got.stays p).log 2 p v n (digest_of n) (own n lo hi)) in
       let joined = sym (after_join f null w xs ys) in
@@ -96,12 +99,9 @@ module _ (f : ℕ) (null : List ℕ) (faulty members : ℕ → Bool) (v : ℕ) (
         stays = subst (λ (x : World). Stays w x) joined (then_stays w w1 w2 got.stays ex.0.stays);
         done = λ m low high. subst (λ (x : World). IsCommitted f members x v m (digest_of m)) joined (elim (cases_Bool (m == n)) [
           | inl same ↦ subst (λ (y : ℕ). IsCommitted f members w2 v y (digest_of y)) (sym (eqb-true m n same)) ex.1
-          | inr other ↦ committed_on w1 w2 m ex.0.stays (got.done m low (below m c base high (eqb-false m n other)))
+          | inr other ↦ committed_on f members w1 w2 v m (digest_of m) ex.0.stays (got.done m low (below m c base high (eqb-false m n other)))
         ]);
       }
     where
       below : (m c base : ℕ) → m ≤ base + suc c → (m ≡ base + suc c → ⊥) → m ≤ base + c
       below m c base high other = elim (cases_lt m (base + suc c)) [ inl lt ↦ omega (arith, lt) | inr le ↦ absurd (other (omega (arith, high, le))) ]
-
-      committed_on : (old new : World) (m : ℕ) → Stays old new → IsCommitted f members old v m (digest_of m) → IsCommitted f members new v m (digest_of m)
-      committed_on old new m on done k x = committed_more f k (old k).now.log (new k).now.log v m (digest_of m) (λ t j y. (on k).log t j v m (digest_of m) y) (done k x)

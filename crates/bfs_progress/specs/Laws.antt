@@ -8,7 +8,7 @@ use Rattle.bfs_progress.specs.Premises.{AreOffered, IsARun, reached}
 use Rattle.bfs_progress.specs.Members.{AreTogether, HasRoom, AllIsHeard, IsCommitted, HaveAsked, MayMeet, AreChangesOf, MakeNewView}
 use Rattle.bfs_progress.specs.Exchanges.{IsRound, exchange, all_time_out, entrance}
 use Rattle.bfs_progress.specs.Following.{may_follow, follows, AskedIsHeard, SomeHaveAsked}
-use Rattle.bfs_progress.specs.Ways.{AreTurnsOf, IsWay}
+use Rattle.bfs_progress.specs.Ways.{AreTurnsOf, CanExecute, IsWay}
 
 -- In a view -----------------------------------------------------------------------------------------------------------
 
@@ -111,10 +111,11 @@ NoStateIsADeadEnd = (f : ℕ) (null : List ℕ) (faulty members : ℕ → Bool) 
     × IsARun f null faulty (turns ++ further)
     × AreTogether f faulty members (reached f null (turns ++ further)) view
 
--- and there is a way on, to any later view that one of them leads, on which a batch of any digest is committed at each
+-- and there is a way on, to any later view that one of them leads, on which a batch of any digest is committed at each, and each can execute up to it
 abbrev pub EachBatchCanBeCommitted : Type 0
 EachBatchCanBeCommitted = (f : ℕ) (null : List ℕ) (faulty members : ℕ → Bool) (turns : List HeaderTurn) (view : ℕ) (digest : List ℕ)
     → IsARun f null faulty turns
     → MayMeet f faulty members (reached f null turns) view
     → (further : List HeaderTurn) × IsWay f null faulty members (reached f null turns) further
-    × ((number : ℕ) × IsCommitted f members (after_header_turns f null (reached f null turns) further) view number digest)
+    × ((number : ℕ) × IsCommitted f members (after_header_turns f null (reached f null turns) further) view number digest
+    × CanExecute f members (after_header_turns f null (reached f null turns) further) number)

@@ -10,10 +10,13 @@ abbrev pub AreTurnsOf : (members : ℕ → Bool) → List HeaderTurn → Type 0
 AreTurnsOf members [] = Unit {0}
 AreTurnsOf members (turn ∷ turns) = (members turn.who ≡ true) × AreTurnsOf members turns
 
--- a number is stable at some member, or each has all above its low mark up to it committed in its view, and so comes to tell of it (OSDI 1999 section 4.3)
+-- each has all above its low mark up to a number committed in its view, and so can execute them one after another (OSDI 1999 section 4.2)
+abbrev pub CanExecute : (f : ℕ) (members : ℕ → Bool) → World → (number : ℕ) → Type 0
+CanExecute f members w number = (k n : ℕ) → members k ≡ true → (w k).now.low < n → n ≤ number → (digest : List ℕ) × (committed f k (w k).now.log (w k).now.view n digest ≡ true)
+
+-- a number is stable at some member, or each can execute up to it, and so comes to tell of it (OSDI 1999 section 4.3)
 abbrev pub CanBeStable : (f : ℕ) (members : ℕ → Bool) → World → (number : ℕ) → Type 0
-CanBeStable f members w number = ((k : ℕ) × (members k ≡ true) × (number ≤ (w k).now.low))
-    ⊎ ((k n : ℕ) → members k ≡ true → (w k).now.low < n → n ≤ number → (digest : List ℕ) × (committed f k (w k).now.log (w k).now.view n digest ≡ true))
+CanBeStable f members w number = ((k : ℕ) × (members k ≡ true) × (number ≤ (w k).now.low)) ⊎ CanExecute f members w number
 
 -- a call takes no other number for stable
 abbrev pub MaySettle : (f : ℕ) (members : ℕ → Bool) → World → HeaderCall → Type 0

@@ -63,8 +63,8 @@ pub fn no_state_is_a_dead_end()
     ensures { NoStateIsADeadEnd }
 {}
 
-/// For members in any state: there is a way on to any view that none of them has gone past, on which a batch of any digest is committed at each. On it
-/// a number is taken for stable only where it is so at one of them, or where each has all up to it committed.
+/// For members in any state: there is a way on to any view that none of them has gone past, on which a batch of any digest is committed at each, with all
+/// before it, so that each can execute it. On it a number is taken for stable only where it is so at one of them, or where each can execute up to it.
 #[tactic(auto, using(crate::proofs::Anywhere::each_batch_can_be_committed))]
 pub fn each_batch_can_be_committed()
     ensures { EachBatchCanBeCommitted }
