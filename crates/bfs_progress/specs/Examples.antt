@@ -51,11 +51,13 @@ Follows = ((reached 1 [] then_followed 0).now.asked ≡ 2) × ((reached 1 [] the
 -- behind the exchange nothing is unheard
 abbrev pub HoldInAView : Type 0
 HoldInAView = IsARun 1 [] silent lossy
-    × AreTogether 1 silent present (reached 1 [] lossy) 0 × HasRoom present (reached 1 [] lossy) 1 × Told (reached 1 [] lossy 0).now.log pre_prepare_tag 0 0 1 digest
+    × AreTogether 1 silent present (reached 1 [] lossy) 0 × HasRoom present (reached 1 [] lossy) 1
+    × Told (reached 1 [] lossy 0).now.log pre_prepare_tag 0 0 1 digest
     × AllIsHeard present (reached 1 [] then_heard) 0 1
 
 -- and between views: they may meet in view 2, two of them have asked for it, and after following all have
 abbrev pub HoldBetweenViews : Type 0
 HoldBetweenViews = IsARun 1 [] silent scattered
-    × MayMeet 1 silent present (reached 1 [] scattered) 2 × AskedIsHeard present (reached 1 [] scattered) claimed × SomeHaveAsked 1 present (reached 1 [] scattered) 2
+    × MayMeet 1 silent present (reached 1 [] scattered) 2
+    × AskedIsHeard present (reached 1 [] scattered) claimed × SomeHaveAsked 1 present (reached 1 [] scattered) 2
     × HaveAsked 1 silent present (reached 1 [] then_followed) 2

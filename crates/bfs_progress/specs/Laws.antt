@@ -78,7 +78,8 @@ NewViewsAreEntered = (f : ℕ) (null : List ℕ) (faulty members : ℕ → Bool)
     → IsARun f null faulty (turns ++ further)
     → HaveAsked f faulty members (reached f null turns) view
     → ((k : ℕ) → members k ≡ true → (reached f null (turns ++ further) k).now.asked ≡ view)
-    → ((k : ℕ) → members k ≡ true → (changes : List ViewChange) × (is_new_view f view changes ≡ true) × IsIn (record { who = k; call = ChangesView view changes }) further)
+    → ((k : ℕ) → members k ≡ true
+    → (changes : List ViewChange) × (is_new_view f view changes ≡ true) × IsIn (record { who = k; call = ChangesView view changes }) further)
     → AreTogether f faulty members (reached f null (turns ++ further)) view
 
 -- who asks for less than f + 1 of them have asked for may follow to there; and where one may follow to, one of them has asked for, whatever others claim

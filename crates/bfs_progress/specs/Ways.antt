@@ -12,7 +12,8 @@ AreTurnsOf members (turn ∷ turns) = (members turn.who ≡ true) × AreTurnsOf 
 
 -- each has all above its low mark up to a number committed in its view, and so can execute them one after another (OSDI 1999 section 4.2)
 abbrev pub CanExecute : (f : ℕ) (members : ℕ → Bool) → World → (number : ℕ) → Type 0
-CanExecute f members w number = (k n : ℕ) → members k ≡ true → (w k).now.low < n → n ≤ number → (digest : List ℕ) × (committed f k (w k).now.log (w k).now.view n digest ≡ true)
+CanExecute f members w number = (k n : ℕ) → members k ≡ true → (w k).now.low < n → n ≤ number
+    → (digest : List ℕ) × (committed f k (w k).now.log (w k).now.view n digest ≡ true)
 
 -- a number is stable at some member, or each can execute up to it, and so comes to tell of it (OSDI 1999 section 4.3)
 abbrev pub CanBeStable : (f : ℕ) (members : ℕ → Bool) → World → (number : ℕ) → Type 0

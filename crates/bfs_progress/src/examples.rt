@@ -6,7 +6,8 @@ pub fn it_goes_on()
     ensures { GoesOn }
 {}
 
-/// By computing: of four replicas one asks for view 1, two ask for view 2, and the fourth lies that it asks for view 9; by following the three ask for view 2.
+/// By computing: of four replicas one asks for view 1, two ask for view 2, and the fourth lies that it asks for view 9; by following the three ask for
+/// view 2.
 pub fn it_follows()
     ensures { Follows }
 {}
