@@ -1,2 +1,3 @@
+pub mod BlockLemmas
 pub mod PieceLemmas
 pub mod PutLemmas

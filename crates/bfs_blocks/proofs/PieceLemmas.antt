@@ -140,3 +140,15 @@ cut_within (suc k) r (p ∷ ps) d filled lt le =
 pub filled_cut : (k r : ℕ) (ps : List (List ℕ)) (q : List ℕ) → AreFilled ps → k < length ps → 0 < length q → length q ≤ block_bytes → AreFilled (take k ps ++ q ∷ [])
 filled_cut k r ps q filled lt some few =
     filled_push (take k ps) q (filled_take k ps filled) (omega (arith, length_before k ps filled lt, length-take k ps)) some few
+
+-- One piece ---------------------------------------------------------------------------------------------------------------------
+
+pub few_in : (k : ℕ) (ps : List (List ℕ)) (d : List ℕ) → AreFilled ps → k < length ps → length (get_or ps k d) ≤ block_bytes
+few_in k [] d filled lt = absurd (omega arith)
+few_in zero (p ∷ ps) d filled lt = filled.1
+few_in (suc k) (p ∷ ps) d filled lt = few_in k ps d filled.3 (omega arith)
+
+pub full_in : (k : ℕ) (ps : List (List ℕ)) (d : List ℕ) → AreFilled ps → k + 1 < length ps → length (get_or ps k d) ≡ block_bytes
+full_in k [] d filled lt = absurd (omega arith)
+full_in zero (p ∷ ps) d filled lt = filled.2 (omega arith)
+full_in (suc k) (p ∷ ps) d filled lt = full_in k ps d filled.3 (omega arith)

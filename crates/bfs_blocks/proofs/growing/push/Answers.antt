@@ -1,0 +1,19 @@
+use Rattle.std.proofs.Common.{◌≡◌, [], ◌∷◌, ◌++◌, length, sym, ap, subst, ◌∙◌, arith}
+use Rattle.std.proofs.lemmas.List.{length-map, map_push}
+use Rattle.std.specs.List.{concat}
+use Rattle.bfs_blocks.specs.Blocks.{AreFilled, bytes_in, pieces_of}
+use Rattle.bfs_blocks.proofs.BlockLemmas.{pushed}
+use Rattle.bfs_blocks.proofs.PieceLemmas.{concat-push, filled_push}
+use Rattle.bfs_blocks.proofs.growing.push.Goals as goal
+
+pub returns-clause-filled : goal.returns-clause-filled
+returns-clause-filled c =
+    let old = c.args.blocks.now.items in
+    let now = pushed old c.in_ok-new.field-0 c.push.new.self.items c.args.bytes.now c.in_ok-push.ensures.items c.in_ok-new.ensures in
+    subst AreFilled (sym now) (filled_push (pieces_of old) c.args.bytes.now c.requires.filled (omega (arith, c.requires.full, length-map old bytes_in)) c.requires.piece.0 c.requires.piece.1)
+
+pub returns-clause-ok : goal.returns-clause-ok
+returns-clause-ok c =
+    let old = c.args.blocks.now.items in
+    let now = pushed old c.in_ok-new.field-0 c.push.new.self.items c.args.bytes.now c.in_ok-push.ensures.items c.in_ok-new.ensures in
+    ap concat now ∙ concat-push (pieces_of old) c.args.bytes.now
