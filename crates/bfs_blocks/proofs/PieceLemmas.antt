@@ -1,6 +1,7 @@
 -- Pieces of bytes, of which all but the last one are whole blocks.
-use Rattle.std.proofs.Common.{◌≡◌, ℕ, zero, suc, ◌+◌, ◌-◌, ◌*◌, ◌<◌, ◌≤◌, List, [], ◌∷◌, ◌++◌, length, take, drop, get_or, set, refl, sym, ap, subst, ◌∙◌, arith}
+use Rattle.std.proofs.Common.{◌≡◌, ℕ, zero, suc, ◌+◌, ◌-◌, ◌*◌, ◌<◌, ◌≤◌, List, [], ◌∷◌, ◌++◌, length, take, drop, get_or, set, refl, sym, ap, subst, ◌∙◌, inl, inr, arith}
 use Rattle.std.specs.List.{concat}
+use Rattle.std.proofs.lemmas.Bool.{cases_lt}
 use Rattle.std.proofs.lemmas.List.{append-nil, append_assoc, drop-drop, drop_at, drop_all, drop_more, length-append, length-set, length-take, take-append-le, take_all, take_at}
 use Rattle.std.proofs.Math.Seq.{take-append-add}
 use Rattle.bfs_blocks.specs.Blocks.{AreFilled, block_at, block_bytes}
@@ -152,3 +153,11 @@ pub full_in : (k : ℕ) (ps : List (List ℕ)) (d : List ℕ) → AreFilled ps �
 full_in k [] d filled lt = absurd (omega arith)
 full_in zero (p ∷ ps) d filled lt = filled.2 (omega arith)
 full_in (suc k) (p ∷ ps) d filled lt = full_in k ps d filled.3 (omega arith)
+
+-- what is left of the piece in which so many bytes end
+pub rest_in : (k r : ℕ) (ps : List (List ℕ)) (d : List ℕ) → AreFilled ps → k < length ps → r ≤ block_bytes → block_bytes * k + r ≤ length (concat ps) → r ≤ length (get_or ps k d)
+rest_in k r ps d filled lt few within =
+    elim (cases_lt (k + 1) (length ps)) [
+      | inl more ↦ omega (arith, full_in k ps d filled more, few)
+      | inr last ↦ omega (arith, length_is k ps d filled (omega (arith, lt, last)), within)
+    ]
