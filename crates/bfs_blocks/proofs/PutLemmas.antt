@@ -1,7 +1,7 @@
 -- Bytes put over others, and what writing them and new sizes come to.
 use Rattle.std.proofs.Common.{◌≡◌, ℕ, zero, suc, ◌+◌, ◌-◌, ◌*◌, ◌<◌, ◌≤◌, min, nat_eq, Bool, true, false, List, [], ◌∷◌, ◌++◌, length, take, drop, replicate, refl, sym, ap, subst, ◌∙◌, inl, inr, arith}
 use Rattle.std.proofs.lemmas.Bool.{cases_lt, ne_eqb}
-use Rattle.std.proofs.lemmas.List.{append-nil, append_assoc, drop-append-le, drop-drop, drop_all, length-append, length-drop, length-replicate, length-take, take-append-drop, take-append-le, take-take, take_all, take_at}
+use Rattle.std.proofs.lemmas.List.{append-nil, append_assoc, drop-append-le, drop-drop, drop_all, length-append, length-drop, length-replicate, length-take, replicate-append-replicate, take-append-drop, take-append-le, take-replicate, take-take, take_all}
 use Rattle.std.proofs.Math.Seq.{drop-append-add, take-append-add}
 use Rattle.bfs_model.specs.Server.FileBytes.{filled_to, overwritten, resized}
 use Rattle.bfs_blocks.specs.Blocks.{put_at}
@@ -125,3 +125,25 @@ grown_is size gap bytes le is =
 -- what is cut off again where memory ran out
 pub cut_again : (n : ℕ) (old filled grown : List ℕ) → length old ≡ n → take n filled ≡ old → take (length filled) grown ≡ filled → n ≤ length filled → take n grown ≡ old
 cut_again n old filled grown is first second le = sym (take-take n (length filled) grown le) ∙ ap (take n) second ∙ first
+
+-- Zeros ------------------------------------------------------------------------------------------------------------------------
+
+-- some of the zeros that are to come
+pub zeros_step : (left n all : ℕ) (bytes now first zeros target : List ℕ) → zeros ≡ replicate all 0 → first ≡ take n zeros → n ≡ min left all → now ≡ bytes ++ first → bytes ++ replicate left 0 ≡ target → now ++ replicate (left - length first) 0 ≡ target
+zeros_step left n all bytes now first zeros target are is least is_now was =
+    let zero : ℕ = 0 in
+    let some : first ≡ replicate n zero = is ∙ ap (take n) are ∙ take-replicate n all zero (omega (arith, least)) in
+    let long : left - length first ≡ left - n = ap (λ xs. left - length xs) some ∙ ap (λ k. left - k) (length-replicate n zero) in
+    let sum : n + (left - n) ≡ left = omega (arith, least) in
+    ap (λ xs. xs ++ replicate (left - length first) zero) (is_now ∙ ap (λ xs. bytes ++ xs) some)
+    ∙ ap (λ k. bytes ++ replicate n zero ++ replicate k zero) long
+    ∙ append_assoc bytes (replicate n zero) (replicate (left - n) zero)
+    ∙ ap (λ xs. bytes ++ xs) (replicate-append-replicate n (left - n) zero ∙ ap (λ k. replicate k zero) sum)
+    ∙ was
+
+-- an empty vector that grew
+pub zeros_are : (n before : ℕ) (was now : List ℕ) → was ≡ [] → before ≡ 0 → now ≡ take n was ++ replicate (n - before) 0 → now ≡ replicate n 0
+zeros_are n before was now none empty is =
+    let zero : ℕ = 0 in
+    let e : n - before ≡ n = omega (arith, empty) in
+    is ∙ ap (λ xs. xs ++ replicate (n - before) zero) (ap (take n) none ∙ take_all n [] (omega arith)) ∙ ap (λ k. replicate k zero) e

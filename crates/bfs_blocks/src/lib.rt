@@ -4,3 +4,4 @@
 mod blocks;
 mod growing;
 mod shared;
+mod writing;
