@@ -2,6 +2,10 @@
 #![tactic(auto)]
 
 mod blocks;
+mod files;
 mod growing;
 mod shared;
 mod writing;
+
+pub use files::FileBlocks;
+pub use growing::BLOCK_BYTES;
