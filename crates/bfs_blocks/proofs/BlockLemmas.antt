@@ -3,11 +3,12 @@ use Rattle.std.proofs.Common.{◌≡◌, ℕ, ◌+◌, ◌-◌, ◌*◌, ◌/◌
 use Rattle.std.specs.Prelude.{Option, Some, None, Result, Ok, Err, OnOk, OnErr, slice_get}
 use Rattle.std.specs.List.{concat}
 use Rattle.std.specs.Option.{option_map}
-use Rattle.std.proofs.lemmas.List.{get_or-map, get_or-take, length-map, length-set, length-take-le, map-append, map-set, set-get_or, take-map, take-take, take_all, take_more_set}
+use Rattle.std.proofs.lemmas.List.{drop-drop, drop-take, drop_min, get_or-map, get_or-take, length-map, length-set, length-take-le, map-append, map-set, set-get_or, take-map, take-take, take_all, take_more, take_more_set}
 use Rattle.std.proofs.lemmas.Option.{get_or_from_slice_get, slice_get-map, slice_get_within}
+use Rattle.sha2.specs.Sha256.{sha256}
 use Rattle.bfs_blocks.specs.declared.blocks.Block.{Block}
-use Rattle.bfs_blocks.specs.Blocks.{AreFilled, block_bytes, bytes_in, bytes_of, pieces_of}
-use Rattle.bfs_blocks.proofs.PieceLemmas.{extended, few_in, filled_extended, length_is, length_most, rest_in}
+use Rattle.bfs_blocks.specs.Blocks.{AreBlockDigests, AreDigestsOf, AreFilled, block_at, block_bytes, bytes_in, bytes_of, pieces_of}
+use Rattle.bfs_blocks.proofs.PieceLemmas.{block_is, extended, few_in, filled_extended, length_is, length_most, no_block, rest_in}
 
 -- the piece of a block
 pub piece_at : (blocks : List Block) (k : ℕ) (block : Block) → slice_get blocks k ≡ Some block → get_or (pieces_of blocks) k [] ≡ bytes_in block
@@ -117,3 +118,44 @@ cut_last blocks front k r was block is lt read cut =
     ∙ sym (take_all (k + 1) (set (pieces_of front) k now) (omega (arith, length-set (pieces_of front) k now, many)))
     ∙ take_more_set (pieces_of front) k now (omega (arith, many))
     ∙ ap (λ xs. xs ++ now ∷ []) (ap (take k) (fronts_are blocks front k is) ∙ take-take k (k + 1) ps (omega arith))
+
+-- Reads ------------------------------------------------------------------------------------------------------------------------
+
+-- a block that is there
+pub block_read : (blocks : List Block) (k : ℕ) (block : Block) → AreFilled (pieces_of blocks) → k < length blocks → block ≡ get_or blocks k block → block_at (bytes_of blocks) k ≡ bytes_in block
+block_read blocks k block filled lt is = block_is k (pieces_of blocks) [] filled (omega (arith, lt, length-map blocks bytes_in)) ∙ piece_read blocks k block lt is
+
+-- and one that is not
+pub none_read : (blocks : List Block) (k : ℕ) → AreFilled (pieces_of blocks) → length blocks ≤ k → block_at (bytes_of blocks) k ≡ []
+none_read blocks k filled le = no_block k (pieces_of blocks) filled (omega (arith, le, length-map blocks bytes_in))
+
+-- what is left of the block that an offset is in
+pub left_of_block : (offset n : ℕ) (bytes block piece : List ℕ) → block ≡ block_at bytes (offset / 4096) → n ≡ min (offset % 4096) (length block) → piece ≡ drop n block → piece ≡ take (block_bytes - offset % block_bytes) (drop offset bytes)
+unfolding block_at
+left_of_block offset n bytes block piece is_block is is_piece =
+    let r : ℕ = offset % 4096 in
+    let start : ℕ = block_bytes * (offset / 4096) in
+    let e : start + r ≡ offset = omega arith in
+    let f : r + (block_bytes - r) ≡ block_bytes = omega arith in
+    is_piece ∙ ap (λ k. drop k block) is ∙ drop_min r block ∙ ap (drop r) is_block
+    ∙ ap (λ k. drop r (take k (drop start bytes))) (sym f)
+    ∙ drop-take r (block_bytes - r) (drop start bytes)
+    ∙ ap (take (block_bytes - r)) (drop-drop r start bytes ∙ ap (λ k. drop k bytes) e)
+
+-- copies of the first blocks, and of one more
+pub copied : (blocks copies now : List Block) (k : ℕ) (was block : Block) → k < length blocks → was ≡ get_or blocks k was → pieces_of copies ≡ take k (pieces_of blocks) → now ≡ copies ++ block ∷ [] → bytes_in block ≡ bytes_in was → pieces_of now ≡ take (k + 1) (pieces_of blocks)
+copied blocks copies now k was block lt is so_far pushing same =
+    pushed copies block now (get_or (pieces_of blocks) k []) pushing (same ∙ sym (piece_read blocks k was lt is))
+    ∙ ap (λ ps. ps ++ get_or (pieces_of blocks) k [] ∷ []) so_far
+    ∙ sym (take_more (pieces_of blocks) k [] (omega (arith, lt, length-map blocks bytes_in)))
+
+-- the digests of a file's blocks
+pub digests_of : (digests : List (List ℕ)) (ps : List (List ℕ)) (bytes : List ℕ) → AreFilled ps → concat ps ≡ bytes → AreBlockDigests digests bytes → AreDigestsOf digests ps
+digests_of digests ps bytes filled are own k digest piece is_digest is_piece =
+    own k digest is_digest
+    ∙ ap sha256 (ap (λ xs. block_at xs k) (sym are) ∙ block_is k ps [] filled (slice_get_within ps k piece is_piece) ∙ get_or_from_slice_get ps k piece [] is_piece)
+
+-- blocks of which one got its digest
+pub one_kept : (blocks before : List Block) (k : ℕ) (d block : Block) → k < length blocks → pieces_of blocks ≡ pieces_of before → bytes_in block ≡ bytes_in (get_or blocks k d) → pieces_of (set blocks k block) ≡ pieces_of before
+one_kept blocks before k d block lt so_far same =
+    pieces_set blocks k block (get_or (pieces_of blocks) k []) (same ∙ sym (get_or-map bytes_in blocks k d [] lt)) ∙ set-get_or (pieces_of blocks) k [] ∙ so_far

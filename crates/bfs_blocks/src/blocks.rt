@@ -4,6 +4,7 @@ ghost use Rattle.sha2.specs.Sha256.{sha256};
 ghost use Rattle.bfs_blocks.specs.Blocks.{IsReady, bytes_in, put_at};
 
 use crate::shared::Shared;
+use sha2::{Digest, Sha256};
 use std::alloc::{AllocError, Global};
 
 /// Bytes of a file that stand together.
@@ -122,6 +123,55 @@ impl Block {
             self.shared = None;
         } else {
             self.own[start..start + bytes.len()].copy_from_slice(bytes);
+        }
+    }
+
+    /// Keeps the SHA-256 of its bytes, if it is not kept. Copies of it share the bytes then.
+    pub(crate) fn keep(&mut self, alloc: Global, digest: [u8; 32]) -> Result<(), AllocError>
+        requires { digest ≡ sha256 (bytes_in self.old) }
+        ensures { bytes_in self.new ≡ bytes_in self.old }
+    {
+        if self.digest().is_some() {
+            return Ok(());
+        }
+        self.make_own()?;
+        let own = std::mem::replace(&mut self.own, Vec::new(alloc));
+        match Shared::new(alloc, own, digest) {
+            Ok(shared) => {
+                self.shared = Some(shared);
+                Ok(())
+            }
+            Err(own) => {
+                self.own = own;
+                Err(AllocError)
+            }
+        }
+    }
+
+    /// Hashes its bytes, if their SHA-256 is not kept, and keeps it.
+    pub(crate) fn hash(&mut self, alloc: Global) -> Result<(), AllocError>
+        ensures { bytes_in self.new ≡ bytes_in self.old }
+    {
+        if self.digest().is_some() {
+            return Ok(());
+        }
+        let digest = Sha256::digest(self.as_slice());
+        self.keep(alloc, digest)
+    }
+
+    /// A block of the same bytes, which it shares if they keep their digest.
+    pub(crate) fn copy(&self, alloc: Global) -> Result<Block, AllocError>
+        ensures { IfOk result (λ copy. bytes_in copy ≡ bytes_in self.now) }
+    {
+        match &self.shared {
+            Some(shared) => {
+                let shared = shared.share()?;
+                Ok(Block {
+                    own: Vec::new(alloc),
+                    shared: Some(shared),
+                })
+            }
+            None => Block::new(alloc, &self.own),
         }
     }
 }

@@ -1,12 +1,10 @@
 // The bytes of a file.
-ghost use Rattle.std.specs.Prelude.{◌≡◌, ◌+◌, ◌-◌, ◌%◌, ◌≤◌, ◌++◌, length, take, drop, replicate, IfOk, IfSome, OnOk, OnErr};
-ghost use Rattle.sha2.specs.Sha256.{sha256};
+ghost use Rattle.std.specs.Prelude.{◌≡◌, ◌+◌, ◌≤◌, length, replicate, IfOk, OnOk, OnErr};
 ghost use Rattle.bfs_model.specs.Server.FileBytes.{overwritten, resized};
 ghost use Rattle.bfs_model.specs.Server.Limits.{most_file_bytes};
-ghost use Rattle.bfs_blocks.specs.Blocks.{block_at, block_bytes};
 
 use crate::blocks::Block;
-use crate::growing::{BLOCK_BYTES, append, count, fill};
+use crate::growing::{append, count, fill};
 use crate::writing::{resize, write};
 use bfs_types::Memory;
 use std::alloc::Global;
@@ -77,34 +75,5 @@ impl FileBlocks {
         ensures err { OnErr result (self.new ≡ self.old) }
     {
         Ok(write(&mut self.blocks, offset, written)?)
-    }
-
-    /// The block of that number, from 0 on; behind the last one, no bytes.
-    pub fn block(&self, number: usize) -> &[u8]
-        ensures { result.now ≡ block_at self.now number }
-    {
-        match self.blocks.get(number) {
-            Some(block) => block.as_slice(),
-            None => &[],
-        }
-    }
-
-    /// The bytes from an offset on, up to the end of their block.
-    pub fn piece(&self, offset: usize) -> &[u8]
-        ensures { result.now ≡ take (block_bytes - offset % block_bytes) (drop offset self.now) }
-    {
-        let block = self.block(offset / BLOCK_BYTES);
-        let (_, behind) = block.split_at((offset % BLOCK_BYTES).min(block.len()));
-        behind
-    }
-
-    /// The SHA-256 (FIPS 180-4) of the block of that number, from 0 on, or `None` if it keeps none. It takes no memory.
-    pub fn kept_block(&self, number: usize) -> Option<[u8; 32]>
-        ensures { IfSome result (λ digest. digest ≡ sha256 (block_at self.now number)) }
-    {
-        match self.blocks.get(number) {
-            Some(block) => block.digest(),
-            None => None,
-        }
     }
 }

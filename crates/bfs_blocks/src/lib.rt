@@ -2,8 +2,11 @@
 #![tactic(auto)]
 
 mod blocks;
+mod copies;
 mod files;
 mod growing;
+mod keeping;
+mod reading;
 mod shared;
 mod writing;
 
