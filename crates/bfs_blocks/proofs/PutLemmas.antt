@@ -1,7 +1,7 @@
 -- Bytes put over others, and what writing them and new sizes come to.
-use Rattle.std.proofs.Common.{◌≡◌, ℕ, zero, suc, ◌+◌, ◌-◌, ◌*◌, ◌<◌, ◌≤◌, min, nat_eq, Bool, true, false, List, [], ◌∷◌, ◌++◌, length, take, drop, replicate, refl, sym, ap, subst, ◌∙◌, inl, inr, arith}
+use Rattle.std.proofs.Common.{◌≡◌, ℕ, ◌+◌, ◌-◌, ◌<◌, ◌≤◌, min, nat_eq, Bool, true, false, List, [], ◌++◌, length, take, drop, replicate, refl, sym, ap, ◌∙◌, inl, inr, arith}
 use Rattle.std.proofs.lemmas.Bool.{cases_lt, ne_eqb}
-use Rattle.std.proofs.lemmas.List.{append-nil, append_assoc, drop-append-le, drop-drop, drop_all, length-append, length-drop, length-replicate, length-take, replicate-append-replicate, take-append-drop, take-append-le, take-replicate, take-take, take_all}
+use Rattle.std.proofs.lemmas.List.{append-nil, append_assoc, drop-append-le, drop_all, length-append, length-drop, length-replicate, length-take, replicate-append-replicate, take-append-drop, take-append-le, take-replicate, take-take, take_all}
 use Rattle.std.proofs.Math.Seq.{drop-append-add, take-append-add}
 use Rattle.bfs_model.specs.Server.FileBytes.{filled_to, overwritten, resized}
 use Rattle.bfs_blocks.specs.Blocks.{put_at}
@@ -23,8 +23,8 @@ put_behind n start put before bytes is =
     let f : n + start + length put ≡ length before + (start + length put) = omega (arith, is) in
     rw (f, e, take-append-add before bytes start, drop-append-add before bytes (start + length put))
     (append_assoc (before ++ take start bytes) put (drop (start + length put) bytes)
-     ∙ append_assoc before (take start bytes) (put ++ drop (start + length put) bytes)
-     ∙ ap (λ xs. before ++ xs) (sym (append_assoc (take start bytes) put (drop (start + length put) bytes))))
+    ∙ append_assoc before (take start bytes) (put ++ drop (start + length put) bytes)
+    ∙ ap (λ xs. before ++ xs) (sym (append_assoc (take start bytes) put (drop (start + length put) bytes))))
 
 -- over bytes up to their end, and then over others from their start
 put_across : (start n : ℕ) (put bytes rest : List ℕ) → n ≤ length put → start + n ≡ length bytes → put_at start (take n put) bytes ++ put_at 0 (drop n put) rest ≡ put_at start put (bytes ++ rest)
@@ -37,8 +37,8 @@ put_across start n put bytes rest le ends =
     let left : put_at start (take n put) bytes ≡ front ++ take n put = ap (λ xs. front ++ take n put ++ xs) none ∙ append-nil (front ++ take n put) in
     let right : put_at 0 (drop n put) rest ≡ drop n put ++ back = ap (λ k. drop n put ++ drop k rest) e in
     let whole : put_at start put (bytes ++ rest) ≡ front ++ put ++ back =
-        ap (λ xs. xs ++ put ++ drop (start + length put) (bytes ++ rest)) (take-append-le start bytes rest (omega arith))
-        ∙ ap (λ xs. front ++ put ++ xs) (ap (λ k. drop k (bytes ++ rest)) f ∙ drop-append-add bytes rest (length put - n)) in
+    ap (λ xs. xs ++ put ++ drop (start + length put) (bytes ++ rest)) (take-append-le start bytes rest (omega arith))
+    ∙ ap (λ xs. front ++ put ++ xs) (ap (λ k. drop k (bytes ++ rest)) f ∙ drop-append-add bytes rest (length put - n)) in
     ap (λ xs. xs ++ put_at 0 (drop n put) rest) left
     ∙ ap (λ xs. front ++ take n put ++ xs) right
     ∙ sym (append_assoc (front ++ take n put) (drop n put) back)

@@ -22,11 +22,7 @@ pub(crate) fn count(blocks: &[Block]) -> usize
 }
 
 /// Puts bytes behind them. If memory runs out, some of the bytes may stand there.
-pub(crate) fn append(
-    alloc: Global,
-    blocks: &mut Vec<Block>,
-    bytes: &[u8],
-) -> Result<(), AllocError>
+pub(crate) fn append(alloc: Global, blocks: &mut Vec<Block>, bytes: &[u8]) -> Result<(), AllocError>
     requires { AreFilled (pieces_of blocks.old.items) }
     ensures filled { AreFilled (pieces_of blocks.new.items) }
     ensures ok { OnOk result (bytes_of blocks.new.items ≡ bytes_of blocks.old.items ++ bytes.now) }
@@ -41,11 +37,7 @@ pub(crate) fn append(
 }
 
 // as many as fit into the last block, or into a new one
-fn append_some(
-    alloc: Global,
-    blocks: &mut Vec<Block>,
-    bytes: &[u8],
-) -> Result<usize, AllocError>
+fn append_some(alloc: Global, blocks: &mut Vec<Block>, bytes: &[u8]) -> Result<usize, AllocError>
     requires filled { AreFilled (pieces_of blocks.old.items) }
     requires some { 0 < length bytes.now }
     ensures filled { AreFilled (pieces_of blocks.new.items) }
@@ -117,11 +109,7 @@ pub(crate) fn cut(blocks: &mut Vec<Block>, size: usize)
 }
 
 /// Puts that many zeros behind them. If memory runs out, some of the zeros may stand there.
-pub(crate) fn fill(
-    alloc: Global,
-    blocks: &mut Vec<Block>,
-    count: usize,
-) -> Result<(), AllocError>
+pub(crate) fn fill(alloc: Global, blocks: &mut Vec<Block>, count: usize) -> Result<(), AllocError>
     requires { AreFilled (pieces_of blocks.old.items) }
     ensures filled { AreFilled (pieces_of blocks.new.items) }
     ensures ok { OnOk result (bytes_of blocks.new.items ≡ bytes_of blocks.old.items ++ replicate count 0) }

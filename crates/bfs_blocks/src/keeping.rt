@@ -34,11 +34,7 @@ fn keep_all(alloc: Global, blocks: &mut [Block]) -> Result<(), AllocError>
     Ok(())
 }
 
-fn keep_each(
-    alloc: Global,
-    blocks: &mut [Block],
-    digests: &[[u8; 32]],
-) -> Result<(), AllocError>
+fn keep_each(alloc: Global, blocks: &mut [Block], digests: &[[u8; 32]]) -> Result<(), AllocError>
     requires { AreDigestsOf digests.now (pieces_of blocks.old) }
     ensures { pieces_of blocks.new ≡ pieces_of blocks.old }
 {

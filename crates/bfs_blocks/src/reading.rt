@@ -52,12 +52,7 @@ impl FileBlocks {
     }
 
     // if memory runs out, some of the bytes may stand there
-    fn read_pieces(
-        &self,
-        offset: usize,
-        count: usize,
-        out: &mut Vec<u8>,
-    ) -> Result<(), AllocError>
+    fn read_pieces(&self, offset: usize, count: usize, out: &mut Vec<u8>) -> Result<(), AllocError>
         ensures ok { OnOk result (out.new.items ≡ out.old.items ++ take count (drop offset self.now)) }
         ensures err { OnErr result (take (length out.old.items) out.new.items ≡ out.old.items) }
     {

@@ -1,4 +1,4 @@
-use Rattle.std.proofs.Common.{sym, ap, arith}
+use Rattle.std.proofs.Common.{arith}
 use Rattle.bfs_blocks.proofs.BlockLemmas.{last_is}
 use Rattle.bfs_blocks.proofs.growing.count.Goals as goal
 

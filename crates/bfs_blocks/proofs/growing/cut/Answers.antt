@@ -1,5 +1,5 @@
 -- Where the blocks are cut to whole ones, and where the last one that is left is cut too.
-use Rattle.std.proofs.Common.{◌≡◌, ◌+◌, ◌*◌, ◌/◌, ◌%◌, ◌<◌, ◌≤◌, [], ◌∷◌, ◌++◌, length, take, get_or, sym, ap, subst, ◌∙◌, arith}
+use Rattle.std.proofs.Common.{◌≡◌, ◌+◌, ◌*◌, ◌/◌, ◌%◌, ◌≤◌, [], length, take, get_or, sym, ap, subst, ◌∙◌, arith}
 use Rattle.std.specs.List.{concat}
 use Rattle.std.proofs.lemmas.List.{length-map, length-take, take-map}
 use Rattle.bfs_blocks.specs.Blocks.{AreFilled, block_bytes, bytes_in, pieces_of}

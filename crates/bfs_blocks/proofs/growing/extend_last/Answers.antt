@@ -1,4 +1,4 @@
-use Rattle.std.proofs.Common.{◌-◌, length, arith}
+use Rattle.std.proofs.Common.{◌-◌, arith}
 use Rattle.bfs_blocks.proofs.BlockLemmas.{last_extended}
 use Rattle.bfs_blocks.proofs.growing.extend_last.Goals as goal
 

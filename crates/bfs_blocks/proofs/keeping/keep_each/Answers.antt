@@ -1,4 +1,4 @@
-use Rattle.std.proofs.Common.{◌<◌, length, arith}
+use Rattle.std.proofs.Common.{arith}
 use Rattle.bfs_blocks.proofs.BlockLemmas.{one_kept}
 use Rattle.bfs_blocks.proofs.keeping.keep_each.Goals as goal
 

@@ -1,4 +1,4 @@
-use Rattle.std.proofs.Common.{sym, ap, subst}
+use Rattle.std.proofs.Common.{sym, subst}
 use Rattle.bfs_blocks.specs.Blocks.{AreDigestsOf, pieces_of}
 use Rattle.bfs_blocks.proofs.BlockLemmas.{digests_of}
 use Rattle.bfs_blocks.proofs.files.FileBlocks.keep_blocks.Goals as goal

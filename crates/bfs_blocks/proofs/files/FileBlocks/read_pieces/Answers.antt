@@ -1,4 +1,4 @@
-use Rattle.std.proofs.Common.{◌≤◌, ◌-◌, ◌%◌, ◌++◌, length, ap, arith}
+use Rattle.std.proofs.Common.{◌-◌, ◌%◌, length, ap, arith}
 use Rattle.std.proofs.lemmas.List.{length-append}
 use Rattle.bfs_blocks.specs.Blocks.{block_bytes}
 use Rattle.bfs_blocks.proofs.ReadLemmas.{kept_front, read_step}
