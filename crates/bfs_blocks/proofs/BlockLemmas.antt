@@ -7,7 +7,8 @@ use Rattle.std.proofs.lemmas.List.{drop-drop, drop-take, drop_min, get_or-map, g
 use Rattle.std.proofs.lemmas.Option.{get_or_from_slice_get, slice_get-map, slice_get_within}
 use Rattle.sha2.specs.Sha256.{sha256}
 use Rattle.bfs_blocks.specs.declared.blocks.Block.{Block}
-use Rattle.bfs_blocks.specs.Blocks.{AreBlockDigests, AreDigestsOf, AreFilled, block_at, block_bytes, bytes_in, bytes_of, pieces_of}
+use Rattle.bfs_blocks.specs.Blocks.{AreDigestsOf, AreFilled, bytes_in, bytes_of, pieces_of}
+use Rattle.bfs_blocks.specs.Bytes.{AreBlockDigests, block_at, block_bytes}
 use Rattle.bfs_blocks.proofs.PieceLemmas.{block_is, extended, few_in, filled_extended, length_is, length_most, no_block, rest_in}
 
 -- the piece of a block

@@ -2,9 +2,11 @@
 use Rattle.std.proofs.Common.{◌≡◌, ℕ, zero, suc, ◌+◌, ◌*◌, ◌<◌, ◌≤◌, List, [], ◌∷◌, ◌++◌, length, take, drop, get_or, set, refl, sym, ap, subst, ◌∙◌, inl, inr, arith}
 use Rattle.std.specs.List.{concat}
 use Rattle.std.proofs.lemmas.Bool.{cases_lt}
-use Rattle.std.proofs.lemmas.List.{append-nil, append_assoc, drop-drop, drop_at, drop_all, drop_more, length-append, length-set, length-take, take-append-le, take_all, take_at}
+use Rattle.std.proofs.lemmas.List.{same_lists, append-nil, append_assoc, drop-drop, drop_at, drop_all, drop_more, length-append, length-set, length-take, take-append-le, take_all, take_at}
+use Rattle.std.proofs.lemmas.List.FromFn.{get_or-map-range_with_len, length-map-range_with_len}
 use Rattle.std.proofs.Math.Seq.{take-append-add}
-use Rattle.bfs_blocks.specs.Blocks.{AreFilled, block_at, block_bytes}
+use Rattle.bfs_blocks.specs.Blocks.{AreFilled}
+use Rattle.bfs_blocks.specs.Bytes.{block_at, block_bytes, block_count, blocks_in}
 
 pub concat-append : (xs ys : List (List ℕ)) → concat (xs ++ ys) ≡ concat xs ++ concat ys
 concat-append [] ys = refl
@@ -149,6 +151,11 @@ few_in k [] d filled lt = absurd (omega arith)
 few_in zero (p ∷ ps) d filled lt = filled.1
 few_in (suc k) (p ∷ ps) d filled lt = few_in k ps d filled.3 (omega arith)
 
+pub some_in : (k : ℕ) (ps : List (List ℕ)) (d : List ℕ) → AreFilled ps → k < length ps → 0 < length (get_or ps k d)
+some_in k [] d filled lt = absurd (omega arith)
+some_in zero (p ∷ ps) d filled lt = filled.0
+some_in (suc k) (p ∷ ps) d filled lt = some_in k ps d filled.3 (omega arith)
+
 pub full_in : (k : ℕ) (ps : List (List ℕ)) (d : List ℕ) → AreFilled ps → k + 1 < length ps → length (get_or ps k d) ≡ block_bytes
 full_in k [] d filled lt = absurd (omega arith)
 full_in zero (p ∷ ps) d filled lt = filled.2 (omega arith)
@@ -161,3 +168,20 @@ rest_in k r ps d filled lt few within =
       | inl more ↦ omega (arith, full_in k ps d filled more, few)
       | inr last ↦ omega (arith, length_is k ps d filled (omega (arith, lt, last)), within)
     ]
+
+-- All pieces ------------------------------------------------------------------------------------------------------------------
+
+pub count_is : (ps : List (List ℕ)) → AreFilled ps → length ps ≡ block_count (length (concat ps))
+count_is [] filled = refl
+count_is (p ∷ ps) filled =
+    let k : ℕ = length ps in
+    let some = some_in k (p ∷ ps) [] filled (omega arith) in
+    let few = few_in k (p ∷ ps) [] filled (omega arith) in
+    omega (arith, length_is k (p ∷ ps) [] filled (omega arith), some, few)
+
+-- they are the blocks
+pub blocks_are : (ps : List (List ℕ)) → AreFilled ps → ps ≡ blocks_in (concat ps)
+blocks_are ps filled =
+    let n : ℕ = block_count (length (concat ps)) in
+    same_lists ps (blocks_in (concat ps)) (count_is ps filled ∙ sym (length-map-range_with_len (block_at (concat ps)) 0 n))
+      (λ k d lt. sym (block_is k ps d filled lt) ∙ sym (get_or-map-range_with_len (block_at (concat ps)) 0 n k k d (omega (arith, lt, count_is ps filled)) (omega arith)))

@@ -4,7 +4,8 @@ use Rattle.std.specs.List.{concat}
 use Rattle.std.proofs.lemmas.List.{append-nil, drop_all, length-append, length-drop, length-map, length-take, length-take-le, map-append, take-append-drop, take-map, drop-map, take_all, take_rest}
 use borrow.Rule.Slice.PartMut.{put_mid, post_of}
 use Rattle.bfs_blocks.specs.declared.blocks.Block.{Block}
-use Rattle.bfs_blocks.specs.Blocks.{AreFilled, block_bytes, bytes_in, bytes_of, pieces_of, put_at}
+use Rattle.bfs_blocks.specs.Blocks.{AreFilled, bytes_in, bytes_of, pieces_of, put_at}
+use Rattle.bfs_blocks.specs.Bytes.{block_bytes}
 use Rattle.bfs_blocks.proofs.PieceLemmas.{behind, concat-append, cut_whole, filled_join, length_most}
 use Rattle.bfs_blocks.proofs.PutLemmas.{put_behind, put_parts}
 

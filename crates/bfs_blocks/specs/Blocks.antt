@@ -1,25 +1,14 @@
--- The blocks of a file.
+-- The blocks of a file, as the code has them.
 use Rattle.std.specs.Prelude.{◌≡◌, ◌+◌, ◌*◌, ◌<◌, ◌≤◌, ℕ, List, [], ◌∷◌, ◌++◌, length, take, drop, map, unwrap_or, IsSome, vec_len, vec_capacity, ⊤, Some, slice_get}
 use Rattle.std.specs.List.{concat}
 use Rattle.sha2.specs.Sha256.{sha256}
 use Rattle.bfs_model.specs.Server.Limits.{most_file_bytes}
+use Rattle.bfs_blocks.specs.Bytes.{block_bytes}
 use Rattle.bfs_blocks.specs.declared.blocks.Block.{Block}
 
--- Lists of bytes ------------------------------------------------------------------------------------------------------
+-- Pieces of bytes ------------------------------------------------------------------------------------------------------
 
--- the bytes of a block
-abbrev pub block_bytes : ℕ
-block_bytes = 4096
-
--- the bytes of block n, from 0 on; the last one may be shorter
-unfoldable pub block_at : List ℕ → (n : ℕ) → List ℕ
-block_at bytes n = take block_bytes (drop (block_bytes * n) bytes)
-
--- each digest is that of the block of its place
-abbrev pub AreBlockDigests : List (List ℕ) → (bytes : List ℕ) → Type 0
-AreBlockDigests digests bytes = (k : ℕ) (digest : List ℕ) → slice_get digests k ≡ Some digest → digest ≡ sha256 (block_at bytes k)
-
--- and of the piece of its place
+-- each digest is that of the piece of its place
 abbrev pub AreDigestsOf : List (List ℕ) → (pieces : List (List ℕ)) → Type 0
 AreDigestsOf digests pieces = (k : ℕ) (digest piece : List ℕ) → slice_get digests k ≡ Some digest → slice_get pieces k ≡ Some piece → digest ≡ sha256 piece
 

@@ -1,7 +1,8 @@
 // Blocks that get more bytes behind, or fewer.
 ghost use Rattle.std.specs.Prelude.{◌≡◌, ◌+◌, ◌*◌, ◌<◌, ◌≤◌, ◌++◌, length, take, replicate, IfOk, OnOk, OnErr};
 ghost use Rattle.bfs_model.specs.Server.Limits.{most_file_bytes};
-ghost use Rattle.bfs_blocks.specs.Blocks.{AreFilled, block_bytes, bytes_in, bytes_of, pieces_of};
+ghost use Rattle.bfs_blocks.specs.Blocks.{AreFilled, bytes_in, bytes_of, pieces_of};
+ghost use Rattle.bfs_blocks.specs.Bytes.{block_bytes};
 
 use crate::blocks::Block;
 use std::alloc::{AllocError, Global};

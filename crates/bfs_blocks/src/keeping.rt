@@ -1,6 +1,7 @@
 // The digests of blocks that are kept, so that what didn't change isn't hashed again.
 ghost use Rattle.std.specs.Prelude.{◌≡◌};
-ghost use Rattle.bfs_blocks.specs.Blocks.{AreBlockDigests, AreDigestsOf, pieces_of};
+ghost use Rattle.bfs_blocks.specs.Blocks.{AreDigestsOf, pieces_of};
+ghost use Rattle.bfs_blocks.specs.Bytes.{AreBlockDigests};
 
 use crate::blocks::Block;
 use crate::files::FileBlocks;

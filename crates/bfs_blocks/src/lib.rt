@@ -6,9 +6,11 @@ mod copies;
 mod files;
 mod growing;
 mod keeping;
+mod pieces;
 mod reading;
 mod shared;
 mod writing;
 
 pub use files::FileBlocks;
 pub use growing::BLOCK_BYTES;
+pub use pieces::Pieces;

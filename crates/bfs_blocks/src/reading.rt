@@ -1,10 +1,12 @@
 // The bytes of a file, read block by block.
 ghost use Rattle.std.specs.Prelude.{◌≡◌, ◌-◌, ◌%◌, ◌++◌, length, take, drop, IfSome, OnOk, OnErr};
+ghost use Rattle.std.specs.List.{concat};
 ghost use Rattle.sha2.specs.Sha256.{sha256};
-ghost use Rattle.bfs_blocks.specs.Blocks.{block_at, block_bytes};
+ghost use Rattle.bfs_blocks.specs.Bytes.{block_at, block_bytes, blocks_in};
 
 use crate::files::FileBlocks;
 use crate::growing::BLOCK_BYTES;
+use crate::pieces::Pieces;
 use bfs_types::Memory;
 use std::alloc::AllocError;
 
@@ -16,6 +18,16 @@ impl FileBlocks {
         match self.blocks.get(number) {
             Some(block) => block.as_slice(),
             None => &[],
+        }
+    }
+
+    /// The blocks, in order.
+    pub fn blocks(&self) -> Pieces<'_>
+        ensures blocks { result ≡ blocks_in self.now }
+        ensures whole { concat result ≡ self.now }
+    {
+        Pieces {
+            left: self.blocks.iter(),
         }
     }
 

@@ -2,7 +2,8 @@
 ghost use Rattle.std.specs.Prelude.{◌≡◌, ◌+◌, ◌<◌, ◌≤◌, length, take, OnOk, OnErr};
 ghost use Rattle.bfs_model.specs.Server.FileBytes.{filled_to, overwritten, resized};
 ghost use Rattle.bfs_model.specs.Server.Limits.{most_file_bytes};
-ghost use Rattle.bfs_blocks.specs.Blocks.{AreFilled, block_bytes, bytes_of, pieces_of, put_at};
+ghost use Rattle.bfs_blocks.specs.Blocks.{AreFilled, bytes_of, pieces_of, put_at};
+ghost use Rattle.bfs_blocks.specs.Bytes.{block_bytes};
 
 use crate::blocks::Block;
 use crate::growing::{BLOCK_BYTES, append, count, cut, fill};

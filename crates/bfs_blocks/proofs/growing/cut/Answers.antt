@@ -2,7 +2,8 @@
 use Rattle.std.proofs.Common.{◌≡◌, ◌+◌, ◌*◌, ◌/◌, ◌%◌, ◌≤◌, [], length, take, get_or, sym, ap, subst, ◌∙◌, arith}
 use Rattle.std.specs.List.{concat}
 use Rattle.std.proofs.lemmas.List.{length-map, length-take, take-map}
-use Rattle.bfs_blocks.specs.Blocks.{AreFilled, block_bytes, bytes_in, pieces_of}
+use Rattle.bfs_blocks.specs.Blocks.{AreFilled, bytes_in, pieces_of}
+use Rattle.bfs_blocks.specs.Bytes.{block_bytes}
 use Rattle.bfs_blocks.proofs.BlockLemmas.{cut_last, read_piece, within_blocks}
 use Rattle.bfs_blocks.proofs.PieceLemmas.{cut_whole, cut_within, filled_cut, filled_take}
 use Rattle.bfs_blocks.proofs.growing.cut.Goals as goal

@@ -1,5 +1,5 @@
 use Rattle.std.proofs.Common.{◌<◌, ◌≤◌, length, get_or, sym, ap, subst, ◌∙◌}
-use Rattle.bfs_blocks.specs.Blocks.{block_at}
+use Rattle.bfs_blocks.specs.Bytes.{block_at}
 use Rattle.bfs_blocks.proofs.BlockLemmas.{block_read, none_read}
 use Rattle.bfs_blocks.proofs.files.FileBlocks.block.Goals as goal
 

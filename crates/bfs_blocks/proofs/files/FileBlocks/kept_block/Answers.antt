@@ -1,7 +1,7 @@
 use Rattle.std.proofs.Common.{◌<◌, length, get_or, sym, ap, subst, ◌∙◌}
 use Rattle.std.proofs.lemmas.Option.{IfSome_then}
 use Rattle.sha2.specs.Sha256.{sha256}
-use Rattle.bfs_blocks.specs.Blocks.{block_at}
+use Rattle.bfs_blocks.specs.Bytes.{block_at}
 use Rattle.bfs_blocks.proofs.BlockLemmas.{block_read}
 use Rattle.bfs_blocks.proofs.files.FileBlocks.kept_block.Goals as goal
 

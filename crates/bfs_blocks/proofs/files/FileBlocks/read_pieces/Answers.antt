@@ -1,6 +1,6 @@
 use Rattle.std.proofs.Common.{◌-◌, ◌%◌, length, ap, arith}
 use Rattle.std.proofs.lemmas.List.{length-append}
-use Rattle.bfs_blocks.specs.Blocks.{block_bytes}
+use Rattle.bfs_blocks.specs.Bytes.{block_bytes}
 use Rattle.bfs_blocks.proofs.ReadLemmas.{kept_front, read_step}
 use Rattle.bfs_blocks.proofs.files.FileBlocks.read_pieces.Goals as goal
 
