@@ -13,14 +13,22 @@ struct Draws {
 }
 
 impl Draws {
-    // below a bound; 0 where the bound is 0
-    fn below(&mut self, bound: u32) -> usize {
+    fn next(&mut self) -> u64 {
         self.last = self
             .last
             .wrapping_mul(6_364_136_223_846_793_005)
             .wrapping_add(1_442_695_040_888_963_407);
-        let drawn = (self.last >> 40) as u32;
+        self.last
+    }
+
+    // below a bound; 0 where the bound is 0
+    fn below(&mut self, bound: u32) -> usize {
+        let drawn = (self.next() >> 40) as u32;
         (drawn % bound.max(1)) as usize
+    }
+
+    fn byte(&mut self) -> u8 {
+        self.next().to_be_bytes()[0]
     }
 }
 
@@ -61,10 +69,12 @@ impl Pair {
 // byte by byte
 fn write_plain(bytes: &mut Vec<u8>, offset: usize, written: &[u8]) -> Result<(), Memory> {
     let mut place = offset;
-    for byte in written {
-        while bytes.len() < place {
+    if !written.is_empty() {
+        for _ in bytes.len()..offset {
             bytes.push(0)?;
         }
+    }
+    for byte in written {
         if place < bytes.len() {
             bytes[place] = *byte;
         } else {
@@ -89,7 +99,7 @@ fn length_drawn(draws: &mut Draws) -> usize {
 fn offset_drawn(draws: &mut Draws, end: usize) -> usize {
     match draws.below(3) {
         0 => draws.below(30_000),
-        1 => draws.below(8) * 4_096,
+        1 => draws.below(8).saturating_mul(4_096),
         _ => end,
     }
 }
@@ -100,7 +110,7 @@ fn change(alloc: Global, draws: &mut Draws, pair: &mut Pair) -> Result<(), Memor
         1 => pair.file.keep(alloc),
         _ => {
             let offset = offset_drawn(draws, pair.bytes.len());
-            let letter = draws.below(256) as u8;
+            let letter = draws.byte();
             let mut written = Vec::new(alloc);
             written.resize(length_drawn(draws), letter)?;
             pair.write(offset, &written)
