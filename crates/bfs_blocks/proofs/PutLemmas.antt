@@ -129,21 +129,11 @@ cut_again n old filled grown is first second le = sym (take-take n (length fille
 -- Zeros ------------------------------------------------------------------------------------------------------------------------
 
 -- some of the zeros that are to come
-pub zeros_step : (left n all : ℕ) (bytes now first zeros target : List ℕ) → zeros ≡ replicate all 0 → first ≡ take n zeros → n ≡ min left all → now ≡ bytes ++ first → bytes ++ replicate left 0 ≡ target → now ++ replicate (left - length first) 0 ≡ target
-zeros_step left n all bytes now first zeros target are is least is_now was =
+pub zeros_step : (left n : ℕ) (bytes now target : List ℕ) → n ≤ left → now ≡ bytes ++ replicate n 0 → bytes ++ replicate left 0 ≡ target → now ++ replicate (left - n) 0 ≡ target
+zeros_step left n bytes now target le is was =
     let zero : ℕ = 0 in
-    let some : first ≡ replicate n zero = is ∙ ap (take n) are ∙ take-replicate n all zero (omega (arith, least)) in
-    let long : left - length first ≡ left - n = ap (λ xs. left - length xs) some ∙ ap (λ k. left - k) (length-replicate n zero) in
-    let sum : n + (left - n) ≡ left = omega (arith, least) in
-    ap (λ xs. xs ++ replicate (left - length first) zero) (is_now ∙ ap (λ xs. bytes ++ xs) some)
-    ∙ ap (λ k. bytes ++ replicate n zero ++ replicate k zero) long
+    let sum : n + (left - n) ≡ left = omega (arith, le) in
+    ap (λ xs. xs ++ replicate (left - n) zero) is
     ∙ append_assoc bytes (replicate n zero) (replicate (left - n) zero)
     ∙ ap (λ xs. bytes ++ xs) (replicate-append-replicate n (left - n) zero ∙ ap (λ k. replicate k zero) sum)
     ∙ was
-
--- an empty vector that grew
-pub zeros_are : (n before : ℕ) (was now : List ℕ) → was ≡ [] → before ≡ 0 → now ≡ take n was ++ replicate (n - before) 0 → now ≡ replicate n 0
-zeros_are n before was now none empty is =
-    let zero : ℕ = 0 in
-    let e : n - before ≡ n = omega (arith, empty) in
-    is ∙ ap (λ xs. xs ++ replicate (n - before) zero) (ap (take n) none ∙ take_all n [] (omega arith)) ∙ ap (λ k. replicate k zero) e

@@ -24,6 +24,15 @@ impl Block {
         Ok(Block { own, shared: None })
     }
 
+    /// That many zeros.
+    pub(crate) fn zeros(alloc: Global, count: usize) -> Result<Block, AllocError>
+        ensures { IfOk result (λ block. bytes_in block ≡ replicate count 0) }
+    {
+        let mut own = Vec::new(alloc);
+        own.resize(count, 0)?;
+        Ok(Block { own, shared: None })
+    }
+
     /// How many bytes there are.
     pub(crate) fn len(&self) -> usize
         ensures { result ≡ length (bytes_in self.now) }

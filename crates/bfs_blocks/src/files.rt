@@ -4,7 +4,8 @@ ghost use Rattle.bfs_model.specs.Server.FileBytes.{overwritten, resized};
 ghost use Rattle.bfs_model.specs.Server.Limits.{most_file_bytes};
 
 use crate::blocks::Block;
-use crate::growing::{append, count, fill};
+use crate::filling::fill;
+use crate::growing::{append, count};
 use crate::writing::{resize, write};
 use bfs_types::Memory;
 use std::alloc::Global;

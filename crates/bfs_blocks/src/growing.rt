@@ -49,7 +49,7 @@ fn append_some(alloc: Global, blocks: &mut Vec<Block>, bytes: &[u8]) -> Result<u
     let room = room_in_last(blocks);
     if room == 0 {
         let (first, _) = bytes.split_at(bytes.len().min(BLOCK_BYTES));
-        push(alloc, blocks, first)?;
+        push(blocks, Block::new(alloc, first)?)?;
         Ok(first.len())
     } else {
         let (first, _) = bytes.split_at(bytes.len().min(room));
@@ -58,7 +58,8 @@ fn append_some(alloc: Global, blocks: &mut Vec<Block>, bytes: &[u8]) -> Result<u
     }
 }
 
-fn room_in_last(blocks: &[Block]) -> usize
+/// How many bytes the last block has room for.
+pub(crate) fn room_in_last(blocks: &[Block]) -> usize
     requires { AreFilled (pieces_of blocks.now) }
     ensures { length (bytes_of blocks.now) + result ≡ block_bytes * length blocks.now }
 {
@@ -68,19 +69,21 @@ fn room_in_last(blocks: &[Block]) -> usize
     }
 }
 
-fn push(alloc: Global, blocks: &mut Vec<Block>, bytes: &[u8]) -> Result<(), AllocError>
+/// Puts a block behind them, where the last one is full.
+pub(crate) fn push(blocks: &mut Vec<Block>, block: Block) -> Result<(), AllocError>
     requires filled { AreFilled (pieces_of blocks.old.items) }
     requires full { length (bytes_of blocks.old.items) ≡ block_bytes * length blocks.old.items }
-    requires piece { (0 < length bytes.now) × (length bytes.now ≤ block_bytes) }
+    requires piece { (0 < length (bytes_in block)) × (length (bytes_in block) ≤ block_bytes) }
     ensures filled { AreFilled (pieces_of blocks.new.items) }
-    ensures ok { OnOk result (bytes_of blocks.new.items ≡ bytes_of blocks.old.items ++ bytes.now) }
+    ensures ok { OnOk result (bytes_of blocks.new.items ≡ bytes_of blocks.old.items ++ bytes_in block) }
     ensures err { OnErr result (bytes_of blocks.new.items ≡ bytes_of blocks.old.items) }
 {
-    blocks.push(Block::new(alloc, bytes)?)?;
+    blocks.push(block)?;
     Ok(())
 }
 
-fn extend_last(blocks: &mut Vec<Block>, bytes: &[u8]) -> Result<(), AllocError>
+/// Puts bytes behind those of the last block, which has room for them.
+pub(crate) fn extend_last(blocks: &mut Vec<Block>, bytes: &[u8]) -> Result<(), AllocError>
     requires filled { AreFilled (pieces_of blocks.old.items) }
     requires some { 0 < length blocks.old.items }
     requires room { length (bytes_of blocks.old.items) + length bytes.now ≤ block_bytes * length blocks.old.items }
@@ -107,22 +110,4 @@ pub(crate) fn cut(blocks: &mut Vec<Block>, size: usize)
         blocks.truncate(whole + 1);
         blocks[whole].cut(rest);
     }
-}
-
-/// Puts that many zeros behind them. If memory runs out, some of the zeros may stand there.
-pub(crate) fn fill(alloc: Global, blocks: &mut Vec<Block>, count: usize) -> Result<(), AllocError>
-    requires { AreFilled (pieces_of blocks.old.items) }
-    ensures filled { AreFilled (pieces_of blocks.new.items) }
-    ensures ok { OnOk result (bytes_of blocks.new.items ≡ bytes_of blocks.old.items ++ replicate count 0) }
-    ensures err { OnErr result (take (length (bytes_of blocks.old.items)) (bytes_of blocks.new.items) ≡ bytes_of blocks.old.items) }
-{
-    let mut zeros = Vec::new(alloc);
-    zeros.resize(count.min(BLOCK_BYTES), 0)?;
-    let mut left = count;
-    while left > 0 {
-        let (first, _) = zeros.split_at(left.min(zeros.len()));
-        append(alloc, blocks, first)?;
-        left -= first.len();
-    }
-    Ok(())
 }

@@ -4,6 +4,7 @@
 mod blocks;
 mod copies;
 mod files;
+mod filling;
 mod growing;
 mod keeping;
 mod pieces;

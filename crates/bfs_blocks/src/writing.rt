@@ -6,7 +6,8 @@ ghost use Rattle.bfs_blocks.specs.Blocks.{AreFilled, bytes_of, pieces_of, put_at
 ghost use Rattle.bfs_blocks.specs.Bytes.{block_bytes};
 
 use crate::blocks::Block;
-use crate::growing::{BLOCK_BYTES, append, count, cut, fill};
+use crate::filling::fill;
+use crate::growing::{BLOCK_BYTES, append, count, cut};
 use std::alloc::AllocError;
 
 /// As `FileBlocks::write`.

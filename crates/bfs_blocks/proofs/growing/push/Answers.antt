@@ -1,4 +1,4 @@
-use Rattle.std.proofs.Common.{sym, ap, subst, ◌∙◌, arith}
+use Rattle.std.proofs.Common.{sym, ap, subst, ◌∙◌, arith, refl}
 use Rattle.std.proofs.lemmas.List.{length-map}
 use Rattle.std.specs.List.{concat}
 use Rattle.bfs_blocks.specs.Blocks.{AreFilled, bytes_in, pieces_of}
@@ -9,11 +9,11 @@ use Rattle.bfs_blocks.proofs.growing.push.Goals as goal
 pub returns-clause-filled : goal.returns-clause-filled
 returns-clause-filled c =
     let old = c.args.blocks.now.items in
-    let now = pushed old c.in_ok-new.field-0 c.push.new.self.items c.args.bytes.now c.in_ok-push.ensures.items c.in_ok-new.ensures in
-    subst AreFilled (sym now) (filled_push (pieces_of old) c.args.bytes.now c.requires.filled (omega (arith, c.requires.full, length-map old bytes_in)) c.requires.piece.0 c.requires.piece.1)
+    let now = pushed old c.args.block c.push.new.self.items (bytes_in c.args.block) c.in_ok-push.ensures.items refl in
+    subst AreFilled (sym now) (filled_push (pieces_of old) (bytes_in c.args.block) c.requires.filled (omega (arith, c.requires.full, length-map old bytes_in)) c.requires.piece.0 c.requires.piece.1)
 
 pub returns-clause-ok : goal.returns-clause-ok
 returns-clause-ok c =
     let old = c.args.blocks.now.items in
-    let now = pushed old c.in_ok-new.field-0 c.push.new.self.items c.args.bytes.now c.in_ok-push.ensures.items c.in_ok-new.ensures in
-    ap concat now ∙ concat-push (pieces_of old) c.args.bytes.now
+    let now = pushed old c.args.block c.push.new.self.items (bytes_in c.args.block) c.in_ok-push.ensures.items refl in
+    ap concat now ∙ concat-push (pieces_of old) (bytes_in c.args.block)

@@ -1,6 +1,6 @@
 use Rattle.std.proofs.Common.{◌≡◌, ◌≤◌, ◌++◌, length, replicate}
 use Rattle.bfs_blocks.specs.Blocks.{AreFilled, bytes_of, pieces_of}
-use Rattle.bfs_blocks.proofs.growing.fill.Given as goal
+use Rattle.bfs_blocks.proofs.filling.fill.Given as goal
 
 abbrev pub invariant-loop-left : goal.invariant-loop-left
 invariant-loop-left l = record {
