@@ -1,4 +1,4 @@
--- Bytes put over others, and what writing them and new sizes come to.
+-- Bytes put over others, and zeros behind them.
 use Rattle.std.proofs.Common.{◌≡◌, ℕ, ◌+◌, ◌-◌, ◌<◌, ◌≤◌, min, nat_eq, Bool, true, false, List, [], ◌++◌, length, take, drop, replicate, refl, sym, ap, ◌∙◌, inl, inr, arith}
 use Rattle.std.proofs.lemmas.Bool.{cases_lt, ne_eqb}
 use Rattle.std.proofs.lemmas.List.{append-nil, append_assoc, drop-append-le, drop_all, length-append, length-drop, length-replicate, length-take, replicate-append-replicate, take-append-drop, take-append-le, take-replicate, take-take, take_all}
@@ -9,6 +9,10 @@ use Rattle.bfs_blocks.specs.Blocks.{put_at}
 -- nothing put over them
 pub put_none : (start : ℕ) (bytes : List ℕ) → put_at start [] bytes ≡ bytes
 put_none start bytes = rw (append-nil (take start bytes)) (let e : start + 0 ≡ start = omega arith in ap (λ n. take start bytes ++ drop n bytes) e ∙ take-append-drop start bytes)
+
+pub length_put : (start : ℕ) (put bytes : List ℕ) → start + length put ≤ length bytes → length (put_at start put bytes) ≡ length bytes
+length_put start put bytes le =
+    omega (arith, length-append (take start bytes ++ put) (drop (start + length put) bytes), length-append (take start bytes) put, length-take start bytes, length-drop (start + length put) bytes)
 
 -- over bytes before others
 pub put_first : (start : ℕ) (put bytes rest : List ℕ) → start + length put ≤ length bytes → put_at start put (bytes ++ rest) ≡ put_at start put bytes ++ rest
@@ -56,75 +60,6 @@ put_parts start n put bytes rest is within =
           ∙ ap (λ xs. put_at start put bytes ++ xs) (put_none 0 rest)
           ∙ sym (put_first start put bytes rest (omega (arith, is)))
     ]
-
--- Writes ----------------------------------------------------------------------------------------------------------------------
-
-length_filled : (offset : ℕ) (old : List ℕ) → length (filled_to offset old) ≡ length old + (offset - length old)
-length_filled offset old = let zero : ℕ = 0 in omega (arith, length-append old (replicate (offset - length old) zero), length-replicate (offset - length old) zero)
-
--- within the bytes that there are
-put_all : (offset : ℕ) (written old : List ℕ) → offset + length written ≤ length old → put_at offset written (filled_to offset old) ≡ take offset (filled_to offset old) ++ written ++ drop (offset + length written) old
-put_all offset written old le =
-    let none : filled_to offset old ≡ old = let e : offset - length old ≡ 0 = omega arith in rw e (append-nil old) in
-    ap (λ xs. take offset (filled_to offset old) ++ written ++ drop (offset + length written) xs) none
-
--- past their end
-put_past : (offset n : ℕ) (written old : List ℕ) → n ≡ length old - offset → n ≤ length written
-    → put_at offset (take n written) (filled_to offset old ++ drop n written) ≡ take offset (filled_to offset old) ++ written ++ drop (offset + length written) old
-put_past offset n written old is le =
-    let filled : List ℕ = filled_to offset old in
-    let long = length_filled offset old in
-    let taken = length-take n written in
-    let none : drop (offset + length (take n written)) filled ≡ [] = drop_all (offset + length (take n written)) filled (omega (arith, long, taken, is)) in
-    let gone : drop (offset + length written) old ≡ [] = drop_all (offset + length written) old (omega (arith, is)) in
-    put_first offset (take n written) filled (drop n written) (omega (arith, long, taken, is))
-    ∙ ap (λ xs. take offset filled ++ take n written ++ xs ++ drop n written) none
-    ∙ ap (λ xs. xs ++ drop n written) (append-nil (take offset filled ++ take n written))
-    ∙ append_assoc (take offset filled) (take n written) (drop n written)
-    ∙ ap (λ xs. take offset filled ++ xs) (take-append-drop n written)
-    ∙ sym (append-nil (take offset filled ++ written))
-    ∙ sym (ap (λ xs. take offset filled ++ written ++ xs) gone)
-
-put_written_by : (offset n : ℕ) (old written : List ℕ) → n ≡ min (length old - offset) (length written) → 0 < length written
-    → put_at offset (take n written) (filled_to offset old ++ drop n written) ≡ take offset (filled_to offset old) ++ written ++ drop (offset + length written) old
-put_written_by offset n old written is some =
-    elim (cases_lt n (length written)) [
-      | inl lt ↦ put_past offset n written old (omega (arith, is)) (omega arith)
-      | inr le ↦
-          ap (λ xs. put_at offset xs (filled_to offset old ++ drop n written)) (take_all n written le)
-          ∙ ap (λ xs. put_at offset written (filled_to offset old ++ xs)) (drop_all n written le)
-          ∙ ap (put_at offset written) (append-nil (filled_to offset old))
-          ∙ put_all offset written old (omega (arith, is))
-    ]
-
--- what stands there once the file was filled up, grew by what goes behind it, and was written over by the rest
-pub put_written : (offset gap n : ℕ) (old written over behind filled grown : List ℕ) → gap ≡ offset - length old → n ≡ min (length old - offset) (length written) → over ≡ take n written → behind ≡ drop n written
-    → filled ≡ old ++ replicate gap 0 → grown ≡ filled ++ behind → 0 < length written → put_at offset over grown ≡ overwritten offset written old
-put_written offset gap n old written over behind filled grown is_gap is is_over is_behind is_filled is_grown some =
-    let written_some : nat_eq (length written) 0 ≡ false = ne_eqb (length written) 0 (λ e. omega (arith, e, some)) in
-    rw (is_grown, is_filled, is_gap, is_over, is_behind, written_some) (put_written_by offset n old written is some)
-
-length_by : (offset most : ℕ) (written bytes : List ℕ) → length bytes ≤ most → offset + length written ≤ most → (none : Bool) → nat_eq (length written) 0 ≡ none → length (overwritten offset written bytes) ≤ most
-length_by offset most written bytes few end true is = rw is few
-length_by offset most written bytes few end false is =
-    let front : List ℕ = take offset (filled_to offset bytes) in
-    rw is (omega (arith, length_filled offset bytes, length-take offset (filled_to offset bytes), length-append front written, length-append (front ++ written) (drop (offset + length written) bytes), length-drop (offset + length written) bytes))
-
-pub length_written : (offset most : ℕ) (written bytes : List ℕ) → length bytes ≤ most → offset + length written ≤ most → length (overwritten offset written bytes) ≤ most
-length_written offset most written bytes few end = length_by offset most written bytes few end (nat_eq (length written) 0) refl
-
--- New sizes -------------------------------------------------------------------------------------------------------------------
-
-pub cut_is : (size : ℕ) (bytes : List ℕ) → size ≤ length bytes → take size bytes ≡ resized size bytes
-cut_is size bytes le = sym (take-append-le size bytes (replicate (size - length bytes) 0) le)
-
-pub grown_is : (size gap : ℕ) (bytes : List ℕ) → length bytes ≤ size → gap ≡ size - length bytes → bytes ++ replicate gap 0 ≡ resized size bytes
-grown_is size gap bytes le is =
-    rw is (let zero : ℕ = 0 in sym (take_all size (filled_to size bytes) (omega (arith, length-append bytes (replicate (size - length bytes) zero), length-replicate (size - length bytes) zero))))
-
--- what is cut off again where memory ran out
-pub cut_again : (n : ℕ) (old filled grown : List ℕ) → length old ≡ n → take n filled ≡ old → take (length filled) grown ≡ filled → n ≤ length filled → take n grown ≡ old
-cut_again n old filled grown is first second le = sym (take-take n (length filled) grown le) ∙ ap (take n) second ∙ first
 
 -- Zeros ------------------------------------------------------------------------------------------------------------------------
 

@@ -19,6 +19,36 @@ start_within [] was start n filled some is lt within = absurd (omega arith)
 start_within (b ∷ []) was start n filled some is lt within = rw is (omega (arith, within, length-append (bytes_in b) []))
 start_within (b ∷ d ∷ bs) was start n filled some is lt within = let full : length (bytes_in b) ≡ block_bytes = filled.2 (omega arith) in rw is (omega (arith, full))
 
+-- what stands first, once the blocks behind it were written
+pub first_of : (blocks rest : List Block) (ready d : Block) → 0 < length blocks → get_or (put_mid 1 (length (set blocks 0 ready) - 1) (set blocks 0 ready) rest) 0 d ≡ ready
+first_of [] rest ready d some = absurd (omega arith)
+first_of (b ∷ bs) rest ready d some = refl
+
+-- as many bytes as go over the first block
+pub record GoesFirst (start n : ℕ) (was : Block) : Type 0 where
+  pub start_within : start ≤ length (bytes_in was)
+  pub within : start + n ≤ length (bytes_in was)
+
+pub goes_first : (blocks : List Block) (bytes : List ℕ) (was : Block) (start n : ℕ) → AreFilled (pieces_of blocks) → 0 < length blocks → was ≡ get_or blocks 0 was → start < block_bytes → start + length bytes ≤ length (bytes_of blocks)
+    → n ≡ min (length bytes) (length (bytes_in was) - start) → GoesFirst start n was
+goes_first blocks bytes was start n filled some is lt within least =
+    let starts = start_within blocks was start (length bytes) filled some is lt within in
+    record { start_within = starts; within = omega (arith, starts, least) }
+
+pub filled_first : (blocks rest : List Block) (was ready block : Block) → 0 < length blocks → was ≡ get_or blocks 0 was → length (bytes_in block) ≡ length (bytes_in was) → AreFilled (pieces_of blocks) → AreFilled (pieces_of rest)
+    → length rest ≡ length (take (length (set blocks 0 ready) - 1) (drop 1 (set blocks 0 ready))) → AreFilled (pieces_of (set (put_mid 1 (length (set blocks 0 ready) - 1) (set blocks 0 ready) rest) 0 block))
+filled_first [] rest was ready block some is same filled others count = absurd (omega arith)
+filled_first (b ∷ bs) rest was ready block some is same filled others count =
+    let size : length (bytes_in block) ≡ length (bytes_in b) = same ∙ ap (λ x. length (bytes_in x)) is in
+    let gone : post_of 1 (length (ready ∷ bs) - 1) (ready ∷ bs) ≡ [] = drop_all (length (ready ∷ bs) - 1) bs (omega arith) in
+    let long : length rest ≡ length bs = count ∙ ap length (take_all (length (ready ∷ bs) - 1) bs (omega arith)) in
+    let many : length (pieces_of rest) ≡ length (pieces_of bs) = length-map rest bytes_in ∙ long ∙ sym (length-map bs bytes_in) in
+    let some_here = filled.0 in
+    let few_here = filled.1 in
+    subst (λ xs. AreFilled (bytes_in block ∷ pieces_of (rest ++ xs))) (sym gone)
+      (subst (λ xs. AreFilled (bytes_in block ∷ pieces_of xs)) (sym (append-nil rest))
+        (omega (arith, size, some_here), omega (arith, size, few_here), (λ more. size ∙ filled.2 (omega (arith, more, many))), others))
+
 -- the first block, and those behind it
 pub put_in_first : (blocks rest : List Block) (was ready before block : Block) (start n : ℕ) (bytes : List ℕ) → 0 < length blocks → was ≡ get_or blocks 0 was → bytes_in ready ≡ bytes_in was
     → before ≡ get_or (put_mid 1 (length (set blocks 0 ready) - 1) (set blocks 0 ready) rest) 0 before → n ≡ min (length bytes) (length (bytes_in was) - start) → start ≤ length (bytes_in was)
