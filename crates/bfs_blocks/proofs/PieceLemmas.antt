@@ -184,4 +184,4 @@ pub blocks_are : (ps : List (List ℕ)) → AreFilled ps → ps ≡ blocks_in (c
 blocks_are ps filled =
     let n : ℕ = block_count (length (concat ps)) in
     same_lists ps (blocks_in (concat ps)) (count_is ps filled ∙ sym (length-map-range_with_len (block_at (concat ps)) 0 n))
-      (λ k d lt. sym (block_is k ps d filled lt) ∙ sym (get_or-map-range_with_len (block_at (concat ps)) 0 n k k d (omega (arith, lt, count_is ps filled)) (omega arith)))
+    (λ k d lt. sym (block_is k ps d filled lt) ∙ sym (get_or-map-range_with_len (block_at (concat ps)) 0 n k k d (omega (arith, lt, count_is ps filled)) (omega arith)))

@@ -1,9 +1,8 @@
 -- Bytes put over others, and zeros behind them.
-use Rattle.std.proofs.Common.{◌≡◌, ℕ, ◌+◌, ◌-◌, ◌<◌, ◌≤◌, min, nat_eq, Bool, true, false, List, [], ◌++◌, length, take, drop, replicate, refl, sym, ap, ◌∙◌, inl, inr, arith}
-use Rattle.std.proofs.lemmas.Bool.{cases_lt, ne_eqb}
-use Rattle.std.proofs.lemmas.List.{append-nil, append_assoc, drop-append-le, drop_all, length-append, length-drop, length-replicate, length-take, replicate-append-replicate, take-append-drop, take-append-le, take-replicate, take-take, take_all}
+use Rattle.std.proofs.Common.{◌≡◌, ℕ, ◌+◌, ◌-◌, ◌≤◌, min, List, [], ◌++◌, length, take, drop, replicate, sym, ap, ◌∙◌, inl, inr, arith}
+use Rattle.std.proofs.lemmas.Bool.{cases_lt}
+use Rattle.std.proofs.lemmas.List.{append-nil, append_assoc, drop-append-le, drop_all, length-append, length-drop, length-take, replicate-append-replicate, take-append-drop, take-append-le, take_all}
 use Rattle.std.proofs.Math.Seq.{drop-append-add, take-append-add}
-use Rattle.bfs_model.specs.Server.FileBytes.{filled_to, overwritten, resized}
 use Rattle.bfs_blocks.specs.Blocks.{put_at}
 
 -- nothing put over them

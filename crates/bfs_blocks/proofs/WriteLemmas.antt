@@ -1,7 +1,7 @@
 -- Bytes put over those of blocks: over some of one block, and then over those of the blocks behind it.
-use Rattle.std.proofs.Common.{◌≡◌, ℕ, ◌+◌, ◌-◌, ◌*◌, ◌/◌, ◌%◌, ◌<◌, ◌≤◌, min, nat_eq, false, List, [], ◌∷◌, ◌++◌, length, take, drop, get_or, set, refl, sym, ap, subst, ◌∙◌, arith}
+use Rattle.std.proofs.Common.{◌≡◌, ℕ, ◌+◌, ◌-◌, ◌*◌, ◌/◌, ◌%◌, ◌<◌, ◌≤◌, min, nat_eq, Bool, false, List, [], ◌∷◌, ◌++◌, length, take, drop, get_or, set, refl, sym, ap, subst, ◌∙◌, arith}
 use Rattle.std.specs.List.{concat}
-use Rattle.std.proofs.lemmas.List.{append-nil, drop_all, length-append, length-drop, length-map, length-take, length-take-le, map-append, take-append-drop, take-map, drop-map, take_all, take_rest}
+use Rattle.std.proofs.lemmas.List.{get_or_default, append-nil, drop_all, length-append, length-drop, length-map, length-take, length-take-le, map-append, take-append-drop, take-map, drop-map, take_all, take_rest}
 use borrow.Rule.Slice.PartMut.{put_mid, post_of}
 use Rattle.bfs_blocks.specs.declared.blocks.Block.{Block}
 use Rattle.bfs_blocks.specs.Blocks.{AreFilled, bytes_in, bytes_of, pieces_of, put_at}
@@ -24,16 +24,27 @@ pub first_of : (blocks rest : List Block) (ready d : Block) → 0 < length block
 first_of [] rest ready d some = absurd (omega arith)
 first_of (b ∷ bs) rest ready d some = refl
 
--- as many bytes as go over the first block
-pub record GoesFirst (start n : ℕ) (was : Block) : Type 0 where
+-- the first block as it was read and made ready, and as many bytes as go over it
+pub record IsFirst (blocks : List Block) (bytes : List ℕ) (was ready : Block) (start n : ℕ) : Type 0 where
+  pub some : 0 < length blocks
+  pub same : bytes_in ready ≡ bytes_in was
+  pub least : n ≡ min (length bytes) (length (bytes_in was) - start)
   pub start_within : start ≤ length (bytes_in was)
   pub within : start + n ≤ length (bytes_in was)
 
-pub goes_first : (blocks : List Block) (bytes : List ℕ) (was : Block) (start n : ℕ) → AreFilled (pieces_of blocks) → 0 < length blocks → was ≡ get_or blocks 0 was → start < block_bytes → start + length bytes ≤ length (bytes_of blocks)
-    → n ≡ min (length bytes) (length (bytes_in was) - start) → GoesFirst start n was
-goes_first blocks bytes was start n filled some is lt within least =
+pub is_first : (blocks : List Block) (bytes : List ℕ) (was again ready : Block) (start n len : ℕ) (none : Bool) → none ≡ nat_eq (length bytes) 0 → none ≡ false → AreFilled (pieces_of blocks) → start < block_bytes → start + length bytes ≤ length (bytes_of blocks)
+    → was ≡ get_or blocks 0 was → len ≡ length (bytes_in (get_or blocks 0 was)) → n ≡ min (length bytes) (len - start) → bytes_in ready ≡ bytes_in (get_or blocks 0 again) → IsFirst blocks bytes was ready start n
+is_first blocks bytes was again ready start n len none empty not filled lt within is long least same =
+    let some = some_blocks blocks bytes start (sym empty ∙ not) within in
     let starts = start_within blocks was start (length bytes) filled some is lt within in
-    record { start_within = starts; within = omega (arith, starts, least) }
+    let here : n ≡ min (length bytes) (length (bytes_in was) - start) = least ∙ ap (λ k. min (length bytes) (k - start)) (long ∙ ap (λ b. length (bytes_in b)) (sym is)) in
+    record {
+      some = some;
+      same = same ∙ ap bytes_in (get_or_default blocks 0 again was some ∙ sym is);
+      least = here;
+      start_within = starts;
+      within = omega (arith, starts, here);
+    }
 
 pub filled_first : (blocks rest : List Block) (was ready block : Block) → 0 < length blocks → was ≡ get_or blocks 0 was → length (bytes_in block) ≡ length (bytes_in was) → AreFilled (pieces_of blocks) → AreFilled (pieces_of rest)
     → length rest ≡ length (take (length (set blocks 0 ready) - 1) (drop 1 (set blocks 0 ready))) → AreFilled (pieces_of (set (put_mid 1 (length (set blocks 0 ready) - 1) (set blocks 0 ready) rest) 0 block))
@@ -46,8 +57,8 @@ filled_first (b ∷ bs) rest was ready block some is same filled others count =
     let some_here = filled.0 in
     let few_here = filled.1 in
     subst (λ xs. AreFilled (bytes_in block ∷ pieces_of (rest ++ xs))) (sym gone)
-      (subst (λ xs. AreFilled (bytes_in block ∷ pieces_of xs)) (sym (append-nil rest))
-        (omega (arith, size, some_here), omega (arith, size, few_here), (λ more. size ∙ filled.2 (omega (arith, more, many))), others))
+    (subst (λ xs. AreFilled (bytes_in block ∷ pieces_of xs)) (sym (append-nil rest))
+    (omega (arith, size, some_here), omega (arith, size, few_here), (λ more. size ∙ filled.2 (omega (arith, more, many))), others))
 
 -- the first block, and those behind it
 pub put_in_first : (blocks rest : List Block) (was ready before block : Block) (start n : ℕ) (bytes : List ℕ) → 0 < length blocks → was ≡ get_or blocks 0 was → bytes_in ready ≡ bytes_in was

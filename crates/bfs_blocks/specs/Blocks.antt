@@ -1,5 +1,5 @@
 -- The blocks of a file, as the code has them.
-use Rattle.std.specs.Prelude.{◌≡◌, ◌+◌, ◌*◌, ◌<◌, ◌≤◌, ℕ, List, [], ◌∷◌, ◌++◌, length, take, drop, map, unwrap_or, IsSome, vec_len, vec_capacity, ⊤, Some, slice_get}
+use Rattle.std.specs.Prelude.{◌≡◌, ◌+◌, ◌<◌, ◌≤◌, ℕ, List, [], ◌∷◌, ◌++◌, length, take, drop, map, unwrap_or, IsSome, vec_len, vec_capacity, ⊤, Some, slice_get}
 use Rattle.std.specs.List.{concat}
 use Rattle.sha2.specs.Sha256.{sha256}
 use Rattle.bfs_model.specs.Server.Limits.{most_file_bytes}

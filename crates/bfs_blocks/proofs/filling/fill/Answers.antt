@@ -1,4 +1,4 @@
-use Rattle.std.proofs.Common.{◌≡◌, ◌≤◌, ◌++◌, length, replicate, ap, arith}
+use Rattle.std.proofs.Common.{length, replicate, ap, arith}
 use Rattle.std.proofs.lemmas.List.{length-append}
 use Rattle.bfs_blocks.specs.Blocks.{bytes_of}
 use Rattle.bfs_blocks.proofs.PutLemmas.{zeros_step}
