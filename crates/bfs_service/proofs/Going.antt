@@ -1,7 +1,6 @@
 -- A node goes on by steps.
-use Rattle.std.proofs.Common.{◌≡◌, ◌≢◌, ◌∙◌, List, [], ◌∷◌, ◌++◌, Result, Ok, Err, refl, sym, ap, subst, append-nil}
+use Rattle.std.proofs.Common.{◌≡◌, ◌≢◌, ◌∙◌, [], ◌∷◌, ◌++◌, Ok, Err, refl, sym, ap, subst, append-nil}
 use Rattle.std.proofs.lemmas.List.Sums.{fold-append}
-use Rattle.bfs_agreement.specs.Histories.{IsIn}
 use Rattle.bfs_node.specs.Nodes.{Messages, Node}
 use Rattle.bfs_node.specs.declared.error.NodeError.{NodeError}
 use Rattle.bfs_node.specs.declared.error.NodeError.TheVariants.{Memory}

@@ -1,9 +1,9 @@
 -- Turns of processes are steps of nodes.
-use Rattle.std.proofs.Common.{◌≡◌, ◌∙◌, ℕ, Bool, true, false, ◌==◌, List, [], ◌∷◌, ◌++◌, map, inl, inr, refl, sym, ap, subst, if◌then◌else◌, eqb-true, eq-eqb}
+use Rattle.std.proofs.Common.{◌≡◌, ◌∙◌, ℕ, Bool, true, false, ◌==◌, List, [], ◌∷◌, ◌++◌, map, inl, inr, refl, sym, ap, subst, if◌then◌else◌, eqb-true}
 use Rattle.std.specs.Prelude.{◌⊎◌, All}
 use Rattle.std.proofs.lemmas.List.Elements.{All-head, All-tail}
 use Rattle.std.proofs.lemmas.List.Sums.{fold-append}
-use Rattle.bfs_agreement.specs.Histories.{IsIn, FewAreFaulty}
+use Rattle.bfs_agreement.specs.Histories.{IsIn}
 use Rattle.bfs_frames.specs.Parcels.{Told}
 use Rattle.bfs_frames.specs.declared.frames.Frame.{Frame}
 use Rattle.bfs_frames.specs.declared.frames.Turn.{Turn}
@@ -12,10 +12,10 @@ use Rattle.bfs_messages.specs.declared.signed.Signed.{Signed}
 use Rattle.bfs_node.specs.Nodes.{Messages, Node}
 use Rattle.bfs_nodes_agree.proofs.Public.{both_in, either_in, here_after, in_map, left_in, none_in, one_in, out_of_map, right_in}
 use Rattle.bfs_nodes_agree.specs.Nodes.Laws.{NodesAgree}
-use Rattle.bfs_nodes_agree.specs.Nodes.Replicas.{Beginning, Keyring, NodeReplica, NodeReplicas, NodeTurn, after_node_step, after_node_turn, after_node_turns, new_node_replicas}
+use Rattle.bfs_nodes_agree.specs.Nodes.Replicas.{NodeReplica, NodeReplicas, NodeTurn, after_node_step, after_node_turn, after_node_turns, new_node_replicas}
 use Rattle.bfs_nodes_agree.specs.Nodes.Steps.{NodeStep, Delivers, Takes, TakesRequests, Proposes, Executes, Fails, Checkpoints, TimesOut, Adopts, outcome}
 use Rattle.bfs_service.specs.Acting.{Acting, GoesOn, IsOwn, IsTaking, after_step, after_steps}
-use Rattle.bfs_service.specs.Processes.{AreNodes, HasTold, HasTurned, HaveTurned, IsOfTurns, IsStepOf, Processes, ProcessesAgree, ProcessTurn, new_processes}
+use Rattle.bfs_service.specs.Processes.{HasTold, HasTurned, HaveTurned, IsOfTurns, IsStepOf, Processes, ProcessesAgree, ProcessTurn, new_processes}
 use Rattle.bfs_service.specs.Telling.{is_note, message_told}
 use Rattle.bfs_service.specs.Turns.{Hears, Turned, frame_delivered, is_message}
 

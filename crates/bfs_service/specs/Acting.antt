@@ -1,5 +1,5 @@
 -- What a replica does in one go: calls of its node, which are steps of which agreement is proved.
-use Rattle.std.specs.Prelude.{◌≡◌, ℕ, Bool, true, false, List, [], ◌∷◌, ◌++◌, fold, if◌then◌else◌}
+use Rattle.std.specs.Prelude.{◌≡◌, List, ◌++◌, fold}
 use Rattle.bfs_model.specs.Server.Tree.{FileSystem, Time}
 use Rattle.bfs_agreement.specs.Histories.{IsIn}
 use Rattle.bfs_log.specs.Certificates.{StableCheckpoint}

@@ -9,7 +9,7 @@ use Rattle.bfs_messages.specs.declared.message.Message.{Message}
 use Rattle.bfs_messages.specs.declared.signed.Signed.{Signed}
 use Rattle.bfs_nodes_agree.specs.Nodes.Laws.{Agree, BatchesDontCollide}
 use Rattle.bfs_nodes_agree.specs.Nodes.Premises.{AreAuthentic, AreShared, StatesDontCollide}
-use Rattle.bfs_nodes_agree.specs.Nodes.Replicas.{Beginning, Keyring, NodeReplicas, NodeTurn, after_node_turns, beginning_node, new_node_replicas}
+use Rattle.bfs_nodes_agree.specs.Nodes.Replicas.{Beginning, Keyring, NodeTurn, after_node_turns, beginning_node, new_node_replicas}
 use Rattle.bfs_nodes_agree.specs.Nodes.Steps.{NodeStep, Delivers, TakesRequests}
 use Rattle.bfs_service.specs.Acting.{Acting, IsOwn}
 use Rattle.bfs_service.specs.Telling.{is_note, message_told}

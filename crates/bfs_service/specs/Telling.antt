@@ -1,5 +1,5 @@
 -- What a replica tells: the messages that its node gave to be sent, each to those who are to have it, and notes that are no messages.
-use Rattle.std.specs.Prelude.{◌≡◌, ℕ, Bool, true, false, List, All, ◌++◌, map}
+use Rattle.std.specs.Prelude.{◌≡◌, Bool, true, false, List, All, ◌++◌, map}
 use Rattle.bfs_frames.specs.Parcels.{Told}
 use Rattle.bfs_frames.specs.declared.kind.Kind.{Kind}
 use Rattle.bfs_frames.specs.declared.kind.Kind.TheVariants as kind

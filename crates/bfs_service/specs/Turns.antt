@@ -1,15 +1,15 @@
 -- What a replica makes of a turn.
-use Rattle.std.specs.Prelude.{◌≡◌, ℕ, Bool, true, false, List, [], ◌∷◌, map, if◌then◌else◌, nat_le, ◌==◌, ◌&&◌, Result, Ok, Err, ◌*◌, ◌+◌}
+use Rattle.std.specs.Prelude.{◌≡◌, ℕ, Bool, false, List, [], ◌∷◌, map, if◌then◌else◌, nat_le, ◌==◌, ◌&&◌, Result, Ok, Err}
 use Rattle.bfs_model.specs.Bytes.Items.{Fault, word_at}
 use Rattle.bfs_model.specs.Server.Tree.{Time}
-use Rattle.bfs_votes.specs.Tags.{pre_prepare_tag, prepare_tag, commit_tag, checkpoint_tag, view_change_tag, new_view_tag}
+use Rattle.bfs_votes.specs.Tags.{pre_prepare_tag, checkpoint_tag, view_change_tag, new_view_tag}
 use Rattle.bfs_frames.specs.Parcels.{Told, told_by}
 use Rattle.bfs_frames.specs.declared.frames.Frame.{Frame}
 use Rattle.bfs_frames.specs.declared.frames.Turn.{Turn}
 use Rattle.bfs_frames.specs.declared.kind.Kind.{Kind}
 use Rattle.bfs_frames.specs.declared.parcels.Parcel.{Parcel}
 use Rattle.bfs_frames.specs.declared.kind.Kind.TheVariants.{Order, ViewChange, NewView}
-use Rattle.bfs_nodes_agree.specs.Nodes.Steps.{NodeStep, Delivers}
+use Rattle.bfs_nodes_agree.specs.Nodes.Steps.{Delivers}
 use Rattle.bfs_service.specs.Acting.{Acting, GoesOn, IsOwn, IsTaking, after_step}
 use Rattle.bfs_service.specs.Telling.{Tells}
 

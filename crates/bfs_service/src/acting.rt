@@ -72,9 +72,22 @@ impl Actor {
         Ok(())
     }
 
-    /// REQUESTs come, before it may propose at that time.
+    /// REQUESTs come.
     #[tactic(auto, using(crate::proofs::Going::taking_goes))]
     pub(crate) fn take_requests<R: Threads + Wait + Sync>(
+        &mut self,
+        rt: &R,
+        requests: &[Signed<Message>],
+    ) -> Result<(), Memory>
+        ensures { OnOk result (GoesOn IsTaking self.old self.new) }
+    {
+        self.act(rt, NodeCall::TakeRequests(requests))?;
+        Ok(())
+    }
+
+    /// REQUESTs come, before it proposes them at that time.
+    #[tactic(auto, using(crate::proofs::Going::taking_goes))]
+    pub(crate) fn take_requests_for<R: Threads + Wait + Sync>(
         &mut self,
         rt: &R,
         time: Time,

@@ -126,7 +126,12 @@ impl Service {
         if requests.is_empty() {
             return Ok(());
         }
-        self.actor.take_requests(rt, time, requests)
+        // the batch is hashed beside only where it is the next one
+        if self.may_propose() {
+            self.actor.take_requests_for(rt, time, requests)
+        } else {
+            self.actor.take_requests(rt, requests)
+        }
     }
 
     // what it does of itself, and what it does about frames that are no messages
@@ -316,10 +321,13 @@ impl Service {
     }
 
     fn is_to_propose(&self) -> bool {
+        self.may_propose() && !self.actor.node().waiting().is_empty()
+    }
+
+    // it leads, and its last batch is executed
+    fn may_propose(&self) -> bool {
         let node = self.actor.node();
-        node.leads()
-            && !node.waiting().is_empty()
-            && (self.proposed_in != node.view() || self.proposed <= node.last_executed())
+        node.leads() && (self.proposed_in != node.view() || self.proposed <= node.last_executed())
     }
 
     #[tactic(auto, using(crate::proofs::Going::goes_nowhere))]

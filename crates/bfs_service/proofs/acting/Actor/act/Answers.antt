@@ -1,5 +1,5 @@
-use Rattle.std.proofs.Common.{◌≡◌, ◌++◌, Ok, Err, sym, subst, append-nil}
-use Rattle.bfs_node.specs.Nodes.{Messages, Node}
+use Rattle.std.proofs.Common.{Ok, sym, subst, append-nil}
+use Rattle.bfs_node.specs.Nodes.{Messages}
 use Rattle.bfs_nodes_agree.specs.Nodes.Performing.{Performs}
 use Rattle.bfs_nodes_agree.specs.declared.node_calls.performing.Sent.{Sent}
 use Rattle.bfs_nodes_agree.specs.declared.node_calls.performing.Sent.TheVariants.{Nothing, One, All}

@@ -1,4 +1,4 @@
-use Rattle.std.proofs.Common.{sym, subst}
+use Rattle.std.proofs.Common.{subst}
 use Rattle.bfs_service.specs.Acting.{Acting, GoesOn, IsOwn}
 use Rattle.bfs_service.proofs.Going.{goes_both}
 use Rattle.bfs_service.proofs.service.Service.go_on.Goals as goal
