@@ -4,6 +4,7 @@
 use std::collections::{HashMap, VecDeque};
 
 const SHARE: usize = 1 << 20; // bytes that a turn takes of one source, or a little more
+const CALLS: usize = 64 << 10; // bytes of kernels' calls that a turn takes: so replicas order the first ones while the relay signs the next
 const MOST_TURN: usize = 16 << 20; // bytes of all sources that a turn takes, or a little more
 const MOST_PIECE: usize = 64 << 10; // bytes to which more frames are put
 const OVERHEAD: usize = 64; // bytes that are counted for a piece beside its own
@@ -43,13 +44,13 @@ impl Inbox {
     }
 
     /// Moves the first ones to a turn, and tells how many they are.
-    fn take(&mut self, turn: &mut Vec<u8>) -> u32 {
+    fn take(&mut self, turn: &mut Vec<u8>, most: usize) -> u32 {
         let (mut frames, mut size) = (0, 0);
         while let Some(piece) = self.pieces.pop_front() {
             turn.extend_from_slice(&piece.bytes);
             frames += piece.frames;
             size += piece.bytes.len() + OVERHEAD;
-            if size > SHARE {
+            if size > most {
                 break;
             }
         }
@@ -110,7 +111,7 @@ impl Inboxes {
             Some(inbox) => inbox,
             None => return 0,
         };
-        let frames = inbox.take(turn);
+        let frames = inbox.take(turn, if source == Source::Kernels { CALLS } else { SHARE });
         if inbox.pieces.is_empty() {
             self.by_source.remove(&source);
         } else {
