@@ -7,3 +7,5 @@ mod calls;
 mod changes;
 #[cfg(test)]
 mod files;
+#[cfg(test)]
+mod refusals;
