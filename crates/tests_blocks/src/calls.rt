@@ -177,8 +177,8 @@ fn can_be_shared<T: Send + Sync>(_value: &T) -> bool {
 fn copies_stay(rt: HostRuntime) -> Result<(), Fail> {
     let alloc = rt.alloc();
     let mut file = file_of(alloc, b"abc")?;
-    file.keep(alloc)?;
-    let mut copy = file.try_clone(alloc)?;
+    let mut copy = file.share(alloc)?;
+    same!(rt; copy.kept_block(0), Some(ABC));
     let other = copy.clone()?;
     holds!(rt; can_be_shared(&other));
     write(&mut file, 0, b"x")?;
