@@ -8,4 +8,6 @@ mod changes;
 #[cfg(test)]
 mod files;
 #[cfg(test)]
+mod owners;
+#[cfg(test)]
 mod refusals;
