@@ -8,6 +8,16 @@ use bfs_types::{Memory, TryClone};
 use std::alloc::{AllocError, Global};
 
 impl FileBlocks {
+    /// A copy that shares all blocks: those that don't keep their digest are hashed first (`FileBlocks::keep`). `Memory` if memory runs
+    /// out.
+    pub fn share(&mut self, alloc: Global) -> Result<FileBlocks, Memory>
+        ensures stays { self.new ≡ self.old }
+        ensures copy { IfOk result (λ copy. copy ≡ self.old) }
+    {
+        self.keep(alloc)?;
+        self.try_clone(alloc)
+    }
+
     fn copy(&self, alloc: Global) -> Result<FileBlocks, AllocError>
         ensures { IfOk result (λ copy. copy ≡ self.now) }
     {

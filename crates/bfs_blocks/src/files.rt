@@ -12,6 +12,9 @@ use std::alloc::Global;
 use std::marker::Model;
 
 /// The bytes of a file: at most `MOST_FILE_BYTES`, in blocks of `BLOCK_BYTES`, of which the last one may have fewer.
+///
+/// A block may keep its SHA-256 (FIPS 180-4), and copies of the file then share its bytes. Each change of a block drops its digest, and
+/// makes bytes of its own where others share them. Contracts see nothing of it.
 #[derive(Debug, Drop)]
 pub struct FileBlocks {
     pub(crate) blocks: Vec<Block>,
@@ -68,8 +71,8 @@ impl FileBlocks {
     }
 
     /// Writes other bytes over them from an offset on. An offset past the end is filled up to with zeros. Writing no bytes
-    /// changes nothing. Of the blocks that copies share, those that are written in part are copied first. `Memory` if memory runs out;
-    /// then nothing changes.
+    /// changes nothing. Of the blocks that copies share, those that are written in part are copied first. It takes some stack for each
+    /// block that it writes over. `Memory` if memory runs out; then nothing changes.
     pub fn write(&mut self, offset: usize, written: &[u8]) -> Result<(), Memory>
         requires { offset + length written.now ≤ most_file_bytes }
         ensures ok { OnOk result (self.new ≡ overwritten offset written.now self.old) }

@@ -4,7 +4,7 @@ ghost use Rattle.bfs_blocks.specs.Blocks.{AreFilled, bytes_in, bytes_of, pieces_
 ghost use Rattle.bfs_blocks.specs.Bytes.{block_bytes};
 
 use crate::blocks::Block;
-use crate::growing::{BLOCK_BYTES, extend_last, push, room_in_last};
+use crate::growing::{BLOCK_BYTES, extend_last, make_room, push, room_in_last};
 use std::alloc::{AllocError, Global};
 
 /// Of so many zeros at once, the blocks share one: it is hashed, which takes longer than filling some blocks.
@@ -20,6 +20,7 @@ pub(crate) fn fill(alloc: Global, blocks: &mut Vec<Block>, count: usize) -> Resu
     if count == 0 {
         return Ok(());
     }
+    make_room(blocks, count)?;
     let mut zeros = Block::zeros(alloc, count.min(BLOCK_BYTES))?;
     if count >= FEWEST_SHARED {
         zeros.hash(alloc)?;

@@ -29,12 +29,24 @@ pub(crate) fn append(alloc: Global, blocks: &mut Vec<Block>, bytes: &[u8]) -> Re
     ensures ok { OnOk result (bytes_of blocks.new.items ≡ bytes_of blocks.old.items ++ bytes.now) }
     ensures err { OnErr result (take (length (bytes_of blocks.old.items)) (bytes_of blocks.new.items) ≡ bytes_of blocks.old.items) }
 {
+    make_room(blocks, bytes.len())?;
     let mut rest = bytes;
     while !rest.is_empty() {
         let count = append_some(alloc, blocks, rest)?;
         rest = &rest[count..];
     }
     Ok(())
+}
+
+/// Makes room for no more than the blocks of so many bytes, where there are none: most files get all their bytes at once, or grow by few.
+pub(crate) fn make_room(blocks: &mut Vec<Block>, bytes: usize) -> Result<(), AllocError>
+    ensures { blocks.new.items ≡ blocks.old.items }
+{
+    if blocks.is_empty() {
+        blocks.reserve_exact(bytes.div_ceil(BLOCK_BYTES))
+    } else {
+        Ok(())
+    }
 }
 
 // as many as fit into the last block, or into a new one

@@ -1,4 +1,4 @@
-//! The bytes of a file in blocks that copies of the file share, so that a copy costs a pointer a block and no bytes.
+//! The bytes of a file in blocks. Copies of the file share those that keep their digest, so that a copy costs a pointer a block.
 #![tactic(auto)]
 
 mod blocks;

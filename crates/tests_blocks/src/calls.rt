@@ -45,7 +45,12 @@ static READS: &[(usize, usize, usize)] = &[
     (1, 0, 1),
 ];
 
-fn reads(alloc: Global, file: &FileBlocks, bytes: &[u8], read: &(usize, usize, usize)) -> Result<bool, Memory> {
+fn reads(
+    alloc: Global,
+    file: &FileBlocks,
+    bytes: &[u8],
+    read: &(usize, usize, usize),
+) -> Result<bool, Memory> {
     let (offset, count, end) = *read;
     let mut out = b"before".to_vec(alloc)?;
     file.read(offset, count, &mut out)?;
@@ -163,13 +168,19 @@ fn digests_that_were_made_are_kept(rt: HostRuntime) -> Result<(), Fail> {
     Ok(())
 }
 
+// for the threads that hash and those that execute
+fn can_be_shared<T: Send + Sync>(_value: &T) -> bool {
+    true
+}
+
 #[test]
 fn copies_stay(rt: HostRuntime) -> Result<(), Fail> {
     let alloc = rt.alloc();
     let mut file = file_of(alloc, b"abc")?;
-    file.keep(alloc)?;
-    let mut copy = file.try_clone(alloc)?;
+    let mut copy = file.share(alloc)?;
+    same!(rt; copy.kept_block(0), Some(ABC));
     let other = copy.clone()?;
+    holds!(rt; can_be_shared(&other));
     write(&mut file, 0, b"x")?;
     write(&mut copy, 1, b"yz!")?;
     holds!(rt; has(alloc, &file, b"xbc")?);

@@ -32,17 +32,17 @@ impl Draws {
     }
 }
 
-// a file, and the bytes that it is to have
+/// A file, and the bytes that it is to have.
 #[derive(Drop)]
-struct Pair {
-    file: FileBlocks,
-    bytes: Vec<u8>,
+pub(crate) struct Pair {
+    pub(crate) file: FileBlocks,
+    pub(crate) bytes: Vec<u8>,
 }
 
-const MOST: usize = 100_000;
+const MOST: usize = 300_000;
 
 impl Pair {
-    fn write(&mut self, offset: usize, written: &[u8]) -> Result<(), Memory> {
+    pub(crate) fn write(&mut self, offset: usize, written: &[u8]) -> Result<(), Memory> {
         if offset > MOST || written.len() > MOST {
             return Ok(());
         }
@@ -50,7 +50,7 @@ impl Pair {
         write_plain(&mut self.bytes, offset, written)
     }
 
-    fn resize(&mut self, size: usize) -> Result<(), Memory> {
+    pub(crate) fn resize(&mut self, size: usize) -> Result<(), Memory> {
         if size > MOST {
             return Ok(());
         }
@@ -58,7 +58,7 @@ impl Pair {
         Ok(self.bytes.resize(size, 0)?)
     }
 
-    fn copy(&self, alloc: Global) -> Result<Pair, Memory> {
+    pub(crate) fn copy(&self, alloc: Global) -> Result<Pair, Memory> {
         Ok(Pair {
             file: self.file.try_clone(alloc)?,
             bytes: self.bytes.as_slice().to_vec(alloc)?,
@@ -118,7 +118,8 @@ fn change(alloc: Global, draws: &mut Draws, pair: &mut Pair) -> Result<(), Memor
     }
 }
 
-fn are_right(alloc: Global, pairs: &[Pair]) -> Result<bool, Memory> {
+/// Whether all have their bytes.
+pub(crate) fn are_right(alloc: Global, pairs: &[Pair]) -> Result<bool, Memory> {
     for pair in pairs {
         if !has(alloc, &pair.file, &pair.bytes)? {
             return Ok(false);

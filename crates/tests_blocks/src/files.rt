@@ -50,5 +50,9 @@ pub(crate) fn joined(alloc: Global, file: &FileBlocks) -> Result<Vec<u8>, Memory
 pub(crate) fn has(alloc: Global, file: &FileBlocks, bytes: &[u8]) -> Result<bool, Memory> {
     let mut read = Vec::new(alloc);
     file.read(0, usize::MAX, &mut read)?;
-    Ok(file.len() == bytes.len() && read.as_slice() == bytes && joined(alloc, file)?.as_slice() == bytes)
+    Ok(
+        file.len() == bytes.len()
+            && read.as_slice() == bytes
+            && joined(alloc, file)?.as_slice() == bytes,
+    )
 }

@@ -7,3 +7,7 @@ mod calls;
 mod changes;
 #[cfg(test)]
 mod files;
+#[cfg(test)]
+mod owners;
+#[cfg(test)]
+mod refusals;
