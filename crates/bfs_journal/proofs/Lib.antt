@@ -3,3 +3,4 @@ pub mod Records
 pub mod Fronts
 pub mod Damage
 pub mod Growing
+pub mod Public
