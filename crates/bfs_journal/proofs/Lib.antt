@@ -1,0 +1,6 @@
+pub mod Heads
+pub mod Records
+pub mod Fronts
+pub mod Damage
+pub mod Growing
+pub mod Public
