@@ -1,85 +1,90 @@
 //! Calls are answered, also where the primary is silent, where requests have no room, and behind a state that was fetched.
-use crate::calls::{answered_of, ask, is_answered};
-use crate::world::{ALL, BACKUPS, TERMS, THREE, World};
+use crate::script::Step::{Agree, Answered, Ask, HasExecuted, IsAnswered, Play, Stands};
+use crate::script::{Step, plays};
+use crate::world::{ALL, BACKUPS, TERMS, THREE};
 use bfs_service::Terms;
-use bfs_testing::same;
 use std::test::Fail;
+
+static A_CALL: [Step; 6] = [
+    Ask(3, 7),
+    Play(0, ALL, 4),
+    IsAnswered(0),
+    Stands(0, (0, 1, 0)),
+    Stands(3, (0, 1, 0)),
+    Agree(0, 3),
+];
 
 #[test]
 fn a_call_is_answered(rt: HostRuntime) -> Result<(), Fail> {
-    let alloc = rt.alloc();
-    let mut world = World::new(alloc, TERMS)?;
-    let mut call = ask(alloc, &mut world, 3, 7)?;
-    world.play(&rt, 0, &ALL, 4)?;
-    same!(rt; is_answered(alloc, &world, &mut call)?, true);
-    same!(rt; world.standing(0), (0, 1, 0));
-    same!(rt; world.standing(3), (0, 1, 0));
-    same!(rt; world.digest(&rt, 0)? == world.digest(&rt, 3)?, true);
-    Ok(())
+    plays(&rt, rt.alloc(), TERMS, &A_CALL)
 }
+
+static REPEATED: [Step; 4] = [
+    Answered(ALL, 7, 8, 1),
+    Answered(ALL, 7, 8, 1),
+    // an older one never
+    Answered(ALL, 6, 7, 0),
+    Stands(1, (0, 2, 0)),
+];
 
 #[test]
 fn a_call_that_is_repeated_is_answered_again(rt: HostRuntime) -> Result<(), Fail> {
-    let alloc = rt.alloc();
-    let mut world = World::new(alloc, TERMS)?;
-    same!(rt; answered_of(&rt, alloc, &mut world, &ALL, 7..8)?, 1);
-    same!(rt; answered_of(&rt, alloc, &mut world, &ALL, 7..8)?, 1);
-    // an older one never
-    same!(rt; answered_of(&rt, alloc, &mut world, &ALL, 6..7)?, 0);
-    same!(rt; world.standing(1), (0, 2, 0));
-    Ok(())
+    plays(&rt, rt.alloc(), TERMS, &REPEATED)
 }
+
+static SILENT_PRIMARY: [Step; 7] = [
+    Ask(3, 7),
+    Play(1_000, BACKUPS, 4),
+    Play(2_900, BACKUPS, 4),
+    Stands(1, (0, 0, 1)),
+    Play(3_000, BACKUPS, 8),
+    Stands(1, (1, 1, 0)),
+    IsAnswered(0),
+];
 
 #[test]
 fn the_next_primary_answers(rt: HostRuntime) -> Result<(), Fail> {
-    let alloc = rt.alloc();
-    let mut world = World::new(alloc, TERMS)?;
-    let mut call = ask(alloc, &mut world, 3, 7)?;
-    world.play(&rt, 1_000, &BACKUPS, 4)?;
-    world.play(&rt, 2_900, &BACKUPS, 4)?;
-    same!(rt; world.standing(1), (0, 0, 1));
-    world.play(&rt, 3_000, &BACKUPS, 8)?;
-    same!(rt; world.standing(1), (1, 1, 0));
-    same!(rt; is_answered(alloc, &world, &mut call)?, true);
-    Ok(())
+    plays(&rt, rt.alloc(), TERMS, &SILENT_PRIMARY)
 }
 
 // one call fits in a batch, and another has to wait
-static SMALL: Terms = Terms {
+const SMALL: Terms = Terms {
     patience: 2_000_000,
     most_batch_bytes: 400,
     most_state_bytes: 10_000_000,
 };
 
+static WITHOUT_ROOM: [Step; 8] = [
+    Ask(3, 7),
+    Ask(4, 7),
+    Play(0, ALL, 1),
+    Stands(0, (0, 0, 1)),
+    Play(0, ALL, 8),
+    Stands(0, (0, 2, 0)),
+    IsAnswered(0),
+    IsAnswered(1),
+];
+
 #[test]
 fn requests_without_room_wait(rt: HostRuntime) -> Result<(), Fail> {
-    let alloc = rt.alloc();
-    let mut world = World::new(alloc, SMALL)?;
-    let mut first = ask(alloc, &mut world, 3, 7)?;
-    let mut second = ask(alloc, &mut world, 4, 7)?;
-    world.play(&rt, 0, &ALL, 1)?;
-    same!(rt; world.standing(0), (0, 0, 1));
-    world.play(&rt, 0, &ALL, 8)?;
-    same!(rt; world.standing(0), (0, 2, 0));
-    same!(rt; is_answered(alloc, &world, &mut first)?, true);
-    same!(rt; is_answered(alloc, &world, &mut second)?, true);
-    Ok(())
+    plays(&rt, rt.alloc(), SMALL, &WITHOUT_ROOM)
 }
+
+static FETCHED: [Step; 9] = [
+    Answered(THREE, 1, 31, 30),
+    Stands(3, (0, 0, 0)),
+    // it has executed nothing, so it asks at once, and gets what is stable
+    Answered(ALL, 31, 33, 2),
+    HasExecuted(3, 16),
+    // behind for long enough, it asks again
+    Play(400, ALL, 8),
+    HasExecuted(3, 32),
+    Agree(0, 3),
+    Answered(ALL, 33, 35, 2),
+    HasExecuted(3, 34),
+];
 
 #[test]
 fn one_that_was_away_fetches_a_state(rt: HostRuntime) -> Result<(), Fail> {
-    let alloc = rt.alloc();
-    let mut world = World::new(alloc, TERMS)?;
-    same!(rt; answered_of(&rt, alloc, &mut world, &THREE, 1..31)?, 30);
-    same!(rt; world.standing(3), (0, 0, 0));
-    // it has executed nothing, so it asks at once, and gets what is stable
-    same!(rt; answered_of(&rt, alloc, &mut world, &ALL, 31..33)?, 2);
-    same!(rt; world.standing(3).1, 16);
-    // behind for long enough, it asks again
-    world.play(&rt, 400, &ALL, 8)?;
-    same!(rt; world.standing(3).1, 32);
-    same!(rt; world.digest(&rt, 0)? == world.digest(&rt, 3)?, true);
-    same!(rt; answered_of(&rt, alloc, &mut world, &ALL, 33..35)?, 2);
-    same!(rt; world.standing(3).1, 34);
-    Ok(())
+    plays(&rt, rt.alloc(), TERMS, &FETCHED)
 }

@@ -13,13 +13,13 @@ use std::thread::Threads;
 pub type Up = [bool; 4];
 
 /// All of them.
-pub static ALL: Up = [true; 4];
+pub const ALL: Up = [true; 4];
 
 /// All but the primary of the first view.
-pub static BACKUPS: Up = [false, true, true, true];
+pub const BACKUPS: Up = [false, true, true, true];
 
 /// All but replica 3.
-pub static THREE: Up = [true, true, true, false];
+pub const THREE: Up = [true, true, true, false];
 
 /// How they serve: they wait two seconds.
 pub const TERMS: Terms = Terms {
@@ -27,6 +27,22 @@ pub const TERMS: Terms = Terms {
     most_batch_bytes: 100_000,
     most_state_bytes: 10_000_000,
 };
+
+// all but AskReport, which asks for something whatever its bytes are
+static KINDS: [Kind; 12] = [
+    Kind::Request,
+    Kind::Order,
+    Kind::ViewChange,
+    Kind::NewView,
+    Kind::Reply,
+    Kind::Status,
+    Kind::AskState,
+    Kind::State,
+    Kind::Report,
+    Kind::Call,
+    Kind::Answer,
+    Kind::Log,
+];
 
 #[derive(Drop)]
 pub struct World {
@@ -44,19 +60,57 @@ pub fn settings(alloc: Global) -> Result<Settings, Fail> {
     Ok(Settings::new(alloc, 1, 16, b"a secret")?)
 }
 
+fn service_of(
+    alloc: Global,
+    settings: &Settings,
+    number: u32,
+    terms: Terms,
+) -> Result<Service, Memory> {
+    if number >= settings.replicas() {
+        return Err(Memory);
+    }
+    let node = Node::of_settings(alloc, settings, number)?;
+    Ok(Service::new(alloc, node, Executor::serial(), terms))
+}
+
+fn services_of(alloc: Global, terms: Terms) -> Result<Vec<Service>, Fail> {
+    let settings = settings(alloc)?;
+    let mut services = Vec::new(alloc);
+    for number in 0..4u32 {
+        services.push(service_of(alloc, &settings, number, terms)?)?;
+    }
+    Ok(services)
+}
+
+fn no_frames(alloc: Global) -> Result<Vec<Vec<Frame>>, Memory> {
+    let mut inboxes = Vec::new(alloc);
+    for _ in 0..4u32 {
+        inboxes.push(Vec::new(alloc))?;
+    }
+    Ok(inboxes)
+}
+
+fn put(alloc: Global, inbox: &mut Vec<Frame>, kind: Kind, payload: &[u8]) -> Result<(), Memory> {
+    let payload = Vec::from_slice(alloc, payload)?;
+    Ok(inbox.push(Frame { kind, payload })?)
+}
+
+fn turn_of<R: Threads + Wait + Sync>(
+    rt: &R,
+    service: &mut Service,
+    millis: u32,
+    frames: Vec<Frame>,
+) -> Result<Vec<Parcel>, Memory> {
+    let time = Time::new(millis / 1_000, millis % 1_000 * 1_000).unwrap_or(Time::epoch());
+    service.take_turn(rt, &Turn { time, frames })
+}
+
 impl World {
     pub fn new(alloc: Global, terms: Terms) -> Result<World, Fail> {
-        let settings = settings(alloc)?;
-        let mut replicas = Vec::new(alloc);
-        let mut inboxes = Vec::new(alloc);
-        for number in 0..settings.replicas() {
-            let node = Node::of_settings(alloc, &settings, number)?;
-            replicas.push(Service::new(alloc, node, Executor::serial(), terms))?;
-            inboxes.push(Vec::new(alloc))?;
-        }
+        let inboxes = no_frames(alloc)?;
         Ok(World {
             alloc,
-            replicas,
+            replicas: services_of(alloc, terms)?,
             inboxes,
             replies: Vec::new(alloc),
             notes: Vec::new(alloc),
@@ -66,8 +120,17 @@ impl World {
     /// A frame comes to each.
     pub fn send(&mut self, kind: Kind, payload: &[u8]) -> Result<(), Memory> {
         for inbox in self.inboxes.iter_mut() {
-            let payload = Vec::from_slice(self.alloc, payload)?;
-            inbox.push(Frame { kind, payload })?;
+            put(self.alloc, inbox, kind, payload)?;
+        }
+        Ok(())
+    }
+
+    /// A frame comes to each with each front of these bytes, of each kind but that which asks for a report.
+    pub fn send_rubbish(&mut self, bytes: &[u8]) -> Result<(), Memory> {
+        for kind in &KINDS {
+            for length in 0..bytes.len() {
+                self.send(*kind, &bytes[..length])?;
+            }
         }
         Ok(())
     }
@@ -106,18 +169,18 @@ impl World {
         up: &Up,
         number: usize,
     ) -> Result<Vec<Parcel>, Memory> {
-        let time = Time::new(millis / 1_000, millis % 1_000 * 1_000).unwrap_or(Time::epoch());
-        let (Some(inbox), Some(service)) = (
-            self.inboxes.get_mut(number),
-            self.replicas.get_mut(number),
-        ) else {
-            return Ok(Vec::new(self.alloc));
-        };
-        let frames = std::mem::replace(inbox, Vec::new(self.alloc));
-        if up.get(number) != Some(&true) {
-            return Ok(Vec::new(self.alloc));
+        let frames = self.take_frames(number);
+        match self.replicas.get_mut(number) {
+            Some(service) if up.get(number) == Some(&true) => turn_of(rt, service, millis, frames),
+            _ => Ok(Vec::new(self.alloc)),
         }
-        service.take_turn(rt, &Turn { time, frames })
+    }
+
+    fn take_frames(&mut self, number: usize) -> Vec<Frame> {
+        match self.inboxes.get_mut(number) {
+            Some(inbox) => std::mem::replace(inbox, Vec::new(self.alloc)),
+            None => Vec::new(self.alloc),
+        }
     }
 
     fn carry(&mut self, from: usize, told: Vec<Parcel>) -> Result<(), Memory> {
@@ -130,23 +193,27 @@ impl World {
     fn carry_one(&mut self, from: usize, parcel: Parcel) -> Result<(), Memory> {
         let Frame { kind, payload } = parcel.frame;
         match parcel.to {
-            To::Replicas => {
-                for (number, inbox) in self.inboxes.iter_mut().enumerate() {
-                    if number != from {
-                        let payload = Vec::from_slice(self.alloc, payload.as_slice())?;
-                        inbox.push(Frame { kind, payload })?;
-                    }
-                }
+            To::Replicas => self.carry_to_others(from, kind, payload.as_slice()),
+            To::Replica(number) => self.carry_to(number, Frame { kind, payload }),
+            To::Client(_) => Ok(self.replies.push(payload)?),
+            To::Operator | To::Caller(_) => Ok(self.notes.push(payload)?),
+        }
+    }
+
+    fn carry_to_others(&mut self, from: usize, kind: Kind, payload: &[u8]) -> Result<(), Memory> {
+        for (number, inbox) in self.inboxes.iter_mut().enumerate() {
+            if number != from {
+                put(self.alloc, inbox, kind, payload)?;
             }
-            To::Replica(number) => {
-                if let Some(inbox) = self.inboxes.get_mut(number as usize) {
-                    inbox.push(Frame { kind, payload })?;
-                }
-            }
-            To::Client(_) => self.replies.push(payload)?,
-            To::Operator | To::Caller(_) => self.notes.push(payload)?,
         }
         Ok(())
+    }
+
+    fn carry_to(&mut self, number: u32, frame: Frame) -> Result<(), Memory> {
+        match self.inboxes.get_mut(number as usize) {
+            Some(inbox) => Ok(inbox.push(frame)?),
+            None => Ok(()),
+        }
     }
 
     /// How a replica stands: its view, the number last executed, and how many requests wait.
