@@ -3,4 +3,3 @@ pub mod Records
 pub mod Fronts
 pub mod Damage
 pub mod Growing
-pub mod Public

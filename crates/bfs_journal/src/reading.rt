@@ -1,7 +1,7 @@
 ghost use Rattle.std.specs.Prelude.{◌≡◌, ◌≤◌, ◌++◌, bytes_eq, length, take, drop, map, IfOk, IfSome, IfNone};
 ghost use Rattle.sha2.specs.Sha256.{sha256};
 ghost use Rattle.bfs_journal.specs.Records.{IsBody, LacksRecord, Splits, journal_of, record_of};
-ghost use Rattle.bfs_journal.specs.Rests.{digest_at, rest_of};
+ghost use Rattle.bfs_journal.specs.Rests.{digest_at, head_bytes, rest_of};
 
 use crate::rest::{HEAD_BYTES, Rest, rest_of, told_length};
 use sha2::{Digest, Sha256};
@@ -63,9 +63,9 @@ fn first_record(bytes: &[u8]) -> Option<(&[u8], &[u8])>
     }
 }
 
-// whether the digest that a record at the front tells is that of the body
+// whether the body has the digest that a record at the front tells
 fn has_digest(bytes: &[u8], body: &[u8]) -> bool
-    requires { 40 ≤ length bytes.now }
+    requires { head_bytes ≤ length bytes.now }
     ensures { result ≡ bytes_eq (sha256 body.now) (digest_at bytes.now) }
 {
     Sha256::digest(body).as_slice() == &bytes[8..HEAD_BYTES]

@@ -1,21 +1,23 @@
 //! A disk in memory that fails.
-ghost use Rattle.std.specs.Prelude.{⊤, None};
+ghost use Rattle.std.specs.Prelude.{◌≤◌, length, Some};
+ghost use Rattle.tests_journal.specs.Cuts.{LeavesFront};
 
 use crate::records::BODIES;
-use bfs_journal::{Disk, KeepError, Rest, keep, read_journal};
+use bfs_journal::{Disk, MOST_BODY_BYTES, Rest, keep, read_journal};
 use bfs_testing::holds;
 use std::alloc::{AllocError, Global};
 use std::io;
 use std::io::{Error, ErrorKind};
 use std::test::Fail;
 
-// bytes of which some are synced. The call that `fails` tells fails, and if it writes, it writes half.
+// Bytes of which some are synced. The call that `fails` tells fails, and if it writes, it writes half.
 #[derive(Drop)]
 struct Failing {
     bytes: Vec<u8>,
     synced: usize,
     calls: u32,
     fails: u32,
+    ghost within: { synced ≤ length bytes.items },
 }
 
 impl Failing {
@@ -27,28 +29,23 @@ impl Failing {
             fails,
         }
     }
-
-    // whether this call fails
-    fn is_next(&mut self) -> bool {
-        self.calls = self.calls.wrapping_add(1);
-        self.calls == self.fails
-    }
 }
 
 impl Disk for Failing {
-    ghost seen = { λ _. None };
+    ghost seen = { λ disk. Some disk.bytes.items };
 
-    ghost may_leave = { λ _ _. ⊤ };
+    ghost may_leave = { λ disk c. LeavesFront disk.synced disk.bytes.items c };
 
     ghost moment = { λ _. 0 };
 
-    ghost left_since = { λ _ _ _. ⊤ };
+    ghost left_since = { λ disk _ c. LeavesFront disk.synced disk.bytes.items c };
 
     ghost only_now = { λ _ _ left. left };
 
-    #[tactic(auto, using(bfs_journal::proofs::Public::anything_follows))]
+    #[tactic(auto, using(crate::proofs::Cuts::no_time))]
     fn append(&mut self, bytes: &[u8]) -> io::Result<()> {
-        if self.is_next() {
+        self.calls = self.calls.wrapping_add(1);
+        if self.calls == self.fails {
             self.bytes.extend_from_slice(&bytes[..bytes.len() / 2])?;
             return Err(Error::from(ErrorKind::StorageFull));
         }
@@ -56,8 +53,10 @@ impl Disk for Failing {
         Ok(())
     }
 
+    #[tactic(auto, using(crate::proofs::Cuts::lies, crate::proofs::Cuts::fewer, crate::proofs::Cuts::no_time))]
     fn sync(&mut self) -> io::Result<()> {
-        if self.is_next() {
+        self.calls = self.calls.wrapping_add(1);
+        if self.calls == self.fails {
             return Err(Error::from(ErrorKind::StorageFull));
         }
         self.synced = self.bytes.len();
@@ -69,7 +68,7 @@ impl Disk for Failing {
 fn kept(alloc: Global, disk: &mut Failing) -> Result<(usize, String), AllocError> {
     let mut count: usize = 0;
     for body in BODIES {
-        if body.len() <= 100 {
+        if body.len() <= MOST_BODY_BYTES {
             if let Err(error) = keep(alloc, disk, body) {
                 return Ok((count, format!(in alloc; "{error}")?));
             }

@@ -1,6 +1,6 @@
 //! Three records, byte for byte. Their bodies are messages whose SHA-256 others have told: the examples of FIPS 180-4, of one and of two blocks, and the
 //! empty one.
-use bfs_journal::put_record;
+use bfs_journal::{MOST_BODY_BYTES, put_record};
 use bfs_testing::same;
 use std::alloc::{AllocError, Global};
 use std::test::Fail;
@@ -29,7 +29,7 @@ pub const ENDS: [usize; 3] = [43, 83, 179];
 pub fn journal(alloc: Global) -> Result<Vec<u8>, AllocError> {
     let mut bytes = Vec::new(alloc);
     for body in BODIES {
-        if body.len() <= 100 {
+        if body.len() <= MOST_BODY_BYTES {
             put_record(&mut bytes, body)?;
         }
     }

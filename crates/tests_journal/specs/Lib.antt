@@ -1,0 +1,2 @@
+-- What the disk of tests_journal says of itself.
+pub mod Cuts
