@@ -180,12 +180,7 @@ impl Relay {
         self.hear_reply(now, signed, passes)
     }
 
-    fn hear_reply(
-        &mut self,
-        now: u64,
-        signed: &Signed<Message>,
-        passes: bool,
-    ) -> Result<(), Memory>
+    fn hear_reply(&mut self, now: u64, signed: &Signed<Message>, passes: bool) -> Result<(), Memory>
         requires { passes ≡ is_signed_reply self.old.clients signed.now }
         ensures { OnOk result (self.new ≡ model.heard_as signed.now.message now signed.now self.old) }
     {

@@ -17,14 +17,29 @@ struct Round {
 
 static ROUNDS: [Round; 5] = [
     // one replica alone tells a later view
-    Round { replies: &[(0, 0, 0), (3, 3, 5)], next: 0 },
+    Round {
+        replies: &[(0, 0, 0), (3, 3, 5)],
+        next: 0,
+    },
     // three tell 5 or more, one of them 6
-    Round { replies: &[(1, 1, 5), (2, 2, 6)], next: 1 },
+    Round {
+        replies: &[(1, 1, 5), (2, 2, 6)],
+        next: 1,
+    },
     // they come late
-    Round { replies: &[(1, 1, 2), (2, 2, 3)], next: 1 },
+    Round {
+        replies: &[(1, 1, 2), (2, 2, 3)],
+        next: 1,
+    },
     // the first two are signed by others
-    Round { replies: &[(0, 1, 7), (2, 3, 7), (2, 2, 6), (3, 3, 6)], next: 2 },
-    Round { replies: &[(0, 0, 7), (1, 1, 7)], next: 3 },
+    Round {
+        replies: &[(0, 1, 7), (2, 3, 7), (2, 2, 6), (3, 3, 6)],
+        next: 2,
+    },
+    Round {
+        replies: &[(0, 0, 7), (1, 1, 7)],
+        next: 3,
+    },
 ];
 
 fn calls(alloc: Global, count: usize) -> Result<Vec<Frame>, Fail> {
