@@ -18,7 +18,7 @@ pub struct Recovered<'a> {
     pub rest: Rest,
 }
 
-/// Reads a journal's whole records, up to the first that is none. Each byte is hashed once, and none is copied.
+/// Reads a journal's whole records, up to the first that is none. Each byte is hashed at most once, and none is copied. The error is want of memory.
 pub fn read_journal(alloc: Global, bytes: &[u8]) -> Result<Recovered<'_>, AllocError>
     ensures split { IfOk result (λ found. Splits bytes.now (map (λ body. body.now) found.bodies.items) (drop found.end bytes.now)) }
     ensures within { IfOk result (λ found. found.end ≤ length bytes.now) }

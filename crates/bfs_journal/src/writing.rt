@@ -7,7 +7,8 @@ use std::alloc::AllocError;
 /// The most bytes of a record's body.
 pub const MOST_BODY_BYTES: usize = 1 << 30;
 
-/// Puts the record of a body behind the bytes: its length in four bytes, twice, its SHA-256 (FIPS 180-4), and the body.
+/// Puts the record of a body behind the bytes: its length in four bytes, twice, its SHA-256 (FIPS 180-4), and the body. After an error, which is want of memory,
+/// a part of it may stand there.
 #[tactic(auto, unfolding(crate::specs::Records::record_of))]
 pub fn put_record(bytes: &mut Vec<u8>, body: &[u8]) -> Result<(), AllocError>
     requires { IsBody body.now }
