@@ -6,9 +6,9 @@ use bfs_clients::{Call, Clients, Tally};
 use bfs_codec::{decode, encode};
 use bfs_messages::{Message, Signed};
 use bfs_node::{Executor, NoGate, Node, NodeError, Receivers, receivers_of};
-use bfs_settings::parse_settings;
+use bfs_settings::{Settings, parse_settings};
 use bfs_types::Time;
-use std::alloc::AllocGlobal;
+use std::alloc::{AllocGlobal, Global};
 use std::collections::VecDeque;
 use std::sync::Wait;
 use std::thread::Threads;
@@ -23,19 +23,37 @@ fn main(rt: HostRuntime) -> Result<(), Error> {
     let alloc = rt.alloc();
     let settings = parse_settings(alloc, CONFIGURATION)?;
     let clients = Clients::new(alloc, &settings)?;
-    let mut nodes = Vec::new(alloc);
-    for number in 0..settings.replicas() {
-        nodes.push(Node::of_settings(alloc, &settings, number)?)?;
-    }
-    // client 1 sends a request to all replicas, and the primary proposes what waits
-    let Call { request, mut tally } = clients.call(1, 7, CALL)?.context("a client")?;
-    settle(&rt, &clients, &mut nodes, request, &mut tally)?;
-    let primary = nodes.first_mut().context("a primary")?;
-    let proposal = primary.propose(Time::new(1, 0).context("a time")?)?;
-    settle(&rt, &clients, &mut nodes, proposal, &mut tally)?;
-    let result = tally.result().context("f + 1 equal replies")?;
+    let mut nodes = nodes_of(alloc, &settings)?;
+    let result = answer(&rt, &clients, &mut nodes)?;
     println!(rt; "{}", hex::encode(alloc, result)?)?;
     Ok(())
+}
+
+fn nodes_of(alloc: Global, settings: &Settings) -> Result<Vec<Node>, Error> {
+    let mut nodes = Vec::new(alloc);
+    for number in 0..settings.replicas() {
+        nodes.push(Node::of_settings(alloc, settings, number)?)?;
+    }
+    Ok(nodes)
+}
+
+// Client 1 sends a request to all replicas, and the primary proposes what waits: what f + 1 replicas reply.
+fn answer<R: AllocGlobal + Threads + Wait + Sync>(
+    rt: &R,
+    clients: &Clients,
+    nodes: &mut [Node],
+) -> Result<Vec<u8>, Error> {
+    let Call { request, mut tally } = clients.call(1, 7, CALL)?.context("a client")?;
+    settle(rt, clients, nodes, request, &mut tally)?;
+    let primary = nodes.first_mut().context("a primary")?;
+    let proposal = propose(primary, Time::new(1, 0).context("a time")?)?;
+    settle(rt, clients, nodes, proposal, &mut tally)?;
+    let result = tally.result().context("f + 1 equal replies")?;
+    Ok(result.to_vec(rt.alloc())?)
+}
+
+fn propose(primary: &mut Node, time: Time) -> Result<Signed<Message>, NodeError> {
+    primary.propose(time)
 }
 
 // Brings a message to those to whom it goes, and what they send then, until nothing is on its way.
@@ -57,14 +75,42 @@ fn settle<R: AllocGlobal + Threads + Wait + Sync>(
             tally.add(clients, &decode(rt.alloc(), &bytes)?)?;
             continue;
         }
-        for node in nodes.iter_mut() {
-            match node.deliver(rt, &bytes) {
-                Ok(sent) => on_their_way.extend(sent)?,
-                Err(NodeError::Memory) => return Err(NodeError::Memory.into()),
-                Err(_) => {} // forged, too early or there already, as its own messages are
-            }
-            on_their_way.extend(node.advance(rt, Executor::serial(), &NoGate)?)?;
-        }
+        bring(rt, nodes, &bytes, &mut on_their_way)?;
     }
     unreachable!()
+}
+
+// Brings bytes to all replicas, which send further messages.
+fn bring<R: AllocGlobal + Threads + Wait + Sync>(
+    rt: &R,
+    nodes: &mut [Node],
+    bytes: &[u8],
+    on_their_way: &mut VecDeque<Signed<Message>>,
+) -> Result<(), Error> {
+    for node in nodes.iter_mut() {
+        on_their_way.extend(hear(rt, node, bytes)?)?;
+        on_their_way.extend(advance(rt, node)?)?;
+    }
+    Ok(())
+}
+
+// What a replica sends as bytes come to it.
+fn hear<R: AllocGlobal + Threads + Sync>(
+    rt: &R,
+    node: &mut Node,
+    bytes: &[u8],
+) -> Result<Vec<Signed<Message>>, NodeError> {
+    match node.deliver(rt, bytes) {
+        Ok(sent) => Ok(sent),
+        Err(NodeError::Memory) => Err(NodeError::Memory),
+        Err(_) => Ok(Vec::new(rt.alloc())), // forged, too early or there already, as its own messages are
+    }
+}
+
+// What it sends as it executes what is committed.
+fn advance<R: Threads + Wait + Sync>(
+    rt: &R,
+    node: &mut Node,
+) -> Result<Vec<Signed<Message>>, NodeError> {
+    node.advance(rt, Executor::serial(), &NoGate)
 }
