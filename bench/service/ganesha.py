@@ -1,13 +1,14 @@
-"""Debian's NFS server in user space, NFS-Ganesha, with files in memory, and calls of NFS version 3 (RFC 1813) to it."""
+"""Debian's NFS server in user space, NFS-Ganesha, over a file system in memory, and calls of NFS version 3 (RFC 1813) to it."""
 import pathlib
 import shutil
 import socket
 import struct
 import subprocess
 import sys
+import tempfile
 import time
 
-PACKAGES = "nfs-ganesha", "nfs-ganesha-mem", "rpcbind"
+PACKAGES = "nfs-ganesha", "nfs-ganesha-vfs", "rpcbind"
 NFS, MOUNT = (100_003, 3), (100_005, 3)
 FILE_SYNC = 2
 PATIENCE = 20
@@ -15,8 +16,8 @@ CONFIGURATION = """
 NFS_CORE_PARAM {{ NFS_Port = {nfs}; MNT_Port = {mount}; Bind_addr = 127.0.0.1; Protocols = 3; Enable_NLM = false; Enable_RQUOTA = false; }}
 NFS_KRB5 {{ Active_krb5 = false; }}
 EXPORT {{
-    Export_Id = 1; Path = /mem; Pseudo = /mem; Protocols = 3; Transports = TCP; SecType = sys; Access_Type = RW; Squash = No_Root_Squash;
-    FSAL {{ Name = MEM; }}
+    Export_Id = 1; Path = {folder}; Pseudo = /files; Protocols = 3; Transports = TCP; SecType = sys; Access_Type = RW; Squash = No_Root_Squash;
+    FSAL {{ Name = VFS; }}
 }}
 """
 
@@ -34,7 +35,8 @@ class Server:
         for each in sockets:
             each.close()
         configuration, self.log = pathlib.Path(room, "ganesha.conf"), pathlib.Path(room, "ganesha.log")
-        configuration.write_text(CONFIGURATION.format(nfs=self.port, mount=self.mount_port))
+        self.folder = tempfile.mkdtemp(prefix="bfs-ganesha-", dir="/dev/shm")
+        configuration.write_text(CONFIGURATION.format(nfs=self.port, mount=self.mount_port, folder=self.folder))
         self.mapper = None if is_open(111) else subprocess.Popen(["rpcbind", "-f"])
         wait_for(111)
         words = ["ganesha.nfsd", "-F", "-f", configuration, "-L", self.log, "-p", f"{room}/ganesha.pid"]
@@ -50,6 +52,7 @@ class Server:
         for process in filter(None, (self.process, self.mapper)):
             process.kill()
             process.wait()
+        shutil.rmtree(self.folder)
 
 
 def is_open(port):
@@ -69,10 +72,10 @@ def opaque(data):
     return struct.pack(">I", len(data)) + data + bytes(-len(data) % 4)
 
 
-def calls(client, at_mount, block, blocks):
+def calls(client, at_mount, folder, block, blocks):
     """GETATTRs and WRITEs of a new file (sections 3.3.1 and 3.3.7), for ever."""
     handle_at = lambda reply, at: reply[at : at + 4 + struct.unpack_from(">I", reply, at)[0]]
-    root = handle_at(at_mount.ask(MOUNT, 1, opaque(b"/mem")), 0)
+    root = handle_at(at_mount.ask(MOUNT, 1, opaque(folder.encode())), 0)
     made = client.ask(NFS, 8, root + opaque(b"file") + bytes(4) + struct.pack(">2I", 1, 0o644) + bytes(20))
     handle = handle_at(made, 4)
 

@@ -187,7 +187,7 @@ def main(room, words):
     if settings["ganesha"]:
         with ganesha.Server(room) as server:
             client = Client(server.port)
-            measure(server, client, ganesha.calls(client, Client(server.mount_port), BLOCK, BLOCKS), settings["seconds"])
+            measure(server, client, ganesha.calls(client, Client(server.mount_port), server.folder, BLOCK, BLOCKS), settings["seconds"])
         return
     programs = {name: settings[name] for name in ("replica", "relay")}
     if not any(programs.values()):
