@@ -2,7 +2,6 @@
 ghost use Rattle.std.specs.Prelude.{◌≡◌, count_by, nat_le, IfOk};
 ghost use Rattle.bfs_relay.specs.Leaders as model;
 
-use bfs_clients::Clients;
 use bfs_frames::To;
 use bfs_messages::{Message, Signed};
 use bfs_types::{MOST_FAULTS, MOST_REPLICAS, Memory};

@@ -1,4 +1,5 @@
--- A replica as a process: how it serves (Terms), the steps of its node (Acting), what it tells (Telling), its turns (Turns), and turns of many processes (Processes).
+-- A replica as a process: how it serves (Terms), the steps of its node (Acting), what it tells (Telling), its turns (Turns), and turns of many processes
+-- (Processes).
 pub mod Terms
 pub mod Acting
 pub mod Telling
