@@ -1,5 +1,5 @@
 -- Which replica is asked first: the one that leads the view in which the replicas are, as far as their replies tell (OSDI 1999 section 4.1).
-use Rattle.std.specs.Prelude.{ℕ, Bool, true, false, List, Option, Some, None, count_by, fold, max, nat_le, nat_lt, replicate, slice_get, slice_set, if◌then◌else◌}
+use Rattle.std.specs.Prelude.{ℕ, Bool, true, false, List, Option, Some, None, count_by, filter, fold, max, nat_le, nat_lt, replicate, slice_get, slice_set, if◌then◌else◌}
 use Rattle.bfs_model.specs.Server.Limits.{most_faults, most_replicas}
 use Rattle.bfs_votes.specs.Votes.{primary}
 use Rattle.bfs_clients.specs.Clients.{Clients}
@@ -39,12 +39,9 @@ views_told clients signed views = views_as signed.message (is_signed_reply clien
 abbrev pub is_reached : (f : ℕ) → List ℕ → (view : ℕ) → Bool
 is_reached f views view = nat_lt f (count_by (λ told. nat_le view told) views)
 
-abbrev pub latest_of : (f : ℕ) → List ℕ → (latest view : ℕ) → ℕ
-latest_of f views latest view = if is_reached f views view then max latest view else latest
-
--- the latest view that f + 1 replicas have reached: f liars alone can't raise it, nor hold it down where the others tell a later one
+-- the latest of the views that f + 1 replicas have reached: f liars alone can't raise it, nor hold it down where the others tell a later one
 abbrev pub view_reached : (f : ℕ) → List ℕ → ℕ
-view_reached f views = fold (latest_of f views) 0 views
+view_reached f views = fold max 0 (filter (is_reached f views) views)
 
 -- it goes to one replica, or to all
 abbrev pub IsToReplicas : To → Type 0

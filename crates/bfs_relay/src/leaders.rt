@@ -1,5 +1,5 @@
 // Which replica is asked first.
-ghost use Rattle.std.specs.Prelude.{◌≡◌, count_by, nat_le, IfOk};
+ghost use Rattle.std.specs.Prelude.{◌≡◌, count_by, max, nat_le, if◌then◌else◌, IfOk};
 ghost use Rattle.bfs_relay.specs.Leaders as model;
 
 use bfs_frames::To;
@@ -62,7 +62,7 @@ impl Views {
         To::Replica((self.reached(f) % count) as u32)
     }
 
-    #[tactic(auto, using(crate::proofs::Folding::fold_more))]
+    #[tactic(auto, using(crate::proofs::Leading::reached_more))]
     fn reached(&self, f: u32) -> u64
         ensures { result ≡ model.view_reached f self.now }
     {
@@ -74,7 +74,7 @@ impl Views {
     }
 
     fn latest_of(&self, f: u32, latest: u64, view: u64) -> u64
-        ensures { result ≡ model.latest_of f self.now latest view }
+        ensures { result ≡ if model.is_reached f self.now view then max latest view else latest }
     {
         if self.count_from(view) > f as usize {
             latest.max(view)
