@@ -67,17 +67,17 @@ def large(program, room):
     for count, trace in traces.items():
         made = full(f"create #2 f{number} - - - {size // count} - -" for number in range(count))
         write_trace(trace, [*made, f"write #3 {size // count // 2} x" + "61" * 8_192])
-    passed, refreshed = defaultdict(list), defaultdict(list)
+    passed, frozen = defaultdict(list), defaultdict(list)
     for _ in range(3):
         for name, runs in lib.in_turn(range(ROUNDS), {(work, count): (program, work, times, traces[count]) for work in works for count in traces}).items():
             passed[name] += runs.passed
         for count, trace in traces.items():
-            refreshed[count].append(lib.run(program, "refresh", times, trace, reads=True).numbers)
+            frozen[count].append(lib.run(program, "freeze", times, trace, reads=True).numbers)
     for count in traces:
         nothing, serial, parallel = (min(passed[work, count]) / times * 1e3 for work in works)
-        first, again = (min(column) / 1e3 for column in zip(*refreshed[count]))
+        first, again = (min(column) / 1e3 for column in zip(*frozen[count]))
         print(f"16 MiB in {count} files: digest_serial {serial - nothing:.1f} ms, digest_parallel {parallel - nothing:.1f} ms; "
-              f"refresh {first:.1f} ms, behind a WRITE of 8 KiB {again:.1f} ms")
+              f"freezing {first:.1f} ms, behind a WRITE of 8 KiB {again:.1f} ms")
 
 
 def inodes(program, room):
@@ -96,9 +96,9 @@ def kept(program, room):
     trace, count = f"{room}/trace", 100_000
     changed = range(3 + DIRECTORIES, 3 + DIRECTORIES + BATCH)
     write_trace(trace, [*full(make_inodes(count)), *(f"setattr #{fileid} 600 - - - - -" for fileid in changed)])
-    first, again = (min(column) / 1e3 for column in zip(*lib.again(ROUNDS, program, "refresh", 5, trace, reads=True).numbers))
+    first, again = (min(column) / 1e3 for column in zip(*lib.again(ROUNDS, program, "freeze", 5, trace, reads=True).numbers))
     serial, parallel = milliseconds(program, 10, trace, "serial", "parallel")
-    print(f"{count} inodes: refresh {first:.1f} ms, behind {BATCH} SETATTRs {again:.1f} ms; with nothing kept digest_serial {serial:.1f} ms, "
+    print(f"{count} inodes: freezing {first:.1f} ms, behind {BATCH} SETATTRs {again:.1f} ms; with nothing kept digest_serial {serial:.1f} ms, "
           f"digest_parallel {parallel:.1f} ms")
 
 

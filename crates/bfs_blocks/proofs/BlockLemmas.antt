@@ -5,10 +5,9 @@ use Rattle.std.specs.List.{concat}
 use Rattle.std.specs.Option.{option_map}
 use Rattle.std.proofs.lemmas.List.{drop-drop, drop-take, drop_min, get_or-map, get_or-take, length-map, length-set, length-take-le, map-append, map-set, set-get_or, take-map, take-take, take_all, take_more, take_more_set}
 use Rattle.std.proofs.lemmas.Option.{get_or_from_slice_get, slice_get-map, slice_get_within}
-use Rattle.sha2.specs.Sha256.{sha256}
 use Rattle.bfs_blocks.specs.declared.blocks.Block.{Block}
-use Rattle.bfs_blocks.specs.Blocks.{AreDigestsOf, AreFilled, bytes_in, bytes_of, pieces_of}
-use Rattle.bfs_blocks.specs.Bytes.{AreBlockDigests, block_at, block_bytes}
+use Rattle.bfs_blocks.specs.Blocks.{AreFilled, bytes_in, bytes_of, pieces_of}
+use Rattle.bfs_blocks.specs.Bytes.{block_at, block_bytes}
 use Rattle.bfs_blocks.proofs.PieceLemmas.{block_is, extended, few_in, filled_extended, length_is, length_most, no_block, rest_in}
 
 -- the piece of a block
@@ -149,12 +148,6 @@ copied blocks copies now k was block lt is so_far pushing same =
     pushed copies block now (get_or (pieces_of blocks) k []) pushing (same ∙ sym (piece_read blocks k was lt is))
     ∙ ap (λ ps. ps ++ get_or (pieces_of blocks) k [] ∷ []) so_far
     ∙ sym (take_more (pieces_of blocks) k [] (omega (arith, lt, length-map blocks bytes_in)))
-
--- the digests of a file's blocks
-pub digests_of : (digests : List (List ℕ)) (ps : List (List ℕ)) (bytes : List ℕ) → AreFilled ps → concat ps ≡ bytes → AreBlockDigests digests bytes → AreDigestsOf digests ps
-digests_of digests ps bytes filled are own k digest piece is_digest is_piece =
-    own k digest is_digest
-    ∙ ap sha256 (ap (λ xs. block_at xs k) (sym are) ∙ block_is k ps [] filled (slice_get_within ps k piece is_piece) ∙ get_or_from_slice_get ps k piece [] is_piece)
 
 -- blocks of which one got its digest
 pub one_kept : (blocks before : List Block) (k : ℕ) (d block : Block) → k < length blocks → pieces_of blocks ≡ pieces_of before → bytes_in block ≡ bytes_in (get_or blocks k d) → pieces_of (set blocks k block) ≡ pieces_of before

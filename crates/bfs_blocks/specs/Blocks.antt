@@ -1,16 +1,11 @@
 -- The blocks of a file, as the code has them.
-use Rattle.std.specs.Prelude.{◌≡◌, ◌+◌, ◌<◌, ◌≤◌, ℕ, List, [], ◌∷◌, ◌++◌, length, take, drop, map, unwrap_or, IsSome, vec_len, vec_capacity, ⊤, Some, slice_get}
+use Rattle.std.specs.Prelude.{◌≡◌, ◌+◌, ◌<◌, ◌≤◌, ℕ, List, [], ◌∷◌, ◌++◌, length, take, drop, map, unwrap_or, IsSome, vec_len, vec_capacity, ⊤}
 use Rattle.std.specs.List.{concat}
-use Rattle.sha2.specs.Sha256.{sha256}
 use Rattle.bfs_model.specs.Server.Limits.{most_file_bytes}
 use Rattle.bfs_blocks.specs.Bytes.{block_bytes}
 use Rattle.bfs_blocks.specs.declared.blocks.Block.{Block}
 
 -- Pieces of bytes ------------------------------------------------------------------------------------------------------
-
--- each digest is that of the piece of its place
-abbrev pub AreDigestsOf : List (List ℕ) → (pieces : List (List ℕ)) → Type 0
-AreDigestsOf digests pieces = (k : ℕ) (digest piece : List ℕ) → slice_get digests k ≡ Some digest → slice_get pieces k ≡ Some piece → digest ≡ sha256 piece
 
 -- with others put over them from a start on
 abbrev pub put_at : (start : ℕ) (put bytes : List ℕ) → List ℕ

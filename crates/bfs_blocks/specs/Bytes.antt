@@ -1,7 +1,6 @@
 -- The bytes of a file in blocks.
-use Rattle.std.specs.Prelude.{◌≡◌, ◌+◌, ◌*◌, ◌/◌, ℕ, List, Some, length, map, take, drop, slice_get}
+use Rattle.std.specs.Prelude.{◌+◌, ◌*◌, ◌/◌, ℕ, List, length, map, take, drop}
 use Rattle.std.specs.List.{range_with_len}
-use Rattle.sha2.specs.Sha256.{sha256}
 
 -- the bytes of a block
 abbrev pub block_bytes : ℕ
@@ -18,7 +17,3 @@ block_at bytes n = take block_bytes (drop (block_bytes * n) bytes)
 -- all blocks, in order
 abbrev pub blocks_in : List ℕ → List (List ℕ)
 blocks_in bytes = map (block_at bytes) (range_with_len 0 (block_count (length bytes)))
-
--- each digest is that of the block of its place
-abbrev pub AreBlockDigests : List (List ℕ) → (bytes : List ℕ) → Type 0
-AreBlockDigests digests bytes = (k : ℕ) (digest : List ℕ) → slice_get digests k ≡ Some digest → digest ≡ sha256 (block_at bytes k)

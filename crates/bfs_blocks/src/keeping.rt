@@ -1,7 +1,8 @@
 // The digests of blocks that are kept, so that what didn't change isn't hashed again.
 ghost use Rattle.std.specs.Prelude.{◌≡◌};
-ghost use Rattle.bfs_blocks.specs.Blocks.{AreDigestsOf, pieces_of};
-ghost use Rattle.bfs_blocks.specs.Bytes.{AreBlockDigests};
+ghost use Rattle.sha2.specs.Sha256.{sha256};
+ghost use Rattle.bfs_blocks.specs.Blocks.{AreFilled, bytes_of, pieces_of};
+ghost use Rattle.bfs_blocks.specs.Bytes.{block_at};
 
 use crate::blocks::Block;
 use crate::files::FileBlocks;
@@ -17,12 +18,18 @@ impl FileBlocks {
         Ok(keep_all(alloc, &mut self.blocks)?)
     }
 
-    /// The same with those digests, in the order of the blocks, so that no block is hashed.
-    pub fn keep_blocks(&mut self, alloc: Global, digests: &[[u8; 32]]) -> Result<(), Memory>
-        requires { AreBlockDigests digests.now self.old }
+    /// Keeps the SHA-256 of the block of that number, from 0 on, until it changes. Copies that are made then share it. Behind the last block
+    /// it keeps nothing. `Memory` if memory runs out; then it keeps what it kept.
+    pub fn keep_block(
+        &mut self,
+        alloc: Global,
+        number: usize,
+        digest: [u8; 32],
+    ) -> Result<(), Memory>
+        requires { digest ≡ sha256 (block_at self.old number) }
         ensures { self.new ≡ self.old }
     {
-        Ok(keep_each(alloc, &mut self.blocks, digests)?)
+        Ok(keep_at(alloc, &mut self.blocks, number, digest)?)
     }
 }
 
@@ -35,12 +42,19 @@ fn keep_all(alloc: Global, blocks: &mut [Block]) -> Result<(), AllocError>
     Ok(())
 }
 
-fn keep_each(alloc: Global, blocks: &mut [Block], digests: &[[u8; 32]]) -> Result<(), AllocError>
-    requires { AreDigestsOf digests.now (pieces_of blocks.old) }
+fn keep_at(
+    alloc: Global,
+    blocks: &mut [Block],
+    number: usize,
+    digest: [u8; 32],
+) -> Result<(), AllocError>
+    requires filled { AreFilled (pieces_of blocks.old) }
+    requires digest { digest ≡ sha256 (block_at (bytes_of blocks.old) number) }
     ensures { pieces_of blocks.new ≡ pieces_of blocks.old }
 {
-    for number in 0..blocks.len().min(digests.len()) {
-        blocks[number].keep(alloc, digests[number])?;
+    if number < blocks.len() {
+        blocks[number].keep(alloc, digest)
+    } else {
+        Ok(())
     }
-    Ok(())
 }

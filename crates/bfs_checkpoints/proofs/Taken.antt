@@ -1,5 +1,5 @@
 -- Snapshots that are taken, and those that are adopted.
-use Rattle.std.proofs.Common.{◌≡◌, ℕ, not, List, [], ◌++◌, Option, Some, None, Result, Ok, Err, true, false, Bool, refl, sym, ◌∙◌}
+use Rattle.std.proofs.Common.{◌≡◌, ℕ, not, List, [], ◌++◌, Option, Some, None, Result, Ok, Err, true, false, Bool, refl, sym, ap, ◌∙◌}
 use Rattle.std.specs.Prelude.{bytes_eq}
 use Rattle.std.specs.Result.{IsErrAnd, IsErrOf}
 use Rattle.std.proofs.lemmas.Bool.{both_ways, not-false, not-true}
@@ -9,10 +9,13 @@ use Rattle.std.proofs.lemmas.Option.{same_Some}
 use Rattle.bfs_model.specs.Server.Tree.{FileSystem}
 use Rattle.bfs_digest.specs.declared.errors.RestoreError.{RestoreError}
 use Rattle.bfs_digest.specs.declared.errors.RestoreError.TheVariants as restore
+use Rattle.sha2.specs.Sha256.{sha256}
+use Rattle.bfs_digest.specs.Frozen.{FrozenFiles, frozen_files}
 use Rattle.bfs_replies.specs.Tables.{Table}
+use Rattle.bfs_replies.specs.Texts.{table_text}
 use Rattle.bfs_checkpoints.specs.Adoption.{HasDigest, HasOtherDigest, refusal_of}
 use Rattle.bfs_checkpoints.specs.Outcomes.{IsRead}
-use Rattle.bfs_checkpoints.specs.Snapshots.{IsSnapshot, Snapshot}
+use Rattle.bfs_checkpoints.specs.Snapshots.{IsSnapshot, Snapshot, snapshot_of}
 use Rattle.bfs_checkpoints.specs.Texts.{node_digest, node_text}
 use Rattle.bfs_checkpoints.specs.declared.adoption.AdoptError.{AdoptError}
 use Rattle.bfs_checkpoints.specs.declared.adoption.AdoptError.TheVariants as error
@@ -20,17 +23,22 @@ use Rattle.bfs_checkpoints.specs.declared.adoption.AdoptError.TheVariants as err
 same_snapshot : (text other digest told : List ℕ) → text ≡ other → digest ≡ told → ◌≡◌ {A = Snapshot} (record { text = text; digest = digest }) (record { text = other; digest = told })
 same_snapshot text other digest told e h = rw (e, h)
 
-behind_nothing : (before text : List ℕ) → before ≡ [] → before ++ text ≡ text
-behind_nothing before text e = rw e
+pub taken : (files : Option FileSystem) (table : Table) (frozen : FrozenFiles) (digest : List ℕ) → option_map frozen_files files ≡ Some frozen → digest ≡ sha256 (frozen.digest ++ table_text table)
+    → option_map (λ live. snapshot_of live table) files ≡ Some (record { text = table_text table ++ frozen.text; digest = digest })
+unfolding node_digest node_text
+taken None table frozen digest is hashed = absurd cc
+taken (Some live) table frozen digest is hashed =
+    let same = same_Some (frozen_files live) frozen is in
+    ap Some (same_snapshot (node_text live table) (table_text table ++ frozen.text) (node_digest live table) digest (ap (λ (f : FrozenFiles). table_text table ++ f.text) same) (ap (λ (f : FrozenFiles). sha256 (f.digest ++ table_text table)) same ∙ sym hashed))
 
-pub taken : (files : Option FileSystem) (table : Table) (before text digest : List ℕ) → before ≡ [] → option_map (λ live. before ++ node_text live table) files ≡ Some text
-    → option_map (λ live. node_digest live table) files ≡ Some digest → IsSnapshot (record { text = text; digest = digest })
-taken None table before text digest empty told hashed = absurd cc
-taken (Some live) table before text digest empty told hashed = record {
-  files = live;
-  table = table;
-  is = same_snapshot text (node_text live table) digest (node_digest live table) (sym (same_Some _ _ told) ∙ behind_nothing before (node_text live table) empty) (sym (same_Some _ _ hashed));
-}
+pub is_taken : (files : Option FileSystem) (table : Table) (snapshot : Snapshot) → option_map (λ live. snapshot_of live table) files ≡ Some snapshot → IsSnapshot snapshot
+is_taken None table snapshot is = absurd cc
+is_taken (Some live) table snapshot is = record { files = live; table = table; is = sym (same_Some _ _ is) }
+
+-- its digest is that of the state
+pub has_digest : (files : Option FileSystem) (table : Table) (snapshot : Snapshot) → option_map (λ live. snapshot_of live table) files ≡ Some snapshot → HasDigest files table snapshot.digest
+has_digest None table snapshot is = absurd cc
+has_digest (Some live) table snapshot is = ap (λ (s : Snapshot). Some s.digest) (same_Some _ _ is)
 
 -- what `!=` of two digests tells
 pub differ : (ne : Bool) (found digest : List ℕ) → ne ≡ not (bytes_eq found digest) → ne ≡ true → found ≡ digest → ⊥
@@ -39,13 +47,13 @@ differ ne found digest is told e = both_ways (bytes_eq found digest) (not-true (
 pub same : (ne : Bool) (found digest : List ℕ) → ne ≡ not (bytes_eq found digest) → ne ≡ false → found ≡ digest
 same ne found digest is told = (bytes_eq-Decides found digest).0 (not-false (bytes_eq found digest) (sym is ∙ told))
 
-pub adopted : (clients : ℕ) (bytes digest : List ℕ) (files : Option FileSystem) (table : Table) → IsRead clients bytes files table → HasDigest files table digest → IsSnapshot (record { text = bytes; digest = digest })
-adopted clients bytes digest None table read hashed = absurd read
-adopted clients bytes digest (Some live) table read hashed = record {
-  files = live;
-  table = table;
-  is = same_snapshot bytes (node_text live table) digest (node_digest live table) read.0.spelled (sym (same_Some _ _ hashed));
-}
+pub adopted : (clients : ℕ) (bytes digest : List ℕ) (files : Option FileSystem) (table : Table) (snapshot : Snapshot) → IsRead clients bytes files table → option_map (λ live. snapshot_of live table) files ≡ Some snapshot
+    → snapshot.digest ≡ digest → snapshot ≡ record { text = bytes; digest = digest }
+adopted clients bytes digest None table snapshot read is told = absurd read
+adopted clients bytes digest (Some live) table snapshot read is told =
+    let own = sym (same_Some _ _ is) in
+    let text = ap (λ (s : Snapshot). s.text) own ∙ sym read.0.spelled in
+    same_snapshot snapshot.text bytes snapshot.digest digest text told
 
 pub other_digest : (clients : ℕ) (bytes found digest : List ℕ) (files : Option FileSystem) (table : Table) → IsRead clients bytes files table → HasDigest files table found → (found ≡ digest → ⊥) → HasOtherDigest clients bytes digest
 other_digest clients bytes found digest None table read hashed differ = absurd read

@@ -1,14 +1,14 @@
-ghost use Rattle.std.specs.Prelude.{◌≡◌, ◌↔◌, IfOk, IfSome, IsErrOf};
+ghost use Rattle.std.specs.Prelude.{◌≡◌, ◌↔◌, Some, IfOk, IfSome, IsErrOf};
+ghost use Rattle.std.specs.Option.{option_map};
 ghost use Rattle.bfs_checkpoints.specs.Adoption.{HasDigest, HasOtherDigest, code_of};
+ghost use Rattle.bfs_checkpoints.specs.Snapshots.{snapshot_of};
 ghost use Rattle.bfs_checkpoints.specs.Outcomes.{IsRead, NodeHasOtherVersion, NodeIsMalformed, SpellsIllFormedNode};
 
-use crate::digests::digest_node;
 use crate::reading::read_node;
-use crate::snapshots::Snapshot;
+use crate::snapshots::{Snapshot, take_snapshot};
 use bfs_digest::RestoreError;
 use bfs_replies::ReplyTable;
-use bfs_serial::{ExecError, FileSystem};
-use bfs_types::Memory;
+use bfs_serial::FileSystem;
 use std::alloc::Global;
 use std::thread::Threads;
 use thiserror::Error;
@@ -88,34 +88,32 @@ pub fn adopt(
     ensures ill_formed { IsErrOf result AdoptError.NotWellFormed → SpellsIllFormedNode clients bytes.now }
     ensures differs { IsErrOf result AdoptError.DigestDiffers → HasOtherDigest clients bytes.now digest.now }
 {
-    let (files, table) = read_node(alloc, bytes, clients)?;
-    let Some(found) = live_digest(rt, alloc, &files, &table) else {
+    let (mut files, table) = read_node(alloc, bytes, clients)?;
+    let Some(snapshot) = live_snapshot(rt, alloc, &mut files, &table) else {
         return Err(AdoptError::Memory);
     };
-    if found != *digest {
+    if snapshot.digest() != digest {
         return Err(AdoptError::DigestDiffers);
     }
-    match Snapshot::new(alloc, bytes, digest) {
-        Ok(snapshot) => Ok(Adopted {
-            files,
-            table,
-            snapshot,
-        }),
-        Err(Memory) => Err(AdoptError::Memory),
-    }
+    Ok(Adopted {
+        files,
+        table,
+        snapshot,
+    })
 }
 
-// The digest of a replica whose file system is live, or `None` if memory runs out.
-fn live_digest(
+// The snapshot of a replica whose file system is live, or `None` if memory runs out.
+fn live_snapshot(
     rt: &(impl Threads + Sync),
     alloc: Global,
-    files: &FileSystem,
+    files: &mut FileSystem,
     table: &ReplyTable,
-) -> Option<[u8; 32]>
-    ensures { IfSome result (λ digest. HasDigest files.now table.now digest) }
+) -> Option<Snapshot>
+    ensures value { IfSome result (λ snapshot. option_map (λ live. snapshot_of live table.now) files.old ≡ Some snapshot) }
+    ensures stays { files.new ≡ files.old }
 {
-    match digest_node(rt, alloc, files, table) {
-        Ok(digest) => Some(digest),
+    match take_snapshot(rt, alloc, files, table) {
+        Ok(snapshot) => Some(snapshot),
         Err(_) => None,
     }
 }

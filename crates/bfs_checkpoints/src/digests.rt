@@ -27,7 +27,7 @@ pub fn digest_node(
     Ok(digest_with(&digest, table))
 }
 
-fn digest_with(files: &[u8; 32], table: &ReplyTable) -> [u8; 32]
+pub(crate) fn digest_with(files: &[u8; 32], table: &ReplyTable) -> [u8; 32]
     ensures { result ≡ sha256 (files.now ++ table_text table.now) }
 {
     let mut hasher = Sha256::new();

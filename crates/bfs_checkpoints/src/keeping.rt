@@ -43,8 +43,8 @@ impl Kept {
 /// What a replica was after a number, as 2f + 1 replicas have told: by it another one catches up (OSDI 1999 section 4.3).
 #[derive(Clone, Copy)]
 pub struct StableSnapshot<'a> {
-    /// The text of the last replies and of the file system.
-    pub text: &'a [u8],
+    /// The snapshot, whose text is that of the last replies and of the file system.
+    pub snapshot: &'a Snapshot,
     /// The number, and the digest of that state, with CHECKPOINTs of 2f + 1 replicas or more that tell them.
     pub checkpoint: &'a StableCheckpoint,
 }
@@ -131,13 +131,14 @@ impl Snapshots {
     /// The stable snapshot, and the CHECKPOINTs of 2f + 1 replicas or more that tell its digest. It takes no memory.
     #[tactic(auto, using(crate::proofs::Stable::found_is_stable))]
     pub fn stable(&self) -> Option<StableSnapshot<'_>>
-        ensures value { option_map (λ stable. (stable.text.now, stable.checkpoint.now)) result ≡ stable self.now }
-        ensures certified { IfSome result (λ stable. IsStable self.now.f stable.text.now stable.checkpoint.now) }
+        ensures value { option_map (λ stable. (stable.snapshot.now.text, stable.checkpoint.now)) result ≡ stable self.now }
+        ensures certified { IfSome result (λ stable. IsStable self.now.f stable.snapshot.now.text stable.checkpoint.now) }
     {
         let checkpoint = self.stable.as_ref()?;
         let kept = find_of(&self.kept, checkpoint.number(), checkpoint.digest())?;
+        kept.snapshot.is_of_one_state();
         Some(StableSnapshot {
-            text: kept.snapshot.text(),
+            snapshot: &kept.snapshot,
             checkpoint,
         })
     }

@@ -1,54 +1,47 @@
-ghost use Rattle.std.specs.Prelude.{◌≡◌, ◌↔◌, ◌++◌, Some, None, IfOk, OnOk, IsErrOf};
+ghost use Rattle.std.specs.Prelude.{◌≡◌, ◌↔◌, Some, None, IfOk, IsErrOf};
 ghost use Rattle.std.specs.Option.{option_map};
 ghost use Rattle.bfs_checkpoints.specs.Snapshots.{IsSnapshot, snapshot_of};
-ghost use Rattle.bfs_checkpoints.specs.Texts.{node_text};
 
-use crate::digests::digest_node;
-use bfs_digest::{put_snapshot, refresh};
+use crate::digests::digest_with;
+use bfs_digest::{FrozenFiles, freeze};
 use bfs_replies::ReplyTable;
 use bfs_serial::{ExecError, FileSystem};
-use bfs_types::Memory;
+use bfs_types::{Memory, TryClone};
 use std::alloc::Global;
 use std::marker::Model;
 use std::thread::Threads;
 
-/// The text of a replica, and its digest. Both are of one state.
+/// What a replica was: its text, and its digest. Both are of one state. The file system is frozen, and the table shares the replies; the text is made when
+/// somebody asks for it.
 #[derive(Debug, Drop)]
 pub struct Snapshot {
-    text: Vec<u8>,
+    files: FrozenFiles,
+    table: ReplyTable,
     digest: [u8; 32],
 }
 
 impl Model for Snapshot {
+    ghost use Rattle.std.specs.Prelude.{◌++◌};
+    ghost use Rattle.bfs_replies.specs.Texts.{table_text};
     ghost use Rattle.bfs_checkpoints.specs.Snapshots as model;
 
     ghost Value = { model.Snapshot };
 
-    ghost view = { λ snapshot. record { text = snapshot.text.items; digest = snapshot.digest } };
+    ghost view = { λ snapshot. record { text = table_text snapshot.table ++ snapshot.files.text; digest = snapshot.digest } };
 
-    ghost invariant = { λ snapshot. model.IsSnapshot (record { text = snapshot.text.items; digest = snapshot.digest }) };
+    ghost invariant = { λ snapshot. model.IsSnapshot (record { text = table_text snapshot.table ++ snapshot.files.text; digest = snapshot.digest }) };
 }
 
 impl Snapshot {
-    /// A copy of a text, with its digest. `Memory` if memory runs out.
-    pub(crate) fn new(alloc: Global, text: &[u8], digest: &[u8; 32]) -> Result<Snapshot, Memory>
-        requires { IsSnapshot (record { text = text.now; digest = digest.now }) }
-        ensures { IfOk result (λ snapshot. snapshot ≡ record { text = text.now; digest = digest.now }) }
-    {
-        let mut copy = Vec::new(alloc);
-        copy.extend_from_slice(text)?;
-        Ok(Snapshot {
-            text: copy,
-            digest: *digest,
-        })
-    }
-
-    /// The text: that of the table of replies, and behind it that of the file system.
-    pub fn text(&self) -> &[u8]
-        ensures value { result.now ≡ self.now.text }
+    /// The text: that of the table of replies, and behind it that of the file system. Each call makes it anew. `Memory` if memory runs out.
+    pub fn text(&self, alloc: Global) -> Result<Vec<u8>, Memory>
+        ensures value { IfOk result (λ text. text.items ≡ self.now.text) }
         ensures snapshot { IsSnapshot self.now }
     {
-        self.text.as_slice()
+        let mut text = Vec::new(alloc);
+        self.table.put_text(&mut text)?;
+        self.files.put_text(&mut text)?;
+        Ok(text)
     }
 
     /// The digest, which CHECKPOINTs tell.
@@ -57,10 +50,16 @@ impl Snapshot {
     {
         &self.digest
     }
+
+    /// Its text and its digest are of one state: a call that does nothing tells it.
+    pub(crate) fn is_of_one_state(&self)
+        ensures { IsSnapshot self.now }
+    {}
 }
 
-/// A snapshot of a replica. The digests of its inodes are made on threads and kept, so that the next snapshot costs what has changed.
-/// The file system stays as it was. `Failed` if it has failed, `Memory` if memory runs out.
+/// A snapshot of a replica. What its inodes are is frozen and shared (`freeze`), so that a snapshot costs what has changed since the one
+/// before it, and a pointer and 36 hashed bytes an inode. The file system stays as it was. `Failed` if it has failed, `Memory` if memory
+/// runs out.
 pub fn take_snapshot(
     rt: &(impl Threads + Sync),
     alloc: Global,
@@ -71,21 +70,14 @@ pub fn take_snapshot(
     ensures stays { files.new ≡ files.old }
     ensures failed { IsErrOf result ExecError.Failed ↔ (files.old ≡ None) }
 {
-    refresh(rt, alloc, files)?;
-    let mut text = Vec::new(alloc);
-    put_node(&mut text, files, table)?;
-    let digest = digest_node(rt, alloc, files, table)?;
-    Ok(Snapshot { text, digest })
-}
-
-// The text of a replica's table, and behind it that of its file system.
-#[tactic(auto, unfolding(crate::specs::Texts::node_text))]
-fn put_node(out: &mut Vec<u8>, files: &FileSystem, table: &ReplyTable) -> Result<(), ExecError>
-    ensures text { OnOk result (option_map (λ live. out.old.items ++ node_text live table.now) files.now ≡ Some out.new.items) }
-    ensures failed { IsErrOf result ExecError.Failed → files.now ≡ None }
-{
-    match table.put_text(out) {
-        Ok(()) => put_snapshot(out, files),
-        Err(Memory) => Err(ExecError::Memory),
-    }
+    let frozen = freeze(rt, alloc, files)?;
+    let Ok(table) = table.try_clone(alloc) else {
+        return Err(ExecError::Memory);
+    };
+    let digest = digest_with(&frozen.digest(), &table);
+    Ok(Snapshot {
+        files: frozen,
+        table,
+        digest,
+    })
 }

@@ -72,14 +72,14 @@ impl Cluster {
         match self.ahead_of(replica.node.last_executed()) {
             None => Ok(None),
             Some(stable) => Ok(Some(Offer {
-                text: Vec::from_slice(self.alloc, stable.text)?,
+                text: stable.snapshot.text(self.alloc)?,
                 checkpoint: stable.checkpoint.try_clone(self.alloc)?,
             })),
         }
     }
 
     fn ahead_of(&self, last: u64) -> Option<StableSnapshot<'_>>
-        ensures { option_map {U = Offered} (λ stable. (stable.text.now, stable.checkpoint.now)) result ≡ ahead_of last self.now.replicas }
+        ensures { option_map {U = Offered} (λ stable. (stable.snapshot.now.text, stable.checkpoint.now)) result ≡ ahead_of last self.now.replicas }
     {
         for replica in &self.replicas {
             if let Some(offer) = replica.offer(last) {

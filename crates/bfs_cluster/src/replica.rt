@@ -180,7 +180,7 @@ impl Replica {
 
     /// Its stable snapshot, if its number is above that one.
     pub fn offer(&self, last: u64) -> Option<StableSnapshot<'_>>
-        ensures { option_map {U = Offer} (λ stable. (stable.text.now, stable.checkpoint.now)) result ≡ offered last self.now }
+        ensures { option_map {U = Offer} (λ stable. (stable.snapshot.now.text, stable.checkpoint.now)) result ≡ offered last self.now }
     {
         if !self.heard {
             return None;

@@ -2,8 +2,8 @@
 use Rattle.std.proofs.Common.{◌≡◌, ℕ, zero, suc, ◌+◌, List, [], ◌∷◌, ◌++◌, length, Some, slice_get, sym, ap, subst, ◌∙◌, append_assoc, append-nil, arith}
 use Rattle.std.specs.List.{flat_map, range_with_len}
 use Rattle.sha2.specs.Sha256.{sha256}
-use Rattle.bfs_inode.specs.Files.{AreBlockDigests}
-use Rattle.bfs_inode.specs.Records.{block_at, block_count, blocks_text}
+use Rattle.bfs_blocks.specs.Bytes.{block_at, block_count}
+use Rattle.bfs_inode.specs.Records.{blocks_text}
 
 range_grows : (a n : ℕ) → range_with_len a (suc n) ≡ range_with_len a n ++ (a + n) ∷ []
 range_grows a zero = let e : a ≡ a + 0 = omega arith in ap (λ k. k ∷ []) e
@@ -27,14 +27,3 @@ one_more bytes n m is =
 pub all_of_them : (bytes : List ℕ) (n : ℕ) → n ≡ block_count (length bytes) → digests_before bytes n ≡ blocks_text bytes
 unfolding blocks_text
 all_of_them bytes n is = ap (digests_before bytes) is
-
--- Digests in a list ----------------------------------------------------------------------------------------------------
-
-pushed : {X : Type 0} (P : ℕ → X → Type 0) (xs : List X) (x : X) → ((k : ℕ) (y : X) → slice_get xs k ≡ Some y → P k y) → P (length xs) x → (k : ℕ) (y : X) → slice_get (xs ++ x ∷ []) k ≡ Some y → P k y
-pushed P [] x all last zero y is = let same : x ≡ y = cc in subst (P 0) same last
-pushed P [] x all last (suc k) y is = absurd cc
-pushed P (z ∷ xs) x all last zero y is = all 0 y is
-pushed P (z ∷ xs) x all last (suc k) y is = pushed (λ k. P (suc k)) xs x (λ k y is. all (suc k) y is) last k y is
-
-pub digest_pushed : (bytes : List ℕ) (digests : List (List ℕ)) (digest : List ℕ) (n : ℕ) → length digests ≡ n → digest ≡ sha256 (block_at bytes n) → AreBlockDigests digests bytes → AreBlockDigests (digests ++ digest ∷ []) bytes
-digest_pushed bytes digests digest n long is own = pushed (λ k d. d ≡ sha256 (block_at bytes k)) digests digest own (is ∙ ap (λ k. sha256 (block_at bytes k)) (sym long))

@@ -11,9 +11,9 @@ use Rattle.bfs_model.specs.Bytes.Attributes.{type_of}
 use Rattle.bfs_model.specs.Bytes.Replies.{type_number}
 use Rattle.bfs_model.specs.Server.WellFormed.{IsRising}
 use Rattle.bfs_model.specs.Bytes.Formats.{Reading, bytes_from}
-use Rattle.bfs_inode.specs.Records.{entry_text, entries_text, listing_text}
+use Rattle.bfs_inode.specs.Records.{body_text, entries_text, entry_text, listing_text, record_text}
 use Rattle.bfs_digest.specs.Text.{latest_version}
-use Rattle.bfs_digest.specs.Records.{most_bytes_in, body_text, record_text, EntryIsRecordable, BodyIsRecordable, IsRecordable}
+use Rattle.bfs_digest.specs.Records.{most_bytes_in, EntryIsRecordable, BodyIsRecordable, IsRecordable}
 use Rattle.bfs_digest.specs.Inside.RecordReading.{Head, time_from, entry_from, entries_from, listing_from, file_from, directory_from, link_from, body_from, head_from, with_body, record_from}
 use Rattle.bfs_model.proofs.Public.{some_is, IsExact, word_exact, AreFew, bytes_exact, go_on, went_on, chosen}
 use Rattle.bfs_digest.proofs.Tests.{passed, refused_not, unrefused, or_parts}

@@ -1,26 +1,12 @@
--- The record of an inode in a text (this file system's profile), in the items of XDR (RFC 4506 section 4). It has the bytes of a file.
-use Rattle.std.specs.Prelude.{ℕ, ◌==◌, ◌≤◌, List, ◌++◌, length, if◌then◌else◌}
+-- What the record of an inode in a text can spell (this file system's profile).
+use Rattle.std.specs.Prelude.{ℕ, ◌==◌, ◌≤◌, length, if◌then◌else◌}
 use Rattle.std.specs.List.{AllByRecursion}
-use Rattle.bfs_model.specs.Bytes.Items.{words, counted}
 use Rattle.bfs_model.specs.Server.Limits.{most_name_bytes, most_path_bytes, most_entries}
 use Rattle.bfs_model.specs.Server.Stored.{IsWord, AreBytes, IsTime, EntryIsStorable}
 use Rattle.bfs_model.specs.Server.Tree.{Entry, Body, file, directory, link, Inode, root_id, first_ordinal, spent_ordinal}
 use Rattle.bfs_model.specs.Server.WellFormed.{IsRising}
-use Rattle.bfs_inode.specs.Records.{listing_text, head_words}
 
--- Spelling -----------------------------------------------------------------------------------------------------------
-
--- a file's bytes; a directory's listing; a symbolic link's path
-abbrev pub body_text : Body → List ℕ
-body_text (file bytes) = counted bytes
-body_text (directory listing) = listing_text listing
-body_text (link path) = counted path
-
--- the record of the inode of that fileid
-unfoldable pub record_text : (id : ℕ) → Inode → List ℕ
-record_text id inode = words (head_words id inode) ++ body_text inode.body
-
--- What a record can spell, whether or not a well-formed file system holds it -------------------------------------------
+-- Whether or not a well-formed file system holds it.
 
 -- the bytes of a file in a text of that version, at most: this does not change where the limit of files does
 abbrev pub most_bytes_in : (version : ℕ) → ℕ

@@ -6,7 +6,8 @@ use Rattle.std.specs.FinMap.{get, entries, len}
 use Rattle.bfs_model.specs.Bytes.Items.{word, hyper}
 use Rattle.bfs_model.specs.Server.Stored.{IsTime}
 use Rattle.bfs_model.specs.Server.Tree.{Time, Inode, FileSystem, first_ordinal, spent_ordinal}
-use Rattle.bfs_digest.specs.Records.{record_text, IsRecordable}
+use Rattle.bfs_inode.specs.Records.{record_text}
+use Rattle.bfs_digest.specs.Records.{IsRecordable}
 
 -- the word in front of every text, whose bytes are `BFSS`
 abbrev pub magic : ℕ

@@ -1,16 +1,14 @@
 // The blocks of a file, of which a record that is hashed has the digests.
-ghost use Rattle.std.specs.Prelude.{◌≡◌, ◌++◌, List, ℕ, IfOk, length};
+ghost use Rattle.std.specs.Prelude.{◌≡◌, ◌++◌, List, ℕ, length};
 ghost use Rattle.std.specs.List.{All};
 ghost use Rattle.sha2.specs.Hashers.{Holds256};
 ghost use Rattle.sha2.specs.Sha256.{sha256};
-ghost use Rattle.bfs_inode.specs.Files.{AreBlockDigests};
-ghost use Rattle.bfs_inode.specs.Records.{block_at, block_count, blocks_text};
+ghost use Rattle.bfs_blocks.specs.Bytes.{block_at, block_count};
+ghost use Rattle.bfs_inode.specs.Records.{blocks_text};
 ghost use Rattle.bfs_digest.specs.Inside.Hashed.{IsBlockOf};
 
-use bfs_inode::{BLOCK_BYTES, FileData, FileId};
-use bfs_types::Memory;
+use bfs_inode::{BLOCK_BYTES, FileBlocks, FileId};
 use sha2::{Digest, Sha256};
-use std::alloc::Global;
 use std::marker::Model;
 
 /// A block of the file of that fileid, by its number from 0 on.
@@ -31,7 +29,7 @@ pub(crate) struct BlockDigest {
 #[derive(Drop)]
 pub(crate) struct File<'a> {
     id: FileId,
-    bytes: &'a FileData,
+    bytes: &'a FileBlocks,
     made: &'a [BlockDigest],
 }
 
@@ -48,7 +46,7 @@ impl<'a> Model for File<'a> {
 }
 
 impl<'a> File<'a> {
-    pub(crate) fn new(id: FileId, bytes: &'a FileData, made: &'a [BlockDigest]) -> File<'a>
+    pub(crate) fn new(id: FileId, bytes: &'a FileBlocks, made: &'a [BlockDigest]) -> File<'a>
         requires { All (IsBlockOf id bytes.now) made.now }
         ensures { result ≡ bytes.now }
     {
@@ -60,23 +58,9 @@ impl<'a> File<'a> {
         ensures { (m : List ℕ) → Holds256 hasher.old m → Holds256 hasher.new (m ++ blocks_text self.now) }
     {
         let mut place = 0;
-        for number in 0..block_count(self.bytes.as_slice()) {
+        for number in 0..block_count(self.bytes) {
             hasher.update(self.digest_at(number, &mut place));
         }
-    }
-
-    /// Those that the inode may be given to keep: the digests of its blocks, in order. `Memory` if memory runs out.
-    #[tactic(auto, using(crate::proofs::BlockDigests::digest_pushed))]
-    pub(crate) fn digests(&self, alloc: Global) -> Result<Vec<[u8; 32]>, Memory>
-        ensures { IfOk result (λ digests. AreBlockDigests digests.items self.now) }
-    {
-        let count = block_count(self.bytes.as_slice());
-        let mut digests = Vec::with_capacity(alloc, count)?;
-        let mut place = 0;
-        for number in 0..count {
-            digests.push(self.digest_at(number, &mut place))?;
-        }
-        Ok(digests)
     }
 
     // of a block, where those that were made of blocks before it are passed
@@ -101,29 +85,21 @@ impl<'a> File<'a> {
     {
         match self.bytes.kept_block(number) {
             Some(digest) => digest,
-            None => hash_block(self.bytes.as_slice(), number),
+            None => hash_block(self.bytes, number),
         }
     }
 }
 
 /// How many blocks a file has.
-pub(crate) fn block_count(bytes: &[u8]) -> usize
+pub(crate) fn block_count(bytes: &FileBlocks) -> usize
     ensures { result ≡ block_count (length bytes.now) }
 {
     bytes.len().div_ceil(BLOCK_BYTES)
 }
 
 /// The digest of a block of a file, by its number from 0 on; behind the last one, that of no bytes.
-pub(crate) fn hash_block(bytes: &[u8], number: usize) -> [u8; 32]
+pub(crate) fn hash_block(bytes: &FileBlocks, number: usize) -> [u8; 32]
     ensures { result ≡ sha256 (block_at bytes.now number) }
 {
-    Sha256::digest(block_at(bytes, number))
-}
-
-fn block_at(bytes: &[u8], number: usize) -> &[u8]
-    ensures { result.now ≡ block_at bytes.now number }
-{
-    let (_, behind) = bytes.split_at(BLOCK_BYTES.saturating_mul(number).min(bytes.len()));
-    let (block, _) = behind.split_at(BLOCK_BYTES.min(behind.len()));
-    block
+    Sha256::digest(bytes.block(number))
 }

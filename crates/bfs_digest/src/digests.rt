@@ -90,14 +90,14 @@ fn digest_at(id: FileId, inode: &Inode, made: &[RecordDigest], place: &mut usize
     }
 }
 
-fn hash_digest(hasher: &mut Sha256, id: FileId, digest: &[u8; 32])
+pub(crate) fn hash_digest(hasher: &mut Sha256, id: FileId, digest: &[u8; 32])
     ensures { (m : List ℕ) → Holds256 hasher.old m → Holds256 hasher.new (m ++ (word id ++ digest.now)) }
 {
     hash_u32(hasher, id.number());
     hasher.update(digest);
 }
 
-fn hash_header(hasher: &mut Sha256, header: &Header)
+pub(crate) fn hash_header(hasher: &mut Sha256, header: &Header)
     ensures { (m : List ℕ) → Holds256 hasher.old m → Holds256 hasher.new (m ++ header_text latest_version header.now) }
 {
     match put_header(header, hasher) {

@@ -3,14 +3,14 @@ ghost use Rattle.std.specs.Prelude.{◌≡◌, ◌++◌, List, ℕ, length};
 ghost use Rattle.std.specs.List.{All};
 ghost use Rattle.sha2.specs.Hashers.{Holds256};
 ghost use Rattle.bfs_model.specs.Bytes.Items.{word};
-ghost use Rattle.bfs_inode.specs.Inodes.{body_seen};
+ghost use Rattle.bfs_inode.specs.Inodes.{body_seen, bytes_in};
 ghost use Rattle.bfs_inode.specs.Records.{blocks_text, hashed_body, listing_text, record_digest};
-ghost use Rattle.bfs_digest.specs.Inside.Hashed.{IsBlockOf, bytes_in};
+ghost use Rattle.bfs_digest.specs.Inside.Hashed.{IsBlockOf};
 
 use crate::blocks::{BlockDigest, File};
 use crate::listings::put_listing;
 use crate::words::head_words;
-use bfs_inode::{Body, Directory, FileData, FileId, Inode};
+use bfs_inode::{Body, Directory, FileBlocks, FileId, Inode};
 use bfs_xdr::{hash_opaque, hash_u32, hash_words};
 use sha2::{Digest, Sha256};
 
@@ -48,7 +48,7 @@ fn hash_body(hasher: &mut Sha256, id: FileId, body: &Body, made: &[BlockDigest])
     }
 }
 
-fn hash_file(hasher: &mut Sha256, id: FileId, bytes: &FileData, made: &[BlockDigest])
+fn hash_file(hasher: &mut Sha256, id: FileId, bytes: &FileBlocks, made: &[BlockDigest])
     requires { All (IsBlockOf id bytes.now) made.now }
     ensures { (m : List ℕ) → Holds256 hasher.old m → Holds256 hasher.new (m ++ (word (length bytes.now) ++ blocks_text bytes.now)) }
 {

@@ -3,13 +3,15 @@
 ghost use Rattle.std.specs.Prelude.{◌≡◌, List, ℕ, IfOk};
 ghost use Rattle.std.specs.List.{All};
 ghost use Rattle.std.specs.FinMap.{get};
+ghost use Rattle.std.specs.Option.{option_and_then, option_copied};
+ghost use Rattle.bfs_inode.specs.Inodes.{file_in};
 ghost use Rattle.bfs_model.specs.Server.Tree.{Inodes};
 ghost use Rattle.bfs_tree.specs.Tree.{at_home};
-ghost use Rattle.bfs_digest.specs.Inside.Hashed.{IsBlockHashed, IsHashed, bytes_of, hashed_at, hashed_block};
+ghost use Rattle.bfs_digest.specs.Inside.Hashed.{IsBlockHashed, IsHashed, hashed_at, hashed_block};
 
 use crate::blocks::{Block, BlockDigest, block_count, hash_block};
 use crate::hashes::record_digest;
-use bfs_inode::{Body, FileData, FileId, RecordDigest};
+use bfs_inode::{FileBlocks, FileId, RecordDigest};
 use bfs_tree::Tree;
 use bfs_types::Memory;
 use rayon::prelude::*;
@@ -89,19 +91,15 @@ fn ids_without_digest(alloc: Global, tree: &Tree) -> Result<Vec<FileId>, Memory>
 fn blocks_without_digest(alloc: Global, tree: &Tree, ids: &[FileId]) -> Result<Vec<Block>, Memory> {
     let mut blocks = Vec::new(alloc);
     for id in ids {
-        if let Some(Body::File(data)) = body_at(tree, *id) {
+        if let Some(data) = file_at(tree, *id) {
             put_blocks(&mut blocks, *id, data)?;
         }
     }
     Ok(blocks)
 }
 
-fn body_at(tree: &Tree, id: FileId) -> Option<&Body> {
-    Some(tree.home(id)?.body())
-}
-
-fn put_blocks(out: &mut Vec<Block>, id: FileId, data: &FileData) -> Result<(), Memory> {
-    for number in 0..block_count(data.as_slice()) {
+fn put_blocks(out: &mut Vec<Block>, id: FileId, data: &FileBlocks) -> Result<(), Memory> {
+    for number in 0..block_count(data) {
         if data.kept_block(number).is_none() {
             out.push(Block { id, number })?;
         }
@@ -131,20 +129,18 @@ fn hash_blocks(
 fn block_digest(tree: &Tree, block: Block) -> BlockDigest
     ensures { result ≡ hashed_block (at_home tree.now) block }
 {
-    BlockDigest {
-        block,
-        digest: hash_block(bytes_of(tree, block.id), block.number),
-    }
+    let digest = match file_at(tree, block.id) {
+        Some(data) => hash_block(data, block.number),
+        None => Sha256::digest(&[]),
+    };
+    BlockDigest { block, digest }
 }
 
-// of the file of that fileid, none if there is none
-fn bytes_of(tree: &Tree, id: FileId) -> &[u8]
-    ensures { result.now ≡ bytes_of (get (at_home tree.now) id) }
+// the file of that fileid
+fn file_at(tree: &Tree, id: FileId) -> Option<&FileBlocks>
+    ensures { option_copied result ≡ option_and_then (λ inode. file_in inode.body) (get (at_home tree.now) id) }
 {
-    match tree.home(id) {
-        Some(inode) => inode.file().unwrap_or(&[]),
-        None => &[],
-    }
+    tree.home(id)?.file()
 }
 
 fn hash_records(

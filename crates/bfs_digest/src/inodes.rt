@@ -12,7 +12,7 @@ ghost use Rattle.bfs_digest.specs.Inside.Taking.{BodyMayBe, Builds, BuildsTree};
 
 use crate::readers::TextReader;
 use crate::versions::{LATEST_VERSION, most_bytes_in};
-use bfs_inode::{Body, Directory, Entry, FileData, FileId, Inode};
+use bfs_inode::{Body, Directory, Entry, FileBlocks, FileId, Inode};
 use bfs_tree::{Store, Tree};
 use bfs_types::{LinkPath, MOST_LINKS, MOST_PATH_BYTES, Memory, Name};
 use std::alloc::Global;
@@ -66,7 +66,7 @@ fn body_of(alloc: Global, reader: &mut TextReader, kind: u32) -> Result<Option<B
 {
     match kind {
         1 => match reader.bytes(most_bytes_in(LATEST_VERSION)) {
-            Ok(bytes) => Ok(Some(Body::File(FileData::new(alloc, bytes)?))),
+            Ok(bytes) => Ok(Some(Body::File(FileBlocks::new(alloc, bytes)?))),
             Err(_) => Ok(None),
         },
         2 => directory_of(alloc, reader),

@@ -19,7 +19,8 @@ pub(crate) fn text_length(tree: &Tree) -> usize {
     length
 }
 
-fn body_length(body: &Body) -> usize {
+/// Of what an inode holds.
+pub(crate) fn body_length(body: &Body) -> usize {
     match body {
         Body::File(data) => counted_length(data.len()),
         Body::Directory(directory) => directory_length(directory),

@@ -5,6 +5,7 @@ mod blocks;
 mod digests;
 mod errors;
 mod formation;
+mod freezing;
 mod hashes;
 mod hashing;
 mod headers;
@@ -26,10 +27,10 @@ mod writers;
 
 pub use digests::{digest_parallel, digest_serial};
 pub use errors::RestoreError;
+pub use freezing::{FrozenFiles, freeze};
 pub use laws::{
     a_file_system_has_one_text, a_text_spells_one_file_system, live_files_are_spellable,
     older_texts_are_spellable,
 };
-pub use refreshing::refresh;
 pub use restoration::{restore, restore_latest};
-pub use snapshots::{put_snapshot, snapshot};
+pub use snapshots::snapshot;

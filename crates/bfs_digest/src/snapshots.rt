@@ -25,9 +25,9 @@ pub fn snapshot(alloc: Global, files: &FileSystem) -> Result<Vec<u8>, ExecError>
     Ok(text)
 }
 
-/// Appends the text of a file system, as `snapshot` gives it. Each byte is written once. `Failed` if it has failed, `Memory` if memory
-/// runs out; nothing is appended then.
-pub fn put_snapshot(out: &mut Vec<u8>, files: &FileSystem) -> Result<(), ExecError>
+// Appends the text of a file system, as `snapshot` gives it. Each byte is written once. `Failed` if it has failed, `Memory` if memory
+// runs out; nothing is appended then.
+fn put_snapshot(out: &mut Vec<u8>, files: &FileSystem) -> Result<(), ExecError>
     ensures value { OnOk result (option_map (λ live. out.old.items ++ snapshot_text live) files.now ≡ Some out.new.items) }
     ensures failed { IsErrOf result ExecError.Failed ↔ (files.now ≡ None) }
     ensures err { OnErr result (out.new.items ≡ out.old.items) }

@@ -1,5 +1,4 @@
 pub mod DirectoryLemmas
 pub mod IndexLemmas
 pub mod OrderLemmas
-pub mod KeptBlocks
 pub mod Public

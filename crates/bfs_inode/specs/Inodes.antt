@@ -1,5 +1,5 @@
 -- What an inode holds, as the model has it.
-use Rattle.std.specs.Prelude.{ℕ, ◌+◌, ◌*◌, max, List, Option, Some, None}
+use Rattle.std.specs.Prelude.{ℕ, ◌+◌, ◌*◌, max, List, [], Option, Some, None}
 use Rattle.bfs_model.specs.Bytes.Attributes.{blocks_of}
 use Rattle.bfs_model.specs.Server.Limits.{most_file_bytes, most_entries}
 use Rattle.bfs_model.specs.Server.Tree as model
@@ -16,6 +16,12 @@ abbrev pub file_in : model.Body → Option (List ℕ)
 file_in (model.file bytes) = Some bytes
 file_in (model.directory listing) = None
 file_in (model.link path) = None
+
+-- the bytes of a file, none of what is no file
+abbrev pub bytes_in : model.Body → List ℕ
+bytes_in (model.file bytes) = bytes
+bytes_in (model.directory listing) = []
+bytes_in (model.link path) = []
 
 -- the path of a symbolic link
 abbrev pub path_in : model.Body → Option (List ℕ)

@@ -3,6 +3,6 @@ pub mod Seen
 pub mod Directories
 pub mod Pages
 pub mod Records
-pub mod Files
+pub mod Frozen
 pub mod Rest
 pub mod Access

@@ -1,26 +1,15 @@
 -- The record of an inode that is hashed (this file system's profile), in the items of XDR (RFC 4506 section 4), and its digest
 -- (FIPS 180-4, SHA-256). What a text has of an inode is another record, which has the bytes of a file and not their digests.
-use Rattle.std.specs.Prelude.{ℕ, ◌+◌, ◌*◌, ◌/◌, List, [], ◌∷◌, ◌++◌, length, take, drop}
+use Rattle.std.specs.Prelude.{ℕ, List, [], ◌∷◌, ◌++◌, length}
 use Rattle.std.specs.List.{flat_map, range_with_len}
 use Rattle.sha2.specs.Sha256.{sha256}
+use Rattle.bfs_blocks.specs.Bytes.{block_at, block_count}
 use Rattle.bfs_model.specs.Bytes.Attributes.{type_of}
 use Rattle.bfs_model.specs.Bytes.Items.{word, words, counted}
 use Rattle.bfs_model.specs.Bytes.Replies.{type_number}
 use Rattle.bfs_model.specs.Server.Tree.{Entry, Listing, Body, file, directory, link, Inode}
 
 -- Blocks of a file ---------------------------------------------------------------------------------------------------
-
--- the bytes of a block
-abbrev pub block_bytes : ℕ
-block_bytes = 4096
-
--- the blocks of so many bytes, none of no bytes
-abbrev pub block_count : (size : ℕ) → ℕ
-block_count size = (size + 4095) / 4096
-
--- the bytes of block n, from 0 on; the last one may be shorter
-unfoldable pub block_at : List ℕ → (n : ℕ) → List ℕ
-block_at bytes n = take block_bytes (drop (block_bytes * n) bytes)
 
 -- the digest of each block, in order
 unfoldable pub blocks_text : List ℕ → List ℕ
@@ -57,3 +46,24 @@ hashed_record id inode = words (head_words id inode) ++ hashed_body inode.body
 -- the digest of that record
 abbrev pub record_digest : (id : ℕ) → Inode → List ℕ
 record_digest id inode = sha256 (hashed_record id inode)
+
+-- Records of a text --------------------------------------------------------------------------------------------------
+
+-- a file's bytes; a directory's listing; a symbolic link's path
+abbrev pub body_text : Body → List ℕ
+body_text (file bytes) = counted bytes
+body_text (directory listing) = listing_text listing
+body_text (link path) = counted path
+
+-- what a text has of the inode of that fileid
+unfoldable pub record_text : (id : ℕ) → Inode → List ℕ
+record_text id inode = words (head_words id inode) ++ body_text inode.body
+
+-- both of the inode of that fileid
+pub record Frozen : Type 0 where
+  pub id : ℕ
+  pub text : List ℕ
+  pub digest : List ℕ
+
+abbrev pub frozen_of : (id : ℕ) → Inode → Frozen
+frozen_of id inode = record { id = id; text = record_text id inode; digest = record_digest id inode }

@@ -1,4 +1,4 @@
--- An inode of the code as one of the model, its limits, and the digest that it keeps.
+-- An inode of the code as one of the model, its limits, and what it keeps.
 use Rattle.std.specs.Prelude.{◌≡◌, ◌≤◌}
 use Rattle.std.specs.Option.{ForSome}
 use Rattle.bfs_model.specs.Server.Limits.{most_links}
@@ -6,7 +6,8 @@ use Rattle.bfs_model.specs.Server.Tree as model
 use Rattle.bfs_types.specs.declared.limits.TheConstants.{MOST_PERMISSIONS}
 use Rattle.bfs_inode.specs.declared.inodes.Inode.TheInside.{Inside}
 use Rattle.bfs_inode.specs.Inodes.{body_seen}
-use Rattle.bfs_inode.specs.Records.{record_digest}
+use Rattle.std.specs.Arc.{arc_value}
+use Rattle.bfs_inode.specs.Records.{frozen_of}
 
 abbrev pub seen : Inside → model.Inode
 seen inode = record { permissions = inode.permissions; links = inode.links; uid = inode.uid; gid = inode.gid; atime = inode.atime; mtime = inode.mtime; ctime = inode.ctime; body = body_seen inode.body }
@@ -15,6 +16,6 @@ seen inode = record { permissions = inode.permissions; links = inode.links; uid 
 abbrev pub IsWithin : Inside → Type 0
 IsWithin inode = (inode.permissions ≤ MOST_PERMISSIONS) × (inode.links ≤ most_links)
 
--- a digest that it keeps is that of its record as it is
-abbrev pub KeepsOwnDigest : Inside → Type 0
-KeepsOwnDigest inode = ForSome inode.kept (λ kept. kept.digest ≡ record_digest kept.id (seen inode))
+-- what it keeps is what it is
+abbrev pub KeepsItself : Inside → Type 0
+KeepsItself inode = ForSome inode.kept (λ kept. arc_value kept ≡ frozen_of (arc_value kept).id (seen inode))

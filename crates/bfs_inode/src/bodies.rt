@@ -9,14 +9,14 @@ ghost use Rattle.bfs_types.specs.Attributes.{file_type_seen};
 ghost use Rattle.bfs_inode.specs.Inodes.{body_seen, file_in, most_size};
 
 use crate::directories::Directory;
-use crate::files::FileData;
+use bfs_blocks::FileBlocks;
 use bfs_types::{FileId, FileType, LinkPath, Memory};
 
 /// What an inode holds.
 #[derive(Debug, Drop)]
 pub enum Body {
     /// A regular file and its bytes.
-    File(FileData),
+    File(FileBlocks),
     /// A directory and its entries.
     Directory(Directory),
     /// A symbolic link and the path that it holds.

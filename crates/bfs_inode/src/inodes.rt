@@ -14,7 +14,8 @@ mod kept;
 
 use crate::bodies::Body;
 use crate::directories::Directory;
-use crate::files::FileData;
+use crate::frozen::FrozenInode;
+use bfs_blocks::FileBlocks;
 use bfs_types::{
     Attributes, BLOCK_SIZE, Context, FileId, LinkPath, MOST_PERMISSIONS, Memory, SetTime, Settings,
     Time,
@@ -22,10 +23,12 @@ use bfs_types::{
 pub use kept::RecordDigest;
 use std::alloc::Global;
 use std::marker::Model;
+use std::sync::Arc;
 
 /// A file, a directory or a symbolic link, and its attributes (RFC 1094 section 2.3.5).
 ///
-/// It may keep the digest of its record, which goes with it where it is moved. Each change drops it, and contracts see nothing of it.
+/// It may keep a frozen inode of what it is, with the digest of its record, which goes with it where it is moved. Each change drops that, and
+/// contracts see nothing of it.
 #[derive(Debug, Drop)]
 pub struct Inode {
     permissions: u32,
@@ -36,8 +39,8 @@ pub struct Inode {
     mtime: Time,
     ctime: Time,
     body: Body,
-    // of its record as it is
-    kept: Option<RecordDigest>,
+    // as it is
+    kept: Option<Arc<FrozenInode>>,
 }
 
 /// The attributes of an inode that are stored beside what it holds (RFC 1094 section 2.3.5).
@@ -64,11 +67,11 @@ impl Model for Inode {
 
     ghost Value = { model.Inode };
 
-    ghost use Rattle.bfs_inode.specs.Seen.{seen, IsWithin, KeepsOwnDigest};
+    ghost use Rattle.bfs_inode.specs.Seen.{seen, IsWithin, KeepsItself};
 
     ghost view = { seen };
 
-    ghost invariant = { λ inode. IsWithin inode × KeepsOwnDigest inode };
+    ghost invariant = { λ inode. IsWithin inode × KeepsItself inode };
 }
 
 impl Inode {
@@ -115,7 +118,7 @@ impl Inode {
         requires { unwrap_or settings.now.size 0 ≤ most_file_bytes }
         ensures { IfOk result (λ inode. inode ≡ new_file context.now settings.now) }
     {
-        let bytes = FileData::zeros(alloc, settings.size.unwrap_or(0) as usize)?;
+        let bytes = FileBlocks::zeros(alloc, settings.size.unwrap_or(0) as usize)?;
         let permissions = permissions_set(settings.mode, 0o644);
         Ok(Inode::made(context, settings, permissions, 1, Body::File(bytes)))
     }
@@ -226,12 +229,11 @@ impl Inode {
     }
 
     /// The bytes of a file, or `None` if it is no file.
-    pub fn file(&self) -> Option<&[u8]>
-        ensures value { option_map (λ bytes. bytes.now) result ≡ file_in self.now.body }
-        ensures within { IfSome result (λ bytes. length bytes.now ≤ most_file_bytes) }
+    pub fn file(&self) -> Option<&FileBlocks>
+        ensures { option_copied result ≡ file_in self.now.body }
     {
         match &self.body {
-            Body::File(data) => Some(data.as_slice()),
+            Body::File(data) => Some(data),
             _ => None,
         }
     }

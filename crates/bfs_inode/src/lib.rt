@@ -3,13 +3,14 @@
 
 mod bodies;
 mod directories;
-mod files;
+mod frozen;
 mod inodes;
 mod names;
 
 pub use bfs_types::{FileId, Time};
+pub use bfs_blocks::{BLOCK_BYTES, FileBlocks};
 pub use bodies::Body;
 pub use directories::{Directory, Entries, Entry, Listed, Page};
-pub use files::{BLOCK_BYTES, FileData};
+pub use frozen::{FrozenBody, FrozenInode};
 pub use inodes::{Inode, Metadata, RecordDigest};
 pub use names::{is_bad_name, is_no_name};

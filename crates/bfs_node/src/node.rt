@@ -251,8 +251,8 @@ impl Node {
     /// The stable snapshot, by which another replica catches up. None as long as no checkpoint is stable of which this replica has a
     /// snapshot.
     pub fn stable(&self) -> Option<StableSnapshot<'_>>
-        ensures value { option_map (λ stable. (stable.text.now, stable.checkpoint.now)) result ≡ stable self.now.snapshots }
-        ensures certified { IfSome result (λ stable. IsStable self.now.order.f stable.text.now stable.checkpoint.now) }
+        ensures value { option_map (λ stable. (stable.snapshot.now.text, stable.checkpoint.now)) result ≡ stable self.now.snapshots }
+        ensures certified { IfSome result (λ stable. IsStable self.now.order.f stable.snapshot.now.text stable.checkpoint.now) }
     {
         self.snapshots.stable()
     }

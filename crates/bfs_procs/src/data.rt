@@ -1,5 +1,5 @@
 // READ, READLINK and WRITE.
-ghost use Rattle.std.specs.Prelude.{◌≡◌, ◌+◌, ◌≤◌, length, nat_lt, IfOk};
+ghost use Rattle.std.specs.Prelude.{◌≡◌, ◌+◌, ◌≤◌, ◌++◌, length, min, nat_lt, IfOk, OnOk};
 ghost use Rattle.std.specs.Result.{result_map_both};
 ghost use Rattle.bfs_model.specs.Bytes.Arguments as call;
 ghost use Rattle.bfs_model.specs.Server.FileBytes as model;
@@ -13,17 +13,43 @@ ghost use Rattle.bfs_tree.specs.Reach.{Knows};
 ghost use Rattle.bfs_wire.specs.Replies.{status_seen};
 
 use crate::not_done::NotDone;
-use bfs_inode::{FileId, Inode};
+use bfs_inode::{FileBlocks, FileId, Inode};
 use bfs_tree::Store;
-use bfs_types::{Attributes, Context, LinkPath, MOST_DATA_BYTES, MOST_FILE_BYTES};
+use bfs_types::{Attributes, Context, LinkPath, MOST_DATA_BYTES, MOST_FILE_BYTES, Memory};
 use bfs_wire::{FileBytes, NfsReply, Status};
 use std::alloc::Global;
 
-/// What READ gives (RFC 1094 section 2.2.7). The bytes are borrowed from the file.
+/// What READ gives (RFC 1094 section 2.2.7): so many bytes of the file, from the offset on, at most `MOST_DATA_BYTES`.
 #[derive(Clone, Copy, Debug)]
 pub(crate) struct Contents<'a> {
     pub(crate) attributes: Attributes,
-    pub(crate) bytes: &'a [u8],
+    pub(crate) file: &'a FileBlocks,
+    pub(crate) offset: u32,
+    pub(crate) count: u32,
+}
+
+impl<'a> Contents<'a> {
+    fn most(&self) -> usize
+        ensures { result ≡ min self.now.count most_data_bytes }
+    {
+        (self.count as usize).min(MOST_DATA_BYTES)
+    }
+
+    /// How many bytes it gives.
+    pub(crate) fn len(&self) -> usize
+        ensures value { result ≡ length (model.bytes_from self.now.offset self.now.count self.now.file.now) }
+        ensures short { result ≤ most_data_bytes }
+    {
+        let behind = self.file.len().saturating_sub(self.offset as usize);
+        behind.min(self.most())
+    }
+
+    /// Puts the bytes behind others.
+    pub(crate) fn put_bytes(&self, out: &mut Vec<u8>) -> Result<(), Memory>
+        ensures { OnOk result (out.new.items ≡ out.old.items ++ model.bytes_from self.now.offset self.now.count self.now.file.now) }
+    {
+        self.file.read(self.offset as usize, self.most(), out)
+    }
 }
 
 /// READ (RFC 1094 section 2.2.7).
@@ -41,10 +67,18 @@ pub(crate) fn read<S: Store>(
     match read_contents(store, context, file, offset, count) {
         Ok(read) => Ok(NfsReply::Contents {
             attributes: read.attributes,
-            bytes: FileBytes::new(alloc, read.bytes)?,
+            bytes: bytes_read(alloc, &read)?,
         }),
         Err(status) => Err(NotDone::Refused(status)),
     }
+}
+
+fn bytes_read(alloc: Global, read: &Contents) -> Result<FileBytes, Memory>
+    ensures { IfOk result (λ bytes. bytes ≡ model.bytes_from read.now.offset read.now.count read.now.file.now) }
+{
+    let mut bytes = Vec::new(alloc);
+    read.put_bytes(&mut bytes)?;
+    FileBytes::new(alloc, &bytes)
 }
 
 /// What READ gives, or why it is refused.
@@ -56,18 +90,19 @@ pub(crate) fn read_contents<'a, S: Store>(
     count: u32,
 ) -> Result<Contents<'a>, Status>
     requires { Knows (S.reach store.now) (footprint (S.inodes store.now) context.now (call.read file offset count)) }
-    ensures value { result_map_both (λ read. (S.inodes store.now, contents_seen read)) status_seen result ≡ file_read (S.inodes store.now) context.now file offset count }
-    ensures short { IfOk result (λ read. length read.bytes.now ≤ most_data_bytes) }
+    ensures { result_map_both (λ read. (S.inodes store.now, contents_seen read)) status_seen result ≡ file_read (S.inodes store.now) context.now file offset count }
 {
     let id = file.ok_or(Status::Stale)?;
     let inode = store.get(id).ok_or(Status::Stale)?;
-    let bytes = bytes_of(inode)?;
+    let file = bytes_of(inode)?;
     if !inode.may_read_file(&context.caller) {
         return Err(Status::Acces);
     }
     Ok(Contents {
         attributes: inode.attributes(id),
-        bytes: bytes_from(bytes, offset, count),
+        file,
+        offset,
+        count,
     })
 }
 
@@ -116,7 +151,7 @@ pub(crate) fn write<S: Store>(
 }
 
 // the bytes of a file, or why it is none
-fn bytes_of(inode: &Inode) -> Result<&[u8], Status>
+fn bytes_of(inode: &Inode) -> Result<&FileBlocks, Status>
     ensures { result_map_both (λ bytes. bytes.now) status_seen result ≡ bytes_in inode.now.body }
 {
     match inode.file() {
@@ -131,15 +166,4 @@ fn is_past_limit(offset: u32, bytes: &[u8]) -> bool
     ensures { result ≡ nat_lt most_file_bytes (offset + length bytes.now) }
 {
     offset as usize + bytes.len() > MOST_FILE_BYTES
-}
-
-// those that a READ gives
-fn bytes_from(bytes: &[u8], offset: u32, count: u32) -> &[u8]
-    ensures value { result.now ≡ model.bytes_from offset count bytes.now }
-    ensures short { length result.now ≤ most_data_bytes }
-{
-    let start = bytes.len().min(offset as usize);
-    let rest = &bytes[start..];
-    let most = MOST_DATA_BYTES.min(count as usize);
-    &rest[..rest.len().min(most)]
 }

@@ -1,7 +1,6 @@
 // Results behind the header of a success, each reply in one vector. What READ and READDIR give is written straight from the inode.
-ghost use Rattle.std.specs.Prelude.{◌≡◌, ◌≤◌, ◌++◌, [], length, OnOk, IfOk};
+ghost use Rattle.std.specs.Prelude.{◌≡◌, ◌++◌, [], OnOk, IfOk};
 ghost use Rattle.std.specs.List.{flat_map};
-ghost use Rattle.bfs_model.specs.Server.Limits.{most_data_bytes};
 ghost use Rattle.bfs_model.specs.Bytes.Replies.{entry_item, results, success};
 ghost use Rattle.bfs_procs.specs.Borrowed.{contents_seen, found_or_refused, page_seen};
 ghost use Rattle.bfs_wire.specs.Replies.{reply_seen};
@@ -11,8 +10,9 @@ use bfs_inode::Page;
 use bfs_rpc::put_success;
 use bfs_types::{MOST_DATA_BYTES, Memory};
 use bfs_wire::{
-    NfsReply, Status, put_contents, put_done, put_end_of_entries, put_entry, put_reply,
+    NfsReply, Status, put_contents_front, put_done, put_end_of_entries, put_entry, put_reply,
 };
+use bfs_xdr::put_padding;
 use std::alloc::Global;
 
 // the header, in a vector with room for so many bytes
@@ -54,17 +54,27 @@ pub(crate) fn success_of_contents(
     xid: u32,
     read: &Result<Contents, Status>,
 ) -> Result<Vec<u8>, Memory>
-    requires { IfOk read.now (λ read. length read.bytes.now ≤ most_data_bytes) }
     ensures { IfOk result (λ bytes. bytes.items ≡ success xid (results (found_or_refused contents_seen read.now))) }
 {
     match read {
         Ok(read) => {
-            let mut bytes = begin(alloc, xid, read.bytes.len() + 103)?;
-            put_contents(&mut bytes, &read.attributes, read.bytes)?;
+            let mut bytes = begin(alloc, xid, read.len() + 103)?;
+            put_read(&mut bytes, read)?;
             Ok(bytes)
         }
         Err(status) => success_of(alloc, xid, &NfsReply::Refused(*status)),
     }
+}
+
+// the bytes are copied once, straight from the file
+#[tactic(auto, using(std::proofs::lemmas::List::append_assoc), unfolding(bfs_model::specs::Bytes::Replies::results, bfs_model::specs::Bytes::Items::counted, bfs_model::specs::Bytes::Items::fixed))]
+fn put_read(out: &mut Vec<u8>, read: &Contents) -> Result<(), Memory>
+    ensures { OnOk result (out.new.items ≡ out.old.items ++ results (contents_seen read.now)) }
+{
+    let count = read.len();
+    put_contents_front(out, &read.attributes, count as u32)?;
+    read.put_bytes(out)?;
+    put_padding(out, count)
 }
 
 /// Of READDIR, of a page of at most that many bytes.

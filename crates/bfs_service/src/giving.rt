@@ -104,7 +104,7 @@ fn offered_by(alloc: Global, now: u64, node: &Node) -> Result<Option<Offered>, M
     };
     Ok(Some(Offered {
         number: stable.checkpoint.number(),
-        text: Vec::from_slice(alloc, stable.text)?,
+        text: stable.snapshot.text(alloc)?,
         certificate: certificate_text(alloc, stable.checkpoint)?,
         since: now,
         used: now,

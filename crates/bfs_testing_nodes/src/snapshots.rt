@@ -18,15 +18,16 @@ pub fn snapshot_of(alloc: Global, node: &Node) -> Result<Option<Snapshot>, Memor
         return Ok(None);
     };
     Ok(Some(Snapshot {
-        text: stable.text.to_vec(alloc)?,
+        text: stable.snapshot.text(alloc)?,
         checkpoint: stable.checkpoint.try_clone(alloc)?,
     }))
 }
 
-/// How many CHECKPOINTs tell a replica's stable snapshot, and how many bytes it has.
-pub fn sizes_of(node: &Node) -> Option<(usize, usize)> {
+/// How many CHECKPOINTs tell a replica's stable snapshot, and its digest.
+pub fn stable_of(node: &Node) -> Option<(usize, [u8; 32])> {
     let stable = node.stable()?;
-    Some((stable.checkpoint.checkpoints().len(), stable.text.len()))
+    let digest = *stable.snapshot.digest();
+    Some((stable.checkpoint.checkpoints().len(), digest))
 }
 
 /// A replica adopts a snapshot.

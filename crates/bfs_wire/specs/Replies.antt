@@ -1,4 +1,7 @@
 -- The statuses and replies of the code as those of the model.
+use Rattle.std.specs.Prelude.{ℕ, List, [], ◌∷◌, ◌++◌}
+use Rattle.bfs_model.specs.Bytes.Attributes as attributes
+use Rattle.bfs_model.specs.Bytes.Items.{word, words}
 use Rattle.bfs_model.specs.Bytes.Replies as model
 use Rattle.bfs_wire.specs.declared.status.Status.{Status}
 use Rattle.bfs_wire.specs.declared.status.Status.TheVariants.{Perm, NoEnt, Acces, Exist, NotDir, IsDir, FBig, NoSpc, NotEmpty, Stale}
@@ -27,3 +30,7 @@ reply_seen (Contents attributes bytes) = model.contents attributes bytes
 reply_seen (Path bytes) = model.path bytes
 reply_seen (Listed entries all) = model.listed entries all
 reply_seen (FreeBlocks free) = model.free_blocks free
+
+-- the results of a READ that was done, up to its bytes: so many follow
+abbrev pub contents_front : attributes.Attributes → (count : ℕ) → List ℕ
+contents_front of count = words (0 ∷ []) ++ words (model.attribute_words of) ++ word count

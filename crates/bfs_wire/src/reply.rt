@@ -3,7 +3,7 @@ ghost use Rattle.bfs_model.specs.Bytes.Attributes.{blocks_of as model_blocks_of}
 ghost use Rattle.bfs_model.specs.Bytes.Items.{words};
 ghost use Rattle.bfs_model.specs.Server.Limits.{most_data_bytes};
 ghost use Rattle.bfs_model.specs.Bytes.Replies as model;
-ghost use Rattle.bfs_wire.specs.Replies.{reply_seen};
+ghost use Rattle.bfs_wire.specs.Replies.{contents_front, reply_seen};
 
 use crate::file_type::{type_bits, type_number};
 use crate::handle::handle_bytes;
@@ -13,7 +13,7 @@ use bfs_types::{
     Attributes, BLOCK_SIZE, Bytes, FileId, LinkPath, MOST_DATA_BYTES, Memory, TOTAL_BLOCKS,
     TRANSFER_SIZE,
 };
-use bfs_xdr::{put_bool, put_opaque, put_words};
+use bfs_xdr::{put_bool, put_fixed, put_opaque, put_u32, put_words};
 use std::alloc::Global;
 
 /// Bytes of a file that READ gives: at most `MOST_DATA_BYTES` (RFC 1094 section 2.2.7, nfsdata).
@@ -137,15 +137,30 @@ fn put_found(out: &mut Vec<u8>, file: FileId, attributes: &Attributes) -> Result
 
 /// Appends the results of a READ that was done (RFC 1094 section 2.2.7): the file's attributes, and the bytes that were read of
 /// it. `Memory` if memory runs out; then some of them may stand behind what was there.
-#[tactic(auto, using(std::proofs::lemmas::List::append_assoc), unfolding(bfs_model::specs::Bytes::Replies::results))]
+#[tactic(auto, using(std::proofs::lemmas::List::append_assoc), unfolding(bfs_model::specs::Bytes::Replies::results, bfs_model::specs::Bytes::Items::counted))]
 pub fn put_contents(out: &mut Vec<u8>, attributes: &Attributes, bytes: &[u8]) -> Result<(), Memory>
     requires { length bytes.now ≤ most_data_bytes }
     ensures ok { OnOk result (out.new.items ≡ out.old.items ++ model.results (model.contents attributes.now bytes.now)) }
     ensures err { OnErr result (take (length out.old.items) out.new.items ≡ out.old.items) }
 {
+    put_contents_front(out, attributes, bytes.len() as u32)?;
+    put_fixed(out, bytes)
+}
+
+/// Appends what stands in front of the bytes in the results of a READ that was done (RFC 1094 section 2.2.7): the file's attributes, and how many
+/// bytes follow. They follow as `put_fixed` appends them. `Memory` if memory runs out; then some of it may stand behind what was there.
+#[tactic(auto, using(std::proofs::lemmas::List::append_assoc))]
+pub fn put_contents_front(
+    out: &mut Vec<u8>,
+    attributes: &Attributes,
+    count: u32,
+) -> Result<(), Memory>
+    ensures ok { OnOk result (out.new.items ≡ out.old.items ++ contents_front attributes.now count) }
+    ensures err { OnErr result (take (length out.old.items) out.new.items ≡ out.old.items) }
+{
     put_done(out)?;
     put_words(out, &attribute_words(attributes))?;
-    put_opaque(out, bytes)
+    put_u32(out, count)
 }
 
 // readlinkres where the path was read (RFC 1094 section 2.2.6)

@@ -12,4 +12,4 @@ pub use error::XdrError;
 pub use hashing::{hash_fixed, hash_opaque, hash_u32, hash_u64, hash_words};
 pub use reader::Reader;
 pub use sinks::Sink;
-pub use writer::{put_bool, put_fixed, put_opaque, put_u32, put_u64, put_words};
+pub use writer::{put_bool, put_fixed, put_opaque, put_padding, put_u32, put_u64, put_words};

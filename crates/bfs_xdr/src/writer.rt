@@ -1,5 +1,5 @@
-ghost use Rattle.std.specs.Prelude.{◌≡◌, ◌<◌, ◌^◌, ◌++◌, length, OnOk, OnErr};
-ghost use Rattle.bfs_model.specs.Bytes.Items.{word, hyper, boolean, fixed, counted, words};
+ghost use Rattle.std.specs.Prelude.{◌≡◌, ◌<◌, ◌^◌, ◌++◌, length, replicate, OnOk, OnErr};
+ghost use Rattle.bfs_model.specs.Bytes.Items.{word, hyper, boolean, fixed, counted, padding_of, words};
 
 use crate::items::padding;
 use bfs_types::Memory;
@@ -39,10 +39,19 @@ pub fn put_fixed(out: &mut Vec<u8>, bytes: &[u8]) -> Result<(), Memory>
 {
     let before = out.len();
     out.extend_from_slice(bytes)?;
-    if out.resize(out.len() + padding(bytes.len()), 0).is_err() {
+    if put_padding(out, bytes.len()).is_err() {
         out.truncate(before);
         return Err(Memory);
     }
+    Ok(())
+}
+
+/// Appends the zeros that follow so many bytes of opaque data (RFC 4506 sections 4.9 to 4.11), where these were appended piece by piece.
+pub fn put_padding(out: &mut Vec<u8>, count: usize) -> Result<(), Memory>
+    ensures ok { OnOk result (out.new.items ≡ out.old.items ++ replicate (padding_of count) 0) }
+    ensures err { OnErr result (out.new.items ≡ out.old.items) }
+{
+    out.resize(out.len() + padding(count), 0)?;
     Ok(())
 }
 

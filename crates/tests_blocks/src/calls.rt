@@ -162,8 +162,8 @@ fn kept(file: &FileBlocks) -> [bool; 3] {
 #[test]
 fn digests_that_were_made_are_kept(rt: HostRuntime) -> Result<(), Fail> {
     let mut file = file_of(rt.alloc(), b"abc")?;
-    let digests = [Sha256::digest(file.block(0))];
-    file.keep_blocks(rt.alloc(), &digests)?;
+    let digest = Sha256::digest(file.block(0));
+    file.keep_block(rt.alloc(), 0, digest)?;
     same!(rt; file.kept_block(0), Some(ABC));
     Ok(())
 }

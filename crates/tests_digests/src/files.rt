@@ -1,5 +1,7 @@
 //! What is done to file systems. None of it has a contract, so that the proofs of tests carry none.
-use bfs_digest::{RestoreError, digest_parallel, digest_serial, refresh, restore, snapshot};
+use bfs_digest::{
+    FrozenFiles, RestoreError, digest_parallel, digest_serial, freeze, restore, snapshot,
+};
 use bfs_parallel::{Engine, Executor};
 use bfs_serial::{Batch, ExecError, FileSystem, Replies, execute_serial};
 use bfs_testing::asserts::compared;
@@ -42,13 +44,23 @@ pub(crate) fn digest_on_threads(
     digest_parallel(rt, alloc, files)
 }
 
+/// What the file system is, frozen. The inodes keep their digests from then on.
+pub(crate) fn frozen(
+    rt: &(impl Threads + Sync),
+    alloc: Global,
+    files: &mut FileSystem,
+) -> Result<FrozenFiles, ExecError> {
+    freeze(rt, alloc, files)
+}
+
 /// Has inodes keep their digests.
 pub(crate) fn refreshed(
     rt: &(impl Threads + Sync),
     alloc: Global,
     files: &mut FileSystem,
 ) -> Result<(), ExecError> {
-    refresh(rt, alloc, files)
+    freeze(rt, alloc, files)?;
+    Ok(())
 }
 
 /// A batch without requests, at a time in seconds.

@@ -3,7 +3,7 @@ use crate::files::{
     batch_at, batch_of, copied, digest_of, digest_on_threads, execute, execute_by, execute_steps,
     made, push, refreshed, text_of,
 };
-use bfs_inode::{Body, FileData, Inode};
+use bfs_inode::{Body, FileBlocks, Inode};
 use bfs_parallel::Engine;
 use bfs_serial::{ExecError, FileSystem};
 use bfs_testing::asserts::compared;
@@ -219,17 +219,17 @@ static CHANGES_OF_A_LARGE_FILE: &[(Change, u32, u32)] = &[
     (Change::Size(81_000), 19, 20),
     // behind the end, with zeros between
     (Change::Write(90_000, 0x71727374), 19, 24),
-    // the fewest blocks of which any are kept, and fewer
+    // at the end of a block, and before it
     (Change::Size(65_536), 16, 16),
     (Change::Size(65_535), 15, 16),
-    (Change::Size(40_000), 9, 0),
-    (Change::Write(39_000, 0x75767778), 0, 0),
+    (Change::Size(40_000), 9, 10),
+    (Change::Write(39_000, 0x75767778), 9, 12),
     (Change::Size(0), 0, 0),
     (Change::Size(100_000), 0, 25),
     (Change::Write(50_000, 0x797a3031), 22, 25),
 ];
 
-fn count_blocks(data: &FileData) -> u32 {
+fn count_blocks(data: &FileBlocks) -> u32 {
     let mut count: u32 = 0;
     for number in 0..25 {
         if data.kept_block(number).is_some() {

@@ -2,7 +2,7 @@
 //! its text spelled before is restored, and the replies to the batch are right. Nothing is refused in the gate's run of the tests:
 //! `.ci/refusals` runs this one with each growth of memory, and each start of a thread, refused in turn.
 use crate::engines::{batch_of, compare, executor};
-use bfs_digest::{digest_parallel, digest_serial, refresh, restore, snapshot};
+use bfs_digest::{digest_parallel, digest_serial, freeze, restore, snapshot};
 use bfs_parallel::Executor;
 use bfs_serial::{Batch, ExecError, FileSystem, execute_serial};
 use bfs_testing::numbers::{
@@ -132,7 +132,7 @@ fn tells_nothing<R: Threads + AllocGlobal + Abort + Sync>(rt: &R, files: &mut Fi
     holds!(rt; snapshot(alloc, files).err() == Some(ExecError::Failed));
     holds!(rt; digest_serial(files).err() == Some(ExecError::Failed));
     holds!(rt; digest_parallel(rt, alloc, files).err() == Some(ExecError::Failed));
-    holds!(rt; refresh(rt, alloc, files).err() == Some(ExecError::Failed));
+    holds!(rt; freeze(rt, alloc, files).err() == Some(ExecError::Failed));
     holds!(rt; !files.is_live());
 }
 

@@ -5,7 +5,7 @@ use crate::texts::{Snapshot, Text, of_sixteen_batches};
 use bfs_node::{Node, NodeError};
 use bfs_testing::asserts::compared;
 use bfs_testing_nodes::calls::{Said, Standing, digest_of, standing_of, take};
-use bfs_testing_nodes::snapshots::{adopt, sizes_of};
+use bfs_testing_nodes::snapshots::{adopt, stable_of};
 use bfs_types::Memory;
 use std::alloc::Global;
 use std::sync::Wait;
@@ -71,13 +71,13 @@ impl Behind {
 
     fn has_adopted<R: Threads + Sync>(&self, rt: &R) -> bool {
         digest_of(rt, &self.node) == Ok(self.snapshot.digest)
-            && sizes_of(&self.node) == Some((3, self.snapshot.text.len()))
+            && stable_of(&self.node) == Some((3, self.snapshot.digest))
     }
 
     fn is_as_before<R: Threads + Sync>(&self, rt: &R) -> bool {
         self.before.is_ok()
             && digest_of(rt, &self.node) == self.before
-            && sizes_of(&self.node).is_none()
+            && stable_of(&self.node).is_none()
     }
 
     // whether it comes as it is told

@@ -9,7 +9,7 @@ use bfs_testing::asserts::compared;
 use bfs_testing_nodes::calls::{
     Said, Standing, advance, checkpoint, deliver, digest_of, execute, propose, standing_of, take,
 };
-use bfs_testing_nodes::snapshots::sizes_of;
+use bfs_testing_nodes::snapshots::{snapshot_of, stable_of};
 use bfs_types::Memory;
 use std::alloc::Global;
 use std::sync::Wait;
@@ -131,11 +131,18 @@ fn advances<R: Threads + Wait + Sync>(rt: &R, node: &mut Node, wanted: &[Kind]) 
     }
 }
 
-fn has_stable(node: &Node, checkpoints: usize, bytes: usize) -> bool {
-    match sizes_of(node) {
-        Some((certificate, text)) => certificate == checkpoints && text > bytes,
+fn has_stable(
+    alloc: Global,
+    node: &Node,
+    checkpoints: usize,
+    bytes: usize,
+) -> Result<bool, Memory> {
+    Ok(match snapshot_of(alloc, node)? {
+        Some(stable) => {
+            stable.checkpoint.checkpoints().len() == checkpoints && stable.text.len() > bytes
+        }
         None => false,
-    }
+    })
 }
 
 // whether it comes as it is told
@@ -164,8 +171,8 @@ fn happens<R: Threads + Wait + Sync>(
         Step::IsReady(wanted) => is_ready(node) == wanted,
         Step::HasDigest(wanted) => digest_of(rt, node).is_ok() == wanted,
         Step::StableAt(low, snapshot) => stable_numbers(node) == (low, snapshot),
-        Step::HasNoneStable => sizes_of(node).is_none(),
-        Step::HasStable(checkpoints, bytes) => has_stable(node, checkpoints, bytes),
+        Step::HasNoneStable => stable_of(node).is_none(),
+        Step::HasStable(checkpoints, bytes) => has_stable(alloc, node, checkpoints, bytes)?,
     })
 }
 

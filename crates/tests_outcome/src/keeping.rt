@@ -49,12 +49,12 @@ fn tell(
 }
 
 // the number of the stable checkpoint, how many bytes its text has, and of how many replicas there are CHECKPOINTs
-fn stable(kept: &Snapshots) -> Option<(u64, usize, usize)> {
+fn stable(alloc: Global, kept: &Snapshots) -> Option<(u64, usize, usize)> {
     let stable = kept.stable()?;
     let checkpoint = stable.checkpoint;
     Some((
         checkpoint.number(),
-        stable.text.len(),
+        stable.snapshot.text(alloc).ok()?.len(),
         checkpoint.checkpoints().len(),
     ))
 }
@@ -84,18 +84,18 @@ fn snapshots_become_stable_one_after_another(rt: HostRuntime) -> Result<(), Fail
     tell(alloc, &mut kept, &mut log, 0, 16, &first)?;
     tell(alloc, &mut kept, &mut log, 1, 16, &second)?;
     tell(alloc, &mut kept, &mut log, 2, 16, &first)?;
-    same!(rt; stable(&kept), None);
+    same!(rt; stable(alloc, &kept), None);
     tell(alloc, &mut kept, &mut log, 3, 16, &first)?;
-    same!(rt; stable(&kept), Some((16, 112, 3)));
+    same!(rt; stable(alloc, &kept), Some((16, 112, 3)));
     // of a number of which there is no snapshot, and of another digest
     for sender in 0..4u32 {
         tell(alloc, &mut kept, &mut log, sender, 48, &first)?;
     }
-    same!(rt; stable(&kept), Some((16, 112, 3)));
+    same!(rt; stable(alloc, &kept), Some((16, 112, 3)));
     for sender in 0..4u32 {
         tell(alloc, &mut kept, &mut log, sender, 32, &second)?;
     }
-    same!(rt; stable(&kept), Some((32, 128, 3)));
+    same!(rt; stable(alloc, &kept), Some((32, 128, 3)));
     Ok(())
 }
 
@@ -110,6 +110,6 @@ fn a_snapshot_can_be_forgotten(rt: HostRuntime) -> Result<(), Fail> {
     for sender in 0..4u32 {
         tell(alloc, &mut kept, &mut log, sender, 16, &digest)?;
     }
-    same!(rt; stable(&kept), None);
+    same!(rt; stable(alloc, &kept), None);
     Ok(())
 }

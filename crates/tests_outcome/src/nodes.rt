@@ -49,7 +49,7 @@ fn bytes_of(alloc: Global, text: &str) -> Result<Vec<u8>, Fail> {
 
 // the text and the digest are the given ones
 fn is_of(alloc: Global, taken: &Snapshot, text: &str, digest: &str) -> Result<(), Fail> {
-    spells(alloc, taken.text(), text)?;
+    spells(alloc, taken.text(alloc)?.as_slice(), text)?;
     spells(alloc, taken.digest(), digest)
 }
 

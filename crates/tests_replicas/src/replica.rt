@@ -6,7 +6,7 @@ use bfs_testing_nodes::calls::{
     time_out,
 };
 use bfs_testing_nodes::members::Members;
-use bfs_testing_nodes::snapshots::{Snapshot, adopt, sizes_of, snapshot_of};
+use bfs_testing_nodes::snapshots::{Snapshot, adopt, snapshot_of, stable_of};
 use bfs_types::Memory;
 use std::alloc::Global;
 use std::sync::Wait;
@@ -43,8 +43,8 @@ pub enum Silence {
     IsWrong,
 }
 
-// what shows of it: besides, how many CHECKPOINTs and bytes its stable snapshot has
-type Shown = (Standing, Option<(usize, usize)>);
+// what shows of it: besides, how many CHECKPOINTs tell its stable snapshot, and its digest
+type Shown = (Standing, Option<(usize, [u8; 32])>);
 
 /// A replica, with the digest that it has.
 #[derive(Drop)]
@@ -85,7 +85,7 @@ impl Replica {
     }
 
     fn shown(&self) -> Shown {
-        (self.standing(), sizes_of(&self.node))
+        (self.standing(), stable_of(&self.node))
     }
 
     /// Its digest, if it has not failed. Where memory runs out, it is asked again.
@@ -98,7 +98,7 @@ impl Replica {
 
     /// Whether it has a stable snapshot that so many CHECKPOINTs tell.
     pub fn has_stable(&self, checkpoints: usize) -> bool {
-        match sizes_of(&self.node) {
+        match stable_of(&self.node) {
             Some((told, _)) => told == checkpoints,
             None => false,
         }

@@ -1,7 +1,7 @@
 //! Files of each length at which the blocks of a digest, or what a version spells, end. The digests are another implementation's.
 use crate::hostile::with_word;
 use crate::texts::{digest_of, has_digest, refusal, restored, told_again};
-use bfs_digest::refresh;
+use bfs_digest::freeze;
 use bfs_serial::FileSystem;
 use bfs_testing::asserts::compared;
 use std::alloc::Global;
@@ -40,7 +40,8 @@ fn text_of(alloc: Global, version: u32, size: u32) -> Result<Vec<u8>, Fail> {
 }
 
 fn keep_all(rt: &(impl Threads + Sync), alloc: Global, files: &mut FileSystem) -> Result<(), Fail> {
-    Ok(refresh(rt, alloc, files)?)
+    freeze(rt, alloc, files)?;
+    Ok(())
 }
 
 // both digests, with nothing kept and with all

@@ -3,7 +3,7 @@ ghost use Rattle.std.specs.Prelude.{◌≡◌, IsTrue};
 ghost use Rattle.bfs_tree.specs.Tree.{reach_of};
 
 use crate::growing::{add_link, context, same_ids};
-use bfs_inode::{Directory, Entry, FileData, FileId, Inode};
+use bfs_inode::{Directory, Entry, FileId, Inode};
 use bfs_testing::{holds, same};
 use bfs_tree::{Store, Tree};
 use bfs_types::{Cred, FileType, Gids, LinkPath, Memory, Name, SetTime, Settings, Time};
@@ -79,11 +79,16 @@ const CUT: Settings = Settings {
 #[test]
 fn writes_and_cuts_files(rt: HostRuntime) -> Result<(), Fail> {
     let mut file = written_file(rt.alloc())?;
-    same!(rt; file.file(), Some(b"\0ab".as_slice()));
+    same!(rt; bytes_of(&file), Some(b"\0ab".as_slice()));
     file.set_attributes(first_second(), &CUT)?;
-    same!(rt; file.file(), Some(b"\0a".as_slice()));
+    same!(rt; bytes_of(&file), Some(b"\0a".as_slice()));
     same!(rt; file.attributes(FileId::new(3)).atime.seconds(), 7);
     Ok(())
+}
+
+// of a file of one block
+fn bytes_of(inode: &Inode) -> Option<&[u8]> {
+    Some(inode.file()?.block(0))
 }
 
 fn written_file(alloc: Global) -> Result<Inode, Memory> {
@@ -295,27 +300,6 @@ fn counts_inodes_and_blocks(rt: HostRuntime) -> Result<(), Fail> {
     same!(rt; count_and_used_blocks(&tree), Some((2, 3)));
     same_ids(&rt, alloc, &tree, &[FileId::root(), FileId::new(9)])?;
     Ok(())
-}
-
-#[test]
-fn holds_bytes(rt: HostRuntime) -> Result<(), Fail> {
-    let mut data = written_zeros(rt.alloc())?;
-    same!(rt; data.len(), 4);
-    same!(rt; data.as_slice(), b"\0abc".as_slice());
-    cut_and_lengthen(&mut data)?;
-    same!(rt; data.as_slice(), b"\0ab\0\0".as_slice());
-    Ok(())
-}
-
-fn written_zeros(alloc: Global) -> Result<FileData, Memory> {
-    let mut data = FileData::zeros(alloc, 2)?;
-    data.write(1, b"abc")?;
-    Ok(data)
-}
-
-fn cut_and_lengthen(data: &mut FileData) -> Result<(), Memory> {
-    data.resize(3)?;
-    data.resize(5)
 }
 
 #[test]

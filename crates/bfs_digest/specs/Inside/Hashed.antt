@@ -2,20 +2,17 @@
 use Rattle.std.specs.Prelude.{◌≡◌, ℕ, List, [], Option, Some, None}
 use Rattle.std.specs.FinMap.{get}
 use Rattle.sha2.specs.Sha256.{sha256}
-use Rattle.bfs_model.specs.Server.Tree.{Body, file, directory, link, Inode, Inodes}
-use Rattle.bfs_inode.specs.Records.{block_at, record_digest}
+use Rattle.bfs_model.specs.Server.Tree.{Inode, Inodes}
+use Rattle.bfs_blocks.specs.Bytes.{block_at}
+use Rattle.bfs_inode.specs.Inodes.{bytes_in}
+use Rattle.bfs_inode.specs.Records.{record_digest}
 use Rattle.bfs_inode.specs.declared.inodes.kept.RecordDigest.{RecordDigest}
 use Rattle.bfs_digest.specs.declared.blocks.Block.{Block}
 use Rattle.bfs_digest.specs.declared.blocks.BlockDigest.{BlockDigest}
 
 -- Blocks -------------------------------------------------------------------------------------------------------------
 
--- the bytes of a file, none of what is no file
-abbrev pub bytes_in : Body → List ℕ
-bytes_in (file bytes) = bytes
-bytes_in (directory listing) = []
-bytes_in (link path) = []
-
+-- of the inode that is there
 abbrev pub bytes_of : Option Inode → List ℕ
 bytes_of None = []
 bytes_of (Some inode) = bytes_in inode.body

@@ -1,14 +1,17 @@
-// The digest that an inode keeps of its record, so that what didn't change isn't hashed again. Every change of the inode drops it.
+// What an inode keeps of itself, frozen, so that what didn't change isn't hashed or copied again. Every change of the inode drops it.
 ghost use Rattle.std.specs.Prelude.{◌≡◌, IfSome};
-ghost use Rattle.std.specs.Option.{ForSome};
-ghost use Rattle.bfs_inode.specs.Files.{AreBlockDigests};
-ghost use Rattle.bfs_inode.specs.Inodes.{file_in};
-ghost use Rattle.bfs_inode.specs.Records.{record_digest};
+ghost use Rattle.std.specs.Arc.{arc_value};
+ghost use Rattle.sha2.specs.Sha256.{sha256};
+ghost use Rattle.bfs_blocks.specs.Bytes.{block_at};
+ghost use Rattle.bfs_inode.specs.Inodes.{bytes_in};
+ghost use Rattle.bfs_inode.specs.Records.{frozen_of, record_digest};
 
 use crate::bodies::Body;
+use crate::frozen::FrozenInode;
 use crate::inodes::Inode;
 use bfs_types::{FileId, Memory};
 use std::alloc::Global;
+use std::sync::Arc;
 
 /// The SHA-256 (FIPS 180-4) of the record of an inode under a fileid.
 #[derive(Clone, Copy, Debug)]
@@ -20,35 +23,48 @@ pub struct RecordDigest {
 }
 
 impl Inode {
-    /// The SHA-256 (FIPS 180-4) of its record under that fileid, or `None` if it keeps none: none was given to it since it last
-    /// changed, or one under another fileid. It takes no memory.
-    pub fn kept_digest(&self, id: FileId) -> Option<[u8; 32]>
-        ensures { IfSome result (λ digest. digest ≡ record_digest id self.now) }
+    /// The frozen inode that it keeps, which is what it is under that fileid, or `None` if it keeps none: none was given to it since it last
+    /// changed, or one under another fileid.
+    pub fn kept(&self, id: FileId) -> Option<&Arc<FrozenInode>>
+        ensures { IfSome result (λ kept. arc_value kept.now ≡ frozen_of id self.now) }
     {
-        match self.kept {
-            Some(kept) if kept.id == id => Some(kept.digest),
+        match &self.kept {
+            Some(kept) if kept.id() == id => Some(kept),
             _ => None,
         }
     }
 
-    /// Keeps the SHA-256 (FIPS 180-4) of its record under that fileid, in the place of one that it kept, until it changes. It takes
-    /// no memory.
-    pub fn keep_digest(&mut self, id: FileId, digest: [u8; 32])
-        requires { digest ≡ record_digest id self.old }
-        ensures { self.new ≡ self.old }
+    /// The SHA-256 (FIPS 180-4) of its record under that fileid, or `None` if it keeps none. It takes no memory.
+    pub fn kept_digest(&self, id: FileId) -> Option<[u8; 32]>
+        ensures { IfSome result (λ digest. digest ≡ record_digest id self.now) }
     {
-        self.kept = Some(RecordDigest { id, digest });
+        match self.kept(id) {
+            Some(kept) => Some(*kept.digest()),
+            None => None,
+        }
     }
 
-    /// Keeps the SHA-256 (FIPS 180-4) of the blocks of a file, in order, in the place of those that it kept, until they change
-    /// (`FileData::kept_block`). A file of fewer than 16 blocks keeps none, and an inode that is no file stays. `Memory` if memory runs
-    /// out; then it keeps what it kept.
-    pub fn keep_blocks(&mut self, alloc: Global, digests: &[[u8; 32]]) -> Result<(), Memory>
-        requires { ForSome (file_in self.old.body) (λ bytes. AreBlockDigests digests.now bytes) }
+    /// Keeps a frozen inode of what it is, in the place of one that it kept, until it changes. It takes no memory.
+    pub fn keep(&mut self, frozen: Arc<FrozenInode>)
+        requires { arc_value frozen ≡ frozen_of (arc_value frozen).id self.old }
+        ensures { self.new ≡ self.old }
+    {
+        self.kept = Some(frozen);
+    }
+
+    /// Keeps the SHA-256 (FIPS 180-4) of the block of that number of a file, until it changes (`FileBlocks::keep_block`). An inode that is no
+    /// file stays. `Memory` if memory runs out; then it keeps what it kept.
+    pub fn keep_block(
+        &mut self,
+        alloc: Global,
+        number: usize,
+        digest: [u8; 32],
+    ) -> Result<(), Memory>
+        requires { digest ≡ sha256 (block_at (bytes_in self.old.body) number) }
         ensures { self.new ≡ self.old }
     {
         match &mut self.body {
-            Body::File(data) => data.keep_blocks(alloc, digests),
+            Body::File(data) => data.keep_block(alloc, number, digest),
             _ => Ok(()),
         }
     }

@@ -4,8 +4,7 @@ use Rattle.std.specs.Prelude.{OnOk}
 use Rattle.bfs_model.specs.Bytes.Items.{words}
 use Rattle.bfs_model.specs.Server.Tree.{Body}
 use Rattle.bfs_inode.specs.Inodes.{body_seen}
-use Rattle.bfs_inode.specs.Records.{head_words}
-use Rattle.bfs_digest.specs.Records.{body_text, record_text}
+use Rattle.bfs_inode.specs.Records.{body_text, head_words, record_text}
 use Rattle.bfs_digest.proofs.Fronts.{still_refused}
 use Rattle.bfs_digest.proofs.writers.put_record.Goals as goal
 

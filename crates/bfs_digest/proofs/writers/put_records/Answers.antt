@@ -1,6 +1,6 @@
 -- Each record is put behind those before it.
 use Rattle.std.proofs.Common.{◌≡◌, ◌++◌, ap, subst, ◌∙◌}
-use Rattle.bfs_digest.specs.Records.{record_text}
+use Rattle.bfs_inode.specs.Records.{record_text}
 use Rattle.bfs_digest.specs.Text.{records_text}
 use Rattle.bfs_digest.proofs.Records.{record_of}
 use Rattle.bfs_digest.proofs.Fronts.{begins, begins_itself, begins_through}

@@ -2,7 +2,7 @@
 use Rattle.std.proofs.Common.{◌+◌, ◌++◌, length, sym, ap, subst, ◌∙◌, append_assoc, arith}
 use Rattle.sha2.specs.Hashers.{Holds256}
 use Rattle.sha2.specs.Sha256.{sha256}
-use Rattle.bfs_inode.specs.Records.{block_at}
+use Rattle.bfs_blocks.specs.Bytes.{block_at}
 use Rattle.bfs_digest.proofs.BlockDigests.{all_of_them, digests_before, one_more}
 use Rattle.bfs_digest.proofs.blocks.File.hash_blocks.Goals as goal
 
