@@ -28,3 +28,7 @@ begins_still front more middle bytes is h = begins_through front middle bytes (b
 pub still_refused : {A E : Type 0} (result : Result A E) (front more middle bytes : List ℕ) → middle ≡ front ++ more → OnErr result (BeginsWith middle bytes) → OnErr result (BeginsWith front bytes)
 still_refused (Ok x) front more middle bytes is refused = tt
 still_refused (Err e) front more middle bytes is refused = begins_still front more middle bytes is refused
+
+pub still_begins : {A E : Type 0} (result : Result A E) (front more middle bytes : List ℕ) → middle ≡ front ++ more → BeginsWith middle bytes → OnErr result (BeginsWith front bytes)
+still_begins (Ok x) front more middle bytes is h = tt
+still_begins (Err e) front more middle bytes is h = begins_still front more middle bytes is h

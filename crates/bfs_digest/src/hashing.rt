@@ -4,10 +4,12 @@ ghost use Rattle.std.specs.Prelude.{◌≡◌, List, ℕ, IfOk};
 ghost use Rattle.std.specs.List.{All};
 ghost use Rattle.std.specs.FinMap.{get};
 ghost use Rattle.std.specs.Option.{option_and_then, option_copied};
+ghost use Rattle.sha2.specs.Sha256.{sha256};
+ghost use Rattle.bfs_blocks.specs.Bytes.{block_at};
 ghost use Rattle.bfs_inode.specs.Inodes.{file_in};
 ghost use Rattle.bfs_model.specs.Server.Tree.{Inodes};
 ghost use Rattle.bfs_tree.specs.Tree.{at_home};
-ghost use Rattle.bfs_digest.specs.Inside.Hashed.{IsBlockHashed, IsHashed, hashed_at, hashed_block};
+ghost use Rattle.bfs_digest.specs.Inside.Hashed.{IsBlockHashed, IsHashed, bytes_of, hashed_at, hashed_block};
 
 use crate::blocks::{Block, BlockDigest, block_count, hash_block};
 use crate::hashes::record_digest;
@@ -129,11 +131,21 @@ fn hash_blocks(
 fn block_digest(tree: &Tree, block: Block) -> BlockDigest
     ensures { result ≡ hashed_block (at_home tree.now) block }
 {
-    let digest = match file_at(tree, block.id) {
-        Some(data) => hash_block(data, block.number),
+    BlockDigest {
+        block,
+        digest: digest_at(tree, block.id, block.number),
+    }
+}
+
+// where there is no such file, of no bytes
+#[tactic(auto, using(crate::proofs::Hashed::block_of_file, crate::proofs::Hashed::block_of_none))]
+fn digest_at(tree: &Tree, id: FileId, number: usize) -> [u8; 32]
+    ensures { result ≡ sha256 (block_at (bytes_of (get (at_home tree.now) id)) number) }
+{
+    match file_at(tree, id) {
+        Some(data) => hash_block(data, number),
         None => Sha256::digest(&[]),
-    };
-    BlockDigest { block, digest }
+    }
 }
 
 // the file of that fileid

@@ -27,7 +27,7 @@ pub(crate) fn put_records(out: &mut Vec<u8>, tree: &Tree) -> Result<(), Memory>
     Ok(())
 }
 
-#[tactic(auto, using(std::proofs::lemmas::List::append_assoc), unfolding(crate::specs::Records::record_text))]
+#[tactic(auto, using(std::proofs::lemmas::List::append_assoc), unfolding(bfs_inode::specs::Records::record_text))]
 fn put_record(out: &mut Vec<u8>, id: FileId, inode: &Inode) -> Result<(), Memory>
     ensures ok { OnOk result (out.new.items ≡ out.old.items ++ record_text id inode.now) }
     ensures err { OnErr result (BeginsWith out.old.items out.new.items) }

@@ -17,4 +17,4 @@ loop-number-preserved c = λ m holds.
 
 pub returns : goal.returns
 returns c = λ m holds.
-    subst (λ r. Holds256 c.loop-number.hasher (m ++ r)) (all_of_them c.args.self.now c.loop-number.number (omega (arith, c.block_count-number-end.ensures, ap length c.as_slice.ensures.value, ap length c.self.view_is))) (c.loop-number.invariant m holds)
+    subst (λ r. Holds256 c.loop-number.hasher (m ++ r)) (all_of_them c.args.self.now c.loop-number.number (omega (arith, c.block_count-number-end.ensures, ap length c.self.view_is))) (c.loop-number.invariant m holds)
