@@ -8,6 +8,7 @@ mod laws;
 mod making;
 mod new_views;
 mod proposing;
+mod stable;
 mod view_changes;
 
 pub use choice::{Choice, Chosen, choice_of};
@@ -20,4 +21,5 @@ pub use laws::{
 pub use making::make_view_change;
 pub use new_views::{check_new_view, choose};
 pub use proposing::{Begun, begin_view, make_new_view};
+pub use stable::latest_checkpoint;
 pub use view_changes::{valid_signed_view_change, valid_view_change};
