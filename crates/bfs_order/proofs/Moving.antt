@@ -1,7 +1,7 @@
 -- Each call on the order of a replica is made of five small changes, so what these keep, calls keep.
 use Rattle.std.proofs.Common.{◌≡◌, ◌⊎◌, inl, inr, ℕ, ◌+◌, ◌<◌, ◌≤◌, max, Bool, true, false, cond, eqb, ltb, leb, ◌&&◌, not, List, [], ◌∷◌, ◌++◌, refl, sym, subst, ◌∙◌, append_assoc, arith}
 use Rattle.std.specs.Prelude.{Option, Some, None, All}
-use Rattle.std.proofs.lemmas.Bool.{and_parts, and_from, or_parts, or_cases, cond_both, eqb-true, eq-eqb, ltb-true, ltb-false, leb-true, not-false, false_from_ne_true}
+use Rattle.std.proofs.lemmas.Bool.{and_parts, and_from, or_parts, or_cases, eqb-true, eq-eqb, ltb-true, ltb-false, leb-true, not-false, false_from_ne_true}
 use Rattle.std.proofs.lemmas.List.{append-nil}
 use Rattle.std.proofs.lemmas.List.Elements.{All-head, All-tail}
 use Rattle.bfs_auth.specs.Keys.{Keys}
@@ -19,7 +19,7 @@ use Rattle.bfs_messages.specs.Signing.{as_message, order_signed_by}
 use Rattle.bfs_order.specs.Replica.Checkpoints.{checkpoint_refusal, checkpoint, checkpointed}
 use Rattle.bfs_order.specs.Replica.Executing.{next_order}
 use Rattle.bfs_log.specs.Certificates.{StableCheckpoint, checkpoints_in, is_shown}
-use Rattle.bfs_order.specs.Replica.Installing.{certified, install_refusal, installed, raised, raises}
+use Rattle.bfs_order.specs.Replica.Installing.{certified, install_refusal, installed, raised}
 use Rattle.bfs_order.specs.Replica.Outcomes.{Outcome, quiet, unless}
 use Rattle.bfs_order.specs.Replica.Proposing.{next_number, leads, proposal_refusal, proposal, proposal_commits, proposed, batch_digest}
 use Rattle.bfs_order.specs.Replica.Refusals.{is_between, is_inside, is_of_view, is_there, conflicts, is_authentic, place_refusal, refusal}
@@ -27,6 +27,7 @@ use Rattle.bfs_order.specs.Replica.States.{State, known, with_more, with_message
 use Rattle.bfs_order.specs.Replica.Views.{leaving_refusal, left, entering_refusal, number_of, opened, as_proposals, taken_over, all_taken_over, entered}
 use Rattle.bfs_order.specs.Laws.Calls.{Call, Takes, Proposes, Executes, Checkpoints, Installs, Leaves, Enters, execution, outcome}
 use Rattle.bfs_order.specs.declared.error.OrderError.{OrderError}
+use Rattle.bfs_order.proofs.Raising.{raised_either, raised_same}
 use Rattle.bfs_order.proofs.Telling.{slot_is, told_left, told_right, is_one}
 use Rattle.bfs_model.specs.Server.Limits.{log_size}
 
@@ -161,13 +162,6 @@ below_greatest (h ∷ hs) k v n e = go (below_greatest hs k v n) (or_cases (is_s
     go : (has_slot hs 2 k v n ≡ true → n ≤ greatest_proposed v hs) → (is_slot 2 k v n h ≡ true) ⊎ (has_slot hs 2 k v n ≡ true) → n ≤ greatest_proposed v (h ∷ hs)
     go later (inl is) = let i = slot_is h 2 k v n is in here (eqb h.tag 2) (eqb h.view v) (eq-eqb h.tag 2 i.tag) (eq-eqb h.view v i.view) i.number
     go later (inr there) = rest (eqb h.tag 2 && eqb h.view v) (later there)
-
--- but the low mark and the log
-pub raised_same : {A : Type 0} (part : State → A) (keys : Keys) (s : State) (stable : Option StableCheckpoint) → ((low : ℕ) (log : Log) → part (record s { low = low; log = log }) ≡ part s)
-    → part (raised keys s stable) ≡ part s
-raised_same part keys s None same = refl
-raised_same part keys s (Some c) same =
-    cond_both (raises keys s c) (record s { low = c.number; log = certified s.log c }) s (λ (u : State). part u ≡ part s) (λ _. same c.number (certified s.log c)) (λ _. refl)
 
 -- Calls -------------------------------------------------------------------------------------------------------------------
 
@@ -326,12 +320,8 @@ module _ (Good : Signed OrderMessage → Type 0) (P : Fact) (moves : Moves Good 
           subst (λ (low : ℕ). P s.f s.me s.view low s.log sent) same kept
 
   raised_keeps : (keys : Keys) (s : State) (sent : Log) (stable : Option StableCheckpoint) → Keeps s sent → Shown Good keys s stable → Keeps (raised keys s stable) sent
-  raised_keeps keys s sent None kept good = kept
-  raised_keeps keys s sent (Some c) kept good =
-      cond_both (raises keys s c) (record s { low = c.number; log = certified s.log c }) s (λ (u : State). Keeps u sent)
-      (λ is.
-      let parts = and_parts (ltb s.low c.number) (is_shown keys s.f c) is in
-      moves.install keys s.f s.me s.view s.low s.log sent c kept (ltb-true s.low c.number parts.0) parts.1 (good parts.1)) (λ _. kept)
+  raised_keeps keys s sent stable kept good = raised_either (λ (u : State). Keeps u sent) keys s stable
+      (λ c is above shown. moves.install keys s.f s.me s.view s.low s.log sent c kept above shown (subst (Shown Good keys s) is good shown)) kept
 
   taken_over_goes : (keys : Keys) (s : State) (sent : Log) (p : Signed model.PrePrepare) → Speaks Good keys s.f s.me → Keeps s sent → Handed Good s.f (as_message PrePrepare p)
       → Goes s sent (taken_over keys s (as_message PrePrepare p))

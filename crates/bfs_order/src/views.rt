@@ -2,6 +2,7 @@
 ghost use Rattle.std.specs.Prelude.{◌≡◌, ◌≢◌, ◌<◌, ◌≤◌, ◌++◌, length, take, reverse, None, Some, IfSome, IfOk, IfErr, OnOk, OnErr};
 ghost use Rattle.std.specs.Option.{option_map};
 ghost use Rattle.bfs_order.specs.Inside.Growing.{Grown};
+ghost use Rattle.bfs_log.specs.Certificates.{MakesStable};
 ghost use Rattle.bfs_log.specs.Logs.{as_messages};
 ghost use Rattle.bfs_messages.specs.Signing.{as_message};
 ghost use Rattle.bfs_messages.specs.declared.order_messages.OrderMessage.TheVariants as kind;
@@ -76,6 +77,7 @@ impl Order {
         ensures taken { OnOk result (entering_refusal self.old view ≡ None) }
         ensures now { OnOk result (self.new ≡ (entered keys.now self.old view (option_map (λ c. c.now) stable.entry) handed.items).now) }
         ensures sent { IfOk result (λ sent. sent.items ≡ as_messages (entered keys.now self.old view (option_map (λ c. c.now) stable.entry) handed.items).sent) }
+        ensures raised { OnOk result (self.old.low < self.new.low → IfSome (option_map (λ c. c.now) stable.entry) (MakesStable self.old.f)) }
         ensures refused { IfErr result (λ e. e ≢ error.Memory → entering_refusal self.old view ≡ Some e) }
         ensures memory { IfErr result (λ e. e ≡ error.Memory → entering_refusal self.old view ≡ None) }
         ensures err { OnErr result (self.new ≡ self.old) }
@@ -96,6 +98,7 @@ impl Order {
         ensures taken { OnOk result (entering_refusal self.old view ≡ None) }
         ensures now { OnOk result (self.new ≡ (entered keys.now self.old view (option_map (λ c. c.now) stable.entry) handed.items).now) }
         ensures sent { IfOk result (λ sent. sent.items ≡ first.items ++ as_messages (entered keys.now self.old view (option_map (λ c. c.now) stable.entry) handed.items).sent) }
+        ensures raised { OnOk result (self.old.low < self.new.low → IfSome (option_map (λ c. c.now) stable.entry) (MakesStable self.old.f)) }
         ensures refused { IfErr result (λ e. e ≢ error.Memory → entering_refusal self.old view ≡ Some e) }
         ensures memory { IfErr result (λ e. e ≡ error.Memory → entering_refusal self.old view ≡ None) }
         ensures err { OnErr result (self.new ≡ self.old) }
