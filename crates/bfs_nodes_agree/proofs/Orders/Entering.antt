@@ -38,7 +38,7 @@ use Rattle.bfs_nodes_agree.proofs.Orders.Lists.{any_in}
 use Rattle.bfs_nodes_agree.proofs.Orders.Telling.{or_moved, not_both, not_equal, finds_none, no_slot, slot_is, any_both, any_said, slot_same}
 use Rattle.bfs_nodes_agree.proofs.Orders.Saying.{IsAhead, told_there, ahead_said, votes_may, after_said}
 use Rattle.bfs_nodes_agree.proofs.Orders.Dropping.{dropped, each_five}
-use Rattle.bfs_nodes_agree.proofs.Orders.Results.{Result, drop_tracks, drops, passed, stays_so, in_said, said_view}
+use Rattle.bfs_nodes_agree.proofs.Orders.Results.{Result, drop_tracks, passed, stays_so, in_said, said_view}
 use Rattle.bfs_nodes_agree.proofs.Orders.Taking.{unsettled, itself_there}
 use Rattle.bfs_model.specs.Server.Limits.{checkpoint_interval, most_number}
 
@@ -339,11 +339,12 @@ raises_first faulty w r keys view min_s handed changes c follows differ valid lt
     let all = (and_parts (list_all (vouches keys s.f n c.digest) (checkpoints_in c)) _ shown).0 in
     let same = each_five keys s.f n c.digest (kept_after n c.digest s.log) (checkpoints_in c) (kept_above n p.now.log) all (dropped n c.digest s.log p.now.log follows.state.log) in
     let over : p.now.low < n = let e = follows.state.low in omega (arith, e, above) in
-    let first = drops faulty w r risen n follows over (drop_tracks s p.now n s.last n (certified s.log c) follows.state refl same) in
+    let tracks = drop_tracks s p.now n s.last n (certified s.log c) follows.state refl same in
     let then = after_move s.f s.me p (Drops n) in
+    let first : Follows (record r { state = risen }) then = record { state = tracks; sent = follows.sent; offers = follows.offers; changes = follows.changes; executed = follows.executed } in
     let world = with_history w s.me then in
     let here : world s.me ≡ then = here_itself w s.me then in
-    let rest = begins faulty world (record r { state = risen }) keys view min_s handed changes (subst (λ (h : History). Follows (record r { state = risen }) h) (sym here) first.2) differ
+    let rest = begins faulty world (record r { state = risen }) keys view min_s handed changes (subst (λ (h : History). Follows (record r { state = risen }) h) (sym here) first) differ
     (new_view_on s.f faulty w world (new_view view min_s handed changes) (world_grows s.f w (record { who = s.me; move = Drops n })) valid) lt asked in
     let out = all_taken_over keys (opened risen view min_s handed) (as_proposals handed) in
     let offers = cond (s.me == primary s.f view) (as_proposals handed) [] in (
