@@ -62,11 +62,11 @@ in_taken low (h ∷ hs) log x = cond_both (nat_lt low h.number && nat_le h.numbe
     (λ _ i. elim (in_taken low hs log x i) [ inl a ↦ inl (inr a) | inr b ↦ inr b ])
 
 -- a PRE-PREPARE of the view's primary above what the view begins behind
-record IsHanded (f view min_s : ℕ) (h : Header) : Type 0 where
-  two : h.tag ≡ 2
-  from : h.sender ≡ primary f h.view
-  of_view : h.view ≡ view
-  above : min_s < h.number
+pub record IsHanded (f view min_s : ℕ) (h : Header) : Type 0 where
+  pub two : h.tag ≡ 2
+  pub from : h.sender ≡ primary f h.view
+  pub of_view : h.view ≡ view
+  pub above : min_s < h.number
 
 -- Places ------------------------------------------------------------------------------------------------------------------
 
@@ -77,11 +77,11 @@ turned x h e =
     (and_from (x.sender == h.sender) ((x.view == h.view) && (x.number == h.number)) (eq-eqb x.sender h.sender (sym at.sender))
     (and_from (x.view == h.view) (x.number == h.number) (eq-eqb x.view h.view (sym at.view)) (eq-eqb x.number h.number (sym at.number))))
 
-differs : (hs : List Header) (h x : Header) → is_taken hs h ≡ false → IsIn x hs → is_slot x.tag x.sender x.view x.number h ≡ false
+pub differs : (hs : List Header) (h x : Header) → is_taken hs h ≡ false → IsIn x hs → is_slot x.tag x.sender x.view x.number h ≡ false
 differs hs h x free i = false_from_ne_true (is_slot x.tag x.sender x.view x.number h) (λ e. not_both (any_in (is_slot h.tag h.sender h.view h.number) hs x i (turned x h e)) free)
 
 -- of a later view
-later_free : (log : List Header) (x : Header) → ((y : Header) → IsIn y log → y.view < x.view) → is_taken log x ≡ false
+pub later_free : (log : List Header) (x : Header) → ((y : Header) → IsIn y log → y.view < x.view) → is_taken log x ≡ false
 later_free log x earlier = finds_none (is_slot x.tag x.sender x.view x.number) log (λ y i. false_from_ne_true (is_slot x.tag x.sender x.view x.number y) (λ e.
     let same = (slot_is x.tag x.sender x.view x.number y e).view in
     let lt = earlier y i in
@@ -119,7 +119,7 @@ outside true false v w o p q = refl
 outside a b v w o p q = absurd cc
 
 -- within the marks, in a free place
-none_refused : (s : order.State) (h : Header) → IsHanded s.f s.view s.min_s h → s.asked ≤ s.view → is_between s h.number ≡ true → is_taken (known s) h ≡ false → place_refusal s h ≡ None
+pub none_refused : (s : order.State) (h : Header) → IsHanded s.f s.view s.min_s h → s.asked ≤ s.view → is_between s h.number ≡ true → is_taken (known s) h ≡ false → place_refusal s h ≡ None
 none_refused s h handed asked marks free =
     let two = eq-eqb h.tag 2 handed.two in
     let five = not_equal h.tag 5 (λ e. let t = handed.two in absurd (omega (arith, t, e))) in
@@ -136,7 +136,7 @@ none_refused s h handed asked marks free =
     view inside primary_ok no_conflict free
 
 -- beyond them
-beyond_refused : (s : order.State) (h : Header) → IsHanded s.f s.view s.min_s h → s.asked ≤ s.view → is_between s h.number ≡ false → place_refusal s h ≡ Some OutsideMarks
+pub beyond_refused : (s : order.State) (h : Header) → IsHanded s.f s.view s.min_s h → s.asked ≤ s.view → is_between s h.number ≡ false → place_refusal s h ≡ Some OutsideMarks
 beyond_refused s h handed asked beyond =
     let two = eq-eqb h.tag 2 handed.two in
     let view : is_of_view s h ≡ true = or_right (h.tag == 5) ((h.view == s.view) && nat_le s.asked s.view)
@@ -144,7 +144,7 @@ beyond_refused s h handed asked beyond =
     let inside : is_inside s h ≡ false = ap (λ (b : Bool). b && cond (h.tag == 5) ((h.number % checkpoint_interval) == 0) (nat_lt s.min_s h.number)) beyond in
     outside (is_of_view s h) (is_inside s h) WrongView OutsideMarks _ view inside
 
-taken : (keys : Keys) (s : order.State) (m : Signed OrderMessage) → (header m).tag ≡ 2 → place_refusal s (header m) ≡ None
+pub taken : (keys : Keys) (s : order.State) (m : Signed OrderMessage) → (header m).tag ≡ 2 → place_refusal s (header m) ≡ None
     → let vs = votes_in keys (with_message s m) (header m).view (header m).number (header m).digest in
     taken_over keys s m ≡ record { now = with_more (with_message s m) vs; sent = vs }
 taken keys s m two none =
@@ -193,7 +193,7 @@ one_less ahead s log m joined =
     }
 
 -- the places of the rest stay free
-still_free : (keys : Keys) (s : order.State) (m : Signed OrderMessage) (x : Header) → x.tag ≡ 2 → is_taken (known s) x ≡ false → is_slot x.tag x.sender x.view x.number (header m) ≡ false
+pub still_free : (keys : Keys) (s : order.State) (m : Signed OrderMessage) (x : Header) → x.tag ≡ 2 → is_taken (known s) x ≡ false → is_slot x.tag x.sender x.view x.number (header m) ≡ false
     → is_taken (known (with_more (with_message s m) (votes_in keys (with_message s m) (header m).view (header m).number (header m).digest))) x ≡ false
 still_free keys s m x two free other =
     let h = header m in
