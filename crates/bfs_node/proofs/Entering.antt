@@ -34,7 +34,7 @@ asked_again keys s view (Some c) handed =
     let asked : State = record s { asked = view } in
     elim (raises keys s c) as
     (λ b. all_taken_over keys (opened (cond b (record asked { low = c.number; log = certified s.log c }) asked) view c.number handed) (as_proposals handed)
-        ≡ all_taken_over keys (opened (cond b (record s { low = c.number; log = certified s.log c }) s) view c.number handed) (as_proposals handed)) [
+    ≡ all_taken_over keys (opened (cond b (record s { low = c.number; log = certified s.log c }) s) view c.number handed) (as_proposals handed)) [
       | true ↦ refl
       | false ↦ refl
     ]

@@ -194,9 +194,9 @@ impl Node {
     {
         a_replica_stays_itself();
         let (low, view) = (self.order.low(), new_view.message.view());
-        let entered =
-            self.order
-                .enter_view_behind(&self.keys, view, stable.as_ref(), handed, first);
+        let entered = self
+            .order
+            .enter_view_behind(&self.keys, view, stable.as_ref(), handed, first);
         match entered {
             Ok(sent) => {
                 self.changes.drop_up_to(view);

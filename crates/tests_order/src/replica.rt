@@ -254,12 +254,7 @@ impl Replica {
         let told = self.told(told)?;
         let stable = StableCheckpoint::new(number % (1 << 63), [1; 32], told);
         let handed = self.handed(chosen)?;
-        Ok(sent(self.order.enter_view(
-            &self.keys,
-            1,
-            Some(&stable),
-            handed,
-        )))
+        Ok(sent(self.order.enter_view(&self.keys, 1, Some(&stable), handed)))
     }
 
     /// How many replicas may be faulty, and its own number.

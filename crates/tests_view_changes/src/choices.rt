@@ -273,8 +273,14 @@ fn behind(alloc: Global, asked: &[Asked<'_>]) -> Result<Option<(u64, usize)>, Me
 fn the_first_of_the_latest_checkpoints_is_taken(rt: HostRuntime) -> Result<(), Fail> {
     let alloc = rt.alloc();
     compared(behind(alloc, &[OF_ONE, OF_TWO, OF_THREE])?, None)?;
-    compared(behind(alloc, &[OF_ONE, BEHIND_16, ALSO_BEHIND_16])?, Some((16, 3)))?;
+    compared(
+        behind(alloc, &[OF_ONE, BEHIND_16, ALSO_BEHIND_16])?,
+        Some((16, 3)),
+    )?;
     compared(behind(alloc, &[ALSO_BEHIND_16, BEHIND_16])?, Some((16, 4)))?;
-    compared(behind(alloc, &[OF_ONE, BEHIND_16, BEHIND_32])?, Some((32, 3)))?;
+    compared(
+        behind(alloc, &[OF_ONE, BEHIND_16, BEHIND_32])?,
+        Some((32, 3)),
+    )?;
     Ok(())
 }

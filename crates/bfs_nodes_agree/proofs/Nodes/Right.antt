@@ -204,18 +204,20 @@ module _ (faulty : ℕ → Bool) (after : NodeReplicas) (who : ℕ) where
             deed_done faulty after who v node know (IsStill node (begun node).now) NoReply deed (begun node) done.sent (ap (λ (r : Option OrderError). (outcomes.unless r node.order done).sent) opened)
             (begun_right faulty (histories v) after node e know.kept) refl (kept_above good node.order.f asked node.changes know.kept) know.waiting
             (λ s i. elim i [ inl same ↦ inr (subst (MaySend faulty after who NoReply node (after_deeds (v who) (deed ∷ []))) (sym same) (offers, tells, said)) | inr j ↦ inl j ])
-            (λ m i small. inr (in_map (as_message Order) done.sent m i))
-            ((λ m i.
-            let own = own_handed node m i in
-            let told = λ (k t : ℕ). Told (headers (w k).offers) t (header m).sender (header m).view (header m).number (header m).digest in
-            let mine = subst (λ (o : ordered.OrderReplica). IsIn m o.offers) (sym (at_who (deed ∷ []) v who)) (offers m i) in
-            let tells : told who (header m).tag = in_told (headers (w who).offers) (header m) (in_map header (w who).offers m mine) in
-            record {
-              sent = λ small correct. inr (own.0, subst (told (header m).sender) own.0 (subst (λ (k : ℕ). told k (header m).tag) (sym (own.1.sender ∙ know.me)) tells));
-              said = λ small. offer m i;
-              whole = own.1.whole;
-              checked = own_checked faulty (histories v) after node know.kept m i;
-            }), shows_heard node.keys node.order (histories w) stable)
+            (λ m i small. inr (in_map (as_message Order) done.sent m i)) (
+              (λ m i.
+                  let own = own_handed node m i in
+                  let told = λ (k t : ℕ). Told (headers (w k).offers) t (header m).sender (header m).view (header m).number (header m).digest in
+                  let mine = subst (λ (o : ordered.OrderReplica). IsIn m o.offers) (sym (at_who (deed ∷ []) v who)) (offers m i) in
+                  let tells : told who (header m).tag = in_told (headers (w who).offers) (header m) (in_map header (w who).offers m mine) in
+                  record {
+                    sent = λ small correct. inr (own.0, subst (told (header m).sender) own.0 (subst (λ (k : ℕ). told k (header m).tag) (sym (own.1.sender ∙ know.me)) tells));
+                    said = λ small. offer m i;
+                    whole = own.1.whole;
+                    checked = own_checked faulty (histories v) after node know.kept m i;
+                  }),
+              shows_heard node.keys node.order (histories w) stable,
+            )
             tt (refl, refl, entered_last node.keys node.order asked stable new.proposals) goes
       ]) refl
 
