@@ -181,8 +181,12 @@ class Order:
 
     def install(self, certificate):
         """Goes on behind a checkpoint that others have made stable."""
+        self.last = max(self.last, certificate[0].message.number)
+        self.rise(certificate)
+
+    def rise(self, certificate):
+        """The low mark rises to that checkpoint, where it is below, and the number executed last stays."""
         number, digest = certificate[0].message.number, certificate[0].message.digest
-        self.last = max(self.last, number)
         if number > self.low:
             self.low = number
             kept = self.certificate(number, digest)

@@ -101,6 +101,10 @@ class Replica:
     def enter(self, signed, floor):
         new = signed.message
         self.changes = {sender: each for sender, each in self.changes.items() if each.message.view > new.view}
+        if floor > self.order.low:
+            certificate = next(each.message.checkpoints for each in new.changes if each.message.stable == floor)
+            self.order.rise(certificate)
+            self.settle_by(certificate)
         return self.order.enter(new.view, floor, new.proposals)
 
     def view_to_follow(self):

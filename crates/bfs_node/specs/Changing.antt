@@ -2,6 +2,8 @@
 use Rattle.std.specs.Prelude.{ℕ, ◌+◌, ◌*◌, ◌==◌, Bool, ◌&&◌, not, max, [], ◌∷◌, length, Option, Some, None, nat_lt, nat_le, if◌then◌else◌}
 use Rattle.std.specs.Option.{option_map}
 use Rattle.bfs_votes.specs.Votes.{primary}
+use Rattle.bfs_checkpoints.specs.Keeping.{Keeping, settled}
+use Rattle.bfs_log.specs.Certificates.{StableCheckpoint}
 use Rattle.bfs_log.specs.Logs.{as_messages}
 use Rattle.bfs_messages.specs.Messages as model
 use Rattle.bfs_messages.specs.Signing.{as_message, is_signed}
@@ -13,7 +15,7 @@ use Rattle.bfs_order.specs.Replica.Views as order
 use Rattle.bfs_view_change.specs.Changes.Choice.{choice}
 use Rattle.bfs_view_change.specs.Changes.Keeping.{above_view, changes_for, least_asked, was_asked, with_asked, with_change}
 use Rattle.bfs_view_change.specs.Changes.Making.{change_of, new_view_from, signed_change, signed_new_view}
-use Rattle.bfs_view_change.specs.Changes.NewViews.{choice_in, new_view_refusal}
+use Rattle.bfs_view_change.specs.Changes.NewViews.{latest_checkpoint, new_view_refusal}
 use Rattle.bfs_view_change.specs.Changes.ViewChanges.{messages_of, valid_view_change}
 use Rattle.bfs_node.specs.Errors.{of_order, of_view}
 use Rattle.bfs_node.specs.Nodes.{Node, Outcome}
@@ -31,10 +33,26 @@ may_begin node =
     nat_lt node.order.view node.order.asked
     && (leads node node.order.asked && nat_le (2 * node.order.f + 1) (length (changes_for node.order.asked node.changes)))
 
-abbrev pub entered_by : Node → model.NewView → (min_s : ℕ) → Outcome
-entered_by node new min_s =
-    let done = order.entered node.keys node.order new.view min_s new.proposals in
-    record { now = record node { order = done.now; changes = above_view new.view node.changes }; sent = as_messages done.sent }
+-- the snapshots are settled by the checkpoint behind which a view begins, where the low mark has risen to it
+abbrev pub settled_if : (risen : Bool) → Option StableCheckpoint → Keeping → Keeping
+settled_if risen None snapshots = snapshots
+settled_if risen (Some c) snapshots = if risen then settled c snapshots else snapshots
+
+-- its view is entered behind the checkpoint that its VIEW-CHANGEs show, and it is kept
+abbrev pub entered_by : Node → Signed model.NewView → Outcome
+entered_by node s =
+    let new = s.message in
+    let stable = latest_checkpoint (messages_of new.changes) in
+    let done = order.entered node.keys node.order new.view stable new.proposals in
+    record {
+      now = record node {
+        order = done.now;
+        changes = above_view new.view node.changes;
+        snapshots = settled_if (nat_lt node.order.low done.now.low) stable node.snapshots;
+        new_view = Some s;
+      };
+      sent = as_messages done.sent;
+    }
 
 -- from all that it keeps for the view
 abbrev pub own_new_view : Node → model.NewView
@@ -45,9 +63,9 @@ own_new_view node =
 -- the NEW-VIEW is sent, and the view is entered in the same step
 abbrev pub begun : Node → Outcome
 begun node =
-    let new = own_new_view node in
-    let done = entered_by node new (choice (messages_of new.changes)).min_s in
-    record { now = done.now; sent = as_message NewView (signed_new_view node.keys new) ∷ done.sent }
+    let own = signed_new_view node.keys (own_new_view node) in
+    let done = entered_by node own in
+    record { now = done.now; sent = as_message NewView own ∷ done.sent }
 
 abbrev pub begun_if_due : Node → Outcome
 begun_if_due node = if may_begin node then begun node else record { now = node; sent = [] }
@@ -113,4 +131,4 @@ abbrev pub view_refusal : Node → Signed model.NewView → Option NodeError
 view_refusal node s = first_of (option_map of_view (new_view_refusal node.keys s)) (entering_refusal node s.message)
 
 abbrev pub with_new_view : Node → Signed model.NewView → Outcome
-with_new_view node s = entered_by node s.message (choice_in s.message).min_s
+with_new_view node s = entered_by node s

@@ -7,7 +7,7 @@ use Rattle.bfs_auth.specs.declared.principals.Principal.TheVariants.{Replica}
 use Rattle.bfs_auth.specs.Principals.{number_of}
 use Rattle.bfs_checkpoints.specs.Keeping.{Keeping, nothing_kept}
 use Rattle.bfs_checkpoints.specs.Texts.{SpellsNode}
-use Rattle.bfs_messages.specs.Messages.{Request}
+use Rattle.bfs_messages.specs.Messages.{NewView, Request}
 use Rattle.bfs_messages.specs.declared.message.Message.{Message}
 use Rattle.bfs_messages.specs.declared.signed.Signed.{Signed}
 use Rattle.bfs_order.specs.Replica.States.{State, fresh}
@@ -29,6 +29,8 @@ pub record Node : Type 0 where
   -- VIEW-CHANGEs for views that were not entered yet
   pub changes : views.Kept
   pub snapshots : Keeping
+  -- the NEW-VIEW by which it has entered its view; none in view 0
+  pub new_view : Option (Signed NewView)
 
 -- the replica of that number among 3f + 1, with these keys, which begins with a file system and the last replies as of number 0
 abbrev pub node_with : (f me : ℕ) → Keys → FileSystem → Table → Node
@@ -40,6 +42,7 @@ node_with f me keys files table = record {
   pending = [];
   changes = views.nothing_kept f;
   snapshots = nothing_kept f;
+  new_view = None;
 }
 
 -- as its keys tell

@@ -1,24 +1,28 @@
 // Views change.
-ghost use Rattle.std.specs.Prelude.{◌≡◌, ◌≢◌, ◌<◌, ◌≤◌, ◌++◌, ◌∷◌, [], None, Some, IfOk, IfErr, OnOk, OnErr};
+ghost use Rattle.std.specs.Prelude.{◌≡◌, ◌≢◌, ◌<◌, ◌≤◌, ◌++◌, ◌∷◌, [], nat_lt, None, Some, IfOk, IfErr, IfSome, OnOk, OnErr};
 ghost use Rattle.std.specs.Option.{option_map};
 ghost use Rattle.bfs_messages.specs.declared.message.Message.TheVariants as kind;
 ghost use Rattle.bfs_messages.specs.Signing.{as_message};
-ghost use Rattle.bfs_node.specs.Changing.{begun, begun_if_due, change_refusal, leads, may_begin, next_view, timed_out, timeout_refusal, view_refusal, with_new_view, with_view_change};
+ghost use Rattle.bfs_node.specs.Changing.{begun, begun_if_due, change_refusal, entered_by, leads, may_begin, next_view, settled_if, timed_out, timeout_refusal, view_refusal, with_new_view, with_view_change};
 ghost use Rattle.bfs_node.specs.Errors.{of_view};
 ghost use Rattle.bfs_node.specs.Inside.Asking.{asking, MayAsk};
 ghost use Rattle.bfs_node.specs.declared.error.NodeError.TheVariants as error;
 ghost use Rattle.bfs_order.specs.Replica.Views.{entering_refusal, leaving_refusal};
-ghost use Rattle.bfs_view_change.specs.Changes.NewViews.{ground_refusal};
+ghost use Rattle.bfs_log.specs.Certificates.{MakesStable};
+ghost use Rattle.bfs_view_change.specs.Changes.NewViews.{ground_refusal, latest_checkpoint};
+ghost use Rattle.bfs_view_change.specs.Changes.ViewChanges.{messages_of};
 ghost use Rattle.bfs_view_change.specs.Inside.Near.{IsNear};
 ghost use Rattle.bfs_model.specs.Server.Limits.{most_number};
 
 use crate::error::NodeError;
 use crate::node::Node;
-use bfs_log::primary_of;
-use bfs_messages::{Message, NewView, Signed, ViewChange, is_view_change_signed};
+use bfs_log::{StableCheckpoint, primary_of};
+use bfs_messages::{Message, NewView, PrePrepare, Signed, ViewChange, is_view_change_signed};
 use bfs_order::a_replica_stays_itself;
 use bfs_types::{Memory, TryClone, copies_of};
-use bfs_view_change::{begin_view, check_new_view, make_view_change, valid_signed_view_change};
+use bfs_view_change::{
+    begin_view, check_new_view, latest_checkpoint, make_view_change, valid_signed_view_change,
+};
 use std::alloc::Global;
 
 impl Node {
@@ -165,48 +169,79 @@ impl Node {
         a_replica_stays_itself();
         let changes = self.changes.changes_for(self.alloc, view)?;
         let begun = begin_view(self.alloc, &self.keys, self.order.me(), view, changes)?;
-        let new_view = begun.new_view;
+        let own = begun.new_view.try_clone(self.alloc)?;
         first.push(Signed {
-            message: Message::NewView(new_view.message),
-            auth: new_view.auth,
+            message: Message::NewView(own.message),
+            auth: own.auth,
         })?;
-        let sent = self
+        self.enter_by(begun.new_view, begun.stable, begun.handed, first)
+    }
+
+    // The view of a NEW-VIEW is entered, and it is kept. What is sent in it stands behind what is to be sent before.
+    fn enter_by(
+        &mut self,
+        new_view: Signed<NewView>,
+        stable: Option<StableCheckpoint>,
+        handed: Vec<Signed<PrePrepare>>,
+        first: Vec<Signed<Message>>,
+    ) -> Result<Vec<Signed<Message>>, Memory>
+        requires stable { stable ≡ latest_checkpoint (messages_of new_view.message.changes) }
+        requires handed { handed.items ≡ new_view.message.proposals }
+        ensures now { OnOk result (self.new ≡ (entered_by self.old new_view).now) }
+        ensures sent { IfOk result (λ sent. sent.items ≡ first.items ++ (entered_by self.old new_view).sent) }
+        ensures taken { OnOk result (entering_refusal self.old.order new_view.message.view ≡ None) }
+        ensures err { OnErr result (self.new ≡ self.old) }
+    {
+        a_replica_stays_itself();
+        let (low, view) = (self.order.low(), new_view.message.view());
+        let entered = self
             .order
-            .enter_view_behind(&self.keys, view, begun.min_s, begun.handed, first);
-        match sent {
+            .enter_view_behind(&self.keys, view, stable.as_ref(), handed, first);
+        match entered {
             Ok(sent) => {
                 self.changes.drop_up_to(view);
+                self.settle_above(low, stable);
+                self.new_view = Some(new_view);
                 Ok(sent)
             }
             Err(_) => Err(Memory),
         }
     }
 
+    // Settles the snapshots by a checkpoint, where the low mark has risen to it.
+    fn settle_above(&mut self, low: u64, stable: Option<StableCheckpoint>)
+        requires { low < self.old.order.low → IfSome stable (MakesStable self.old.order.f) }
+        ensures { self.new ≡ record self.old { snapshots = settled_if (nat_lt low self.old.order.low) stable self.old.snapshots } }
+    {
+        if low >= self.order.low() {
+            return;
+        }
+        if let Some(stable) = stable {
+            self.snapshots.settle(stable);
+        }
+    }
+
     /// A NEW-VIEW comes: its view is entered. It is refused as `check_new_view` refuses it, and then as `Order::enter_view` does.
     pub(crate) fn take_new_view(
         &mut self,
-        signed: &Signed<NewView>,
+        signed: Signed<NewView>,
     ) -> Result<Vec<Signed<Message>>, NodeError>
-        ensures taken { OnOk result (view_refusal self.old signed.now ≡ None) }
-        ensures now { OnOk result (self.new ≡ (with_new_view self.old signed.now).now) }
-        ensures sent { IfOk result (λ sent. sent.items ≡ (with_new_view self.old signed.now).sent) }
-        ensures refused { IfErr result (λ e. e ≢ error.Memory → view_refusal self.old signed.now ≡ Some e) }
-        ensures memory { IfErr result (λ e. e ≡ error.Memory → option_map of_view (ground_refusal self.old.keys signed.now) ≡ None) }
+        ensures taken { OnOk result (view_refusal self.old signed ≡ None) }
+        ensures now { OnOk result (self.new ≡ (with_new_view self.old signed).now) }
+        ensures sent { IfOk result (λ sent. sent.items ≡ (with_new_view self.old signed).sent) }
+        ensures refused { IfErr result (λ e. e ≢ error.Memory → view_refusal self.old signed ≡ Some e) }
+        ensures memory { IfErr result (λ e. e ≡ error.Memory → option_map of_view (ground_refusal self.old.keys signed) ≡ None) }
         ensures err { OnErr result (self.new ≡ self.old) }
     {
-        a_replica_stays_itself();
-        let choice = check_new_view(self.alloc, &self.keys, signed)?;
+        let _choice = check_new_view(self.alloc, &self.keys, &signed)?;
         let new = &signed.message;
-        let view = new.view();
-        if let Some(error) = self.order.entering_refusal(view) {
+        if let Some(error) = self.order.entering_refusal(new.view()) {
             return Err(NodeError::from(error));
         }
+        let stable = latest_checkpoint(self.alloc, new.changes())?;
         let handed = copies_of(self.alloc, new.proposals())?;
-        let sent = self
-            .order
-            .enter_view(&self.keys, view, choice.min_s(), handed)?;
-        self.changes.drop_up_to(new.view());
-        Ok(sent)
+        let first = Vec::new(self.alloc);
+        Ok(self.enter_by(signed, stable, handed, first)?)
     }
 }
 

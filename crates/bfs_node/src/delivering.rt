@@ -66,7 +66,7 @@ impl Node {
                 message: change,
                 auth,
             }),
-            Message::NewView(new) => self.take_new_view(&Signed { message: new, auth }),
+            Message::NewView(new) => self.take_new_view(Signed { message: new, auth }),
             Message::Reply(_) => Err(NodeError::WrongKind),
         }
     }

@@ -21,7 +21,7 @@ use crate::error::NodeError;
 use bfs_auth::{Keys, Principal, derived_keys_are_of_replicas};
 use bfs_checkpoints::{AdoptError, Snapshots, StableSnapshot, digest_node, read_node};
 use bfs_log::faults_of;
-use bfs_messages::{Request, Signed};
+use bfs_messages::{NewView, Request, Signed};
 use bfs_order::Order;
 use bfs_pending::PendingRequests;
 use bfs_replies::{Class, ReplyTable};
@@ -47,6 +47,7 @@ pub struct Node {
     pub(crate) pending: PendingRequests,
     pub(crate) changes: KeptViewChanges,
     pub(crate) snapshots: Snapshots,
+    pub(crate) new_view: Option<Signed<NewView>>,
 }
 
 impl Model for Node {
@@ -59,9 +60,9 @@ impl Model for Node {
 
     ghost coded = { Prim.hlevel (codes, inodes_code) };
 
-    ghost view = { λ n. record { keys = n.keys; order = n.order; files = n.files; table = n.table; pending = n.pending; changes = n.changes; snapshots = n.snapshots } };
+    ghost view = { λ n. record { keys = n.keys; order = n.order; files = n.files; table = n.table; pending = n.pending; changes = n.changes; snapshots = n.snapshots; new_view = n.new_view } };
 
-    ghost invariant = { λ n. IsWhole (record { keys = n.keys; order = n.order; files = n.files; table = n.table; pending = n.pending; changes = n.changes; snapshots = n.snapshots }) };
+    ghost invariant = { λ n. IsWhole (record { keys = n.keys; order = n.order; files = n.files; table = n.table; pending = n.pending; changes = n.changes; snapshots = n.snapshots; new_view = n.new_view }) };
 }
 
 impl Node {
@@ -134,6 +135,7 @@ impl Node {
             pending: PendingRequests::new(alloc),
             changes: KeptViewChanges::new(alloc, f)?,
             snapshots: Snapshots::new(alloc, f),
+            new_view: None,
         })
     }
 
@@ -177,6 +179,13 @@ impl Node {
         ensures { result ≡ self.now.order.asked }
     {
         self.order.asked()
+    }
+
+    /// The NEW-VIEW by which it has entered its view, its own where it leads the view: by it one that lags can enter too. None in view 0.
+    pub fn new_view(&self) -> Option<&Signed<NewView>>
+        ensures { option_map (λ new. new.now) result ≡ self.now.new_view }
+    {
+        self.new_view.as_ref()
     }
 
     /// The least view above those that it has entered and asked for which replicas ask for, once f + 1 ask for views above them: then time

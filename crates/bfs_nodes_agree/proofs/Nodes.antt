@@ -2,6 +2,7 @@
 pub mod Agree
 pub mod Answering
 pub mod NewViews
+pub mod Whole
 pub mod Bounds
 pub mod Doing
 pub mod Executing

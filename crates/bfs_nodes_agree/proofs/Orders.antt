@@ -6,6 +6,7 @@ pub mod Results
 pub mod Taking
 pub mod Deeds
 pub mod Entering
+pub mod Whole
 pub mod Worlds
 pub mod Lists
 pub mod Logs

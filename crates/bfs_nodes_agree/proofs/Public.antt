@@ -1,6 +1,6 @@
 -- Lemmas that other crates cite.
 pub use Rattle.bfs_nodes_agree.proofs.Orders.Lists.{AllIn, any_in, both_in, either_in, filter_in, found, left_in, more_in, none_in, one_in, out_of_filter_map, right_in, some_is}
-pub use Rattle.bfs_nodes_agree.proofs.Orders.Logs.{IsChecked, Offers, votes_checked, votes_own}
+pub use Rattle.bfs_nodes_agree.proofs.Orders.Logs.{IsChecked, Offers, Shows, votes_checked, votes_own}
 pub use Rattle.bfs_nodes_agree.proofs.Orders.Results.{either_way}
 pub use Rattle.bfs_nodes_agree.proofs.Views.Batches.{AreSo, chosen_so}
 pub use Rattle.bfs_nodes_agree.proofs.Views.Lists.{in_map, map_in, out_of_map, passes_at}

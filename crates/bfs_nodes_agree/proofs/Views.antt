@@ -2,6 +2,7 @@
 pub mod Lists
 pub mod Made
 pub mod Chosen
+pub mod Whole
 pub mod Worlds
 pub mod Proved
 pub mod OfLog

@@ -1,6 +1,6 @@
 -- Logs stay clean.
 use Rattle.std.proofs.Common.{◌≡◌, ℕ, ◌<◌, true, ltb, ◌&&◌, List, [], ◌∷◌, refl, sym, subst, arith}
-use Rattle.std.specs.Prelude.{None, All}
+use Rattle.std.specs.Prelude.{Option, Some, None, All}
 use Rattle.std.proofs.lemmas.Bool.{and_parts, eqb-false, ltb-true}
 use Rattle.std.proofs.lemmas.List.Elements.{All-nil, All-head, All-tail, All-push, All-filter, All-weaker}
 use Rattle.bfs_auth.specs.Authenticators.{passes, signature}
@@ -23,7 +23,7 @@ use Rattle.bfs_order.specs.Replica.States.{State, fresh}
 use Rattle.bfs_order.specs.Replica.Views.{as_proposals}
 use Rattle.bfs_order.specs.Laws.Calls.{Call, Takes, Proposes, Executes, Checkpoints, Installs, Leaves, Enters, outcome, after}
 use Rattle.bfs_order.specs.Laws.Clean.{IsClean, IsAllSigned, IsProper, own_keys, HasCleanLog, ProperCallsKeepLogsClean, LogsAreClean}
-use Rattle.bfs_order.proofs.Moving.{Fact, Moves, Speaks, Handed, Fits, call_goes, placed, unrefused, only_backups, leading}
+use Rattle.bfs_order.proofs.Moving.{Fact, Moves, Speaks, Handed, Shown, Fits, call_goes, placed, unrefused, only_backups, leading}
 use Rattle.bfs_log.proofs.Public.{IsVoucher, vouched}
 use Rattle.bfs_order.proofs.Putting.{each_keeps}
 use Rattle.bfs_order.proofs.KeptLogs.{same_replica}
@@ -130,6 +130,10 @@ module _ (passes_at : PassesAtReplicas) (secret : List ℕ) (clients : ℕ) (s :
     backup = λ three same. absurd (omega (arith, three));
   }
 
+  shown_clean : (stable : Option StableCheckpoint) → Shown Clean mine s stable
+  shown_clean None = tt
+  shown_clean (Some c) = clean_certificate mine s.f c
+
   with_keys : (call : Keys → Call) (by : Keys) → by ≡ mine → Fits Clean s (call mine) → Fits Clean s (call by)
   with_keys call by same fits = subst (λ (k : Keys). Fits Clean s (call k)) (sym same) fits
 
@@ -140,8 +144,8 @@ module _ (passes_at : PassesAtReplicas) (secret : List ℕ) (clients : ℕ) (s :
   proper_fits (Checkpoints by n d) proper = with_keys (λ k. Checkpoints k n d) by proper speaks_clean
   proper_fits (Installs by c) proper = with_keys (λ k. Installs k c) by proper (clean_certificate mine s.f c)
   proper_fits (Leaves v) proper = tt
-  proper_fits (Enters by v n ps) proper = with_keys (λ k. Enters k v n ps) by proper.0
-      (All-weaker (IsAllSigned mine) (Handed Clean s.f) (λ m is. clean_handed mine s.f m is) (as_proposals ps) proper.1, speaks_clean)
+  proper_fits (Enters by v stable ps) proper = with_keys (λ k. Enters k v stable ps) by proper.0
+      (All-weaker (IsAllSigned mine) (Handed Clean s.f) (λ m is. clean_handed mine s.f m is) (as_proposals ps) proper.1, speaks_clean, shown_clean stable)
 
 pub clean_kept : PassesAtReplicas → ProperCallsKeepLogsClean
 clean_kept passes_at secret clients s call there proper clean =

@@ -1,6 +1,6 @@
 -- What calls keep of a log: one message a slot, the window, the certificate of the stable checkpoint.
 use Rattle.std.proofs.Common.{◌≡◌, ◌⊎◌, inl, inr, ℕ, ◌+◌, ◌*◌, ◌<◌, Bool, true, false, cond, eqb, ltb, ◌&&◌, List, [], ◌∷◌, ◌++◌, refl, subst, ◌∙◌, arith}
-use Rattle.std.specs.Prelude.{All, bytes_eq, filter}
+use Rattle.std.specs.Prelude.{All, Option, Some, None, bytes_eq, filter}
 use Rattle.std.proofs.lemmas.Bool.{and_parts, and_from, or_cases, or_left, or_right, eqb-true, eq-eqb, ltb-true, leb-true, le-leb}
 use Rattle.std.proofs.lemmas.List.{map-append}
 use Rattle.std.proofs.lemmas.List.Elements.{All-nil, All-cons, All-head, All-tail, All-push, All-same, All-weaker}
@@ -17,7 +17,7 @@ use Rattle.bfs_order.specs.Replica.States.{State, fresh}
 use Rattle.bfs_order.specs.Laws.Calls.{Call, Takes, Proposes, Executes, Checkpoints, Installs, Leaves, Enters, outcome, after, CallsKeepTheReplica, IsKept, IsAlways}
 use Rattle.bfs_order.specs.Laws.Logs.{HasDistinctSlots, IsInWindow, IsWindowed, IsCertified, HasCertificate}
 use Rattle.bfs_order.proofs.Telling.{says_is, is_said, slot_is, told_left, told_right, is_one, told_kept}
-use Rattle.bfs_order.proofs.Moving.{Fact, Moves, Speaks, Fits, CanTake, call_goes}
+use Rattle.bfs_order.proofs.Moving.{Fact, Moves, Speaks, Shown, Fits, CanTake, call_goes}
 use Rattle.bfs_log.proofs.Public.{IsVoucher, Vouched, differ_kept, differ_pushed, no_view, senders_counted, vouched}
 use Rattle.bfs_order.proofs.Putting.{each_keeps}
 use Rattle.bfs_votes.proofs.Public.{more}
@@ -33,6 +33,10 @@ anything ms k d lt = tt
 speaks_anything : (keys : Keys) (f me : ℕ) → Speaks Anything keys f me
 speaks_anything keys f me = record { prepare = λ v n d e. tt; commit = λ v n d. tt; checkpoint = λ n d. tt }
 
+shown_anything : (keys : Keys) (s : State) (stable : Option StableCheckpoint) → Shown Anything keys s stable
+shown_anything keys s None = tt
+shown_anything keys s (Some c) = λ is. anything (checkpoints_in c)
+
 pub fits_anything : (s : State) (call : Call) → Fits Anything s call
 fits_anything s (Takes keys m) = (λ none. tt, speaks_anything keys s.f s.me)
 fits_anything s (Proposes keys batch) = (λ none. tt, speaks_anything keys s.f s.me)
@@ -40,7 +44,7 @@ fits_anything s Executes = tt
 fits_anything s (Checkpoints keys n d) = speaks_anything keys s.f s.me
 fits_anything s (Installs keys c) = λ is. anything (checkpoints_in c)
 fits_anything s (Leaves v) = tt
-fits_anything s (Enters keys v n ms) = (λ k d lt two led. tt, speaks_anything keys s.f s.me)
+fits_anything s (Enters keys v stable ms) = (λ k d lt two led. tt, speaks_anything keys s.f s.me, shown_anything keys s stable)
 
 pub same_replica : CallsKeepTheReplica
 same_replica s call =

@@ -1,5 +1,6 @@
 -- What proofs share.
 mod Telling
+mod Raising
 mod Moving
 mod Nearly
 mod Putting
@@ -15,3 +16,4 @@ mod Cleaning
 mod Saying
 mod Viewing
 mod Vouching
+pub mod Public

@@ -19,14 +19,15 @@ use Rattle.bfs_messages.specs.Signing.{as_message, order_signed_by}
 use Rattle.bfs_order.specs.Replica.Checkpoints.{checkpoint_refusal, checkpoint, checkpointed}
 use Rattle.bfs_order.specs.Replica.Executing.{next_order}
 use Rattle.bfs_log.specs.Certificates.{StableCheckpoint, checkpoints_in, is_shown}
-use Rattle.bfs_order.specs.Replica.Installing.{certified, install_refusal, installed}
+use Rattle.bfs_order.specs.Replica.Installing.{certified, install_refusal, installed, raised}
 use Rattle.bfs_order.specs.Replica.Outcomes.{Outcome, quiet, unless}
 use Rattle.bfs_order.specs.Replica.Proposing.{next_number, leads, proposal_refusal, proposal, proposal_commits, proposed, batch_digest}
 use Rattle.bfs_order.specs.Replica.Refusals.{is_between, is_inside, is_of_view, is_there, conflicts, is_authentic, place_refusal, refusal}
 use Rattle.bfs_order.specs.Replica.States.{State, known, with_more, with_message}
-use Rattle.bfs_order.specs.Replica.Views.{leaving_refusal, left, entering_refusal, opened, as_proposals, taken_over, all_taken_over, entered}
+use Rattle.bfs_order.specs.Replica.Views.{leaving_refusal, left, entering_refusal, number_of, opened, as_proposals, taken_over, all_taken_over, entered}
 use Rattle.bfs_order.specs.Laws.Calls.{Call, Takes, Proposes, Executes, Checkpoints, Installs, Leaves, Enters, execution, outcome}
 use Rattle.bfs_order.specs.declared.error.OrderError.{OrderError}
+use Rattle.bfs_order.proofs.Raising.{raised_either, raised_same}
 use Rattle.bfs_order.proofs.Telling.{slot_is, told_left, told_right, is_one}
 use Rattle.bfs_model.specs.Server.Limits.{log_size}
 
@@ -66,6 +67,11 @@ pub record Speaks (Good : Signed OrderMessage → Type 0) (keys : Keys) (f me : 
 abbrev pub Handed : (Good : Signed OrderMessage → Type 0) → (f : ℕ) → Signed OrderMessage → Type 0
 Handed Good f m = (header m).tag ≡ 2 → (header m).sender ≡ primary f (header m).view → Good m
 
+-- the CHECKPOINTs of a certificate, where it is shown
+abbrev pub Shown : (Good : Signed OrderMessage → Type 0) → Keys → State → Option StableCheckpoint → Type 0
+Shown Good keys s None = Unit {0}
+Shown Good keys s (Some c) = is_shown keys s.f c ≡ true → All Good (checkpoints_in c)
+
 -- what a call lets in is good
 abbrev pub Fits : (Good : Signed OrderMessage → Type 0) → State → Call → Type 0
 Fits Good s (Takes keys m) = (refusal keys s m ≡ None → Good m) × Speaks Good keys s.f s.me
@@ -74,7 +80,7 @@ Fits Good s Executes = Unit {0}
 Fits Good s (Checkpoints keys n d) = Speaks Good keys s.f s.me
 Fits Good s (Installs keys c) = is_shown keys s.f c ≡ true → All Good (checkpoints_in c)
 Fits Good s (Leaves v) = Unit {0}
-Fits Good s (Enters keys v n ps) = All (Handed Good s.f) (as_proposals ps) × Speaks Good keys s.f s.me
+Fits Good s (Enters keys v stable ps) = All (Handed Good s.f) (as_proposals ps) × Speaks Good keys s.f s.me × Shown Good keys s stable
 
 -- Tests passed ------------------------------------------------------------------------------------------------------------
 
@@ -313,6 +319,10 @@ module _ (Good : Signed OrderMessage → Type 0) (P : Fact) (moves : Moves Good 
           let same : s.low ≡ max s.low c.number = omega (arith, le) in
           subst (λ (low : ℕ). P s.f s.me s.view low s.log sent) same kept
 
+  raised_keeps : (keys : Keys) (s : State) (sent : Log) (stable : Option StableCheckpoint) → Keeps s sent → Shown Good keys s stable → Keeps (raised keys s stable) sent
+  raised_keeps keys s sent stable kept good = raised_either (λ (u : State). Keeps u sent) keys s stable
+      (λ c is above shown. moves.install keys s.f s.me s.view s.low s.log sent c kept above shown (subst (Shown Good keys s) is good shown)) kept
+
   taken_over_goes : (keys : Keys) (s : State) (sent : Log) (p : Signed model.PrePrepare) → Speaks Good keys s.f s.me → Keeps s sent → Handed Good s.f (as_message PrePrepare p)
       → Goes s sent (taken_over keys s (as_message PrePrepare p))
   taken_over_goes keys s sent p speaks kept good = unless_goes s sent (place_refusal s (header m)) (accepted keys s m) kept (λ none.
@@ -344,6 +354,19 @@ module _ (Good : Signed OrderMessage → Type 0) (P : Fact) (moves : Moves Good 
   execution_goes s sent None kept = quiet_goes s s sent refl refl kept
   execution_goes s sent (Some m) kept = quiet_goes s (record s { last = s.last + 1 }) sent refl refl kept
 
+  entered_goes : (keys : Keys) (s : State) (sent : Log) (v : ℕ) (stable : Option StableCheckpoint) (ps : List (Signed model.PrePrepare)) → Keeps s sent → Fits Good s (Enters keys v stable ps)
+      → s.view < v → Goes s sent (entered keys s v stable ps)
+  entered_goes keys s sent v stable ps kept fits later =
+      let u = raised keys s stable in
+      let same_f = raised_same (λ (x : State). x.f) keys s stable (λ low log. refl) in
+      let same_me = raised_same (λ (x : State). x.me) keys s stable (λ low log. refl) in
+      let same_view = raised_same (λ (x : State). x.view) keys s stable (λ low log. refl) in
+      let speaks = subst (λ (f : ℕ). Speaks Good keys f u.me) (sym same_f) (subst (λ (me : ℕ). Speaks Good keys s.f me) (sym same_me) fits.1) in
+      let good = subst (λ (f : ℕ). All (Handed Good f) (as_proposals ps)) (sym same_f) fits.0 in
+      let above : u.view < v = omega (arith, later, same_view) in
+      let goes = all_taken_goes keys (opened u v (number_of stable) ps) sent ps speaks (moves.enter u.f u.me u.view v u.low u.log sent (raised_keeps keys s sent stable kept fits.2) above) good in
+      record { same_f = goes.same_f ∙ same_f; same_me = goes.same_me ∙ same_me; kept = goes.kept }
+
   pub call_goes : (s : State) (sent : Log) (call : Call) → Keeps s sent → Fits Good s call → Goes s sent (outcome s call)
   call_goes s sent (Takes keys m) kept fits = message_goes keys s sent m fits.1 kept fits.0
   call_goes s sent (Proposes keys batch) kept fits = unless_goes s sent (proposal_refusal s) (proposed keys s batch) kept (λ none. proposal_goes keys s sent batch fits.1 kept (fits.0 none) none)
@@ -351,6 +374,5 @@ module _ (Good : Signed OrderMessage → Type 0) (P : Fact) (moves : Moves Good 
   call_goes s sent (Checkpoints keys n d) kept fits = unless_goes s sent (checkpoint_refusal s n) (checkpointed keys s n d) kept (checkpoint_goes keys s sent n d fits kept)
   call_goes s sent (Installs keys c) kept fits = unless_goes s sent (install_refusal keys s c) (installed s c) kept (install_goes keys s sent c kept fits)
   call_goes s sent (Leaves v) kept fits = unless_goes s sent (leaving_refusal s v) (left s v) kept (λ none. quiet_goes s (left s v).now sent refl refl kept)
-  call_goes s sent (Enters keys v n ps) kept fits = unless_goes s sent (entering_refusal s v) (entered keys s v n ps) kept (λ none.
-      let goes = all_taken_goes keys (opened s v n ps) sent ps fits.1 (moves.enter s.f s.me s.view v s.low s.log sent kept (later_view s v none)) fits.0 in
-      record { same_f = goes.same_f; same_me = goes.same_me; kept = goes.kept })
+  call_goes s sent (Enters keys v stable ps) kept fits =
+      unless_goes s sent (entering_refusal s v) (entered keys s v stable ps) kept (λ none. entered_goes keys s sent v stable ps kept fits (later_view s v none))

@@ -2,4 +2,5 @@
 pub mod Bounds
 pub mod Asking
 pub mod Growing
+pub mod Raising
 pub mod Senders

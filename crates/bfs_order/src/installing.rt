@@ -1,10 +1,13 @@
 // The certificate of a checkpoint is installed.
-ghost use Rattle.std.specs.Prelude.{◌≡◌, ◌≢◌, true, None, Some, IfNone, IfSome, IfOk, IfErr, OnOk, OnErr};
+ghost use Rattle.std.specs.Prelude.{◌≡◌, ◌≢◌, ◌≤◌, true, None, Some, IfNone, IfSome, IfOk, IfErr, OnOk, OnErr};
+ghost use Rattle.std.specs.Option.{option_map};
 ghost use Rattle.bfs_log.specs.Certificates.{checkpoints_in, is_shown};
 ghost use Rattle.bfs_messages.specs.Signing.{as_message};
 ghost use Rattle.bfs_messages.specs.declared.order_messages.OrderMessage.TheVariants as kind;
+ghost use Rattle.bfs_model.specs.Server.Limits.{most_number};
+ghost use Rattle.bfs_order.specs.Inside.Raising.{lowered};
 ghost use Rattle.bfs_order.specs.Inside.Senders.{are_from_few, is_from_few};
-ghost use Rattle.bfs_order.specs.Replica.Installing.{certified, install_refusal, installed, with_new};
+ghost use Rattle.bfs_order.specs.Replica.Installing.{certified, install_refusal, installed, raised, raises, with_new};
 ghost use Rattle.bfs_order.specs.declared.error.OrderError.TheVariants as error;
 
 use crate::error::OrderError;
@@ -37,6 +40,13 @@ fn certified(alloc: Global, log: &Log, stable: &StableCheckpoint) -> Result<Log,
         add_new(alloc, &mut copy, checkpoint)?;
     }
     Ok(copy)
+}
+
+/// The low mark and the log as they were before a certificate raised them.
+#[derive(Drop)]
+pub(crate) struct Before {
+    low: u64,
+    log: Log,
 }
 
 impl Order {
@@ -76,5 +86,52 @@ impl Order {
         self.low = self.low.max(number);
         self.last = self.last.max(number);
         Ok(())
+    }
+
+    // Whether it is above the low mark, and shown to be stable.
+    #[tactic(auto, using(crate::proofs::Senders::few_show))]
+    fn raises(&self, keys: &Keys, stable: &StableCheckpoint) -> bool
+        ensures value { result ≡ raises keys.now self.now stable.now }
+        ensures senders { result ≡ true → are_from_few (checkpoints_in stable.now) ≡ true }
+    {
+        self.low < stable.number() && stable.is_shown(keys, self.f)
+    }
+
+    /// Raises the low mark to that of a stable checkpoint, where it is below, and gives what was there before. A checkpoint that is not shown to
+    /// be stable changes nothing. `Memory` if memory runs out; then nothing changes either.
+    pub(crate) fn raise(
+        &mut self,
+        keys: &Keys,
+        stable: Option<&StableCheckpoint>,
+    ) -> Result<Option<Before>, Memory>
+        ensures now { OnOk result (self.new ≡ raised keys.now self.old (option_map (λ c. c.now) stable.entry)) }
+        ensures before { IfOk result (λ before. lowered self.new before ≡ self.old) }
+        ensures within { IfOk result (λ before. IfSome before (λ b. b.low ≤ most_number)) }
+        ensures err { OnErr result (self.new ≡ self.old) }
+    {
+        let Some(stable) = stable else {
+            return Ok(None);
+        };
+        if !self.raises(keys, stable) {
+            return Ok(None);
+        }
+        let log = certified(self.alloc, &self.log, stable)?;
+        let before = Before {
+            low: self.low,
+            log: std::mem::replace(&mut self.log, log),
+        };
+        self.low = stable.number();
+        Ok(Some(before))
+    }
+
+    /// Puts back what a certificate raised.
+    pub(crate) fn lower(&mut self, before: Option<Before>)
+        requires { IfSome before (λ b. b.low ≤ most_number) }
+        ensures { self.new ≡ lowered self.old before }
+    {
+        if let Some(Before { low, log }) = before {
+            self.low = low;
+            self.log = log;
+        }
     }
 }

@@ -1,16 +1,19 @@
 // A view is left for a later one, and entered.
 ghost use Rattle.std.specs.Prelude.{◌≡◌, ◌≢◌, ◌<◌, ◌≤◌, ◌++◌, length, take, reverse, None, Some, IfSome, IfOk, IfErr, OnOk, OnErr};
+ghost use Rattle.std.specs.Option.{option_map};
 ghost use Rattle.bfs_order.specs.Inside.Growing.{Grown};
+ghost use Rattle.bfs_log.specs.Certificates.{MakesStable};
 ghost use Rattle.bfs_log.specs.Logs.{as_messages};
 ghost use Rattle.bfs_messages.specs.Signing.{as_message};
 ghost use Rattle.bfs_messages.specs.declared.order_messages.OrderMessage.TheVariants as kind;
-ghost use Rattle.bfs_order.specs.Replica.Views.{all_taken_over, as_proposals, entered, entering_refusal, greatest_number, left, leaving_refusal, taken_over};
+ghost use Rattle.bfs_order.specs.Replica.Views.{all_taken_over, as_proposals, entered, entering_refusal, greatest_number, left, leaving_refusal, number_of, opened, taken_over};
 ghost use Rattle.bfs_order.specs.declared.error.OrderError.TheVariants as error;
 ghost use Rattle.bfs_model.specs.Server.Limits.{most_number};
 
 use crate::error::OrderError;
 use crate::order::Order;
 use bfs_auth::Keys;
+use bfs_log::StableCheckpoint;
 use bfs_messages::{Message, PrePrepare, Signed};
 use bfs_types::{MOST_NUMBER, Memory};
 
@@ -22,6 +25,15 @@ fn greatest_of(handed: &[Signed<PrePrepare>]) -> u64
         greatest = signed.message.vote().number().max(greatest);
     }
     greatest
+}
+
+fn number_of(stable: Option<&StableCheckpoint>) -> u64
+    ensures value { result ≡ number_of (option_map (λ c. c.now) stable.entry) }
+{
+    match stable {
+        None => 0,
+        Some(checkpoint) => checkpoint.number(),
+    }
 }
 
 // What entering a view changes, but for the log, and how long that was.
@@ -50,24 +62,27 @@ impl Order {
         Ok(())
     }
 
-    /// Enters a view, in which no number up to `min_s` is given, with the PRE-PREPAREs that the new primary chose, and gives what is to
-    /// be sent to all other replicas. Those whose place is not free in the view are passed over; authenticators are not looked at again. `WrongView` unless the view is above the one entered, not below the one asked for, and
-    /// below 2^63; then `Memory`. Nothing changes then.
+    /// Enters a view behind a stable checkpoint, up to which no number is given in it, with the PRE-PREPAREs that the new primary chose, and
+    /// gives what is to be sent to all other replicas. Where the checkpoint is above the low mark, and shown to be stable, the low mark rises to
+    /// it first, as by `install`, but for the number last executed. Those whose place is not free in the view are passed over; authenticators
+    /// are not looked at again. `WrongView` unless the view is above the one entered, not below the one asked for, and below 2^63; then
+    /// `Memory`. Nothing changes then.
     pub fn enter_view(
         &mut self,
         keys: &Keys,
         view: u64,
-        min_s: u64,
+        stable: Option<&StableCheckpoint>,
         handed: Vec<Signed<PrePrepare>>,
     ) -> Result<Vec<Signed<Message>>, OrderError>
         ensures taken { OnOk result (entering_refusal self.old view ≡ None) }
-        ensures now { OnOk result (self.new ≡ (entered keys.now self.old view min_s handed.items).now) }
-        ensures sent { IfOk result (λ sent. sent.items ≡ as_messages (entered keys.now self.old view min_s handed.items).sent) }
+        ensures now { OnOk result (self.new ≡ (entered keys.now self.old view (option_map (λ c. c.now) stable.entry) handed.items).now) }
+        ensures sent { IfOk result (λ sent. sent.items ≡ as_messages (entered keys.now self.old view (option_map (λ c. c.now) stable.entry) handed.items).sent) }
+        ensures raised { OnOk result (self.old.low < self.new.low → IfSome (option_map (λ c. c.now) stable.entry) (MakesStable self.old.f)) }
         ensures refused { IfErr result (λ e. e ≢ error.Memory → entering_refusal self.old view ≡ Some e) }
         ensures memory { IfErr result (λ e. e ≡ error.Memory → entering_refusal self.old view ≡ None) }
         ensures err { OnErr result (self.new ≡ self.old) }
     {
-        self.enter_view_behind(keys, view, min_s, handed, Vec::new(self.alloc))
+        self.enter_view_behind(keys, view, stable, handed, Vec::new(self.alloc))
     }
 
     /// Enters a view as `enter_view` does, and gives what is to be sent behind messages that are to be sent before it: the NEW-VIEW of a
@@ -76,13 +91,14 @@ impl Order {
         &mut self,
         keys: &Keys,
         view: u64,
-        min_s: u64,
+        stable: Option<&StableCheckpoint>,
         handed: Vec<Signed<PrePrepare>>,
         first: Vec<Signed<Message>>,
     ) -> Result<Vec<Signed<Message>>, OrderError>
         ensures taken { OnOk result (entering_refusal self.old view ≡ None) }
-        ensures now { OnOk result (self.new ≡ (entered keys.now self.old view min_s handed.items).now) }
-        ensures sent { IfOk result (λ sent. sent.items ≡ first.items ++ as_messages (entered keys.now self.old view min_s handed.items).sent) }
+        ensures now { OnOk result (self.new ≡ (entered keys.now self.old view (option_map (λ c. c.now) stable.entry) handed.items).now) }
+        ensures sent { IfOk result (λ sent. sent.items ≡ first.items ++ as_messages (entered keys.now self.old view (option_map (λ c. c.now) stable.entry) handed.items).sent) }
+        ensures raised { OnOk result (self.old.low < self.new.low → IfSome (option_map (λ c. c.now) stable.entry) (MakesStable self.old.f)) }
         ensures refused { IfErr result (λ e. e ≢ error.Memory → entering_refusal self.old view ≡ Some e) }
         ensures memory { IfErr result (λ e. e ≡ error.Memory → entering_refusal self.old view ≡ None) }
         ensures err { OnErr result (self.new ≡ self.old) }
@@ -90,13 +106,37 @@ impl Order {
         if let Some(error) = self.entering_refusal(view) {
             return Err(error);
         }
+        let before = self.raise(keys, stable)?;
+        match self.begin_in(keys, view, number_of(stable), handed, first) {
+            Ok(sent) => Ok(sent),
+            Err(_) => {
+                self.lower(before);
+                Err(OrderError::Memory)
+            }
+        }
+    }
+
+    // In the view, which begins behind a number, all that is handed over is taken.
+    fn begin_in(
+        &mut self,
+        keys: &Keys,
+        view: u64,
+        min_s: u64,
+        handed: Vec<Signed<PrePrepare>>,
+        first: Vec<Signed<Message>>,
+    ) -> Result<Vec<Signed<Message>>, Memory>
+        requires { view ≤ most_number }
+        ensures now { OnOk result (self.new ≡ (all_taken_over keys.now (opened self.old view min_s handed.items) (as_proposals handed.items)).now) }
+        ensures sent { IfOk result (λ sent. sent.items ≡ first.items ++ as_messages (all_taken_over keys.now (opened self.old view min_s handed.items) (as_proposals handed.items)).sent) }
+        ensures err { OnErr result (self.new ≡ self.old) }
+    {
         let saved = self.saved();
         self.open(view, min_s, greatest_of(&handed));
         match self.take_over_all(keys, handed, first) {
             Ok(sent) => Ok(sent),
             Err(_) => {
                 self.put_back(&saved);
-                Err(OrderError::Memory)
+                Err(Memory)
             }
         }
     }
@@ -126,7 +166,9 @@ impl Order {
     }
 
     fn saved(&self) -> Saved
-        ensures { result ≡ record { view = self.now.view; asked = self.now.asked; min_s = self.now.min_s; handed = self.now.handed; messages = length self.now.log } }
+        ensures value { result ≡ record { view = self.now.view; asked = self.now.asked; min_s = self.now.min_s; handed = self.now.handed; messages = length self.now.log } }
+        ensures view { result.view ≤ most_number }
+        ensures asked { result.asked ≤ most_number }
     {
         Saved {
             view: self.view,

@@ -1,6 +1,6 @@
 -- What nodes hold and send: requests of clients, and CHECKPOINTs that were sent.
-use Rattle.std.proofs.Common.{◌≡◌, ℕ, zero, suc, ◌<◌, true, false, cond, ◌&&◌, not, List, [], ◌∷◌, ◌++◌, Option, Some, None, option_map, inl, inr, refl, sym, ap, subst, ◌∙◌, arith}
-use Rattle.std.specs.Prelude.{bytes_eq, filter, nat_le, ◌==◌}
+use Rattle.std.proofs.Common.{◌≡◌, ℕ, zero, suc, ◌<◌, Bool, true, false, cond, ◌&&◌, not, List, [], ◌∷◌, ◌++◌, Option, Some, None, option_map, inl, inr, refl, sym, ap, subst, ◌∙◌, arith}
+use Rattle.std.specs.Prelude.{bytes_eq, filter, find, nat_le, nat_lt, ◌==◌}
 use Rattle.std.specs.List.{slice_get}
 use Rattle.std.proofs.lemmas.Bool.{cond_both}
 use Rattle.std.proofs.lemmas.List.{length-replicate}
@@ -18,6 +18,7 @@ use Rattle.bfs_log.specs.Batches.{Committed}
 use Rattle.bfs_log.specs.Certificates.{StableCheckpoint}
 use Rattle.bfs_log.specs.Headers.{header}
 use Rattle.bfs_log.specs.Logs.{Log, as_messages}
+use Rattle.bfs_log.specs.Showing.{checkpoint_in, checkpoints_of, is_of}
 use Rattle.bfs_model.specs.Bytes.Items.{word}
 use Rattle.bfs_votes.specs.Tags.{request_tag}
 use Rattle.bfs_messages.specs.Batches.{request_text}
@@ -45,13 +46,13 @@ use Rattle.bfs_pending.specs.Requests.{is_among}
 use Rattle.bfs_agreement.specs.Histories.{IsIn}
 use Rattle.bfs_replies.specs.Answers.{Answer}
 use Rattle.bfs_replies.specs.Tables.{Table}
-use Rattle.bfs_view_change.specs.Changes.Choice.{Chosen, choice}
+use Rattle.bfs_view_change.specs.Changes.Choice.{Chosen, choice, latest_stable}
 use Rattle.bfs_view_change.specs.Changes.Keeping.{changes_for, with_asked, with_change}
-use Rattle.bfs_view_change.specs.Changes.Making.{chosen_proposal, signed_new_view, signed_proposal}
-use Rattle.bfs_view_change.specs.Changes.NewViews.{new_view_refusal}
-use Rattle.bfs_view_change.specs.Changes.ViewChanges.{messages_of}
+use Rattle.bfs_view_change.specs.Changes.Making.{chosen_proposal, signed_new_view, signed_proposal, stable_checkpoints}
+use Rattle.bfs_view_change.specs.Changes.NewViews.{latest_checkpoint, new_view_refusal}
+use Rattle.bfs_view_change.specs.Changes.ViewChanges.{messages_of, stable_in}
 use Rattle.bfs_node.specs.Adopting.{adopted, may_adopt}
-use Rattle.bfs_node.specs.Changing.{begun, begun_if_due, change_refusal, leads, may_begin, next_view, own_change, own_new_view, timed_out, timeout_refusal, view_refusal, with_new_view, with_view_change}
+use Rattle.bfs_node.specs.Changing.{begun, begun_if_due, change_refusal, leads, may_begin, next_view, own_change, own_new_view, settled_if, timed_out, timeout_refusal, view_refusal, with_new_view, with_view_change}
 use Rattle.bfs_node.specs.Checkpoints.{checkpointed, checkpoint_refusal}
 use Rattle.bfs_node.specs.Delivering.{message_delivered, message_refusal, ordered, request_refusal, settled_by, with_request}
 use Rattle.bfs_node.specs.Errors.{of_order, of_view}
@@ -63,7 +64,7 @@ use Rattle.bfs_nodes_agree.specs.Orders.Replicas.{OrderReplica, votes_by}
 use Rattle.bfs_nodes_agree.specs.Views.Replicas as turns
 use Rattle.bfs_nodes_agree.specs.Views.Replicas.{ViewDeed}
 use Rattle.bfs_nodes_agree.specs.Nodes.Steps.{NodeStep, Delivers, Takes, TakesRequests, Proposes, Executes, Fails, Checkpoints, TimesOut, Adopts, still, unless, or_still, after_execution, outcome, where_taken, begun_deeds, change_deeds, message_deeds, checkpoint_deeds, timeout_deeds, deeds_of}
-use Rattle.bfs_nodes_agree.proofs.Public.{after_deeds, AllIn, AreKept, AreSo, begins_open, both_in, BringAll, chosen_so, deeds_keep, deeds_offer, either_in, either_way, filter_in, good_for, good_on, IsBounded, IsChecked, kept, kept_above, kept_with, left_bounded, lone_late, made_holds, map_in, more_in, none_in, none_kept, not_refused, not_second, OfferAll, Offers, one_in, out_of_filter_map, passes_at, reply_is, some_is, stays_kept, step_leads, votes_checked, votes_own}
+use Rattle.bfs_nodes_agree.proofs.Public.{after_deeds, AllIn, AreKept, AreSo, begins_open, both_in, BringAll, chosen_so, deeds_keep, deeds_offer, either_in, either_way, filter_in, good_for, good_on, IsBounded, IsChecked, kept, kept_above, kept_with, left_bounded, lone_late, made_holds, map_in, more_in, none_in, none_kept, not_refused, not_second, OfferAll, Offers, one_in, out_of_filter_map, passes_at, reply_is, Shows, some_is, stays_kept, step_leads, votes_checked, votes_own}
 
 -- by these keys nothing passes
 abbrev no_keys : Keys
@@ -97,13 +98,17 @@ module _ (R : Signed model.Request → Type 0) (K : Signed model.Checkpoint → 
   abbrev pub Known : Signed OrderMessage → Type 0
   Known m = OfOrder m.message m.auth
 
+  -- the batches of its certificates, and the CHECKPOINTs of its stable number
+  abbrev pub Carries : model.ViewChange → Type 0
+  Carries change = AreSo Holds change × AllIn K change.checkpoints
+
   abbrev pub OfChange : Signed model.ViewChange → Type 0
-  OfChange s = AreSo Holds s.message
+  OfChange s = Carries s.message
 
   abbrev pub Bears : (Replies : model.Reply → Type 0) → Message → (auth : List (List ℕ)) → Type 0
   Bears Replies (Request request) auth = R (record { message = request; auth = auth })
   Bears Replies (Order m) auth = OfOrder m auth
-  Bears Replies (ViewChange change) auth = AreSo Holds change
+  Bears Replies (ViewChange change) auth = Carries change
   Bears Replies (NewView new) auth = AllIn OfChange new.changes × AllIn Known (as_proposals new.proposals)
   Bears Replies (Reply reply) auth = Replies reply
 
@@ -165,6 +170,45 @@ module _ (R : Signed model.Request → Type 0) (K : Signed model.Checkpoint → 
       told_known number digest (Prepare vote) auth x e is = absurd cc
       told_known number digest (Commit vote) auth x e is = absurd cc
 
+  -- the checkpoint behind which a view begins, of VIEW-CHANGEs that carry what is known
+  latest_known : (changes : List (Signed model.ViewChange)) → AllIn OfChange changes → IsShownIf (latest_checkpoint (messages_of changes))
+  latest_known changes all =
+      cond_both (latest == 0) None (option_map stable_in (find with_it (messages_of changes))) IsShownIf (λ _. tt) (λ _. found changes all)
+    where
+      latest : ℕ
+      latest = latest_stable (messages_of changes)
+
+      with_it : model.ViewChange → Bool
+      with_it change = change.stable == latest
+
+      found : (rest : List (Signed model.ViewChange)) → AllIn OfChange rest → IsShownIf (option_map stable_in (find with_it (messages_of rest)))
+      found [] known = tt
+      found (s ∷ rest) known = cond_both (with_it s.message) (Some s.message) (find with_it (messages_of rest)) (λ (o : Option model.ViewChange). IsShownIf (option_map stable_in o))
+          (λ _. (known s (inl refl)).1) (λ _. found rest (λ x i. known x (inr i)))
+
+  shown_known : (keys : Keys) (s : State) (stable : Option StableCheckpoint) → IsShownIf stable → Shows Known s keys stable
+  shown_known keys s None shown = tt
+  shown_known keys s (Some c) shown = λ _. map_in Known (as_message Checkpoint) c.checkpoints shown
+
+  settled_known : (risen : Bool) (stable : Option StableCheckpoint) (keeping : Keeping) → IsShownIf stable → IsShownIf keeping.stable → IsShownIf (settled_if risen stable keeping).stable
+  settled_known risen None keeping shown kept = kept
+  settled_known risen (Some c) keeping shown kept = cond_both risen (settled c keeping) keeping (λ (k : Keeping). IsShownIf k.stable)
+      (λ _. cond_both (settles c keeping) (record keeping { kept = filter (λ kept. nat_le c.number kept.number) keeping.kept; stable = Some c }) keeping (λ (k : Keeping). IsShownIf k.stable) (λ _. shown) (λ _. kept))
+      (λ _. kept)
+
+  -- the CHECKPOINTs that it tells of its own low mark
+  stable_known : (s : State) → AllIn Known s.log → AllIn K (stable_checkpoints s)
+  stable_known s log = cond_both (s.low == 0) [] (checkpoints_of s.f s.low s.log) (AllIn K) (λ _. none_in K) (λ _ x i.
+      let of_low = filter (λ (m : Signed OrderMessage). is_of s.f s.low (header m)) s.log in
+      let from = out_of_filter_map (λ (m : Signed OrderMessage). checkpoint_in m.message m.auth) of_low x i in
+      told from.0.message from.0.auth x from.2 (filter_in Known (λ (m : Signed OrderMessage). is_of s.f s.low (header m)) s.log log from.0 from.1))
+    where
+      told : (m : OrderMessage) (auth : List (List ℕ)) (x : Signed model.Checkpoint) → checkpoint_in m auth ≡ Some x → OfOrder m auth → K x
+      told (Checkpoint c) auth x e is = subst K (some_is (record { message = c; auth = auth }) x e) is
+      told (PrePrepare proposal) auth x e is = absurd cc
+      told (Prepare vote) auth x e is = absurd cc
+      told (Commit vote) auth x e is = absurd cc
+
   module _ (f who : ℕ) where
     -- what a step does, but that its order accepts it
     record Does (s : State) (deeds : List ViewDeed) (out : Outcome) : Type 0 where
@@ -190,18 +234,20 @@ module _ (R : Signed model.Request → Type 0) (K : Signed model.Checkpoint → 
         let asked = node.order.asked in
         let changes = changes_for asked node.changes in
         let new = own_new_view node in
-        let min_s = (choice (messages_of changes)).min_s in
+        let stable = latest_checkpoint (messages_of changes) in
         let deed : ViewDeed = turns.ChangesView node.keys asked changes new.proposals in
         let good : AllIn OfChange changes = λ s i. (good_for OfChange asked 0 node.changes.changes sound.kept.1 s i).1 in
-        let chosen = chosen_so Holds (none_in R) (messages_of changes) (map_in (AreSo Holds) (λ (s : Signed model.ViewChange). s.message) changes good) in
+        let chosen = chosen_so Holds (none_in R) (messages_of changes) (map_in (AreSo Holds) (λ (s : Signed model.ViewChange). s.message) changes (λ s i. (good s i).0)) in
         let handed : AllIn Known (as_proposals new.proposals) = map_in Known (as_message PrePrepare) new.proposals
         (map_in (λ (p : Signed model.PrePrepare). Holds p.message.batch) (λ (c : Chosen). signed_proposal node.keys (chosen_proposal node.order.me asked c)) (choice (messages_of changes)).chosen chosen) in
         (elim (may_begin node) as (λ b. may_begin node ≡ b → Does node.order (cond b (deed ∷ []) []) (cond b (begun node) (still node))) [
           | false ↦ λ e. nothing node sound
           | true ↦ λ e.
-              let votes = unless_known node.order (order.Enters node.keys asked min_s new.proposals) (views.entering_refusal node.order asked) (views.entered node.keys node.order asked min_s new.proposals) tt refl (begins_open node sound.bounded e) in
+              let done = views.entered node.keys node.order asked stable new.proposals in
+              let votes = unless_known node.order (order.Enters node.keys asked stable new.proposals) (views.entering_refusal node.order asked) done tt refl (begins_open node sound.bounded e) in
+              let shown = latest_known changes good in
               let sends = more_in (IsBorne who) (as_message NewView (signed_new_view node.keys new)) _ (good, handed) votes in
-              record { brings = (handed, tt); offers = (tt, tt); pending = sound.pending; kept = kept_above OfChange f asked node.changes sound.kept; stable = sound.stable; sends = sends }
+              record { brings = ((handed, shown_known node.keys node.order stable shown), tt); offers = (tt, tt); pending = sound.pending; kept = kept_above OfChange f asked node.changes sound.kept; stable = settled_known (nat_lt node.order.low done.now.low) stable node.snapshots shown sound.stable; sends = sends }
         ]) refl
 
     change_does : (node : Node) (s : Signed model.ViewChange) → Sound f who node → OfChange s → Does node.order (change_deeds node s) (with_view_change node s)
@@ -242,12 +288,14 @@ module _ (R : Signed model.Request → Type 0) (K : Signed model.Checkpoint → 
     message_does node sound (NewView new) auth is =
         let s : Signed model.NewView = record { message = new; auth = auth } in
         let deed : ViewDeed = turns.ChangesView node.keys new.view new.changes new.proposals in
-        let min_s = (choice (messages_of new.changes)).min_s in
+        let stable = latest_checkpoint (messages_of new.changes) in
         (elim (view_refusal node s) as (λ r. view_refusal node s ≡ r → Does node.order (where_taken r (deed ∷ [])) (unless r node (with_new_view node s))) [
           | None ↦ λ e.
               let opened = not_refused _ (not_second (option_map of_view (new_view_refusal node.keys s)) (option_map of_order (views.entering_refusal node.order new.view)) e) in
-              let sends = unless_known node.order (order.Enters node.keys new.view min_s new.proposals) (views.entering_refusal node.order new.view) (views.entered node.keys node.order new.view min_s new.proposals) tt refl opened in
-              record { brings = (is.1, tt); offers = (tt, tt); pending = sound.pending; kept = kept_above OfChange f new.view node.changes sound.kept; stable = sound.stable; sends = sends }
+              let done = views.entered node.keys node.order new.view stable new.proposals in
+              let sends = unless_known node.order (order.Enters node.keys new.view stable new.proposals) (views.entering_refusal node.order new.view) done tt refl opened in
+              let shown = latest_known new.changes is.0 in
+              record { brings = ((is.1, shown_known node.keys node.order stable shown), tt); offers = (tt, tt); pending = sound.pending; kept = kept_above OfChange f new.view node.changes sound.kept; stable = settled_known (nat_lt node.order.low done.now.low) stable node.snapshots shown sound.stable; sends = sends }
           | Some refused ↦ λ _. nothing node sound
         ]) refl
     message_does node sound (Reply reply) auth is = nothing node sound
@@ -263,7 +311,7 @@ module _ (R : Signed model.Request → Type 0) (K : Signed model.Checkpoint → 
           | None ↦ λ e.
               let may = not_refused (views.leaving_refusal node.order view) e in
               let left_is : (order.outcome node.order (order.Leaves view)).now ≡ gone.order = ap (λ (r : Option OrderError). (outcomes.unless r node.order (views.left node.order view)).now) may in
-              let told : OfChange own = λ c i. made_holds node.order c i Known sound.log (as_message PrePrepare c.proposal) (inl refl) in
+              let told : OfChange own = ((λ c i. made_holds node.order c i Known sound.log (as_message PrePrepare c.proposal) (inl refl)), stable_known node.order sound.log) in
               let done = change_does gone own (record { me = sound.me; bounded = left_bounded node.order view may; log = sound.log; pending = sound.pending; kept = sound.kept; stable = sound.stable }) told in
               let brings = subst (λ (s : State). BringAll Known s deeds) (sym left_is) done.brings in
               let offers = subst (λ (s : State). OfferAll (IsChecked no_keys) s deeds) (sym left_is) done.offers in
@@ -391,12 +439,12 @@ module _ (R Q : Signed model.Request → Type 0) (K L : Signed model.Checkpoint 
   known_on other auth is = tt
 
   change_on : (s : Signed model.ViewChange) → OfChange R K s → OfChange Q L s
-  change_on s is = λ c i r j. more r (is c i r j)
+  change_on s is = ((λ c i r j. more r (is.0 c i r j)), λ c i. later c (is.1 c i))
 
   pub bears_on : (Replies Others : model.Reply → Type 0) → ((reply : model.Reply) → Replies reply → Others reply) → (m : Message) (auth : List (List ℕ)) → Bears R K Replies m auth → Bears Q L Others m auth
   bears_on Replies Others so (Request request) auth is = more (record { message = request; auth = auth }) is
   bears_on Replies Others so (Order m) auth is = known_on m auth is
-  bears_on Replies Others so (ViewChange change) auth is = λ c i r j. more r (is c i r j)
+  bears_on Replies Others so (ViewChange change) auth is = ((λ c i r j. more r (is.0 c i r j)), λ c i. later c (is.1 c i))
   bears_on Replies Others so (NewView new) auth is = (λ s i. change_on s (is.0 s i), λ m i. known_on m.message m.auth (is.1 m i))
   bears_on Replies Others so (Reply reply) auth is = so reply is
 

@@ -12,5 +12,6 @@ mod Prepared
 mod Counting
 mod Made
 mod Right
+mod Behind
 mod Kept
 pub mod Public

@@ -112,7 +112,7 @@ pub fn choice_of(alloc: Global, changes: &[Signed<ViewChange>]) -> Result<Choice
     Ok(Choice { min_s, chosen })
 }
 
-fn latest_stable(changes: &[Signed<ViewChange>]) -> u64
+pub(crate) fn latest_stable(changes: &[Signed<ViewChange>]) -> u64
     ensures value { result ≡ latest_stable (messages_of changes.now) }
     ensures within { result ≤ most_number }
 {

@@ -1,5 +1,5 @@
 // What holds of the choice of a new view, and of what a replica says of its log. The bodies do nothing: what is said is the contracts.
-ghost use Rattle.bfs_view_change.specs.Laws.Choices.{ChoiceIsOfTheSet, NumbersAreChosenOnce, OthersAreNull, PreparedIsChosen, RefusalIsOfTheSet, StableIsPassed, ValidChoicesAreShort};
+ghost use Rattle.bfs_view_change.specs.Laws.Choices.{ChoiceIsOfTheSet, LatestIsOfMinS, NumbersAreChosenOnce, OthersAreNull, PreparedIsChosen, RefusalIsOfTheSet, StableIsPassed, ValidChoicesAreShort, ValidShowTheLatest};
 ghost use Rattle.bfs_view_change.specs.Laws.Made.{MadeHasPrepared, MadeIsValid, MadeIsValidAfterCalls, NewViewIsRight};
 
 use bfs_auth::what_is_signed_passes;
@@ -29,6 +29,12 @@ pub fn prepared_is_chosen()
 /// Valid VIEW-CHANGEs choose no more batches than stand between the marks, so a NEW-VIEW has room for them.
 pub fn valid_choices_are_short()
     ensures { ValidChoicesAreShort }
+{}
+
+/// A view begins behind min-s: the checkpoint that its VIEW-CHANGEs tell is of that number, and valid ones show that it is stable.
+pub fn views_begin_behind_what_is_stable()
+    ensures number { LatestIsOfMinS }
+    ensures shown { ValidShowTheLatest }
 {}
 
 /// What a replica says of its log is valid by its own keys, where its calls are made with these keys, and the requests that it proposes and the

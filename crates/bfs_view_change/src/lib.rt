@@ -8,6 +8,7 @@ mod laws;
 mod making;
 mod new_views;
 mod proposing;
+mod stable;
 mod view_changes;
 
 pub use choice::{Choice, Chosen, choice_of};
@@ -15,9 +16,10 @@ pub use error::ViewError;
 pub use keeping::{KeptViewChanges, Replaced};
 pub use laws::{
     choice_is_of_the_set, made_has_prepared, made_is_valid, made_new_view_is_right,
-    prepared_is_chosen, valid_choices_are_short,
+    prepared_is_chosen, valid_choices_are_short, views_begin_behind_what_is_stable,
 };
 pub use making::make_view_change;
 pub use new_views::{check_new_view, choose};
 pub use proposing::{Begun, begin_view, make_new_view};
+pub use stable::latest_checkpoint;
 pub use view_changes::{valid_signed_view_change, valid_view_change};

@@ -2,12 +2,15 @@
 ghost use Rattle.std.specs.Prelude.{◌≡◌, ◌≤◌, length, map, IfOk};
 ghost use Rattle.bfs_model.specs.Server.Limits.{log_size, most_number, most_replicas};
 ghost use Rattle.bfs_view_change.specs.Changes.Choice.{choice};
+ghost use Rattle.bfs_view_change.specs.Changes.NewViews.{latest_checkpoint};
 ghost use Rattle.bfs_view_change.specs.Changes.ViewChanges.{messages_of};
 ghost use Rattle.bfs_view_change.specs.Inside.Near.{AreNear};
 ghost use Rattle.bfs_view_change.specs.Changes.Making.{chosen_proposal, new_view_from, signed_new_view, signed_proposal};
 
 use crate::choice::{Choice, Chosen, choice_of};
+use crate::stable::latest_checkpoint;
 use bfs_auth::Keys;
+use bfs_log::StableCheckpoint;
 use bfs_messages::{NewView, PrePrepare, Signed, ViewChange, sign_new_view, sign_proposal};
 use bfs_types::{Memory, copies_of};
 use std::alloc::Global;
@@ -64,8 +67,8 @@ fn few_chosen(alloc: Global, changes: &[Signed<ViewChange>]) -> Result<Choice, M
 pub struct Begun {
     /// Its NEW-VIEW, signed for all replicas.
     pub new_view: Signed<NewView>,
-    /// The number that the view begins behind.
-    pub min_s: u64,
+    /// The checkpoint that the view begins behind, None where that is number 0.
+    pub stable: Option<StableCheckpoint>,
     /// What it takes over into the view itself.
     pub handed: Vec<Signed<PrePrepare>>,
 }
@@ -83,15 +86,16 @@ pub fn begin_view(
     requires few { length changes.items ≤ most_replicas }
     requires near { AreNear changes.items }
     ensures new { IfOk result (λ begun. begun.new_view ≡ signed_new_view keys.now (new_view_from keys.now sender view changes.items (choice (messages_of changes.items)))) }
-    ensures min_s { IfOk result (λ begun. begun.min_s ≡ (choice (messages_of changes.items)).min_s) }
+    ensures stable { IfOk result (λ begun. begun.stable ≡ latest_checkpoint (messages_of changes.items)) }
     ensures handed { IfOk result (λ begun. begun.handed.items ≡ begun.new_view.message.proposals) }
 {
     let choice = few_chosen(alloc, &changes)?;
+    let stable = latest_checkpoint(alloc, &changes)?;
     let new = new_view_from(alloc, keys, sender, view, changes, &choice)?;
     let handed = copies_of(alloc, new.proposals())?;
     Ok(Begun {
         new_view: sign_new_view(alloc, keys, new)?,
-        min_s: choice.min_s(),
+        stable,
         handed,
     })
 }

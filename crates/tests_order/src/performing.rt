@@ -28,8 +28,8 @@ enum Call {
     Install(&'static [u32]),
     /// They leave their view for that one.
     Leave(u64),
-    /// They enter a view behind that number.
-    Enter(u64, u64),
+    /// They enter a view behind number 16, by the CHECKPOINTs of these.
+    Enter(u64, &'static [u32]),
 }
 
 const DIGEST: [u8; 32] = [7; 32];
@@ -101,8 +101,14 @@ fn leave(alloc: Global, order: &mut Order, view: u64) -> Given {
     nothing(alloc, order.leave_view(view))
 }
 
-fn enter(alloc: Global, order: &mut Order, keys: &Keys, view: u64, min_s: u64) -> Given {
-    order.enter_view(keys, view, min_s, Vec::new(alloc))
+fn enter(
+    alloc: Global,
+    order: &mut Order,
+    keys: &Keys,
+    view: u64,
+    stable: &StableCheckpoint,
+) -> Given {
+    order.enter_view(keys, view, Some(stable), Vec::new(alloc))
 }
 
 fn performed<R: Threads + Sync>(
@@ -153,10 +159,12 @@ impl Two {
         })
     }
 
-    // what a call installs
+    // what a call installs, or enters a view behind
     fn brought(&self, call: Call) -> Result<StableCheckpoint, Memory> {
         match call {
-            Call::Install(senders) => stable_by(self.alloc, self.faults, senders),
+            Call::Install(senders) | Call::Enter(_, senders) => {
+                stable_by(self.alloc, self.faults, senders)
+            }
             _ => stable_by(self.alloc, self.faults, &[]),
         }
     }
@@ -176,7 +184,7 @@ impl Two {
             Call::Checkpoint(number) => checkpoint(alloc, order, keys, number),
             Call::Install(_) => Ok(install(alloc, order, keys, &brought)),
             Call::Leave(view) => Ok(leave(alloc, order, view)),
-            Call::Enter(view, min_s) => Ok(enter(alloc, order, keys, view, min_s)),
+            Call::Enter(view, _) => Ok(enter(alloc, order, keys, view, &brought)),
         }
     }
 
@@ -195,9 +203,9 @@ impl Two {
             },
             Call::Install(_) => OrderCall::Install(&brought),
             Call::Leave(view) => OrderCall::Leave(view),
-            Call::Enter(view, min_s) => OrderCall::Enter {
+            Call::Enter(view, senders) => OrderCall::Enter {
                 view,
-                min_s,
+                stable: Some(stable_by(alloc, self.faults, senders)?),
                 handed: Vec::new(alloc),
             },
         };
@@ -260,13 +268,13 @@ static CALLS: &[(Call, u32)] = &[
     (Call::Take(2, Told::Commit(2, 0, 1)), 0),
     (Call::Execute, 0),
     (Call::Checkpoint(0), 26),
+    (Call::Leave(0), 25),
+    (Call::Leave(1), 0),
+    (Call::Enter(0, &[0, 2, 3]), 25),
+    (Call::Enter(1, &[0, 2, 3]), 0),
     (Call::Install(&[0, 2]), 34),
     (Call::Install(&[0, 2, 3]), 0),
     (Call::Checkpoint(32), 0),
-    (Call::Leave(0), 25),
-    (Call::Leave(1), 0),
-    (Call::Enter(0, 16), 25),
-    (Call::Enter(1, 16), 0),
     (Call::Propose, 0),
 ];
 

@@ -238,15 +238,23 @@ impl Replica {
         Ok(all)
     }
 
-    /// It enters a view behind min-s, with PRE-PREPAREs of the null request, each of a sender for a number of view 1.
-    pub fn enter(
+    /// It enters a view, with PRE-PREPAREs of the null request, each of a sender for a number of view 1.
+    pub fn enter(&mut self, view: u64, chosen: &[(u32, u64)]) -> Result<Answer, Memory> {
+        let handed = self.handed(chosen)?;
+        Ok(sent(self.order.enter_view(&self.keys, view, None, handed)))
+    }
+
+    /// It enters view 1 so, behind a number with a digest of the byte 1, by CHECKPOINTs of number 16, each of a sender and with a digest of one byte.
+    pub fn enter_behind(
         &mut self,
-        view: u64,
-        min_s: u64,
+        number: u64,
+        told: &[(u32, u8)],
         chosen: &[(u32, u64)],
     ) -> Result<Answer, Memory> {
+        let told = self.told(told)?;
+        let stable = StableCheckpoint::new(number % (1 << 63), [1; 32], told);
         let handed = self.handed(chosen)?;
-        Ok(sent(self.order.enter_view(&self.keys, view, min_s, handed)))
+        Ok(sent(self.order.enter_view(&self.keys, 1, Some(&stable), handed)))
     }
 
     /// How many replicas may be faulty, and its own number.

@@ -38,8 +38,10 @@ pub enum Event {
     InstallAs(u64, u8, &'static [(u32, u8)]),
     /// It leaves its view for that one.
     Leave(u64),
-    /// It enters a view behind min-s. PRE-PREPAREs are handed over, each of a sender for a number of view 1.
-    Enter(u64, u64, &'static [(u32, u64)]),
+    /// It enters a view. PRE-PREPAREs are handed over, each of a sender for a number of view 1.
+    Enter(u64, &'static [(u32, u64)]),
+    /// It enters view 1 behind a number with a digest of the byte 1, by CHECKPOINTs of number 16 as before. PRE-PREPAREs are handed over.
+    EnterBehind(u64, &'static [(u32, u8)], &'static [(u32, u64)]),
     /// How many replicas may be faulty, and its own number.
     Itself,
     /// Its view.
@@ -82,7 +84,8 @@ fn happens<R: Threads + Sync>(
         Event::Install(told) => replica.install(16, 1, told),
         Event::InstallAs(number, byte, told) => replica.install(number, byte, told),
         Event::Leave(view) => Ok(replica.leave(view)),
-        Event::Enter(view, min_s, chosen) => replica.enter(view, min_s, chosen),
+        Event::Enter(view, chosen) => replica.enter(view, chosen),
+        Event::EnterBehind(number, told, chosen) => replica.enter_behind(number, told, chosen),
         Event::MayPropose => Ok(replica.may_propose()),
         Event::MayTell(number) => Ok(replica.may_tell(number)),
         Event::Itself => Ok(replica.itself()),

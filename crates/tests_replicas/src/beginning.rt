@@ -67,6 +67,73 @@ fn a_view_begins_behind_a_checkpoint(rt: HostRuntime) -> Result<(), Fail> {
     Ok(())
 }
 
+// 16 and 32 are stable at replica 3 alone, which then falls silent
+static A_CHECKPOINT_OF_ONE: [Event; 22] = [
+    Event::Batches(ALL, 15),
+    Event::Propose(0),
+    Event::HandOver(ALL),
+    Event::HandOver(ALL),
+    Event::HandOver(ALL),
+    Event::Execute(ALL),
+    Event::HandOver(&[3]),
+    Event::Batches(ALL, 15),
+    Event::Propose(0),
+    Event::HandOver(ALL),
+    Event::HandOver(ALL),
+    Event::HandOver(ALL),
+    Event::Execute(ALL),
+    Event::HandOver(&[3]),
+    Event::TimeOut(BACKUPS),
+    Event::HandOver(BACKUPS),
+    Event::NewView(3, 0),
+    Event::Settle(&[0, 1, 2]),
+    Event::HaveStable(ALL, 3),
+    Event::Propose(1),
+    Event::Settle(&[0, 1, 2]),
+    Event::Stand(&[0, 1, 2], Standing(1, 33, 0)),
+];
+
+#[test]
+fn three_go_on_behind_a_checkpoint_of_the_fourth(rt: HostRuntime) -> Result<(), Fail> {
+    same!(rt; wrong_in(&rt, rt.alloc(), &A_CHECKPOINT_OF_ONE)?, None);
+    Ok(())
+}
+
+// no CHECKPOINT comes to replica 1, and nothing from number 32 on
+static A_PRIMARY_LAGS: [Event; 24] = [
+    Event::Batches(ALL, 15),
+    Event::Propose(0),
+    Event::HandOver(ALL),
+    Event::HandOver(ALL),
+    Event::HandOver(ALL),
+    Event::Execute(ALL),
+    Event::HandOver(&[0, 2, 3]),
+    Event::Batches(ALL, 15),
+    Event::Batches(&[0, 2, 3], 9),
+    Event::Stand(&[1], Standing(0, 31, 0)),
+    Event::Stand(&[0, 2, 3], Standing(0, 40, 0)),
+    Event::TimeOut(BACKUPS),
+    Event::HandOver(BACKUPS),
+    Event::NewView(3, 8),
+    Event::Settle(BACKUPS),
+    Event::Stand(&[1], Standing(1, 31, 0)),
+    // what it handed over above 32 is in its log
+    Event::Adopt(1, 2),
+    Event::Settle(BACKUPS),
+    Event::Settle(BACKUPS),
+    Event::Stand(BACKUPS, Standing(1, 40, 0)),
+    Event::Agree(BACKUPS),
+    Event::Propose(1),
+    Event::Settle(BACKUPS),
+    Event::Stand(BACKUPS, Standing(1, 41, 0)),
+];
+
+#[test]
+fn a_primary_that_lags_takes_what_it_hands_over(rt: HostRuntime) -> Result<(), Fail> {
+    same!(rt; wrong_in(&rt, rt.alloc(), &A_PRIMARY_LAGS)?, None);
+    Ok(())
+}
+
 static TWO_HAVE_LEFT: [Event; 5] = [
     Event::TimeOut(&[2, 3]),
     Event::Lose,

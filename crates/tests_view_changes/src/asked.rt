@@ -1,5 +1,5 @@
 //! The VIEW-CHANGEs that come to one replica. Number 1 was prepared in view 0.
-use crate::parts::{Asked, Batch, Prepared};
+use crate::parts::{Asked, Batch, Prepared, Told};
 
 const AT_FIVE: Batch = Batch::At(5);
 
@@ -25,6 +25,14 @@ pub const OF_TWO: Asked<'static> = Asked {
 pub const OF_THREE: Asked<'static> = Asked {
     sender: 3,
     ..OF_ONE
+};
+
+/// That of replica 2 where number 16 is stable, and number 18 was prepared.
+pub const STABLE_OF_TWO: Asked<'static> = Asked {
+    stable: 16,
+    told: &[Told(0, 16), Told(1, 16), Told(2, 16)],
+    held: &[Prepared(0, 18, 0, &[1, 2], AT_FIVE)],
+    ..OF_TWO
 };
 
 /// That of replica 3 for view 2.

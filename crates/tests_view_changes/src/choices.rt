@@ -3,7 +3,7 @@ use crate::parts::{Asked, Batch, Prepared, Told, changes, keys_of};
 use bfs_messages::{Signed, ViewChange};
 use bfs_testing::asserts::compared;
 use bfs_types::Memory;
-use bfs_view_change::{Choice, Chosen, ViewError, choice_of, choose};
+use bfs_view_change::{Choice, Chosen, ViewError, choice_of, choose, latest_checkpoint};
 use std::alloc::Global;
 use std::test::Fail;
 
@@ -240,5 +240,47 @@ fn first_wrong_winner(alloc: Global) -> Result<Option<&'static str>, Memory> {
 #[test]
 fn the_higher_view_the_lower_sender_the_first_text(rt: HostRuntime) -> Result<(), Fail> {
     compared(first_wrong_winner(rt.alloc())?, None)?;
+    Ok(())
+}
+
+const BEHIND_16: Asked<'static> = Asked {
+    stable: 16,
+    told: &[Told(0, 16), Told(1, 16), Told(2, 16)],
+    ..OF_TWO
+};
+
+const ALSO_BEHIND_16: Asked<'static> = Asked {
+    stable: 16,
+    told: &[Told(0, 16), Told(1, 16), Told(2, 16), Told(3, 16)],
+    ..OF_THREE
+};
+
+const BEHIND_32: Asked<'static> = Asked {
+    stable: 32,
+    told: &[Told(1, 32), Told(2, 32), Told(3, 32)],
+    ..OF_THREE
+};
+
+// the number behind which a view begins, and how many CHECKPOINTs tell it
+fn behind(alloc: Global, asked: &[Asked<'_>]) -> Result<Option<(u64, usize)>, Memory> {
+    match latest_checkpoint(alloc, &changes(alloc, asked)?)? {
+        None => Ok(None),
+        Some(stable) => Ok(Some((stable.number(), stable.checkpoints().len()))),
+    }
+}
+
+#[test]
+fn the_first_of_the_latest_checkpoints_is_taken(rt: HostRuntime) -> Result<(), Fail> {
+    let alloc = rt.alloc();
+    compared(behind(alloc, &[OF_ONE, OF_TWO, OF_THREE])?, None)?;
+    compared(
+        behind(alloc, &[OF_ONE, BEHIND_16, ALSO_BEHIND_16])?,
+        Some((16, 3)),
+    )?;
+    compared(behind(alloc, &[ALSO_BEHIND_16, BEHIND_16])?, Some((16, 4)))?;
+    compared(
+        behind(alloc, &[OF_ONE, BEHIND_16, BEHIND_32])?,
+        Some((32, 3)),
+    )?;
     Ok(())
 }

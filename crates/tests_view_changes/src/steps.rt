@@ -13,6 +13,11 @@ use std::thread::Threads;
 #[derive(Clone, Copy, Debug, PartialEq, Eq)]
 pub struct Outlook(pub bool, pub u64, pub Option<u64>);
 
+fn kept_by(node: &Node) -> Option<(u64, usize)> {
+    let new = &node.new_view()?.message;
+    Some((new.view(), new.changes().len()))
+}
+
 fn outlook_of(node: &Node) -> Outlook {
     Outlook(node.leads(), node.view_asked(), node.view_to_follow())
 }
@@ -32,6 +37,8 @@ pub enum Step {
     Stands(Standing),
     /// It looks at views so.
     Looks(Outlook),
+    /// It keeps a NEW-VIEW of that view with so many VIEW-CHANGEs, or none, and has that low mark.
+    Entered(Option<(u64, usize)>, u64),
 }
 
 // whether it comes to what is wanted
@@ -61,6 +68,7 @@ fn happens<R: Threads + Sync>(
         Step::TimeOut(wanted) => Ok(Said::of_all(&time_out(node)) == wanted),
         Step::Stands(wanted) => Ok(standing_of(node) == wanted),
         Step::Looks(wanted) => Ok(outlook_of(node) == wanted),
+        Step::Entered(kept, low) => Ok(kept_by(node) == kept && node.stable_number() == low),
     }
 }
 

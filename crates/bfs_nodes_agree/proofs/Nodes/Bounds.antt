@@ -9,11 +9,11 @@ use Rattle.bfs_order.specs.Laws.Calls.{Call, Takes, Proposes, Executes, Checkpoi
 use Rattle.bfs_order.specs.Replica.Accepting.{accepted}
 use Rattle.bfs_order.specs.Replica.Checkpoints.{checkpoint_refusal, checkpointed}
 use Rattle.bfs_order.specs.Replica.Executing.{next_order}
-use Rattle.bfs_order.specs.Replica.Installing.{install_refusal, installed}
+use Rattle.bfs_order.specs.Replica.Installing.{install_refusal, installed, raised}
 use Rattle.bfs_order.specs.Replica.Proposing.{proposal_refusal, proposed}
 use Rattle.bfs_order.specs.Replica.Refusals.{place_refusal, refusal}
 use Rattle.bfs_order.specs.Replica.States.{State}
-use Rattle.bfs_order.specs.Replica.Views.{leaving_refusal, left, as_proposals, entering_refusal, opened, taken_over, all_taken_over, entered}
+use Rattle.bfs_order.specs.Replica.Views.{leaving_refusal, left, as_proposals, entering_refusal, number_of, opened, taken_over, all_taken_over, entered}
 use Rattle.bfs_model.specs.Server.Limits.{most_number}
 use Rattle.bfs_nodes_agree.proofs.Orders.Results.{either_way, passed}
 
@@ -34,8 +34,8 @@ kept s Executes h = elim (next_order s) as (λ o. IsBounded (execution s o).now)
 kept s (Checkpoints keys number digest) h = either_way (λ o. IsBounded o.now) (checkpoint_refusal s number) s (checkpointed keys s number digest) (λ _. h) h
 kept s (Installs keys certificate) h = either_way (λ o. IsBounded o.now) (install_refusal keys s certificate) s (installed s certificate) (λ _. h) h
 kept s (Leaves view) h = either_way (λ o. IsBounded o.now) (leaving_refusal s view) s (left s view) (left_bounded s view) h
-kept s (Enters keys view min_s handed) h = either_way (λ o. IsBounded o.now) (entering_refusal s view) s (entered keys s view min_s handed)
+kept s (Enters keys view stable handed) h = either_way (λ o. IsBounded o.now) (entering_refusal s view) s (entered keys s view stable handed)
     (λ e.
     let a = and_parts (nat_lt s.view view) (nat_le s.asked view && nat_le view most_number) (passed _ _ None e).0 in
-    over keys (as_proposals handed) (opened s view min_s handed) (and_parts (nat_le s.asked view) (nat_le view most_number) a.1).1)
+    over keys (as_proposals handed) (opened (raised keys s stable) view (number_of stable) handed) (and_parts (nat_le s.asked view) (nat_le view most_number) a.1).1)
     h

@@ -58,7 +58,7 @@ all_for view (Some s ∷ kept) =
     cond_both (s.message.view == view) (Some s) None (λ (o : Option (Signed model.ViewChange)). are_for view (cons_option o (filter_map (if_for view) kept)) ≡ true)
     (λ e. and_from (s.message.view == view) (are_for view (filter_map (if_for view) kept)) e rest) (λ _. rest)
 
-own_proposals : (keys : Keys) (f me view : ℕ) → me ≡ primary f view → (chosen : List Chosen)
+pub own_proposals : (keys : Keys) (f me view : ℕ) → me ≡ primary f view → (chosen : List Chosen)
     → headers (as_proposals (map (λ (c : Chosen). signed_proposal keys (chosen_proposal me view c)) chosen)) ≡ map (proposal_of f view) chosen
 own_proposals keys f me view led [] = refl
 own_proposals keys f me view led (c ∷ chosen) =
@@ -137,7 +137,7 @@ module _ (keys : Keys) (f sender view : ℕ) (led : sender ≡ primary f view) w
         text,
       )
 
-  proposals_are : (ps : List (Signed model.PrePrepare)) (cs : List Chosen) → AllByRecursion (FitsSigned FitsPrePrepare) ps → do_propose keys sender view ps cs ≡ true
+  pub proposals_are : (ps : List (Signed model.PrePrepare)) (cs : List Chosen) → AllByRecursion (FitsSigned FitsPrePrepare) ps → do_propose keys sender view ps cs ≡ true
       → headers (as_proposals ps) ≡ map (proposal_of f view) cs
   proposals_are [] [] fit e = refl
   proposals_are [] (c ∷ cs) fit e = absurd cc
@@ -168,7 +168,7 @@ pub record IsTaken (node : Node) (new : model.NewView) : Type 0 where
   pub right : choice_refusal node.keys new.changes ≡ None
   pub proposed : do_propose node.keys new.sender new.view new.proposals (choice (messages_of new.changes)).chosen ≡ true
 
-is_taken : (node : Node) (s : Signed model.NewView) → faults node.keys ≡ node.order.f → view_refusal node s ≡ None → IsTaken node s.message
+pub is_taken : (node : Node) (s : Signed model.NewView) → faults node.keys ≡ node.order.f → view_refusal node s ≡ None → IsTaken node s.message
 is_taken node s keys_fit taken =
     let keys = node.keys in
     let new = s.message in

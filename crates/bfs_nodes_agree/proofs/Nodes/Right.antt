@@ -28,6 +28,7 @@ use Rattle.bfs_messages.specs.declared.order_messages.OrderMessage.TheVariants.{
 use Rattle.bfs_order.specs.Laws.Calls as order
 use Rattle.bfs_order.specs.Replica.Accepting.{accepted}
 use Rattle.bfs_order.specs.Replica.Executing.{next_committed}
+use Rattle.bfs_order.specs.Replica.Installing.{raised}
 use Rattle.bfs_order.specs.Replica.Outcomes as outcomes
 use Rattle.bfs_order.specs.Replica.Proposing as proposing
 use Rattle.bfs_order.specs.Replica.Refusals.{is_authentic, place_refusal, refusal}
@@ -35,6 +36,7 @@ use Rattle.bfs_order.specs.Replica.States.{State, with_message}
 use Rattle.bfs_order.specs.Replica.Views as views
 use Rattle.bfs_order.specs.Replica.Views.{as_proposals}
 use Rattle.bfs_order.specs.declared.error.OrderError.{OrderError}
+use Rattle.bfs_order.proofs.Public.{raised_same}
 use Rattle.bfs_outcome.specs.Outcome as results
 use Rattle.bfs_pending.specs.Requests.{is_among}
 use Rattle.bfs_agreement.specs.Histories as agreement
@@ -43,14 +45,13 @@ use Rattle.bfs_agreement.proofs.Public.{in_told}
 use Rattle.bfs_nodes_agree.specs.Orders.Replicas as ordered
 use Rattle.bfs_nodes_agree.specs.Orders.Replicas.{MayDoOrderDeed, after_order_deed, histories, votes_by, with_replica}
 use Rattle.bfs_nodes_agree.proofs.Orders.Lists.{AllIn, both_in, filter_in, left_in, one_in, out_of_filter_map, some_is}
-use Rattle.bfs_nodes_agree.proofs.Orders.Logs.{Brings, IsChecked, IsOwn, IsWhole, Offers}
+use Rattle.bfs_nodes_agree.proofs.Orders.Logs.{Brings, IsChecked, IsOwn, IsWhole, Offers, Shows}
 use Rattle.bfs_nodes_agree.proofs.Orders.Results.{not_hit, passed}
 use Rattle.bfs_replies.specs.Answers.{Answer}
 use Rattle.bfs_replies.specs.Tables.{Table}
-use Rattle.bfs_view_change.specs.Changes.Choice.{choice}
 use Rattle.bfs_view_change.specs.Changes.Keeping.{changes_for, with_asked, with_change, was_asked}
 use Rattle.bfs_view_change.specs.Changes.Making.{signed_new_view}
-use Rattle.bfs_view_change.specs.Changes.NewViews.{new_view_refusal}
+use Rattle.bfs_view_change.specs.Changes.NewViews.{latest_checkpoint, new_view_refusal}
 use Rattle.bfs_view_change.specs.Changes.ViewChanges.{messages_of, valid_view_change}
 use Rattle.bfs_nodes_agree.specs.Views.Changes.{told_change}
 use Rattle.bfs_nodes_agree.specs.Views.Replicas as turns
@@ -134,6 +135,11 @@ over_last keys s [] = refl
 over_last keys s (m ∷ ms) = over_last keys (views.taken_over keys s m).now ms
     ∙ elim (place_refusal s (header m)) as (λ r. (outcomes.unless r s (accepted keys s m)).now.last ≡ s.last) [ None ↦ refl | Some refused ↦ refl ]
 
+-- nor does the checkpoint behind which the view begins
+entered_last : (keys : Keys) (s : State) (view : ℕ) (stable : Option StableCheckpoint) (handed : List (Signed model.PrePrepare)) → (views.entered keys s view stable handed).now.last ≡ s.last
+entered_last keys s view stable handed =
+    over_last keys (views.opened (raised keys s stable) view (views.number_of stable) handed) (as_proposals handed) ∙ raised_same (λ (u : State). u.last) keys s stable (λ low log. refl)
+
 -- a VIEW-CHANGE that is taken is valid
 change_valid : (node : Node) (s : Signed model.ViewChange) → change_refusal node s ≡ None → valid_view_change node.keys s ≡ true
 change_valid node s none =
@@ -159,6 +165,10 @@ module _ (faulty : ℕ → Bool) (after : NodeReplicas) (who : ℕ) where
   checkpoint_heard : (keys : Keys) (h : World) (m : Signed OrderMessage) → (header m).tag ≡ 5 → IsWhole m.message → IsChecked keys m → IsHeard faulty keys h after m
   checkpoint_heard keys h m five whole checked = record { sent = λ small. absurd (omega (arith, five, small)); said = λ small. absurd (omega (arith, five, small)); whole = whole; checked = checked }
 
+  shows_heard : (keys : Keys) (s : State) (h : World) (stable : Option StableCheckpoint) → Shows (IsHeard faulty keys h after) s keys stable
+  shows_heard keys s h None = tt
+  shows_heard keys s h (Some c) = λ _. map_in (IsHeard faulty keys h after) (as_message Checkpoint) c.checkpoints (λ x i. checkpoint_heard keys h (as_message Checkpoint x) refl tt refl)
+
   offer_said : (first : Signed Message) → IsIn first (after who).sent → (me : ℕ) → me ≡ who → (p : Signed OrderMessage) → IsIn p (offers_in first.message) → IsOwn me p → IsSaid faulty after (Order p.message)
   offer_said first there me is p i own k e correct =
       let sender = own.sender in
@@ -170,7 +180,8 @@ module _ (faulty : ℕ → Bool) (after : NodeReplicas) (who : ℕ) where
       let asked = node.order.asked in
       let new = own_new_view node in
       let deed : ViewDeed = turns.ChangesView node.keys asked (changes_for asked node.changes) new.proposals in
-      let done = views.entered node.keys node.order asked (choice (messages_of new.changes)).min_s new.proposals in
+      let stable = latest_checkpoint (messages_of new.changes) in
+      let done = views.entered node.keys node.order asked stable new.proposals in
       (elim (may_begin node) as (λ b. may_begin node ≡ b → DoesQuietly v node know (IsStill node (cond b (begun node) (still node)).now) (cond b (deed ∷ []) []) (cond b (begun node) (still node))) [
         | false ↦ λ e goes. nothing_done faulty after who v node know (IsStill node node) NoReply node know.kept know.waiting refl (refl, refl, refl)
         | true ↦ λ e goes.
@@ -193,19 +204,21 @@ module _ (faulty : ℕ → Bool) (after : NodeReplicas) (who : ℕ) where
             deed_done faulty after who v node know (IsStill node (begun node).now) NoReply deed (begun node) done.sent (ap (λ (r : Option OrderError). (outcomes.unless r node.order done).sent) opened)
             (begun_right faulty (histories v) after node e know.kept) refl (kept_above good node.order.f asked node.changes know.kept) know.waiting
             (λ s i. elim i [ inl same ↦ inr (subst (MaySend faulty after who NoReply node (after_deeds (v who) (deed ∷ []))) (sym same) (offers, tells, said)) | inr j ↦ inl j ])
-            (λ m i small. inr (in_map (as_message Order) done.sent m i))
-            (λ m i.
-            let own = own_handed node m i in
-            let told = λ (k t : ℕ). Told (headers (w k).offers) t (header m).sender (header m).view (header m).number (header m).digest in
-            let mine = subst (λ (o : ordered.OrderReplica). IsIn m o.offers) (sym (at_who (deed ∷ []) v who)) (offers m i) in
-            let tells : told who (header m).tag = in_told (headers (w who).offers) (header m) (in_map header (w who).offers m mine) in
-            record {
-              sent = λ small correct. inr (own.0, subst (told (header m).sender) own.0 (subst (λ (k : ℕ). told k (header m).tag) (sym (own.1.sender ∙ know.me)) tells));
-              said = λ small. offer m i;
-              whole = own.1.whole;
-              checked = own_checked faulty (histories v) after node know.kept m i;
-            })
-            tt (refl, refl, over_last node.keys (views.opened node.order asked (choice (messages_of new.changes)).min_s new.proposals) (as_proposals new.proposals)) goes
+            (λ m i small. inr (in_map (as_message Order) done.sent m i)) (
+              (λ m i.
+                  let own = own_handed node m i in
+                  let told = λ (k t : ℕ). Told (headers (w k).offers) t (header m).sender (header m).view (header m).number (header m).digest in
+                  let mine = subst (λ (o : ordered.OrderReplica). IsIn m o.offers) (sym (at_who (deed ∷ []) v who)) (offers m i) in
+                  let tells : told who (header m).tag = in_told (headers (w who).offers) (header m) (in_map header (w who).offers m mine) in
+                  record {
+                    sent = λ small correct. inr (own.0, subst (told (header m).sender) own.0 (subst (λ (k : ℕ). told k (header m).tag) (sym (own.1.sender ∙ know.me)) tells));
+                    said = λ small. offer m i;
+                    whole = own.1.whole;
+                    checked = own_checked faulty (histories v) after node know.kept m i;
+                  }),
+              shows_heard node.keys node.order (histories w) stable,
+            )
+            tt (refl, refl, entered_last node.keys node.order asked stable new.proposals) goes
       ]) refl
 
   change_done : (v : ordered.OrderReplicas) (node : Node) (know : Stands faulty after who v node) (s : Signed model.ViewChange) → IsGood faulty node.keys node.order.f (histories v) after s
@@ -282,16 +295,16 @@ module _ (faulty : ℕ → Bool) (after : NodeReplicas) (who : ℕ) where
     message_done (NewView new) auth authentic fits =
         let s : Signed model.NewView = record { message = new; auth = auth } in
         let deed : ViewDeed = turns.ChangesView node.keys new.view new.changes new.proposals in
-        let min_s = (choice (messages_of new.changes)).min_s in
-        let done = views.entered node.keys node.order new.view min_s new.proposals in
+        let stable = latest_checkpoint (messages_of new.changes) in
+        let done = views.entered node.keys node.order new.view stable new.proposals in
         (elim (view_refusal node s) as (λ r. view_refusal node s ≡ r → DoneBy (where_taken r (deed ∷ [])) (unless r node (with_new_view node s))) [
           | None ↦ λ e.
               let opened = not_refused _ (not_second (option_map of_view (new_view_refusal node.keys s)) (option_map of_order (views.entering_refusal node.order new.view)) e) in
               deed_done faulty after who v node know (IsStill node (with_new_view node s).now) NoReply deed (with_new_view node s) done.sent (ap (λ (r : Option OrderError). (outcomes.unless r node.order done).sent) opened)
               (taken_right node s know.fit fits e faulty w v spoken authentic) refl (kept_above (IsGood faulty node.keys node.order.f (histories v) after) node.order.f new.view node.changes know.kept) know.waiting
               (λ x i. inl i) (λ m i small. in_map (as_message Order) done.sent m i)
-              (λ m i. heard_then (deed ∷ []) m (taken_heard node s know.fit fits e faulty w v spoken authentic one m i))
-              tt (refl, refl, over_last node.keys (views.opened node.order new.view min_s new.proposals) (as_proposals new.proposals))
+              ((λ m i. heard_then (deed ∷ []) m (taken_heard node s know.fit fits e faulty w v spoken authentic one m i)), shows_heard node.keys node.order (histories (After faulty after who v node know (deed ∷ []))) stable)
+              tt (refl, refl, entered_last node.keys node.order new.view stable new.proposals)
           | Some refused ↦ λ _. nothing_is
         ]) refl
     message_done (Reply reply) auth authentic fits = nothing_is

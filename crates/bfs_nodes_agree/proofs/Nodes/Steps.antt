@@ -30,9 +30,8 @@ use Rattle.bfs_order.specs.declared.error.OrderError.TheVariants.{NoCertificate,
 use Rattle.bfs_nodes_agree.specs.Orders.Replicas as ordered
 use Rattle.bfs_nodes_agree.specs.Orders.Replicas.{call_of, after_order_deed, message_in}
 use Rattle.bfs_replies.specs.Tables.{Table}
-use Rattle.bfs_view_change.specs.Changes.Choice.{choice}
 use Rattle.bfs_view_change.specs.Changes.Keeping.{changes_for, with_asked, with_change}
-use Rattle.bfs_view_change.specs.Changes.NewViews.{new_view_refusal}
+use Rattle.bfs_view_change.specs.Changes.NewViews.{latest_checkpoint, new_view_refusal}
 use Rattle.bfs_view_change.specs.Changes.ViewChanges.{messages_of}
 use Rattle.bfs_nodes_agree.specs.Views.Replicas as turns
 use Rattle.bfs_nodes_agree.specs.Views.Replicas.{ViewDeed, ordered_deed}
@@ -85,10 +84,10 @@ not_refused (Some refused) e = absurd cc
 -- A view begins -----------------------------------------------------------------------------------------------------------
 
 enters : (node : Node) (view : ℕ) (changes : List (Signed model.ViewChange)) (handed : List (Signed model.PrePrepare)) → views.entering_refusal node.order view ≡ None
-    → Lead node.order (turns.ChangesView node.keys view changes handed ∷ []) (views.entered node.keys node.order view (choice (messages_of changes)).min_s handed).now []
+    → Lead node.order (turns.ChangesView node.keys view changes handed ∷ []) (views.entered node.keys node.order view (latest_checkpoint (messages_of changes)) handed).now []
 enters node view changes handed e =
     one node.order (turns.ChangesView node.keys view changes handed) _
-    (ap (λ (r : Option OrderError). (outcomes.unless r node.order (views.entered node.keys node.order view (choice (messages_of changes)).min_s handed)).now) e)
+    (ap (λ (r : Option OrderError). (outcomes.unless r node.order (views.entered node.keys node.order view (latest_checkpoint (messages_of changes)) handed)).now) e)
 
 may_enter : (b : Bool) → b ≡ true → cond (not b) (Some WrongView) None ≡ None
 may_enter true e = refl

@@ -1,5 +1,5 @@
 -- What holds of each message of a log, as the calls of its order go on.
-use Rattle.std.proofs.Common.{◌≡◌, ℕ, ◌<◌, ◌==◌, true, cond, List, [], ◌∷◌, ◌++◌, Some, None, inl, inr, refl, arith}
+use Rattle.std.proofs.Common.{◌≡◌, ℕ, ◌<◌, ◌==◌, true, cond, List, [], ◌∷◌, ◌++◌, Option, Some, None, inl, inr, refl, subst, arith}
 use Rattle.std.specs.Prelude.{nat_lt}
 use Rattle.std.proofs.lemmas.Bool.{cond_both}
 use Rattle.sha2.specs.Sha256.{sha256}
@@ -19,12 +19,13 @@ use Rattle.bfs_order.specs.Replica.Answers.{own_vote, said_once, prepares_in, co
 use Rattle.bfs_order.specs.Replica.Checkpoints.{checkpoint, checkpoint_refusal, checkpointed}
 use Rattle.bfs_order.specs.Replica.Executing.{next_order}
 use Rattle.bfs_log.specs.Certificates.{StableCheckpoint, checkpoints_in, is_shown}
-use Rattle.bfs_order.specs.Replica.Installing.{certified, install_refusal, installed, with_each, with_new}
+use Rattle.bfs_order.specs.Replica.Installing.{certified, install_refusal, installed, raised, with_each, with_new}
 use Rattle.bfs_order.specs.Replica.Proposing.{batch_digest, next_number, proposal, proposal_commits, proposal_refusal, proposed}
 use Rattle.bfs_order.specs.Replica.Refusals.{is_there, place_refusal, refusal}
 use Rattle.bfs_order.specs.Replica.States.{State, known, with_message, with_more}
-use Rattle.bfs_order.specs.Replica.Views.{all_taken_over, as_proposals, entered, entering_refusal, left, leaving_refusal, opened}
+use Rattle.bfs_order.specs.Replica.Views.{all_taken_over, as_proposals, entered, entering_refusal, left, leaving_refusal, number_of, opened}
 use Rattle.bfs_order.specs.declared.error.OrderError.TheVariants.{NoCertificate}
+use Rattle.bfs_order.proofs.Public.{raised_either, raised_same}
 use Rattle.bfs_nodes_agree.specs.Orders.Replicas.{votes_by}
 use Rattle.bfs_nodes_agree.proofs.Orders.Results.{either_way, passed}
 use Rattle.bfs_nodes_agree.proofs.Orders.Lists.{AllIn, both_in, filter_in, left_in, more_in, none_in, one_in, right_in}
@@ -83,8 +84,8 @@ Offers P s call = Unit {0}
 votes_all : (P : Signed OrderMessage → Type 0) (s : State) (call : Call) → IsVote P s.me → Offers P s call → AllIn P (votes_by s call)
 votes_all P s (Takes keys m) vote offers = either_way (λ o. AllIn P o.sent) (refusal keys s m) s (accepted keys s m) (λ _. answered P s.me vote keys (with_message s m) (header m) refl) (none_in P)
 votes_all P s (Proposes keys batch) vote offers = either_way (λ o. AllIn P o.sent) (proposal_refusal s) s (proposed keys s batch) (λ _. offered P s.me vote keys s batch refl offers) (none_in P)
-votes_all P s (Enters keys view min_s handed) vote offers = either_way (λ o. AllIn P o.sent) (entering_refusal s view) s (entered keys s view min_s handed)
-    (λ _. over P s.me vote keys (opened s view min_s handed) (as_proposals handed) refl) (none_in P)
+votes_all P s (Enters keys view stable handed) vote offers = either_way (λ o. AllIn P o.sent) (entering_refusal s view) s (entered keys s view stable handed)
+    (λ _. over P s.me vote keys (opened (raised keys s stable) view (number_of stable) handed) (as_proposals handed) (raised_same (λ (u : State). u.me) keys s stable (λ low log. refl))) (none_in P)
 votes_all P s call vote offers = none_in P
 
 offers_own : (s : State) (call : Call) → Offers (IsOwn s.me) s call
@@ -105,12 +106,17 @@ votes_checked keys s call = votes_all (IsChecked keys) s call (λ by t v n d is.
 -- The log -------------------------------------------------------------------------------------------------------------------
 
 module _ (P : Signed OrderMessage → Type 0) where
+  -- of the CHECKPOINTs by which the low mark rises
+  abbrev pub Shows : State → Keys → Option StableCheckpoint → Type 0
+  Shows s keys None = Unit {0}
+  Shows s keys (Some certificate) = is_shown keys s.f certificate ≡ true → AllIn P (checkpoints_in certificate)
+
   -- of what a call brings to the log beside what is said
   abbrev pub Brings : State → Call → Type 0
   Brings s (Takes keys m) = refusal keys s m ≡ None → P m
   Brings s (Checkpoints keys n d) = P (checkpoint keys s n d)
   Brings s (Installs keys certificate) = is_shown keys s.f certificate ≡ true → AllIn P (checkpoints_in certificate)
-  Brings s (Enters keys view min_s handed) = AllIn P (as_proposals handed)
+  Brings s (Enters keys view stable handed) = AllIn P (as_proposals handed) × Shows s keys stable
   Brings s call = Unit {0}
 
   settled_in : (s : State) (h : Header) → AllIn P s.log → AllIn P (settled s h).log
@@ -139,6 +145,10 @@ module _ (P : Signed OrderMessage → Type 0) where
   installed_in s c all come = cond_both (nat_lt s.low c.number) (certified s.log c) s.log (AllIn P)
       (λ _. each_in (kept_after c.number c.digest s.log) (checkpoints_in c) (filter_in P (λ m. stays c.number c.digest (header m)) s.log all) come) (λ _. all)
 
+  raised_in : (keys : Keys) (s : State) (stable : Option StableCheckpoint) → AllIn P s.log → Shows s keys stable → AllIn P (raised keys s stable).log
+  raised_in keys s stable all come = raised_either (λ (u : State). AllIn P u.log) keys s stable
+      (λ c is _ shown. each_in (kept_after c.number c.digest s.log) (checkpoints_in c) (filter_in P (λ m. stays c.number c.digest (header m)) s.log all) (subst (Shows s keys) is come shown)) all
+
   pub log_keeps : (s : State) (call : Call) → AllIn P s.log → Brings s call → AllIn P (votes_by s call) → AllIn P (outcome s call).now.log
   log_keeps s (Takes keys m) all brings votes =
       either_way (λ o. AllIn P o.sent → AllIn P o.now.log) (refusal keys s m) s (accepted keys s m) (λ e said. accepted_in keys s m all (brings e) said) (λ said. all) votes
@@ -153,5 +163,5 @@ module _ (P : Signed OrderMessage → Type 0) where
   log_keeps s (Installs keys c) all brings votes =
       either_way (λ o. AllIn P o.now.log) (install_refusal keys s c) s (installed s c) (λ e. installed_in s c all (brings (passed (is_shown keys s.f c) NoCertificate _ e).0)) all
   log_keeps s (Leaves view) all brings votes = either_way (λ o. AllIn P o.now.log) (leaving_refusal s view) s (left s view) (λ _. all) all
-  log_keeps s (Enters keys view min_s handed) all brings votes = either_way (λ o. AllIn P o.sent → AllIn P o.now.log) (entering_refusal s view) s (entered keys s view min_s handed)
-      (λ _. over_in keys (opened s view min_s handed) (as_proposals handed) all brings) (λ said. all) votes
+  log_keeps s (Enters keys view stable handed) all brings votes = either_way (λ o. AllIn P o.sent → AllIn P o.now.log) (entering_refusal s view) s (entered keys s view stable handed)
+      (λ _. over_in keys (opened (raised keys s stable) view (number_of stable) handed) (as_proposals handed) (raised_in keys s stable all brings.1) brings.0) (λ said. all) votes

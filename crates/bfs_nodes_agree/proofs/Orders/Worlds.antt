@@ -5,6 +5,7 @@ use Rattle.bfs_votes.specs.Votes.{says}
 use Rattle.bfs_log.specs.Headers.{header}
 use Rattle.bfs_log.specs.Logs.{headers}
 use Rattle.bfs_order.specs.Replica.States as order
+use Rattle.bfs_order.specs.Replica.Views.{number_of}
 use Rattle.bfs_order.specs.Laws.Calls.{Takes, Proposes, Executes, Checkpoints, Installs, Leaves, Enters, CallsKeepTheReplica}
 use Rattle.bfs_agreement.specs.Histories.{IsIn, ViewChange, World, History}
 use Rattle.bfs_agreement.specs.Moves.{Move, Step, AreAllowed, after_step, after_steps, with_history, new_world}
@@ -26,9 +27,9 @@ deeds_are_moves faulty w r (Orders Executes) follows may = executes faulty w r f
 deeds_are_moves faulty w r (Orders (Checkpoints keys n d)) follows may = checkpoints faulty w r keys n d follows
 deeds_are_moves faulty w r (Orders (Installs keys certificate)) follows may = installs faulty w r keys certificate follows
 deeds_are_moves faulty w r (Orders (Leaves view)) follows may = absurd may
-deeds_are_moves faulty w r (Orders (Enters keys view min_s handed)) follows may = absurd may
+deeds_are_moves faulty w r (Orders (Enters keys view stable handed)) follows may = absurd may
 deeds_are_moves faulty w r (TimesOut change) follows may = leaves faulty w r change follows may
-deeds_are_moves faulty w r (ChangesView keys view min_s handed changes) follows may = enters faulty w r keys view min_s handed changes follows may.0 may.1
+deeds_are_moves faulty w r (ChangesView keys view stable handed changes) follows may = enters faulty w r keys view stable handed changes follows may.0 may.1
 
 -- Worlds ------------------------------------------------------------------------------------------------------------------
 
@@ -50,7 +51,7 @@ grows_there r p q follows =
 
 may_there : (faulty : ℕ → Bool) (w t : World) → ((k : ℕ) → Grows (w k) (t k)) → (s : order.State) (deed : OrderDeed) → MayDoOrderDeed faulty w s deed → MayDoOrderDeed faulty t s deed
 may_there faulty w t on s (Orders (Takes keys m)) may = λ none small. said_on faulty w t on (header m).tag (header m).sender (header m).view (header m).number (header m).digest (may none small)
-may_there faulty w t on s (ChangesView keys view min_s handed changes) may = (may.0, new_view_on s.f faulty w t (new_view view min_s handed changes) on may.1)
+may_there faulty w t on s (ChangesView keys view stable handed changes) may = (may.0, new_view_on s.f faulty w t (new_view view (number_of stable) handed changes) on may.1)
 may_there faulty w t on s deed may = may
 
 allowed_both : (f : ℕ) (faulty : ℕ → Bool) (t : World) (xs ys : List Step) → AreAllowed f faulty t xs → AreAllowed f faulty (after_steps f t xs) ys → AreAllowed f faulty t (xs ++ ys)

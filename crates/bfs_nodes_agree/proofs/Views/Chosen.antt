@@ -60,7 +60,7 @@ other_number t k v n h differ = elim (cases_Bool (is_slot t k v n h)) [
   | inr e ↦ e
 ]
 
-slots_differ : (f view : ℕ) (xs : List Chosen) (a m : ℕ) → map (λ (c : Chosen). c.number) xs ≡ range_with_len a m → SlotsDiffer (map (proposal_of f view) xs)
+pub slots_differ : (f view : ℕ) (xs : List Chosen) (a m : ℕ) → map (λ (c : Chosen). c.number) xs ≡ range_with_len a m → SlotsDiffer (map (proposal_of f view) xs)
 slots_differ f view [] a m e = tt
 slots_differ f view (x ∷ xs) a zero e = absurd cc
 slots_differ f view (x ∷ xs) a (suc m) e = (

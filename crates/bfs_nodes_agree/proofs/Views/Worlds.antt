@@ -1,19 +1,25 @@
 -- Every list of calls and deliveries is one of which agreement is proved.
-use Rattle.std.proofs.Common.{◌≡◌, ℕ, ◌==◌, Bool, true, false, cond, List, [], ◌∷◌, refl, sym, subst}
+use Rattle.std.proofs.Common.{◌≡◌, ℕ, ◌==◌, Bool, true, false, cond, List, [], ◌∷◌, map, refl, sym, subst}
 use Rattle.bfs_order.specs.Laws.Calls.{IsKept}
 use Rattle.bfs_order.specs.Laws.Logs.{IsWindowed}
 use Rattle.bfs_order.specs.Replica.States.{State}
-use Rattle.bfs_agreement.specs.Histories.{IsIn, World}
+use Rattle.bfs_agreement.specs.Histories.{IsIn, IsValidNewView, World}
 use Rattle.bfs_nodes_agree.specs.Orders.Laws.{OrdersAgree}
 use Rattle.bfs_nodes_agree.specs.Orders.Replicas as ordered
-use Rattle.bfs_nodes_agree.specs.Orders.Replicas.{OrderReplica, OrderReplicas, call_of, histories, after_order_deed, after_order_turn, new_order_replicas, MayDoOrderDeed}
+use Rattle.bfs_nodes_agree.specs.Orders.Replicas.{OrderReplica, OrderReplicas, call_of, histories, after_order_deed, after_order_turn, new_order_replicas, new_view, MayDoOrderDeed}
+use Rattle.bfs_view_change.specs.Changes.ViewChanges.{messages_of}
+use Rattle.bfs_view_change.proofs.Public.{latest_is}
+use Rattle.bfs_nodes_agree.specs.Views.Changes.{told_change}
 use Rattle.bfs_nodes_agree.specs.Views.Laws.{MadeTellsWhatIsPrepared, RightNewViewsAreValid, ReplicasAgree}
 use Rattle.bfs_nodes_agree.specs.Views.Replicas.{ViewDeed, Orders, TimesOut, ChangesView, ordered_deed, MayDoViewDeed, ViewTurn, ordered_turn, after_view_turns, MayTakeViewTurns}
 
 may_do : (faulty : ℕ → Bool) → MadeTellsWhatIsPrepared → RightNewViewsAreValid → (w : World) (s : State) (deed : ViewDeed) → IsWindowed s → MayDoViewDeed faulty w s deed → MayDoOrderDeed faulty w s (ordered_deed s deed)
 may_do faulty made valid w s (Orders call) windowed may = may
 may_do faulty made valid w s (TimesOut view) windowed may = made s view windowed
-may_do faulty made valid w s (ChangesView keys view changes handed) windowed may = valid faulty w s view changes handed may
+may_do faulty made valid w s (ChangesView keys view changes handed) windowed may =
+    let right = valid faulty w s view changes handed may in
+    let chs = messages_of changes in
+    (right.0, subst (λ (min_s : ℕ). IsValidNewView s.f faulty w (new_view view min_s handed (map told_change chs))) (sym (latest_is chs)) right.1)
 
 abbrev AreWindowed : OrderReplicas → Type 0
 AreWindowed w = (i : ℕ) → IsWindowed (w i).state

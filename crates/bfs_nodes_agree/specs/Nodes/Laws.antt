@@ -1,17 +1,30 @@
 -- The statements that are proved of the definitions: contracts of functions of src/laws.rt, which do nothing.
-use Rattle.std.specs.Prelude.{◌≡◌, ℕ, zero, suc, Bool, false, List, Some}
+use Rattle.std.specs.Prelude.{◌≡◌, ℕ, zero, suc, Bool, true, false, List, Some, None, nat_le}
+use Rattle.std.specs.List.{list_all}
 use Rattle.bfs_auth.specs.Keys.{Keys}
+use Rattle.bfs_model.specs.Server.Limits.{most_number}
 use Rattle.bfs_model.specs.Server.Tree.{FileSystem}
+use Rattle.bfs_log.specs.Certificates.{faults}
 use Rattle.bfs_log.specs.Logs.{batch_in}
+use Rattle.bfs_messages.specs.Limits.{FitsNewView}
+use Rattle.bfs_messages.specs.Messages as model
 use Rattle.bfs_messages.specs.Messages.{Batch}
 use Rattle.bfs_messages.specs.declared.signed.Signed.{Signed}
 use Rattle.bfs_messages.specs.declared.message.Message.{Message}
 use Rattle.bfs_messages.specs.declared.order_messages.OrderMessage.{OrderMessage}
+use Rattle.bfs_node.specs.Changing.{begun, may_begin, own_new_view, view_refusal, with_new_view}
+use Rattle.bfs_node.specs.Nodes.{Node}
+use Rattle.bfs_order.specs.Laws.Logs.{HasNoLaterView}
 use Rattle.bfs_order.specs.Replica.Proposing.{batch_digest}
+use Rattle.bfs_order.specs.Replica.Views.{number_of}
 use Rattle.bfs_outcome.specs.Outcome.{outcome}
 use Rattle.bfs_replies.specs.Tables.{Table}
 use Rattle.bfs_agreement.specs.Histories.{IsIn, FewAreFaulty}
 use Rattle.bfs_nodes_agree.specs.Orders.Replicas as ordered
+use Rattle.bfs_view_change.specs.Changes.Keeping.{changes_for}
+use Rattle.bfs_view_change.specs.Changes.NewViews.{latest_checkpoint}
+use Rattle.bfs_view_change.specs.Changes.ViewChanges.{messages_of, valid_view_change}
+use Rattle.bfs_nodes_agree.specs.Views.Laws.{EntersWhole}
 use Rattle.bfs_nodes_agree.specs.Views.Replicas as turns
 use Rattle.bfs_nodes_agree.specs.Nodes.Premises.{AreAuthentic, AreFair, AreSame, AreShared, IsWhollyFair, StatesDontCollide, standing_digest}
 use Rattle.bfs_nodes_agree.specs.Nodes.Replicas.{Beginning, Keyring, NodeReplica, NodeReplicas, Standing, NodeTurn, new_node_replicas, after_node_turns, ordered_turns}
@@ -32,6 +45,18 @@ StepsAreTurns = (f : ℕ) (keys : Keyring) (start : Beginning) (steps : List Nod
 abbrev pub TurnsMayBeTaken : Type 0
 TurnsMayBeTaken = (f : ℕ) (keys : Keyring) (start : Beginning) (faulty : ℕ → Bool) (steps : List NodeTurn) → AreShared f keys → AreAuthentic faulty (new_node_replicas f keys start) steps
     → turns.MayTakeViewTurns faulty (ordered.new_order_replicas f) (ordered_turns (new_node_replicas f keys start) steps)
+
+-- a node that takes a NEW-VIEW enters its view with all that it hands over, and its low mark is not below what the view begins behind
+abbrev pub NewViewsAreTakenWhole : Type 0
+NewViewsAreTakenWhole = (node : Node) (s : Signed model.NewView) → faults node.keys ≡ node.order.f → HasNoLaterView node.order
+    → FitsNewView s.message → view_refusal node s ≡ None
+    → EntersWhole (number_of (latest_checkpoint (messages_of s.message.changes))) s.message.proposals (with_new_view node s).now.order
+
+-- so does the primary that begins it, where the VIEW-CHANGEs that it keeps are valid by its own keys
+abbrev pub BegunViewsAreTakenWhole : Type 0
+BegunViewsAreTakenWhole = (node : Node) → faults node.keys ≡ node.order.f → HasNoLaterView node.order → nat_le node.order.asked most_number ≡ true
+    → may_begin node ≡ true → list_all (valid_view_change node.keys) (changes_for node.order.asked node.changes) ≡ true
+    → EntersWhole (number_of (latest_checkpoint (messages_of (changes_for node.order.asked node.changes)))) (own_new_view node).proposals (begun node).now.order
 
 -- Agreement -----------------------------------------------------------------------------------------------------------------
 

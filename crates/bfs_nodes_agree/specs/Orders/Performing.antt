@@ -22,7 +22,7 @@ call_by keys code.Execute = Executes
 call_by keys (code.Checkpoint number digest) = Checkpoints keys number digest
 call_by keys (code.Install certificate) = Installs keys certificate.now
 call_by keys (code.Leave view) = Leaves view
-call_by keys (code.Enter view min_s handed) = Enters keys view min_s handed.items
+call_by keys (code.Enter view stable handed) = Enters keys view stable handed.items
 
 abbrev pub messages_in : Sent → List (Signed Message)
 messages_in Nothing = []

@@ -2,6 +2,7 @@
 use Rattle.std.specs.Prelude.{◌≡◌, ℕ, ◌<◌, ◌≤◌, ◌==◌, max, Bool, true, List, [], ◌∷◌, ◌++◌, Option, Some, None, if◌then◌else◌}
 use Rattle.bfs_auth.specs.Keys.{Keys}
 use Rattle.bfs_votes.specs.Votes.{SlotsDiffer, primary, prepared}
+use Rattle.bfs_log.specs.Certificates.{StableCheckpoint}
 use Rattle.bfs_log.specs.Headers.{header}
 use Rattle.bfs_log.specs.Logs.{Log, headers}
 use Rattle.bfs_messages.specs.Messages as model
@@ -11,7 +12,7 @@ use Rattle.bfs_order.specs.declared.error.OrderError.{OrderError}
 use Rattle.bfs_order.specs.Replica.Executing.{next_order}
 use Rattle.bfs_order.specs.Replica.Refusals.{refusal}
 use Rattle.bfs_order.specs.Replica.States.{State, fresh, known}
-use Rattle.bfs_order.specs.Replica.Views.{leaving_refusal, entering_refusal, as_proposals, greatest_number}
+use Rattle.bfs_order.specs.Replica.Views.{leaving_refusal, entering_refusal, as_proposals, greatest_number, number_of}
 use Rattle.bfs_order.specs.Laws.Calls.{Call, Takes, Proposes, Executes, Leaves, Enters, outcome}
 use Rattle.bfs_agreement.specs.Histories.{IsIn, Certificate, ViewChange, NewView, World, WasSent, IsValidNewView}
 use Rattle.bfs_agreement.specs.Moves.{new_history}
@@ -36,14 +37,14 @@ pub data OrderDeed : Type 0 where
   Orders : Call → OrderDeed
   -- the view is left, and in the same step the VIEW-CHANGE is sent
   TimesOut : ViewChange → OrderDeed
-  -- a view is entered by a NEW-VIEW with these VIEW-CHANGEs, from which the number that it begins behind and the PRE-PREPAREs were chosen
-  ChangesView : Keys → (view min_s : ℕ) → (handed : List (Signed model.PrePrepare)) → List ViewChange → OrderDeed
+  -- a view is entered by a NEW-VIEW with these VIEW-CHANGEs, from which the checkpoint that it begins behind and the PRE-PREPAREs were chosen
+  ChangesView : Keys → (view : ℕ) → (stable : Option StableCheckpoint) → (handed : List (Signed model.PrePrepare)) → List ViewChange → OrderDeed
 
 -- the call of the order in it
 abbrev pub call_of : OrderDeed → Call
 call_of (Orders call) = call
 call_of (TimesOut change) = Leaves change.view
-call_of (ChangesView keys view min_s handed changes) = Enters keys view min_s handed
+call_of (ChangesView keys view stable handed changes) = Enters keys view stable handed
 
 -- what a call that may be refused gives
 abbrev pub where_taken : {A : Type 0} → Option OrderError → List A → List A
@@ -54,12 +55,12 @@ where_taken (Some error) items = []
 abbrev pub votes_by : State → Call → Log
 votes_by s (Takes keys m) = (outcome s (Takes keys m)).sent
 votes_by s (Proposes keys batch) = (outcome s (Proposes keys batch)).sent
-votes_by s (Enters keys view min_s handed) = (outcome s (Enters keys view min_s handed)).sent
+votes_by s (Enters keys view stable handed) = (outcome s (Enters keys view stable handed)).sent
 votes_by s _ = []
 
 -- the primary enters by its own NEW-VIEW
 abbrev pub offers_by : State → OrderDeed → Log
-offers_by s (ChangesView keys view min_s handed changes) = where_taken (entering_refusal s view) (if s.me == primary s.f view then as_proposals handed else [])
+offers_by s (ChangesView keys view stable handed changes) = where_taken (entering_refusal s view) (if s.me == primary s.f view then as_proposals handed else [])
 offers_by s _ = []
 
 abbrev pub changes_by : State → OrderDeed → List ViewChange
@@ -102,11 +103,11 @@ abbrev pub MayDoOrderDeed : (faulty : ℕ → Bool) → World → State → Orde
 MayDoOrderDeed faulty w s (Orders (Takes keys m)) =
     refusal keys s m ≡ None → (header m).tag < checkpoint_tag → WasSent faulty w (header m).tag (header m).sender (header m).view (header m).number (header m).digest
 MayDoOrderDeed faulty w s (Orders (Leaves view)) = ⊥
-MayDoOrderDeed faulty w s (Orders (Enters keys view min_s handed)) = ⊥
+MayDoOrderDeed faulty w s (Orders (Enters keys view stable handed)) = ⊥
 MayDoOrderDeed faulty w s (Orders call) = Unit {0}
 MayDoOrderDeed faulty w s (TimesOut change) = TellsWhatIsPrepared s change
-MayDoOrderDeed faulty w s (ChangesView keys view min_s handed changes) =
-    SlotsDiffer (headers (as_proposals handed)) × IsValidNewView s.f faulty w (new_view view min_s handed changes)
+MayDoOrderDeed faulty w s (ChangesView keys view stable handed changes) =
+    SlotsDiffer (headers (as_proposals handed)) × IsValidNewView s.f faulty w (new_view view (number_of stable) handed changes)
 
 -- Replicas in a world -----------------------------------------------------------------------------------------------------
 

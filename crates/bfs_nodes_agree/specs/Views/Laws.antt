@@ -1,20 +1,24 @@
 -- The statements that are proved of the definitions: contracts of functions of src/laws.rt, which do nothing.
-use Rattle.std.specs.Prelude.{◌≡◌, ℕ, Bool, List, map}
+use Rattle.std.specs.Prelude.{◌≡◌, ◌≤◌, ◌⊎◌, ℕ, Bool, true, List, map, None}
+use Rattle.std.specs.List.{list_all}
+use Rattle.bfs_auth.specs.Keys.{Keys}
 use Rattle.bfs_votes.specs.Votes.{SlotsDiffer}
+use Rattle.bfs_log.specs.Certificates.{faults}
 use Rattle.bfs_log.specs.Headers.{header}
 use Rattle.bfs_log.specs.Logs.{headers}
 use Rattle.bfs_messages.specs.Messages as model
 use Rattle.bfs_messages.specs.declared.signed.Signed.{Signed}
 use Rattle.bfs_messages.specs.declared.order_messages.OrderMessage.{OrderMessage}
-use Rattle.bfs_order.specs.Laws.Logs.{IsWindowed}
+use Rattle.bfs_order.specs.Laws.Logs.{HasNoLaterView, IsWindowed}
 use Rattle.bfs_order.specs.Replica.States.{State}
-use Rattle.bfs_order.specs.Replica.Views.{as_proposals}
+use Rattle.bfs_order.specs.Replica.Views.{as_proposals, entered, entering_refusal, number_of}
 use Rattle.bfs_agreement.specs.Histories.{IsIn, World, FewAreFaulty, IsValidNewView}
 use Rattle.bfs_nodes_agree.specs.Orders.Replicas.{TellsWhatIsPrepared, new_view, new_order_replicas}
 use Rattle.bfs_view_change.specs.Changes.Choice.{choice}
 use Rattle.bfs_view_change.specs.Changes.Making.{change_of}
-use Rattle.bfs_view_change.specs.Changes.ViewChanges.{messages_of}
-use Rattle.bfs_nodes_agree.specs.Views.Changes.{told_change}
+use Rattle.bfs_view_change.specs.Changes.NewViews.{latest_checkpoint}
+use Rattle.bfs_view_change.specs.Changes.ViewChanges.{messages_of, valid_view_change}
+use Rattle.bfs_nodes_agree.specs.Views.Changes.{proposal_of, told_change}
 use Rattle.bfs_nodes_agree.specs.Views.Replicas.{IsRightNewView, ViewTurn, after_view_turns, MayTakeViewTurns}
 
 -- the VIEW-CHANGE that is made of an order tells all that is prepared
@@ -27,6 +31,20 @@ RightNewViewsAreValid = (faulty : ℕ → Bool) (w : World) (s : State) (view : 
     → IsRightNewView faulty w s view changes handed
     → SlotsDiffer (headers (as_proposals handed))
     × IsValidNewView s.f faulty w (new_view view (choice (messages_of changes)).min_s handed (map told_change (messages_of changes)))
+
+-- who enters a view behind a number, with what is handed over
+pub record EntersWhole (min_s : ℕ) (handed : List (Signed model.PrePrepare)) (now : State) : Type 0 where
+  -- has nothing missing up to that number
+  pub behind : min_s ≤ now.low
+  -- and all of it in the log, but for what is stable
+  pub taken : (m : Signed OrderMessage) → IsIn m (as_proposals handed) → ((header m).number ≤ now.low) ⊎ IsIn m now.log
+
+-- so does each that enters by a NEW-VIEW whose VIEW-CHANGEs are valid, and whose PRE-PREPAREs are what they choose
+abbrev pub NothingIsPassedOver : Type 0
+NothingIsPassedOver = (keys : Keys) (s : State) (view : ℕ) (changes : List (Signed model.ViewChange)) (handed : List (Signed model.PrePrepare))
+    → faults keys ≡ s.f → HasNoLaterView s → entering_refusal s view ≡ None
+    → list_all (valid_view_change keys) changes ≡ true → headers (as_proposals handed) ≡ map (proposal_of s.f view) (choice (messages_of changes)).chosen
+    → EntersWhole (number_of (latest_checkpoint (messages_of changes))) handed (entered keys s view (latest_checkpoint (messages_of changes)) handed).now
 
 -- over every list of calls and deliveries, any two that execute a batch for a number, in whatever views, execute one digest
 abbrev pub ReplicasAgree : Type 0

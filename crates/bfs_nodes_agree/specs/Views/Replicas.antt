@@ -12,7 +12,7 @@ use Rattle.bfs_nodes_agree.specs.Orders.Replicas as ordered
 use Rattle.bfs_nodes_agree.specs.Orders.Replicas.{OrderReplicas, histories, after_order_turn, MayDoOrderDeed}
 use Rattle.bfs_view_change.specs.Changes.Choice.{choice}
 use Rattle.bfs_view_change.specs.Changes.Making.{change_of}
-use Rattle.bfs_view_change.specs.Changes.NewViews.{are_for, senders}
+use Rattle.bfs_view_change.specs.Changes.NewViews.{are_for, latest_checkpoint, senders}
 use Rattle.bfs_view_change.specs.Changes.ViewChanges.{messages_of}
 use Rattle.bfs_nodes_agree.specs.Views.Changes.{told_change, proposal_of, HasProofs, IsGenuine}
 
@@ -29,7 +29,7 @@ abbrev pub ordered_deed : State → ViewDeed → ordered.OrderDeed
 ordered_deed s (Orders call) = ordered.Orders call
 ordered_deed s (TimesOut view) = ordered.TimesOut (told_change (change_of s view))
 ordered_deed s (ChangesView keys view changes handed) =
-    ordered.ChangesView keys view (choice (messages_of changes)).min_s handed (map told_change (messages_of changes))
+    ordered.ChangesView keys view (latest_checkpoint (messages_of changes)) handed (map told_change (messages_of changes))
 
 -- the VIEW-CHANGEs are for the view and of 2f + 1 replicas, are proved and are genuine, and the PRE-PREPAREs are what they choose
 pub record IsRightNewView (faulty : ℕ → Bool) (w : World) (s : State) (view : ℕ) (changes : List (Signed model.ViewChange)) (handed : List (Signed model.PrePrepare)) : Type 0 where

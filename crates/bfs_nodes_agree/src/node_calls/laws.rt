@@ -1,8 +1,8 @@
 // Agreement of nodes. The bodies do nothing: what is said is the contracts.
 ghost use Rattle.bfs_nodes_agree.specs.Nodes.Answers.{NodesAnswer};
-ghost use Rattle.bfs_nodes_agree.specs.Nodes.Laws.{FairIsAuthentic, NodesAgree, StepsAreTurns, TurnsMayBeTaken, WhatIsSentIsFair};
+ghost use Rattle.bfs_nodes_agree.specs.Nodes.Laws.{BegunViewsAreTakenWhole, FairIsAuthentic, NewViewsAreTakenWhole, NodesAgree, StepsAreTurns, TurnsMayBeTaken, WhatIsSentIsFair};
 
-use crate::view_calls::laws::replicas_agree;
+use crate::view_calls::laws::{nothing_is_passed_over, replicas_agree};
 use bfs_codec::{batches_with_one_text, message_was_written};
 use bfs_order::{a_replica_stays_itself, certificates_make_checkpoints_stable, views_are_entered};
 use bfs_votes::quorums::quorums_meet;
@@ -20,6 +20,16 @@ pub fn turns_may_be_taken()
     views_are_entered();
     message_was_written();
     batches_with_one_text();
+}
+
+/// A node that enters a view has all PRE-PREPAREs of its NEW-VIEW in its log then, but for numbers that are stable there, and its low mark is not
+/// below the number that the view begins behind: a backup by any NEW-VIEW that it takes, the primary by VIEW-CHANGEs that are valid by its own
+/// keys, as those are that it keeps.
+pub fn new_views_are_taken_whole()
+    ensures taken { NewViewsAreTakenWhole }
+    ensures begun { BegunViewsAreTakenWhole }
+{
+    nothing_is_passed_over();
 }
 
 /// Over every list of calls of 3f + 1 nodes and deliveries of bytes to them, of which at most f are faulty: any two correct ones that execute

@@ -29,10 +29,10 @@ pub enum OrderCall<'a> {
     Install(&'a StableCheckpoint),
     /// The view is left for a later one.
     Leave(u64),
-    /// A view is entered behind a number, with the PRE-PREPAREs that were chosen for it.
+    /// A view is entered behind a stable checkpoint, with the PRE-PREPAREs that were chosen for it.
     Enter {
         view: u64,
-        min_s: u64,
+        stable: Option<StableCheckpoint>,
         handed: Vec<Signed<PrePrepare>>,
     },
 }
@@ -79,9 +79,12 @@ pub fn perform(
         }
         OrderCall::Enter {
             view,
-            min_s,
+            stable,
             handed,
-        } => Ok(Sent::All(order.enter_view(keys, view, min_s, handed)?)),
+        } => {
+            let sent = order.enter_view(keys, view, stable.as_ref(), handed)?;
+            Ok(Sent::All(sent))
+        }
     }
 }
 

@@ -24,7 +24,7 @@ pub data Call : Type 0 where
   Checkpoints : Keys → (number : ℕ) → (digest : List ℕ) → Call
   Installs : Keys → (certificate : StableCheckpoint) → Call
   Leaves : (view : ℕ) → Call
-  Enters : Keys → (view min_s : ℕ) → (handed : List (Signed model.PrePrepare)) → Call
+  Enters : Keys → (view : ℕ) → (stable : Option StableCheckpoint) → (handed : List (Signed model.PrePrepare)) → Call
 
 -- the number after the last executed, where its batch may be executed
 abbrev pub execution : State → Option (Signed OrderMessage) → Outcome
@@ -39,7 +39,7 @@ outcome s Executes = execution s (next_order s)
 outcome s (Checkpoints keys number digest) = unless (checkpoint_refusal s number) s (checkpointed keys s number digest)
 outcome s (Installs keys certificate) = unless (install_refusal keys s certificate) s (installed s certificate)
 outcome s (Leaves view) = unless (leaving_refusal s view) s (left s view)
-outcome s (Enters keys view min_s handed) = unless (entering_refusal s view) s (entered keys s view min_s handed)
+outcome s (Enters keys view stable handed) = unless (entering_refusal s view) s (entered keys s view stable handed)
 
 -- what is known after calls
 abbrev pub after : State → List Call → State

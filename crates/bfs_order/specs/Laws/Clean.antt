@@ -34,7 +34,7 @@ IsProper keys Executes = Unit {0}
 IsProper keys (Checkpoints by number digest) = by ≡ keys
 IsProper keys (Installs by certificate) = by ≡ keys
 IsProper keys (Leaves view) = Unit {0}
-IsProper keys (Enters by view min_s handed) = (by ≡ keys) × All (IsAllSigned keys) (as_proposals handed)
+IsProper keys (Enters by view stable handed) = (by ≡ keys) × All (IsAllSigned keys) (as_proposals handed)
 
 -- of a replica, derived from one secret
 abbrev pub own_keys : (secret : List ℕ) → (clients f me : ℕ) → Keys

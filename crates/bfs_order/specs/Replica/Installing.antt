@@ -1,5 +1,5 @@
 -- The certificate of a checkpoint is installed, by which a replica catches up (OSDI 1999 section 4.3).
-use Rattle.std.specs.Prelude.{◌||◌, not, max, [], ◌∷◌, ◌++◌, Option, Some, None, nat_lt, if◌then◌else◌}
+use Rattle.std.specs.Prelude.{◌&&◌, ◌||◌, Bool, not, max, [], ◌∷◌, ◌++◌, Option, Some, None, nat_lt, if◌then◌else◌}
 use Rattle.bfs_auth.specs.Keys.{Keys}
 use Rattle.bfs_votes.specs.Votes.{is_taken}
 use Rattle.bfs_log.specs.Certificates.{StableCheckpoint, checkpoints_in, is_shown}
@@ -36,3 +36,12 @@ installed s c = quiet (record s {
   last = max s.last c.number;
   log = (if nat_lt s.low c.number then certified s.log c else s.log);
 })
+
+-- it is above the low mark, and shown to be stable
+abbrev pub raises : Keys → State → StableCheckpoint → Bool
+raises keys s c = nat_lt s.low c.number && is_shown keys s.f c
+
+-- the low mark rises to one that does; the number last executed stays, since the state behind the checkpoint is not there
+abbrev pub raised : Keys → State → Option StableCheckpoint → State
+raised keys s None = s
+raised keys s (Some c) = if raises keys s c then record s { low = c.number; log = certified s.log c } else s

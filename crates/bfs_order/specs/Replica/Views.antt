@@ -1,6 +1,7 @@
 -- A view is left, and a later one is entered (OSDI 1999 section 4.4).
 use Rattle.std.specs.Prelude.{ℕ, ◌&&◌, not, max, [], ◌∷◌, ◌++◌, List, map, Option, Some, None, nat_lt, nat_le, if◌then◌else◌}
 use Rattle.bfs_auth.specs.Keys.{Keys}
+use Rattle.bfs_log.specs.Certificates.{StableCheckpoint}
 use Rattle.bfs_log.specs.Headers.{header}
 use Rattle.bfs_log.specs.Logs.{Log}
 use Rattle.bfs_messages.specs.Messages as model
@@ -9,6 +10,7 @@ use Rattle.bfs_messages.specs.declared.order_messages.OrderMessage.TheVariants.{
 use Rattle.bfs_messages.specs.declared.signed.Signed.{Signed}
 use Rattle.bfs_messages.specs.declared.order_messages.OrderMessage.{OrderMessage}
 use Rattle.bfs_order.specs.Replica.Accepting.{accepted}
+use Rattle.bfs_order.specs.Replica.Installing.{raised}
 use Rattle.bfs_order.specs.Replica.Outcomes.{Outcome, quiet, unless}
 use Rattle.bfs_order.specs.Replica.Refusals.{place_refusal}
 use Rattle.bfs_order.specs.Replica.States.{State}
@@ -35,6 +37,11 @@ abbrev pub greatest_number : Log → ℕ
 greatest_number [] = 0
 greatest_number (m ∷ ms) = max (header m).number (greatest_number ms)
 
+-- of a checkpoint; 0 where there is none
+abbrev pub number_of : Option StableCheckpoint → ℕ
+number_of None = 0
+number_of (Some c) = c.number
+
 -- the view, before anything is taken in it
 abbrev pub opened : State → (view min_s : ℕ) → List (Signed model.PrePrepare) → State
 opened s view min_s handed = record s { view = view; asked = view; min_s = min_s; handed = greatest_number (as_proposals handed) }
@@ -51,5 +58,6 @@ all_taken_over keys s (m ∷ ms) =
     let rest = all_taken_over keys first.now ms in
     record { now = rest.now; sent = first.sent ++ rest.sent }
 
-abbrev pub entered : Keys → State → (view min_s : ℕ) → List (Signed model.PrePrepare) → Outcome
-entered keys s view min_s handed = all_taken_over keys (opened s view min_s handed) (as_proposals handed)
+-- the view begins behind a stable checkpoint, to which the low mark rises first
+abbrev pub entered : Keys → State → (view : ℕ) → Option StableCheckpoint → List (Signed model.PrePrepare) → Outcome
+entered keys s view stable handed = all_taken_over keys (opened (raised keys s stable) view (number_of stable) handed) (as_proposals handed)

@@ -1,17 +1,18 @@
 -- From which VIEW-CHANGEs a new view is chosen, and which NEW-VIEWs are right (OSDI 1999 section 4.4).
-use Rattle.std.specs.Prelude.{ℕ, ◌+◌, ◌*◌, ◌==◌, Bool, true, false, ◌&&◌, not, List, [], ◌∷◌, Option, Some, None, nat_lt, bytes_eq, if◌then◌else◌}
+use Rattle.std.specs.Prelude.{ℕ, ◌+◌, ◌*◌, ◌==◌, Bool, true, false, ◌&&◌, not, List, [], ◌∷◌, find, Option, Some, None, nat_lt, bytes_eq, if◌then◌else◌}
 use Rattle.std.specs.List.{list_all, list_any}
+use Rattle.std.specs.Option.{option_map}
 use Rattle.bfs_auth.specs.Keys.{Keys}
 use Rattle.bfs_votes.specs.Votes.{count_below, primary, replicas}
-use Rattle.bfs_log.specs.Certificates.{faults}
+use Rattle.bfs_log.specs.Certificates.{StableCheckpoint, faults}
 use Rattle.bfs_messages.specs.Messages as model
 use Rattle.bfs_messages.specs.Batches.{batch_text}
 use Rattle.bfs_messages.specs.Signing.{as_message, is_signed, order_is_signed}
 use Rattle.bfs_messages.specs.declared.signed.Signed.{Signed}
 use Rattle.bfs_messages.specs.declared.message.Message.TheVariants.{NewView}
 use Rattle.bfs_messages.specs.declared.order_messages.OrderMessage.TheVariants.{PrePrepare}
-use Rattle.bfs_view_change.specs.Changes.ViewChanges.{messages_of, valid_view_change}
-use Rattle.bfs_view_change.specs.Changes.Choice.{Choice, Chosen, choice}
+use Rattle.bfs_view_change.specs.Changes.ViewChanges.{messages_of, stable_in, valid_view_change}
+use Rattle.bfs_view_change.specs.Changes.Choice.{Choice, Chosen, choice, latest_stable}
 use Rattle.bfs_view_change.specs.declared.error.ViewError.{ViewError}
 use Rattle.bfs_view_change.specs.declared.error.ViewError.TheVariants.{BadAuthenticator, BadCertificate, TooFew, WrongChoice}
 
@@ -53,6 +54,11 @@ do_propose keys sender view (p ∷ ps) (c ∷ cs) = proposes keys sender view p 
 -- what its VIEW-CHANGEs choose
 abbrev pub choice_in : model.NewView → Choice
 choice_in new = choice (messages_of new.changes)
+
+-- the certificate of min-s, behind which a view begins: that of the first VIEW-CHANGE with that number. The number 0 has none (OSDI 1999 section 4.4)
+abbrev pub latest_checkpoint : List model.ViewChange → Option StableCheckpoint
+latest_checkpoint changes =
+    if latest_stable changes == 0 then None else option_map stable_in (find (λ change. change.stable == latest_stable changes) changes)
 
 -- its PRE-PREPAREs are the choice
 abbrev pub are_chosen : Keys → model.NewView → Bool

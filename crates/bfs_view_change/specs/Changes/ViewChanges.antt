@@ -1,5 +1,5 @@
 -- Which VIEW-CHANGEs are valid, as the holder of some keys sees it (OSDI 1999 section 4.4).
-use Rattle.std.specs.Prelude.{ℕ, ◌+◌, ◌==◌, Bool, true, ◌&&◌, List, [], ◌∷◌, map, length, nat_lt, nat_le, if◌then◌else◌}
+use Rattle.std.specs.Prelude.{ℕ, ◌+◌, ◌==◌, Bool, true, ◌&&◌, List, [], ◌∷◌, map, length, replicate, nat_lt, nat_le, if◌then◌else◌}
 use Rattle.std.specs.List.{list_all}
 use Rattle.bfs_auth.specs.Keys.{Keys}
 use Rattle.bfs_log.specs.Certificates.{StableCheckpoint, certifies, faults, is_shown, number_in, view_in}
@@ -27,8 +27,9 @@ is_due change c = nat_le (number_in c) (change.stable + log_size) && nat_lt (vie
 abbrev pub are_in_order : model.ViewChange → Bool
 are_in_order change = do_rise change.stable (map number_in change.certificates) && list_all (is_due change) change.certificates
 
+-- zeros where there is none: nothing shows that they are stable
 abbrev pub first_digest : List (Signed model.Checkpoint) → List ℕ
-first_digest [] = []
+first_digest [] = replicate 32 0
 first_digest (first ∷ rest) = first.message.digest
 
 -- the stable number, with the digest that the first CHECKPOINT tells

@@ -1,15 +1,16 @@
 -- What holds of the choice of a new view (OSDI 1999 section 4.4).
-use Rattle.std.specs.Prelude.{◌≡◌, ℕ, ◌+◌, ◌-◌, ◌<◌, ◌≤◌, true, false, List, [], map, length, None}
+use Rattle.std.specs.Prelude.{◌≡◌, ℕ, ◌+◌, ◌-◌, ◌<◌, ◌≤◌, true, false, List, [], map, length, Some, None}
 use Rattle.std.specs.List.{All, Contains, list_all, range_with_len}
 use Rattle.std.specs.Ordering.{is_lt}
 use Rattle.bfs_auth.specs.Keys.{Keys}
-use Rattle.bfs_log.specs.Certificates.{number_in, view_in}
+use Rattle.bfs_log.specs.Certificates.{StableCheckpoint, faults, is_shown, number_in, view_in}
 use Rattle.bfs_messages.specs.Messages.{PreparedBatch, ViewChange}
 use Rattle.bfs_messages.specs.Limits.{FitsViewChange}
 use Rattle.bfs_messages.specs.declared.signed.Signed.{Signed}
+use Rattle.bfs_order.specs.Replica.Views.{number_of}
 use Rattle.bfs_view_change.specs.Changes.ViewChanges.{messages_of, valid_view_change}
 use Rattle.bfs_view_change.specs.Changes.Choice.{candidate, candidates, rank, choice, chosen_for, latest_stable, last_number}
-use Rattle.bfs_view_change.specs.Changes.NewViews.{choice_refusal}
+use Rattle.bfs_view_change.specs.Changes.NewViews.{choice_refusal, latest_checkpoint}
 use Rattle.bfs_view_change.specs.Laws.Sets.{SameMembers}
 use Rattle.bfs_model.specs.Server.Limits.{log_size}
 
@@ -56,3 +57,12 @@ OthersAreNull = (changes : List ViewChange) (number : ℕ) → candidates number
 abbrev pub ValidChoicesAreShort : Type 0
 ValidChoicesAreShort = (keys : Keys) (changes : List (Signed ViewChange))
     → list_all (valid_view_change keys) changes ≡ true → length (choice (messages_of changes)).chosen ≤ log_size
+
+-- the checkpoint behind which a view begins is that of min-s
+abbrev pub LatestIsOfMinS : Type 0
+LatestIsOfMinS = (changes : List ViewChange) → number_of (latest_checkpoint changes) ≡ (choice changes).min_s
+
+-- and valid VIEW-CHANGEs show that it is stable
+abbrev pub ValidShowTheLatest : Type 0
+ValidShowTheLatest = (keys : Keys) (changes : List (Signed ViewChange)) (c : StableCheckpoint) → list_all (valid_view_change keys) changes ≡ true
+    → latest_checkpoint (messages_of changes) ≡ Some c → is_shown keys (faults keys) c ≡ true

@@ -19,12 +19,12 @@ told node other snapshot same is = go node.files is ∙ ap (λ (n : Node). Some 
 
 pub returns-clause-now : goal.returns-clause-now
 returns-clause-now g c =
-    let node : Node = record { keys = c.self.inside.keys; order = c.self.inside.order; files = c.self.inside.files; table = c.self.inside.table; pending = c.self.inside.pending; changes = c.self.inside.changes; snapshots = c.self.inside.snapshots } in
+    let node : Node = record { keys = c.self.inside.keys; order = c.self.inside.order; files = c.self.inside.files; table = c.self.inside.table; pending = c.self.inside.pending; changes = c.self.inside.changes; snapshots = c.self.inside.snapshots; new_view = c.self.inside.new_view } in
     let is = told node (record node { files = c.take_snapshot.new.files }) c.in_ok-snapshot.snapshot (ap (λ (files : Option FileSystem). record node { files = files }) c.in_ok-snapshot.ensures.stays) c.in_ok-snapshot.ensures.value in
     rw (← c.self.view_is) (on_ok_weaker c.tell.result (λ now. ap (option_map (λ (outcome : Outcome). outcome.now)) is ∙ ap (λ (n : Node). Some n) (sym now)) c.tell.ensures.now)
 
 pub returns-clause-sent : goal.returns-clause-sent
 returns-clause-sent g c =
-    let node : Node = record { keys = c.self.inside.keys; order = c.self.inside.order; files = c.self.inside.files; table = c.self.inside.table; pending = c.self.inside.pending; changes = c.self.inside.changes; snapshots = c.self.inside.snapshots } in
+    let node : Node = record { keys = c.self.inside.keys; order = c.self.inside.order; files = c.self.inside.files; table = c.self.inside.table; pending = c.self.inside.pending; changes = c.self.inside.changes; snapshots = c.self.inside.snapshots; new_view = c.self.inside.new_view } in
     let is = told node (record node { files = c.take_snapshot.new.files }) c.in_ok-snapshot.snapshot (ap (λ (files : Option FileSystem). record node { files = files }) c.in_ok-snapshot.ensures.stays) c.in_ok-snapshot.ensures.value in
     rw (← c.self.view_is) (IfOk-weaker c.tell.result _ _ (λ own sent. ap (option_map (λ (outcome : Outcome). outcome.sent)) is ∙ ap (λ (all : Messages). Some all) sent) c.tell.ensures.sent)

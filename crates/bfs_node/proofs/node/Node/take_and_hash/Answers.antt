@@ -11,7 +11,7 @@ use Rattle.bfs_node.proofs.node.Node.take_and_hash.Goals as goal
 
 pub keep_hashed-requires : goal.keep_hashed-requires
 keep_hashed-requires g c =
-    let after : Node = record { keys = c.self.inside.keys; order = c.self.inside.order; files = c.self.inside.files; table = c.self.inside.table; pending = c.self.inside.pending; changes = c.self.inside.changes; snapshots = c.self.inside.snapshots } in
+    let after : Node = record { keys = c.self.inside.keys; order = c.self.inside.order; files = c.self.inside.files; table = c.self.inside.table; pending = c.self.inside.pending; changes = c.self.inside.changes; snapshots = c.self.inside.snapshots; new_view = c.self.inside.new_view } in
     let came : after ≡ after_requests c.args.self.now c.args.messages.now = search rules in
     let passed : list_all (is_signed c.args.self.now.keys) c.args.messages.now ≡ true = search rules in
     rw c.with_digest.ensures

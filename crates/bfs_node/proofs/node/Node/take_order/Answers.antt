@@ -19,7 +19,7 @@ settle_at-requires g c low =
 
 pub returns-clause-now : goal.returns-clause-now
 returns-clause-now g c =
-    let node : Node = record { keys = c.self.inside.keys; order = c.self.inside.order; files = c.self.inside.files; table = c.self.inside.table; pending = c.self.inside.pending; changes = c.self.inside.changes; snapshots = c.self.inside.snapshots } in
+    let node : Node = record { keys = c.self.inside.keys; order = c.self.inside.order; files = c.self.inside.files; table = c.self.inside.table; pending = c.self.inside.pending; changes = c.self.inside.changes; snapshots = c.self.inside.snapshots; new_view = c.self.inside.new_view } in
     let signed = c.args.signed in
     let tag : ((header signed).tag == checkpoint_tag) ≡ true = search rules in
     rw (← c.self.view_is)
@@ -30,7 +30,7 @@ returns-clause-now g c =
 
 pub returns-then-tag-ne-CHECKPOINT_TAG-clause-now : goal.returns-then-tag-ne-CHECKPOINT_TAG-clause-now
 returns-then-tag-ne-CHECKPOINT_TAG-clause-now g c =
-    let node : Node = record { keys = c.self.inside.keys; order = c.self.inside.order; files = c.self.inside.files; table = c.self.inside.table; pending = c.self.inside.pending; changes = c.self.inside.changes; snapshots = c.self.inside.snapshots } in
+    let node : Node = record { keys = c.self.inside.keys; order = c.self.inside.order; files = c.self.inside.files; table = c.self.inside.table; pending = c.self.inside.pending; changes = c.self.inside.changes; snapshots = c.self.inside.snapshots; new_view = c.self.inside.new_view } in
     let other : ((header c.args.signed).tag == checkpoint_tag) ≡ false = search rules in
     rw (← c.self.view_is) (vote_now node c.args.signed c.on_message.new.self c.in_ok-answers.ensures.now other)
 

@@ -18,7 +18,7 @@ settle_at-requires c low =
 
 pub returns-in-Ok-clause-now : goal.returns-in-Ok-clause-now
 returns-in-Ok-clause-now c =
-    let node : Node = record { keys = c.self.inside.keys; order = c.self.inside.order; files = c.self.inside.files; table = c.self.inside.table; pending = c.self.inside.pending; changes = c.self.inside.changes; snapshots = c.self.inside.snapshots } in
+    let node : Node = record { keys = c.self.inside.keys; order = c.self.inside.order; files = c.self.inside.files; table = c.self.inside.table; pending = c.self.inside.pending; changes = c.self.inside.changes; snapshots = c.self.inside.snapshots; new_view = c.self.inside.new_view } in
     let signed = c.in_ok-signed.signed in
     rw (← c.self.view_is)
     (c.settle_at.ensures
