@@ -59,7 +59,7 @@ use Rattle.bfs_nodes_agree.proofs.Views.Lists.{in_map, map_in}
 use Rattle.bfs_nodes_agree.proofs.Views.OfLog.{made_holds, made_proves}
 use Rattle.bfs_nodes_agree.proofs.Views.Proved.{is_valid, valid_proves}
 use Rattle.bfs_node.specs.Adopting.{adopted, may_adopt}
-use Rattle.bfs_node.specs.Changing.{begun, begun_if_due, change_refusal, leads, may_begin, next_view, own_change, own_new_view, timed_out, timeout_refusal, view_refusal, with_new_view, with_view_change}
+use Rattle.bfs_node.specs.Changing.{begun, begun_if_due, change_refusal, leads, leaving_refusal, left_for, may_begin, next_view, own_change, own_new_view, view_refusal, with_new_view, with_view_change}
 use Rattle.bfs_node.specs.Checkpoints.{checkpointed, checkpoint_refusal}
 use Rattle.bfs_node.specs.Delivering.{after_request, after_requests, bytes_delivered, bytes_refusal, if_taken, message_delivered, message_refusal, ordered as taken, request_in, request_refusal, with_request}
 use Rattle.bfs_node.specs.Errors.{of_order, of_view}
@@ -69,8 +69,8 @@ use Rattle.bfs_node.specs.Proposing.{pending_batch, proposed}
 use Rattle.bfs_node.specs.declared.error.NodeError.{NodeError}
 use Rattle.bfs_nodes_agree.specs.Nodes.Premises.{Comes, IsAmong, IsAuthentic, IsWholly, offers_in}
 use Rattle.bfs_nodes_agree.specs.Nodes.Replicas.{NodeReplicas, turn_of}
-use Rattle.bfs_nodes_agree.specs.Nodes.Steps.{NodeStep, Delivers, Takes, TakesRequests, Proposes, Executes, Fails, Checkpoints, TimesOut, Adopts, still, unless, or_still, after_execution, outcome, where_taken, begun_deeds, change_deeds, message_deeds, bytes_deeds, checkpoint_deeds, timeout_deeds, deeds_of}
-use Rattle.bfs_nodes_agree.proofs.Nodes.Bounds.{left_bounded}
+use Rattle.bfs_nodes_agree.specs.Nodes.Steps.{NodeStep, Delivers, Takes, TakesRequests, Proposes, Executes, Fails, Checkpoints, TimesOut, LeavesFor, Adopts, still, unless, or_still, after_execution, outcome, where_taken, begun_deeds, change_deeds, message_deeds, bytes_deeds, checkpoint_deeds, leaving_deeds, deeds_of}
+use Rattle.bfs_nodes_agree.proofs.Nodes.Bounds.{left_bounded, left_later}
 use Rattle.bfs_nodes_agree.proofs.Nodes.Doing.{After, ArePassed, BringAll, Done, Goes, IsAnswer, IsStill, MaySend, NoReply, OfferAll, RepliesBy, Stands, StandsBy, Tells, WereKept, at_who, deed_done, extends_deeds, here_is, nothing_done, offered, other_sent, own_said, tells_nothing}
 use Rattle.bfs_nodes_agree.proofs.Nodes.Hearing.{HaveGrown, IsGood, IsHeard, IsSaid, IsSpoken, IsWhollySaid, change_on, change_signed, genuine_of, grown, heard_on, lone_late, proof_small, reply_is, said_later, vote_heard}
 use Rattle.bfs_nodes_agree.proofs.Nodes.NewViews.{begun_right, own_checked, own_handed, taken_heard, taken_right}
@@ -359,11 +359,10 @@ module _ (faulty : ℕ → Bool) (after : NodeReplicas) (who : ℕ) where
           | false ↦ λ goes. nothing_done faulty after who v node know (Unit {0}) NoReply node know.kept know.waiting refl tt
         ]
 
-    times_done : DoneBy (deeds_of node TimesOut) (outcome node TimesOut)
-    times_done =
-        let view = next_view node.order in
+    leaves_done : (view : ℕ) → DoneBy (deeds_of node (LeavesFor view)) (outcome node (LeavesFor view))
+    leaves_done view =
         let gone = record node { order = (views.left node.order view).now } in
-        let own = own_change node in
+        let own = own_change node view in
         let whole = as_message ViewChange own in
         let change = told_change own.message in
         let q = after_order_deed (v who) (ordered_deed (v who).state (turns.TimesOut view)) in
@@ -374,7 +373,7 @@ module _ (faulty : ℕ → Bool) (after : NodeReplicas) (who : ℕ) where
         let heard : AllIn (IsHeard faulty node.keys (histories u) after) node.order.log = λ m i. heard_on faulty node.keys (histories v) (histories u) after after more (λ k s j. j) m (know.log m i) in
         let proofs : (c : model.PreparedBatch) → IsIn c own.message.certificates → AllIn (IsHeard faulty node.keys (histories u) after) (messages_in c) =
         λ c i. made_holds node.order c i (IsHeard faulty node.keys (histories u) after) heard in
-        (elim (timeout_refusal node) as (λ r. timeout_refusal node ≡ r → DoneBy (where_taken r (timeout_deeds node)) (unless r node (timed_out node))) [
+        (elim (leaving_refusal node view) as (λ r. leaving_refusal node view ≡ r → DoneBy (where_taken r (leaving_deeds node view)) (unless r node (left_for node view))) [
           | Some refused ↦ λ e. nothing_is
           | None ↦ λ e goes.
               let may = not_refused (views.leaving_refusal node.order view) e in
@@ -401,7 +400,7 @@ module _ (faulty : ℕ → Bool) (after : NodeReplicas) (who : ℕ) where
                 waiting = know.waiting;
               } in
               let good : IsGood faulty node.keys node.order.f (histories u) after own = record {
-                proved = made_proves node.order view (omega arith) know.later;
+                proved = made_proves node.order view (left_later node.order view may) know.later;
                 genuine = record {
                   sent = λ correct. subst (λ (k : ℕ). IsIn change (u k).changes) (sym know.me) (subst (λ (o : ordered.OrderReplica). IsIn change o.changes) (sym here) told_now);
                   certificates = λ c m i j. (proofs c i m j).sent (let small = proof_small c m j in omega (arith, small));
@@ -446,5 +445,6 @@ module _ (faulty : ℕ → Bool) (after : NodeReplicas) (who : ℕ) where
     step_done written Executes comes = executes_done
     step_done written Fails comes = λ goes. nothing_done faulty after who v node know (Unit {0}) NoReply (record node { files = None }) know.kept know.waiting refl tt
     step_done written Checkpoints comes = tells_done
-    step_done written TimesOut comes = times_done
+    step_done written TimesOut comes = leaves_done (next_view node.order)
+    step_done written (LeavesFor view) comes = leaves_done view
     step_done written (Adopts certificate files table) comes = adopts_done certificate files table
