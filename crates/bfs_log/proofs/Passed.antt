@@ -6,7 +6,7 @@ use Rattle.std.proofs.lemmas.List.{length-append, map-id}
 use Rattle.std.proofs.lemmas.List.FromFn.{map-range_with_len_more}
 use Rattle.std.proofs.lemmas.List.Elements.{filter_map-append}
 
-numbers_next : (a n j : ℕ) → a + n ≡ j → range_with_len a (n + 1) ≡ range_with_len a n ++ j ∷ []
+pub numbers_next : (a n j : ℕ) → a + n ≡ j → range_with_len a (n + 1) ≡ range_with_len a n ++ j ∷ []
 numbers_next a n j e = sym (map-id (range_with_len a (n + 1))) ∙ map-range_with_len_more (λ k. k) a n j e ∙ ap (λ xs. xs ++ j ∷ []) (map-id (range_with_len a n))
 
 one_of : {B : Type 0} (o : Option B) → cons_option o [] ≡ option_to_list o

@@ -11,7 +11,7 @@ use Rattle.bfs_messages.specs.declared.message.Message.TheVariants.{NewView, Vie
 use Rattle.bfs_order.specs.Replica.States.{State}
 use Rattle.bfs_order.specs.Replica.Views as order
 use Rattle.bfs_view_change.specs.Changes.Choice.{choice}
-use Rattle.bfs_view_change.specs.Changes.Keeping.{above_view, changes_for, least_asked, was_asked, with_asked, with_change}
+use Rattle.bfs_view_change.specs.Changes.Keeping.{above_view, changes_for, least_asked, was_asked, with_asked, with_change, with_own}
 use Rattle.bfs_view_change.specs.Changes.Making.{change_of, new_view_from, signed_change, signed_new_view}
 use Rattle.bfs_view_change.specs.Changes.NewViews.{choice_in, new_view_refusal}
 use Rattle.bfs_view_change.specs.Changes.ViewChanges.{messages_of, valid_view_change}
@@ -72,12 +72,12 @@ leaving_refusal node view = option_map of_order (order.leaving_refusal node.orde
 abbrev pub own_change : Node → (view : ℕ) → Signed model.ViewChange
 own_change node view = signed_change node.keys (change_of node.order view)
 
--- it leaves, and its VIEW-CHANGE is sent in the same step: it takes no message of an earlier view any more
+-- it leaves, and its VIEW-CHANGE is sent in the same step, and kept: it takes no message of an earlier view any more
 abbrev pub left_for : Node → (view : ℕ) → Outcome
 left_for node view =
     let own = own_change node view in
     let done = with_view_change (record node { order = (order.left node.order view).now }) own in
-    record { now = done.now; sent = as_message ViewChange own ∷ done.sent }
+    record { now = record done.now { changes = with_own done.now.changes own }; sent = as_message ViewChange own ∷ done.sent }
 
 -- after the view entered, and after the one asked for
 abbrev pub next_view : State → ℕ

@@ -51,8 +51,11 @@ impl Node {
             return Err(NodeError::from(error));
         }
         let own = make_view_change(self.alloc, &self.order, &self.keys, view)?;
-        let sent = sent_first(self.alloc, &own)?;
-        Ok(self.keep(own, view, sent)?)
+        let kept = own.try_clone(self.alloc)?;
+        let first = as_sent(self.alloc, &own)?;
+        let sent = self.keep(own, view, first)?;
+        self.changes.keep_own(kept);
+        Ok(sent)
     }
 
     fn next_view(&self) -> u64
@@ -223,7 +226,7 @@ impl Node {
     }
 }
 
-fn sent_first(alloc: Global, own: &Signed<ViewChange>) -> Result<Vec<Signed<Message>>, Memory>
+pub(crate) fn as_sent(alloc: Global, own: &Signed<ViewChange>) -> Result<Vec<Signed<Message>>, Memory>
     ensures { IfOk result (λ sent. sent.items ≡ as_message kind.ViewChange own.now ∷ []) }
 {
     let mut sent = Vec::new(alloc);

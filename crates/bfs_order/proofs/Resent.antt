@@ -1,13 +1,17 @@
 -- What is given again stands in the log, and nothing of that is left out.
 use Rattle.std.proofs.Common.{◌≡◌, ◌≤◌, ◌<◌, ℕ, zero, suc, ◌+◌, ◌-◌, Bool, true, false, ◌&&◌, ◌||◌, cond, eqb, ltb, leb, List, [], ◌∷◌, ◌++◌, length, inl, inr, ◌⊎◌, refl, sym, ap, ◌∙◌, subst, arith}
 use Rattle.std.specs.Prelude.{Option, Some, None, option_to_list, get_or, unwrap_or}
-use Rattle.std.specs.List.{Contains, find, flat_map, list_any, range_with_len}
+use Rattle.std.specs.List.{All, Contains, find, flat_map, list_any, range_with_len}
 use Rattle.std.proofs.lemmas.Bool.{and_parts, and_from, eqb-true, eqb-false, eq-eqb, or_left, or_right}
 use Rattle.std.proofs.lemmas.List.Elements.{All-contains, Contains-append_cases, Contains-append_left, Contains-append_right}
+use Rattle.std.proofs.lemmas.List.{flat_map_more, map-append}
 use Rattle.std.proofs.lemmas.List.Concat.{flat_map-cons}
 use Rattle.bfs_log.specs.Headers.{header, message_header}
-use Rattle.bfs_log.specs.Logs.{Log, headers, message_at}
-use Rattle.bfs_log.proofs.Public.{no_view}
+use Rattle.bfs_log.specs.Logs.{Log, as_messages, headers, message_at}
+use Rattle.bfs_log.proofs.Public.{no_view, numbers_next}
+use Rattle.bfs_messages.specs.Signing.{as_message}
+use Rattle.bfs_messages.specs.declared.message.Message.{Message}
+use Rattle.bfs_messages.specs.declared.message.Message.TheVariants.{Order}
 use Rattle.bfs_messages.specs.declared.signed.Signed.{Signed}
 use Rattle.bfs_messages.specs.declared.order_messages.OrderMessage.{OrderMessage}
 use Rattle.bfs_messages.specs.declared.order_messages.OrderMessage.TheVariants.{PrePrepare, Prepare, Commit, Checkpoint}
@@ -59,7 +63,7 @@ own_in P s tag view number each = go (message_at s.log tag s.me view number) ref
   where
     go : (o : Option (Signed OrderMessage)) → message_at s.log tag s.me view number ≡ o → In P (option_to_list o)
     go None e = none P
-    go (Some x) e m i =
+    go (Some x) e = λ m i.
         let it = found (λ m. is_slot tag s.me view number (header m)) s.log x e in
         subst P (only m x i) (each x it.there it.passes)
 
@@ -108,13 +112,15 @@ in_if : (b : Bool) (xs : Log) (m : Signed OrderMessage) → b ≡ true → Conta
 in_if true xs m e i = i
 in_if false xs m e i = absurd cc
 
+in_either : (f : ℕ → Log) (m : Signed OrderMessage) (n a : ℕ) (rest : Log) (b : Bool) → eqb n a ≡ b → Contains (f n) m → (eqb n a ≡ false → Contains rest m) → Contains (f a ++ rest) m
+in_either f m n a rest true e i later = Contains-append_left (f a) rest m (subst (λ k. Contains (f k) m) (eqb-true n a e) i)
+in_either f m n a rest false e i later = Contains-append_right (f a) rest m (later e)
+
 in_one : (f : ℕ → Log) (m : Signed OrderMessage) (n a count : ℕ) → a ≤ n → n < a + count → Contains (f n) m → Contains (flat_map f (range_with_len a count)) m
 in_one f m n a zero from below i = absurd (omega arith)
-in_one f m n a (suc count) from below i = subst (λ (l : Log). Contains l m) (sym (flat_map-cons f a (range_with_len (suc a) count))) (go (eqb n a) refl)
-  where
-    go : (b : Bool) → eqb n a ≡ b → Contains (f a ++ flat_map f (range_with_len (suc a) count)) m
-    go true e = Contains-append_left (f a) _ m (subst (λ k. Contains (f k) m) (eqb-true n a e) i)
-    go false e = let ne = eqb-false n a e in Contains-append_right (f a) _ m (in_one f m n (suc a) count (omega arith) (omega arith) i)
+in_one f m n a (suc count) from below i =
+    subst (λ (l : Log). Contains l m) (sym (flat_map-cons f a (range_with_len (a + 1) count)))
+    (in_either f m n a (flat_map f (range_with_len (a + 1) count)) (eqb n a) refl i (λ e. let ne = eqb-false n a e in in_one f m n (a + 1) count (omega arith) (omega arith) i))
 
 -- who stands in a list has its slot there
 taken_at : (tag sender view number : ℕ) (xs : Log) (m : Signed OrderMessage) → Contains xs m → is_slot tag sender view number (header m) ≡ true → has_slot (headers xs) tag sender view number ≡ true
@@ -122,23 +128,23 @@ taken_at tag sender view number [] m i e = absurd (let small = i.1 in omega arit
 taken_at tag sender view number (x ∷ xs) m (zero, small, is) e = or_left _ (has_slot (headers xs) tag sender view number) (subst (λ (y : Signed OrderMessage). is_slot tag sender view number (header y) ≡ true) (sym is) e)
 taken_at tag sender view number (x ∷ xs) m (suc k, small, is) e = or_right (is_slot tag sender view number (header x)) _ (taken_at tag sender view number xs m (k, omega (arith, small), is) e)
 
+found_later : (tag sender view number : ℕ) (x : Signed OrderMessage) (xs : Log) (m : Signed OrderMessage) → is_taken (headers xs) (header x) ≡ false → Contains xs m → is_slot tag sender view number (header m) ≡ true
+    → (b : Bool) → is_slot tag sender view number (header x) ≡ b → message_at xs tag sender view number ≡ Some m → cond (is_slot tag sender view number (header x)) (Some x) (message_at xs tag sender view number) ≡ Some m
+found_later tag sender view number x xs m free i e false other later = rw other later
+found_later tag sender view number x xs m free i e true same later =
+    let h = header x in
+    let at = slot_of tag sender view number h same in
+    let again : is_slot h.tag h.sender h.view h.number (header m) ≡ true = rw (at.0, at.1, at.2, at.3) e in
+    absurd (let taken = taken_at h.tag h.sender h.view h.number xs m i again in cc)
+
 -- and is found by it
 found_by : (tag sender view number : ℕ) (xs : Log) (m : Signed OrderMessage) → SlotsDiffer (headers xs) → Contains xs m → is_slot tag sender view number (header m) ≡ true → message_at xs tag sender view number ≡ Some m
 found_by tag sender view number [] m differ i e = absurd (let small = i.1 in omega arith)
 found_by tag sender view number (x ∷ xs) m differ (zero, small, is) e =
     ap (λ (b : Bool). cond b (Some x) (message_at xs tag sender view number)) (subst (λ (y : Signed OrderMessage). is_slot tag sender view number (header y) ≡ true) (sym is) e) ∙ ap Some is
-found_by tag sender view number (x ∷ xs) m differ (suc k, small, is) e = go (is_slot tag sender view number (header x)) refl
-  where
-    rest : Contains xs m
-    rest = (k, omega (arith, small), is)
-
-    go : (b : Bool) → is_slot tag sender view number (header x) ≡ b → cond (is_slot tag sender view number (header x)) (Some x) (message_at xs tag sender view number) ≡ Some m
-    go false other = rw other (found_by tag sender view number xs m differ.1 rest e)
-    go true same =
-        let h = header x in
-        let at = slot_of tag sender view number h same in
-        let again : is_slot h.tag h.sender h.view h.number (header m) ≡ true = rw (at.0, at.1, at.2, at.3) e in
-        absurd (let taken = taken_at h.tag h.sender h.view h.number xs m rest again in let free = differ.0 in cc)
+found_by tag sender view number (x ∷ xs) m differ (suc k, small, is) e =
+    let rest : Contains xs m = (k, omega (arith, small), is) in
+    found_later tag sender view number x xs m differ.0 rest e (is_slot tag sender view number (header x)) refl (found_by tag sender view number xs m differ.1 rest e)
 
 window_of : (low : ℕ) (xs : Log) (m : Signed OrderMessage) → All (IsInWindow low) (headers xs) → Contains xs m → IsInWindow low (header m)
 window_of low xs m all i = All-contains (IsInWindow low) (headers xs) (header m) all (there xs m i)
@@ -191,9 +197,21 @@ all_of_it_is_resent s to m differ windowed i e = go (eqb h.tag 5) refl
         let votes : Contains (own_votes s h.number) m = elim (vote_tag m.message other) [
           | inl t ↦ Contains-append_left (own_message s 2 s.view h.number) (own_message s 3 s.view h.number ++ own_message s 4 s.view h.number) m (in_slot 2 s.view t view)
           | inr late ↦ Contains-append_right (own_message s 2 s.view h.number) (own_message s 3 s.view h.number ++ own_message s 4 s.view h.number) m (elim late [
-              | inl t ↦ Contains-append_left (own_message s 3 s.view h.number) (own_message s 4 s.view h.number) m (in_slot 3 s.view t view)
-              | inr t ↦ Contains-append_right (own_message s 3 s.view h.number) (own_message s 4 s.view h.number) m (in_slot 4 s.view t view)
-            ])
+            | inl t ↦ Contains-append_left (own_message s 3 s.view h.number) (own_message s 4 s.view h.number) m (in_slot 3 s.view t view)
+            | inr t ↦ Contains-append_right (own_message s 3 s.view h.number) (own_message s 4 s.view h.number) m (in_slot 4 s.view t view)
+          ])
         ] in
         by_number (Contains-append_left (cond (are_together s to && ltb to.last h.number) (own_votes s h.number) []) (cond (ltb to.stable h.number) (own_message s 5 0 h.number) []) m
         (in_if (are_together s to && ltb to.last h.number) (own_votes s h.number) m (and_from _ _ a.0 b.1) votes))
+
+-- One number more -----------------------------------------------------------------------------------------------------------------
+
+pub one_more : (s : State) (to : Lag) (n : ℕ) (old new : List (Signed Message)) → new ≡ old ++ as_messages (resent_of s to n) → old ≡ as_messages (flat_map (resent_of s to) (range_with_len s.low (n - s.low)))
+    → s.low ≤ n → new ≡ as_messages (flat_map (resent_of s to) (range_with_len s.low (n + 1 - s.low)))
+one_more s to n old new grown before from =
+    let f = resent_of s to in
+    let k = n - s.low in
+    let next : n + 1 - s.low ≡ k + 1 = omega (arith, from) in
+    grown ∙ ap (λ (l : List (Signed Message)). l ++ as_messages (f n)) before ∙ sym (map-append (as_message Order) (flat_map f (range_with_len s.low k)) (f n))
+    ∙ ap as_messages (flat_map_more f [] (range_with_len s.low k) n)
+    ∙ sym (ap (λ j. as_messages (flat_map f (range_with_len s.low j))) next ∙ ap (λ (l : List ℕ). as_messages (flat_map f l)) (numbers_next s.low k n (omega (arith, from))))

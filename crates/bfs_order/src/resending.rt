@@ -5,9 +5,7 @@ ghost use Rattle.bfs_order.specs.Replica.Resending.{are_together, own_message, o
 
 use crate::order::Order;
 use bfs_log::Slot;
-use bfs_messages::{
-    CHECKPOINT_TAG, COMMIT_TAG, Message, PRE_PREPARE_TAG, PREPARE_TAG, Signed,
-};
+use bfs_messages::{CHECKPOINT_TAG, COMMIT_TAG, Message, PRE_PREPARE_TAG, PREPARE_TAG, Signed};
 use bfs_types::{Memory, TryClone};
 
 /// How far another replica is, as it tells: the view that it has entered, the number that it has executed last, and that of its stable checkpoint.
