@@ -1,7 +1,7 @@
 -- What is given again stands in the log, and nothing of that is left out.
-use Rattle.std.proofs.Common.{◌≡◌, ◌≤◌, ◌<◌, ℕ, zero, suc, ◌+◌, ◌-◌, Bool, true, false, ◌&&◌, ◌||◌, cond, eqb, ltb, leb, List, [], ◌∷◌, ◌++◌, length, inl, inr, ◌⊎◌, refl, sym, ap, ◌∙◌, subst, arith}
-use Rattle.std.specs.Prelude.{Option, Some, None, option_to_list, get_or, unwrap_or}
-use Rattle.std.specs.List.{All, Contains, find, flat_map, list_any, range_with_len}
+use Rattle.std.proofs.Common.{◌≡◌, ◌≤◌, ◌<◌, ℕ, zero, suc, ◌+◌, ◌-◌, Bool, true, false, ◌&&◌, cond, eqb, ltb, List, [], ◌∷◌, ◌++◌, inl, inr, ◌⊎◌, refl, sym, ap, ◌∙◌, subst, arith}
+use Rattle.std.specs.Prelude.{Option, Some, None, option_to_list}
+use Rattle.std.specs.List.{All, Contains, flat_map, range_with_len}
 use Rattle.std.proofs.lemmas.Bool.{and_parts, and_from, eqb-true, eqb-false, eq-eqb, or_left, or_right}
 use Rattle.std.proofs.lemmas.List.Elements.{All-contains, Contains-append_cases, Contains-append_left, Contains-append_right}
 use Rattle.std.proofs.lemmas.List.{flat_map_more, map-append}
@@ -16,12 +16,12 @@ use Rattle.bfs_messages.specs.declared.signed.Signed.{Signed}
 use Rattle.bfs_messages.specs.declared.order_messages.OrderMessage.{OrderMessage}
 use Rattle.bfs_messages.specs.declared.order_messages.OrderMessage.TheVariants.{PrePrepare, Prepare, Commit, Checkpoint}
 use Rattle.bfs_votes.specs.Votes.{Header, SlotsDiffer, has_slot, is_slot, is_taken}
-use Rattle.bfs_order.specs.Laws.Logs.{HasDistinctSlots, IsInWindow, IsWindowed}
+use Rattle.bfs_order.specs.Laws.Logs.{IsInWindow}
 use Rattle.bfs_order.specs.Laws.Resent.{AllOfItIsResent, WhatIsResentIsOwn}
 use Rattle.bfs_order.specs.Replica.Resending.{are_together, is_resent, own_message, own_votes, resent, resent_of}
-use Rattle.bfs_order.specs.Replica.States.{State, known}
+use Rattle.bfs_order.specs.Replica.States.{State}
 use Rattle.bfs_order.specs.declared.resending.Lag.{Lag}
-use Rattle.bfs_order.proofs.Executed.{Found, found}
+use Rattle.bfs_order.proofs.Executed.{found}
 use Rattle.bfs_model.specs.Server.Limits.{log_size}
 
 -- Each stands in the log --------------------------------------------------------------------------------------------------------

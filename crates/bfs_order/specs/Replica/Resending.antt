@@ -1,7 +1,6 @@
 -- What a replica has said is given again to another one that tells how far it is: nothing of it is new.
-use Rattle.std.specs.Prelude.{ℕ, ◌+◌, ◌==◌, Bool, ◌&&◌, ◌||◌, [], ◌++◌, option_to_list, nat_le, nat_lt, if◌then◌else◌}
+use Rattle.std.specs.Prelude.{ℕ, ◌+◌, ◌==◌, Bool, ◌&&◌, [], ◌++◌, option_to_list, nat_le, nat_lt, if◌then◌else◌}
 use Rattle.std.specs.List.{flat_map, range_with_len}
-use Rattle.bfs_log.specs.Headers.{header}
 use Rattle.bfs_log.specs.Logs.{Log, message_at}
 use Rattle.bfs_votes.specs.Tags.{checkpoint_tag, commit_tag, pre_prepare_tag, prepare_tag}
 use Rattle.bfs_votes.specs.Votes.{Header}
