@@ -46,7 +46,7 @@ bounded false n r t at rest = rest
 -- A place at which something is said counts -----------------------------------------------------------------------------
 
 log_step : (view : ℕ) (p : Place) (m : Signed OrderMessage) (kept : Log) (r : ℕ) (a : Bool) → is_at p (header m) ≡ a → proposes view p ≡ true
-    → (some (map (λ m. said_in m.message) kept) ≡ true → p.number ≤ r) → some (map (λ m. said_in m.message) (cond a (m ∷ kept) kept)) ≡ true
+    → (some (map said_in kept) ≡ true → p.number ≤ r) → some (map said_in (cond a (m ∷ kept) kept)) ≡ true
     → p.number ≤ cond (proposes view (place_of (header m))) (max (header m).number r) r
 log_step view p m kept r true at holds rest said =
     let there = one_place (place_of (header m)) p at in
@@ -74,12 +74,12 @@ in_index view p (e ∷ es) holds said =
 
 -- Nothing else counts ----------------------------------------------------------------------------------------------------
 
-still_step : (a : Bool) (m : Signed OrderMessage) (kept : Log) → some (map (λ m. said_in m.message) kept) ≡ true → some (map (λ m. said_in m.message) (cond a (m ∷ kept) kept)) ≡ true
-still_step true m kept h = some_more (said_in m.message) (map (λ m. said_in m.message) kept)
+still_step : (a : Bool) (m : Signed OrderMessage) (kept : Log) → some (map said_in kept) ≡ true → some (map said_in (cond a (m ∷ kept) kept)) ≡ true
+still_step true m kept h = some_more (said_in m) (map said_in kept)
 still_step false m kept h = h
 
-here_step : (a : Bool) (m : Signed OrderMessage) (kept : Log) → a ≡ true → some (map (λ m. said_in m.message) (cond a (m ∷ kept) kept)) ≡ true
-here_step true m kept h = some_more (said_in m.message) (map (λ m. said_in m.message) kept)
+here_step : (a : Bool) (m : Signed OrderMessage) (kept : Log) → a ≡ true → some (map said_in (cond a (m ∷ kept) kept)) ≡ true
+here_step true m kept h = some_more (said_in m) (map said_in kept)
 here_step false m kept h = absurd cc
 
 log_within : (view top : ℕ) (log : Log) → ((p : Place) → proposes view p ≡ true → some (said_at p log) ≡ true → p.number ≤ top) → greatest_proposed view (headers log) ≤ top

@@ -21,7 +21,7 @@ abbrev pub slot_place : (tag view number : ℕ) → Place
 slot_place tag view number = record { number = number; view = view; tag = tag }
 
 abbrev pub rows_of : Log → List Said
-rows_of log = map (λ m. said_in m.message) log
+rows_of log = map said_in log
 
 same_parts : (a b c x y z : ℕ) → a ≡ x → b ≡ y → c ≡ z → slot_place a b c ≡ slot_place x y z
 same_parts a b c x y z d e f = rw (d, e, f) refl
@@ -41,12 +41,12 @@ in_slot tag sender view number h = reorder (h.tag == tag) (h.sender == sender) (
         ap (λ b. t && b) (and_comm s (v && n)) ∙ sym (and_assoc t (v && n) s)
         ∙ ap (λ b. b && s) (and_comm t (v && n) ∙ ap (λ b. b && t) (and_comm v n) ∙ and_assoc n v t)
 
-any_step : (a t : Bool) (q : Said → Bool) (m : Signed OrderMessage) (kept : Log) (rest : Bool) → t ≡ (a && q (said_in m.message)) → rest ≡ list_any q (rows_of kept)
+any_step : (a t : Bool) (q : Said → Bool) (m : Signed OrderMessage) (kept : Log) (rest : Bool) → t ≡ (a && q (said_in m)) → rest ≡ list_any q (rows_of kept)
     → (t || rest) ≡ list_any q (rows_of (cond a (m ∷ kept) kept))
 any_step true t q m kept rest e h = rw (e, h)
 any_step false t q m kept rest e h = rw (e, h)
 
-any_at : (place : Place) (test : Header → Bool) (q : Said → Bool) → ((m : Signed OrderMessage) → test (header m) ≡ (is_at place (header m) && q (said_in m.message)))
+any_at : (place : Place) (test : Header → Bool) (q : Said → Bool) → ((m : Signed OrderMessage) → test (header m) ≡ (is_at place (header m) && q (said_in m)))
     → (log : Log) → list_any test (headers log) ≡ list_any q (said_at place log)
 any_at place test q same [] = refl
 any_at place test q same (m ∷ log) =
@@ -63,9 +63,9 @@ told_at log tag sender view number digest =
     log
 
 abbrev said_by : Option (Signed OrderMessage) → Option Said
-said_by found = option_map (λ m. said_in m.message) found
+said_by found = option_map said_in found
 
-found_step : (s : Bool) (m : Signed OrderMessage) (rest : Option (Signed OrderMessage)) (found : Option Said) → said_by rest ≡ found → said_by (cond s (Some m) rest) ≡ cond s (Some (said_in m.message)) found
+found_step : (s : Bool) (m : Signed OrderMessage) (rest : Option (Signed OrderMessage)) (found : Option Said) → said_by rest ≡ found → said_by (cond s (Some m) rest) ≡ cond s (Some (said_in m)) found
 found_step true m rest found h = refl
 found_step false m rest found h = h
 

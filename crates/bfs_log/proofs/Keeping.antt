@@ -21,7 +21,7 @@ use Rattle.bfs_log.proofs.Slots.{differ_pushed, differ_before, differ_kept}
 use Rattle.bfs_log.proofs.Maps.{undone}
 
 abbrev said_of : Signed OrderMessage → Said
-said_of m = said_in m.message
+said_of m = said_in m
 
 abbrev one_at : (b : Bool) → Said → List Said
 one_at b said = if b then said ∷ [] else []
@@ -39,7 +39,7 @@ said_pushed place log m =
     ∙ ap (λ xs. said_at place log ++ xs) (one_step (is_at place (header m)) m)
 
 pub pushed : (log : Log) (m : Signed OrderMessage) (before after : Index) → IsIndexed log before → is_taken (headers log) (header m) ≡ false → (header m).sender < most_replicas
-    → ((p : Place) → row_at after p ≡ row_at before p ++ (if same_place (place_of (header m)) p then said_in m.message ∷ [] else [])) → IsIndexed (log ++ m ∷ []) after
+    → ((p : Place) → row_at after p ≡ row_at before p ++ (if same_place (place_of (header m)) p then said_in m ∷ [] else [])) → IsIndexed (log ++ m ∷ []) after
 pushed log m before after was free sender put = record {
   differ = differ_pushed log m was.differ free;
   senders = All-push (λ m. (header m).sender < most_replicas) log m was.senders sender;

@@ -11,4 +11,7 @@ mod Certifying
 mod Folds
 mod Proposed
 mod Shown
+mod Latest
+mod Passed
+mod Rowed
 mod Telling

@@ -2,6 +2,7 @@
 pub mod Batches
 pub mod Certificates
 pub mod Headers
+pub mod Latest
 pub mod Logs
 pub mod Places
 pub mod Rows

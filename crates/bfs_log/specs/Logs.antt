@@ -9,7 +9,7 @@ use Rattle.bfs_messages.specs.declared.order_messages.OrderMessage.{OrderMessage
 use Rattle.bfs_messages.specs.declared.order_messages.OrderMessage.TheVariants.{PrePrepare, Prepare, Commit, Checkpoint}
 use Rattle.bfs_votes.specs.Votes.{Header, is_slot}
 use Rattle.bfs_log.specs.Batches.{Committed, Said}
-use Rattle.bfs_log.specs.Headers.{header, message_header}
+use Rattle.bfs_log.specs.Headers.{header}
 use Rattle.bfs_votes.specs.Tags.{checkpoint_tag, pre_prepare_tag}
 
 -- the messages that a replica has accepted and not dropped, its own among them, in the order in which they came
@@ -30,13 +30,17 @@ batch_in (Prepare vote) = None
 batch_in (Commit vote) = None
 batch_in (Checkpoint checkpoint) = None
 
--- what a message says at its place: its sender, its digest, and the batch of a PRE-PREPARE
-abbrev pub said_in : OrderMessage → Said
-said_in m = record { sender = (message_header m).sender; digest = (message_header m).digest; batch = batch_in m }
+-- what a message says at its place: itself, its sender, its digest, and the batch of a PRE-PREPARE
+abbrev pub said_in : Signed OrderMessage → Said
+said_in m = record { signed = m; sender = (header m).sender; digest = (header m).digest; batch = batch_in m.message }
 
--- what the first message of a kind, sender, view and number says
+-- the first message of a kind, sender, view and number
+abbrev pub message_at : Log → (tag sender view number : ℕ) → Option (Signed OrderMessage)
+message_at log tag sender view number = find (λ m. is_slot tag sender view number (header m)) log
+
+-- what it says
 abbrev pub said_of : Log → (tag sender view number : ℕ) → Option Said
-said_of log tag sender view number = option_map (λ m. said_in m.message) (find (λ m. is_slot tag sender view number (header m)) log)
+said_of log tag sender view number = option_map said_in (message_at log tag sender view number)
 
 -- the greatest number of a PRE-PREPARE of a view, 0 where there is none
 abbrev pub greatest_proposed : (view : ℕ) → List Header → ℕ

@@ -37,7 +37,7 @@ is_at place h = same_place (place_of h) place
 
 -- what the messages of a log say at a place
 abbrev pub said_at : Place → Log → List Said
-said_at place log = map (λ m. said_in m.message) (filter (λ m. is_at place (header m)) log)
+said_at place log = map said_in (filter (λ m. is_at place (header m)) log)
 
 abbrev pub IsIndex : Index → Log → Type 0
 IsIndex places log = (place : Place) → row_at places place ≡ said_at place log

@@ -1,5 +1,5 @@
 -- What a log shows to others: that a number is stable, and that a batch was prepared (OSDI 1999 sections 4.3 and 4.4).
-use Rattle.std.specs.Prelude.{ℕ, ◌==◌, Bool, ◌&&◌, not, List, Option, Some, None, nat_lt, if◌then◌else◌}
+use Rattle.std.specs.Prelude.{ℕ, ◌==◌, Bool, ◌&&◌, not, List, map, Option, Some, None, nat_lt, if◌then◌else◌}
 use Rattle.std.specs.List.{filter, filter_map, fold}
 use Rattle.std.specs.Option.{option_map}
 use Rattle.bfs_votes.specs.Tags.{checkpoint_tag, pre_prepare_tag}
@@ -9,6 +9,7 @@ use Rattle.bfs_messages.specs.Messages.{Vote, PreparedBatch}
 use Rattle.bfs_messages.specs.declared.signed.Signed.{Signed}
 use Rattle.bfs_messages.specs.declared.order_messages.OrderMessage.{OrderMessage}
 use Rattle.bfs_messages.specs.declared.order_messages.OrderMessage.TheVariants.{PrePrepare, Prepare, Commit, Checkpoint}
+use Rattle.bfs_log.specs.Batches.{Said}
 use Rattle.bfs_log.specs.Certificates.{matches}
 use Rattle.bfs_log.specs.Headers.{header}
 use Rattle.bfs_log.specs.Logs.{Log, headers}
@@ -59,6 +60,10 @@ backs f proposed h = matches proposed h && (nat_lt h.sender (replicas f) && not 
 
 abbrev pub backing : (f : ℕ) → (proposed : Vote) → Log → List (Signed Vote)
 backing f proposed log = prepares (filter (λ m. backs f proposed (header m)) log)
+
+-- the same of what is said at one place
+abbrev pub backing_said : (f : ℕ) → (proposed : Vote) → List Said → List (Signed Vote)
+backing_said f proposed row = backing f proposed (map (λ said. said.signed) row)
 
 -- a PRE-PREPARE with the PREPAREs of a log that match it
 abbrev pub certificate_of : (f : ℕ) → Log → Signed model.PrePrepare → PreparedBatch

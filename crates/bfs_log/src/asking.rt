@@ -2,12 +2,13 @@
 ghost use Rattle.std.specs.Prelude.{◌≡◌};
 ghost use Rattle.std.specs.Option.{option_map};
 ghost use Rattle.bfs_votes.specs.Votes.{has_slot, told};
-ghost use Rattle.bfs_log.specs.Logs.{headers, said_of};
+ghost use Rattle.bfs_log.specs.Logs.{headers, message_at, said_of};
 
 use crate::headers::Slot;
 use crate::logs::Log;
 use crate::rows::{does_tell, find_from, has_from};
 use crate::said::Said;
+use bfs_messages::{OrderMessage, Signed};
 
 impl Log {
     /// Whether there is a message of that kind, sender, view and number.
@@ -29,5 +30,15 @@ impl Log {
         ensures { option_map (λ said. said.now) result ≡ said_of self.now slot.tag slot.sender slot.view slot.number }
     {
         find_from(self.row(slot.place()), slot.sender)
+    }
+
+    /// The message of that kind, sender, view and number, as it was accepted.
+    pub fn message(&self, slot: Slot) -> Option<&Signed<OrderMessage>>
+        ensures { option_map (λ m. m.now) result ≡ message_at self.now slot.tag slot.sender slot.view slot.number }
+    {
+        match self.find(slot) {
+            Some(said) => Some(said.signed()),
+            None => None,
+        }
     }
 }

@@ -3,6 +3,7 @@
 
 mod asking;
 mod certificates;
+mod collecting;
 mod committed;
 mod copies;
 mod counting;

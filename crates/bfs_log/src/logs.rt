@@ -88,7 +88,7 @@ impl Log {
         ensures err { OnErr result (self.new ≡ self.old) }
     {
         let place = place_of(&signed.message);
-        let said = Said::in_message(&signed.message)?;
+        let said = Said::of(self.alloc, &signed)?;
         put_at(self.alloc, &mut self.places, place, said)?;
         match self.messages.push(signed) {
             Ok(()) => Ok(()),

@@ -6,12 +6,14 @@ ghost use Rattle.bfs_votes.specs.Tags.{prepare_tag};
 ghost use Rattle.bfs_votes.specs.Votes.{prepared, primary, replicas};
 ghost use Rattle.bfs_log.specs.Headers.{vote_header};
 ghost use Rattle.bfs_log.specs.Logs.{headers};
-ghost use Rattle.bfs_log.specs.Showing.{backing, backs, certificate_for, checkpoints_of, is_of, later, latest, prepared_among, prepares};
+ghost use Rattle.bfs_log.specs.Showing.{backing, backing_said, backs, checkpoints_of, is_of, later, prepared_among};
 
 use crate::certificates::does_match;
 use crate::counting::primary_of;
 use crate::logs::Log;
-use bfs_messages::{Checkpoint, OrderMessage, PrePrepare, PreparedBatch, Signed, Vote};
+use crate::places::Place;
+use crate::said::Said;
+use bfs_messages::{Checkpoint, OrderMessage, PREPARE_TAG, PrePrepare, Signed, Vote};
 use bfs_types::{Memory, TryClone};
 use std::alloc::Global;
 
@@ -27,44 +29,8 @@ impl Log {
         Ok(found)
     }
 
-    /// The certificate of the highest view in which a number is prepared at the replica `me`: the primary's PRE-PREPARE, and the PREPAREs of
-    /// backups that match it (OSDI 1999 section 4.4). None where it is prepared in no view. The index tells what is prepared, and the batch is
-    /// shared with the log. `Memory` if memory runs out.
-    pub fn certificate_for(
-        &self,
-        f: u32,
-        me: u32,
-        number: u64,
-    ) -> Result<Option<PreparedBatch>, Memory>
-        requires { f ≤ most_faults }
-        ensures { IfOk result (λ found. found ≡ certificate_for f me self.now number) }
-    {
-        let Some(proposal) = self.last_prepared(f, me, number)? else {
-            return Ok(None);
-        };
-        let prepares = self.backing(f, proposal.message.vote())?;
-        Ok(Some(PreparedBatch::new(proposal, prepares)))
-    }
-
-    // The PRE-PREPARE of the highest view in which a number is prepared.
-    fn last_prepared(
-        &self,
-        f: u32,
-        me: u32,
-        number: u64,
-    ) -> Result<Option<Signed<PrePrepare>>, Memory>
-        requires { f ≤ most_faults }
-        ensures { IfOk result (λ found. found ≡ latest (prepared_among f me self.now number self.now)) }
-    {
-        let mut found = None;
-        for signed in self.messages() {
-            found = later_of(found, self.prepared_in(f, me, number, signed)?);
-        }
-        Ok(found)
-    }
-
     // A message, if it is a PRE-PREPARE of the primary for a number that is prepared.
-    fn prepared_in(
+    pub(crate) fn prepared_in(
         &self,
         f: u32,
         me: u32,
@@ -95,14 +61,19 @@ impl Log {
                 && self.is_prepared(f, me, vote.view(), vote.number(), vote.digest()))
     }
 
-    // The PREPAREs of backups that match a PRE-PREPARE.
-    fn backing(&self, f: u32, proposed: &Vote) -> Result<Vec<Signed<Vote>>, Memory>
+    // The PREPAREs of backups that match a PRE-PREPARE: they stand at one place.
+    pub(crate) fn backing(&self, f: u32, proposed: &Vote) -> Result<Vec<Signed<Vote>>, Memory>
         requires { f ≤ most_faults }
         ensures value { IfOk result (λ found. found.items ≡ backing f proposed.now self.now) }
         ensures few { IfOk result (λ found. length found.items ≤ most_replicas) }
     {
+        let place = Place {
+            number: proposed.number(),
+            view: proposed.view(),
+            tag: PREPARE_TAG,
+        };
         self.messages_differ();
-        let found = backing_among(self.alloc, f, proposed, self.messages())?;
+        let found = backing_among(self.alloc, f, proposed, self.row(place))?;
         Ok(found)
     }
 }
@@ -153,14 +124,14 @@ fn backing_among(
     alloc: Global,
     f: u32,
     proposed: &Vote,
-    log: &[Signed<OrderMessage>],
+    row: &[Said],
 ) -> Result<Vec<Signed<Vote>>, Memory>
     requires { f ≤ most_faults }
-    ensures { IfOk result (λ found. found.items ≡ backing f proposed.now log.now) }
+    ensures { IfOk result (λ found. found.items ≡ backing_said f proposed.now row.now) }
 {
     let mut found = Vec::new(alloc);
-    for signed in log {
-        push_some(&mut found, backing_in(alloc, f, proposed, signed)?)?;
+    for said in row {
+        push_some(&mut found, backing_in(alloc, f, proposed, said.signed())?)?;
     }
     Ok(found)
 }
@@ -192,7 +163,7 @@ fn does_back(f: u32, proposed: &Vote, vote: &Vote) -> bool
         && (vote.sender() < 3 * f + 1 && vote.sender() != primary_of(f, vote.view()))
 }
 
-fn push_some<T: Drop>(found: &mut Vec<T>, more: Option<T>) -> Result<(), Memory>
+pub(crate) fn push_some<T: Drop>(found: &mut Vec<T>, more: Option<T>) -> Result<(), Memory>
     ensures { OnOk result (found.new.items ≡ found.old.items ++ option_to_list more) }
 {
     if let Some(item) = more {
@@ -202,7 +173,7 @@ fn push_some<T: Drop>(found: &mut Vec<T>, more: Option<T>) -> Result<(), Memory>
 }
 
 // The one of the later view.
-fn later_of(
+pub(crate) fn later_of(
     found: Option<Signed<PrePrepare>>,
     more: Option<Signed<PrePrepare>>,
 ) -> Option<Signed<PrePrepare>>

@@ -13,7 +13,7 @@ use Rattle.bfs_messages.specs.declared.message.Message.TheVariants.{NewView, Vie
 use Rattle.bfs_order.specs.Replica.States.{State}
 use Rattle.bfs_order.specs.Replica.Views as order
 use Rattle.bfs_view_change.specs.Changes.Choice.{choice}
-use Rattle.bfs_view_change.specs.Changes.Keeping.{above_view, changes_for, least_asked, was_asked, with_asked, with_change}
+use Rattle.bfs_view_change.specs.Changes.Keeping.{above_view, changes_for, least_asked, was_asked, with_asked, with_change, with_own}
 use Rattle.bfs_view_change.specs.Changes.Making.{change_of, new_view_from, signed_change, signed_new_view}
 use Rattle.bfs_view_change.specs.Changes.NewViews.{latest_checkpoint, new_view_refusal}
 use Rattle.bfs_view_change.specs.Changes.ViewChanges.{messages_of, valid_view_change}
@@ -80,26 +80,32 @@ with_view_change node s =
 abbrev pub view_to_follow : Node → Option ℕ
 view_to_follow node = least_asked node.changes (max node.order.view node.order.asked) (node.order.f + 1)
 
--- A timeout --------------------------------------------------------------------------------------------------------------------
+-- A view is left ---------------------------------------------------------------------------------------------------------------
+
+-- only for a view above the one entered and the one asked for, below 2^63
+abbrev pub leaving_refusal : Node → (view : ℕ) → Option NodeError
+leaving_refusal node view = option_map of_order (order.leaving_refusal node.order view)
+
+-- what it says of its log
+abbrev pub own_change : Node → (view : ℕ) → Signed model.ViewChange
+own_change node view = signed_change node.keys (change_of node.order view)
+
+-- it leaves, and its VIEW-CHANGE is sent in the same step, and kept: it takes no message of an earlier view any more
+abbrev pub left_for : Node → (view : ℕ) → Outcome
+left_for node view =
+    let own = own_change node view in
+    let done = with_view_change (record node { order = (order.left node.order view).now }) own in
+    record { now = record done.now { changes = with_own done.now.changes own }; sent = as_message ViewChange own ∷ done.sent }
 
 -- after the view entered, and after the one asked for
 abbrev pub next_view : State → ℕ
 next_view s = max s.view s.asked + 1
 
--- only below 2^63
 abbrev pub timeout_refusal : Node → Option NodeError
-timeout_refusal node = option_map of_order (order.leaving_refusal node.order (next_view node.order))
+timeout_refusal node = leaving_refusal node (next_view node.order)
 
--- what it says of its log
-abbrev pub own_change : Node → Signed model.ViewChange
-own_change node = signed_change node.keys (change_of node.order (next_view node.order))
-
--- it leaves, and its VIEW-CHANGE is sent in the same step: it takes no message of an earlier view any more
 abbrev pub timed_out : Node → Outcome
-timed_out node =
-    let own = own_change node in
-    let done = with_view_change (record node { order = (order.left node.order (next_view node.order)).now }) own in
-    record { now = done.now; sent = as_message ViewChange own ∷ done.sent }
+timed_out node = left_for node (next_view node.order)
 
 -- A VIEW-CHANGE comes ----------------------------------------------------------------------------------------------------------
 

@@ -2,6 +2,7 @@
 pub mod Errors
 pub mod Nodes
 pub mod Receivers
+pub mod Resending
 pub mod Changing
 pub mod Delivering
 pub mod Proposing

@@ -3,11 +3,11 @@ ghost use Rattle.std.specs.Prelude.{◌≡◌, ◌≢◌, ◌<◌, ◌≤◌, �
 ghost use Rattle.std.specs.Option.{option_map};
 ghost use Rattle.bfs_messages.specs.declared.message.Message.TheVariants as kind;
 ghost use Rattle.bfs_messages.specs.Signing.{as_message};
-ghost use Rattle.bfs_node.specs.Changing.{begun, begun_if_due, change_refusal, entered_by, leads, may_begin, next_view, settled_if, timed_out, timeout_refusal, view_refusal, with_new_view, with_view_change};
+ghost use Rattle.bfs_node.specs.Changing.{begun, begun_if_due, change_refusal, entered_by, leads, may_begin, next_view, settled_if, timed_out, timeout_refusal, view_refusal, with_new_view, with_view_change, leaving_refusal, left_for};
 ghost use Rattle.bfs_node.specs.Errors.{of_view};
 ghost use Rattle.bfs_node.specs.Inside.Asking.{asking, MayAsk};
 ghost use Rattle.bfs_node.specs.declared.error.NodeError.TheVariants as error;
-ghost use Rattle.bfs_order.specs.Replica.Views.{entering_refusal, leaving_refusal};
+ghost use Rattle.bfs_order.specs.Replica.Views.{entering_refusal};
 ghost use Rattle.bfs_log.specs.Certificates.{MakesStable};
 ghost use Rattle.bfs_view_change.specs.Changes.NewViews.{ground_refusal, latest_checkpoint};
 ghost use Rattle.bfs_view_change.specs.Changes.ViewChanges.{messages_of};
@@ -26,9 +26,8 @@ use bfs_view_change::{
 use std::alloc::Global;
 
 impl Node {
-    /// Time has run out for the view: the replica leaves for the one after it, or after the one that it has asked for, and gives the
-    /// VIEW-CHANGE that it sends. A primary that keeps VIEW-CHANGEs of 2f + 1 replicas for the view then begins it in the same step, and gives
-    /// its NEW-VIEW and what it sends in the view too. `WrongView` where no view is left below 2^63; then `Memory`. Nothing changes then.
+    /// Time has run out for the view: the replica leaves for the one after it, or after the one that it has asked for, as `leave_for` does.
+    /// `WrongView` where no view is left below 2^63; then `Memory`. Nothing changes then.
     pub fn timeout(&mut self) -> Result<Vec<Signed<Message>>, NodeError>
         ensures taken { OnOk result (timeout_refusal self.old ≡ None) }
         ensures now { OnOk result (self.new ≡ (timed_out self.old).now) }
@@ -38,12 +37,30 @@ impl Node {
         ensures err { OnErr result (self.new ≡ self.old) }
     {
         let view = self.next_view();
+        self.leave_for(view)
+    }
+
+    /// Leaves the view for a later one, in one step, and gives the VIEW-CHANGE that it sends: to follow f + 1 others that ask for later views
+    /// (OSDI 1999 section 4.5.2), say. A primary that keeps VIEW-CHANGEs of 2f + 1 replicas for the view then begins it in the same step, and
+    /// gives its NEW-VIEW and what it sends in the view too. `WrongView` unless the view is above the one entered and the one asked for, and
+    /// below 2^63; then `Memory`. Nothing changes then.
+    pub fn leave_for(&mut self, view: u64) -> Result<Vec<Signed<Message>>, NodeError>
+        ensures taken { OnOk result (leaving_refusal self.old view ≡ None) }
+        ensures now { OnOk result (self.new ≡ (left_for self.old view).now) }
+        ensures sent { IfOk result (λ sent. sent.items ≡ (left_for self.old view).sent) }
+        ensures refused { IfErr result (λ e. e ≢ error.Memory → leaving_refusal self.old view ≡ Some e) }
+        ensures memory { IfErr result (λ e. e ≡ error.Memory → leaving_refusal self.old view ≡ None) }
+        ensures err { OnErr result (self.new ≡ self.old) }
+    {
         if let Some(error) = self.order.leaving_refusal(view) {
             return Err(NodeError::from(error));
         }
         let own = make_view_change(self.alloc, &self.order, &self.keys, view)?;
-        let sent = sent_first(self.alloc, &own)?;
-        Ok(self.keep(own, view, sent)?)
+        let kept = own.try_clone(self.alloc)?;
+        let first = as_sent(self.alloc, &own)?;
+        let sent = self.keep(own, view, first)?;
+        self.changes.keep_own(kept);
+        Ok(sent)
     }
 
     fn next_view(&self) -> u64
@@ -245,7 +262,7 @@ impl Node {
     }
 }
 
-fn sent_first(alloc: Global, own: &Signed<ViewChange>) -> Result<Vec<Signed<Message>>, Memory>
+pub(crate) fn as_sent(alloc: Global, own: &Signed<ViewChange>) -> Result<Vec<Signed<Message>>, Memory>
     ensures { IfOk result (λ sent. sent.items ≡ as_message kind.ViewChange own.now ∷ []) }
 {
     let mut sent = Vec::new(alloc);

@@ -13,7 +13,9 @@ mod node;
 mod receivers;
 mod replying;
 mod requests;
+mod resending;
 
+pub use bfs_order::Lag;
 pub use bfs_outcome::{Engine, Executor, Gate, MOST_WORKERS, NoGate, Workers};
 pub use bfs_replies::Class;
 pub use error::NodeError;

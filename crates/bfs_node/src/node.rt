@@ -189,7 +189,7 @@ impl Node {
     }
 
     /// The least view above those that it has entered and asked for which replicas ask for, once f + 1 ask for views above them: then time
-    /// has run out for a correct one, and `timeout` is due here too (OSDI 1999 section 4.5.2).
+    /// has run out for a correct one, and to `leave_for` that view is due here too (OSDI 1999 section 4.5.2).
     pub fn view_to_follow(&self) -> Option<u64>
         ensures { result ≡ view_to_follow self.now }
     {

@@ -1,6 +1,7 @@
 -- What proofs share.
 pub mod Agree
 pub mod Answering
+pub mod Resending
 pub mod NewViews
 pub mod Whole
 pub mod Bounds

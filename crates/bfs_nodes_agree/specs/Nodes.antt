@@ -5,3 +5,4 @@ pub mod Premises
 pub mod Performing
 pub mod Laws
 pub mod Answers
+pub mod Resending

@@ -24,7 +24,7 @@ pub record Found (test : Signed OrderMessage → Bool) (log : Log) (m : Signed O
   pub there : Contains log m
   pub passes : test m ≡ true
 
-found : (test : Signed OrderMessage → Bool) (log : Log) (m : Signed OrderMessage) → find test log ≡ Some m → Found test log m
+pub found : (test : Signed OrderMessage → Bool) (log : Log) (m : Signed OrderMessage) → find test log ≡ Some m → Found test log m
 found test [] m e = absurd cc
 found test (x ∷ xs) m e = go (test x) refl (found test xs m) e
   where

@@ -7,6 +7,7 @@ mod Putting
 mod KeptLogs
 mod Entering
 mod Executed
+mod Resent
 mod Fronts
 mod Next
 mod Proposals

@@ -12,7 +12,7 @@ use Rattle.bfs_order.specs.Replica.Executing.{batch_of, next_committed, next_pro
 use Rattle.bfs_order.specs.Replica.States.{State, known}
 
 abbrev said_by : Option (Signed OrderMessage) → Option Said
-said_by found = option_map (λ m. said_in m.message) found
+said_by found = option_map said_in found
 
 none_by : (s : State) (found : Option (Signed OrderMessage)) → said_by found ≡ None → batch_of (where_committed s found) ≡ None
 none_by s None e = refl
@@ -29,7 +29,7 @@ some_by : (s : State) (found : Option (Signed OrderMessage)) (said : Said) → s
     → batch_of (where_committed s found) ≡ cond (committed s.f s.me (known s) s.view (s.last + 1) said.digest) said.batch None
 some_by s None said e = absurd cc
 some_by s (Some m) said e =
-    let is : said_in m.message ≡ said = ap (λ (o : Option Said). unwrap_or o (said_in m.message)) e in
+    let is : said_in m ≡ said = ap (λ (o : Option Said). unwrap_or o (said_in m)) e in
     batch_where (committed s.f s.me (known s) s.view (s.last + 1) (header m).digest) m
     ∙ ap (λ (d : Said). cond (committed s.f s.me (known s) s.view (s.last + 1) d.digest) d.batch None) is
 

@@ -3,5 +3,6 @@ pub mod Calls
 pub mod Logs
 pub mod Clean
 pub mod Sent
+pub mod Resent
 pub mod Executed
 pub mod Certificates

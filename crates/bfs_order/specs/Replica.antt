@@ -8,6 +8,7 @@ pub mod Proposing
 pub mod Executing
 pub mod Checkpoints
 pub mod Behind
+pub mod Resending
 pub mod Installing
 pub mod Views
 pub mod Codes

@@ -4,6 +4,7 @@ ghost use Rattle.bfs_order.specs.Laws.Certificates.{CertificatesMakeStable};
 ghost use Rattle.bfs_order.specs.Laws.Clean.{LogsAreClean, ProperCallsKeepLogsClean};
 ghost use Rattle.bfs_order.specs.Laws.Executed.{NextHasItsCertificate, OnlyTheNextIsExecuted};
 ghost use Rattle.bfs_order.specs.Laws.Logs.{HasCertificate, HasDistinctSlots, HasNoLaterView, IsWindowed};
+ghost use Rattle.bfs_order.specs.Laws.Resent.{AllOfItIsResent, WhatIsResentIsOwn};
 ghost use Rattle.bfs_order.specs.Laws.Sent.{KeepsWhatItSaid, SaysOneDigest, SpeaksForItself};
 
 use bfs_auth::what_is_signed_passes;
@@ -52,6 +53,13 @@ pub fn what_is_sent_says_one_digest()
     ensures own { SpeaksForItself }
     ensures one { SaysOneDigest }
     ensures kept { KeepsWhatItSaid }
+{}
+
+/// What a replica gives again stands in its log under its own name: no message is left out of those of its view above the number that the other
+/// one has executed, if both are in that view, and of its CHECKPOINTs above the stable number there.
+pub fn what_is_resent_is_its_own()
+    ensures own { WhatIsResentIsOwn }
+    ensures all { AllOfItIsResent }
 {}
 
 /// What a replica executes is committed: the PRE-PREPARE with that batch stands in its log, and so do the PREPAREs of 2f backups and the

@@ -12,12 +12,15 @@ mod laws;
 mod order;
 mod proposing;
 mod refusals;
+mod resending;
 mod views;
 
 pub use error::OrderError;
 pub use laws::{
     a_replica_stays_itself, certificates_make_checkpoints_stable, logs_are_clean,
     numbers_lie_in_the_window, slots_differ, the_stable_checkpoint_has_its_certificate,
-    views_are_entered, what_is_executed_has_its_certificate, what_is_sent_says_one_digest,
+    views_are_entered, what_is_executed_has_its_certificate, what_is_resent_is_its_own,
+    what_is_sent_says_one_digest,
 };
 pub use order::Order;
+pub use resending::Lag;

@@ -1,4 +1,5 @@
 ghost use Rattle.std.specs.Prelude.{◌≡◌, ◌≢◌, ◌<◌, ◌≤◌, ◌+◌, ◌*◌, length, None, Some, IfOk, IfErr, OnOk, OnErr};
+ghost use Rattle.std.specs.List.{filter_map, range_with_len};
 ghost use Rattle.bfs_votes.specs.Votes.{SlotsDiffer};
 ghost use Rattle.bfs_log.specs.Logs.{as_messages, headers};
 ghost use Rattle.bfs_log.specs.Showing.{certificate_for, checkpoints_of};
@@ -141,12 +142,13 @@ impl Order {
         self.log.checkpoints_of(self.f, self.low)
     }
 
-    /// The certificate of the highest view in which its log proves a number to be prepared, None where there is none. It shares the batch.
-    /// `Memory` if memory runs out.
-    pub fn certificate_for(&self, number: u64) -> Result<Option<PreparedBatch>, Memory>
-        ensures { IfOk result (λ found. found ≡ certificate_for self.now.f self.now.me self.now.log number) }
+    /// Of each number in the window above the low mark that its log proves to be prepared the certificate of the highest such view, in the
+    /// order of the numbers. Batches are shared. `Memory` if memory runs out.
+    pub fn certificates(&self) -> Result<Vec<PreparedBatch>, Memory>
+        ensures value { IfOk result (λ found. found.items ≡ filter_map (certificate_for self.now.f self.now.me self.now.log) (range_with_len (self.now.low + 1) log_size)) }
+        ensures few { IfOk result (λ found. length found.items ≤ log_size) }
     {
-        self.log.certificate_for(self.f, self.me, number)
+        self.log.certificates(self.f, self.me, self.low, LOG_SIZE)
     }
 
     /// Takes a message that came, and gives what is to be sent to all other replicas. It is refused, in this order: `BadAuthenticator`,

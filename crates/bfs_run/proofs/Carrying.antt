@@ -52,7 +52,7 @@ use Rattle.bfs_view_change.specs.Changes.Making.{chosen_proposal, signed_new_vie
 use Rattle.bfs_view_change.specs.Changes.NewViews.{latest_checkpoint, new_view_refusal}
 use Rattle.bfs_view_change.specs.Changes.ViewChanges.{messages_of, stable_in}
 use Rattle.bfs_node.specs.Adopting.{adopted, may_adopt}
-use Rattle.bfs_node.specs.Changing.{begun, begun_if_due, change_refusal, leads, may_begin, next_view, own_change, own_new_view, settled_if, timed_out, timeout_refusal, view_refusal, with_new_view, with_view_change}
+use Rattle.bfs_node.specs.Changing.{begun, begun_if_due, change_refusal, leads, may_begin, next_view, own_change, own_new_view, settled_if, timed_out, timeout_refusal, view_refusal, with_new_view, with_view_change, leaving_refusal, left_for}
 use Rattle.bfs_node.specs.Checkpoints.{checkpointed, checkpoint_refusal}
 use Rattle.bfs_node.specs.Delivering.{message_delivered, message_refusal, ordered, request_refusal, settled_by, with_request}
 use Rattle.bfs_node.specs.Errors.{of_order, of_view}
@@ -63,7 +63,7 @@ use Rattle.bfs_node.specs.declared.error.NodeError.{NodeError}
 use Rattle.bfs_nodes_agree.specs.Orders.Replicas.{OrderReplica, votes_by}
 use Rattle.bfs_nodes_agree.specs.Views.Replicas as turns
 use Rattle.bfs_nodes_agree.specs.Views.Replicas.{ViewDeed}
-use Rattle.bfs_nodes_agree.specs.Nodes.Steps.{NodeStep, Delivers, Takes, TakesRequests, Proposes, Executes, Fails, Checkpoints, TimesOut, Adopts, still, unless, or_still, after_execution, outcome, where_taken, begun_deeds, change_deeds, message_deeds, checkpoint_deeds, timeout_deeds, deeds_of}
+use Rattle.bfs_nodes_agree.specs.Nodes.Steps.{NodeStep, Delivers, Takes, TakesRequests, Proposes, Executes, Fails, Checkpoints, TimesOut, Adopts, still, unless, or_still, after_execution, outcome, where_taken, begun_deeds, change_deeds, message_deeds, checkpoint_deeds, timeout_deeds, deeds_of, LeavesFor, leaving_deeds}
 use Rattle.bfs_nodes_agree.proofs.Public.{after_deeds, AllIn, AreKept, AreSo, begins_open, both_in, BringAll, chosen_so, deeds_keep, deeds_offer, either_in, either_way, filter_in, good_for, good_on, IsBounded, IsChecked, kept, kept_above, kept_with, left_bounded, lone_late, made_holds, map_in, more_in, none_in, none_kept, not_refused, not_second, OfferAll, Offers, one_in, out_of_filter_map, passes_at, reply_is, Shows, some_is, stays_kept, step_leads, votes_checked, votes_own}
 
 -- by these keys nothing passes
@@ -300,13 +300,12 @@ module _ (R : Signed model.Request → Type 0) (K : Signed model.Checkpoint → 
         ]) refl
     message_does node sound (Reply reply) auth is = nothing node sound
 
-    times_does : (node : Node) → Sound f who node → Does node.order (deeds_of node TimesOut) (outcome node TimesOut)
-    times_does node sound =
-        let view = next_view node.order in
+    leaving_does : (node : Node) (view : ℕ) → Sound f who node → Does node.order (deeds_of node (LeavesFor view)) (outcome node (LeavesFor view))
+    leaving_does node view sound =
         let gone = record node { order = (views.left node.order view).now } in
-        let own = own_change node in
+        let own = own_change node view in
         let deeds = change_deeds gone own in
-        (elim (timeout_refusal node) as (λ r. timeout_refusal node ≡ r → Does node.order (where_taken r (timeout_deeds node)) (unless r node (timed_out node))) [
+        (elim (leaving_refusal node view) as (λ r. leaving_refusal node view ≡ r → Does node.order (where_taken r (leaving_deeds node view)) (unless r node (left_for node view))) [
           | Some refused ↦ λ _. nothing node sound
           | None ↦ λ e.
               let may = not_refused (views.leaving_refusal node.order view) e in
@@ -423,7 +422,8 @@ module _ (R : Signed model.Request → Type 0) (K : Signed model.Checkpoint → 
       step_leaves Executes is tells = leaves Executes (executes_does node sound)
       step_leaves Fails is tells = leaves Fails (record { brings = tt; offers = tt; pending = sound.pending; kept = sound.kept; stable = sound.stable; sends = none_in (IsBorne who) })
       step_leaves Checkpoints is tells = leaves Checkpoints (tells_does node sound tells)
-      step_leaves TimesOut is tells = leaves TimesOut (times_does node sound)
+      step_leaves TimesOut is tells = leaves TimesOut (leaving_does node (next_view node.order) sound)
+      step_leaves (LeavesFor view) is tells = leaves (LeavesFor view) (leaving_does node view sound)
       step_leaves (Adopts c files table) is tells = leaves (Adopts c files table) (adopts_does node sound c files table is)
       step_leaves (Delivers bytes) is tells = absurd is
       step_leaves (TakesRequests messages) is tells = absurd is

@@ -6,7 +6,7 @@ use Rattle.bfs_node.specs.declared.error.NodeError.{NodeError}
 use Rattle.bfs_node.specs.declared.error.NodeError.TheVariants.{Memory}
 use Rattle.bfs_nodes_agree.proofs.Public.{both_in, none_in, one_in}
 use Rattle.bfs_nodes_agree.specs.Nodes.Performing.{Performs, messages_in}
-use Rattle.bfs_nodes_agree.specs.Nodes.Steps.{NodeStep, Delivers, Takes, TakesRequests, Proposes, Executes, Checkpoints, TimesOut, Adopts, outcome, still}
+use Rattle.bfs_nodes_agree.specs.Nodes.Steps.{NodeStep, Delivers, Takes, TakesRequests, Proposes, Executes, Checkpoints, TimesOut, LeavesFor, Adopts, outcome, still}
 use Rattle.bfs_nodes_agree.specs.declared.node_calls.performing.NodeCall.{NodeCall}
 use Rattle.bfs_nodes_agree.specs.declared.node_calls.performing.NodeCall.TheVariants as code
 use Rattle.bfs_nodes_agree.specs.declared.node_calls.performing.Sent.{Sent}
@@ -38,6 +38,7 @@ taken acting (code.Propose time) sent now is = with_sent acting (Proposes time) 
 taken acting code.Execute sent now is = with_sent acting Executes sent now is
 taken acting code.Checkpoint sent now is = with_sent acting Checkpoints sent now is
 taken acting code.TimeOut sent now is = with_sent acting TimesOut sent now is
+taken acting (code.LeaveFor view) sent now is = with_sent acting (LeavesFor view) sent now is
 taken acting (code.Adopt text certificate) sent now is =
     let step = Adopts certificate.now is.0 is.1 in
     goes_by_one (IsAdoption certificate.now) acting (record { node = now; sent = acting.sent ++ messages_in sent }) step (is.0, is.1, refl) (with_sent acting step sent now is.3)
@@ -60,6 +61,7 @@ refused acting (code.Propose time) e now other is = without_sent acting (Propose
 refused acting code.Execute e now other is = without_sent acting Executes now (is.1 other).0 (is.1 other).1
 refused acting code.Checkpoint e now other is = without_sent acting Checkpoints now (is.1 other).0 (is.1 other).1
 refused acting code.TimeOut e now other is = without_sent acting TimesOut now (is.1 other).0 (is.1 other).1
+refused acting (code.LeaveFor view) e now other is = without_sent acting (LeavesFor view) now (is.1 other).0 (is.1 other).1
 refused acting (code.Adopt text certificate) e now other is =
     subst (λ (n : Node). GoesOn (IsAdoption certificate.now) acting (record { node = n; sent = acting.sent })) (sym is) (goes_nowhere (IsAdoption certificate.now) acting)
 
@@ -85,6 +87,7 @@ own_goes time (code.Propose t) before after own is = goes_by_one (IsOwn time) be
 own_goes time code.Execute before after own is = goes_by_one (IsOwn time) before after Executes tt is
 own_goes time code.Checkpoint before after own is = goes_by_one (IsOwn time) before after Checkpoints tt is
 own_goes time code.TimeOut before after own is = goes_by_one (IsOwn time) before after TimesOut tt is
+own_goes time (code.LeaveFor view) before after own is = goes_by_one (IsOwn time) before after (LeavesFor view) tt is
 own_goes time (code.Adopt text certificate) before after own is =
     goes_as (IsAdoption certificate.now) (IsOwn time) before after (λ step adopts. subst (IsOwn time) (sym adopts.2) tt) is
 

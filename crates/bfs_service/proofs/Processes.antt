@@ -13,7 +13,7 @@ use Rattle.bfs_node.specs.Nodes.{Messages, Node}
 use Rattle.bfs_nodes_agree.proofs.Public.{both_in, either_in, here_after, in_map, left_in, none_in, one_in, out_of_map, right_in}
 use Rattle.bfs_nodes_agree.specs.Nodes.Laws.{NodesAgree}
 use Rattle.bfs_nodes_agree.specs.Nodes.Replicas.{NodeReplica, NodeReplicas, NodeTurn, after_node_step, after_node_turn, after_node_turns, new_node_replicas}
-use Rattle.bfs_nodes_agree.specs.Nodes.Steps.{NodeStep, Delivers, Takes, TakesRequests, Proposes, Executes, Fails, Checkpoints, TimesOut, Adopts, outcome}
+use Rattle.bfs_nodes_agree.specs.Nodes.Steps.{NodeStep, Delivers, Takes, TakesRequests, Proposes, Executes, Fails, Checkpoints, TimesOut, LeavesFor, Adopts, outcome}
 use Rattle.bfs_service.specs.Acting.{Acting, GoesOn, IsOwn, IsTaking, after_step, after_steps}
 use Rattle.bfs_service.specs.Processes.{HasTold, HasTurned, HaveTurned, IsOfTurns, IsStepOf, Processes, ProcessesAgree, ProcessTurn, new_processes}
 use Rattle.bfs_service.specs.Telling.{is_note, message_told}
@@ -34,6 +34,7 @@ taking_of turn Executes is = absurd is
 taking_of turn Fails is = absurd is
 taking_of turn Checkpoints is = absurd is
 taking_of turn TimesOut is = absurd is
+taking_of turn (LeavesFor view) is = absurd is
 taking_of turn (Adopts certificate files table) is = absurd is
 
 own_of : (turn : Turn) (step : NodeStep) → IsOwn turn.time step → IsStepOf turn step
@@ -45,6 +46,7 @@ own_of turn Executes is = is
 own_of turn Fails is = is
 own_of turn Checkpoints is = is
 own_of turn TimesOut is = is
+own_of turn (LeavesFor view) is = is
 own_of turn (Adopts certificate files table) is = is
 
 -- all steps of a turn

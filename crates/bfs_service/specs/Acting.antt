@@ -5,7 +5,7 @@ use Rattle.bfs_agreement.specs.Histories.{IsIn}
 use Rattle.bfs_log.specs.Certificates.{StableCheckpoint}
 use Rattle.bfs_replies.specs.Tables.{Table}
 use Rattle.bfs_node.specs.Nodes.{Messages, Node}
-use Rattle.bfs_nodes_agree.specs.Nodes.Steps.{NodeStep, Delivers, Takes, TakesRequests, Proposes, Executes, Checkpoints, TimesOut, Adopts, outcome}
+use Rattle.bfs_nodes_agree.specs.Nodes.Steps.{NodeStep, Delivers, Takes, TakesRequests, Proposes, Executes, Checkpoints, TimesOut, LeavesFor, Adopts, outcome}
 use Rattle.bfs_nodes_agree.specs.declared.node_calls.performing.NodeCall.{NodeCall}
 use Rattle.bfs_nodes_agree.specs.declared.node_calls.performing.NodeCall.TheVariants as code
 
@@ -41,6 +41,7 @@ IsAfter (code.Propose time) before after = after ≡ after_step before (Proposes
 IsAfter code.Execute before after = after ≡ after_step before Executes
 IsAfter code.Checkpoint before after = after ≡ after_step before Checkpoints
 IsAfter code.TimeOut before after = after ≡ after_step before TimesOut
+IsAfter (code.LeaveFor view) before after = after ≡ after_step before (LeavesFor view)
 IsAfter (code.Adopt text certificate) before after = GoesOn (IsAdoption certificate.now) before after
 
 -- REQUESTs are taken
@@ -48,12 +49,14 @@ abbrev pub IsTaking : NodeStep → Type 0
 IsTaking (TakesRequests messages) = Unit {0}
 IsTaking _ = ⊥
 
--- what a replica does of itself at a time: it executes a batch, makes a checkpoint, proposes at that time, times out, or adopts a state
+-- what a replica does of itself at a time: it executes a batch, makes a checkpoint, proposes at that time, times out, leaves for a view, or adopts a
+-- state
 abbrev pub IsOwn : Time → NodeStep → Type 0
 IsOwn time (Proposes t) = t ≡ time
 IsOwn time Executes = Unit {0}
 IsOwn time Checkpoints = Unit {0}
 IsOwn time TimesOut = Unit {0}
+IsOwn time (LeavesFor view) = Unit {0}
 IsOwn time (Adopts certificate files table) = Unit {0}
 IsOwn time _ = ⊥
 
@@ -63,5 +66,6 @@ IsOwnCall time (code.Propose t) = t ≡ time
 IsOwnCall time code.Execute = Unit {0}
 IsOwnCall time code.Checkpoint = Unit {0}
 IsOwnCall time code.TimeOut = Unit {0}
+IsOwnCall time (code.LeaveFor view) = Unit {0}
 IsOwnCall time (code.Adopt text certificate) = Unit {0}
 IsOwnCall time _ = ⊥

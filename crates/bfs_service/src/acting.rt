@@ -129,6 +129,18 @@ impl Actor {
         self.act_own(rt, time, NodeCall::TimeOut)
     }
 
+    /// It leaves for a later view, which others ask for. Whether it did.
+    pub(crate) fn leave_for<R: Threads + Wait + Sync>(
+        &mut self,
+        rt: &R,
+        time: Time,
+        view: u64,
+    ) -> Result<bool, Memory>
+        ensures { OnOk result (GoesOn (IsOwn time) self.old self.new) }
+    {
+        self.act_own(rt, time, NodeCall::LeaveFor(view))
+    }
+
     /// It adopts another's state, if that is a later one and the certificate shows it. Whether it did.
     pub(crate) fn adopt<R: Threads + Wait + Sync>(
         &mut self,

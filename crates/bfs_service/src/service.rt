@@ -83,7 +83,7 @@ impl Service {
 
     /// Takes a turn, and gives what is to be told. The node takes the REQUESTs for which there is room, then each message of a replica, in the order of the frames;
     /// whatever is committed meanwhile is executed, with the checkpoints that are due. Then it adopts a state that has come. Where it leads and its last batch is executed, it proposes all
-    /// that waits as one batch of the turn's time. Where a request has waited too long, or f + 1 others ask for later views, it asks for the next view. Where it is
+    /// that waits as one batch of the turn's time. Where f + 1 others ask for later views, it asks for the least of these; else, where a request has waited too long, for the next view. Where it is
     /// behind it asks another one for its state. `Memory` if memory runs out: the process is to end then, and to tell nothing of this turn.
     pub fn take_turn<R: Threads + Wait + Sync>(
         &mut self,
@@ -350,12 +350,22 @@ impl Service {
     fn time_out_now<R: Threads + Wait + Sync>(&mut self, rt: &R, time: Time) -> Result<(), Memory>
         ensures { OnOk result (GoesOn (IsOwn time) self.old self.new) }
     {
-        let does = self.actor.time_out(rt, time)?;
+        let does = self.leave_view(rt, time)?;
         if does {
             let asked = self.actor.node().view_asked();
             self.tell_operator("a view is asked for: ", asked)?;
         }
         Ok(())
+    }
+
+    // For the view that f + 1 others ask for, if they do, or for the next one. Whether it did.
+    fn leave_view<R: Threads + Wait + Sync>(&mut self, rt: &R, time: Time) -> Result<bool, Memory>
+        ensures { OnOk result (GoesOn (IsOwn time) self.old self.new) }
+    {
+        match self.actor.node().view_to_follow() {
+            Some(view) => self.actor.leave_for(rt, time, view),
+            None => self.actor.time_out(rt, time),
+        }
     }
 
     fn is_to_time_out(&mut self, now: u64) -> bool

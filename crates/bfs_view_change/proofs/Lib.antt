@@ -1,7 +1,6 @@
 -- What proofs share.
 mod Folds
 mod Steps
-mod Passed
 mod Certified
 mod Members
 mod First

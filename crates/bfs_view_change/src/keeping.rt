@@ -4,7 +4,7 @@ ghost use Rattle.std.specs.Option.{option_map};
 ghost use Rattle.bfs_votes.specs.Votes.{replicas};
 ghost use Rattle.bfs_model.specs.Server.Limits.{most_replicas, most_faults};
 ghost use Rattle.bfs_view_change.specs.Inside.Near.{AreNear, IsNear, IsNearIfKept};
-ghost use Rattle.bfs_view_change.specs.Changes.Keeping.{above_view, asked_above, changes_for, if_above, if_for, least_asked, least_of, nothing_kept, put_back, was_asked, with_asked, with_change};
+ghost use Rattle.bfs_view_change.specs.Changes.Keeping.{above_view, asked_above, changes_for, if_above, if_for, least_asked, least_of, nothing_kept, put_back, was_asked, with_asked, with_change, with_own};
 
 use bfs_messages::{Signed, ViewChange};
 use bfs_types::{Memory, TryClone};
@@ -12,11 +12,13 @@ use std::alloc::Global;
 use std::marker::Model;
 
 /// What a replica keeps of the VIEW-CHANGEs that come to it, by their senders (OSDI 1999 section 4.4): the highest view that each has asked
-/// for, and its last VIEW-CHANGE for a view that the keeper leads. So a sender has one kept at most, however many views it asks for.
+/// for, and its last VIEW-CHANGE for a view that the keeper leads. So a sender has one kept at most, however many views it asks for. Beside
+/// these stands the one that the keeper has sent last.
 #[derive(Drop)]
 pub struct KeptViewChanges {
     asked: Vec<u64>,
     changes: Vec<Option<Signed<ViewChange>>>,
+    own: Option<Signed<ViewChange>>,
 }
 
 impl Model for KeptViewChanges {
@@ -24,11 +26,11 @@ impl Model for KeptViewChanges {
 
     ghost Value = { model.Kept };
 
-    ghost view = { λ kept. record { asked = kept.asked.items; changes = kept.changes.items } };
+    ghost view = { λ kept. record { asked = kept.asked.items; changes = kept.changes.items; own = kept.own } };
 
     ghost use Rattle.bfs_view_change.specs.Inside.Near.{AreFew};
 
-    ghost invariant = { λ kept. AreFew (record { asked = kept.asked.items; changes = kept.changes.items }) };
+    ghost invariant = { λ kept. AreFew (record { asked = kept.asked.items; changes = kept.changes.items; own = kept.own }) };
 }
 
 /// What was kept of a sender before its last VIEW-CHANGE.
@@ -49,6 +51,7 @@ impl KeptViewChanges {
         Ok(KeptViewChanges {
             asked: none_asked(alloc, replicas)?,
             changes: none_kept(alloc, replicas)?,
+            own: None,
         })
     }
 
@@ -121,6 +124,20 @@ impl KeptViewChanges {
     {
         put(&mut self.asked, replaced.sender, replaced.asked);
         put(&mut self.changes, replaced.sender, replaced.change);
+    }
+
+    /// Keeps the VIEW-CHANGE that the keeper sends, in the place of its last one. It takes no memory.
+    pub fn keep_own(&mut self, own: Signed<ViewChange>)
+        ensures { self.new ≡ with_own self.old own }
+    {
+        self.own = Some(own);
+    }
+
+    /// The VIEW-CHANGE that the keeper has sent last, None before the first.
+    pub fn own(&self) -> Option<&Signed<ViewChange>>
+        ensures { option_map (λ own. own.now) result ≡ self.now.own }
+    {
+        self.own.as_ref()
     }
 
     /// Copies of those for a view, by rising senders; they share their batches with what is kept. `Memory` if memory runs out.

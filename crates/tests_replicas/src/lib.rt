@@ -15,6 +15,8 @@ mod replicas;
 #[cfg(test)]
 mod requests;
 #[cfg(test)]
+mod resending;
+#[cfg(test)]
 mod script;
 #[cfg(test)]
 mod views;

@@ -1,6 +1,6 @@
 //! One replica, which is looked at where memory runs out, and then asked again.
 use bfs_messages::{Message, Signed};
-use bfs_node::{Node, NodeError};
+use bfs_node::{Lag, Node, NodeError};
 use bfs_testing_nodes::calls::{
     Given, Standing, advance, checkpoint, deliver, digest_of, execute, propose, standing_of,
     time_out,
@@ -26,6 +26,8 @@ pub enum Call<'a> {
     Propose,
     /// To leave its view.
     TimeOut,
+    /// To leave it for that view.
+    LeaveFor(u64),
     /// To execute the next batch.
     Execute,
     /// To make a checkpoint.
@@ -84,6 +86,28 @@ impl Replica {
         standing_of(&self.node)
     }
 
+    /// How far it is.
+    pub fn lag(&self) -> Lag {
+        Lag {
+            view: self.node.view(),
+            last: self.node.last_executed(),
+            stable: self.node.stable_number(),
+        }
+    }
+
+    /// The view that it is to follow, if it is to.
+    pub fn to_follow(&self) -> Option<u64> {
+        self.node.view_to_follow()
+    }
+
+    /// What it gives again to one that is so far. Where memory runs out, it is asked again.
+    pub fn resends(&self, to: Lag) -> Result<Vec<Signed<Message>>, Memory> {
+        match self.node.resend(to) {
+            Ok(sent) => Ok(sent),
+            Err(_) => self.node.resend(to),
+        }
+    }
+
     fn shown(&self) -> Shown {
         (self.standing(), stable_of(&self.node))
     }
@@ -108,6 +132,7 @@ impl Replica {
         match call {
             Call::Deliver(bytes) => deliver(rt, &mut self.node, bytes),
             Call::TimeOut => time_out(&mut self.node),
+            Call::LeaveFor(view) => self.node.leave_for(view),
             Call::Propose => self.propose(),
             Call::Checkpoint => self.checkpoint(rt),
             Call::Execute => self.execute(rt),

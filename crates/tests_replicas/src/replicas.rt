@@ -245,6 +245,61 @@ impl Replicas {
         Ok(true)
     }
 
+    /// Each of these that is to follow others leaves for the view that they ask for.
+    pub fn follow<R: Threads + Wait + Sync>(
+        &mut self,
+        rt: &R,
+        numbers: &[usize],
+    ) -> Result<bool, Memory> {
+        for number in numbers {
+            let view = match self.all.get(*number) {
+                Some(replica) => replica.to_follow(),
+                None => return Ok(false),
+            };
+            if let Some(view) = view {
+                if !self.ask(rt, *number, Call::LeaveFor(view))? {
+                    return Ok(false);
+                }
+            }
+        }
+        Ok(true)
+    }
+
+    /// Each of these gives again what each other one of them needs, and it comes there.
+    pub fn resend<R: Threads + Wait + Sync>(
+        &mut self,
+        rt: &R,
+        numbers: &[usize],
+    ) -> Result<bool, Memory> {
+        for from in numbers {
+            for to in numbers {
+                if from != to && !self.resend_to(rt, *from, *to)? {
+                    return Ok(false);
+                }
+            }
+        }
+        Ok(true)
+    }
+
+    fn resend_to<R: Threads + Wait + Sync>(
+        &mut self,
+        rt: &R,
+        from: usize,
+        to: usize,
+    ) -> Result<bool, Memory> {
+        let sent = match (self.all.get(from), self.all.get(to)) {
+            (Some(replica), Some(other)) => replica.resends(other.lag())?,
+            _ => return Ok(false),
+        };
+        for signed in &sent {
+            let bytes = spelled(self.alloc, signed)?;
+            if !self.ask(rt, to, Call::Deliver(bytes.as_slice()))? {
+                return Ok(false);
+            }
+        }
+        Ok(true)
+    }
+
     // it executes what is next, and makes a checkpoint where one is due
     fn goes_on<R: Threads + Wait + Sync>(
         &mut self,

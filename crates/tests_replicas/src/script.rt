@@ -28,6 +28,12 @@ pub enum Event {
     MayNotPropose(usize),
     /// Time runs out at each of these.
     TimeOut(&'static [usize]),
+    /// Each of these leaves for that view.
+    LeaveFor(&'static [usize], u64),
+    /// Each of these that is to follow others leaves for the view that they ask for.
+    Follow(&'static [usize]),
+    /// Each of these gives again what each other one of them needs.
+    Resend(&'static [usize]),
     /// What is on its way comes to these, and what they send then is on its way.
     HandOver(&'static [usize]),
     /// What is on its way is lost.
@@ -87,6 +93,9 @@ fn happens<R: Threads + Wait + Sync>(
         Event::Propose(number) => all.ask(rt, number, Call::Propose),
         Event::MayNotPropose(number) => Ok(all.refuses(rt, number, Call::Propose)),
         Event::TimeOut(numbers) => all.ask_each(rt, numbers, Call::TimeOut),
+        Event::LeaveFor(numbers, view) => all.ask_each(rt, numbers, Call::LeaveFor(view)),
+        Event::Follow(numbers) => all.follow(rt, numbers),
+        Event::Resend(numbers) => all.resend(rt, numbers),
         Event::HandOver(numbers) => all.hand_over(rt, numbers),
         Event::Lose => Ok(lose(all)),
         Event::Execute(numbers) => all.execute(rt, numbers, true),

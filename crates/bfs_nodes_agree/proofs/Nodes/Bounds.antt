@@ -1,7 +1,7 @@
 -- The view asked for is below 2^63 after all calls of an order, and so it may be entered.
-use Rattle.std.proofs.Common.{◌≡◌, ℕ, true, ◌&&◌, [], ◌∷◌, Some, None}
+use Rattle.std.proofs.Common.{◌≡◌, ◌<◌, ℕ, true, arith, ◌&&◌, [], ◌∷◌, Some, None}
 use Rattle.std.specs.Prelude.{max, nat_lt, nat_le}
-use Rattle.std.proofs.lemmas.Bool.{and_parts}
+use Rattle.std.proofs.lemmas.Bool.{and_parts, ltb-true}
 use Rattle.bfs_auth.specs.Keys.{Keys}
 use Rattle.bfs_log.specs.Headers.{header}
 use Rattle.bfs_log.specs.Logs.{Log}
@@ -26,6 +26,12 @@ over keys (m ∷ ms) s h = over keys ms (taken_over keys s m).now (either_way (�
 
 pub left_bounded : (s : State) (view : ℕ) → leaving_refusal s view ≡ None → nat_le view most_number ≡ true
 left_bounded s view e = (and_parts (nat_lt (max s.view s.asked) view) (nat_le view most_number) (passed _ _ None e).0).1
+
+-- it is a later view
+pub left_later : (s : State) (view : ℕ) → leaving_refusal s view ≡ None → s.view < view
+left_later s view e =
+    let above = ltb-true (max s.view s.asked) view (and_parts (nat_lt (max s.view s.asked) view) (nat_le view most_number) (passed _ _ None e).0).0 in
+    omega arith
 
 pub kept : (s : State) (call : Call) → IsBounded s → IsBounded (outcome s call).now
 kept s (Takes keys m) h = either_way (λ o. IsBounded o.now) (refusal keys s m) s (accepted keys s m) (λ _. h) h

@@ -41,7 +41,7 @@ use Rattle.bfs_nodes_agree.specs.Nodes.Premises.{IsAmong, IsWithin}
 use Rattle.bfs_nodes_agree.specs.Nodes.Replicas.{NodeReplicas, turn_of}
 use Rattle.bfs_nodes_agree.specs.Nodes.Steps.{NodeStep, Executes, Fails, Adopts, outcome, still}
 use Rattle.bfs_nodes_agree.proofs.Nodes.Bounds.{IsBounded}
-use Rattle.bfs_nodes_agree.proofs.Nodes.Hearing.{Extends, IsGood, IsHeard, IsSaid, IsSpoken, IsWhollySaid, Spoken, change_on, extends_both, extends_deed, extends_same, grown}
+use Rattle.bfs_nodes_agree.proofs.Nodes.Hearing.{Extends, GoesOut, IsGood, IsHeard, IsSaid, IsSpoken, IsWhollySaid, Spoken, change_on, extends_both, extends_deed, extends_same, grown}
 use Rattle.bfs_nodes_agree.proofs.Nodes.Keeping.{AreKept, good_on}
 use Rattle.bfs_nodes_agree.proofs.Nodes.Steps.{after_deeds, called}
 
@@ -194,7 +194,7 @@ module _ (faulty : ℕ → Bool) (after : NodeReplicas) (who : ℕ) where
       pub kept : AreKept (IsGood faulty node.keys node.order.f (histories (After deeds)) after) node.order.f out.now.changes
       pub waiting : ArePassed node.keys out.now.pending
       pub sends : AllIn (MaySend Replies node (after_deeds (v who) deeds)) out.sent
-      pub gives : (m : Signed OrderMessage) → IsIn m (after_deeds (v who) deeds).sent → (header m).tag < 4 → IsIn m (v who).sent ⊎ IsIn (as_message Order m) out.sent
+      pub gives : (m : Signed OrderMessage) → IsIn m (after_deeds (v who) deeds).sent → GoesOut node.order.f m → IsIn m (v who).sent ⊎ IsIn (as_message Order m) out.sent
       pub brings : BringAll (IsHeard faulty node.keys (histories (After deeds)) after) node.order deeds
       pub offers : OfferAll (IsChecked node.keys) node.order deeds
       pub stands : S
@@ -225,7 +225,7 @@ module _ (faulty : ℕ → Bool) (after : NodeReplicas) (who : ℕ) where
     pub deed_done : (S : Type 0) (Replies : model.Reply → Type 0) (deed : ViewDeed) (out : Outcome) (votes : Log) → votes_by node.order (called node.order deed) ≡ votes → MayDoViewDeed faulty (histories v) node.order deed
         → out.now.keys ≡ node.keys → WereKept out.now.changes → ArePassed node.keys out.now.pending
         → ((s : Signed Message) → IsIn s out.sent → IsAmong s votes ⊎ MaySend Replies node (after_deeds (v who) (deed ∷ [])) s)
-        → ((m : Signed OrderMessage) → IsIn m votes → (header m).tag < 4 → IsIn (as_message Order m) out.sent)
+        → ((m : Signed OrderMessage) → IsIn m votes → GoesOut node.order.f m → IsIn (as_message Order m) out.sent)
         → Brings (IsHeard faulty node.keys (histories (After (deed ∷ []))) after) node.order (called node.order deed) → Offers (IsChecked node.keys) node.order (called node.order deed)
         → S → Goes out → Done S Replies (deed ∷ []) out
     deed_done S Replies deed out votes is may keys kept waiting sent gives brings offers stands goes = record {

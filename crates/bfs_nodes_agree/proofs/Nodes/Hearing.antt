@@ -4,7 +4,7 @@ use Rattle.std.proofs.lemmas.Bool.{cond_both, eqb-true}
 use Rattle.bfs_auth.specs.Keys.{Keys}
 use Rattle.bfs_auth.specs.declared.principals.Principal.TheVariants as principal
 use Rattle.bfs_votes.specs.Votes.{Header, Told, prepared}
-use Rattle.bfs_log.specs.Certificates.{messages_in}
+use Rattle.bfs_log.specs.Certificates.{faults, messages_in}
 use Rattle.bfs_log.specs.Headers.{header, message_header}
 use Rattle.bfs_log.specs.Logs.{Log, headers}
 use Rattle.bfs_messages.specs.Messages as model
@@ -124,15 +124,24 @@ change_signed keys s valid p of =
       | inr within ↦ map_in (λ (x : Signed Message). is_signed keys x ≡ true) (as_message Order) (messages_in within.0) (is.all_signed within.0 within.1) p within.2
     ]
 
--- the COMMIT of a replica that is alone
-pub lone_late : (keys : Keys) (state : State) (v n : ℕ) (d : List ℕ) (m : Signed OrderMessage) → IsIn m (proposing.lone_commits keys state v n d) → (header m).tag < 4 → ⊥
-lone_late keys state v n d m i small = go (state.f == 0) (prepared state.f state.me (known state) v n d) (is_there state (header (order_signed_by keys (Commit (own_vote state v n d))))) i
+-- the COMMIT of a replica that is alone goes to nobody
+abbrev pub GoesOut : (f : ℕ) → Signed OrderMessage → Type 0
+GoesOut f m = (header m).tag ≡ 4 → 0 < f
+
+pub goes_as : (f g : ℕ) (m : Signed OrderMessage) → f ≡ g → GoesOut f m → GoesOut g m
+goes_as f g m same goes four = subst (λ (n : ℕ). 0 < n) same (goes four)
+
+pub lone_stays : (keys : Keys) (state : State) (v n : ℕ) (d : List ℕ) (m : Signed OrderMessage) → IsIn m (proposing.lone_commits keys state v n d) → GoesOut state.f m → ⊥
+lone_stays keys state v n d m i goes = go (state.f == 0) (prepared state.f state.me (known state) v n d) (is_there state (header (order_signed_by keys (Commit (own_vote state v n d))))) (eqb-true state.f 0) i
   where
-    go : (one prepared there : Bool) → IsIn m (cond one (cond prepared (cond there [] (order_signed_by keys (Commit (own_vote state v n d)) ∷ [])) []) []) → ⊥
-    go true true false j = elim j [ inl same ↦ let four : (header m).tag ≡ 4 = ap (λ (x : Signed OrderMessage). (header x).tag) same in absurd (omega (arith, four, small)) | inr none ↦ none ]
-    go true true true j = j
-    go true false there j = j
-    go false prepared there j = j
+    go : (one prepared there : Bool) → (one ≡ true → state.f ≡ 0) → IsIn m (cond one (cond prepared (cond there [] (order_signed_by keys (Commit (own_vote state v n d)) ∷ [])) []) []) → ⊥
+    go true true false alone j = elim j [ inl same ↦ let some = goes (ap (λ (x : Signed OrderMessage). (header x).tag) same) in absurd (omega (arith, some, alone refl)) | inr none ↦ none ]
+    go true true true alone j = j
+    go true false there alone j = j
+    go false prepared there alone j = j
+
+pub lone_late : (keys : Keys) (state : State) (v n : ℕ) (d : List ℕ) (m : Signed OrderMessage) → IsIn m (proposing.lone_commits keys state v n d) → (header m).tag < 4 → ⊥
+lone_late keys state v n d m i small = lone_stays keys state v n d m i (λ four. absurd (omega (arith, four, small)))
 
 pub reply_is : (reply : model.Reply) (o : Option (List (List ℕ))) (s : Signed Message) → option_map (signed_reply reply) o ≡ Some s → s.message ≡ Reply reply
 reply_is reply None s e = absurd cc
@@ -140,10 +149,10 @@ reply_is reply (Some auth) s e = sym (ap (λ (x : Signed Message). x.message) (s
 
 -- What is in a log, and what is kept --------------------------------------------------------------------------------------------
 
--- COMMITs are not said: that of a replica that is alone goes to nobody
+-- f is that of the keys
 pub record IsHeard (faulty : ℕ → Bool) (keys : Keys) (h : World) (w : NodeReplicas) (m : Signed OrderMessage) : Type 0 where
   pub sent : (header m).tag < 5 → WasSent faulty h (header m).tag (header m).sender (header m).view (header m).number (header m).digest
-  pub said : (header m).tag < 4 → IsSaid faulty w (Order m.message)
+  pub said : GoesOut (faults keys) m → IsSaid faulty w (Order m.message)
   pub whole : IsWhole m.message
   -- of the keys of the node whose log it is
   pub checked : IsChecked keys m
@@ -167,7 +176,7 @@ said_later faulty w after later m said k e correct = let has = said k e correct 
 pub heard_on : (faulty : ℕ → Bool) (keys : Keys) (h g : World) (w after : NodeReplicas) → AreGrown h g → HaveGrown w after → (m : Signed OrderMessage) → IsHeard faulty keys h w m → IsHeard faulty keys g after m
 heard_on faulty keys h g w after on later m is = record {
   sent = λ small. said_on faulty h g on (header m).tag (header m).sender (header m).view (header m).number (header m).digest (is.sent small);
-  said = λ small. said_later faulty w after later (Order m.message) (is.said small);
+  said = λ goes. said_later faulty w after later (Order m.message) (is.said goes);
   whole = is.whole;
   checked = is.checked;
 }

@@ -12,7 +12,8 @@ use Rattle.bfs_votes.specs.Votes.{Told}
 use Rattle.bfs_checkpoints.specs.Snapshots.{snapshot_of}
 use Rattle.bfs_checkpoints.specs.Texts.{node_digest}
 use Rattle.bfs_log.specs.Batches.{Committed}
-use Rattle.bfs_log.specs.Certificates.{StableCheckpoint, messages_in}
+use Rattle.bfs_log.specs.Certificates.{StableCheckpoint, checkpoints_in, is_shown, messages_in}
+use Rattle.bfs_log.proofs.Public.{IsVoucher, vouched}
 use Rattle.bfs_log.specs.Headers.{header}
 use Rattle.bfs_log.specs.Logs.{Log, headers}
 use Rattle.bfs_messages.specs.Fits.{FitsMessage, FitsOrder}
@@ -27,6 +28,7 @@ use Rattle.bfs_messages.specs.declared.order_messages.OrderMessage.{OrderMessage
 use Rattle.bfs_messages.specs.declared.order_messages.OrderMessage.TheVariants.{PrePrepare, Checkpoint}
 use Rattle.bfs_order.specs.Laws.Calls as order
 use Rattle.bfs_order.specs.Replica.Accepting.{accepted}
+use Rattle.bfs_order.specs.Replica.Checkpoints.{checkpoint}
 use Rattle.bfs_order.specs.Replica.Executing.{next_committed}
 use Rattle.bfs_order.specs.Replica.Installing.{raised}
 use Rattle.bfs_order.specs.Replica.Outcomes as outcomes
@@ -60,7 +62,7 @@ use Rattle.bfs_nodes_agree.proofs.Views.Lists.{in_map, map_in}
 use Rattle.bfs_nodes_agree.proofs.Views.OfLog.{made_holds, made_proves}
 use Rattle.bfs_nodes_agree.proofs.Views.Proved.{is_valid, valid_proves}
 use Rattle.bfs_node.specs.Adopting.{adopted, may_adopt}
-use Rattle.bfs_node.specs.Changing.{begun, begun_if_due, change_refusal, leads, may_begin, next_view, own_change, own_new_view, timed_out, timeout_refusal, view_refusal, with_new_view, with_view_change}
+use Rattle.bfs_node.specs.Changing.{begun, begun_if_due, change_refusal, leads, leaving_refusal, left_for, may_begin, next_view, own_change, own_new_view, view_refusal, with_new_view, with_view_change}
 use Rattle.bfs_node.specs.Checkpoints.{checkpointed, checkpoint_refusal}
 use Rattle.bfs_node.specs.Delivering.{after_request, after_requests, bytes_delivered, bytes_refusal, if_taken, message_delivered, message_refusal, ordered as taken, request_in, request_refusal, with_request}
 use Rattle.bfs_node.specs.Errors.{of_order, of_view}
@@ -70,10 +72,10 @@ use Rattle.bfs_node.specs.Proposing.{pending_batch, proposed}
 use Rattle.bfs_node.specs.declared.error.NodeError.{NodeError}
 use Rattle.bfs_nodes_agree.specs.Nodes.Premises.{Comes, IsAmong, IsAuthentic, IsWholly, offers_in}
 use Rattle.bfs_nodes_agree.specs.Nodes.Replicas.{NodeReplicas, turn_of}
-use Rattle.bfs_nodes_agree.specs.Nodes.Steps.{NodeStep, Delivers, Takes, TakesRequests, Proposes, Executes, Fails, Checkpoints, TimesOut, Adopts, still, unless, or_still, after_execution, outcome, where_taken, begun_deeds, change_deeds, message_deeds, bytes_deeds, checkpoint_deeds, timeout_deeds, deeds_of}
-use Rattle.bfs_nodes_agree.proofs.Nodes.Bounds.{left_bounded}
+use Rattle.bfs_nodes_agree.specs.Nodes.Steps.{NodeStep, Delivers, Takes, TakesRequests, Proposes, Executes, Fails, Checkpoints, TimesOut, LeavesFor, Adopts, still, unless, or_still, after_execution, outcome, where_taken, begun_deeds, change_deeds, message_deeds, bytes_deeds, checkpoint_deeds, leaving_deeds, deeds_of}
+use Rattle.bfs_nodes_agree.proofs.Nodes.Bounds.{left_bounded, left_later}
 use Rattle.bfs_nodes_agree.proofs.Nodes.Doing.{After, ArePassed, BringAll, Done, Goes, IsAnswer, IsStill, MaySend, NoReply, OfferAll, RepliesBy, Stands, StandsBy, Tells, WereKept, at_who, deed_done, extends_deeds, here_is, nothing_done, offered, other_sent, own_said, tells_nothing}
-use Rattle.bfs_nodes_agree.proofs.Nodes.Hearing.{HaveGrown, IsGood, IsHeard, IsSaid, IsSpoken, IsWhollySaid, change_on, change_signed, genuine_of, grown, heard_on, lone_late, proof_small, reply_is, said_later, vote_heard}
+use Rattle.bfs_nodes_agree.proofs.Nodes.Hearing.{HaveGrown, IsGood, IsHeard, IsSaid, IsSpoken, IsWhollySaid, change_on, change_signed, genuine_of, grown, heard_on, GoesOut, lone_stays, proof_small, reply_is, said_later, vote_heard}
 use Rattle.bfs_nodes_agree.proofs.Nodes.NewViews.{begun_right, own_checked, own_handed, taken_heard, taken_right}
 use Rattle.bfs_nodes_agree.proofs.Nodes.Keeping.{good_for, good_on, kept_above, kept_with}
 use Rattle.bfs_nodes_agree.proofs.Nodes.Steps.{after_deeds, begins_open, not_refused, not_second, waits, waits_once}
@@ -162,8 +164,8 @@ module _ (faulty : ℕ → Bool) (after : NodeReplicas) (who : ℕ) where
   abbrev DoesQuietly : (v : ordered.OrderReplicas) (node : Node) → Stands faulty after who v node → (S : Type 0) → List ViewDeed → Outcome → Type 0
   DoesQuietly v node know S deeds out = Does v node know S NoReply deeds out
 
-  checkpoint_heard : (keys : Keys) (h : World) (m : Signed OrderMessage) → (header m).tag ≡ 5 → IsWhole m.message → IsChecked keys m → IsHeard faulty keys h after m
-  checkpoint_heard keys h m five whole checked = record { sent = λ small. absurd (omega (arith, five, small)); said = λ small. absurd (omega (arith, five, small)); whole = whole; checked = checked }
+  checkpoint_heard : (keys : Keys) (h : World) (m : Signed OrderMessage) → (header m).tag ≡ 5 → IsSaid faulty after (Order m.message) → IsWhole m.message → IsChecked keys m → IsHeard faulty keys h after m
+  checkpoint_heard keys h m five said whole checked = record { sent = λ small. absurd (omega (arith, five, small)); said = λ goes. said; whole = whole; checked = checked }
 
   shows_heard : (keys : Keys) (s : State) (h : World) (stable : Option StableCheckpoint) → Shows (IsHeard faulty keys h after) s keys stable
   shows_heard keys s h None = tt
@@ -248,7 +250,7 @@ module _ (faulty : ℕ → Bool) (after : NodeReplicas) (who : ℕ) where
     -- a call of its order that may be refused
     call_done : (call : order.Call) (r : Option OrderError) (done : outcomes.Outcome) (out : Outcome) → votes_by node.order call ≡ (outcomes.unless r node.order done).sent
         → MayDoOrderDeed faulty (histories v) node.order (ordered.Orders call) → out.now.keys ≡ node.keys → WereKept faulty after who v node know out.now.changes → out.now.pending ≡ node.pending → IsStill node out.now
-        → ((s : Signed Message) → IsIn s out.sent → IsAmong s done.sent) → ((m : Signed OrderMessage) → IsIn m done.sent → (header m).tag < 4 → IsIn (as_message Order m) out.sent)
+        → ((s : Signed Message) → IsIn s out.sent → IsAmong s done.sent) → ((m : Signed OrderMessage) → IsIn m done.sent → GoesOut node.order.f m → IsIn (as_message Order m) out.sent)
         → Brings (IsHeard faulty node.keys (histories (After faulty after who v node know (turns.Orders call ∷ []))) after) node.order call → Offers (IsChecked node.keys) node.order call
         → DoneBy (turns.Orders call ∷ []) (unless (option_map of_order r) node out)
     call_done call r done out is may keys kept waiting stands sent gives brings offers = go r is
@@ -319,7 +321,7 @@ module _ (faulty : ℕ → Bool) (after : NodeReplicas) (who : ℕ) where
         (λ s i. elim i [ inl e ↦ inl e | inr j ↦ absurd j ])
         (λ m i small. elim i [
           | inl same ↦ inl (ap (as_message Order) same)
-          | inr j ↦ absurd (lone_late node.keys (with_message node.order own) node.order.view (proposing.next_number node.order) (proposing.batch_digest batch) m j small)
+          | inr j ↦ absurd (lone_stays node.keys (with_message node.order own) node.order.view (proposing.next_number node.order) (proposing.batch_digest batch) m j small)
         ])
         tt (pending_pass node.keys node.pending know.waiting)
 
@@ -353,6 +355,7 @@ module _ (faulty : ℕ → Bool) (after : NodeReplicas) (who : ℕ) where
         go None None is goes = nothing_is goes
         go None (Some files) is goes =
             let deed = turns.Orders (order.Checkpoints node.keys node.order.last (snapshot_of files node.table).digest) in
+            let own = checkpoint node.keys node.order node.order.last (snapshot_of files node.table).digest in
             deed_done faulty after who v node know (IsStill node (checkpointed node files).now) NoReply deed (checkpointed node files) [] refl tt refl know.kept know.waiting
             (λ s i. elim i [
               | inl e ↦
@@ -360,23 +363,29 @@ module _ (faulty : ℕ → Bool) (after : NodeReplicas) (who : ℕ) where
                   inr (other_sent faulty after who NoReply node know.me (after_deeds (v who) (deed ∷ [])) s (goes s (inl e)) (ap sender_of is_own, inr (_, is_own, (files, is, refl, refl))))
               | inr j ↦ absurd j
             ])
-            (λ m i small. absurd i) (checkpoint_heard node.keys (histories (After faulty after who v node know (deed ∷ []))) _ refl tt refl) tt (refl, refl, refl) goes
+            (λ m i small. absurd i)
+            (checkpoint_heard node.keys (histories (After faulty after who v node know (deed ∷ []))) own refl (own_said faulty after who (as_message Order own) (goes (as_message Order own) (inl refl)) (ap principal.Replica know.me)) tt refl)
+            tt (refl, refl, refl) goes
 
-    adopts_done : (certificate : StableCheckpoint) (files : FileSystem) (table : Table) → DoesQuietly v node know (Unit {0}) (deeds_of node (Adopts certificate files table)) (outcome node (Adopts certificate files table))
-    adopts_done certificate files table =
+    adopts_done : (certificate : StableCheckpoint) (files : FileSystem) (table : Table) → ((m : Signed Message) → IsAmong m (checkpoints_in certificate) → IsAuthentic faulty w node.keys m) → DoesQuietly v node know (Unit {0}) (deeds_of node (Adopts certificate files table)) (outcome node (Adopts certificate files table))
+    adopts_done certificate files table authentic =
         let deed = turns.Orders (order.Installs node.keys certificate) in
         let heard = IsHeard faulty node.keys (histories (After faulty after who v node know (deed ∷ []))) after in
+        let told : is_shown node.keys node.order.f certificate ≡ true → (x : Signed model.Checkpoint) → IsIn x certificate.checkpoints → IsSaid faulty after (Order (Checkpoint x.message)) = λ right x i.
+            let m = as_message Checkpoint x in
+            let there = in_map (as_message Checkpoint) certificate.checkpoints x i in
+            let signed = (at_in (IsVoucher node.keys node.order.f certificate.number certificate.digest) (checkpoints_in certificate) (vouched node.keys node.order.f certificate right).each m there).signed in
+            said_later faulty w after on (Order m.message) (λ k e correct. authentic (as_message Order m) (in_map (as_message Order) (checkpoints_in certificate) m there) k e signed correct) in
         elim (may_adopt node certificate && bytes_eq (node_digest files table) certificate.digest) as (λ b. DoesQuietly v node know (Unit {0}) (cond b (deed ∷ []) []) (cond b (still (adopted node certificate files table)) (still node))) [
           | true ↦ deed_done faulty after who v node know (Unit {0}) NoReply deed (still (adopted node certificate files table)) [] refl tt refl know.kept know.waiting (λ s i. absurd i) (λ m i small. absurd i)
-              (λ right. map_in heard (as_message Checkpoint) certificate.checkpoints (λ x i. checkpoint_heard node.keys (histories (After faulty after who v node know (deed ∷ []))) (as_message Checkpoint x) refl tt refl)) tt tt
+              (λ right. map_in heard (as_message Checkpoint) certificate.checkpoints (λ x i. checkpoint_heard node.keys (histories (After faulty after who v node know (deed ∷ []))) (as_message Checkpoint x) refl (told right x i) tt refl)) tt tt
           | false ↦ λ goes. nothing_done faulty after who v node know (Unit {0}) NoReply node know.kept know.waiting refl tt
         ]
 
-    times_done : DoneBy (deeds_of node TimesOut) (outcome node TimesOut)
-    times_done =
-        let view = next_view node.order in
+    leaves_done : (view : ℕ) → DoneBy (deeds_of node (LeavesFor view)) (outcome node (LeavesFor view))
+    leaves_done view =
         let gone = record node { order = (views.left node.order view).now } in
-        let own = own_change node in
+        let own = own_change node view in
         let whole = as_message ViewChange own in
         let change = told_change own.message in
         let q = after_order_deed (v who) (ordered_deed (v who).state (turns.TimesOut view)) in
@@ -387,14 +396,14 @@ module _ (faulty : ℕ → Bool) (after : NodeReplicas) (who : ℕ) where
         let heard : AllIn (IsHeard faulty node.keys (histories u) after) node.order.log = λ m i. heard_on faulty node.keys (histories v) (histories u) after after more (λ k s j. j) m (know.log m i) in
         let proofs : (c : model.PreparedBatch) → IsIn c own.message.certificates → AllIn (IsHeard faulty node.keys (histories u) after) (messages_in c) =
         λ c i. made_holds node.order c i (IsHeard faulty node.keys (histories u) after) heard in
-        (elim (timeout_refusal node) as (λ r. timeout_refusal node ≡ r → DoneBy (where_taken r (timeout_deeds node)) (unless r node (timed_out node))) [
+        (elim (leaving_refusal node view) as (λ r. leaving_refusal node view ≡ r → DoneBy (where_taken r (leaving_deeds node view)) (unless r node (left_for node view))) [
           | Some refused ↦ λ e. nothing_is
           | None ↦ λ e goes.
               let may = not_refused (views.leaving_refusal node.order view) e in
               let left_is : (order.outcome node.order (order.Leaves view)).now ≡ gone.order = ap (λ (r : Option OrderError). (outcomes.unless r node.order (views.left node.order view)).now) may in
               let said : IsWhollySaid faulty after whole = λ p of. elim of as (λ _. IsSaid faulty after p.message) [
                 | inl same ↦ subst (λ (x : Signed Message). IsSaid faulty after x.message) (sym same) (own_said faulty after who whole (goes whole (inl refl)) (ap principal.Replica know.me))
-                | inr within ↦ map_in (λ (x : Signed Message). IsSaid faulty after x.message) (as_message Order) (messages_in within.0) (λ m i. (proofs within.0 within.1 m i).said (proof_small within.0 m i)) p within.2
+                | inr within ↦ map_in (λ (x : Signed Message). IsSaid faulty after x.message) (as_message Order) (messages_in within.0) (λ m i. (proofs within.0 within.1 m i).said (λ four. let small = proof_small within.0 m i in absurd (omega (arith, four, small)))) p within.2
               ] in
               let by = λ (s : State). ordered.changes_by s (ordered_deed s (turns.TimesOut view)) in
               let told_now : IsIn change q.changes = left_in (by (v who).state) (v who).changes change
@@ -414,7 +423,7 @@ module _ (faulty : ℕ → Bool) (after : NodeReplicas) (who : ℕ) where
                 waiting = know.waiting;
               } in
               let good : IsGood faulty node.keys node.order.f (histories u) after own = record {
-                proved = made_proves node.order view (omega arith) know.later;
+                proved = made_proves node.order view (left_later node.order view may) know.later;
                 genuine = record {
                   sent = λ correct. subst (λ (k : ℕ). IsIn change (u k).changes) (sym know.me) (subst (λ (o : ordered.OrderReplica). IsIn change o.changes) (sym here) told_now);
                   certificates = λ c m i j. (proofs c i m j).sent (let small = proof_small c m j in omega (arith, small));
@@ -459,5 +468,6 @@ module _ (faulty : ℕ → Bool) (after : NodeReplicas) (who : ℕ) where
     step_done written Executes comes = executes_done
     step_done written Fails comes = λ goes. nothing_done faulty after who v node know (Unit {0}) NoReply (record node { files = None }) know.kept know.waiting refl tt
     step_done written Checkpoints comes = tells_done
-    step_done written TimesOut comes = times_done
-    step_done written (Adopts certificate files table) comes = adopts_done certificate files table
+    step_done written TimesOut comes = leaves_done (next_view node.order)
+    step_done written (LeavesFor view) comes = leaves_done view
+    step_done written (Adopts certificate files table) comes = adopts_done certificate files table comes

@@ -36,7 +36,7 @@ use Rattle.bfs_view_change.specs.Changes.ViewChanges.{messages_of}
 use Rattle.bfs_nodes_agree.specs.Views.Replicas as turns
 use Rattle.bfs_nodes_agree.specs.Views.Replicas.{ViewDeed, ordered_deed}
 use Rattle.bfs_node.specs.Adopting.{adopted, is_ahead, may_adopt}
-use Rattle.bfs_node.specs.Changing.{begun, begun_if_due, change_refusal, entering_refusal, first_of, leads, may_begin, next_view, own_change, own_new_view, timed_out, timeout_refusal, view_refusal, with_new_view, with_view_change}
+use Rattle.bfs_node.specs.Changing.{begun, begun_if_due, change_refusal, entering_refusal, first_of, leads, leaving_refusal, left_for, may_begin, next_view, own_change, own_new_view, view_refusal, with_new_view, with_view_change}
 use Rattle.bfs_node.specs.Checkpoints.{checkpoint_refusal, checkpointed, told_refusal}
 use Rattle.bfs_node.specs.Delivering.{after_requests, bytes_delivered, bytes_refusal, message_delivered, message_refusal, ordered as taken, request_refusal, with_request, after_request, if_taken, request_in}
 use Rattle.bfs_node.specs.Errors.{of_order, of_view}
@@ -45,7 +45,7 @@ use Rattle.bfs_node.specs.Nodes.{Messages, Node, Outcome}
 use Rattle.bfs_node.specs.Proposing.{pending_batch, proposed}
 use Rattle.bfs_node.specs.declared.error.NodeError.{NodeError}
 use Rattle.bfs_node.specs.declared.error.NodeError.TheVariants as error
-use Rattle.bfs_nodes_agree.specs.Nodes.Steps.{NodeStep, Delivers, Takes, TakesRequests, Proposes, Executes, Fails, Checkpoints, TimesOut, Adopts, still, unless, or_still, after_execution, outcome, executed_by, where_taken, begun_deeds, change_deeds, message_deeds, bytes_deeds, checkpoint_deeds, timeout_deeds, deeds_of}
+use Rattle.bfs_nodes_agree.specs.Nodes.Steps.{NodeStep, Delivers, Takes, TakesRequests, Proposes, Executes, Fails, Checkpoints, TimesOut, LeavesFor, Adopts, still, unless, or_still, after_execution, outcome, executed_by, where_taken, begun_deeds, change_deeds, message_deeds, bytes_deeds, checkpoint_deeds, leaving_deeds, deeds_of}
 use Rattle.bfs_nodes_agree.proofs.Nodes.Bounds.{IsBounded, left_bounded}
 use Rattle.bfs_nodes_agree.proofs.Nodes.Executing.{next_executes}
 use Rattle.bfs_model.specs.Server.Limits.{checkpoint_interval, most_number}
@@ -206,17 +206,16 @@ tells node = go (checkpoint_refusal node) refl node.files
         one node.order (turns.Orders (order.Checkpoints node.keys node.order.last (snapshot_of files node.table).digest)) _
         (ap (λ (r : Option OrderError). (outcomes.unless r node.order (checkpoints.checkpointed node.keys node.order node.order.last (snapshot_of files node.table).digest)).now) (may_tell node e))
 
-times_out : (node : Node) → Lead node.order (deeds_of node TimesOut) (outcome node TimesOut).now.order []
-times_out node =
-    let view = next_view node.order in
+leaves : (node : Node) (view : ℕ) → Lead node.order (deeds_of node (LeavesFor view)) (outcome node (LeavesFor view)).now.order []
+leaves node view =
     let gone = record node { order = (views.left node.order view).now } in
-    (elim (timeout_refusal node) as (λ r. timeout_refusal node ≡ r → Lead node.order (where_taken r (timeout_deeds node)) (unless r node (timed_out node)).now.order []) [
+    (elim (leaving_refusal node view) as (λ r. leaving_refusal node view ≡ r → Lead node.order (where_taken r (leaving_deeds node view)) (unless r node (left_for node view)).now.order []) [
       | Some refused ↦ λ e. nothing node.order
       | None ↦ λ e.
           let may = not_refused (views.leaving_refusal node.order view) e in
-          then node.order gone.order (timed_out node).now.order (turns.TimesOut view) (change_deeds gone (own_change node))
+          then node.order gone.order (left_for node view).now.order (turns.TimesOut view) (change_deeds gone (own_change node view))
           (one node.order (turns.TimesOut view) gone.order (ap (λ (r : Option OrderError). (outcomes.unless r node.order (views.left node.order view)).now) may))
-          (change_comes gone (own_change node) (left_bounded node.order view may))
+          (change_comes gone (own_change node view) (left_bounded node.order view may))
     ]) refl
 
 -- An adoption -------------------------------------------------------------------------------------------------------------
@@ -267,5 +266,6 @@ step_leads node (Proposes time) bounded =
 step_leads node Executes bounded = executes node
 step_leads node Fails bounded = nothing node.order
 step_leads node Checkpoints bounded = tells node
-step_leads node TimesOut bounded = times_out node
+step_leads node TimesOut bounded = leaves node (next_view node.order)
+step_leads node (LeavesFor view) bounded = leaves node view
 step_leads node (Adopts certificate files table) bounded = adopts node certificate files table

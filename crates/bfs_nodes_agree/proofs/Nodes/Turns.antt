@@ -32,7 +32,7 @@ use Rattle.bfs_nodes_agree.specs.Nodes.Replicas.{Beginning, Keyring, NodeReplica
 use Rattle.bfs_nodes_agree.specs.Nodes.Steps.{NodeStep, deeds_of, executed_by, outcome}
 use Rattle.bfs_nodes_agree.proofs.Nodes.Bounds.{IsBounded, kept}
 use Rattle.bfs_nodes_agree.proofs.Nodes.Doing.{ArePassed, BringAll, Done, OfferAll, RepliesBy, Stands, StandsBy, at_who, deeds_keep, deeds_offer, elsewhere, extends_deeds, own_said, stays_kept}
-use Rattle.bfs_nodes_agree.proofs.Nodes.Hearing.{AreGrown, HaveGrown, IsGood, IsHeard, IsSpoken, IsWhollySaid, change_on, grown, heard_on, said_later, spoken_on}
+use Rattle.bfs_nodes_agree.proofs.Nodes.Hearing.{AreGrown, GoesOut, HaveGrown, IsGood, IsHeard, IsSpoken, IsWhollySaid, change_on, goes_as, grown, heard_on, said_later, spoken_on}
 use Rattle.bfs_nodes_agree.proofs.Nodes.Keeping.{AreKept, good_on, none_kept}
 use Rattle.bfs_nodes_agree.proofs.Nodes.Right.{step_done}
 use Rattle.bfs_nodes_agree.proofs.Nodes.States.{both_at, here_after}
@@ -95,8 +95,8 @@ pub record Right (f : ℕ) (faulty : ℕ → Bool) (h : World) (w : NodeReplicas
   pub waiting : ArePassed r.node.keys r.node.pending
   pub spoken : AllIn (IsSpoken o) r.sent
   pub said : AllIn (IsWhollySaid faulty w) r.sent
-  -- what its order has sent, but for COMMITs
-  pub votes : (m : Signed OrderMessage) → IsIn m o.sent → (header m).tag < 4 → IsIn (as_message Order m) r.sent
+  -- what its order has sent
+  pub votes : (m : Signed OrderMessage) → IsIn m o.sent → GoesOut f m → IsIn (as_message Order m) r.sent
   pub checked : AllIn (IsChecked r.node.keys) o.sent
 
 abbrev pub AreRight : (f : ℕ) (faulty : ℕ → Bool) → NodeReplicas → ordered.OrderReplicas → Type 0
@@ -151,14 +151,14 @@ module _ (same : CallsKeepTheReplica) (views : IsKept HasNoLaterView) (written :
       let sent = deeds_offer node.keys deeds (v who) right.checked (subst (λ (s : State). OfferAll (IsChecked node.keys) s deeds) (sym at) done.offers) in
       let heard : AllIn (IsHeard faulty node.keys h after) (v who).state.log =
       λ m i. heard_on faulty node.keys (histories v) h w after (grown (map (turn_of who) deeds) v) (sent_on w turn) m (right.log m (subst (λ (s : State). IsIn m s.log) at i)) in
-      let given : (m : Signed OrderMessage) → IsIn m o.sent → (header m).tag < 4 → IsIn (as_message Order m) (after who).sent = λ m i small. elim (done.gives m i small) [
-        | inl j ↦ sent_on w turn who (as_message Order m) (right.votes m j small)
+      let given : (m : Signed OrderMessage) → IsIn m o.sent → GoesOut node.order.f m → IsIn (as_message Order m) (after who).sent = λ m i goes. elim (done.gives m i goes) [
+        | inl j ↦ sent_on w turn who (as_message Order m) (right.votes m j (goes_as node.order.f f m right.same_f goes))
         | inr j ↦ sent_here w turn (as_message Order m) j
       ] in
       let own : (m : Signed OrderMessage) → IsIn m o.sent → IsOwn who m → IsHeard faulty node.keys h after m = λ m i is_own. record {
         sent = λ small correct. inl (subst (λ (k : ℕ). Told (h k).sent (header m).tag (header m).sender (header m).view (header m).number (header m).digest) (sym is_own.sender)
             (in_told (headers (next who).sent) (header m) (in_map header (next who).sent m (subst (λ (x : ordered.OrderReplica). IsIn m x.sent) (sym (at_who deeds v who)) i))));
-        said = λ small. own_said faulty after who (as_message Order m) (given m i small) (ap principal.Replica is_own.sender);
+        said = λ goes. own_said faulty after who (as_message Order m) (given m i (goes_as (faults node.keys) node.order.f m right.fit goes)) (ap principal.Replica is_own.sender);
         whole = is_own.whole;
         checked = sent m i;
       } in
@@ -177,7 +177,7 @@ module _ (same : CallsKeepTheReplica) (views : IsKept HasNoLaterView) (written :
         waiting = subst (λ (k : Keys). ArePassed k out.now.pending) (sym done.keys) done.waiting;
         spoken = both_in (IsSpoken o) out.sent (w who).sent (λ s i. (done.sends s i).0) (λ s i. spoken_on (v who) o (extends_deeds deeds (v who)) s s.message (right.spoken s i));
         said = both_in (IsWhollySaid faulty after) out.sent (w who).sent (λ s i. (done.sends s i).2) (λ s i p of. said_later faulty w after (sent_on w turn) p.message (right.said s i p of));
-        votes = λ m i small. subst (λ (r : NodeReplica). IsIn (as_message Order m) r.sent) (here_after w turn) (given m i small);
+        votes = λ m i goes. subst (λ (r : NodeReplica). IsIn (as_message Order m) r.sent) (here_after w turn) (given m i (goes_as f node.order.f m (sym right.same_f) goes));
         checked = subst (λ (k : Keys). AllIn (IsChecked k) o.sent) (sym done.keys) sent;
       }
 

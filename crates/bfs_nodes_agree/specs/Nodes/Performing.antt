@@ -8,7 +8,7 @@ use Rattle.bfs_node.specs.Delivering.{SomeCame}
 use Rattle.bfs_node.specs.Nodes.{Messages, Node}
 use Rattle.bfs_node.specs.declared.error.NodeError.{NodeError}
 use Rattle.bfs_node.specs.declared.error.NodeError.TheVariants.{Memory}
-use Rattle.bfs_nodes_agree.specs.Nodes.Steps.{NodeStep, Delivers, Takes, TakesRequests, Proposes, Executes, Fails, Checkpoints, TimesOut, Adopts, outcome, still}
+use Rattle.bfs_nodes_agree.specs.Nodes.Steps.{NodeStep, Delivers, Takes, TakesRequests, Proposes, Executes, Fails, Checkpoints, TimesOut, LeavesFor, Adopts, outcome, still}
 use Rattle.bfs_nodes_agree.specs.declared.node_calls.performing.NodeCall.{NodeCall}
 use Rattle.bfs_nodes_agree.specs.declared.node_calls.performing.NodeCall.TheVariants as code
 use Rattle.bfs_nodes_agree.specs.declared.node_calls.performing.Sent.{Sent}
@@ -45,4 +45,5 @@ Performs node (code.Propose time) result now = DoesOrStays node (Proposes time) 
 Performs node code.Execute result now = Does (λ left. left ≡ (outcome node Fails).now) node Executes result now
 Performs node code.Checkpoint result now = DoesOrStays node Checkpoints result now
 Performs node code.TimeOut result now = DoesOrStays node TimesOut result now
+Performs node (code.LeaveFor view) result now = DoesOrStays node (LeavesFor view) result now
 Performs node (code.Adopt text certificate) result now = AdoptsSpelled node text.now certificate.now result now

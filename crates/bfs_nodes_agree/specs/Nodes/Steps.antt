@@ -19,7 +19,7 @@ use Rattle.bfs_view_change.specs.Changes.Keeping.{changes_for, with_change}
 use Rattle.bfs_nodes_agree.specs.Views.Replicas as turns
 use Rattle.bfs_nodes_agree.specs.Views.Replicas.{ViewDeed}
 use Rattle.bfs_node.specs.Adopting.{adopted, may_adopt}
-use Rattle.bfs_node.specs.Changing.{change_in, new_view_in, change_refusal, leads, may_begin, next_view, own_change, own_new_view, timed_out, timeout_refusal, view_refusal}
+use Rattle.bfs_node.specs.Changing.{change_in, new_view_in, change_refusal, leads, leaving_refusal, left_for, may_begin, next_view, own_change, own_new_view, timed_out, timeout_refusal, view_refusal}
 use Rattle.bfs_node.specs.Checkpoints.{checkpoint, checkpoint_refusal}
 use Rattle.bfs_node.specs.Delivering.{after_requests, bytes_delivered, bytes_refusal, delivered, delivery_refusal, order_in}
 use Rattle.bfs_node.specs.Executing.{execution, is_ready}
@@ -40,6 +40,8 @@ pub data NodeStep : Type 0 where
   Fails : NodeStep
   Checkpoints : NodeStep
   TimesOut : NodeStep
+  -- it leaves for that view
+  LeavesFor : (view : ℕ) → NodeStep
   -- with the file system and the table that a text spells
   Adopts : (certificate : StableCheckpoint) → FileSystem → Table → NodeStep
 
@@ -71,6 +73,7 @@ outcome node Executes = after_execution node (execution node)
 outcome node Fails = still (record node { files = None })
 outcome node Checkpoints = unless (checkpoint_refusal node) node (or_still node (checkpoint node))
 outcome node TimesOut = unless (timeout_refusal node) node (timed_out node)
+outcome node (LeavesFor view) = unless (leaving_refusal node view) node (left_for node view)
 outcome node (Adopts certificate files table) =
     if may_adopt node certificate && bytes_eq (node_digest files table) certificate.digest then still (adopted node certificate files table) else still node
 
@@ -110,9 +113,11 @@ checkpoint_deeds node None = []
 checkpoint_deeds node (Some files) = turns.Orders (order.Checkpoints node.keys node.order.last (snapshot_of files node.table).digest) ∷ []
 
 -- it leaves, and then its own VIEW-CHANGE comes to it
-abbrev pub timeout_deeds : Node → List ViewDeed
-timeout_deeds node =
-    turns.TimesOut (next_view node.order) ∷ change_deeds (record node { order = (left node.order (next_view node.order)).now }) (own_change node)
+abbrev pub leaving_deeds : Node → (view : ℕ) → List ViewDeed
+leaving_deeds node view = turns.TimesOut view ∷ change_deeds (record node { order = (left node.order view).now }) (own_change node view)
+
+abbrev pub deeds_for : Node → (view : ℕ) → List ViewDeed
+deeds_for node view = where_taken (leaving_refusal node view) (leaving_deeds node view)
 
 abbrev pub deeds_of : Node → NodeStep → List ViewDeed
 deeds_of node (Delivers bytes) = bytes_deeds node (message_of bytes)
@@ -120,7 +125,8 @@ deeds_of node (Takes signed) = message_deeds node signed signed.message
 deeds_of node (Proposes time) = turns.Orders (order.Proposes node.keys (pending_batch node time)) ∷ []
 deeds_of node Executes = if is_ready node then turns.Orders order.Executes ∷ [] else []
 deeds_of node Checkpoints = where_taken (checkpoint_refusal node) (checkpoint_deeds node node.files)
-deeds_of node TimesOut = where_taken (timeout_refusal node) (timeout_deeds node)
+deeds_of node TimesOut = deeds_for node (next_view node.order)
+deeds_of node (LeavesFor view) = deeds_for node view
 deeds_of node (Adopts certificate files table) =
     if may_adopt node certificate && bytes_eq (node_digest files table) certificate.digest then turns.Orders (order.Installs node.keys certificate) ∷ [] else []
 deeds_of node _ = []

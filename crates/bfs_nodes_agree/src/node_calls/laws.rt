@@ -1,10 +1,14 @@
 // Agreement of nodes. The bodies do nothing: what is said is the contracts.
 ghost use Rattle.bfs_nodes_agree.specs.Nodes.Answers.{NodesAnswer};
 ghost use Rattle.bfs_nodes_agree.specs.Nodes.Laws.{BegunViewsAreTakenWhole, FairIsAuthentic, NewViewsAreTakenWhole, NodesAgree, StepsAreTurns, TurnsMayBeTaken, WhatIsSentIsFair};
+ghost use Rattle.bfs_nodes_agree.specs.Nodes.Resending.{WhatIsResentWasSent};
 
 use crate::view_calls::laws::{nothing_is_passed_over, replicas_agree};
 use bfs_codec::{batches_with_one_text, message_was_written};
-use bfs_order::{a_replica_stays_itself, certificates_make_checkpoints_stable, views_are_entered};
+use bfs_order::{
+    a_replica_stays_itself, certificates_make_checkpoints_stable, views_are_entered,
+    what_is_resent_is_its_own,
+};
 use bfs_votes::quorums::quorums_meet;
 
 /// Whatever nodes do is what turns of their orders do.
@@ -71,4 +75,16 @@ pub fn nodes_answer()
     views_are_entered();
     message_was_written();
     batches_with_one_text();
+}
+
+/// What a node gives again it has sent before: a message that says the same, to the letter but for the batch of a PRE-PREPARE and for keyed hashes. It holds of each
+/// correct node, whoever the other one is, where there are others.
+pub fn what_is_resent_was_sent()
+    ensures { WhatIsResentWasSent }
+{
+    a_replica_stays_itself();
+    views_are_entered();
+    message_was_written();
+    batches_with_one_text();
+    what_is_resent_is_its_own();
 }

@@ -27,6 +27,8 @@ pub enum NodeCall<'a> {
     Checkpoint,
     /// Time has run out for its view.
     TimeOut,
+    /// It leaves for that view.
+    LeaveFor(u64),
     /// It adopts the snapshot of another one.
     Adopt {
         text: &'a [u8],
@@ -72,6 +74,7 @@ pub fn perform<R: Threads + Wait + Sync, G: Gate + Sync>(
         },
         NodeCall::Checkpoint => Ok(Sent::One(node.checkpoint(rt)?)),
         NodeCall::TimeOut => Ok(Sent::All(node.timeout()?)),
+        NodeCall::LeaveFor(view) => Ok(Sent::All(node.leave_for(view)?)),
         NodeCall::Adopt { text, certificate } => {
             node.adopt(rt, text, certificate)?;
             Ok(Sent::Nothing)

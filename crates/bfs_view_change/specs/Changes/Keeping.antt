@@ -1,4 +1,4 @@
--- What a replica keeps of the VIEW-CHANGEs that come to it (OSDI 1999 section 4.4). Of each sender there is at most one, for a view that the keeper
+-- What a replica keeps of the VIEW-CHANGEs that come to it, and its own last one (OSDI 1999 section 4.4). Of each sender there is at most one, for a view that the keeper
 -- leads: a sender that asks for view after view takes no more room.
 use Rattle.std.specs.Prelude.{ℕ, ◌==◌, Bool, List, [], ◌∷◌, filter, fold, length, map, min, replicate, get_or, slice_set, Option, Some, None, nat_le, nat_lt, if◌then◌else◌}
 use Rattle.std.specs.List.{filter_map}
@@ -11,9 +11,11 @@ pub record Kept : Type 0 where
   pub asked : List ℕ
   -- by their senders: the last one for a view that the keeper leads
   pub changes : List (Option (Signed model.ViewChange))
+  -- the one that the keeper has sent last
+  pub own : Option (Signed model.ViewChange)
 
 abbrev pub nothing_kept : (f : ℕ) → Kept
-nothing_kept f = record { asked = replicate (replicas f) 0; changes = replicate (replicas f) None }
+nothing_kept f = record { asked = replicate (replicas f) 0; changes = replicate (replicas f) None; own = None }
 
 -- its sender has asked for that view, or for a later one
 abbrev pub was_asked : Kept → model.ViewChange → Bool
@@ -39,6 +41,10 @@ with_asked kept change = record kept { asked = slice_set kept.asked change.sende
 abbrev pub with_change : Kept → Signed model.ViewChange → Kept
 with_change kept s = record (with_asked kept s.message) { changes = slice_set kept.changes s.message.sender (Some s) }
 
+-- the keeper has sent it
+abbrev pub with_own : Kept → Signed model.ViewChange → Kept
+with_own kept s = record kept { own = Some s }
+
 abbrev pub if_for : (view : ℕ) → Option (Signed model.ViewChange) → Option (Signed model.ViewChange)
 if_for view None = None
 if_for view (Some s) = if s.message.view == view then Some s else None
@@ -57,4 +63,4 @@ above_view view kept = record kept { changes = map (if_above view) kept.changes 
 
 -- what was kept of a sender before
 abbrev pub put_back : Kept → (sender asked : ℕ) → Option (Signed model.ViewChange) → Kept
-put_back kept sender asked change = record { asked = slice_set kept.asked sender asked; changes = slice_set kept.changes sender change }
+put_back kept sender asked change = record kept { asked = slice_set kept.asked sender asked; changes = slice_set kept.changes sender change }
