@@ -49,11 +49,7 @@ fn refresh_tree(rt: &(impl Threads + Sync), alloc: Global, tree: &mut Tree) -> R
     keep_each(alloc, tree, &hashed.records)
 }
 
-fn keep_blocks<S: Store>(
-    alloc: Global,
-    store: &mut S,
-    blocks: &[BlockDigest],
-) -> Result<(), Memory>
+fn keep_blocks<S: Store>(alloc: Global, store: &mut S, blocks: &[BlockDigest]) -> Result<(), Memory>
     requires whole { IsTrue ((S.reach store.old).whole) }
     requires hashed { All (IsBlockHashed (S.inodes store.old)) blocks.now }
     ensures inodes { S.inodes store.new ≡ S.inodes store.old }
@@ -67,11 +63,7 @@ fn keep_blocks<S: Store>(
 
 // in the file of its fileid, if there is one
 #[tactic(auto, using(bfs_tree::proofs::Public::insert_same))]
-fn keep_block<S: Store>(
-    alloc: Global,
-    store: &mut S,
-    hashed: &BlockDigest,
-) -> Result<(), Memory>
+fn keep_block<S: Store>(alloc: Global, store: &mut S, hashed: &BlockDigest) -> Result<(), Memory>
     requires owned { IsTrue ((S.reach store.old).owned hashed.now.block.id) }
     requires hashed { IsBlockHashed (S.inodes store.old) hashed.now }
     ensures inodes { S.inodes store.new ≡ S.inodes store.old }
@@ -83,11 +75,7 @@ fn keep_block<S: Store>(
     }
 }
 
-fn keep_each<S: Store>(
-    alloc: Global,
-    store: &mut S,
-    digests: &[RecordDigest],
-) -> Result<(), Memory>
+fn keep_each<S: Store>(alloc: Global, store: &mut S, digests: &[RecordDigest]) -> Result<(), Memory>
     requires whole { IsTrue ((S.reach store.old).whole) }
     requires hashed { All (IsHashed (S.inodes store.old)) digests.now }
     ensures inodes { S.inodes store.new ≡ S.inodes store.old }

@@ -7,8 +7,8 @@ mod frozen;
 mod inodes;
 mod names;
 
-pub use bfs_types::{FileId, Time};
 pub use bfs_blocks::{BLOCK_BYTES, FileBlocks};
+pub use bfs_types::{FileId, Time};
 pub use bodies::Body;
 pub use directories::{Directory, Entries, Entry, Listed, Page};
 pub use frozen::{FrozenBody, FrozenInode};

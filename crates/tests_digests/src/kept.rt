@@ -1,8 +1,9 @@
 //! Digests that inodes keep: which there are, that a change of an inode drops its own alone, and what the digest of the file system is then.
 use crate::files::{
     batch_at, batch_of, copied, digest_of, digest_on_threads, execute, execute_by, execute_steps,
-    made, push, refreshed, text_of,
+    frozen, made, push, refreshed, text_of,
 };
+use bfs_digest::FrozenFiles;
 use bfs_inode::{Body, FileBlocks, Inode};
 use bfs_parallel::Engine;
 use bfs_serial::{ExecError, FileSystem};
@@ -325,34 +326,88 @@ fn refreshes_none_that_has_failed(rt: HostRuntime) -> Result<(), Fail> {
     Ok(())
 }
 
-// of 256 blocks, which are kept, and which threads hash
-const LARGE: &[u32] = &[
-    0xffffffff, 0xffffffff, 0xffffffff, 1_048_576, 0xffffffff, 0xffffffff, 0xffffffff, 0xffffffff,
-];
+// the text and the digest of what is frozen are these
+fn is_of(alloc: Global, frozen: &FrozenFiles, text: &[u8], digest: &[u8; 32]) -> Result<(), Fail> {
+    let mut put = Vec::new(alloc);
+    frozen.put_text(&mut put)?;
+    compared(put.as_slice(), text)?;
+    Ok(compared(&frozen.digest(), digest)?)
+}
 
-static ENLARGED: &[Step] = &[Step(SETATTR, &[FIFTH, LARGE], &[])];
-
-// those that don't keep their digest once it was tried
-fn left_without(
+// what is frozen before and behind a call is what the file system was then, also once one of both is gone
+fn stays_behind(
     rt: &(impl Threads + Sync),
     alloc: Global,
     files: &mut FileSystem,
-) -> &'static [u32] {
-    match refreshed(rt, alloc, files) {
-        Ok(()) => &[],
-        Err(_) => &[2, 3, 4, 5, 6, 7, 8],
+    step: &[Step],
+) -> Result<(), Fail> {
+    let (text, digest) = (text_of(alloc, files)?, digest_of(files)?);
+    let before = frozen(rt, alloc, files)?;
+    execute_steps(alloc, files, 2, step)?;
+    let behind = frozen(rt, alloc, files)?;
+    is_of(alloc, &before, text.as_slice(), &digest)?;
+    drop(before);
+    let text = text_of(alloc, files)?;
+    is_of(alloc, &behind, text.as_slice(), &digest_of(files)?)
+}
+
+static MORE_CHANGES: &[&[Step]] = &[
+    &[Step(WRITE, &[FIFTH, &[0, 0, 0, 1, 0x61000000]], &[])],
+    &[Step(SETATTR, &[FIFTH, READ_ONLY], &[])],
+    &[Step(CREATE, &[FOURTH, F, UNSET], &[])],
+    &[Step(REMOVE, &[THIRD, A], &[])],
+    &[Step(RENAME, &[THIRD, A, FOURTH, B], &[])],
+    &[Step(MKDIR, &[SEVENTH, F, UNSET], &[])],
+    &[Step(GETATTR, &[FIFTH], &[])],
+];
+
+#[test]
+fn what_is_frozen_stays(rt: HostRuntime) -> Result<(), Fail> {
+    let mut files = made(rt.alloc(), MADE)?;
+    for steps in MORE_CHANGES {
+        stays_behind(&rt, rt.alloc(), &mut files, steps)?;
+    }
+    Ok(())
+}
+
+// of 80 blocks, of which no two are equal, and which threads hash
+fn written(alloc: Global) -> Result<FileSystem, Fail> {
+    let mut files = made(alloc, CREATED)?;
+    for number in 0u32..40 {
+        let write = Change::Write(number.wrapping_mul(8_192), number.wrapping_add(1));
+        execute_change(alloc, &mut files, &write)?;
+    }
+    Ok(files)
+}
+
+// what was frozen, if that was not refused, is still what the file system was
+fn was_frozen(
+    alloc: Global,
+    frozen: &Result<FrozenFiles, ExecError>,
+    files: &FileSystem,
+) -> Result<(), Fail> {
+    match frozen {
+        Ok(frozen) => is_of(
+            alloc,
+            frozen,
+            text_of(alloc, files)?.as_slice(),
+            &digest_of(files)?,
+        ),
+        Err(_) => Ok(()),
     }
 }
 
 /// Nothing is refused in the gate's run of the tests: `.ci/refusals` runs this one with each growth of memory, and each start of a thread,
 /// refused in turn.
 #[test]
-fn refreshes_or_stays_as_it_was(rt: HostRuntime) -> Result<(), Fail> {
+fn freezes_or_stays_as_it_was(rt: HostRuntime) -> Result<(), Fail> {
     let alloc = rt.alloc();
-    let mut files = made(alloc, MADE)?;
-    execute_steps(alloc, &mut files, 2, ENLARGED)?;
-    let wanted = left_without(&rt, alloc, &mut files);
-    is_kept_but(&rt, alloc, &files, wanted)?;
+    let mut files = written(alloc)?;
+    let text = text_of(alloc, &files)?;
+    let frozen = frozen(&rt, alloc, &mut files);
+    compared(text_of(alloc, &files)?.as_slice(), text.as_slice())?;
+    is_digested(&rt, alloc, &files)?;
+    was_frozen(alloc, &frozen, &files)?;
     // once there is memory
     keeps_all(&rt, alloc, &mut files)
 }

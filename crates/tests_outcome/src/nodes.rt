@@ -84,6 +84,26 @@ fn one_that_has_failed_has_none(rt: HostRuntime) -> Result<(), Fail> {
     Ok(())
 }
 
+// the text and the digest of what was taken, if that was not refused
+fn was_taken(alloc: Global, taken: &Result<Snapshot, ExecError>) -> Result<(), Fail> {
+    match taken {
+        Ok(taken) => is_of(alloc, taken, TEXT, DIGEST),
+        Err(_) => Ok(()),
+    }
+}
+
+/// Nothing is refused in the gate's run of the tests: `.ci/refusals` runs this one with each growth of memory, and each start of a thread,
+/// refused in turn.
+#[test]
+fn a_snapshot_is_taken_or_all_stays(rt: HostRuntime) -> Result<(), Fail> {
+    let alloc = rt.alloc();
+    let table = table(alloc)?;
+    let mut files = FileSystem::new(alloc)?;
+    let taken = take_snapshot(&rt, alloc, &mut files, &table);
+    has_digest(&rt, alloc, &files, &table, DIGEST)?;
+    was_taken(alloc, &taken)
+}
+
 // the number of the refusal, or 0 where the text is read
 fn refusal(alloc: Global, text: &[u8], clients: u32) -> u32 {
     match read_node(alloc, text, clients) {
