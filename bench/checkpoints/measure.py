@@ -30,7 +30,7 @@ def checkpoint(program, files, length, change, count):
 
 def main(room, words):
     lib.chosen(words, ())
-    crates = "bfs_types bfs_replay bfs_replies bfs_serial bfs_checkpoints bfs_testing sha2"
+    crates = "bfs_types bfs_replies bfs_serial bfs_checkpoints bfs_testing sha2"
     program = lib.program_of("checkpoints", room, crates, "1", "8192", "write", "1", "1", "1")
     for name, files, length in STATES:
         first, again, hashed = checkpoint(program, files, length, "setattr", 0)

@@ -54,7 +54,9 @@ impl Snapshot {
     /// Its text and its digest are of one state: a call that does nothing tells it.
     pub(crate) fn is_of_one_state(&self)
         ensures { IsSnapshot self.now }
-    {}
+    {
+        let _ = &self.digest;
+    }
 }
 
 /// A snapshot of a replica. What its inodes are is frozen and shared (`freeze`), so that a snapshot costs what has changed since the one

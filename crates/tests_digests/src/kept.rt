@@ -182,6 +182,7 @@ fn drops_the_digest_of_what_changes(rt: HostRuntime) -> Result<(), Fail> {
 static CREATED: &[Step] = &[Step(CREATE, &[ROOT, A, UNSET], &[])];
 
 // of a file of up to 25 blocks
+#[derive(Drop)]
 enum Change {
     // 8,192 bytes at an offset, all spelled by one word
     Write(u32, u32),
