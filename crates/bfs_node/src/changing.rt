@@ -262,7 +262,10 @@ impl Node {
     }
 }
 
-pub(crate) fn as_sent(alloc: Global, own: &Signed<ViewChange>) -> Result<Vec<Signed<Message>>, Memory>
+pub(crate) fn as_sent(
+    alloc: Global,
+    own: &Signed<ViewChange>,
+) -> Result<Vec<Signed<Message>>, Memory>
     ensures { IfOk result (λ sent. sent.items ≡ as_message kind.ViewChange own.now ∷ []) }
 {
     let mut sent = Vec::new(alloc);

@@ -43,7 +43,7 @@ use Rattle.bfs_nodes_agree.specs.Nodes.Premises.{AreAuthentic, AreShared, HasSai
 use Rattle.bfs_nodes_agree.specs.Nodes.Replicas.{Beginning, Keyring, NodeReplica, NodeReplicas, NodeTurn, after_node_step, after_node_turn, after_node_turns, new_node_replicas, turn_of}
 use Rattle.bfs_nodes_agree.specs.Nodes.Resending.{IsSaidAgain, WhatIsResentWasSent}
 use Rattle.bfs_nodes_agree.specs.Nodes.Steps.{NodeStep, Delivers, Takes, TakesRequests, Proposes, Executes, Fails, Checkpoints, TimesOut, LeavesFor, Adopts, still, unless, or_still, after_execution, outcome, deeds_of}
-use Rattle.bfs_nodes_agree.proofs.Nodes.Doing.{both_at}
+use Rattle.bfs_nodes_agree.proofs.Nodes.States.{both_at}
 use Rattle.bfs_nodes_agree.proofs.Nodes.Steps.{waits}
 use Rattle.bfs_nodes_agree.proofs.Nodes.Turns.{AreRight, Right, new_right, right_on}
 

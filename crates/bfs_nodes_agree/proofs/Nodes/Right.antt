@@ -58,7 +58,7 @@ use Rattle.bfs_view_change.specs.Changes.ViewChanges.{messages_of, valid_view_ch
 use Rattle.bfs_nodes_agree.specs.Views.Changes.{told_change}
 use Rattle.bfs_nodes_agree.specs.Views.Replicas as turns
 use Rattle.bfs_nodes_agree.specs.Views.Replicas.{ViewDeed, ordered_deed}
-use Rattle.bfs_nodes_agree.proofs.Views.Lists.{in_map, map_in}
+use Rattle.bfs_nodes_agree.proofs.Views.Lists.{at_in, in_map, map_in}
 use Rattle.bfs_nodes_agree.proofs.Views.OfLog.{made_holds, made_proves}
 use Rattle.bfs_nodes_agree.proofs.Views.Proved.{is_valid, valid_proves}
 use Rattle.bfs_node.specs.Adopting.{adopted, may_adopt}
