@@ -1,6 +1,7 @@
 -- What a step of a view change comes to.
-use Rattle.std.proofs.Common.{◌≡◌, ◌∙◌, ℕ, true, false, cond, List, Option, Some, None, refl, sym, ap}
-use Rattle.std.specs.Prelude.{nat_lt}
+use Rattle.std.proofs.Common.{◌≡◌, ◌∙◌, ℕ, true, false, cond, List, Option, Some, None, Result, Ok, Err, refl, sym, ap}
+use Rattle.std.specs.Prelude.{IfErr, nat_lt}
+use Rattle.std.specs.Option.{option_map}
 use Rattle.bfs_auth.specs.Keys.{Keys}
 use Rattle.bfs_log.specs.Certificates.{StableCheckpoint}
 use Rattle.bfs_log.specs.Logs.{as_messages}
@@ -14,9 +15,13 @@ use Rattle.bfs_order.specs.Replica.States.{State}
 use Rattle.bfs_order.specs.Replica.Views.{all_taken_over, as_proposals, entered, entering_refusal, opened}
 use Rattle.bfs_order.specs.declared.error.OrderError.{OrderError}
 use Rattle.bfs_view_change.specs.Changes.Keeping.{above_view}
-use Rattle.bfs_view_change.specs.Changes.NewViews.{latest_checkpoint}
+use Rattle.bfs_view_change.specs.Changes.Making.{signed_new_view}
+use Rattle.bfs_view_change.specs.Changes.NewViews.{are_chosen, first_of, ground_refusal, latest_checkpoint, new_view_refusal}
 use Rattle.bfs_view_change.specs.Changes.ViewChanges.{messages_of}
-use Rattle.bfs_node.specs.Changing.{entered_by, settled_if}
+use Rattle.bfs_view_change.specs.declared.error.ViewError.{ViewError}
+use Rattle.bfs_view_change.specs.declared.error.ViewError.TheVariants.{WrongChoice}
+use Rattle.bfs_node.specs.Changing.{entered_by, own_new_view, settled_if}
+use Rattle.bfs_node.specs.Errors.{of_view}
 use Rattle.bfs_node.specs.Inside.Asking.{asking}
 use Rattle.bfs_node.specs.Nodes.{Node, Outcome}
 
@@ -47,3 +52,22 @@ entered_asking node s =
       now = record node { order = done.now; changes = above_view new.view node.changes; snapshots = settled_if (nat_lt node.order.low done.now.low) stable node.snapshots; new_view = Some s };
       sent = as_messages done.sent;
     } in out) (asked_again node.keys node.order new.view stable new.proposals)
+
+-- the primary enters by its own
+pub entered_own : (node : Node) (view : ℕ) (s : Signed model.NewView) → s ≡ signed_new_view node.keys (own_new_view (asking node view))
+    → entered_by node s ≡ entered_by (asking node view) (signed_new_view node.keys (own_new_view (asking node view)))
+entered_own node view s is = ap (entered_by node) is ∙ sym (entered_asking node (signed_new_view node.keys (own_new_view (asking node view))))
+
+-- a NEW-VIEW that is not refused has no fault in what it is founded on
+pub ground_none : (keys : Keys) (s : Signed model.NewView) → new_view_refusal keys s ≡ None → option_map of_view (ground_refusal keys s) ≡ None
+ground_none keys s none = go (ground_refusal keys s) none
+  where
+    go : (r : Option ViewError) → first_of r (cond (are_chosen keys s.message) None (Some WrongChoice)) ≡ None → option_map of_view r ≡ None
+    go None e = refl
+    go (Some refused) e = absurd cc
+
+-- Results -----------------------------------------------------------------------------------------------------------------
+
+pub if_err : {A E : Type 0} (r : Result A E) (P : E → Type 0) (Q : Type 0) → Q → IfErr r (λ e. P e → Q)
+if_err (Ok x) P Q q = tt
+if_err (Err e) P Q q = λ _. q

@@ -191,7 +191,8 @@ impl Node {
             message: Message::NewView(own.message),
             auth: own.auth,
         })?;
-        self.enter_by(begun.new_view, begun.stable, begun.handed, first)
+        let sent = self.enter_by(begun.new_view, begun.stable, begun.handed, first)?;
+        Ok(sent)
     }
 
     // The view of a NEW-VIEW is entered, and it is kept. What is sent in it stands behind what is to be sent before.
