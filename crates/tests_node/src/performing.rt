@@ -80,9 +80,11 @@ fn performed<R: Threads + Wait + Sync>(
     Ok(performs(rt, node, call))
 }
 
-// whether it leaves its view
+// whether it leaves its view, and then the next one for view 7, once
 fn leaves<R: Threads + Wait + Sync>(rt: &R, node: &mut Node) -> bool {
     matches!(performs(rt, node, NodeCall::TimeOut), Said::Sent(_))
+        && (matches!(performs(rt, node, NodeCall::LeaveFor(7)), Said::Sent(_))
+            && performs(rt, node, NodeCall::LeaveFor(7)) == Said::Refused(25))
 }
 
 // the place of the first call that comes to something else than is told, and what it comes to
@@ -124,6 +126,6 @@ fn a_call_that_is_performed_does_what_it_does(rt: HostRuntime) -> Result<(), Fai
     let mut node = members(0).replica(alloc, 0)?;
     compared(first_wrong(&rt, alloc, &mut node, CALLS)?, None)?;
     compared(leaves(&rt, &mut node), true)?;
-    compared(standing_of(&node), Standing(1, 1, 0))?;
+    compared(standing_of(&node), Standing(7, 1, 0))?;
     Ok(())
 }

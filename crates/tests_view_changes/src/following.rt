@@ -14,7 +14,7 @@ static TWO_ASK: [Step; 9] = [
     Step::Looks(Outlook(true, 0, None)),
     Step::Change(OF_THREE, 3, Said::Sent(0)),
     Step::Looks(Outlook(true, 0, Some(1))),
-    Step::TimeOut(Said::Sent(1)),
+    Step::LeaveFor(1, Said::Sent(1)),
     // one alone asks for a later view
     Step::Looks(Outlook(false, 1, None)),
     Step::Change(FOR_ANOTHER_VIEW, 3, Said::Sent(0)),
@@ -42,7 +42,7 @@ fn the_primary_of_the_view_that_it_begins_leads(rt: HostRuntime) -> Result<(), F
 
 const RIGHT: Begun = Begun(1, &[OF_ONE, OF_TWO, OF_THREE], PROPOSED);
 
-static A_BACKUP: [Step; 8] = [
+static A_BACKUP: [Step; 12] = [
     Step::TimeOut(Said::Sent(1)),
     Step::TimeOut(Said::Sent(1)),
     // it has asked for view 2, and comes back to none below
@@ -51,6 +51,11 @@ static A_BACKUP: [Step; 8] = [
     Step::Change(OF_TWO_FOR_FIVE, 2, Said::Sent(0)),
     Step::Change(FOR_SIX, 0, Said::Sent(0)),
     Step::Looks(Outlook(false, 2, Some(5))),
+    // in one step
+    Step::LeaveFor(2, Said::Refused(25)),
+    Step::LeaveFor(5, Said::Sent(1)),
+    Step::LeaveFor(5, Said::Refused(25)),
+    Step::Looks(Outlook(false, 5, None)),
     Step::Stands(Standing(0, 0, 0)),
 ];
 

@@ -33,6 +33,8 @@ pub enum Step {
     NewView(Begun, Said),
     /// Time runs out.
     TimeOut(Said),
+    /// It leaves for that view.
+    LeaveFor(u64, Said),
     /// It stands so.
     Stands(Standing),
     /// It looks at views so.
@@ -66,6 +68,7 @@ fn happens<R: Threads + Sync>(
         }
         Step::NewView(begun, wanted) => comes(rt, node, begun.message(alloc), wanted),
         Step::TimeOut(wanted) => Ok(Said::of_all(&time_out(node)) == wanted),
+        Step::LeaveFor(view, wanted) => Ok(Said::of_all(&node.leave_for(view)) == wanted),
         Step::Stands(wanted) => Ok(standing_of(node) == wanted),
         Step::Looks(wanted) => Ok(outlook_of(node) == wanted),
         Step::Entered(kept, low) => Ok(kept_by(node) == kept && node.stable_number() == low),

@@ -38,7 +38,7 @@ use Rattle.bfs_node.specs.Nodes.{Messages, Node, Outcome}
 use Rattle.bfs_node.specs.Proposing.{proposal_refusal, proposed}
 use Rattle.bfs_node.specs.Resending.{change_resent, resent}
 use Rattle.bfs_node.specs.declared.error.NodeError.{NodeError}
-use Rattle.bfs_view_change.specs.Changes.Keeping.{with_change}
+use Rattle.bfs_view_change.specs.Changes.Keeping.{with_asked, with_change}
 use Rattle.bfs_nodes_agree.specs.Nodes.Premises.{AreAuthentic, AreShared, HasSaid}
 use Rattle.bfs_nodes_agree.specs.Nodes.Replicas.{Beginning, Keyring, NodeReplica, NodeReplicas, NodeTurn, after_node_step, after_node_turn, after_node_turns, new_node_replicas, turn_of}
 use Rattle.bfs_nodes_agree.specs.Nodes.Resending.{IsSaidAgain, WhatIsResentWasSent}
@@ -66,7 +66,8 @@ begins_keeps node = elim (may_begin node) as (λ b. KeepsAs node (cond b (begun 
 change_keeps : (node : Node) (s : Change) → KeepsAs node (with_view_change node s).now
 change_keeps node s =
     let there = record node { changes = with_change node.changes s } in
-    elim (leads node s.message.view) as (λ b. KeepsAs node (cond b (begun_if_due there) (still node)).now) [ true ↦ begins_keeps there | false ↦ refl ]
+    let noted = record node { changes = with_asked node.changes s.message } in
+    elim (leads node s.message.view) as (λ b. KeepsAs node (cond b (begun_if_due there) (still noted)).now) [ true ↦ begins_keeps there | false ↦ refl ]
 
 message_keeps : (node : Node) (m : Message) (auth : List (List ℕ))
     → KeepsAs node (unless (message_refusal node (record { message = m; auth = auth }) m) node (message_delivered node (record { message = m; auth = auth }) m)).now

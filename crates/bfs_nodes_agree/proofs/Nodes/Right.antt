@@ -372,10 +372,10 @@ module _ (faulty : ℕ → Bool) (after : NodeReplicas) (who : ℕ) where
         let deed = turns.Orders (order.Installs node.keys certificate) in
         let heard = IsHeard faulty node.keys (histories (After faulty after who v node know (deed ∷ []))) after in
         let told : is_shown node.keys node.order.f certificate ≡ true → (x : Signed model.Checkpoint) → IsIn x certificate.checkpoints → IsSaid faulty after (Order (Checkpoint x.message)) = λ right x i.
-            let m = as_message Checkpoint x in
-            let there = in_map (as_message Checkpoint) certificate.checkpoints x i in
-            let signed = (at_in (IsVoucher node.keys node.order.f certificate.number certificate.digest) (checkpoints_in certificate) (vouched node.keys node.order.f certificate right).each m there).signed in
-            said_later faulty w after on (Order m.message) (λ k e correct. authentic (as_message Order m) (in_map (as_message Order) (checkpoints_in certificate) m there) k e signed correct) in
+        let m = as_message Checkpoint x in
+        let there = in_map (as_message Checkpoint) certificate.checkpoints x i in
+        let signed = (at_in (IsVoucher node.keys node.order.f certificate.number certificate.digest) (checkpoints_in certificate) (vouched node.keys node.order.f certificate right).each m there).signed in
+        said_later faulty w after on (Order m.message) (λ k e correct. authentic (as_message Order m) (in_map (as_message Order) (checkpoints_in certificate) m there) k e signed correct) in
         elim (may_adopt node certificate && bytes_eq (node_digest files table) certificate.digest) as (λ b. DoesQuietly v node know (Unit {0}) (cond b (deed ∷ []) []) (cond b (still (adopted node certificate files table)) (still node))) [
           | true ↦ deed_done faulty after who v node know (Unit {0}) NoReply deed (still (adopted node certificate files table)) [] refl tt refl know.kept know.waiting (λ s i. absurd i) (λ m i small. absurd i)
               (λ right. map_in heard (as_message Checkpoint) certificate.checkpoints (λ x i. checkpoint_heard node.keys (histories (After faulty after who v node know (deed ∷ []))) (as_message Checkpoint x) refl (told right x i) tt refl)) tt tt
