@@ -19,4 +19,4 @@ settle_above-requires c =
     same_faults c.a_replica_stays_itself.ensures c.self.inside.keys c.self.inside.order c.enter_view_behind-entered.new.self c.view-view.result (option_map (λ checkpoint. checkpoint.now) c.as_ref.result) c.args.handed.items c.in-Ok.ensures.taken c.in-Ok.ensures.now in
     let low = c.low-low.ensures.value in
     λ lt. subst (λ (f : ℕ). IfSome c.args.stable (MakesStable f)) (sym faults)
-        (subst (λ (stable : Option StableCheckpoint). IfSome stable (MakesStable c.self.inside.order.f)) c.as_ref.ensures.value (c.in-Ok.ensures.raised (omega (arith, lt, low))))
+    (subst (λ (stable : Option StableCheckpoint). IfSome stable (MakesStable c.self.inside.order.f)) c.as_ref.ensures.value (c.in-Ok.ensures.raised (omega (arith, lt, low))))
