@@ -19,7 +19,7 @@ made_own c = c.in_ok-own.ensures.value ∙ ap (λ (n : Node). signed_change n.ke
 
 pub returns-clause-now : goal.returns-clause-now
 returns-clause-now c =
-    ap (λ (kept : Kept). record { keys = c.self-2.inside.keys; order = c.self-2.inside.order; files = c.self-2.inside.files; table = c.self-2.inside.table; pending = c.self-2.inside.pending; changes = kept; snapshots = c.self-2.inside.snapshots }) c.keep_own.ensures
+    ap (λ (kept : Kept). record { keys = c.self-2.inside.keys; order = c.self-2.inside.order; files = c.self-2.inside.files; table = c.self-2.inside.table; pending = c.self-2.inside.pending; changes = kept; snapshots = c.self-2.inside.snapshots; new_view = c.self-2.inside.new_view }) c.keep_own.ensures
     ∙ ap (λ (n : Node). keeping n c.in_ok-kept.kept) (c.self-2.view_is ∙ c.in_ok-sent.ensures.now)
     ∙ ap (λ (kept : Signed model.ViewChange). keeping (with_view_change (asking c.args.self.now c.args.view) c.in_ok-own.own).now kept) c.in_ok-kept.ensures
     ∙ ap (λ (own : Signed model.ViewChange). keeping (with_view_change (asking c.args.self.now c.args.view) own).now own) (made_own c)
