@@ -60,10 +60,10 @@ fn sharers<R: Threads + Sync>(
 #[test]
 fn a_batch_is_hashed_while_its_requests_come(rt: HostRuntime) -> Result<(), Fail> {
     let alloc = rt.alloc();
-    // the PRE-PREPARE, the log and its index, and what waits, which had it first
-    same!(rt; sharers(&rt, alloc, 8, 1)?, 4);
+    // the PRE-PREPARE, the log, its index, which has the message and the batch, and what waits, which had it first
+    same!(rt; sharers(&rt, alloc, 8, 1)?, 5);
     // at another time, and where there is too little for a thread, it is made when it is proposed
-    same!(rt; sharers(&rt, alloc, 8, 2)?, 3);
-    same!(rt; sharers(&rt, alloc, 1, 1)?, 3);
+    same!(rt; sharers(&rt, alloc, 8, 2)?, 4);
+    same!(rt; sharers(&rt, alloc, 1, 1)?, 4);
     Ok(())
 }
