@@ -1,0 +1,10 @@
+-- What the contracts of lms cite: typecodes (Types), digits (Digits), chains and one-time signatures (Chains, OneTime), trees (Trees), public keys and signatures
+-- as bytes (Keys), and which signatures pass (Verifying).
+pub mod Types
+pub mod Digits
+pub mod Chains
+pub mod Bytes
+pub mod OneTime
+pub mod Trees
+pub mod Keys
+pub mod Verifying

@@ -1,0 +1,16 @@
+//! Signatures of hashes alone: LMS with LM-OTS (RFC 8554), with SHA-256 and hashes of 32 bytes. Which signatures pass is the standard's algorithm, of any bytes;
+//! what is malformed does not pass. Checking takes no memory.
+#![tactic(auto)]
+
+mod bytes;
+mod chains;
+mod digits;
+mod one_time;
+mod public_key;
+mod trees;
+mod types;
+mod verifying;
+
+pub use public_key::PublicKey;
+pub use types::{LmsType, OtsType};
+pub use verifying::verify;
