@@ -1,3 +1,4 @@
 mod Parts
 mod DigitSums
 mod Steps
+mod Nested

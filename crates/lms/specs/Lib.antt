@@ -1,5 +1,5 @@
 -- What the contracts of lms cite: typecodes (Types), digits (Digits), chains and one-time signatures (Chains, OneTime), trees (Trees), public keys and signatures
--- as bytes (Keys), and which signatures pass (Verifying).
+-- as bytes (Keys), which signatures pass (Verifying), and keys of several levels (Levels).
 pub mod Types
 pub mod Digits
 pub mod Chains
@@ -8,3 +8,4 @@ pub mod OneTime
 pub mod Trees
 pub mod Keys
 pub mod Verifying
+pub mod Levels

@@ -5,12 +5,14 @@
 mod bytes;
 mod chains;
 mod digits;
+mod hss;
 mod one_time;
 mod public_key;
 mod trees;
 mod types;
 mod verifying;
 
+pub use hss::{HssPublicKey, MOST_LEVELS, hss_verify};
 pub use public_key::PublicKey;
 pub use types::{LmsType, OtsType};
 pub use verifying::verify;

@@ -37,7 +37,7 @@ fn path_place(ots: OtsType) -> usize
     40 + 32 * ots.chain_count() as usize
 }
 
-fn signature_length(lms: LmsType, ots: OtsType) -> usize
+pub(crate) fn signature_length(lms: LmsType, ots: OtsType) -> usize
     ensures { result ≡ signature_length lms ots }
 {
     path_place(ots) + 4 + 32 * lms.height() as usize
