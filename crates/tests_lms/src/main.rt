@@ -1,0 +1,30 @@
+//! Signatures that Bouncy Castle 1.72 made, a line of standard input each: whether they pass, and whether what was changed in any way is refused. It prints a line
+//! for each. A line is `lms TYPE OTSTYPE I SEED LEAF TEXT PUBLICKEY SIGNATURE` or `hss LEVELS TEXT PUBLICKEY SIGNATURE`, bytes in hexadecimal, none as `-`.
+#![tactic(auto)]
+
+mod changes;
+mod vectors;
+
+use crate::changes::{Count, count_refused};
+use crate::vectors::Vector;
+use anyhow::Error;
+use std::io::{BufRead, BufReader};
+
+fn main(rt: HostRuntime) -> Result<(), Error> {
+    let alloc = rt.alloc();
+    let mut other = Vec::new(alloc);
+    for line in BufReader::new(alloc, rt.reader())?.lines(alloc) {
+        let line = line?;
+        let vector = Vector::read(alloc, line.as_str())?;
+        let passes = vector
+            .kind
+            .verify(&vector.public_key, &vector.text, &vector.signature);
+        let Count { changed, refused } = count_refused(alloc, &vector, &other)?;
+        println!(rt;
+            "{}: passes {passes}, refused {refused} of {changed} that were changed",
+            vector.name
+        )?;
+        other = vector.public_key;
+    }
+    Ok(())
+}
