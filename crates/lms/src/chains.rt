@@ -1,7 +1,7 @@
 // Chains of hashes. A step is one compression: what it hashes stands in an array of 55 bytes, and what it gives is written over the last 32 of them.
 ghost use Rattle.std.specs.Prelude.{◌≡◌, ◌+◌, ◌-◌, ◌≤◌, ◌++◌, length, take, drop};
 ghost use Rattle.sha2.specs.Hashers.{Holds256};
-ghost use Rattle.lms.specs.Chains.{front, steps};
+ghost use Rattle.lms.specs.Chains.{front, step, steps};
 
 use sha2::{Digest, Sha256};
 
@@ -39,6 +39,16 @@ pub(crate) fn chain_block(id: &[u8; 16], number: u32, chain: u16, value: &[u8]) 
     block
 }
 
+// takes the value of a block a step of that number further
+pub(crate) fn one_step(block: &mut [u8; 55], number: u8)
+    ensures front { take 22 block.new ≡ take 22 block.old }
+    ensures value { drop 23 block.new ≡ step (take 22 block.old) number (drop 23 block.old) }
+{
+    block[22] = number;
+    let value = Sha256::digest(block.as_slice());
+    put_at(block, 23, &value);
+}
+
 // takes the value of a block from one step of its chain to another
 pub(crate) fn run_steps(block: &mut [u8; 55], from: u8, to: u8)
     requires { from ≤ to }
@@ -46,8 +56,6 @@ pub(crate) fn run_steps(block: &mut [u8; 55], from: u8, to: u8)
     ensures value { drop 23 block.new ≡ steps (take 22 block.old) from (to - from) (drop 23 block.old) }
 {
     for number in from..to {
-        block[22] = number;
-        let value = Sha256::digest(block.as_slice());
-        put_at(block, 23, &value);
+        one_step(block, number);
     }
 }

@@ -7,12 +7,14 @@ mod chains;
 mod digits;
 mod hss;
 mod one_time;
+mod private_key;
 mod public_key;
 mod trees;
 mod types;
 mod verifying;
 
 pub use hss::{HssPublicKey, MOST_LEVELS, hss_verify};
+pub use private_key::PrivateKey;
 pub use public_key::PublicKey;
 pub use types::{LmsType, OtsType};
 pub use verifying::verify;

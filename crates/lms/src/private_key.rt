@@ -1,0 +1,32 @@
+ghost use Rattle.std.specs.Prelude.{◌≡◌, take, drop};
+ghost use Rattle.lms.specs.Chains.{front};
+ghost use Rattle.lms.specs.Secrets.{randomizer, secret};
+
+use crate::chains::{chain_block, one_step};
+use crate::types::{LmsType, OtsType};
+
+/// A private key of one tree: what all its secrets are made from (RFC 8554 appendix A). Each of its leaves may sign one text only; who has two signatures of
+/// different texts by one leaf can make more.
+#[derive(Clone, Copy, PartialEq, Eq)]
+pub struct PrivateKey {
+    /// The type of its tree.
+    pub lms: LmsType,
+    /// The type of its one-time signatures.
+    pub ots: OtsType,
+    /// What tells its tree from every other one.
+    pub id: [u8; 16],
+    /// What its secrets are made from: 32 random bytes.
+    pub seed: [u8; 32],
+}
+
+impl PrivateKey {
+    // a block that holds what is made from the seed for a leaf
+    pub(crate) fn secret_block(&self, leaf: u32, kind: u16) -> [u8; 55]
+        ensures front { take 22 result ≡ front self.now.id leaf kind }
+        ensures value { drop 23 result ≡ secret self.now leaf kind }
+    {
+        let mut block = chain_block(&self.id, leaf, kind, &self.seed);
+        one_step(&mut block, 255);
+        block
+    }
+}
