@@ -9,6 +9,7 @@ mod hss;
 mod one_time;
 mod private_key;
 mod public_key;
+mod signing;
 mod trees;
 mod types;
 mod verifying;

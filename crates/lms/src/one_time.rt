@@ -11,7 +11,7 @@ use crate::types::OtsType;
 use sha2::Digest;
 
 // what stands before what is hashed of one-time public keys and of texts
-const ONE_TIME_KEY: u16 = 0x8080;
+pub(crate) const ONE_TIME_KEY: u16 = 0x8080;
 
 const TEXT: u16 = 0x8181;
 

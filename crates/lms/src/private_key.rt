@@ -1,8 +1,9 @@
 ghost use Rattle.std.specs.Prelude.{◌≡◌, take, drop};
 ghost use Rattle.lms.specs.Chains.{front};
-ghost use Rattle.lms.specs.Secrets.{randomizer, secret};
+ghost use Rattle.lms.specs.Secrets.{secret, value_after};
 
-use crate::chains::{chain_block, one_step};
+use crate::bytes::array_at;
+use crate::chains::{chain_block, one_step, run_steps};
 use crate::types::{LmsType, OtsType};
 
 /// A private key of one tree: what all its secrets are made from (RFC 8554 appendix A). Each of its leaves may sign one text only; who has two signatures of
@@ -20,8 +21,17 @@ pub struct PrivateKey {
 }
 
 impl PrivateKey {
+    // the value of a chain after so many steps
+    pub(crate) fn value_after(&self, leaf: u32, chain: u16, count: u8) -> [u8; 32]
+        ensures { result ≡ value_after self.now leaf chain count }
+    {
+        let mut block = self.secret_block(leaf, chain);
+        run_steps(&mut block, 0, count);
+        array_at(&block, 23)
+    }
+
     // a block that holds what is made from the seed for a leaf
-    pub(crate) fn secret_block(&self, leaf: u32, kind: u16) -> [u8; 55]
+    fn secret_block(&self, leaf: u32, kind: u16) -> [u8; 55]
         ensures front { take 22 result ≡ front self.now.id leaf kind }
         ensures value { drop 23 result ≡ secret self.now leaf kind }
     {
