@@ -2,3 +2,4 @@ mod Parts
 mod DigitSums
 mod Steps
 mod Nested
+mod Kept

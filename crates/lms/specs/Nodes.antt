@@ -1,5 +1,5 @@
 -- Nodes of a tree as a signer keeps them: from the last leaf down to the root, so that those below a node stand before it.
-use Rattle.std.specs.Prelude.{◌≡◌, ℕ, ◌+◌, ◌-◌, ◌*◌, ◌^◌, ◌<◌, ◌≤◌, List, length, slice_get, Some}
+use Rattle.std.specs.Prelude.{◌≡◌, ℕ, ◌+◌, ◌-◌, ◌*◌, ◌^◌, ◌<◌, ◌≤◌, List, [], length, slice_index_or}
 use Rattle.lms.specs.declared.private_key.PrivateKey.{PrivateKey}
 use Rattle.lms.specs.Types.{leaf_count}
 use Rattle.lms.specs.Secrets.{node}
@@ -16,4 +16,4 @@ IsAtLevel leaves level number = (leaves ≤ number * 2 ^ level) × ((number + 1)
 abbrev pub HasNodes : PrivateKey → (nodes : List (List ℕ)) → Type 0
 HasNodes key nodes =
     (level number : ℕ) → IsAtLevel (leaf_count key.lms) level number → node_count key - number < length nodes
-    → slice_get nodes (node_count key - number) ≡ Some (node key level number)
+    → slice_index_or nodes (node_count key - number) [] ≡ node key level number

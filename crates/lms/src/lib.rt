@@ -6,6 +6,7 @@ mod bytes;
 mod chains;
 mod digits;
 mod hss;
+mod nodes;
 mod one_time;
 mod private_key;
 mod public_key;
