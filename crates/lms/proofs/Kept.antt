@@ -81,3 +81,8 @@ is_inner key nodes number (suc n) other left right has room here inner on_left o
     ap (λ (l : List ℕ). inner_node key.id number l right) first
     ∙ ap (λ (r : List ℕ). inner_node key.id number (node key n (2 * number)) r) second
     ∙ sym (node_inner key n number) ∙ ap (node key (suc n)) (sym same)
+
+-- no node has the number 0
+pub not_below : (leaves level number : ℕ) → 1 < leaves → IsAtLevel leaves level number → 0 < number
+not_below leaves level zero some at = absurd (omega (arith, some, at.0))
+not_below leaves level (suc n) some at = omega arith

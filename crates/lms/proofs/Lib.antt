@@ -3,3 +3,4 @@ mod DigitSums
 mod Steps
 mod Nested
 mod Kept
+mod Paths

@@ -5,18 +5,22 @@
 mod bytes;
 mod chains;
 mod digits;
+mod error;
 mod hss;
 mod nodes;
 mod one_time;
 mod private_key;
 mod public_key;
 mod signing;
+mod tree;
 mod trees;
 mod types;
 mod verifying;
 
+pub use error::SignError;
 pub use hss::{HssPublicKey, MOST_LEVELS, hss_verify};
 pub use private_key::PrivateKey;
 pub use public_key::PublicKey;
+pub use tree::Tree;
 pub use types::{LmsType, OtsType};
 pub use verifying::verify;

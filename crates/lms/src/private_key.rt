@@ -1,10 +1,13 @@
 ghost use Rattle.std.specs.Prelude.{◌≡◌, take, drop};
 ghost use Rattle.lms.specs.Chains.{front};
-ghost use Rattle.lms.specs.Secrets.{secret, value_after};
+ghost use Rattle.lms.specs.Secrets.{randomizer, secret, value_after};
 
 use crate::bytes::array_at;
 use crate::chains::{chain_block, one_step, run_steps};
 use crate::types::{LmsType, OtsType};
+
+// what stands before what is hashed of randomizers, behind the numbers of all chains
+const RANDOMIZER: u16 = 0xfffd;
 
 /// A private key of one tree: what all its secrets are made from (RFC 8554 appendix A). Each of its leaves may sign one text only; who has two signatures of
 /// different texts by one leaf can make more.
@@ -21,6 +24,13 @@ pub struct PrivateKey {
 }
 
 impl PrivateKey {
+    // what is hashed beside a text that a leaf signs
+    pub(crate) fn randomizer(&self, leaf: u32) -> [u8; 32]
+        ensures { result ≡ randomizer self.now leaf }
+    {
+        array_at(&self.secret_block(leaf, RANDOMIZER), 23)
+    }
+
     // the value of a chain after so many steps
     pub(crate) fn value_after(&self, leaf: u32, chain: u16, count: u8) -> [u8; 32]
         ensures { result ≡ value_after self.now leaf chain count }
