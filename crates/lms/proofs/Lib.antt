@@ -4,3 +4,5 @@ mod Steps
 mod Nested
 mod Kept
 mod Paths
+mod Standing
+pub mod Signed

@@ -28,3 +28,12 @@ pub(crate) fn hash_at(hashes: &[u8], number: usize) -> &[u8]
     let place = 32 * number;
     &hashes[place..place + 32]
 }
+
+// puts the part at a place of the bytes
+pub(crate) fn put_at(bytes: &mut [u8], place: usize, part: &[u8])
+    requires { place + length part.now ≤ length bytes.old }
+    ensures front { take (place + length part.now) bytes.new ≡ take place bytes.old ++ part.now }
+    ensures behind { drop (place + length part.now) bytes.new ≡ drop (place + length part.now) bytes.old }
+{
+    bytes[place..place + part.len()].copy_from_slice(part);
+}

@@ -1,8 +1,9 @@
 // Chains of hashes. A step is one compression: what it hashes stands in an array of 55 bytes, and what it gives is written over the last 32 of them.
-ghost use Rattle.std.specs.Prelude.{◌≡◌, ◌+◌, ◌-◌, ◌≤◌, ◌++◌, length, take, drop};
+ghost use Rattle.std.specs.Prelude.{◌≡◌, ◌-◌, ◌≤◌, length, take, drop};
 ghost use Rattle.sha2.specs.Hashers.{Holds256};
 ghost use Rattle.lms.specs.Chains.{front, step, steps};
 
+use crate::bytes::put_at;
 use sha2::{Digest, Sha256};
 
 // a hasher of what begins with this front
@@ -14,15 +15,6 @@ pub(crate) fn hasher_at(id: &[u8; 16], number: u32, kind: u16) -> Sha256
     hasher.update(number.to_be_bytes());
     hasher.update(kind.to_be_bytes());
     hasher
-}
-
-// puts the part at a place of the bytes
-fn put_at(bytes: &mut [u8], place: usize, part: &[u8])
-    requires { place + length part.now ≤ length bytes.old }
-    ensures front { take (place + length part.now) bytes.new ≡ take place bytes.old ++ part.now }
-    ensures behind { drop (place + length part.now) bytes.new ≡ drop (place + length part.now) bytes.old }
-{
-    bytes[place..place + part.len()].copy_from_slice(part);
 }
 
 // What a step of a chain hashes: a front of 22 bytes, the number of the step, and a value of 32 bytes.

@@ -7,6 +7,7 @@ mod chains;
 mod digits;
 mod error;
 mod hss;
+mod laws;
 mod nodes;
 mod one_time;
 mod private_key;
@@ -19,6 +20,7 @@ mod verifying;
 
 pub use error::SignError;
 pub use hss::{HssPublicKey, MOST_LEVELS, hss_verify};
+pub use laws::what_is_signed_verifies;
 pub use private_key::PrivateKey;
 pub use public_key::PublicKey;
 pub use tree::Tree;

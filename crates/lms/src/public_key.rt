@@ -1,7 +1,7 @@
 ghost use Rattle.std.specs.Prelude.{◌≡◌};
 ghost use Rattle.lms.specs.Keys.{public_key_bytes, public_key_in};
 
-use crate::bytes::{array_at, word_at};
+use crate::bytes::{array_at, put_at, word_at};
 use crate::types::{LmsType, OtsType};
 
 /// The public key of one tree (RFC 8554 section 5.3).
@@ -36,5 +36,17 @@ impl PublicKey {
             id: array_at(bytes, 8),
             root: array_at(bytes, 24),
         })
+    }
+
+    /// Its bytes: two typecodes, then `id` and `root`.
+    pub fn to_bytes(&self) -> [u8; 56]
+        ensures { result ≡ public_key_bytes self.now }
+    {
+        let mut bytes = [0; 56];
+        put_at(&mut bytes, 0, &self.lms.code().to_be_bytes());
+        put_at(&mut bytes, 4, &self.ots.code().to_be_bytes());
+        put_at(&mut bytes, 8, &self.id);
+        put_at(&mut bytes, 24, &self.root);
+        bytes
     }
 }

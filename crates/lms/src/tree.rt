@@ -95,7 +95,11 @@ fn sibling(number: u32) -> u32
     requires { number < 2 ^ 31 }
     ensures { result ≡ sibling number }
 {
-    if number % 2 == 1 { number - 1 } else { number + 1 }
+    if number % 2 == 1 {
+        number - 1
+    } else {
+        number + 1
+    }
 }
 
 // appends the nodes beside the way from a leaf to the root

@@ -50,9 +50,9 @@ loop-level-preserved c =
     let most = at_most (leaf_count lms) level number at in
     let least = not_below (leaf_count lms) level number (leaves_fit lms).0 at in
     let held : c.node_at.result.now ≡ f level =
-        c.node_at.ensures ∙ ap (λ k. slice_index_or c.args.nodes.now (node_count key - k) []) there ∙ c.requires.made level number at (omega (arith, most, least, c.requires.whole)) in
+    c.node_at.ensures ∙ ap (λ k. slice_index_or c.args.nodes.now (node_count key - k) []) there ∙ c.requires.made level number at (omega (arith, most, least, c.requires.whole)) in
     record {
       number = ap (λ k. k / 2) c.loop-level.invariant.number ∙ halved (leaf_count lms + leaf) level;
       path = c.in_ok-extend_from_slice.ensures.items ∙ ap (λ (l : List ℕ). l ++ c.node_at.result.now) c.loop-level.invariant.path
-      ∙ ap (λ (l : List ℕ). (c.args.out.now.items ++ joined f level) ++ l) held ∙ joined_more c.args.out.now.items f level;
+          ∙ ap (λ (l : List ℕ). (c.args.out.now.items ++ joined f level) ++ l) held ∙ joined_more c.args.out.now.items f level;
     }

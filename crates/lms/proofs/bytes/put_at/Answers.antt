@@ -1,6 +1,6 @@
 use Rattle.std.proofs.Common.{length, ap, arith}
 use Rattle.std.proofs.lemmas.Slice.{drop-put_mid}
-use Rattle.lms.proofs.chains.put_at.Goals as goal
+use Rattle.lms.proofs.bytes.put_at.Goals as goal
 
 pub returns-clause-behind : goal.returns-clause-behind
 returns-clause-behind c =
