@@ -1,9 +1,9 @@
 -- What stands where in public keys and signatures.
-use Rattle.std.proofs.Common.{◌≡◌, ◌≤◌, ◌<◌, ◌+◌, ◌-◌, ◌*◌, ◌^◌, inl, inr, ℕ, zero, suc, List, [], ◌++◌, length, take, drop, Option, Some, None, true, refl, sym, ap, ◌∙◌, arith, append_assoc, length-append}
-use Rattle.std.specs.Prelude.{◌==◌}
+use Rattle.std.proofs.Common.{◌≡◌, ◌<◌, ◌+◌, ◌*◌, ◌^◌, inl, inr, ℕ, zero, suc, List, [], ◌++◌, length, take, drop, Option, Some, None, refl, sym, ap, ◌∙◌, arith, length-append}
+use Rattle.std.specs.Prelude.{◌==◌, option_and_then}
 use Rattle.std.specs.Int.{from_be_bytes, to_be_bytes, w32}
 use Rattle.std.proofs.lemmas.Bool.{cases_lt, cond-true, eq-eqb}
-use Rattle.std.proofs.lemmas.List.{append-nil, drop-append-le, drop-drop, drop_at, length-drop, take-append-le, take_all, take_at}
+use Rattle.std.proofs.lemmas.List.{drop-append-le, drop-drop, drop_at, length-drop, take-append-le, take_all, take_at}
 use Rattle.std.proofs.lemmas.Nat.{from_be_bytes-to_be_bytes_4}
 use Rattle.lms.specs.declared.types.OtsType.{OtsType}
 use Rattle.lms.specs.declared.types.OtsType.TheVariants.{W1, W2, W4, W8}
@@ -84,5 +84,26 @@ hash_at-joined f each (suc k) i below = elim (cases_lt i k) [
 
 -- Public keys --------------------------------------------------------------------------------------------------------------
 
+abbrev key_of : (id root : List ℕ) (lms : LmsType) (ots : OtsType) → Option PublicKey
+key_of id root lms ots = Some (record { lms = lms; ots = ots; id = id; root = root })
+
+abbrev ots_then : (id root : List ℕ) (lms : LmsType) → Option OtsType → Option PublicKey
+ots_then id root lms ots = option_and_then (λ ots. key_of id root lms ots) ots
+
+abbrev lms_then : (id root : List ℕ) → Option OtsType → Option LmsType → Option PublicKey
+lms_then id root ots lms = option_and_then (λ lms. ots_then id root lms ots) lms
+
 pub public_key_read : (key : PublicKey) → length key.id ≡ 16 → length key.root ≡ 32 → public_key_in (public_key_bytes key) ≡ Some key
-public_key_read key long_id long_root = ?
+public_key_read key long_id long_root =
+    let bytes = public_key_bytes key in
+    let long : length bytes ≡ 56 = omega (arith, length-append key.id key.root, long_id, long_root) in
+    let lms : lms_type (word_at 0 bytes) ≡ Some key.lms = ap lms_type (from_be_bytes-to_be_bytes_4 (lms_code key.lms) (lms_code_read key.lms).1) ∙ (lms_code_read key.lms).0 in
+    let ots : ots_type (word_at 4 bytes) ≡ Some key.ots = ap ots_type (from_be_bytes-to_be_bytes_4 (ots_code key.ots) (ots_code_read key.ots).1) ∙ (ots_code_read key.ots).0 in
+    let id : take 16 (drop 8 bytes) ≡ key.id = take_at key.id key.root 16 long_id in
+    let root : take 32 (drop 24 bytes) ≡ key.root = ap (take 32) (drop_at key.id key.root 16 long_id) ∙ take_all 32 key.root (omega (arith, long_root)) in
+    let there = lms_then (take 16 (drop 8 bytes)) (take 32 (drop 24 bytes)) (ots_type (word_at 4 bytes)) (lms_type (word_at 0 bytes)) in
+    cond-true (length bytes == 56) there None (eq-eqb (length bytes) 56 long)
+    ∙ ap (lms_then (take 16 (drop 8 bytes)) (take 32 (drop 24 bytes)) (ots_type (word_at 4 bytes))) lms
+    ∙ ap (ots_then (take 16 (drop 8 bytes)) (take 32 (drop 24 bytes)) key.lms) ots
+    ∙ ap (λ (l : List ℕ). key_of l (take 32 (drop 24 bytes)) key.lms key.ots) id
+    ∙ ap (λ (l : List ℕ). key_of key.id l key.lms key.ots) root

@@ -1,6 +1,5 @@
 use Rattle.std.proofs.Common.{◌≡◌, ℕ, List, ◌++◌, sym, ap, ◌∙◌}
 use Rattle.std.proofs.lemmas.List.{append-nil}
-use Rattle.std.specs.Prelude.{slice_index}
 use Rattle.lms.specs.Types.{width}
 use Rattle.lms.specs.Digits.{coef}
 use Rattle.lms.specs.Chains.{joined}

@@ -1,7 +1,6 @@
-use Rattle.std.proofs.Common.{◌≡◌, ◌-◌, ℕ, List, take, drop, ap, ◌∙◌, arith}
+use Rattle.std.proofs.Common.{◌≡◌, ◌-◌, ℕ, List, drop, ap, ◌∙◌, arith}
 use Rattle.std.proofs.lemmas.List.{length-drop, take_all}
 use Rattle.lms.specs.Chains.{front, steps}
-use Rattle.lms.specs.Secrets.{secret}
 use Rattle.lms.proofs.private_key.PrivateKey.value_after.Goals as goal
 
 pub returns : goal.returns
