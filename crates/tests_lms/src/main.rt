@@ -19,9 +19,10 @@ fn main(rt: HostRuntime) -> Result<(), Error> {
         let passes = vector
             .kind
             .verify(&vector.public_key, &vector.text, &vector.signature);
+        let made = vector.is_made(alloc)?;
         let Count { changed, refused } = count_refused(alloc, &vector, &other)?;
         println!(rt;
-            "{}: passes {passes}, refused {refused} of {changed} that were changed",
+            "{}: passes {passes}, made {made}, refused {refused} of {changed} that were changed",
             vector.name
         )?;
         other = vector.public_key;
