@@ -41,6 +41,12 @@ impl Tree {
         Growing::new(alloc, key).finish()
     }
 
+    pub(crate) fn key(&self) -> &PrivateKey
+        ensures { result.now ≡ self.now }
+    {
+        &self.key
+    }
+
     /// The public key (RFC 8554 section 5.3).
     pub fn public_key(&self) -> PublicKey
         ensures { result ≡ public_key self.now }
@@ -151,24 +157,43 @@ impl Growing {
         }
     }
 
+    pub(crate) fn key(&self) -> &PrivateKey
+        ensures { result.now ≡ self.now }
+    {
+        &self.key
+    }
+
+    // makes one leaf, which takes a thousand compressions of SHA-256 where its chains have 15 steps, or once all are made some of the nodes over them
+    pub(crate) fn grow(&mut self) -> Result<(), AllocError>
+        ensures { self.new ≡ self.old }
+    {
+        let leaves = self.key.lms.leaf_count() as usize;
+        let count = if self.nodes.len() < leaves { 1 } else { 256 };
+        let most = node_count(&self.key) as usize;
+        let end = self.nodes.len().saturating_add(count).min(most);
+        make_until(&self.key, &mut self.nodes, end)
+    }
+
     // makes the nodes that are missing
     pub(crate) fn finish(self) -> Result<Tree, AllocError>
         ensures { IfOk result (λ tree. tree ≡ self) }
     {
         let Growing { key, mut nodes } = self;
-        make_all(&key, &mut nodes)?;
+        let count = node_count(&key) as usize;
+        make_until(&key, &mut nodes, count)?;
         Ok(Tree { key, nodes })
     }
 }
 
-// makes the nodes that are missing
-fn make_all(key: &PrivateKey, nodes: &mut Vec<[u8; 32]>) -> Result<(), AllocError>
-    requires few { length nodes.old.items ≤ node_count key.now }
+// makes nodes until there are so many
+fn make_until(key: &PrivateKey, nodes: &mut Vec<[u8; 32]>, count: usize) -> Result<(), AllocError>
+    requires few { length nodes.old.items ≤ count }
+    requires count { count ≤ node_count key.now }
     requires made { HasNodes key.now nodes.old.items }
-    ensures whole { OnOk result (length nodes.new.items ≡ node_count key.now) }
-    ensures made { OnOk result (HasNodes key.now nodes.new.items) }
+    ensures whole { OnOk result (length nodes.new.items ≡ count) }
+    ensures few { length nodes.new.items ≤ count }
+    ensures made { HasNodes key.now nodes.new.items }
 {
-    let count = node_count(key) as usize;
     nodes.reserve(count - nodes.len())?;
     while nodes.len() < count {
         let node = next_node(key, nodes);

@@ -146,3 +146,12 @@ impl LmsType {
         1 << self.height()
     }
 }
+
+/// The types of a tree and of its one-time signatures.
+#[derive(Clone, Copy, Debug, PartialEq, Eq)]
+pub struct TreeTypes {
+    /// Of the tree.
+    pub lms: LmsType,
+    /// Of its one-time signatures.
+    pub ots: OtsType,
+}

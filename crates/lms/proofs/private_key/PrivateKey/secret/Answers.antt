@@ -1,6 +1,6 @@
 use Rattle.std.proofs.Common.{drop, ◌∙◌, arith}
 use Rattle.std.proofs.lemmas.List.{length-drop, take_all}
-use Rattle.lms.proofs.private_key.PrivateKey.randomizer.Goals as goal
+use Rattle.lms.proofs.private_key.PrivateKey.secret.Goals as goal
 
 pub returns : goal.returns
 returns c =
