@@ -79,3 +79,9 @@ last_leaf (types ∷ below) index = last_leaf below (index % count_below (types 
 abbrev pub key_at : (first : PrivateKey) (places : List Place) (level : ℕ) → Option PrivateKey
 key_at first places zero = Some first
 key_at first places (suc n) = option_map child_of (slice_get places n)
+
+-- the key of the last of them
+unfoldable pub last_key : PrivateKey → (below : List TreeTypes) (index : ℕ) → PrivateKey
+last_key key [] index = key
+last_key key (types ∷ below) index =
+    last_key (child_key key types (index / count_below (types ∷ below))) below (index % count_below (types ∷ below))

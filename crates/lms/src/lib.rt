@@ -14,6 +14,7 @@ mod one_time;
 mod place;
 mod private_key;
 mod public_key;
+mod renewal;
 mod signing;
 mod tree;
 mod trees;
