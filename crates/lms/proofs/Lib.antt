@@ -6,3 +6,4 @@ mod Kept
 mod Paths
 mod Standing
 pub mod Signed
+mod Ways

@@ -1,14 +1,18 @@
 -- Keys of several levels (HSS, RFC 8554 section 6): the tree of each level signs the public key of the next, and the last one texts. The standard has up to
 -- eight levels; what has more than three is malformed here.
-use Rattle.std.specs.Prelude.{ℕ, zero, suc, ◌+◌, ◌==◌, ◌&&◌, Bool, false, List, length, take, drop, nat_le, nat_lt, Option, Some, None, option_map, if◌then◌else◌}
+use Rattle.std.specs.Prelude.{ℕ, zero, suc, ◌+◌, ◌==◌, ◌&&◌, Bool, false, List, ◌++◌, length, take, drop, nat_le, nat_lt, Option, Some, None, option_map, if◌then◌else◌}
+use Rattle.std.specs.Int.{to_be_bytes, w32}
 use Rattle.lms.specs.declared.public_key.PublicKey.{PublicKey}
 use Rattle.lms.specs.declared.hss.HssPublicKey.{HssPublicKey}
 use Rattle.lms.specs.Bytes.{word_at}
-use Rattle.lms.specs.Keys.{public_key_in, signature_length}
+use Rattle.lms.specs.Keys.{public_key_bytes, public_key_in, signature_length}
 use Rattle.lms.specs.Verifying.{is_signed}
 
 abbrev pub most_levels : ℕ
 most_levels = 3
+
+abbrev pub hss_public_key_bytes : HssPublicKey → List ℕ
+hss_public_key_bytes key = to_be_bytes w32 key.levels ++ public_key_bytes key.key
 
 abbrev pub hss_public_key_in : List ℕ → Option HssPublicKey
 hss_public_key_in bytes =

@@ -51,9 +51,6 @@ hss_signature_of key index text = to_be_bytes w32 (length key.below) ++ signed_f
 abbrev pub hss_public_key : HssKey → HssPublicKey
 hss_public_key key = record { levels = length key.below + 1; key = public_key key.first }
 
-abbrev pub hss_public_key_bytes : HssPublicKey → List ℕ
-hss_public_key_bytes key = to_be_bytes w32 key.levels ++ public_key_bytes key.key
-
 -- ---- what a signer keeps
 
 -- the key of the tree at a place below another one

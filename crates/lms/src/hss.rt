@@ -1,7 +1,7 @@
 ghost use Rattle.std.specs.Prelude.{◌≡◌, ◌<◌, Some, drop};
-ghost use Rattle.lms.specs.Levels.{hss_is_signed, hss_public_key_in, hss_verifies, is_signed_over, most_levels};
+ghost use Rattle.lms.specs.Levels.{hss_is_signed, hss_public_key_bytes, hss_public_key_in, hss_verifies, is_signed_over, most_levels};
 
-use crate::bytes::word_at;
+use crate::bytes::{put_at, word_at};
 use crate::public_key::PublicKey;
 use crate::verifying::signature_length;
 
@@ -45,6 +45,16 @@ impl HssPublicKey {
         }
         let key = PublicKey::from_bytes(&bytes[4..])?;
         Some(HssPublicKey { levels, key })
+    }
+
+    /// Its bytes: the number of its levels, and the public key of its first tree.
+    pub fn to_bytes(&self) -> [u8; 60]
+        ensures { result ≡ hss_public_key_bytes self.now }
+    {
+        let mut bytes = [0; 60];
+        put_at(&mut bytes, 0, &self.levels.to_be_bytes());
+        put_at(&mut bytes, 4, &self.key.to_bytes());
+        bytes
     }
 
     /// Whether these are bytes of a signature of the text by this key, as `hss_verify` says.

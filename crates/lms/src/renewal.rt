@@ -108,3 +108,47 @@ fn put_link(links: &mut Vec<Link>, level: usize, link: Link) -> Result<(), Alloc
     }
     Ok(())
 }
+
+// Lets the trees grow that sign behind those of the index. No contract says which these are, since nothing but time hangs on it.
+pub(crate) fn grow_next(
+    alloc: Global,
+    first: &Tree,
+    links: &mut Vec<Link>,
+    below: &[TreeTypes],
+    index: u64,
+)
+    requires { length below.now < most_levels }
+    ensures { links.new.items ≡ links.old.items }
+{
+    for level in 0..links.len() {
+        if let Some(key) = key_behind(*first.key(), below, index, level) {
+            links[level].grow(alloc, key);
+        }
+    }
+}
+
+// the key of the tree that signs at a level behind that of the index, if there is one
+fn key_behind(
+    first: PrivateKey,
+    below: &[TreeTypes],
+    index: u64,
+    level: usize,
+) -> Option<PrivateKey>
+    requires { length below.now < most_levels }
+{
+    if level >= below.len() {
+        return None;
+    }
+    let mut key = first;
+    let mut rest = index.checked_add(count_below(&below[level..]))?;
+    for number in 0..=level {
+        let count = count_below(&below[number..]);
+        let leaf = u32::try_from(rest / count).ok()?;
+        if leaf >= key.lms.leaf_count() {
+            return None;
+        }
+        key = key.child(below[number], leaf);
+        rest %= count;
+    }
+    Some(key)
+}
