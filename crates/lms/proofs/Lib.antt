@@ -7,3 +7,4 @@ mod Paths
 mod Standing
 pub mod Signed
 mod Ways
+pub mod SignedLevels

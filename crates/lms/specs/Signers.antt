@@ -1,6 +1,6 @@
 -- Private keys of several levels (RFC 8554 section 6.2), whose trees are all made from the first one's seed. The standard leaves it open how the seed of a tree below a
 -- leaf is made; implementations agree on what is here.
-use Rattle.std.specs.Prelude.{◌≡◌, ℕ, ◌+◌, ◌*◌, ◌/◌, ◌%◌, ◌^◌, List, [], ◌∷◌, ◌++◌, length, take, slice_get, sum_by, Option, Some, option_map, zero, suc}
+use Rattle.std.specs.Prelude.{ℕ, ◌+◌, ◌*◌, ◌/◌, ◌%◌, ◌^◌, List, [], ◌∷◌, ◌++◌, length, take, slice_get, sum_by, Option, Some, option_map, zero, suc}
 use Rattle.std.specs.Int.{to_be_bytes, w32}
 use Rattle.lms.specs.declared.types.TreeTypes.{TreeTypes}
 use Rattle.lms.specs.declared.private_key.PrivateKey.{PrivateKey}

@@ -24,7 +24,7 @@ mod verifying;
 
 pub use error::SignError;
 pub use hss::{HssPublicKey, MOST_LEVELS, hss_verify};
-pub use laws::what_is_signed_verifies;
+pub use laws::{what_is_signed_verifies, what_levels_sign_verifies};
 pub use private_key::PrivateKey;
 pub use public_key::PublicKey;
 pub use signer::Signer;
