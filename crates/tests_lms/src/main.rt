@@ -1,14 +1,19 @@
 //! Signatures that Bouncy Castle 1.72 made, a line of standard input each: whether they pass, and whether what was changed in any way is refused. It prints a line
-//! for each. A line is `lms TYPE OTSTYPE I SEED LEAF TEXT PUBLICKEY SIGNATURE` or `hss LEVELS TEXT PUBLICKEY SIGNATURE`, bytes in hexadecimal, none as `-`.
+//! for each, and how many signatures by rising indexes pass. A line is `lms TYPE OTSTYPE I SEED LEAF TEXT PUBLICKEY SIGNATURE` or `hss LEVELS I SEED INDEX TEXT PUBLICKEY SIGNATURE`, of trees of height 5, the first with chains of eight bits and the others of four; bytes in hexadecimal, none as `-`.
 #![tactic(auto)]
 
 mod changes;
+mod rising;
 mod vectors;
 
 use crate::changes::{Count, count_refused};
+use crate::rising::count_rising;
 use crate::vectors::Vector;
 use anyhow::Error;
 use std::io::{BufRead, BufReader};
+
+// more than the trees of the two last levels have together
+const INDEXES: u64 = 1100;
 
 fn main(rt: HostRuntime) -> Result<(), Error> {
     let alloc = rt.alloc();
@@ -27,5 +32,9 @@ fn main(rt: HostRuntime) -> Result<(), Error> {
         )?;
         other = vector.public_key;
     }
+    println!(rt;
+        "rising indexes: {} of {INDEXES} signatures pass",
+        count_rising(alloc, INDEXES)?
+    )?;
     Ok(())
 }

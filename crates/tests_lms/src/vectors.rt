@@ -1,5 +1,8 @@
 use anyhow::{Context, Error};
-use lms::{LmsType, OtsType, PrivateKey, SignError, Tree, hss_verify, verify};
+use lms::{
+    LmsType, MOST_LEVELS, OtsType, PrivateKey, SignError, Signer, Tree, TreeTypes, hss_verify,
+    verify,
+};
 use std::alloc::Global;
 
 // a signature of one tree, or of several levels
@@ -18,6 +21,34 @@ impl Kind {
     }
 }
 
+// by which private key and index it was made
+#[derive(Clone, Copy)]
+pub enum Maker {
+    Tree(PrivateKey, u32),
+    Levels(PrivateKey, &'static [TreeTypes], u32),
+}
+
+// the types of the levels below the first
+pub static BELOW: [TreeTypes; 2] = [
+    TreeTypes {
+        lms: LmsType::H5,
+        ots: OtsType::W4,
+    },
+    TreeTypes {
+        lms: LmsType::H5,
+        ots: OtsType::W4,
+    },
+];
+
+fn below(levels: &str) -> Result<&'static [TreeTypes], Error> {
+    match levels {
+        "1" => Ok(&BELOW[..0]),
+        "2" => Ok(&BELOW[..1]),
+        "3" => Ok(&BELOW[..2]),
+        _ => Err(Error::msg("no number of levels")),
+    }
+}
+
 #[derive(Drop)]
 pub struct Vector {
     pub kind: Kind,
@@ -25,8 +56,7 @@ pub struct Vector {
     pub text: Vec<u8>,
     pub public_key: Vec<u8>,
     pub signature: Vec<u8>,
-    // what it was signed by, and which leaf signed, where the line tells
-    pub signer: Option<(PrivateKey, u32)>,
+    pub made_by: Maker,
 }
 
 impl Vector {
@@ -39,34 +69,52 @@ impl Vector {
                 text: bytes(alloc, text)?,
                 public_key: bytes(alloc, public_key)?,
                 signature: bytes(alloc, signature)?,
-                signer: Some((private_key(lms, ots, id, seed)?, number(leaf)?)),
+                made_by: Maker::Tree(private_key(lms, ots, id, seed)?, number(leaf)?),
             }),
-            ["hss", levels, text, public_key, signature] => Ok(Vector {
+            ["hss", levels, id, seed, index, text, public_key, signature] => Ok(Vector {
                 kind: Kind::Hss,
-                name: format!(in alloc; "levels {levels}")?,
+                name: format!(in alloc; "levels {levels}, index {index}")?,
                 text: bytes(alloc, text)?,
                 public_key: bytes(alloc, public_key)?,
                 signature: bytes(alloc, signature)?,
-                signer: None,
+                made_by: Maker::Levels(
+                    private_key("5", "4", id, seed)?,
+                    below(levels)?,
+                    number(index)?,
+                ),
             }),
             _ => Err(Error::msg("a line is no vector")),
         }
     }
 
-    // whether the private key makes the same public key and signature, and no other leaf than its tree has signs
+    // whether the private key makes the same public key and signature, and no index behind its last one signs
     pub fn is_made(&self, alloc: Global) -> Result<bool, Error> {
-        let Some((key, leaf)) = self.signer else {
-            return Ok(true);
-        };
-        let tree = Tree::new(alloc, key)?;
-        let signature = tree.sign(alloc, leaf, &self.text)?;
-        let past = tree.sign(alloc, key.lms.leaf_count(), &self.text);
-        Ok(
-            tree.public_key().to_bytes().as_slice() == self.public_key.as_slice()
-                && signature.as_slice() == self.signature.as_slice()
-                && is_refused(past),
-        )
+        match self.made_by {
+            Maker::Tree(key, leaf) => {
+                let tree = Tree::new(alloc, key)?;
+                let signature = tree.sign(alloc, leaf, &self.text)?;
+                let past = tree.sign(alloc, key.lms.leaf_count(), &self.text);
+                Ok(self.is(&tree.public_key().to_bytes(), &signature) && is_refused(past))
+            }
+            Maker::Levels(key, below, index) => {
+                let mut signer = signer(alloc, key, below)?;
+                let signature = signer.sign(alloc, u64::from(index), &self.text)?;
+                let past = signer.sign(alloc, 1 << 15, &self.text);
+                Ok(self.is(&signer.public_key().to_bytes(), &signature) && is_refused(past))
+            }
+        }
     }
+
+    fn is(&self, public_key: &[u8], signature: &[u8]) -> bool {
+        public_key == self.public_key.as_slice() && signature == self.signature.as_slice()
+    }
+}
+
+pub fn signer(alloc: Global, key: PrivateKey, below: &[TreeTypes]) -> Result<Signer, Error> {
+    if below.len() >= MOST_LEVELS as usize {
+        return Err(Error::msg("too many levels"));
+    }
+    Ok(Signer::new(alloc, key, below)?)
 }
 
 fn is_refused(signed: Result<Vec<u8>, SignError>) -> bool {
