@@ -1,7 +1,7 @@
 mod Parts
 mod DigitSums
 mod Steps
-mod Nested
+pub mod Nested
 mod Kept
 mod Paths
 mod Standing

@@ -5,7 +5,7 @@ use Rattle.std.specs.Int.{to_be_bytes, w32}
 use Rattle.lms.specs.declared.public_key.PublicKey.{PublicKey}
 use Rattle.lms.specs.declared.hss.HssPublicKey.{HssPublicKey}
 use Rattle.lms.specs.Bytes.{word_at}
-use Rattle.lms.specs.Keys.{public_key_bytes, public_key_in, signature_length}
+use Rattle.lms.specs.Keys.{is_formed, public_key_bytes, public_key_in, signature_length}
 use Rattle.lms.specs.Verifying.{is_signed}
 
 abbrev pub most_levels : ℕ
@@ -35,6 +35,13 @@ is_signed_over below None text bytes = false
 is_signed_over zero (Some key) text bytes = is_signed key text bytes
 is_signed_over (suc n) (Some key) text bytes =
     is_signed key (next_key key bytes) (first_signature key bytes) && is_signed_over n (public_key_in (next_key key bytes)) text (behind_key key bytes)
+
+-- the bytes may be signatures by a key that has so many levels below it: the lengths, the typecodes and the leaves' numbers are as the keys ask
+unfoldable pub is_formed_over : (below : ℕ) → Option PublicKey → List ℕ → Bool
+is_formed_over below None bytes = false
+is_formed_over zero (Some key) bytes = is_formed key.lms key.ots bytes
+is_formed_over (suc n) (Some key) bytes =
+    is_formed key.lms key.ots (first_signature key bytes) && is_formed_over n (public_key_in (next_key key bytes)) (behind_key key bytes)
 
 -- it is a signature of the text by the key
 unfoldable pub hss_is_signed : HssPublicKey → (text signature : List ℕ) → Bool

@@ -1,9 +1,9 @@
 ghost use Rattle.std.specs.Prelude.{◌≡◌, ◌<◌, Some, drop};
-ghost use Rattle.lms.specs.Levels.{hss_is_signed, hss_public_key_bytes, hss_public_key_in, hss_verifies, is_signed_over, most_levels};
+ghost use Rattle.lms.specs.Levels.{hss_is_signed, hss_public_key_bytes, hss_public_key_in, hss_verifies, is_formed_over, is_signed_over, most_levels};
 
 use crate::bytes::{put_at, word_at};
 use crate::public_key::PublicKey;
-use crate::verifying::signature_length;
+use crate::verifying::{is_formed, signature_length};
 
 /// How many levels a key has at most. The standard has eight.
 pub const MOST_LEVELS: u32 = 3;
@@ -73,7 +73,41 @@ impl HssPublicKey {
 }
 
 // whether the bytes are the signatures of the text by a key with so many levels below it
-fn is_signed_over(below: u32, mut key: PublicKey, text: &[u8], bytes: &[u8]) -> bool
+#[tactic(auto, using(crate::proofs::Nested::over_formed))]
+fn is_signed_over(below: u32, key: PublicKey, text: &[u8], bytes: &[u8]) -> bool
+    requires { below < most_levels }
+    ensures { result ≡ is_signed_over below (Some key) text.now bytes.now }
+{
+    is_formed_over(below, key, bytes) && passes_over(below, key, text, bytes)
+}
+
+// whether the bytes may be the signatures by a key with so many levels below it, of which nothing is hashed
+fn is_formed_over(below: u32, mut key: PublicKey, bytes: &[u8]) -> bool
+    requires { below < most_levels }
+    ensures { result ≡ is_formed_over below (Some key) bytes.now }
+{
+    let mut rest = bytes;
+    for _level in 0..below {
+        let length = signature_length(key.lms, key.ots);
+        if rest.len() < length + PublicKey::LENGTH {
+            return false;
+        }
+        let (signature, behind) = rest.split_at(length);
+        let (next, behind) = behind.split_at(PublicKey::LENGTH);
+        if !is_formed(key.lms, key.ots, signature) {
+            return false;
+        }
+        match PublicKey::from_bytes(next) {
+            Some(next) => key = next,
+            None => return false,
+        }
+        rest = behind;
+    }
+    is_formed(key.lms, key.ots, rest)
+}
+
+// the same, hashed level after level
+fn passes_over(below: u32, mut key: PublicKey, text: &[u8], bytes: &[u8]) -> bool
     requires { below < most_levels }
     ensures { result ≡ is_signed_over below (Some key) text.now bytes.now }
 {

@@ -43,7 +43,7 @@ pub(crate) fn signature_length(lms: LmsType, ots: OtsType) -> usize
     path_place(ots) + 4 + 32 * lms.height() as usize
 }
 
-fn is_formed(lms: LmsType, ots: OtsType, signature: &[u8]) -> bool
+pub(crate) fn is_formed(lms: LmsType, ots: OtsType, signature: &[u8]) -> bool
     ensures { result ≡ is_formed lms ots signature.now }
 {
     signature.len() == signature_length(lms, ots)

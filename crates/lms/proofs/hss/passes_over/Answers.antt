@@ -1,28 +1,15 @@
 use Rattle.std.proofs.Common.{◌≡◌, ◌-◌, ◌+◌, ℕ, suc, Bool, true, List, Some, take, drop, ap, sym, ◌∙◌, arith}
-use Rattle.std.proofs.lemmas.List.{drop-drop}
 use Rattle.lms.specs.declared.public_key.PublicKey.{PublicKey}
 use Rattle.lms.specs.Keys.{public_key_in, signature_length}
 use Rattle.lms.specs.Verifying.{is_signed}
 use Rattle.lms.specs.Levels.{behind_key, first_signature, is_signed_over, next_key}
-use Rattle.lms.proofs.Nested.{last_over, over_none, over_refused, over_short, over_step}
-use Rattle.lms.proofs.hss.is_signed_over.Goals as goal
+use Rattle.lms.proofs.Nested.{behind_part, first_part, last_over, next_part, over_none, over_refused, over_short, over_step}
+use Rattle.lms.proofs.hss.passes_over.Goals as goal
 
 -- the number of levels left, where there is one more
 ended : (all b : Bool) (left n : ℕ) (key : PublicKey) (text bytes : List ℕ) → left ≡ suc n → all ≡ is_signed_over left (Some key) text bytes
     → is_signed_over (suc n) (Some key) text bytes ≡ b → all ≡ b
 ended all b left n key text bytes more before now = before ∙ ap (λ k. is_signed_over k (Some key) text bytes) more ∙ now
-
--- the parts that the bytes are split into
-first_part : (key : PublicKey) (len : ℕ) (bytes part : List ℕ) → len ≡ signature_length key.lms key.ots → part ≡ take len bytes → part ≡ first_signature key bytes
-first_part key len bytes part told e = e ∙ ap (λ k. take k bytes) told
-
-next_part : (key : PublicKey) (len : ℕ) (bytes rest part : List ℕ) → len ≡ signature_length key.lms key.ots → rest ≡ drop len bytes → part ≡ take 56 rest
-    → part ≡ next_key key bytes
-next_part key len bytes rest part told e f = f ∙ ap (take 56) (e ∙ ap (λ k. drop k bytes) told)
-
-behind_part : (key : PublicKey) (len : ℕ) (bytes rest part : List ℕ) → len ≡ signature_length key.lms key.ots → rest ≡ drop len bytes → part ≡ drop 56 rest
-    → part ≡ behind_key key bytes
-behind_part key len bytes rest part told e f = f ∙ ap (drop 56) (e ∙ ap (λ k. drop k bytes) told) ∙ drop-drop 56 (signature_length key.lms key.ots) bytes
 
 pub returns-then-rest-length : goal.returns-then-rest-length
 returns-then-rest-length c =
