@@ -35,7 +35,7 @@ pub fn count_refused(alloc: Global, vector: &Vector, other: &[u8]) -> Result<Cou
     Ok(count)
 }
 
-// keys cut at each byte, signatures near their ends, and at each forty-first byte between
+// keys and signatures cut at each byte
 fn count_cut(count: &mut Count, vector: &Vector) {
     for length in 0..vector.public_key.len() {
         if let Some(key) = vector.public_key.get(..length) {
@@ -43,14 +43,12 @@ fn count_cut(count: &mut Count, vector: &Vector) {
         }
     }
     for length in 0..vector.signature.len() {
-        if length < 64 || length % 41 == 0 || length.saturating_add(64) > vector.signature.len() {
-            if let Some(signature) = vector.signature.get(..length) {
-                count.add(
-                    vector
-                        .kind
-                        .verify(&vector.public_key, &vector.text, signature),
-                );
-            }
+        if let Some(signature) = vector.signature.get(..length) {
+            count.add(
+                vector
+                    .kind
+                    .verify(&vector.public_key, &vector.text, signature),
+            );
         }
     }
 }

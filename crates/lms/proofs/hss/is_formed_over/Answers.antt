@@ -1,7 +1,7 @@
-use Rattle.std.proofs.Common.{◌≡◌, ◌-◌, ◌+◌, ℕ, suc, Bool, true, List, Some, take, drop, ap, sym, ◌∙◌, arith}
+use Rattle.std.proofs.Common.{◌≡◌, ◌-◌, ◌+◌, ℕ, suc, Bool, true, List, Some, ap, sym, ◌∙◌, arith}
 use Rattle.lms.specs.declared.public_key.PublicKey.{PublicKey}
-use Rattle.lms.specs.Keys.{is_formed, public_key_in, signature_length}
-use Rattle.lms.specs.Levels.{behind_key, first_signature, is_formed_over, next_key}
+use Rattle.lms.specs.Keys.{is_formed, public_key_in}
+use Rattle.lms.specs.Levels.{first_signature, is_formed_over, next_key}
 use Rattle.lms.proofs.Nested.{behind_part, first_part, last_formed, next_part, formed_none, formed_refused, formed_short, formed_step}
 use Rattle.lms.proofs.hss.is_formed_over.Goals as goal
 

@@ -1,8 +1,8 @@
-use Rattle.std.proofs.Common.{◌≡◌, ◌-◌, ◌+◌, ℕ, suc, Bool, true, List, Some, take, drop, ap, sym, ◌∙◌, arith}
+use Rattle.std.proofs.Common.{◌≡◌, ◌-◌, ◌+◌, ℕ, suc, Bool, true, List, Some, ap, sym, ◌∙◌, arith}
 use Rattle.lms.specs.declared.public_key.PublicKey.{PublicKey}
-use Rattle.lms.specs.Keys.{public_key_in, signature_length}
+use Rattle.lms.specs.Keys.{public_key_in}
 use Rattle.lms.specs.Verifying.{is_signed}
-use Rattle.lms.specs.Levels.{behind_key, first_signature, is_signed_over, next_key}
+use Rattle.lms.specs.Levels.{first_signature, is_signed_over, next_key}
 use Rattle.lms.proofs.Nested.{behind_part, first_part, last_over, next_part, over_none, over_refused, over_short, over_step}
 use Rattle.lms.proofs.hss.passes_over.Goals as goal
 
