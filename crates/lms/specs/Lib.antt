@@ -1,5 +1,6 @@
--- What the contracts of lms cite: typecodes (Types), digits (Digits), chains and one-time signatures (Chains, OneTime), trees (Trees), public keys and signatures
--- as bytes (Keys), which signatures pass (Verifying), keys of several levels (Levels), private keys and what they sign (Secrets), nodes that a signer keeps (Nodes), private keys of several levels (Signers), and laws (Laws).
+-- What the contracts of lms cite: typecodes (Types), digits (Digits), chains and one-time signatures (Chains, OneTime), trees (Trees), public keys and
+-- signatures as bytes (Bytes, Keys), which signatures pass (Verifying), also of several levels (Levels), private keys and what they sign (Secrets), also of
+-- several levels (Signers), nodes that a signer keeps (Nodes), and laws (Laws).
 pub mod Types
 pub mod Digits
 pub mod Chains

@@ -3,6 +3,8 @@
 #![tactic(auto)]
 
 mod changes;
+#[cfg(test)]
+mod parts;
 mod rising;
 mod vectors;
 
