@@ -1,0 +1,154 @@
+// The trees that sign with an index, made where they are not kept.
+ghost use Rattle.std.specs.Prelude.{◌≡◌, ◌+◌, ◌*◌, ◌<◌, ◌≤◌, [], ◌∷◌, ◌++◌, length, max, take, IfOk, OnOk, Some};
+ghost use Rattle.lms.specs.Levels.{most_levels};
+ghost use Rattle.lms.specs.Signers.{count_below, key_at, last_key, last_leaf, places_of};
+ghost use Rattle.lms.specs.Types.{leaf_count};
+
+use crate::links::{Link, tree_at};
+use crate::place::Place;
+use crate::private_key::PrivateKey;
+use crate::tree::Tree;
+use crate::types::TreeTypes;
+use std::alloc::{AllocError, Global};
+
+// how many texts are signed below one leaf
+pub(crate) fn count_below(below: &[TreeTypes]) -> u64
+    requires { length below.now < most_levels }
+    ensures value { result ≡ count_below below.now }
+    ensures some { 0 < result }
+{
+    let mut bits = 0;
+    for types in below {
+        bits += types.lms.height();
+    }
+    1 << bits
+}
+
+// makes the trees those that sign with the index, and gives the leaf of the last one
+pub(crate) fn renew(
+    alloc: Global,
+    first: &Tree,
+    links: &mut Vec<Link>,
+    below: &[TreeTypes],
+    index: u64,
+) -> Result<u32, AllocError>
+    requires levels { length below.now < most_levels }
+    requires few { length links.old.items ≤ length below.now }
+    requires index { index < leaf_count first.now.lms * count_below below.now }
+    ensures places { OnOk result (links.new.items ≡ places_of first.now below.now index) }
+    ensures leaf { IfOk result (λ leaf. leaf ≡ last_leaf below.now index) }
+    ensures last { OnOk result (key_at first.now links.new.items (length links.new.items) ≡ Some (last_key first.now below.now index)) }
+    ensures within { IfOk result (λ leaf. leaf < leaf_count (last_key first.now below.now index).lms) }
+    ensures few { length links.new.items ≤ length below.now }
+{
+    let mut key = *first.key();
+    let mut rest = index;
+    for level in 0..below.len() {
+        let count = count_below(&below[level..]);
+        let place = Place {
+            parent: key,
+            types: below[level],
+            leaf: (rest / count) as u32,
+        };
+        renew_link(alloc, first, links, level, place)?;
+        key = place.key();
+        rest %= count;
+    }
+    Ok(rest as u32)
+}
+
+// makes the tree at a level the one at the place
+fn renew_link(
+    alloc: Global,
+    first: &Tree,
+    links: &mut Vec<Link>,
+    level: usize,
+    place: Place,
+) -> Result<(), AllocError>
+    requires level { level ≤ length links.old.items }
+    requires parent { key_at first.now links.old.items level ≡ Some place.parent }
+    requires leaf { place.leaf < leaf_count place.parent.lms }
+    ensures place { OnOk result (take (level + 1) links.new.items ≡ take level links.old.items ++ place ∷ []) }
+    ensures few { length links.new.items ≤ max (length links.old.items) (level + 1) }
+{
+    if level < links.len() && links[level].place() == place {
+        return Ok(());
+    }
+    let tree = take_tree(alloc, links, level, place.key())?;
+    let link = Link::new(alloc, tree_at(first, links, level), place, tree)?;
+    put_link(links, level, link)
+}
+
+// the tree of a key, by the one that stands at the level
+fn take_tree(
+    alloc: Global,
+    links: &mut Vec<Link>,
+    level: usize,
+    key: PrivateKey,
+) -> Result<Tree, AllocError>
+    ensures tree { IfOk result (λ tree. tree ≡ key) }
+    ensures same { links.new.items ≡ links.old.items }
+{
+    if level < links.len() {
+        links[level].take_tree(alloc, key)
+    } else {
+        Tree::new(alloc, key)
+    }
+}
+
+fn put_link(links: &mut Vec<Link>, level: usize, link: Link) -> Result<(), AllocError>
+    requires { level ≤ length links.old.items }
+    ensures link { OnOk result (take (level + 1) links.new.items ≡ take level links.old.items ++ link ∷ []) }
+    ensures few { length links.new.items ≤ max (length links.old.items) (level + 1) }
+{
+    if level < links.len() {
+        links[level] = link;
+    } else {
+        links.push(link)?;
+    }
+    Ok(())
+}
+
+// Lets the trees grow that sign behind those of the index. No contract says which these are, since nothing but time hangs on it.
+pub(crate) fn grow_next(
+    alloc: Global,
+    first: &Tree,
+    links: &mut Vec<Link>,
+    below: &[TreeTypes],
+    index: u64,
+)
+    requires { length below.now < most_levels }
+    ensures { links.new.items ≡ links.old.items }
+{
+    for level in 0..links.len() {
+        if let Some(key) = key_behind(*first.key(), below, index, level) {
+            links[level].grow(alloc, key);
+        }
+    }
+}
+
+// the key of the tree that signs at a level behind that of the index, if there is one
+fn key_behind(
+    first: PrivateKey,
+    below: &[TreeTypes],
+    index: u64,
+    level: usize,
+) -> Option<PrivateKey>
+    requires { length below.now < most_levels }
+{
+    if level >= below.len() {
+        return None;
+    }
+    let mut key = first;
+    let mut rest = index.checked_add(count_below(&below[level..]))?;
+    for number in 0..=level {
+        let count = count_below(&below[number..]);
+        let leaf = u32::try_from(rest / count).ok()?;
+        if leaf >= key.lms.leaf_count() {
+            return None;
+        }
+        key = key.child(below[number], leaf);
+        rest %= count;
+    }
+    Some(key)
+}

@@ -1,0 +1,87 @@
+ghost use Rattle.std.specs.Prelude.{◌≡◌, ◌↔◌, ◌<◌, ◌≤◌, length, IfOk, IsTrue};
+ghost use Rattle.lms.specs.Levels.{most_levels};
+ghost use Rattle.lms.specs.Signers.{hss_public_key, hss_signature_of, index_count};
+
+use crate::error::SignError;
+use crate::hss::HssPublicKey;
+use crate::links::{Link, put_heads, tree_at};
+use crate::private_key::PrivateKey;
+use crate::renewal::{count_below, grow_next, renew};
+use crate::tree::Tree;
+use crate::types::TreeTypes;
+use std::alloc::{AllocError, Global};
+use std::marker::Model;
+
+/// A private key of one to three levels (HSS, RFC 8554 section 6), with the trees that sign by its last index, and those that sign next, which grow a leaf with each
+/// signature. To a contract it is its key: the private key of the first tree, from whose seed all others are made, and the types of the trees of the levels below.
+#[derive(Drop)]
+pub struct Signer {
+    first: Tree,
+    below: Vec<TreeTypes>,
+    links: Vec<Link>,
+}
+
+impl Model for Signer {
+    ghost use Rattle.std.specs.Prelude.{◌<◌, ◌≤◌, length};
+    ghost use Rattle.lms.specs.Levels.{most_levels};
+    ghost use Rattle.lms.specs.Signers.{HssKey};
+
+    ghost Value = { HssKey };
+
+    ghost view = { λ signer. record { first = signer.first; below = signer.below.items } };
+
+    ghost invariant = { λ signer. (length signer.below.items < most_levels) × (length signer.links.items ≤ length signer.below.items) };
+}
+
+impl Signer {
+    /// Makes the trees that sign by the first index, which takes long, as `Tree::new` says. The error is want of memory.
+    pub fn new(alloc: Global, first: PrivateKey, below: &[TreeTypes]) -> Result<Signer, AllocError>
+        requires { length below.now < most_levels }
+        ensures { IfOk result (λ signer. signer ≡ record { first = first; below = below.now }) }
+    {
+        let first = Tree::new(alloc, first)?;
+        let mut links = Vec::new(alloc);
+        renew(alloc, &first, &mut links, below, 0)?;
+        Ok(Signer {
+            first,
+            below: below.to_vec(alloc)?,
+            links,
+        })
+    }
+
+    /// The public key (RFC 8554 section 6.1).
+    pub fn public_key(&self) -> HssPublicKey
+        ensures { result ≡ hss_public_key self.now }
+    {
+        HssPublicKey {
+            levels: self.below.len() as u32 + 1,
+            key: self.first.public_key(),
+        }
+    }
+
+    /// Whether the key has the index: it has as many as its trees of the last level have leaves, by the product of all levels' leaves.
+    pub fn has_index(&self, index: u64) -> bool
+        ensures { IsTrue result ↔ (index < index_count self.now) }
+    {
+        index / count_below(&self.below) < u64::from(self.first.key().lms.leaf_count())
+    }
+
+    /// The signature of a text by an index (RFC 8554 section 6.2). An index may sign one text only: who has signatures of two texts by one index can make more. `NoIndex`
+    /// where the key has no such index, `Memory` where memory runs out. By rising indexes no signature takes long; by another one, trees are made for it.
+    pub fn sign(&mut self, alloc: Global, index: u64, text: &[u8]) -> Result<Vec<u8>, SignError>
+        ensures ok { IfOk result (λ bytes. bytes.items ≡ hss_signature_of self.old index text.now) }
+        ensures no_index { (result ≡ Err SignError.NoIndex) ↔ (index_count self.old ≤ index) }
+        ensures same { self.new ≡ self.old }
+    {
+        if !self.has_index(index) {
+            return Err(SignError::NoIndex);
+        }
+        let leaf = renew(alloc, &self.first, &mut self.links, &self.below, index)?;
+        let mut out = Vec::new(alloc);
+        out.extend_from_slice(&(self.links.len() as u32).to_be_bytes())?;
+        put_heads(&mut out, &self.links)?;
+        tree_at(&self.first, &self.links, self.links.len()).put_signature(&mut out, leaf, text)?;
+        grow_next(alloc, &self.first, &mut self.links, &self.below, index);
+        Ok(out)
+    }
+}
