@@ -149,10 +149,10 @@ reply_is reply (Some auth) s e = sym (ap (λ (x : Signed Message). x.message) (s
 
 -- What is in a log, and what is kept --------------------------------------------------------------------------------------------
 
--- f is that of the keys
+-- f is that of the keys. Nothing tells whether a CHECKPOINT of a certificate was said
 pub record IsHeard (faulty : ℕ → Bool) (keys : Keys) (h : World) (w : NodeReplicas) (m : Signed OrderMessage) : Type 0 where
   pub sent : (header m).tag < 5 → WasSent faulty h (header m).tag (header m).sender (header m).view (header m).number (header m).digest
-  pub said : GoesOut (faults keys) m → IsSaid faulty w (Order m.message)
+  pub said : (header m).tag < 5 → GoesOut (faults keys) m → IsSaid faulty w (Order m.message)
   pub whole : IsWhole m.message
   -- of the keys of the node whose log it is
   pub checked : IsChecked keys m
@@ -176,7 +176,7 @@ said_later faulty w after later m said k e correct = let has = said k e correct 
 pub heard_on : (faulty : ℕ → Bool) (keys : Keys) (h g : World) (w after : NodeReplicas) → AreGrown h g → HaveGrown w after → (m : Signed OrderMessage) → IsHeard faulty keys h w m → IsHeard faulty keys g after m
 heard_on faulty keys h g w after on later m is = record {
   sent = λ small. said_on faulty h g on (header m).tag (header m).sender (header m).view (header m).number (header m).digest (is.sent small);
-  said = λ goes. said_later faulty w after later (Order m.message) (is.said goes);
+  said = λ vote goes. said_later faulty w after later (Order m.message) (is.said vote goes);
   whole = is.whole;
   checked = is.checked;
 }
@@ -263,7 +263,7 @@ module _ (faulty : ℕ → Bool) (w : NodeReplicas) (v : ordered.OrderReplicas) 
   pub vote_heard : (keys : Keys) (m : Signed OrderMessage) → IsSaid faulty w (Order m.message) → IsWhole m.message → IsChecked keys m → IsHeard faulty keys (histories v) w m
   vote_heard keys m said whole checked = record {
     sent = λ small correct. let k = (header m).sender in vote_said (v k) (w k).sent (spoken k) m.message small (said k refl correct);
-    said = λ _. said;
+    said = λ _ _. said;
     whole = whole;
     checked = checked;
   }

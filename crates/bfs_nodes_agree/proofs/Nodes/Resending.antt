@@ -41,7 +41,7 @@ use Rattle.bfs_node.specs.declared.error.NodeError.{NodeError}
 use Rattle.bfs_view_change.specs.Changes.Keeping.{with_asked, with_change}
 use Rattle.bfs_nodes_agree.specs.Nodes.Premises.{AreAuthentic, AreShared, HasSaid}
 use Rattle.bfs_nodes_agree.specs.Nodes.Replicas.{Beginning, Keyring, NodeReplica, NodeReplicas, NodeTurn, after_node_step, after_node_turn, after_node_turns, new_node_replicas, turn_of}
-use Rattle.bfs_nodes_agree.specs.Nodes.Resending.{IsSaidAgain, WhatIsResentWasSent}
+use Rattle.bfs_nodes_agree.specs.Nodes.Resending.{IsNoCheckpoint, IsSaidAgain, WhatIsResentWasSent}
 use Rattle.bfs_nodes_agree.specs.Nodes.Steps.{NodeStep, Delivers, Takes, TakesRequests, Proposes, Executes, Fails, Checkpoints, TimesOut, LeavesFor, Adopts, still, unless, or_still, after_execution, outcome, deeds_of}
 use Rattle.bfs_nodes_agree.proofs.Nodes.States.{both_at}
 use Rattle.bfs_nodes_agree.proofs.Nodes.Steps.{waits}
@@ -155,14 +155,14 @@ module _ (same : CallsKeepTheReplica) (views : IsKept HasNoLaterView) (written :
       right_then steps (after_node_turn w turn) (turns.after_view_turns v (map (turn_of turn.who) (deeds_of (w turn.who).node turn.step))) (right_on same views written one f faulty w v right turn comes.0) comes.1
 
 order_said : WhatIsResentIsOwn → (f : ℕ) (faulty : ℕ → Bool) (w : NodeReplicas) (v : ordered.OrderReplicas) → 0 < f → AreRight f faulty w v → (i : ℕ) → faulty i ≡ false → (to : Lag) (m : Signed OrderMessage)
-    → IsIn m (order.resent (w i).node.order to) → HasSaid (w i).sent (Order m.message)
-order_said own f faulty w v others right i correct to m j =
+    → IsIn m (order.resent (w i).node.order to) → IsNoCheckpoint (Order m.message) → HasSaid (w i).sent (Order m.message)
+order_said own f faulty w v others right i correct to m j vote =
     let r = right i in
     let node = (w i).node in
     let it = own node.order to m (contains (order.resent node.order to) m j) in
     let sender = eqb-true (header m).sender node.order.me (and_parts _ _ it.1).0 in
     let many : 0 < faults node.keys = subst (λ (n : ℕ). 0 < n) (sym (r.fit ∙ r.same_f)) others in
-    (r.log m (is_in node.order.log m it.0)).said (λ four. many) i (ap principal.Replica (sender ∙ r.me)) correct
+    (r.log m (is_in node.order.log m it.0)).said vote (λ four. many) i (ap principal.Replica (sender ∙ r.me)) correct
 
 change_said : (r : NodeReplica) → OwnIsSent r → (m : Signed Message) → IsIn m (change_resent r.node) → HasSaid r.sent m.message
 change_said r is m = go (nat_lt r.node.order.view r.node.order.asked) r.node.changes.own refl
@@ -176,7 +176,7 @@ change_said r is m = go (nat_lt r.node.order.view r.node.order.asked) r.node.cha
     ]
 
 pub what_is_resent_was_sent : CallsKeepTheReplica → IsKept HasNoLaterView → MessageWasWritten → OneBatch → WhatIsResentIsOwn → WhatIsResentWasSent
-what_is_resent_was_sent same views written one own f keys start faulty steps others shared comes i correct to m j =
+what_is_resent_was_sent same views written one own f keys start faulty steps others shared comes i correct to m j vote =
     let begun = new_node_replicas f keys start in
     let w = after_node_turns begun steps in
     let got = right_then same views written one f faulty steps begun (ordered.new_order_replicas f) (new_right same views written one f faulty keys start shared) comes in
@@ -184,5 +184,5 @@ what_is_resent_was_sent same views written one own f keys start faulty steps oth
       | inl first ↦ change_said (w i) (own_sent steps begun (λ k s e. absurd cc) i) m first
       | inr rest ↦
           let from = out_of_map (as_message Order) (order.resent (w i).node.order to) m rest in
-          subst (λ (x : Signed Message). HasSaid (w i).sent x.message) (sym from.2) (order_said own f faulty w got.0 others got.1 i correct to from.0 from.1)
+          subst (λ (x : Signed Message). HasSaid (w i).sent x.message) (sym from.2) (order_said own f faulty w got.0 others got.1 i correct to from.0 from.1 (subst (λ (x : Signed Message). IsNoCheckpoint x.message) from.2 vote))
     ]

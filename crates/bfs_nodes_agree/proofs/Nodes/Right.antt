@@ -164,8 +164,8 @@ module _ (faulty : ℕ → Bool) (after : NodeReplicas) (who : ℕ) where
   abbrev DoesQuietly : (v : ordered.OrderReplicas) (node : Node) → Stands faulty after who v node → (S : Type 0) → List ViewDeed → Outcome → Type 0
   DoesQuietly v node know S deeds out = Does v node know S NoReply deeds out
 
-  checkpoint_heard : (keys : Keys) (h : World) (m : Signed OrderMessage) → (header m).tag ≡ 5 → IsSaid faulty after (Order m.message) → IsWhole m.message → IsChecked keys m → IsHeard faulty keys h after m
-  checkpoint_heard keys h m five said whole checked = record { sent = λ small. absurd (omega (arith, five, small)); said = λ goes. said; whole = whole; checked = checked }
+  checkpoint_heard : (keys : Keys) (h : World) (m : Signed OrderMessage) → (header m).tag ≡ 5 → IsWhole m.message → IsChecked keys m → IsHeard faulty keys h after m
+  checkpoint_heard keys h m five whole checked = record { sent = λ small. absurd (omega (arith, five, small)); said = λ small. absurd (omega (arith, five, small)); whole = whole; checked = checked }
 
   shows_heard : (keys : Keys) (s : State) (h : World) (stable : Option StableCheckpoint) → Shows (IsHeard faulty keys h after) s keys stable
   shows_heard keys s h None = tt
@@ -214,7 +214,7 @@ module _ (faulty : ℕ → Bool) (after : NodeReplicas) (who : ℕ) where
                   let tells : told who (header m).tag = in_told (headers (w who).offers) (header m) (in_map header (w who).offers m mine) in
                   record {
                     sent = λ small correct. inr (own.0, subst (told (header m).sender) own.0 (subst (λ (k : ℕ). told k (header m).tag) (sym (own.1.sender ∙ know.me)) tells));
-                    said = λ small. offer m i;
+                    said = λ _ _. offer m i;
                     whole = own.1.whole;
                     checked = own_checked faulty (histories v) after node know.kept m i;
                   }),
@@ -355,7 +355,6 @@ module _ (faulty : ℕ → Bool) (after : NodeReplicas) (who : ℕ) where
         go None None is goes = nothing_is goes
         go None (Some files) is goes =
             let deed = turns.Orders (order.Checkpoints node.keys node.order.last (snapshot_of files node.table).digest) in
-            let own = checkpoint node.keys node.order node.order.last (snapshot_of files node.table).digest in
             deed_done faulty after who v node know (IsStill node (checkpointed node files).now) NoReply deed (checkpointed node files) [] refl tt refl know.kept know.waiting
             (λ s i. elim i [
               | inl e ↦
@@ -364,21 +363,16 @@ module _ (faulty : ℕ → Bool) (after : NodeReplicas) (who : ℕ) where
               | inr j ↦ absurd j
             ])
             (λ m i small. absurd i)
-            (checkpoint_heard node.keys (histories (After faulty after who v node know (deed ∷ []))) own refl (own_said faulty after who (as_message Order own) (goes (as_message Order own) (inl refl)) (ap principal.Replica know.me)) tt refl)
+            (checkpoint_heard node.keys (histories (After faulty after who v node know (deed ∷ []))) _ refl tt refl)
             tt (refl, refl, refl) goes
 
-    adopts_done : (certificate : StableCheckpoint) (files : FileSystem) (table : Table) → ((m : Signed Message) → IsAmong m (checkpoints_in certificate) → IsAuthentic faulty w node.keys m) → DoesQuietly v node know (Unit {0}) (deeds_of node (Adopts certificate files table)) (outcome node (Adopts certificate files table))
-    adopts_done certificate files table authentic =
+    adopts_done : (certificate : StableCheckpoint) (files : FileSystem) (table : Table) → DoesQuietly v node know (Unit {0}) (deeds_of node (Adopts certificate files table)) (outcome node (Adopts certificate files table))
+    adopts_done certificate files table =
         let deed = turns.Orders (order.Installs node.keys certificate) in
         let heard = IsHeard faulty node.keys (histories (After faulty after who v node know (deed ∷ []))) after in
-        let told : is_shown node.keys node.order.f certificate ≡ true → (x : Signed model.Checkpoint) → IsIn x certificate.checkpoints → IsSaid faulty after (Order (Checkpoint x.message)) = λ right x i.
-        let m = as_message Checkpoint x in
-        let there = in_map (as_message Checkpoint) certificate.checkpoints x i in
-        let signed = (at_in (IsVoucher node.keys node.order.f certificate.number certificate.digest) (checkpoints_in certificate) (vouched node.keys node.order.f certificate right).each m there).signed in
-        said_later faulty w after on (Order m.message) (λ k e correct. authentic (as_message Order m) (in_map (as_message Order) (checkpoints_in certificate) m there) k e signed correct) in
         elim (may_adopt node certificate && bytes_eq (node_digest files table) certificate.digest) as (λ b. DoesQuietly v node know (Unit {0}) (cond b (deed ∷ []) []) (cond b (still (adopted node certificate files table)) (still node))) [
           | true ↦ deed_done faulty after who v node know (Unit {0}) NoReply deed (still (adopted node certificate files table)) [] refl tt refl know.kept know.waiting (λ s i. absurd i) (λ m i small. absurd i)
-              (λ right. map_in heard (as_message Checkpoint) certificate.checkpoints (λ x i. checkpoint_heard node.keys (histories (After faulty after who v node know (deed ∷ []))) (as_message Checkpoint x) refl (told right x i) tt refl)) tt tt
+              (λ right. map_in heard (as_message Checkpoint) certificate.checkpoints (λ x i. checkpoint_heard node.keys (histories (After faulty after who v node know (deed ∷ []))) (as_message Checkpoint x) refl tt refl)) tt tt
           | false ↦ λ goes. nothing_done faulty after who v node know (Unit {0}) NoReply node know.kept know.waiting refl tt
         ]
 
@@ -403,7 +397,7 @@ module _ (faulty : ℕ → Bool) (after : NodeReplicas) (who : ℕ) where
               let left_is : (order.outcome node.order (order.Leaves view)).now ≡ gone.order = ap (λ (r : Option OrderError). (outcomes.unless r node.order (views.left node.order view)).now) may in
               let said : IsWhollySaid faulty after whole = λ p of. elim of as (λ _. IsSaid faulty after p.message) [
                 | inl same ↦ subst (λ (x : Signed Message). IsSaid faulty after x.message) (sym same) (own_said faulty after who whole (goes whole (inl refl)) (ap principal.Replica know.me))
-                | inr within ↦ map_in (λ (x : Signed Message). IsSaid faulty after x.message) (as_message Order) (messages_in within.0) (λ m i. (proofs within.0 within.1 m i).said (λ four. let small = proof_small within.0 m i in absurd (omega (arith, four, small)))) p within.2
+                | inr within ↦ map_in (λ (x : Signed Message). IsSaid faulty after x.message) (as_message Order) (messages_in within.0) (λ m i. (proofs within.0 within.1 m i).said (let small = proof_small within.0 m i in omega (arith, small)) (λ four. let small = proof_small within.0 m i in absurd (omega (arith, four, small)))) p within.2
               ] in
               let by = λ (s : State). ordered.changes_by s (ordered_deed s (turns.TimesOut view)) in
               let told_now : IsIn change q.changes = left_in (by (v who).state) (v who).changes change
@@ -470,4 +464,4 @@ module _ (faulty : ℕ → Bool) (after : NodeReplicas) (who : ℕ) where
     step_done written Checkpoints comes = tells_done
     step_done written TimesOut comes = leaves_done (next_view node.order)
     step_done written (LeavesFor view) comes = leaves_done view
-    step_done written (Adopts certificate files table) comes = adopts_done certificate files table comes
+    step_done written (Adopts certificate files table) comes = adopts_done certificate files table

@@ -158,7 +158,7 @@ module _ (same : CallsKeepTheReplica) (views : IsKept HasNoLaterView) (written :
       let own : (m : Signed OrderMessage) → IsIn m o.sent → IsOwn who m → IsHeard faulty node.keys h after m = λ m i is_own. record {
         sent = λ small correct. inl (subst (λ (k : ℕ). Told (h k).sent (header m).tag (header m).sender (header m).view (header m).number (header m).digest) (sym is_own.sender)
             (in_told (headers (next who).sent) (header m) (in_map header (next who).sent m (subst (λ (x : ordered.OrderReplica). IsIn m x.sent) (sym (at_who deeds v who)) i))));
-        said = λ goes. own_said faulty after who (as_message Order m) (given m i (goes_as (faults node.keys) node.order.f m right.fit goes)) (ap principal.Replica is_own.sender);
+        said = λ vote goes. own_said faulty after who (as_message Order m) (given m i (goes_as (faults node.keys) node.order.f m right.fit goes)) (ap principal.Replica is_own.sender);
         whole = is_own.whole;
         checked = sent m i;
       } in
