@@ -1,6 +1,6 @@
 -- What a replica does is what becomes of the world.
-use Rattle.std.proofs.Common.{◌≡◌, ◌∙◌, ℕ, ◌<◌, ◌≤◌, ◌+◌, zero, suc, List, [], ◌∷◌, length, get_or, Option, Some, None, true, refl, sym, ap, subst, arith}
-use Rattle.std.specs.Prelude.{IsSome}
+use Rattle.std.proofs.Common.{◌≡◌, ◌∙◌, ℕ, ◌<◌, ◌≤◌, ◌+◌, zero, suc, List, [], ◌∷◌, length, get_or, Option, Some, None, Result, Ok, Err, true, refl, sym, ap, subst, arith}
+use Rattle.std.specs.Prelude.{IsSome, OnOk}
 use Rattle.std.specs.List.{fold, range_with_len, slice_get, slice_set}
 use Rattle.std.specs.Option.{option_map}
 use Rattle.std.proofs.lemmas.Bool.{lt-ltb}
@@ -15,7 +15,8 @@ use Rattle.bfs_node.specs.Receivers.{receivers_of}
 use Rattle.bfs_node.specs.declared.receivers.Receivers.{Receivers}
 use Rattle.bfs_node.specs.declared.receivers.Receivers.TheVariants.{Replicas, Client}
 use Rattle.bfs_cluster.proofs.Each.{one_more}
-use Rattle.bfs_cluster.specs.Inside.Acts.{Acts, doing, posted_if}
+use Rattle.bfs_cluster.specs.Inside.Acts.{Acts, acting, deed, doing, posted_if}
+use Rattle.bfs_cluster.specs.declared.acts.Act.{Act}
 use Rattle.bfs_cluster.specs.Steps.{turning, turn_taken}
 use Rattle.bfs_cluster.specs.World.{Replica, SomeActs, World, done_if, node_at, node_if_heard, noted, posted, posted_to}
 
@@ -53,6 +54,14 @@ pub acted_at : (act : Node → Option Outcome) (world : World) (number : ℕ) (o
     → posted_if number (with_replica world number new) sent ≡ done_if number world (node_at world number >>= act)
 acted_at act world number old new sent is did =
     acted world number old new (doing act old) sent is did ∙ ap (done_if number world) (sym (at_number act world number old is))
+
+-- the same of one that is told to do something, of a world that is the same, once what it sent was posted
+pub acted_as : {A E : Type 0} (r : Result A E) (act : Act) (world own now : World) (number : ℕ) (old new : Replica) (sent : Option Messages)
+    → slice_get world.replicas number ≡ Some old → Acts (doing (deed act) old) old new sent → world ≡ own
+    → OnOk r (now ≡ posted_if number (with_replica world number new) sent) → OnOk r (now ≡ acting act own number)
+acted_as (Ok x) act world own now number old new sent is did same posted =
+    posted ∙ acted_at (deed act) world number old new sent is did ∙ ap (λ (w : World). acting act w number) same
+acted_as (Err e) act world own now number old new sent is did same posted = tt
 
 -- What is sent does not depend on the replicas ------------------------------------------------------------------------------
 
