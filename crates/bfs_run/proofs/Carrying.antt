@@ -63,7 +63,7 @@ use Rattle.bfs_node.specs.declared.error.NodeError.{NodeError}
 use Rattle.bfs_nodes_agree.specs.Orders.Replicas.{OrderReplica, votes_by}
 use Rattle.bfs_nodes_agree.specs.Views.Replicas as turns
 use Rattle.bfs_nodes_agree.specs.Views.Replicas.{ViewDeed}
-use Rattle.bfs_nodes_agree.specs.Nodes.Steps.{NodeStep, Delivers, Takes, TakesRequests, Proposes, Executes, Fails, Checkpoints, TimesOut, Adopts, still, unless, or_still, after_execution, outcome, where_taken, begun_deeds, change_deeds, message_deeds, checkpoint_deeds, timeout_deeds, deeds_of, LeavesFor, leaving_deeds}
+use Rattle.bfs_nodes_agree.specs.Nodes.Steps.{NodeStep, Delivers, Takes, TakesRequests, Proposes, Executes, Fails, Checkpoints, TimesOut, Adopts, still, unless, or_still, after_execution, outcome, where_taken, begun_deeds, change_deeds, message_deeds, checkpoint_deeds, deeds_of, LeavesFor, leaving_deeds}
 use Rattle.bfs_nodes_agree.proofs.Public.{after_deeds, AllIn, AreKept, AreSo, begins_open, both_in, BringAll, chosen_so, deeds_keep, deeds_offer, either_in, either_way, filter_in, good_for, good_on, IsBounded, IsChecked, kept, kept_above, kept_with, left_bounded, lone_late, made_holds, map_in, more_in, none_in, none_kept, not_refused, not_second, OfferAll, Offers, one_in, out_of_filter_map, passes_at, reply_is, Shows, some_is, stays_kept, step_leads, votes_checked, votes_own}
 
 -- by these keys nothing passes

@@ -4,7 +4,7 @@ use Rattle.bfs_nodes_agree.specs.Nodes.Performing.{Performs}
 use Rattle.bfs_nodes_agree.specs.declared.node_calls.performing.Sent.{Sent}
 use Rattle.bfs_nodes_agree.specs.declared.node_calls.performing.Sent.TheVariants.{Nothing, One, All}
 use Rattle.bfs_service.specs.Acting.{Acting, IsAfter}
-use Rattle.bfs_service.proofs.Going.{taken}
+use Rattle.bfs_service.proofs.Going.{refused, taken}
 use Rattle.bfs_service.proofs.acting.Actor.act.Goals as goal
 
 pub returns-in-Ok-Nothing : goal.returns-in-Ok-Nothing
@@ -30,3 +30,10 @@ returns-in_ok-append-in-Ok-All g c =
     let is = subst (λ (s : Sent). Performs acting.node c.args.call (Ok s) now) c.in-Ok-All.field-0-is (subst (λ r. Performs acting.node c.args.call r now) c.in-Ok-All.is c.perform.ensures) in
     subst (λ (a : Acting). IsAfter c.args.call a (record { node = now; sent = c.append.new.self.items })) c.self.view_is
     (subst (λ (sent : Messages). IsAfter c.args.call acting (record { node = now; sent = sent })) (sym (c.in_ok-append-in-Ok-All.ensures.items)) (taken acting c.args.call (All c.in-Ok-All.all) now is))
+
+pub returns-in_ok-unless_memory-in-Err : goal.returns-in_ok-unless_memory-in-Err
+returns-in_ok-unless_memory-in-Err g c =
+    let acting : Acting = record { node = c.self.inside.node; sent = c.self.inside.sent.items } in
+    let now = c.perform.new.node in
+    subst (λ (a : Acting). IsAfter c.args.call a (record { node = now; sent = acting.sent })) c.self.view_is
+    (refused acting c.args.call c.in-Err.error now c.in_ok-unless_memory-in-Err.ensures (subst (λ r. Performs acting.node c.args.call r now) c.in-Err.is c.perform.ensures))
