@@ -39,6 +39,5 @@ def main(room, words):
             _, took, _ = checkpoint(program, files, length, change, count)
             line += f"; behind {what} {took:.2f} ms"
         print(line)
-    # the state alone is what the process has before its first snapshot: with none to keep, one is made and dropped
     one, three = (lib.run(program, 16, 16 * MEBIBYTE, "setattr", 0, 3, kept, reads=True).peak for kept in (1, 3))
     print(f"256 MiB: peak of memory with one snapshot {one / MEBIBYTE:.0f} MiB, with three {three / MEBIBYTE:.0f} MiB: {three / (256 * MEBIBYTE):.2f} of the bytes of files")
