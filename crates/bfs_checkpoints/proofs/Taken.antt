@@ -2,7 +2,7 @@
 use Rattle.std.proofs.Common.{◌≡◌, ℕ, not, List, [], ◌++◌, Option, Some, None, Result, Ok, Err, true, false, Bool, refl, sym, ap, ◌∙◌}
 use Rattle.std.specs.Prelude.{bytes_eq}
 use Rattle.std.specs.Result.{IsErrAnd, IsErrOf}
-use Rattle.std.proofs.lemmas.Bool.{both_ways, not-false, not-true}
+use Rattle.std.proofs.lemmas.Bool.{both_ways, not-true}
 use Rattle.std.proofs.lemmas.Slice.Eq.{bytes_eq-Decides}
 use Rattle.std.specs.Option.{option_map}
 use Rattle.std.proofs.lemmas.Option.{same_Some}
@@ -43,17 +43,6 @@ has_digest (Some live) table snapshot is = ap (λ (s : Snapshot). Some s.digest)
 -- what `!=` of two digests tells
 pub differ : (ne : Bool) (found digest : List ℕ) → ne ≡ not (bytes_eq found digest) → ne ≡ true → found ≡ digest → ⊥
 differ ne found digest is told e = both_ways (bytes_eq found digest) (not-true (bytes_eq found digest) (sym is ∙ told)) ((bytes_eq-Decides found digest).1 e)
-
-pub same : (ne : Bool) (found digest : List ℕ) → ne ≡ not (bytes_eq found digest) → ne ≡ false → found ≡ digest
-same ne found digest is told = (bytes_eq-Decides found digest).0 (not-false (bytes_eq found digest) (sym is ∙ told))
-
-pub adopted : (clients : ℕ) (bytes digest : List ℕ) (files : Option FileSystem) (table : Table) (snapshot : Snapshot) → IsRead clients bytes files table → option_map (λ live. snapshot_of live table) files ≡ Some snapshot
-    → snapshot.digest ≡ digest → snapshot ≡ record { text = bytes; digest = digest }
-adopted clients bytes digest None table snapshot read is told = absurd read
-adopted clients bytes digest (Some live) table snapshot read is told =
-    let own = sym (same_Some _ _ is) in
-    let text = ap (λ (s : Snapshot). s.text) own ∙ sym read.0.spelled in
-    same_snapshot snapshot.text bytes snapshot.digest digest text told
 
 pub other_digest : (clients : ℕ) (bytes found digest : List ℕ) (files : Option FileSystem) (table : Table) → IsRead clients bytes files table → HasDigest files table found → (found ≡ digest → ⊥) → HasOtherDigest clients bytes digest
 other_digest clients bytes found digest None table read hashed differ = absurd read
