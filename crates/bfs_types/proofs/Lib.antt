@@ -1,3 +1,2 @@
 -- Lemmas of bfs_types.
-pub mod BytesLemmas
 pub mod Padding

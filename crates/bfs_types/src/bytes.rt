@@ -1,12 +1,11 @@
-ghost use Rattle.std.specs.Prelude.{◌≡◌, ◌+◌, ◌<◌, ◌≤◌, ◌^◌, ◌++◌, length, take, drop, replicate, IfOk, OnOk, OnErr};
-ghost use Rattle.bfs_model.specs.Server.FileBytes.{filled_to, overwritten, resized};
+ghost use Rattle.std.specs.Prelude.{◌≡◌, ◌≤◌, length, IfOk};
 
 use crate::limits::{MOST_NAME_BYTES, MOST_PATH_BYTES};
 use crate::memory::Memory;
-use std::alloc::{AllocError, Global};
+use std::alloc::Global;
 use std::marker::Model;
 
-/// Bytes of a file, a path or a name, at most `MOST` of them.
+/// Bytes of a request, a reply, a path or a name, at most `MOST` of them.
 #[derive(Debug, Drop)]
 pub struct Bytes<const MOST: usize> {
     bytes: Vec<u8>,
@@ -39,16 +38,6 @@ impl<const MOST: usize> Bytes<MOST> {
         Ok(Bytes { bytes: held })
     }
 
-    /// That many zeros. `Memory` if memory runs out.
-    pub fn zeros(alloc: Global, size: usize) -> Result<Bytes<MOST>, Memory>
-        requires { size ≤ MOST }
-        ensures { IfOk result (λ held. held ≡ replicate size 0) }
-    {
-        let mut held = Vec::new(alloc);
-        held.resize(size, 0)?;
-        Ok(Bytes { bytes: held })
-    }
-
     /// How many bytes there are.
     pub fn len(&self) -> usize
         ensures value { result ≡ length self.now }
@@ -64,63 +53,4 @@ impl<const MOST: usize> Bytes<MOST> {
     {
         self.bytes.as_slice()
     }
-
-    /// Makes them that many: drops the bytes behind, or puts zeros behind. `Memory` if memory runs out; then nothing changes.
-    pub fn resize(&mut self, size: usize) -> Result<(), Memory>
-        requires { size ≤ MOST }
-        ensures ok { OnOk result (self.new ≡ resized size self.old) }
-        ensures err { OnErr result (self.new ≡ self.old) }
-    {
-        Ok(resize(&mut self.bytes, size)?)
-    }
-
-    /// Writes other bytes over them from an offset on. An offset past the end is filled up to with zeros. Writing no bytes
-    /// changes nothing. `Memory` if memory runs out; then nothing changes.
-    pub fn write(&mut self, offset: usize, written: &[u8]) -> Result<(), Memory>
-        requires { offset + length written.now ≤ MOST }
-        ensures ok { OnOk result (self.new ≡ overwritten offset written.now self.old) }
-        ensures err { OnErr result (self.new ≡ self.old) }
-    {
-        Ok(overwrite(&mut self.bytes, offset, written)?)
-    }
-}
-
-#[tactic(auto, using(crate::proofs::BytesLemmas::resized_is))]
-fn resize(bytes: &mut Vec<u8>, size: usize) -> Result<(), AllocError>
-    ensures ok { OnOk result (bytes.new.items ≡ resized size bytes.old.items) }
-    ensures err { OnErr result (bytes.new.items ≡ bytes.old.items) }
-{
-    bytes.resize(size, 0)
-}
-
-#[tactic(auto, using(crate::proofs::BytesLemmas::filled_is, crate::proofs::BytesLemmas::long_enough))]
-fn fill_to(bytes: &mut Vec<u8>, size: usize) -> Result<(), AllocError>
-    ensures ok { OnOk result (bytes.new.items ≡ filled_to size bytes.old.items) }
-    ensures err { OnErr result (bytes.new.items ≡ bytes.old.items) }
-{
-    if bytes.len() < size {
-        bytes.resize(size, 0)
-    } else {
-        Ok(())
-    }
-}
-
-fn copy_at(bytes: &mut [u8], offset: usize, written: &[u8])
-    requires { offset + length written.now ≤ length bytes.old }
-    ensures { bytes.new ≡ take offset bytes.old ++ written.now ++ drop (offset + length written.now) bytes.old }
-{
-    bytes[offset..offset + written.len()].copy_from_slice(written);
-}
-
-fn overwrite(bytes: &mut Vec<u8>, offset: usize, written: &[u8]) -> Result<(), AllocError>
-    requires { offset + length written.now < 2 ^ 64 }
-    ensures ok { OnOk result (bytes.new.items ≡ overwritten offset written.now bytes.old.items) }
-    ensures err { OnErr result (bytes.new.items ≡ bytes.old.items) }
-{
-    if written.is_empty() {
-        return Ok(());
-    }
-    fill_to(bytes, offset + written.len())?;
-    copy_at(bytes.as_mut_slice(), offset, written);
-    Ok(())
 }
