@@ -28,6 +28,10 @@ with_snapshot keeping number snapshot = record keeping { kept = keeping.kept ++ 
 abbrev pub is_of : (number : ℕ) → (digest : List ℕ) → Kept → Bool
 is_of number digest kept = (kept.number == number) && bytes_eq kept.snapshot.digest digest
 
+-- the first one of a number, stable or not
+abbrev pub snapshot_at : (number : ℕ) → Keeping → Option Snapshot
+snapshot_at number keeping = option_map (λ kept. kept.snapshot) (find (λ kept. kept.number == number) keeping.kept)
+
 -- 0 where none is
 abbrev pub stable_number : Option StableCheckpoint → ℕ
 stable_number None = 0

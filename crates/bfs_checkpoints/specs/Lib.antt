@@ -4,5 +4,6 @@ pub mod Outcomes
 pub mod Adoption
 pub mod Snapshots
 pub mod Certificates
+pub mod Collecting
 pub mod Keeping
 pub mod Laws

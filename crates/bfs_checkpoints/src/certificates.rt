@@ -25,6 +25,20 @@ pub fn certificate_with(
     Ok(StableCheckpoint::new(number, *digest, copies))
 }
 
+/// Copies of the CHECKPOINTs of a log that have that number and digest. `Memory` if memory runs out.
+pub fn checkpoints_told(
+    alloc: Global,
+    log: &[Signed<OrderMessage>],
+    number: u64,
+    digest: &[u8; 32],
+) -> Result<Vec<Signed<Checkpoint>>, Memory>
+    ensures { IfOk result (λ copies. copies.items ≡ checkpoints number digest.now log.now) }
+{
+    let mut copies = Vec::new(alloc);
+    put_checkpoints(alloc, &mut copies, log, number, digest)?;
+    Ok(copies)
+}
+
 fn put_checkpoints(
     alloc: Global,
     copies: &mut Vec<Signed<Checkpoint>>,

@@ -2,7 +2,7 @@ ghost use Rattle.std.specs.Prelude.{◌≡◌, ◌==◌, ◌-◌, ◌&&◌, ℕ,
 ghost use Rattle.std.specs.List.{list_any};
 ghost use Rattle.std.specs.Option.{option_map};
 ghost use Rattle.bfs_log.specs.Certificates.{MakesStable};
-ghost use Rattle.bfs_checkpoints.specs.Keeping.{IsStable, Keeping, is_of, nothing_kept, settled, settles, stable, stable_number, with_snapshot};
+ghost use Rattle.bfs_checkpoints.specs.Keeping.{IsStable, Keeping, is_of, nothing_kept, settled, settles, snapshot_at, stable, stable_number, with_snapshot};
 ghost use Rattle.bfs_checkpoints.specs.Snapshots.{Snapshot as Taken};
 
 use crate::snapshots::Snapshot;
@@ -128,6 +128,14 @@ impl Snapshots {
         self.kept.iter().any(|kept| kept.is_of(number, digest))
     }
 
+    /// The snapshot of the checkpoint of that number, whether it is stable or not. None where none is kept. It takes no memory.
+    pub fn snapshot_at(&self, number: u64) -> Option<&Snapshot>
+        ensures { option_map (λ snapshot. snapshot.now) result ≡ snapshot_at number self.now }
+    {
+        let kept = find_at(&self.kept, number)?;
+        Some(&kept.snapshot)
+    }
+
     /// The stable snapshot, and the CHECKPOINTs of 2f + 1 replicas or more that tell its digest. It takes no memory.
     #[tactic(auto, using(crate::proofs::Stable::found_is_stable))]
     pub fn stable(&self) -> Option<StableSnapshot<'_>>
@@ -157,6 +165,12 @@ fn find_of<'a>(kept: &'a [Kept], number: u64, digest: &[u8; 32]) -> Option<&'a K
     ensures { option_map (λ one. one.now) result ≡ find (is_of number digest.now) kept.now }
 {
     kept.iter().find(|one| one.is_of(number, digest))
+}
+
+fn find_at(kept: &[Kept], number: u64) -> Option<&Kept>
+    ensures { option_map (λ one. one.now) result ≡ find (λ one. one.number == number) kept.now }
+{
+    kept.iter().find(|one| one.number == number)
 }
 
 fn drop_below(kept: &mut Vec<Kept>, number: u64)

@@ -76,7 +76,7 @@ pub fn take_snapshot(
     let Ok(table) = table.try_clone(alloc) else {
         return Err(ExecError::Memory);
     };
-    let digest = digest_with(&frozen.digest(), &table);
+    let digest = digest_with(frozen.digest(), &table);
     Ok(Snapshot {
         files: frozen,
         table,

@@ -6,3 +6,4 @@ pub mod Whole
 pub mod Known
 pub mod Loops
 pub mod Passed
+pub mod Public

@@ -3,7 +3,7 @@ use Rattle.std.proofs.Common.{◌≡◌, ℕ, List, ◌++◌, length, take, drop
 use Rattle.std.proofs.Math.Seq.{take-append_seam, take-length}
 use Rattle.std.proofs.lemmas.List.{take-append-drop}
 use Rattle.std.specs.Prelude.{OnErr}
-use Rattle.bfs_digest.specs.Inside.Putting.{BeginsWith}
+use Rattle.bfs_xdr.specs.Sinks.{BeginsWith}
 
 pub begins : (front more bytes : List ℕ) → bytes ≡ front ++ more → BeginsWith front bytes
 begins front more bytes is = ap (take (length front)) is ∙ take-append_seam front more

@@ -5,4 +5,3 @@ pub mod Taking
 pub mod Formation
 pub mod Names
 pub mod Hashed
-pub mod Putting

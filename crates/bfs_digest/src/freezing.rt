@@ -8,8 +8,8 @@ ghost use Rattle.bfs_inode.specs.Frozen.{frozen_text};
 ghost use Rattle.bfs_inode.specs.Inodes.{body_seen};
 ghost use Rattle.bfs_inode.specs.Records.{body_text, frozen_of, record_digest};
 ghost use Rattle.bfs_tree.specs.Tree.{at_home};
-ghost use Rattle.bfs_digest.specs.Frozen.{digests_of, frozen_files, frozen_inodes, texts_of};
-ghost use Rattle.bfs_digest.specs.Inside.Putting.{BeginsWith};
+ghost use Rattle.bfs_digest.specs.Frozen.{digests_of, frozen_files, frozen_inodes, frozen_with, texts_of};
+ghost use Rattle.bfs_xdr.specs.Sinks.{BeginsWith};
 
 use crate::digests::{hash_digest, hash_header};
 use crate::hashes::record_digest;
@@ -35,27 +35,28 @@ pub struct FrozenFiles {
     header: Header,
     // by rising fileid
     inodes: Vec<Arc<FrozenInode>>,
+    // of these
+    digest: [u8; 32],
 }
 
 impl Model for FrozenFiles {
-    ghost use Rattle.std.specs.Prelude.{map};
+    ghost use Rattle.std.specs.Prelude.{◌≡◌, map};
     ghost use Rattle.std.specs.Arc.{arc_value};
     ghost use Rattle.bfs_digest.specs.Frozen.{FrozenFiles, frozen_with};
 
     ghost Value = { FrozenFiles };
 
     ghost view = { λ frozen. frozen_with frozen.header (map arc_value frozen.inodes.items) };
+
+    ghost invariant = { λ frozen. frozen.digest ≡ (frozen_with frozen.header (map arc_value frozen.inodes.items)).digest };
 }
 
 impl FrozenFiles {
-    /// The digest of the file system that was frozen. It hashes 36 bytes an inode, and takes no memory.
-    pub fn digest(&self) -> [u8; 32]
-        ensures { result ≡ self.now.digest }
+    /// The digest of the file system that was frozen.
+    pub fn digest(&self) -> &[u8; 32]
+        ensures { result.now ≡ self.now.digest }
     {
-        let mut hasher = Sha256::new();
-        hash_header(&mut hasher, &self.header);
-        hash_frozen(&mut hasher, &self.inodes);
-        hasher.finalize()
+        &self.digest
     }
 
     /// Appends the text of the file system that was frozen. Each byte is written once. `Memory` if memory runs out; then some of it may stand
@@ -66,14 +67,6 @@ impl FrozenFiles {
     {
         put_header(&self.header, out)?;
         put_inodes(out, &self.inodes)
-    }
-}
-
-fn hash_frozen(hasher: &mut Sha256, inodes: &[Arc<FrozenInode>])
-    ensures { (m : List ℕ) → Holds256 hasher.old m → Holds256 hasher.new (m ++ digests_of (map arc_value inodes.now)) }
-{
-    for inode in inodes {
-        hash_digest(hasher, inode.id(), inode.digest());
     }
 }
 
@@ -88,8 +81,8 @@ fn put_inodes(out: &mut Vec<u8>, inodes: &[Arc<FrozenInode>]) -> Result<(), Memo
 }
 
 /// Freezes a file system, which stays as it was. What changed since it was frozen last is hashed (`refresh`) and copied: of a file nothing
-/// but a pointer a block, of a directory its text. Of each other inode it takes a pointer. `Failed` if the file system has failed,
-/// `Memory` if memory runs out.
+/// but a pointer a block, of a directory its text. Of each other inode it takes a pointer, and it hashes 36 bytes an inode for the digest.
+/// `Failed` if the file system has failed, `Memory` if memory runs out.
 pub fn freeze(
     rt: &(impl Threads + Sync),
     alloc: Global,
@@ -110,18 +103,39 @@ fn frozen_as_it_is(alloc: Global, files: &FileSystem) -> Result<FrozenFiles, Exe
     let Some((header, tree)) = parts_of(files) else {
         return Err(ExecError::Failed);
     };
-    match freeze_inodes(alloc, tree) {
-        Ok(inodes) => Ok(FrozenFiles { header, inodes }),
+    match freeze_tree(alloc, header, tree) {
+        Ok(frozen) => Ok(frozen),
         Err(Memory) => Err(ExecError::Memory),
     }
 }
 
-fn freeze_inodes(alloc: Global, tree: &Tree) -> Result<Vec<Arc<FrozenInode>>, Memory>
-    ensures { IfOk result (λ inodes. map arc_value inodes.items ≡ frozen_inodes (entries (at_home tree.now))) }
+fn freeze_tree(alloc: Global, header: Header, tree: &Tree) -> Result<FrozenFiles, Memory>
+    ensures { IfOk result (λ frozen. frozen ≡ frozen_with header (frozen_inodes (entries (at_home tree.now)))) }
+{
+    let mut hasher = Sha256::new();
+    hash_header(&mut hasher, &header);
+    let inodes = freeze_inodes(alloc, &mut hasher, tree)?;
+    Ok(FrozenFiles {
+        header,
+        inodes,
+        digest: hasher.finalize(),
+    })
+}
+
+// each inode is hashed where it is shared, so that what it keeps is fetched once
+fn freeze_inodes(
+    alloc: Global,
+    hasher: &mut Sha256,
+    tree: &Tree,
+) -> Result<Vec<Arc<FrozenInode>>, Memory>
+    ensures value { IfOk result (λ inodes. map arc_value inodes.items ≡ frozen_inodes (entries (at_home tree.now))) }
+    ensures hashed { IfOk result (λ inodes. (m : List ℕ) → Holds256 hasher.old m → Holds256 hasher.new (m ++ digests_of (map arc_value inodes.items))) }
 {
     let mut inodes = Vec::with_capacity(alloc, tree.count())?;
     for (id, inode) in tree.iter() {
-        inodes.push(shared(alloc, FileId::new(*id), inode)?)?;
+        let frozen = shared(alloc, FileId::new(*id), inode)?;
+        hash_digest(hasher, frozen.id(), frozen.digest());
+        inodes.push(frozen)?;
     }
     Ok(inodes)
 }

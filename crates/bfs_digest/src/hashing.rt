@@ -82,7 +82,7 @@ fn ids_without_digest(alloc: Global, tree: &Tree) -> Result<Vec<FileId>, Memory>
     let mut ids = Vec::new(alloc);
     for (number, inode) in tree.iter() {
         let id = FileId::new(*number);
-        if inode.kept_digest(id).is_none() {
+        if inode.kept(id).is_none() {
             ids.push(id)?;
         }
     }

@@ -106,6 +106,6 @@ fn keep_in(alloc: Global, inode: &mut Inode, hashed: &RecordDigest) -> Result<()
     ensures { inode.new ≡ inode.old }
 {
     let frozen = freeze_inode(alloc, hashed.id, inode, hashed.digest)?;
-    inode.keep(frozen);
+    inode.keep(hashed.id, frozen);
     Ok(())
 }

@@ -3,7 +3,7 @@ ghost use Rattle.std.specs.Prelude.{◌≡◌, ◌++◌, ◌↔◌, Some, None, 
 ghost use Rattle.std.specs.Option.{option_map};
 ghost use Rattle.bfs_tree.specs.Tree.{at_home};
 ghost use Rattle.bfs_digest.specs.Text.{header_text, latest_version, records_text, snapshot_text};
-ghost use Rattle.bfs_digest.specs.Inside.Putting.{BeginsWith};
+ghost use Rattle.bfs_xdr.specs.Sinks.{BeginsWith};
 
 use crate::headers::{Header, parts_of, put_header};
 use crate::lengths::text_length;

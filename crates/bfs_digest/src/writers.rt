@@ -7,7 +7,7 @@ ghost use Rattle.bfs_inode.specs.Inodes.{body_seen};
 ghost use Rattle.bfs_inode.specs.Records.{body_text, record_text};
 ghost use Rattle.bfs_tree.specs.Tree.{at_home};
 ghost use Rattle.bfs_digest.specs.Text.{records_text};
-ghost use Rattle.bfs_digest.specs.Inside.Putting.{BeginsWith};
+ghost use Rattle.bfs_xdr.specs.Sinks.{BeginsWith};
 
 use crate::listings::put_listing;
 use crate::words::head_words;

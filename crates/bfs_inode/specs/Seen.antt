@@ -18,4 +18,4 @@ IsWithin inode = (inode.permissions ≤ MOST_PERMISSIONS) × (inode.links ≤ mo
 
 -- what it keeps is what it is
 abbrev pub KeepsItself : Inside → Type 0
-KeepsItself inode = ForSome inode.kept (λ kept. arc_value kept ≡ frozen_of (arc_value kept).id (seen inode))
+KeepsItself inode = ForSome inode.kept (λ kept. arc_value kept.1 ≡ frozen_of kept.0 (seen inode))

@@ -39,8 +39,8 @@ pub struct Inode {
     mtime: Time,
     ctime: Time,
     body: Body,
-    // as it is
-    kept: Option<Arc<FrozenInode>>,
+    // as it is, under that fileid
+    kept: Option<(FileId, Arc<FrozenInode>)>,
 }
 
 /// The attributes of an inode that are stored beside what it holds (RFC 1094 section 2.3.5).

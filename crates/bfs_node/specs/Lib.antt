@@ -10,4 +10,8 @@ pub mod Executing
 pub mod Checkpoints
 pub mod Advancing
 pub mod Adopting
+pub mod Settling
+pub mod Telling
+pub mod Offering
+pub mod Forgetting
 pub mod Inside

@@ -77,8 +77,8 @@ impl Node {
         Ok(())
     }
 
-    // `false` if memory ran out, and nothing has changed
-    fn install(&mut self, checkpoint: &StableCheckpoint) -> bool
+    /// Installs a certificate. `false` if memory ran out, and nothing has changed.
+    pub(crate) fn install(&mut self, checkpoint: &StableCheckpoint) -> bool
         requires { is_shown self.old.keys self.old.order.f checkpoint.now ≡ true }
         ensures now { result ≡ true → self.new ≡ record self.old { order = (installed self.old.order checkpoint.now).now } }
         ensures stays { result ≡ false → self.new ≡ self.old }

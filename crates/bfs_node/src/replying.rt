@@ -52,7 +52,7 @@ fn tell_each(
         .collect(rt, alloc)
 }
 
-fn tell(alloc: Global, keys: &Keys, order: &Order, answer: &Answer) -> MaybeTold
+pub(crate) fn tell(alloc: Global, keys: &Keys, order: &Order, answer: &Answer) -> MaybeTold
     ensures { IfOk result (λ signed. signed ≡ told keys.now (reply_to order.now answer.now)) }
 {
     let client = answer.client();

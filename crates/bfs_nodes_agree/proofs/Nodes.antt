@@ -1,6 +1,8 @@
 -- What proofs share.
 pub mod Agree
 pub mod Answering
+pub mod Resting
+pub mod Entered
 pub mod Resending
 pub mod NewViews
 pub mod Whole

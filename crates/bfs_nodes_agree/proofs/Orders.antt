@@ -7,6 +7,7 @@ pub mod Taking
 pub mod Deeds
 pub mod Entering
 pub mod Whole
+pub mod Rising
 pub mod Worlds
 pub mod Lists
 pub mod Logs

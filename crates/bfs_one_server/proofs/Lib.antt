@@ -11,3 +11,4 @@ mod Rewriting
 mod Readers
 mod Using
 mod Making
+mod Answered

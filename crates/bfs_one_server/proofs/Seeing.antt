@@ -16,11 +16,11 @@ use Rattle.bfs_messages.specs.declared.message.Message.{Message}
 use Rattle.bfs_messages.specs.declared.message.Message.TheVariants.{Order, Reply}
 use Rattle.bfs_messages.specs.declared.order_messages.OrderMessage.{OrderMessage}
 use Rattle.bfs_outcome.specs.Outcome as outcome
-use Rattle.bfs_replies.specs.Tables.{Table}
+use Rattle.bfs_replies.specs.Tables.{Table, last_of}
 use Rattle.bfs_agreement.specs.Histories.{IsIn}
 use Rattle.bfs_clients.specs.Clients.{keys_at}
 use Rattle.bfs_nodes_agree.proofs.Public.{AllIn, both_at, either_in, here_after, left_in}
-use Rattle.bfs_nodes_agree.specs.Nodes.Answers.{Answers, AnswersFor, NodesAnswer}
+use Rattle.bfs_nodes_agree.specs.Nodes.Answers.{Answers, AnswersAgain, AnswersFor, AnswersNow, NodesAnswer}
 use Rattle.bfs_nodes_agree.specs.Nodes.Laws.{Agree, BatchesDontCollide, NodesAgree}
 use Rattle.bfs_nodes_agree.specs.Nodes.Premises.{HasSaid, IsAuthentic, StatesDontCollide, order_signed_part, signed_part}
 use Rattle.bfs_nodes_agree.specs.Nodes.Replicas.{NodeReplica, NodeReplicas, NodeTurn, after_node_turn}
@@ -179,9 +179,9 @@ module _ (agree : NodesAgree) (answer : NodesAnswer) (d : Deployment) where
       (subst (Highest d.faulty) (sym (nodes_are acts (new_world d))) (highest d.faulty (turns_in acts) (new_world d).nodes (highest_at_first d.faulty d.clients.f d.keys (beginning d))))
 
   module _ (acts : List Act) (run : IsARun d acts) (batches : List Batch) (are : AreAll d.faulty (After acts).nodes batches) where
-    -- what a correct replica answers is the reply of an effect
-    answer_told : (k : ℕ) → d.faulty k ≡ false → (reply : model.Reply) → Answers ((After acts).nodes k) reply → Tells (history d batches) reply.client reply.timestamp reply.result
-    answer_told k correct reply a =
+    -- what a correct replica answers once it has executed a batch is the reply of an effect
+    answer_now : (k : ℕ) → d.faulty k ≡ false → (reply : model.Reply) → AnswersNow ((After acts).nodes k) reply → Tells (history d batches) reply.client reply.timestamp reply.result
+    answer_now k correct reply a =
         let s = a.before in
         let list = listed (beginning d) d.faulty (After acts).nodes s.number s.files s.table ((agrees acts run).comes k s correct a.reached) in
         let one : List Batch = a.batch ∷ [] in
@@ -205,6 +205,25 @@ module _ (agree : NodesAgree) (answer : NodesAnswer) (d : Deployment) where
           subst (λ (l : List Effect). IsIn told.0 l) (sym whole) (left_in (effects d.files start (list.batches ++ one)) rest told.0 (subst (λ (l : List Effect). IsIn told.0 l) joined told.1)),
           record { client_is = told.2.client_is ∙ sym a.client; timestamp_is = told.2.timestamp_is ∙ sym a.timestamp; reply_is = told.2.reply_is ∙ sym a.result },
         )
+
+    -- so is what it answers once more
+    answer_again : (k : ℕ) → d.faulty k ≡ false → (reply : model.Reply) → AnswersAgain ((After acts).nodes k) reply → Tells (history d batches) reply.client reply.timestamp reply.result
+    answer_again k correct reply a =
+        let s = a.standing in
+        let list = listed (beginning d) d.faulty (After acts).nodes s.number s.files s.table ((agrees acts run).comes k s correct a.reached) in
+        let past = effects d.files start list.batches in
+        let first = begins_with list.batches batches (λ n b e. let x = list.executed n b e in placed d.faulty (After acts).nodes batches are x.0 n b x.1 x.2) in
+        let known = known_all d.files start list.batches [] (none_known (length d.clients.keys)) in
+        let told = known reply.client a.last (ap (λ (t : Table). last_of t reply.client) (sym list.table_is) ∙ a.found) in
+        let rest = effects (files_after d.files start list.batches) (table_after d.files start list.batches) first.0 in
+        let whole : history d batches ≡ past ++ rest = ap (history d) first.1 ∙ effects_append d.files start list.batches first.0 in (
+          told.0,
+          subst (λ (l : List Effect). IsIn told.0 l) (sym whole) (left_in past rest told.0 told.1),
+          record { client_is = told.2.client_is; timestamp_is = told.2.timestamp_is ∙ sym a.timestamp; reply_is = told.2.reply_is ∙ sym a.result },
+        )
+
+    answer_told : (k : ℕ) → d.faulty k ≡ false → (reply : model.Reply) → Answers ((After acts).nodes k) reply → Tells (history d batches) reply.client reply.timestamp reply.result
+    answer_told k correct reply a = elim a [ inl now ↦ answer_now k correct reply now | inr again ↦ answer_again k correct reply again ]
 
     -- so is a result that is accepted
     accepted_at : (c t : ℕ) (r : List ℕ) → d.liar c ≡ false → HasAccepted d acts c t r → Tells (history d batches) c t r

@@ -3,6 +3,7 @@ pub mod Serving
 pub mod Worlds
 pub mod Premises
 pub mod Laws
+pub mod Lasts
 pub mod Counters
 pub mod Examples
 pub mod Reading

@@ -1,6 +1,6 @@
 -- What is given again stands in the log, and nothing of that is left out.
 use Rattle.std.proofs.Common.{◌≡◌, ◌≤◌, ◌<◌, ℕ, zero, suc, ◌+◌, ◌-◌, Bool, true, false, ◌&&◌, cond, eqb, ltb, List, [], ◌∷◌, ◌++◌, inl, inr, ◌⊎◌, refl, sym, ap, ◌∙◌, subst, arith}
-use Rattle.std.specs.Prelude.{Option, Some, None, option_to_list}
+use Rattle.std.specs.Prelude.{◌||◌, Option, Some, None, option_to_list}
 use Rattle.std.specs.List.{All, Contains, flat_map, range_with_len}
 use Rattle.std.proofs.lemmas.Bool.{and_parts, and_from, eqb-true, eqb-false, eq-eqb, or_left, or_right}
 use Rattle.std.proofs.lemmas.List.Elements.{All-contains, Contains-append_cases, Contains-append_left, Contains-append_right}
@@ -18,7 +18,7 @@ use Rattle.bfs_messages.specs.declared.order_messages.OrderMessage.TheVariants.{
 use Rattle.bfs_votes.specs.Votes.{Header, SlotsDiffer, has_slot, is_slot, is_taken}
 use Rattle.bfs_order.specs.Laws.Logs.{IsInWindow}
 use Rattle.bfs_order.specs.Laws.Resent.{AllOfItIsResent, WhatIsResentIsOwn}
-use Rattle.bfs_order.specs.Replica.Resending.{are_together, is_resent, own_message, own_votes, resent, resent_of}
+use Rattle.bfs_order.specs.Replica.Resending.{are_together, is_resent, needs_above, own_answers, own_message, resent, resent_of}
 use Rattle.bfs_order.specs.Replica.States.{State}
 use Rattle.bfs_order.specs.declared.resending.Lag.{Lag}
 use Rattle.bfs_order.proofs.Executed.{found}
@@ -67,24 +67,22 @@ own_in P s tag view number each = go (message_at s.log tag s.me view number) ref
         let it = found (λ m. is_slot tag s.me view number (header m)) s.log x e in
         subst P (only m x i) (each x it.there it.passes)
 
-vote_is : (s : State) (to : Lag) (tag number : ℕ) → eqb tag 5 ≡ false → are_together s to ≡ true → ltb to.last number ≡ true
+vote_is : (s : State) (to : Lag) (tag number : ℕ) → are_together s to ≡ true → ltb (needs_above to tag) number ≡ true
     → (m : Signed OrderMessage) → Contains s.log m → is_slot tag s.me s.view number (header m) ≡ true → IsIt s to m
-vote_is s to tag number other together above m i e =
+vote_is s to tag number together above m i e =
     let h = header m in
     let at = slot_of tag s.me s.view number h e in
-    let not_told : eqb h.tag 5 ≡ false = ap (λ t. eqb t 5) at.0 ∙ other in
-    let right : (cond (eqb h.tag 5) (ltb to.stable h.number) (are_together s to && (eqb h.view s.view && ltb to.last h.number))) ≡ true =
-    ap (λ b. cond b (ltb to.stable h.number) (are_together s to && (eqb h.view s.view && ltb to.last h.number))) not_told
-    ∙ and_from _ _ together (and_from _ _ (eq-eqb h.view s.view at.2) (ap (ltb to.last) at.3 ∙ above)) in
-    (i, and_from _ _ (eq-eqb h.sender s.me at.1) right)
+    let needed : ltb (needs_above to h.tag) h.number ≡ true = ap (λ t. ltb (needs_above to t) h.number) at.0 ∙ ap (ltb (needs_above to tag)) at.3 ∙ above in
+    let there : (eqb h.tag 5 || (are_together s to && eqb h.view s.view)) ≡ true = or_right (eqb h.tag 5) _ (and_from _ _ together (eq-eqb h.view s.view at.2)) in
+    (i, and_from _ _ (eq-eqb h.sender s.me at.1) (and_from _ _ needed there))
 
 told_is : (s : State) (to : Lag) (number : ℕ) → ltb to.stable number ≡ true → (m : Signed OrderMessage) → Contains s.log m → is_slot 5 s.me 0 number (header m) ≡ true → IsIt s to m
 told_is s to number above m i e =
     let h = header m in
     let at = slot_of 5 s.me 0 number h e in
-    let right : (cond (eqb h.tag 5) (ltb to.stable h.number) (are_together s to && (eqb h.view s.view && ltb to.last h.number))) ≡ true =
-    ap (λ t. cond (eqb t 5) (ltb to.stable h.number) (are_together s to && (eqb h.view s.view && ltb to.last h.number))) at.0 ∙ ap (ltb to.stable) at.3 ∙ above in
-    (i, and_from _ _ (eq-eqb h.sender s.me at.1) right)
+    let needed : ltb (needs_above to h.tag) h.number ≡ true = ap (λ t. ltb (needs_above to t) h.number) at.0 ∙ ap (ltb to.stable) at.3 ∙ above in
+    let there : (eqb h.tag 5 || (are_together s to && eqb h.view s.view)) ≡ true = or_left (eqb h.tag 5) _ (eq-eqb h.tag 5 at.0) in
+    (i, and_from _ _ (eq-eqb h.sender s.me at.1) (and_from _ _ needed there))
 
 pub what_is_resent_is_own : WhatIsResentIsOwn
 what_is_resent_is_own s to m i = of_all P (resent_of s to) each (range_with_len s.low (log_size + 1)) m i
@@ -92,16 +90,21 @@ what_is_resent_is_own s to m i = of_all P (resent_of s to) each (range_with_len 
     P : Signed OrderMessage → Type 0
     P = IsIt s to
 
-    votes : (number : ℕ) → (are_together s to && ltb to.last number) ≡ true → In P (own_votes s number)
-    votes number e =
+    proposal : (number : ℕ) → (are_together s to && ltb to.last number) ≡ true → In P (own_message s 2 s.view number)
+    proposal number e =
         let parts = and_parts (are_together s to) (ltb to.last number) e in
-        both P _ _ (own_in P s 2 s.view number (vote_is s to 2 number refl parts.0 parts.1))
-        (both P _ _ (own_in P s 3 s.view number (vote_is s to 3 number refl parts.0 parts.1)) (own_in P s 4 s.view number (vote_is s to 4 number refl parts.0 parts.1)))
+        own_in P s 2 s.view number (vote_is s to 2 number parts.0 parts.1)
+
+    own : (number : ℕ) → (are_together s to && ltb to.stable number) ≡ true → In P (own_answers s number)
+    own number e =
+        let parts = and_parts (are_together s to) (ltb to.stable number) e in
+        both P _ _ (own_in P s 3 s.view number (vote_is s to 3 number parts.0 parts.1)) (own_in P s 4 s.view number (vote_is s to 4 number parts.0 parts.1))
 
     each : (number : ℕ) → In P (resent_of s to number)
     each number =
-        both P _ _ (if_so P (are_together s to && ltb to.last number) (own_votes s number) (votes number))
-        (if_so P (ltb to.stable number) (own_message s 5 0 number) (λ e. own_in P s 5 0 number (told_is s to number e)))
+        both P _ _ (if_so P (are_together s to && ltb to.last number) (own_message s 2 s.view number) (proposal number))
+        (both P _ _ (if_so P (are_together s to && ltb to.stable number) (own_answers s number) (own number))
+        (if_so P (ltb to.stable number) (own_message s 5 0 number) (λ e. own_in P s 5 0 number (told_is s to number e))))
 
 -- Nothing is left out -----------------------------------------------------------------------------------------------------------
 
@@ -169,8 +172,11 @@ all_of_it_is_resent s to m differ windowed i e = go (eqb h.tag 5) refl
     own : h.sender ≡ s.me
     own = eqb-true h.sender s.me (and_parts (eqb h.sender s.me) _ e).0
 
-    rest : (cond (eqb h.tag 5) (ltb to.stable h.number) (are_together s to && (eqb h.view s.view && ltb to.last h.number))) ≡ true
+    rest : (ltb (needs_above to h.tag) h.number && (eqb h.tag 5 || (are_together s to && eqb h.view s.view))) ≡ true
     rest = (and_parts (eqb h.sender s.me) _ e).1
+
+    needed : (tag : ℕ) → h.tag ≡ tag → ltb (needs_above to tag) h.number ≡ true
+    needed tag t = ap (λ k. ltb (needs_above to k) h.number) (sym t) ∙ (and_parts (ltb (needs_above to h.tag) h.number) _ rest).0
 
     window : IsInWindow s.low h
     window = window_of s.low s.log m windowed i
@@ -183,26 +189,39 @@ all_of_it_is_resent s to m differ windowed i e = go (eqb h.tag 5) refl
         let is = and_from _ _ (eq-eqb h.tag tag t) (and_from _ _ (eq-eqb h.sender s.me own) (and_from _ _ (eq-eqb h.view view v) (eq-eqb h.number h.number refl))) in
         subst (λ (o : Option (Signed OrderMessage)). Contains (option_to_list o) m) (sym (found_by tag s.me view h.number s.log m differ i is)) (at_once m)
 
+    first : List (Signed OrderMessage)
+    first = cond (are_together s to && ltb to.last h.number) (own_message s 2 s.view h.number) []
+
+    second : List (Signed OrderMessage)
+    second = cond (are_together s to && ltb to.stable h.number) (own_answers s h.number) []
+
+    third : List (Signed OrderMessage)
+    third = cond (ltb to.stable h.number) (own_message s 5 0 h.number) []
+
+    answered : are_together s to ≡ true → ltb to.stable h.number ≡ true → Contains (own_answers s h.number) m → Contains (resent s to) m
+    answered together above j =
+        by_number (Contains-append_right first (second ++ third) m (Contains-append_left second third m
+        (in_if (are_together s to && ltb to.stable h.number) (own_answers s h.number) m (and_from _ _ together above) j)))
+
     go : (b : Bool) → eqb h.tag 5 ≡ b → Contains (resent s to) m
     go true told =
         let tag = eqb-true h.tag 5 told in
-        let above : ltb to.stable h.number ≡ true = rw told at rest in
-        by_number (Contains-append_right (cond (are_together s to && ltb to.last h.number) (own_votes s h.number) []) _ m
-        (in_if (ltb to.stable h.number) (own_message s 5 0 h.number) m above (in_slot 5 0 tag (no_view m.message tag))))
+        by_number (Contains-append_right first (second ++ third) m (Contains-append_right second third m
+        (in_if (ltb to.stable h.number) (own_message s 5 0 h.number) m (needed 5 tag) (in_slot 5 0 tag (no_view m.message tag)))))
     go false other =
-        let right : (are_together s to && (eqb h.view s.view && ltb to.last h.number)) ≡ true = rw other at rest in
-        let a = and_parts (are_together s to) (eqb h.view s.view && ltb to.last h.number) right in
-        let b = and_parts (eqb h.view s.view) (ltb to.last h.number) a.1 in
-        let view = eqb-true h.view s.view b.0 in
-        let votes : Contains (own_votes s h.number) m = elim (vote_tag m.message other) [
-          | inl t ↦ Contains-append_left (own_message s 2 s.view h.number) (own_message s 3 s.view h.number ++ own_message s 4 s.view h.number) m (in_slot 2 s.view t view)
-          | inr late ↦ Contains-append_right (own_message s 2 s.view h.number) (own_message s 3 s.view h.number ++ own_message s 4 s.view h.number) m (elim late [
-            | inl t ↦ Contains-append_left (own_message s 3 s.view h.number) (own_message s 4 s.view h.number) m (in_slot 3 s.view t view)
-            | inr t ↦ Contains-append_right (own_message s 3 s.view h.number) (own_message s 4 s.view h.number) m (in_slot 4 s.view t view)
-          ])
-        ] in
-        by_number (Contains-append_left (cond (are_together s to && ltb to.last h.number) (own_votes s h.number) []) (cond (ltb to.stable h.number) (own_message s 5 0 h.number) []) m
-        (in_if (are_together s to && ltb to.last h.number) (own_votes s h.number) m (and_from _ _ a.0 b.1) votes))
+        let right : (are_together s to && eqb h.view s.view) ≡ true = rw other at (and_parts (ltb (needs_above to h.tag) h.number) _ rest).1 in
+        let a = and_parts (are_together s to) (eqb h.view s.view) right in
+        let view = eqb-true h.view s.view a.1 in
+        let p = own_message s 3 s.view h.number in
+        let c = own_message s 4 s.view h.number in
+        elim (vote_tag m.message other) [
+          | inl t ↦ by_number (Contains-append_left first (second ++ third) m
+              (in_if (are_together s to && ltb to.last h.number) (own_message s 2 s.view h.number) m (and_from _ _ a.0 (needed 2 t)) (in_slot 2 s.view t view)))
+          | inr late ↦ elim late [
+            | inl t ↦ answered a.0 (needed 3 t) (Contains-append_left p c m (in_slot 3 s.view t view))
+            | inr t ↦ answered a.0 (needed 4 t) (Contains-append_right p c m (in_slot 4 s.view t view))
+          ]
+        ]
 
 -- One number more -----------------------------------------------------------------------------------------------------------------
 

@@ -1,5 +1,6 @@
 -- One replica's order of batches: what it knows, what it refuses, and what each call makes of that (OSDI 1999 sections 4.2 to 4.4).
 pub mod States
+pub mod Marks
 pub mod Refusals
 pub mod Outcomes
 pub mod Answers

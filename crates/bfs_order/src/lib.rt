@@ -9,6 +9,7 @@ mod error;
 mod executing;
 mod installing;
 mod laws;
+mod marks;
 mod order;
 mod proposing;
 mod refusals;
@@ -22,5 +23,6 @@ pub use laws::{
     views_are_entered, what_is_executed_has_its_certificate, what_is_resent_is_its_own,
     what_is_sent_says_one_digest,
 };
+pub use marks::Marks;
 pub use order::Order;
 pub use resending::Lag;

@@ -1,7 +1,7 @@
 // What a replica has said is given again.
 ghost use Rattle.std.specs.Prelude.{◌≡◌, ◌++◌, IfOk, OnOk};
 ghost use Rattle.bfs_log.specs.Logs.{as_messages};
-ghost use Rattle.bfs_order.specs.Replica.Resending.{are_together, own_message, own_votes, resent, resent_of};
+ghost use Rattle.bfs_order.specs.Replica.Resending.{are_together, own_answers, own_message, resent, resent_of};
 
 use crate::order::Order;
 use bfs_log::Slot;
@@ -17,9 +17,9 @@ pub struct Lag {
 }
 
 impl Order {
-    /// Copies of what it has said that a replica may lack which is so far: of numbers above the one last executed there its own PRE-PREPAREs,
-    /// PREPAREs and COMMITs of the view, if both are in it, and its own CHECKPOINTs of numbers above the stable one there. They stand by rising
-    /// numbers. Nothing of it is new. It looks in the log for each number of the window, and walks through no messages. `Memory` if memory runs out.
+    /// Copies of what it has said that a replica may lack which is so far: if both are in one view, its own PRE-PREPAREs of it for numbers above the
+    /// one last executed there, and its PREPAREs and COMMITs of it above the stable one there, since who executed a number in an earlier view
+    /// may lack them in this one; and its own CHECKPOINTs of numbers above the stable one there. They stand by rising numbers. Nothing of it is new. It looks in the log for each number of the window, and walks through no messages. `Memory` if memory runs out.
     pub fn said_since(&self, to: Lag) -> Result<Vec<Signed<Message>>, Memory>
         ensures { IfOk result (λ sent. sent.items ≡ as_messages (resent self.now to)) }
     {
@@ -39,7 +39,10 @@ impl Order {
         ensures { OnOk result (sent.new.items ≡ sent.old.items ++ as_messages (resent_of self.now to number)) }
     {
         if self.is_together(to) && to.last < number {
-            self.add_own_votes(number, sent)?;
+            self.add_own(PRE_PREPARE_TAG, self.view, number, sent)?;
+        }
+        if self.is_together(to) && to.stable < number {
+            self.add_own_answers(number, sent)?;
         }
         if to.stable < number {
             self.add_own(CHECKPOINT_TAG, 0, number, sent)?;
@@ -53,10 +56,9 @@ impl Order {
         self.asked <= self.view && to.view == self.view
     }
 
-    fn add_own_votes(&self, number: u64, sent: &mut Vec<Signed<Message>>) -> Result<(), Memory>
-        ensures { OnOk result (sent.new.items ≡ sent.old.items ++ as_messages (own_votes self.now number)) }
+    fn add_own_answers(&self, number: u64, sent: &mut Vec<Signed<Message>>) -> Result<(), Memory>
+        ensures { OnOk result (sent.new.items ≡ sent.old.items ++ as_messages (own_answers self.now number)) }
     {
-        self.add_own(PRE_PREPARE_TAG, self.view, number, sent)?;
         self.add_own(PREPARE_TAG, self.view, number, sent)?;
         self.add_own(COMMIT_TAG, self.view, number, sent)
     }

@@ -1,3 +1,4 @@
 mod Alike
+mod Counts
 mod Lasts
 pub mod Asked

@@ -2,6 +2,7 @@
 #![tactic(auto)]
 
 mod checking;
+mod counting;
 mod names;
 mod waiting;
 

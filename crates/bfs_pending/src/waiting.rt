@@ -9,9 +9,10 @@ ghost use Rattle.bfs_messages.specs.declared.signed.Signed as declared;
 ghost use Rattle.bfs_pending.specs.Indexes.{AreHashed, left_of};
 ghost use Rattle.bfs_pending.specs.Names.{name_cmp, name_of};
 ghost use Rattle.bfs_pending.specs.Passed.{HavePassed, waits};
-ghost use Rattle.bfs_pending.specs.Requests.{is_same, without};
+ghost use Rattle.bfs_pending.specs.Requests.{count_of, is_same, without, without_named};
 
 use crate::checking::is_alike;
+use crate::counting::{add_one, counted, discount_gone};
 use crate::names::{Name, name_of};
 use bfs_auth::Principal;
 use bfs_messages::{HashedBatch, OrderedBatch, Request, Signed};
@@ -23,13 +24,14 @@ use std::sync::Arc;
 
 /// The requests that wait to be ordered, in the order in which they came. There are at most as many as a batch can have.
 ///
-/// Beside them stands the last one of each client and timestamp, so that one is found by one look-up. It shares the call. A batch of all that
-/// wait may stand there too, with its digest.
+/// Beside them stands the last one of each client and timestamp, so that one is found by one look-up, and how many are of each client. It shares
+/// the call. A batch of all that wait may stand there too, with its digest.
 #[derive(Drop)]
 pub struct PendingRequests {
     alloc: Global,
     requests: Vec<Signed<Request>>,
     last: BTreeMap<Name, Signed<Request>>,
+    counts: BTreeMap<u32, u32>,
     hashed: Option<HashedBatch>,
 }
 
@@ -43,7 +45,7 @@ impl Model for PendingRequests {
 
     ghost view = { λ pending. pending.requests.items };
 
-    ghost invariant = { λ pending. IsIndexed pending.requests.items pending.last × AreHashed pending.requests.items pending.hashed };
+    ghost invariant = { λ pending. IsIndexed pending.requests.items pending.last pending.counts × AreHashed pending.requests.items pending.hashed };
 }
 
 impl PendingRequests {
@@ -55,6 +57,7 @@ impl PendingRequests {
             alloc,
             requests: Vec::new(alloc),
             last: BTreeMap::new(alloc),
+            counts: BTreeMap::new(alloc),
             hashed: None,
         }
     }
@@ -89,6 +92,13 @@ impl PendingRequests {
         self.requests.as_slice()
     }
 
+    /// How many of a client wait. It takes one look-up.
+    pub fn count_of(&self, client: u32) -> u32
+        ensures { result ≡ count_of client self.now }
+    {
+        counted(&self.counts, client)
+    }
+
     /// Whether it waits, as a receiver sees it: the last one of its client and timestamp asks for the same, and has the same entry for the
     /// receiver. So where those that wait have passed, it has passed too.
     pub fn waits(&self, receiver: Principal, signed: &Signed<Request>) -> bool
@@ -111,11 +121,11 @@ impl PendingRequests {
         let copy = signed.try_clone(self.alloc)?;
         self.hashed = None;
         self.requests.push(signed)?;
-        match self.last.insert(name, copy) {
-            Ok(_) => Ok(()),
-            Err(refused) => {
+        match add_one(&mut self.last, &mut self.counts, name, copy) {
+            Ok(()) => Ok(()),
+            Err(Memory) => {
                 self.requests.pop();
-                Err(Memory::from(refused))
+                Err(Memory)
             }
         }
     }
@@ -169,15 +179,18 @@ impl PendingRequests {
         self.hashed = None;
         self.requests.clear();
         self.last = BTreeMap::new(self.alloc);
+        self.counts = BTreeMap::new(self.alloc);
     }
 
-    fn drop_named(&mut self, requests: &[Signed<Request>])
-        ensures now { self.new ≡ filter (λ one. not (list_any (is_same one) requests.now)) self.old }
+    /// Those leave of whose client and timestamp one is among these; the others stay in their order. It takes no memory.
+    pub fn drop_named(&mut self, requests: &[Signed<Request>])
+        ensures now { self.new ≡ without_named self.old requests.now }
         ensures passed { (keys : Secrets) → HavePassed keys self.old → HavePassed keys self.new }
     {
         self.hashed = None;
         forget(&mut self.last, requests);
         let last = &self.last;
+        discount_gone(&mut self.counts, last, self.requests.as_slice());
         self.requests
             .retain(|signed| last.contains_key(&name_of(signed)));
     }

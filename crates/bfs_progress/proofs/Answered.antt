@@ -12,13 +12,13 @@ use Rattle.bfs_agreement.proofs.Public.{within_is, choice_is_by_its_rule, told_c
 use Rattle.bfs_progress.proofs.Numbers.{one_below, one_more}
 use Rattle.bfs_progress.proofs.Logs.{slot_more, said_slots, said_join, told_said, prepare_told, commit_told, votes_slot, prepared_is, prepared_by, in_marks, taken_from, proposed_le}
 use Rattle.bfs_progress.proofs.Speaks.{Speaks, answered_speaks, dropped_speaks}
-use Rattle.bfs_progress.proofs.Heard.{Heard, by_itself}
+use Rattle.bfs_progress.proofs.Heard.{Heard, HeardVotes, votes_of, by_itself}
 
 -- A proposal ----------------------------------------------------------------------------------------------------------
 
 -- before it proposes the number no correct backup has sent a PREPARE for it, and faulty ones are too few to prepare it
 module _ (f : ℕ) (faulty : ℕ → Bool) (w : World) (i : ℕ) (d : List ℕ) (positive : 0 < f) (few : FewAreFaulty f faulty) (correct : faulty i ≡ false)
-    (heard : Heard f faulty w) (kept : Kept f i (w i)) (speaks : Speaks f i (w i).now.view (w i).now.log) (leads : i ≡ primary f (w i).now.view) where
+    (heard : HeardVotes f faulty w) (kept : Kept f i (w i)) (speaks : Speaks f i (w i).now.view (w i).now.log) (leads : i ≡ primary f (w i).now.view) where
   abbrev s : State
   s = (w i).now
 
@@ -44,7 +44,7 @@ module _ (f : ℕ) (faulty : ℕ → Bool) (w : World) (i : ℕ) (d : List ℕ) 
       elim (told_cases h s.log 3 k s.view n e (and_parts (not (k == p)) (told (h ∷ s.log) 3 k s.view n e) got.2).1) [
         | inl is ↦ let tag : 2 ≡ 3 = is.tag in omega (arith, tag)
         | inr old ↦
-            let sent = by_itself (w k) 3 k s.view n e (omega arith) (heard.said i 3 k s.view n e got.3 old) in
+            let sent = by_itself (w k) 3 k s.view n e (omega arith) (heard.said i 3 k s.view n e (omega arith) got.3 old) in
             let said = heard.grounds k s.view n e got.3 (subst (λ (x : ℕ). faulty x ≡ false) leads correct) sent in
             unsaid e (subst (λ (x : ℕ). HasSaid (w x) 2 x s.view n e) (sym leads) said)
       ]
@@ -198,7 +198,7 @@ call_speaks f null faulty w i (Orders d) positive few correct heard kept speaks 
     then_speaks f i (after_move f i (w i) (Says h)) hs
     (cond_both (f == 0) (commits_in f i (h ∷ s.log) s.view n d) [] (λ (l : List Header). Speaks f i s.view (with_said l (h ∷ s.log)))
     (λ none. let zero_is : f ≡ 0 = eqb-true f 0 none in absurd (omega (arith, zero_is, positive)))
-    (λ _. proposed_speaks f faulty w i d positive few correct heard kept speaks leads)))
+    (λ _. proposed_speaks f faulty w i d positive few correct (votes_of f faulty w heard) kept speaks leads)))
 call_speaks f null faulty w i (Settles n) positive few correct heard kept speaks =
     if_speaks f i (w i) (nat_lt (w i).now.low n) (Drops n ∷ []) speaks (λ _. dropped_speaks f i (w i).now.view n (w i).now.log speaks)
 call_speaks f null faulty w i TimesOut positive few correct heard kept speaks = speaks

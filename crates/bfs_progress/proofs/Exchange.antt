@@ -15,7 +15,7 @@ use Rattle.bfs_progress.proofs.Numbers.{each_below}
 use Rattle.bfs_progress.proofs.Turns.{after_call, at_caller, after_join, authentic_join}
 use Rattle.bfs_progress.proofs.Logs.{slot_told, proposed_le}
 use Rattle.bfs_progress.proofs.Answered.{said_now}
-use Rattle.bfs_progress.proofs.Reached.{Facts, turn_done, always}
+use Rattle.bfs_progress.proofs.Reached.{Facts, responds, turn_done, always}
 use Rattle.bfs_progress.proofs.Quiet.{has_prepared, has_committed, all_prepare, all_commit}
 
 -- Nothing goes --------------------------------------------------------------------------------------------------------
@@ -236,7 +236,7 @@ module _ (f : ℕ) (null : List ℕ) (faulty members : ℕ → Bool) (v n : ℕ)
       let has : (k : ℕ) → members k ≡ true → HasAt w1 k 2 p = λ k x. first.1 k (among k x) x in
       -- the PREPAREs
       let prepares : (i : ℕ) → backups i ≡ true → HasAt w1 i 3 i = λ i x.
-      let c = and_parts (members i) (not (i == p)) x in has_prepared f faulty members w1 v n d first.0.facts together1 room1.low i c.0 (not-true (i == p) c.1) (has i c.0) in
+      let c = and_parts (members i) (not (i == p)) x in has_prepared f faulty members w1 v n d (responds f faulty w1 first.0.facts) together1 room1.low i c.0 (not-true (i == p) c.1) (has i c.0) in
       let second = all_go w1 backups 3 (replicas f) first.0.facts together1 room1 (λ i x. (and_parts (members i) (not (i == p)) x).0) (λ i. refl) prepares in
       let w2 = after_header_turns f null w1 two in
       let together2 = together_on f faulty members w1 w2 v second.0.stays together1 in
@@ -245,16 +245,16 @@ module _ (f : ℕ) (null : List ℕ) (faulty members : ℕ → Bool) (v n : ℕ)
       let prepares2 : (k i : ℕ) → members k ≡ true → members i ≡ true → (i == p) ≡ false → HasAt w2 k 3 i = λ k i x y backup.
       second.1 i (among i y) (and_from (members i) (not (i == p)) y (not_from_false (i == p) backup)) k x in
       let ready : (k : ℕ) → members k ≡ true → prepared f k (w2 k).now.log v n d ≡ true = λ k x.
-      all_prepare f faulty members w2 v n d second.0.facts together2 room2.low k x (has2 k x) (λ i y backup. prepares2 k i x y backup) in
+      all_prepare f faulty members w2 v n d (responds f faulty w2 second.0.facts) together2 room2.low k x (has2 k x) (λ i y backup. prepares2 k i x y backup) in
       -- the COMMITs
-      let commits : (i : ℕ) → members i ≡ true → HasAt w2 i 4 i = λ i x. has_committed f faulty members w2 v n d second.0.facts together2 room2.low i x (has2 i x) (ready i x) in
+      let commits : (i : ℕ) → members i ≡ true → HasAt w2 i 4 i = λ i x. has_committed f faulty members w2 v n d (responds f faulty w2 second.0.facts) together2 room2.low i x (has2 i x) (ready i x) in
       let third = all_go w2 members 4 (replicas f) second.0.facts together2 room2 (λ i x. x) (λ i. refl) commits in
       let w3 = after_header_turns f null w2 three in
       let together3 = together_on f faulty members w2 w3 v third.0.stays together2 in
       let room3 = room_on members w2 w3 n third.0.stays room2 in
       let ready3 : (k : ℕ) → members k ≡ true → prepared f k (w3 k).now.log v n d ≡ true = λ k x.
-      all_prepare f faulty members w3 v n d third.0.facts together3 room3.low k x ((third.0.stays k).log 2 p v n d (has2 k x)) (λ i y backup. (third.0.stays k).log 3 i v n d (prepares2 k i x y backup)) in
-      let done : IsCommitted f members w3 v n d = λ k x. all_commit f faulty members w3 v n d third.0.facts together3 room3.low k x (ready3 k x) (λ i y. third.1 i (among i y) y k x) in (
+      all_prepare f faulty members w3 v n d (responds f faulty w3 third.0.facts) together3 room3.low k x ((third.0.stays k).log 2 p v n d (has2 k x)) (λ i y backup. (third.0.stays k).log 3 i v n d (prepares2 k i x y backup)) in
+      let done : IsCommitted f members w3 v n d = λ k x. all_commit f faulty members w3 v n d (responds f faulty w3 third.0.facts) together3 room3.low k x (ready3 k x) (λ i y. third.1 i (among i y) y k x) in (
         goes_join w one (two ++ three) first.0 (goes_join w1 two three second.0 third.0),
         subst (λ (x : World). IsCommitted f members x v n d) (sym (after_join f null w one (two ++ three) ∙ after_join f null w1 two three)) done,
       )

@@ -15,6 +15,14 @@ pub record Heard (f : ℕ) (faulty : ℕ → Bool) (w : World) : Type 0 where
   -- who sent a PREPARE had the primary's PRE-PREPARE
   pub grounds : (k v n : ℕ) (d : List ℕ) → faulty k ≡ false → faulty (primary f v) ≡ false → Told (w k).sent 3 k v n d → HasSaid (w (primary f v)) 2 (primary f v) v n d
 
+-- of votes alone
+pub record HeardVotes (f : ℕ) (faulty : ℕ → Bool) (w : World) : Type 0 where
+  pub said : (i t k v n : ℕ) (d : List ℕ) → t < 5 → faulty k ≡ false → Told (w i).now.log t k v n d → HasSaid (w k) t k v n d
+  pub grounds : (k v n : ℕ) (d : List ℕ) → faulty k ≡ false → faulty (primary f v) ≡ false → Told (w k).sent 3 k v n d → HasSaid (w (primary f v)) 2 (primary f v) v n d
+
+pub votes_of : (f : ℕ) (faulty : ℕ → Bool) (w : World) → Heard f faulty w → HeardVotes f faulty w
+votes_of f faulty w heard = record { said = λ i t k v n d small correct x. heard.said i t k v n d correct x; grounds = heard.grounds }
+
 -- what is no PRE-PREPARE was sent by itself
 pub by_itself : (p : History) (t k v n : ℕ) (d : List ℕ) → 2 < t → HasSaid p t k v n d → Told p.sent t k v n d
 by_itself p t k v n d vote (inl x) = x

@@ -16,7 +16,7 @@ pub record LaterAt (p q : State) : Type 0 where
 abbrev pub Later : World → World → Type 0
 Later w new = (k : ℕ) → LaterAt (w k).now (new k).now
 
-now_later : (p : State) → LaterAt p p
+pub now_later : (p : State) → LaterAt p p
 now_later p = record { view = omega arith; asked = omega arith; low = omega arith; min_s = λ _. refl; log = λ t k v n d above x. x }
 
 told_later : (p : State) (h : Header) → LaterAt p (record p { log = h ∷ p.log })

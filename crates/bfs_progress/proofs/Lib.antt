@@ -19,3 +19,4 @@ mod Ways
 mod Windows
 mod Anywhere
 mod Premises
+pub mod Public

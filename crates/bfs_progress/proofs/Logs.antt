@@ -28,6 +28,13 @@ slot_told (h ∷ log) t k v n x = elim (or_cases (is_slot t k v n h) (has_slot l
   | inr b ↦ let got = slot_told log t k v n b in (got.0, told_more h log t k v n got.0 got.1)
 ]
 
+pub told_slot : (log : List Header) (t k v n : ℕ) (d : List ℕ) → Told log t k v n d → has_slot log t k v n ≡ true
+told_slot [] t k v n d x = absurd cc
+told_slot (h ∷ log) t k v n d x = elim (or_cases (says t k v n d h) (told log t k v n d) x) [
+  | inl a ↦ or_left (is_slot t k v n h) (has_slot log t k v n) (and_parts (is_slot t k v n h) (bytes_eq h.digest d) a).0
+  | inr b ↦ slot_more h log t k v n (told_slot log t k v n d b)
+]
+
 -- Saying --------------------------------------------------------------------------------------------------------------
 
 pub said_slots : (hs log : List Header) (t k v n : ℕ) → has_slot log t k v n ≡ true → has_slot (with_said hs log) t k v n ≡ true

@@ -10,11 +10,11 @@ use Rattle.bfs_progress.specs.Members.{IsQuorum}
 use Rattle.bfs_progress.specs.Examples.{present, lossy, then_heard, scattered, claimed, then_followed, HoldInAView, HoldBetweenViews}
 
 -- what holds at 0, 1 and 2 holds at each that is present
-each : (P : ℕ → Type 0) → P 0 → P 1 → P 2 → (k : ℕ) → present k ≡ true → P k
-each P a b c zero x = a
-each P a b c (suc zero) x = b
-each P a b c (suc (suc zero)) x = c
-each P a b c (suc (suc (suc k))) x = let lt = ltb-true (suc (suc (suc k))) 3 x in absurd (omega (arith, lt))
+pub each_present : (P : ℕ → Type 0) → P 0 → P 1 → P 2 → (k : ℕ) → present k ≡ true → P k
+each_present P a b c zero x = a
+each_present P a b c (suc zero) x = b
+each_present P a b c (suc (suc zero)) x = c
+each_present P a b c (suc (suc (suc k))) x = let lt = ltb-true (suc (suc (suc k))) 3 x in absurd (omega (arith, lt))
 
 -- each message of one log another tells too
 abbrev Covers : (log new : List Header) → Type 0
@@ -29,12 +29,12 @@ heard_if (h ∷ log) new all t k v n d x =
       | inr later ↦ heard_if log new a.1 t k v n d later
     ]
 
-quorum : (view : ℕ) → present (primary 1 view) ≡ true → IsQuorum 1 silent present view
-quorum view leads =
+pub present_quorum : (view : ℕ) → present (primary 1 view) ≡ true → IsQuorum 1 silent present view
+present_quorum view leads =
     record {
       enough = omega arith;
-      correct = each (λ k. silent k ≡ false) refl refl refl;
-      among = each (λ k. k < replicas 1) (omega arith) (omega arith) (omega arith);
+      correct = each_present (λ k. silent k ≡ false) refl refl refl;
+      among = each_present (λ k. k < replicas 1) (omega arith) (omega arith) (omega arith);
       leads = leads;
     }
 
@@ -43,15 +43,15 @@ in_a_view =
     let w = reached 1 [] lossy in
     let log = λ (k : ℕ). (reached 1 [] then_heard k).now.log in (
       record { others = omega arith; few = omega arith; authentic = (tt, (λ _. inl refl, tt)); offered = (tt, (tt, tt)) },
-      record { quorum = quorum 0 refl; entered = each (λ k. (w k).now.view ≡ 0) refl refl refl; asked = each (λ k. (w k).now.asked ≡ 0) refl refl refl },
+      record { quorum = present_quorum 0 refl; entered = each_present (λ k. (w k).now.view ≡ 0) refl refl refl; asked = each_present (λ k. (w k).now.asked ≡ 0) refl refl refl },
       record {
-        low = each (λ k. (w k).now.low < 1) (omega arith) (omega arith) (omega arith);
-        min_s = each (λ k. (w k).now.min_s < 1) (omega arith) (omega arith) (omega arith);
-        high = each (λ k. 1 ≤ (w k).now.low + 32) (omega arith) (omega arith) (omega arith);
+        low = each_present (λ k. (w k).now.low < 1) (omega arith) (omega arith) (omega arith);
+        min_s = each_present (λ k. (w k).now.min_s < 1) (omega arith) (omega arith) (omega arith);
+        high = each_present (λ k. 1 ≤ (w k).now.low + 32) (omega arith) (omega arith) (omega arith);
       },
       refl,
-      λ i j t d in_i in_j. heard_if (log i) (log j) (each (λ a. (b : ℕ) → present b ≡ true → Covers (log a) (log b))
-          (each (λ b. Covers (log 0) (log b)) refl refl refl) (each (λ b. Covers (log 1) (log b)) refl refl refl) (each (λ b. Covers (log 2) (log b)) refl refl refl) i in_i j in_j) t i 0 1 d,
+      λ i j t d in_i in_j. heard_if (log i) (log j) (each_present (λ a. (b : ℕ) → present b ≡ true → Covers (log a) (log b))
+          (each_present (λ b. Covers (log 0) (log b)) refl refl refl) (each_present (λ b. Covers (log 1) (log b)) refl refl refl) (each_present (λ b. Covers (log 2) (log b)) refl refl refl) i in_i j in_j) t i 0 1 d,
     )
 
 pub between_views : HoldBetweenViews
@@ -60,15 +60,15 @@ between_views =
     let new = reached 1 [] then_followed in (
       record { others = omega arith; few = omega arith; authentic = (tt, (tt, (tt, (tt, (tt, tt))))); offered = (tt, (tt, (tt, (tt, (tt, tt))))) },
       record {
-        quorum = quorum 2 refl;
-        asked = each (λ k. (w k).now.asked ≤ 2) (omega arith) (omega arith) (omega arith);
-        before = each (λ k. (w k).now.view < 2) (omega arith) (omega arith) (omega arith);
+        quorum = present_quorum 2 refl;
+        asked = each_present (λ k. (w k).now.asked ≤ 2) (omega arith) (omega arith) (omega arith);
+        before = each_present (λ k. (w k).now.view < 2) (omega arith) (omega arith) (omega arith);
       },
-      λ j k x. each (λ k. claimed j k ≡ (w k).now.asked) refl refl refl k,
+      λ j k x. each_present (λ k. claimed j k ≡ (w k).now.asked) refl refl refl k,
       omega arith,
       record {
-        quorum = quorum 2 refl;
-        asked = each (λ k. (new k).now.asked ≡ 2) refl refl refl;
-        before = each (λ k. (new k).now.view < 2) (omega arith) (omega arith) (omega arith);
+        quorum = present_quorum 2 refl;
+        asked = each_present (λ k. (new k).now.asked ≡ 2) refl refl refl;
+        before = each_present (λ k. (new k).now.view < 2) (omega arith) (omega arith) (omega arith);
       },
     )

@@ -6,7 +6,7 @@ use Rattle.bfs_agreement.specs.Calls.{moves_of, IsAuthentic, HeaderTurn, steps_o
 use Rattle.bfs_agreement.proofs.Public.{allowed, run_at, Sound, start_sound, run_sound, at_each}
 use Rattle.bfs_progress.specs.Premises.{IsOffered, AreOffered, IsARun, reached}
 use Rattle.bfs_progress.proofs.Turns.{after_call}
-use Rattle.bfs_progress.proofs.Heard.{Heard, start_heard, run_heard, calls_offered}
+use Rattle.bfs_progress.proofs.Heard.{Heard, HeardVotes, votes_of, start_heard, run_heard, calls_offered}
 use Rattle.bfs_progress.proofs.Answered.{SpeaksNow, call_speaks}
 use Rattle.bfs_progress.proofs.High.{LogHigh, run_high}
 use Rattle.bfs_progress.proofs.Changes.{IsGood, good_on, HasTold, call_tells, made_now}
@@ -18,6 +18,15 @@ pub record Facts (f : ℕ) (faulty : ℕ → Bool) (w : World) : Type 0 where
   pub high : (k : ℕ) → LogHigh (w k)
   pub good : (k : ℕ) (m : ViewChange) → faulty k ≡ false → IsIn m (w k).changes → IsGood f faulty w k m
   pub told : (k : ℕ) → faulty k ≡ false → HasTold (w k)
+
+-- of it, what laws in a view ask
+pub record Responds (f : ℕ) (faulty : ℕ → Bool) (w : World) : Type 0 where
+  pub sound : Sound f faulty w
+  pub heard : HeardVotes f faulty w
+  pub speaks : (k : ℕ) → faulty k ≡ false → SpeaksNow f k (w k)
+
+pub responds : (f : ℕ) (faulty : ℕ → Bool) (w : World) → Facts f faulty w → Responds f faulty w
+responds f faulty w facts = record { sound = facts.sound; heard = votes_of f faulty w facts.heard; speaks = facts.speaks }
 
 pub turn_done : (f : ℕ) (null : List ℕ) (faulty : ℕ → Bool) (w : World) (turn : HeaderTurn) → 0 < f → FewAreFaulty f faulty → Facts f faulty w
     → IsAuthentic faulty w turn.call → IsOffered f null faulty w turn.who turn.call → Facts f faulty (after_header_turn f null w turn)

@@ -10,7 +10,7 @@ use Rattle.bfs_progress.specs.Members.{AreTogether, HasRoom, IsCommitted}
 use Rattle.bfs_progress.specs.Exchanges.{IsRound}
 use Rattle.bfs_progress.specs.Laws.{RoundsCommit}
 use Rattle.bfs_progress.proofs.Turns.{after_join, authentic_parts, offered_parts}
-use Rattle.bfs_progress.proofs.Reached.{Facts, turn_done, turns_done, start_facts}
+use Rattle.bfs_progress.proofs.Reached.{Facts, Responds, responds, turn_done, turns_done, start_facts}
 use Rattle.bfs_progress.proofs.Quiet.{has_prepared, has_committed, all_prepare, all_commit}
 use Rattle.bfs_progress.proofs.Exchange.{receipt, IsVote, delivered, open_at}
 use Rattle.bfs_progress.proofs.Later.{Later, then_later, turn_later, turns_later}
@@ -21,7 +21,7 @@ pub record AreOpen (f : ℕ) (faulty members : ℕ → Bool) (v n : ℕ) (w : Wo
   pub room : HasRoom members w n
 
 -- so it is meanwhile where it is at first and at last
-open_between : (f : ℕ) (faulty members : ℕ → Bool) (v n : ℕ) (w mid last : World) → AreOpen f faulty members v n w → AreOpen f faulty members v n last → Later w mid → Later mid last
+pub open_between : (f : ℕ) (faulty members : ℕ → Bool) (v n : ℕ) (w mid last : World) → AreOpen f faulty members v n w → AreOpen f faulty members v n last → Later w mid → Later mid last
     → AreOpen f faulty members v n mid
 open_between f faulty members v n w mid last first end one two =
     record {
@@ -39,6 +39,27 @@ open_between f faulty members v n w mid last first end one two =
   where
     view_at : (k : ℕ) → members k ≡ true → (mid k).now.view ≡ v
     view_at k x = let a = first.together.entered k x in let b = end.together.entered k x in let c = (one k).view in let d = (two k).view in omega (arith, a, b, c, d)
+
+-- what three rounds come to: the PRE-PREPARE is at each, then the PREPARE of each backup, then the COMMIT of each
+pub in_three : (f : ℕ) (faulty members : ℕ → Bool) (v n : ℕ) (d : List ℕ) (w1 w2 w3 : World) → Responds f faulty w1 → Responds f faulty w2 → Responds f faulty w3
+    → AreOpen f faulty members v n w1 → AreOpen f faulty members v n w2 → AreOpen f faulty members v n w3 → Later w1 w2 → Later w2 w3
+    → ((k : ℕ) → members k ≡ true → Told (w1 k).now.log 2 (primary f v) v n d)
+    → ((i k : ℕ) → members i ≡ true → members k ≡ true → (i == primary f v) ≡ false → Told (w1 i).now.log 3 i v n d → Told (w2 k).now.log 3 i v n d)
+    → ((i k : ℕ) → members i ≡ true → members k ≡ true → Told (w2 i).now.log 4 i v n d → Told (w3 k).now.log 4 i v n d)
+    → IsCommitted f members w3 v n d
+in_three f faulty members v n d w1 w2 w3 one two three open1 open2 open3 later2 later3 has1 prepare commit =
+    let p = primary f v in
+    let has2 : (k : ℕ) → members k ≡ true → Told (w2 k).now.log 2 p v n d = λ k x. (later2 k).log 2 p v n d (open2.room.low k x) (has1 k x) in
+    let prepares2 : (k i : ℕ) → members k ≡ true → members i ≡ true → (i == p) ≡ false → Told (w2 k).now.log 3 i v n d = λ k i x y backup.
+    prepare i k y x backup (has_prepared f faulty members w1 v n d one open1.together open1.room.low i y backup (has1 i y)) in
+    let ready2 : (k : ℕ) → members k ≡ true → prepared f k (w2 k).now.log v n d ≡ true = λ k x.
+    all_prepare f faulty members w2 v n d two open2.together open2.room.low k x (has2 k x) (λ i y backup. prepares2 k i x y backup) in
+    let commits3 : (k i : ℕ) → members k ≡ true → members i ≡ true → Told (w3 k).now.log 4 i v n d = λ k i x y.
+    commit i k y x (has_committed f faulty members w2 v n d two open2.together open2.room.low i y (has2 i y) (ready2 i y)) in
+    λ k x.
+    let still = λ (t i : ℕ) (y : Told (w2 k).now.log t i v n d). (later3 k).log t i v n d (open3.room.low k x) y in
+    let ready3 = all_prepare f faulty members w3 v n d three open3.together open3.room.low k x (still 2 p (has2 k x)) (λ i y backup. still 3 i (prepares2 k i x y backup)) in
+    all_commit f faulty members w3 v n d three open3.together open3.room.low k x ready3 (λ i y. commits3 k i x y)
 
 module _ (f : ℕ) (null : List ℕ) (faulty members : ℕ → Bool) (v n : ℕ) (positive : 0 < f) (few : FewAreFaulty f faulty) where
   abbrev IsOpen : World → Type 0
@@ -95,17 +116,8 @@ module _ (f : ℕ) (null : List ℕ) (faulty members : ℕ → Bool) (v n : ℕ)
       let facts2 = turns_done f null faulty w1 two positive few facts1 a2.0 o2.0 in
       let facts3 = turns_done f null faulty w2 three positive few facts2 a2.1 o2.1 in
       let has1 : (k : ℕ) → members k ≡ true → Told (w1 k).now.log 2 p v n d = λ k x. heard_by w one facts a.0 o.0 first open1 round1 p k 2 d first.together.quorum.leads x (eq-eqb p p refl) proposal in
-      let has2 : (k : ℕ) → members k ≡ true → Told (w2 k).now.log 2 p v n d = λ k x. (later2 k).log 2 p v n d (open2.room.low k x) (has1 k x) in
-      let prepares2 : (k i : ℕ) → members k ≡ true → members i ≡ true → (i == p) ≡ false → Told (w2 k).now.log 3 i v n d = λ k i x y backup.
-      heard_by w1 two facts1 a2.0 o2.0 open1 open2 round2 i k 3 d y x refl (has_prepared f faulty members w1 v n d facts1 open1.together open1.room.low i y backup (has1 i y)) in
-      let ready2 : (k : ℕ) → members k ≡ true → prepared f k (w2 k).now.log v n d ≡ true = λ k x.
-      all_prepare f faulty members w2 v n d facts2 open2.together open2.room.low k x (has2 k x) (λ i y backup. prepares2 k i x y backup) in
-      let commits3 : (k i : ℕ) → members k ≡ true → members i ≡ true → Told (w3 k).now.log 4 i v n d = λ k i x y.
-      heard_by w2 three facts2 a2.1 o2.1 open2 end round3 i k 4 d y x refl (has_committed f faulty members w2 v n d facts2 open2.together open2.room.low i y (has2 i y) (ready2 i y)) in
-      λ k x.
-      let still = λ (t i : ℕ) (y : Told (w2 k).now.log t i v n d). (later3 k).log t i v n d (end.room.low k x) y in
-      let ready3 = all_prepare f faulty members w3 v n d facts3 end.together end.room.low k x (still 2 p (has2 k x)) (λ i y backup. still 3 i (prepares2 k i x y backup)) in
-      all_commit f faulty members w3 v n d facts3 end.together end.room.low k x ready3 (λ i y. commits3 k i x y)
+      in_three f faulty members v n d w1 w2 w3 (responds f faulty w1 facts1) (responds f faulty w2 facts2) (responds f faulty w3 facts3) open1 open2 end later2 later3 has1
+      (λ i k x y backup own. heard_by w1 two facts1 a2.0 o2.0 open1 open2 round2 i k 3 d x y refl own) (λ i k x y own. heard_by w2 three facts2 a2.1 o2.1 open2 end round3 i k 4 d x y refl own)
 
 pub rounds_commit : RoundsCommit
 rounds_commit f null faulty members turns one two three v n d run together then_together room then_room proposal round1 round2 round3 =

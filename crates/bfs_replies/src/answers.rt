@@ -2,7 +2,7 @@ ghost use Rattle.std.specs.Prelude.{◌≡◌, ◌≤◌, length, IfOk, IfSome};
 ghost use Rattle.std.specs.Arc.{arc_value};
 ghost use Rattle.std.specs.Option.{option_map};
 ghost use Rattle.bfs_model.specs.Server.Limits.{most_reply_bytes};
-ghost use Rattle.bfs_replies.specs.Answers.{recorded_all};
+ghost use Rattle.bfs_replies.specs.Answers.{answer_again, recorded_all};
 ghost use Rattle.bfs_replies.specs.Tables.{last_of, recorded};
 
 use crate::tables::{Last, ReplyTable};
@@ -125,6 +125,21 @@ impl ReplyTable {
             }
         }
         found
+    }
+
+    /// The last reply to a client, as it was given; it shares the bytes. `None` where there is no reply to it yet, or no such client. `Memory`
+    /// if memory runs out.
+    pub fn answer_again(&self, client: u32) -> Result<Option<Answer>, Memory>
+        ensures { IfOk result (λ answer. answer ≡ answer_again self.now client) }
+    {
+        match self.clients.get(client as usize) {
+            Some(Some(last)) => Ok(Some(Answer {
+                client,
+                timestamp: last.timestamp,
+                reply: Arc::try_clone(&last.reply)?,
+            })),
+            _ => Ok(None),
+        }
     }
 
     fn reply_of(&self, client: u32) -> Option<&[u8]>

@@ -23,7 +23,7 @@ use Rattle.bfs_node.specs.declared.receivers.Receivers.TheVariants.{Client}
 use Rattle.bfs_nodes_agree.specs.Nodes.Laws.{WhatIsSentIsFair}
 use Rattle.bfs_nodes_agree.specs.Nodes.Premises.{Comes, EachComes, IsFair, IsWithin}
 use Rattle.bfs_nodes_agree.specs.Nodes.Replicas.{NodeReplica, NodeReplicas, NodeTurn}
-use Rattle.bfs_nodes_agree.specs.Nodes.Steps.{NodeStep, Delivers, Takes, TakesRequests, Adopts, outcome}
+use Rattle.bfs_nodes_agree.specs.Nodes.Steps.{NodeStep, Delivers, Takes, TakesRequests, TakesOffered, ForgetsAnswered, ForgetsProposed, Adopts, Settles, outcome}
 use Rattle.bfs_nodes_agree.proofs.Public.{AllIn, both_at, both_in, executed_in, here_after, left_in, map_in, right_in, some_is}
 use Rattle.bfs_one_server.specs.Premises.{MayAct, MayActSo}
 use Rattle.bfs_one_server.specs.Worlds.{Act, Steps, Signs, Hears, Client as ClientOf, Deployment, World, after_act, after_acts, new_world, turns_in, with_heard, with_signed}
@@ -96,6 +96,10 @@ Knows w (Takes m) = MayCome w m
 Knows w (Adopts c files table) = AllIn (IsTold w) c.checkpoints
 Knows w (Delivers bytes) = ⊥
 Knows w (TakesRequests messages) = ⊥
+Knows w (TakesOffered request) = ⊥
+Knows w ForgetsAnswered = ⊥
+Knows w ForgetsProposed = ⊥
+Knows w (Settles c) = ⊥
 Knows w step = Unit {0}
 
 carried : (w : World) (x : OrderMessage) (auth : List (List ℕ)) (next : Committed) → batch_in x ≡ Some next → OfOrder (IsSigned w) (IsTold w) x auth → AllIn (IsSigned w) (requests_of next.batch)
@@ -157,6 +161,10 @@ module _ (settings : Settings) (liar : ℕ → Bool) (requests : List model.Requ
     brought act (Adopts c files table) knows = λ x i. told_on w act x (knows x i)
     brought act (Delivers bytes) knows = absurd knows
     brought act (TakesRequests messages) knows = absurd knows
+    brought act (TakesOffered request) knows = absurd knows
+    brought act ForgetsAnswered knows = absurd knows
+    brought act ForgetsProposed knows = absurd knows
+    brought act (Settles c) knows = absurd knows
     brought act step knows = tt
 
     comes : (keys : Keys) (step : NodeStep) → Knows w step → HaveTexts w → Comes (IsFair (λ k. false) w.nodes keys) step
@@ -177,6 +185,7 @@ module _ (settings : Settings) (liar : ℕ → Bool) (requests : List model.Requ
         record { who = told.0; correct = refl; sent = m; given = told.1; part = m; is = inl refl; same = refl }))
     comes keys (Delivers bytes) knows texts = absurd knows
     comes keys (TakesRequests messages) knows texts = absurd knows
+    comes keys (Settles c) knows texts = absurd knows
     comes keys step knows texts = tt
 
     -- with what is known then

@@ -63,7 +63,7 @@ use Rattle.bfs_node.specs.declared.error.NodeError.{NodeError}
 use Rattle.bfs_nodes_agree.specs.Orders.Replicas.{OrderReplica, votes_by}
 use Rattle.bfs_nodes_agree.specs.Views.Replicas as turns
 use Rattle.bfs_nodes_agree.specs.Views.Replicas.{ViewDeed}
-use Rattle.bfs_nodes_agree.specs.Nodes.Steps.{NodeStep, Delivers, Takes, TakesRequests, Proposes, Executes, Fails, Checkpoints, TimesOut, Adopts, still, unless, or_still, after_execution, outcome, where_taken, begun_deeds, change_deeds, message_deeds, checkpoint_deeds, deeds_of, LeavesFor, leaving_deeds}
+use Rattle.bfs_nodes_agree.specs.Nodes.Steps.{NodeStep, Delivers, Takes, TakesRequests, TakesOffered, Proposes, Executes, Fails, Checkpoints, TimesOut, Adopts, Settles, still, unless, or_still, after_execution, outcome, where_taken, begun_deeds, change_deeds, message_deeds, checkpoint_deeds, deeds_of, LeavesFor, ForgetsAnswered, ForgetsProposed, leaving_deeds}
 use Rattle.bfs_nodes_agree.proofs.Public.{after_deeds, AllIn, AreKept, AreSo, begins_open, both_in, BringAll, chosen_so, deeds_keep, deeds_offer, either_in, either_way, filter_in, good_for, good_on, IsBounded, IsChecked, kept, kept_above, kept_with, left_bounded, lone_late, made_holds, map_in, more_in, none_in, none_kept, not_refused, not_second, OfferAll, Offers, one_in, out_of_filter_map, passes_at, reply_is, Shows, some_is, stays_kept, step_leads, votes_checked, votes_own}
 
 -- by these keys nothing passes
@@ -138,6 +138,10 @@ module _ (R : Signed model.Request → Type 0) (K : Signed model.Checkpoint → 
   Brought (Adopts c files table) = AllIn K c.checkpoints
   Brought (Delivers bytes) = ⊥
   Brought (TakesRequests messages) = ⊥
+  Brought (TakesOffered request) = ⊥
+  Brought ForgetsAnswered = ⊥
+  Brought ForgetsProposed = ⊥
+  Brought (Settles c) = ⊥
   Brought step = Unit {0}
 
   -- own votes carry nothing
@@ -427,6 +431,10 @@ module _ (R : Signed model.Request → Type 0) (K : Signed model.Checkpoint → 
       step_leaves (Adopts c files table) is tells = leaves (Adopts c files table) (adopts_does node sound c files table is)
       step_leaves (Delivers bytes) is tells = absurd is
       step_leaves (TakesRequests messages) is tells = absurd is
+      step_leaves (TakesOffered request) is tells = absurd is
+      step_leaves ForgetsAnswered is tells = absurd is
+      step_leaves ForgetsProposed is tells = absurd is
+      step_leaves (Settles c) is tells = absurd is
 
   pub begins_sound : (f me : ℕ) (keys : Keys) (files : FileSystem) (table : Table) → Sound f me (node_with f me keys files table)
   begins_sound f me keys files table = record { me = refl; bounded = refl; log = none_in Known; pending = none_in R; kept = (length-replicate (replicas f) None, none_kept OfChange 0 (replicas f)); stable = tt }

@@ -3,3 +3,4 @@ pub mod Folding
 pub mod Going
 pub mod Hearing
 pub mod Processes
+pub mod Resent

@@ -1,5 +1,5 @@
 -- Turns of processes are steps of nodes.
-use Rattle.std.proofs.Common.{◌≡◌, ◌∙◌, ℕ, Bool, true, false, ◌==◌, List, [], ◌∷◌, ◌++◌, map, inl, inr, refl, sym, ap, subst, if◌then◌else◌, eqb-true}
+use Rattle.std.proofs.Common.{◌≡◌, ◌∙◌, ℕ, Bool, true, false, ◌==◌, List, [], ◌∷◌, ◌++◌, map, inl, inr, refl, sym, ap, subst, append_assoc, if◌then◌else◌, eqb-true}
 use Rattle.std.specs.Prelude.{◌⊎◌, All}
 use Rattle.std.proofs.lemmas.List.Elements.{All-head, All-tail}
 use Rattle.std.proofs.lemmas.List.Sums.{fold-append}
@@ -13,10 +13,10 @@ use Rattle.bfs_node.specs.Nodes.{Messages, Node}
 use Rattle.bfs_nodes_agree.proofs.Public.{both_in, either_in, here_after, in_map, left_in, none_in, one_in, out_of_map, right_in}
 use Rattle.bfs_nodes_agree.specs.Nodes.Laws.{NodesAgree}
 use Rattle.bfs_nodes_agree.specs.Nodes.Replicas.{NodeReplica, NodeReplicas, NodeTurn, after_node_step, after_node_turn, after_node_turns, new_node_replicas}
-use Rattle.bfs_nodes_agree.specs.Nodes.Steps.{NodeStep, Delivers, Takes, TakesRequests, Proposes, Executes, Fails, Checkpoints, TimesOut, LeavesFor, Adopts, outcome}
+use Rattle.bfs_nodes_agree.specs.Nodes.Steps.{NodeStep, Delivers, Takes, TakesRequests, TakesOffered, Proposes, Executes, Fails, Checkpoints, TimesOut, LeavesFor, ForgetsAnswered, ForgetsProposed, Adopts, Settles, outcome}
 use Rattle.bfs_service.specs.Acting.{Acting, GoesOn, IsOwn, IsTaking, after_step, after_steps}
-use Rattle.bfs_service.specs.Processes.{HasTold, HasTurned, HaveTurned, IsOfTurns, IsStepOf, Processes, ProcessesAgree, ProcessTurn, new_processes}
-use Rattle.bfs_service.specs.Telling.{is_note, message_told}
+use Rattle.bfs_service.specs.Processes.{HasTold, HasTurned, IsSent, IsSentAgain, HaveTurned, IsOfTurns, IsStepOf, Processes, ProcessesAgree, ProcessTurn, new_processes}
+use Rattle.bfs_service.specs.Telling.{IsGiven, Tells, is_note, message_told}
 use Rattle.bfs_service.specs.Turns.{Hears, Turned, frame_delivered, is_message}
 
 either : {P : Type 0} (b : Bool) → (b ≡ true → P) → (b ≡ false → P) → P
@@ -27,6 +27,7 @@ either false so other = other refl
 
 taking_of : (turn : Turn) (step : NodeStep) → IsTaking step → IsStepOf turn step
 taking_of turn (TakesRequests messages) is = is
+taking_of turn (TakesOffered request) is = is
 taking_of turn (Delivers bytes) is = absurd is
 taking_of turn (Takes signed) is = absurd is
 taking_of turn (Proposes time) is = absurd is
@@ -35,10 +36,14 @@ taking_of turn Fails is = absurd is
 taking_of turn Checkpoints is = absurd is
 taking_of turn TimesOut is = absurd is
 taking_of turn (LeavesFor view) is = absurd is
+taking_of turn ForgetsAnswered is = absurd is
+taking_of turn ForgetsProposed is = absurd is
 taking_of turn (Adopts certificate files table) is = absurd is
+taking_of turn (Settles certificate) is = absurd is
 
 own_of : (turn : Turn) (step : NodeStep) → IsOwn turn.time step → IsStepOf turn step
 own_of turn (TakesRequests messages) is = absurd is
+own_of turn (TakesOffered request) is = absurd is
 own_of turn (Delivers bytes) is = absurd is
 own_of turn (Takes signed) is = is
 own_of turn (Proposes time) is = is
@@ -47,7 +52,10 @@ own_of turn Fails is = is
 own_of turn Checkpoints is = is
 own_of turn TimesOut is = is
 own_of turn (LeavesFor view) is = is
+own_of turn ForgetsAnswered is = is
+own_of turn ForgetsProposed is = is
 own_of turn (Adopts certificate files table) is = is
+own_of turn (Settles certificate) is = is
 
 -- all steps of a turn
 record Steps (turn : Turn) (before : Acting) (done : Acting) : Type 0 where
@@ -165,7 +173,7 @@ record Follow (Said : ℕ → Signed Message → Type 0) (w : NodeReplicas) (tur
   pub nodes : (k : ℕ) → (after_node_turns w steps k).node ≡ (after k).node
   pub told : (k : ℕ) (m : Signed Message) → IsIn m (after_node_turns w steps k).sent → Said k m ⊎ HasTold turns k m
   pub sent : (t : ProcessTurn) (x : Told) → IsIn t turns → IsIn x t.told → is_note x.kind ≡ false
-      → (m : Signed Message) × IsIn m (after_node_turns w steps t.who).sent × (x ≡ message_told m)
+      → IsSent (after_node_turns w steps) t.who x ⊎ IsSentAgain w steps t.who x
 
 none_is_a_note : (notes : List Told) (x : Told) → All (λ t. is_note t.kind ≡ true) notes → IsIn x notes → is_note x.kind ≡ false → ⊥
 none_is_a_note [] x each i differs = i
@@ -174,13 +182,26 @@ none_is_a_note (t ∷ rest) x each i differs = elim i [
   | inr k ↦ none_is_a_note rest x (All-tail (λ (n : Told). is_note n.kind ≡ true) t rest each) k differs
 ]
 
--- what was told is a message that was sent, or a note
-told_is : (sent : Messages) (notes : List Told) (x : Told) → All (λ t. is_note t.kind ≡ true) notes → IsIn x (map message_told sent ++ notes) → is_note x.kind ≡ false
-    → (m : Signed Message) × IsIn m sent × (x ≡ message_told m)
-told_is sent notes x each i differs = elim (either_in (map message_told sent) notes x i) [
-  | inl j ↦ out_of_map message_told sent x j
-  | inr j ↦ absurd (none_is_a_note notes x each j differs)
-]
+-- what was told is a message that was sent, or one that is given again, or a note
+told_is : (done : Acting) (told : List Told) (x : Told) → (tells : Tells done told) → IsIn x told → is_note x.kind ≡ false
+    → ((m : Signed Message) × IsIn m done.sent × (x ≡ message_told m)) ⊎ IsGiven done.node x
+told_is done told x tells i differs =
+    elim (either_in (map message_told done.sent) (tells.given ++ tells.notes) x (subst (λ (all : List Told). IsIn x all) tells.told_is i)) [
+      | inl j ↦ inl (out_of_map message_told done.sent x j)
+      | inr j ↦ elim (either_in tells.given tells.notes x j) [
+        | inl k ↦ inr (tells.each x k)
+        | inr k ↦ absurd (none_is_a_note tells.notes x tells.none_is_a_message k differs)
+      ]
+    ]
+
+-- what holds behind later steps holds behind these and then those
+sent_again_behind : (w : NodeReplicas) (ours rest : List NodeTurn) (who : ℕ) (x : Told) → IsSentAgain (after_node_turns w ours) rest who x → IsSentAgain w (ours ++ rest) who x
+sent_again_behind w ours rest who x again = record {
+  first = ours ++ again.first;
+  others = again.others;
+  steps_are = ap (λ (steps : List NodeTurn). ours ++ steps) again.steps_are ∙ sym (append_assoc ours again.first again.others);
+  given = subst (λ (v : NodeReplicas). IsGiven (v who).node x) (sym (turns_both w ours again.first)) again.given;
+}
 
 one_turn_tracks : (Said : ℕ → Signed Message → Type 0) (w : NodeReplicas) (p next : Processes) (t : ProcessTurn) → AllTrack Said w p → (h : HasTurned p t next)
     → (s : Steps t.turn (p t.who) h.turned.done) → AllTrack (λ k m. Said k m ⊎ ((t.who ≡ k) × IsIn m h.turned.done.sent)) (after_node_turns w (turns_of t.who s.steps)) next
@@ -251,22 +272,33 @@ follow (t ∷ turns) Said w p after track have =
             inl refl,
             now.0,
             subst (λ (told : List Told). IsIn (message_told m) told) (sym turned.tells.told_is)
-                (left_in (map message_told turned.done.sent) turned.tells.notes (message_told m) (in_map message_told turned.done.sent m now.1)),
+                (left_in (map message_told turned.done.sent) (turned.tells.given ++ turned.tells.notes) (message_told m) (in_map message_told turned.done.sent m now.1)),
           )
         ]
         | inr later ↦ inr (later.0, inr later.1, later.2, later.3)
       ];
       sent = λ one x i j differs. elim i [
         | inl is ↦
-            let at = told_is turned.done.sent turned.tells.notes x turned.tells.none_is_a_message (subst (λ (told : List Told). IsIn x told) (ap (λ (u : ProcessTurn). u.told) is ∙ turned.tells.told_is) j) differs in (
-              at.0,
-              subst (λ (k : ℕ). IsIn at.0 (after_node_turns w (ours ++ rest.steps) k).sent) (sym (ap (λ (u : ProcessTurn). u.who) is))
-                  (subst (λ (v : NodeReplicas). IsIn at.0 (v t.who).sent) (sym both) (sent_stays w2 rest.steps t.who at.0 (at_end.here at.0 at.1))),
-              at.2,
-            )
-        | inr later ↦
-            let got = rest.sent one x later j differs in
-            (got.0, subst (λ (v : NodeReplicas). IsIn got.0 (v one.who).sent) (sym both) got.1, got.2)
+            let here = subst (λ (told : List Told). IsIn x told) (ap (λ (u : ProcessTurn). u.told) is) j in
+            let who_is = sym (ap (λ (u : ProcessTurn). u.who) is) in
+            elim (told_is turned.done t.told x turned.tells here differs) [
+              | inl at ↦ inl (
+                at.0,
+                subst (λ (k : ℕ). IsIn at.0 (after_node_turns w (ours ++ rest.steps) k).sent) who_is
+                    (subst (λ (v : NodeReplicas). IsIn at.0 (v t.who).sent) (sym both) (sent_stays w2 rest.steps t.who at.0 (at_end.here at.0 at.1))),
+                at.2,
+              )
+              | inr given ↦ inr (subst (λ (k : ℕ). IsSentAgain w (ours ++ rest.steps) k x) who_is (record {
+                first = ours;
+                others = rest.steps;
+                steps_are = refl;
+                given = subst (λ (n : Node). IsGiven n x) (sym at_end.node) given;
+              }))
+            ]
+        | inr later ↦ elim (rest.sent one x later j differs) [
+          | inl got ↦ inl (got.0, subst (λ (v : NodeReplicas). IsIn got.0 (v one.who).sent) (sym both) got.1, got.2)
+          | inr again ↦ inr (sent_again_behind w ours rest.steps one.who x again)
+        ]
       ];
     }
 

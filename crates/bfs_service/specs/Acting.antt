@@ -5,7 +5,7 @@ use Rattle.bfs_agreement.specs.Histories.{IsIn}
 use Rattle.bfs_log.specs.Certificates.{StableCheckpoint}
 use Rattle.bfs_replies.specs.Tables.{Table}
 use Rattle.bfs_node.specs.Nodes.{Messages, Node}
-use Rattle.bfs_nodes_agree.specs.Nodes.Steps.{NodeStep, Delivers, Takes, TakesRequests, Proposes, Executes, Checkpoints, TimesOut, LeavesFor, Adopts, outcome}
+use Rattle.bfs_nodes_agree.specs.Nodes.Steps.{NodeStep, Delivers, Takes, TakesRequests, TakesOffered, Proposes, Executes, Checkpoints, TimesOut, LeavesFor, ForgetsAnswered, ForgetsProposed, Adopts, Settles, outcome}
 use Rattle.bfs_nodes_agree.specs.declared.node_calls.performing.NodeCall.{NodeCall}
 use Rattle.bfs_nodes_agree.specs.declared.node_calls.performing.NodeCall.TheVariants as code
 
@@ -37,27 +37,35 @@ IsAfter (code.Deliver bytes) before after = after ≡ after_step before (Deliver
 IsAfter (code.Take signed) before after = after ≡ after_step before (Takes signed)
 IsAfter (code.TakeRequests messages) before after = after ≡ after_step before (TakesRequests messages.now)
 IsAfter (code.TakeRequestsFor time messages) before after = after ≡ after_step before (TakesRequests messages.now)
+IsAfter (code.Offer request) before after = after ≡ after_step before (TakesOffered request)
 IsAfter (code.Propose time) before after = after ≡ after_step before (Proposes time)
 IsAfter code.Execute before after = after ≡ after_step before Executes
 IsAfter code.Checkpoint before after = after ≡ after_step before Checkpoints
 IsAfter code.TimeOut before after = after ≡ after_step before TimesOut
 IsAfter (code.LeaveFor view) before after = after ≡ after_step before (LeavesFor view)
+IsAfter code.ForgetAnswered before after = after ≡ after_step before ForgetsAnswered
+IsAfter code.ForgetProposed before after = after ≡ after_step before ForgetsProposed
 IsAfter (code.Adopt text certificate) before after = GoesOn (IsAdoption certificate.now) before after
+IsAfter (code.Settle certificate) before after = after ≡ after_step before (Settles certificate.now)
 
 -- REQUESTs are taken
 abbrev pub IsTaking : NodeStep → Type 0
 IsTaking (TakesRequests messages) = Unit {0}
+IsTaking (TakesOffered request) = Unit {0}
 IsTaking _ = ⊥
 
--- what a replica does of itself at a time: it executes a batch, makes a checkpoint, proposes at that time, times out, leaves for a view, or adopts a
--- state
+-- what a replica does of itself at a time: it executes a batch, makes a checkpoint, proposes at that time, times out, leaves for a view, forgets
+-- requests, adopts a state, or settles a checkpoint
 abbrev pub IsOwn : Time → NodeStep → Type 0
 IsOwn time (Proposes t) = t ≡ time
 IsOwn time Executes = Unit {0}
 IsOwn time Checkpoints = Unit {0}
 IsOwn time TimesOut = Unit {0}
 IsOwn time (LeavesFor view) = Unit {0}
+IsOwn time ForgetsAnswered = Unit {0}
+IsOwn time ForgetsProposed = Unit {0}
 IsOwn time (Adopts certificate files table) = Unit {0}
+IsOwn time (Settles certificate) = Unit {0}
 IsOwn time _ = ⊥
 
 -- a call by which it does so
@@ -67,5 +75,8 @@ IsOwnCall time code.Execute = Unit {0}
 IsOwnCall time code.Checkpoint = Unit {0}
 IsOwnCall time code.TimeOut = Unit {0}
 IsOwnCall time (code.LeaveFor view) = Unit {0}
+IsOwnCall time code.ForgetAnswered = Unit {0}
+IsOwnCall time code.ForgetProposed = Unit {0}
 IsOwnCall time (code.Adopt text certificate) = Unit {0}
+IsOwnCall time (code.Settle certificate) = Unit {0}
 IsOwnCall time _ = ⊥

@@ -1,6 +1,6 @@
 -- Processes of replicas, turn by turn, and what they are to nodes, of which agreement is proved. A faulty replica takes no turn here: what it sends is
 -- in the frames that others get.
-use Rattle.std.specs.Prelude.{◌≡◌, ℕ, Bool, true, false, List, [], ◌∷◌, ◌==◌}
+use Rattle.std.specs.Prelude.{◌≡◌, ◌⊎◌, ℕ, Bool, true, false, List, [], ◌∷◌, ◌++◌, ◌==◌}
 use Rattle.bfs_agreement.specs.Histories.{IsIn, FewAreFaulty}
 use Rattle.bfs_frames.specs.Parcels.{Told}
 use Rattle.bfs_frames.specs.declared.frames.Frame.{Frame}
@@ -9,10 +9,10 @@ use Rattle.bfs_messages.specs.declared.message.Message.{Message}
 use Rattle.bfs_messages.specs.declared.signed.Signed.{Signed}
 use Rattle.bfs_nodes_agree.specs.Nodes.Laws.{Agree, BatchesDontCollide}
 use Rattle.bfs_nodes_agree.specs.Nodes.Premises.{AreAuthentic, AreShared, StatesDontCollide}
-use Rattle.bfs_nodes_agree.specs.Nodes.Replicas.{Beginning, Keyring, NodeTurn, after_node_turns, beginning_node, new_node_replicas}
-use Rattle.bfs_nodes_agree.specs.Nodes.Steps.{NodeStep, Delivers, TakesRequests}
+use Rattle.bfs_nodes_agree.specs.Nodes.Replicas.{Beginning, Keyring, NodeReplicas, NodeTurn, after_node_turns, beginning_node, new_node_replicas}
+use Rattle.bfs_nodes_agree.specs.Nodes.Steps.{NodeStep, Delivers, TakesRequests, TakesOffered}
 use Rattle.bfs_service.specs.Acting.{Acting, IsOwn}
-use Rattle.bfs_service.specs.Telling.{is_note, message_told}
+use Rattle.bfs_service.specs.Telling.{IsGiven, is_note, message_told}
 use Rattle.bfs_service.specs.Turns.{Turned, is_message}
 
 -- a turn of one process, and what it told
@@ -43,6 +43,7 @@ HaveTurned before (t ∷ turns) after = (next : Processes) × HasTurned before t
 abbrev pub IsStepOf : Turn → NodeStep → Type 0
 IsStepOf turn (Delivers bytes) = (frame : Frame) × IsIn frame turn.frames.items × (is_message frame ≡ true) × (bytes ≡ frame.payload.items)
 IsStepOf turn (TakesRequests messages) = Unit {0}
+IsStepOf turn (TakesOffered request) = Unit {0}
 IsStepOf turn step = IsOwn turn.time step
 
 -- a process did it in one of its turns
@@ -53,13 +54,24 @@ IsOfTurns turns step = (t : ProcessTurn) × IsIn t turns × (t.who ≡ step.who)
 abbrev pub HasTold : List ProcessTurn → (who : ℕ) → Signed Message → Type 0
 HasTold turns who m = (t : ProcessTurn) × IsIn t turns × (t.who ≡ who) × IsIn (message_told m) t.told
 
--- what processes have done is what these steps of nodes do, and what they have told is what these gave to be sent
+-- its node gave it to be sent
+abbrev pub IsSent : NodeReplicas → (who : ℕ) → Told → Type 0
+IsSent w who x = (m : Signed Message) × IsIn m (w who).sent × (x ≡ message_told m)
+
+-- or gave it again behind some of these steps, to one that was so far
+pub record IsSentAgain (w : NodeReplicas) (steps : List NodeTurn) (who : ℕ) (x : Told) : Type 0 where
+  pub first : List NodeTurn
+  pub others : List NodeTurn
+  pub steps_are : steps ≡ first ++ others
+  pub given : IsGiven (after_node_turns w first who).node x
+
+-- what processes have done is what these steps of nodes do, and what they have told is what these gave to be sent, also once more
 pub record AreNodes (f : ℕ) (keys : Keyring) (start : Beginning) (turns : List ProcessTurn) (after : Processes) (steps : List NodeTurn) : Type 0 where
   pub of_turns : (step : NodeTurn) → IsIn step steps → IsOfTurns turns step
   pub nodes : (k : ℕ) → (after_node_turns (new_node_replicas f keys start) steps k).node ≡ (after k).node
   pub told : (k : ℕ) (m : Signed Message) → IsIn m (after_node_turns (new_node_replicas f keys start) steps k).sent → HasTold turns k m
   pub sent : (t : ProcessTurn) (x : Told) → IsIn t turns → IsIn x t.told → is_note x.kind ≡ false
-      → (m : Signed Message) × IsIn m (after_node_turns (new_node_replicas f keys start) steps t.who).sent × (x ≡ message_told m)
+      → IsSent (after_node_turns (new_node_replicas f keys start) steps) t.who x ⊎ IsSentAgain (new_node_replicas f keys start) steps t.who x
 
 -- whatever turns processes take, there are steps of nodes that are the same; so of them holds what is proved of every list of steps: replicas agree
 abbrev pub ProcessesAgree : Type 0

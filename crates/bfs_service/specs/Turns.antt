@@ -41,7 +41,7 @@ Hears time [] before after = before ≡ after
 Hears time (frame ∷ frames) before after = (next : Acting) × HearsOne time frame before next × Hears time frames next after
 
 -- REQUESTs are taken, each message of a replica comes, in their order, and between them and behind them the replica does what it does of itself; then
--- all is told that its node gave to be sent
+-- all is told that its node gave to be sent, and what that gives again
 pub record Turned (turn : Turn) (before after : Acting) (told : List Told) : Type 0 where
   pub asked : Acting
   pub heard : Acting
@@ -49,7 +49,7 @@ pub record Turned (turn : Turn) (before after : Acting) (told : List Told) : Typ
   pub takes : GoesOn IsTaking before asked
   pub hears : Hears turn.time turn.frames.items asked heard
   pub acts : GoesOn (IsOwn turn.time) heard done
-  pub tells : Tells done.sent told
+  pub tells : Tells done told
   pub after_is : after ≡ record { node = done.node; sent = [] }
 
 -- as a machine of a filter

@@ -5,7 +5,7 @@ ghost use Rattle.bfs_nodes_agree.specs.Nodes.Steps as steps;
 ghost use Rattle.bfs_service.specs.Acting.{GoesOn, IsAfter, IsOwn, IsOwnCall, IsTaking, after_step};
 
 use bfs_log::StableCheckpoint;
-use bfs_messages::{Message, Signed};
+use bfs_messages::{Message, Request, Signed};
 use bfs_node::{Executor, NoGate, Node, NodeError};
 use bfs_nodes_agree::node_calls::performing::{NodeCall, Sent, perform};
 use bfs_types::{Memory, Time};
@@ -99,6 +99,34 @@ impl Actor {
         Ok(())
     }
 
+    /// REQUESTs come, one after another, as `offer` takes them.
+    #[tactic(auto, using(crate::proofs::Going::goes_both, crate::proofs::Going::goes_nowhere))]
+    pub(crate) fn offer_all<R: Threads + Wait + Sync>(
+        &mut self,
+        rt: &R,
+        requests: Vec<Signed<Request>>,
+    ) -> Result<(), Memory>
+        ensures { OnOk result (GoesOn IsTaking self.old self.new) }
+    {
+        for request in requests {
+            self.offer(rt, request)?;
+        }
+        Ok(())
+    }
+
+    // A REQUEST comes, which waits only if it is new, and is answered again if it is its client's last one.
+    #[tactic(auto, using(crate::proofs::Going::offering_goes))]
+    fn offer<R: Threads + Wait + Sync>(
+        &mut self,
+        rt: &R,
+        request: Signed<Request>,
+    ) -> Result<(), Memory>
+        ensures { OnOk result (GoesOn IsTaking self.old self.new) }
+    {
+        self.act(rt, NodeCall::Offer(request))?;
+        Ok(())
+    }
+
     /// The number of the last message of the order among what its calls gave to be sent, 0 where there is none.
     pub(crate) fn last_number(&self) -> u64 {
         match self.sent.last() {
@@ -152,6 +180,28 @@ impl Actor {
         ensures { OnOk result (GoesOn (IsOwn time) self.old self.new) }
     {
         self.act_own(rt, time, NodeCall::Adopt { text, certificate })
+    }
+
+    /// It forgets requests that were executed.
+    pub(crate) fn forget_answered<R: Threads + Wait + Sync>(
+        &mut self,
+        rt: &R,
+        time: Time,
+    ) -> Result<bool, Memory>
+        ensures { OnOk result (GoesOn (IsOwn time) self.old self.new) }
+    {
+        self.act_own(rt, time, NodeCall::ForgetAnswered)
+    }
+
+    /// It forgets requests that it has proposed in its view.
+    pub(crate) fn forget_proposed<R: Threads + Wait + Sync>(
+        &mut self,
+        rt: &R,
+        time: Time,
+    ) -> Result<bool, Memory>
+        ensures { OnOk result (GoesOn (IsOwn time) self.old self.new) }
+    {
+        self.act_own(rt, time, NodeCall::ForgetProposed)
     }
 
     /// Executes all that is committed, and makes each checkpoint that is due before the first batch and behind each.

@@ -1,4 +1,4 @@
-// A state is fetched from one replica after another, piece by piece.
+// A state is fetched from another replica, piece by piece.
 use crate::notes::Notes;
 use crate::states::{Ask, Piece, certificate_in};
 use bfs_frames::{Kind, To};
@@ -6,9 +6,6 @@ use bfs_log::StableCheckpoint;
 use bfs_node::Node;
 use bfs_types::Memory;
 use std::alloc::Global;
-
-// how long a piece is waited for, in microseconds
-const PATIENCE: u64 = 500_000;
 
 /// A whole state, and what is to show that it is one.
 #[derive(Drop)]
@@ -22,13 +19,13 @@ pub(crate) struct Fetched {
 pub(crate) struct Fetching {
     alloc: Global,
     most_bytes: u64,
-    from: u32,
+    // whom it was asked of
+    from: Option<u32>,
     // of which there are bytes, or 0
     number: u64,
     text: Vec<u8>,
-    asked_at: Option<u64>,
-    // how often it has asked for a state since it got one
-    asks: u32,
+    // whether a piece has come that nobody looked at
+    has_piece: bool,
 }
 
 impl Fetching {
@@ -37,45 +34,23 @@ impl Fetching {
         Fetching {
             alloc,
             most_bytes,
-            from: 0,
+            from: None,
             number: 0,
             text: Vec::new(alloc),
-            asked_at: None,
-            asks: 0,
+            has_piece: false,
         }
     }
 
-    /// Asks for a state, or for its next piece, where none was asked for or an answer was waited for long enough. It then asks the next replica.
-    pub(crate) fn ask(&mut self, now: u64, node: &Node, notes: &mut Notes) -> Result<(), Memory> {
-        match self.asked_at {
-            Some(at) if at <= now && now - at < PATIENCE => return Ok(()),
-            _ => {}
-        }
-        self.from = next_replica(self.from, node);
-        self.asks = self.asks.saturating_add(1);
+    /// Asks that replica for its state, from the first byte on.
+    pub(crate) fn ask(&mut self, from: u32, node: &Node, notes: &mut Notes) -> Result<(), Memory> {
         self.begin();
-        self.ask_on(now, node, notes)
+        self.from = Some(from);
+        self.ask_on(from, node, notes)
     }
 
-    /// Whether the node has executed nothing, and may hope for a state: it may have been started again, and have forgotten all.
-    pub(crate) fn is_starting(&self, node: &Node) -> bool {
-        node.last_executed() == 0 && self.is_hopeful(node)
-    }
-
-    /// Whether it has not asked each other replica twice in vain.
-    pub(crate) fn is_hopeful(&self, node: &Node) -> bool {
-        self.asks < node.f().saturating_mul(6)
-    }
-
-    /// A state was fetched, and adopted.
-    pub(crate) fn succeed(&mut self) {
-        self.asks = 0;
-    }
-
-    /// Nothing is fetched any more.
-    pub(crate) fn stop(&mut self) {
-        self.begin();
-        self.asked_at = None;
+    /// Whether a piece has come since this was asked last.
+    pub(crate) fn take_has_piece(&mut self) -> bool {
+        std::mem::replace(&mut self.has_piece, false)
     }
 
     fn begin(&mut self) {
@@ -83,25 +58,19 @@ impl Fetching {
         self.text = Vec::new(self.alloc);
     }
 
-    fn ask_on(&mut self, now: u64, node: &Node, notes: &mut Notes) -> Result<(), Memory> {
+    fn ask_on(&mut self, from: u32, node: &Node, notes: &mut Notes) -> Result<(), Memory> {
         let ask = Ask {
             asker: node.number(),
             above: node.last_executed(),
             number: self.number,
             offset: self.text.len() as u64,
         };
-        self.asked_at = Some(now);
-        notes.add(
-            To::Replica(self.from),
-            Kind::AskState,
-            ask.text(self.alloc)?,
-        )
+        notes.add(To::Replica(from), Kind::AskState, ask.text(self.alloc)?)
     }
 
     /// A piece comes. The whole state, once its last piece is here. One that wasn't asked for is passed over.
     pub(crate) fn hear(
         &mut self,
-        now: u64,
         node: &Node,
         payload: &[u8],
         notes: &mut Notes,
@@ -109,7 +78,7 @@ impl Fetching {
         let Ok(piece) = Piece::read(payload) else {
             return Ok(None);
         };
-        if self.asked_at.is_none() || piece.sender != self.from || piece.length > self.most_bytes {
+        if self.from != Some(piece.sender) || piece.length > self.most_bytes {
             return Ok(None);
         }
         if piece.number != self.number && piece.offset == 0 {
@@ -129,27 +98,18 @@ impl Fetching {
             return Ok(None);
         }
         self.text.extend_from_slice(piece.bytes)?;
-        self.ask_on(now, node, notes)?;
+        self.has_piece = true;
+        self.ask_on(piece.sender, node, notes)?;
         Ok(None)
     }
 
     fn end(&mut self, certificate: &[u8]) -> Result<Option<Fetched>, Memory> {
         let text = std::mem::replace(&mut self.text, Vec::new(self.alloc));
-        self.stop();
+        self.begin();
+        self.from = None;
         let Some(certificate) = certificate_in(self.alloc, certificate)? else {
             return Ok(None);
         };
         Ok(Some(Fetched { text, certificate }))
-    }
-}
-
-// the one behind the last one that was asked, other than the node itself
-fn next_replica(last: u32, node: &Node) -> u32 {
-    let replicas = node.f().saturating_mul(3).saturating_add(1);
-    let next = (last % replicas + 1) % replicas;
-    if next == node.number() {
-        (next + 1) % replicas
-    } else {
-        next
     }
 }

@@ -3,13 +3,22 @@ use bfs_messages::{Message, Request, Signed};
 use bfs_node::{Class, Node};
 use bfs_types::{MOST_REQUESTS, Memory};
 use std::alloc::Global;
-use std::collections::BTreeSet;
+use std::collections::{BTreeMap, BTreeSet};
 
 // what a request takes in a batch beside its call and its keyed hashes
 const REQUEST_BYTES: usize = 64;
 
 // the bytes of a keyed hash
 const HASH_BYTES: usize = 32;
+
+/// Requests that the node is to be given now.
+#[derive(Drop)]
+pub(crate) struct Wanted {
+    /// New ones, to be ordered.
+    pub(crate) new: Vec<Signed<Message>>,
+    /// Their clients' last ones that were executed, to be answered again.
+    pub(crate) again: Vec<Signed<Request>>,
+}
 
 /// Requests for which the node has no room yet, in the order in which they came, at most `MOST_REQUESTS`.
 #[derive(Drop)]
@@ -40,19 +49,23 @@ impl Queue {
         Ok(())
     }
 
-    /// Those that the node is to be given now. One that it has executed is passed over, unless it is its client's last one and this node can order it, so that
-    /// it is answered again; and so is one that waits there already.
-    pub(crate) fn take_wanted(&mut self, node: &Node) -> Result<Vec<Signed<Message>>, Memory> {
-        let mut wanted = Vec::new(self.alloc);
+    /// Those that the node is to be given now. One that it has executed is passed over, unless it is its client's last one; so is one that waits there
+    /// already; and one for which its client's share has no place stays here.
+    pub(crate) fn take_wanted(&mut self, node: &Node) -> Result<Wanted, Memory> {
+        let mut wanted = Wanted {
+            new: Vec::new(self.alloc),
+            again: Vec::new(self.alloc),
+        };
         if self.requests.is_empty() {
             return Ok(wanted);
         }
         let mut room = Room::at(self.alloc, node, self.most_bytes)?;
         let mut left = Vec::new(self.alloc);
         for signed in std::mem::replace(&mut self.requests, Vec::new(self.alloc)) {
-            match room.place_for(node, &signed) {
-                Place::Now => wanted.push(signed)?,
+            match room.place_for(node, &signed)? {
+                Place::Now => wanted.new.push(signed)?,
                 Place::Later => left.push(signed)?,
+                Place::Again => push_request(&mut wanted.again, signed)?,
                 Place::Never => {}
             }
         }
@@ -86,14 +99,19 @@ impl Queue {
 enum Place {
     Now,
     Later,
+    Again,
     Never,
 }
 
 // What waits at a node, and the room that is left.
 #[derive(Drop)]
 struct Room {
-    // clients and timestamps
+    // clients and timestamps of those that wait there, are to be given, or stay here
     names: BTreeSet<(u32, u64)>,
+    // how many of each client these are
+    counts: BTreeMap<u32, usize>,
+    // how many of one client may wait there
+    share: usize,
     count: usize,
     bytes: usize,
     // the bytes of a request's keyed hashes
@@ -102,39 +120,66 @@ struct Room {
 
 impl Room {
     fn at(alloc: Global, node: &Node, most_bytes: usize) -> Result<Room, Memory> {
-        let mut names = BTreeSet::new(alloc);
         let hashes = (node.f() as usize * 3 + 1) * HASH_BYTES;
-        let mut bytes = most_bytes;
-        for signed in node.waiting() {
-            names.insert((signed.message.client(), signed.message.timestamp()))?;
-            bytes = bytes.saturating_sub(size_of(&signed.message, hashes));
-        }
-        Ok(Room {
-            names,
+        let mut room = Room {
+            names: BTreeSet::new(alloc),
+            counts: BTreeMap::new(alloc),
+            share: node.share(),
             count: MOST_REQUESTS.saturating_sub(node.waiting().len()),
-            bytes,
+            bytes: most_bytes,
             hashes,
-        })
+        };
+        for signed in node.waiting() {
+            room.add(&signed.message)?;
+            room.bytes = room.bytes.saturating_sub(size_of(&signed.message, hashes));
+        }
+        Ok(room)
     }
 
-    fn place_for(&mut self, node: &Node, signed: &Signed<Message>) -> Place {
+    fn place_for(&mut self, node: &Node, signed: &Signed<Message>) -> Result<Place, Memory> {
         let Message::Request(request) = &signed.message else {
-            return Place::Never;
+            return Ok(Place::Never);
         };
-        if !is_wanted(node, request)
-            || self
-                .names
-                .contains(&(request.client(), request.timestamp()))
-        {
-            return Place::Never;
+        match node.classify(request.client(), request.timestamp()) {
+            Class::New => self.place_for_new(request),
+            Class::Repeat => Ok(Place::Again),
+            Class::Old | Class::Unknown => Ok(Place::Never),
         }
+    }
+
+    // Only one of each has a place. Of a client as many stay here as may wait at the node.
+    fn place_for_new(&mut self, request: &Request) -> Result<Place, Memory> {
+        let count = self.count_of(request.client());
+        if self
+            .names
+            .contains(&(request.client(), request.timestamp()))
+            || count >= self.share.saturating_mul(2)
+        {
+            return Ok(Place::Never);
+        }
+        self.add(request)?;
         let size = size_of(request, self.hashes);
-        if size > self.bytes || self.count == 0 {
-            return Place::Later;
+        if size > self.bytes || self.count == 0 || count >= self.share {
+            return Ok(Place::Later);
         }
         self.bytes -= size;
         self.count -= 1;
-        Place::Now
+        Ok(Place::Now)
+    }
+
+    fn add(&mut self, request: &Request) -> Result<(), Memory> {
+        let count = self.count_of(request.client());
+        self.names.insert((request.client(), request.timestamp()))?;
+        self.counts
+            .insert(request.client(), count.saturating_add(1))?;
+        Ok(())
+    }
+
+    fn count_of(&self, client: u32) -> usize {
+        match self.counts.get(&client) {
+            Some(count) => *count,
+            None => 0,
+        }
     }
 }
 
@@ -149,10 +194,16 @@ fn is_new(node: &Node, request: &Request) -> bool {
     }
 }
 
-fn is_wanted(node: &Node, request: &Request) -> bool {
-    match node.classify(request.client(), request.timestamp()) {
-        Class::New => true,
-        Class::Repeat => node.leads(),
-        Class::Old | Class::Unknown => false,
+fn push_request(
+    requests: &mut Vec<Signed<Request>>,
+    signed: Signed<Message>,
+) -> Result<(), Memory> {
+    let Signed { message, auth } = signed;
+    if let Message::Request(request) = message {
+        requests.push(Signed {
+            message: request,
+            auth,
+        })?;
     }
+    Ok(())
 }

@@ -8,16 +8,17 @@ use crate::acting::Actor;
 use crate::delivering::requests_in;
 use crate::fetching::{Fetched, Fetching};
 use crate::giving::Giving;
-use crate::hints::Hints;
 use crate::notes::Notes;
-use crate::pacing::Pacing;
-use crate::queue::Queue;
+use crate::queue::{Queue, Wanted};
+use crate::resending::give_again;
+use crate::standings::{Status, standing_of};
 use crate::telling::parcels_of;
 use crate::terms::Terms;
 use bfs_filter::{Machine, TurnError};
 use bfs_frames::{Frame, Kind, Parcel, To, Turn};
-use bfs_messages::{Message, Signed};
+use bfs_messages::{Message, Request, Signed};
 use bfs_node::{Executor, Node};
+use bfs_policy::{Decision, Facts, Leaving, Policy};
 use bfs_types::{Memory, Time};
 use std::alloc::Global;
 use std::marker::Model;
@@ -30,10 +31,9 @@ pub struct Service {
     alloc: Global,
     actor: Actor,
     queue: Queue,
-    pacing: Pacing,
+    policy: Policy,
     giving: Giving,
     fetching: Fetching,
-    hints: Hints,
     notes: Notes,
     // the number and the view of the last batch that it proposed
     proposed: u64,
@@ -59,14 +59,14 @@ impl Service {
     pub fn new(alloc: Global, node: Node, executor: Executor, terms: Terms) -> Service
         ensures { result ≡ record { node = node; sent = [] } }
     {
+        let policy = Policy::new(node.f(), node.number(), terms.patience);
         Service {
             alloc,
             actor: Actor::new(alloc, node, executor),
             queue: Queue::new(alloc, terms.most_batch_bytes),
-            pacing: Pacing::new(terms.patience),
+            policy,
             giving: Giving::new(alloc),
             fetching: Fetching::new(alloc, terms.most_state_bytes),
-            hints: Hints::new(alloc),
             notes: Notes::new(alloc),
             proposed: 0,
             proposed_in: 0,
@@ -81,10 +81,12 @@ impl Service {
         self.actor.node()
     }
 
-    /// Takes a turn, and gives what is to be told. The node takes the REQUESTs for which there is room, then each message of a replica, in the order of the frames;
-    /// whatever is committed meanwhile is executed, with the checkpoints that are due. Then it adopts a state that has come. Where it leads and its last batch is executed, it proposes all
-    /// that waits as one batch of the turn's time. Where f + 1 others ask for later views, it asks for the least of these; else, where a request has waited too long, for the next view. Where it is
-    /// behind it asks another one for its state. `Memory` if memory runs out: the process is to end then, and to tell nothing of this turn.
+    /// Takes a turn, and gives what is to be told. The node takes the new REQUESTs for which there is room, and answers its clients' last ones again;
+    /// then it takes each message of a replica, in the order of the frames;
+    /// whatever is committed meanwhile is executed, with the checkpoints that are due. Then it adopts a state that has come, and does what is due by its `Policy`: it
+    /// proposes all that waits as one batch of the turn's time, where it leads and its last batch is executed; it asks for a later view; it asks another one for
+    /// its state; it tells where it stands; and it gives each other one what that may lack, once more. `Memory` if memory runs out: the process is to end
+    /// then, and to tell nothing of this turn.
     pub fn take_turn<R: Threads + Wait + Sync>(
         &mut self,
         rt: &R,
@@ -92,10 +94,9 @@ impl Service {
     ) -> Result<Vec<Parcel>, Memory>
         ensures { IfOk result (λ parcels. Turned turn.now self.old self.new (map told_by parcels.items)) }
     {
-        let now = turn.microseconds();
         self.take_requests(rt, turn.time, &turn.frames)?;
         self.actor.deliver_all(rt, turn.time, &turn.frames)?;
-        self.go_on(rt, now, turn.time, &turn.frames)?;
+        self.go_on(rt, turn.microseconds(), turn.time, &turn.frames)?;
         self.tell()
     }
 
@@ -108,10 +109,28 @@ impl Service {
     ) -> Result<(), Memory>
         ensures { OnOk result (GoesOn IsTaking self.old self.new) }
     {
+        let wanted = self.take_wanted(frames)?;
+        self.answer_again(rt, wanted.again)?;
+        self.give_requests(rt, time, &wanted.new)?;
+        Ok(())
+    }
+
+    fn take_wanted(&mut self, frames: &[Frame]) -> Result<Wanted, Memory>
+        ensures { self.new ≡ self.old }
+    {
         let came = requests_in(self.alloc, frames)?;
         self.queue.push_all(came)?;
-        let wanted = self.queue.take_wanted(self.actor.node())?;
-        self.give_requests(rt, time, &wanted)
+        self.queue.take_wanted(self.actor.node())
+    }
+
+    fn answer_again<R: Threads + Wait + Sync>(
+        &mut self,
+        rt: &R,
+        requests: Vec<Signed<Request>>,
+    ) -> Result<(), Memory>
+        ensures { OnOk result (GoesOn IsTaking self.old self.new) }
+    {
+        self.actor.offer_all(rt, requests)
     }
 
     #[tactic(auto, using(crate::proofs::Going::goes_nowhere))]
@@ -147,9 +166,9 @@ impl Service {
     {
         self.advance(rt, time)?;
         self.hear_all(rt, now, time, frames)?;
-        self.look(now, frames)?;
-        self.propose(rt, time)?;
-        self.time_out(rt, now, time)?;
+        let due = self.look(now)?;
+        self.propose(rt, time, due.proposes)?;
+        self.leave(rt, time, due.leaving)?;
         Ok(())
     }
 
@@ -179,10 +198,20 @@ impl Service {
         ensures { OnOk result (GoesOn (IsOwn time) self.old self.new) }
     {
         match frame.kind {
+            Kind::Status => Ok(self.hear_status(frame.payload.as_slice())),
             Kind::AskState => self.give_state(now, frame.payload.as_slice()),
-            Kind::State => self.hear_state(rt, now, time, frame.payload.as_slice()),
+            Kind::State => self.hear_state(rt, time, frame.payload.as_slice()),
             Kind::AskReport => self.report(rt),
             _ => Ok(()),
+        }
+    }
+
+    // another one tells where it stands
+    fn hear_status(&mut self, payload: &[u8])
+        ensures { self.new ≡ self.old }
+    {
+        if let Ok(status) = Status::read(payload) {
+            self.policy.hear(status.sender, status.standing);
         }
     }
 
@@ -197,7 +226,6 @@ impl Service {
     fn hear_state<R: Threads + Wait + Sync>(
         &mut self,
         rt: &R,
-        now: u64,
         time: Time,
         payload: &[u8],
     ) -> Result<(), Memory>
@@ -205,7 +233,7 @@ impl Service {
     {
         let heard = self
             .fetching
-            .hear(now, self.actor.node(), payload, &mut self.notes)?;
+            .hear(self.actor.node(), payload, &mut self.notes)?;
         match heard {
             Some(fetched) => self.adopt(rt, time, &fetched),
             None => Ok(()),
@@ -221,7 +249,20 @@ impl Service {
         ensures { OnOk result (GoesOn (IsOwn time) self.old self.new) }
     {
         self.adopt_now(rt, time, fetched)?;
+        self.forget_answered(rt, time)?;
         self.advance(rt, time)?;
+        Ok(())
+    }
+
+    // What was executed before the state that it has adopted waits no longer.
+    fn forget_answered<R: Threads + Wait + Sync>(
+        &mut self,
+        rt: &R,
+        time: Time,
+    ) -> Result<(), Memory>
+        ensures { OnOk result (GoesOn (IsOwn time) self.old self.new) }
+    {
+        self.actor.forget_answered(rt, time)?;
         Ok(())
     }
 
@@ -237,7 +278,6 @@ impl Service {
             .actor
             .adopt(rt, time, fetched.text.as_slice(), &fetched.certificate)?;
         if does {
-            self.fetching.succeed();
             self.tell_operator(
                 "a state is adopted, of number ",
                 fetched.certificate.number(),
@@ -253,36 +293,52 @@ impl Service {
         self.actor.advance(rt, time)
     }
 
-    // Looks what waits, and fetches a state where it has been behind for too long, or may have forgotten all.
-    fn look(&mut self, now: u64, frames: &[Frame]) -> Result<(), Memory>
+    // Looks what is due. It asks for a state, and tells where it stands, if that is.
+    fn look(&mut self, now: u64) -> Result<Decision, Memory>
         ensures { self.new ≡ self.old }
     {
-        self.hints.hear_all(self.actor.node(), frames)?;
         self.giving.forget(now);
         self.tell_view()?;
-        self.wait(now);
-        self.fetch(now)
+        let has_piece = self.fetching.take_has_piece();
+        let facts = self.facts(now, has_piece);
+        let due = self.policy.look(facts);
+        self.tell_standing(due.tells)?;
+        self.fetch(due.fetches_from)?;
+        Ok(due)
     }
 
-    // how long something waits, and how long it is behind
-    fn wait(&mut self, now: u64)
-        ensures { self.new ≡ self.old }
-    {
+    // how things stand
+    fn facts(&self, now: u64, has_piece: bool) -> Facts {
         let node = self.actor.node();
-        let waits = self.queue.has_new(node) && self.hints.let_wait(node);
-        let is_behind = node.is_behind() || self.hints.are_ahead(node);
-        self.pacing.look(now, node, waits, is_behind);
-    }
-
-    fn fetch(&mut self, now: u64) -> Result<(), Memory>
-        ensures { self.new ≡ self.old }
-    {
-        let node = self.actor.node();
-        if self.pacing.is_left_behind(now) || self.fetching.is_starting(node) {
-            self.fetching.ask(now, node, &mut self.notes)
-        } else {
-            Ok(())
+        Facts {
+            now,
+            own: standing_of(node),
+            waits: self.queue.has_new(node),
+            may_propose: self.is_to_propose(),
+            follow: node.view_to_follow(),
+            is_behind: node.is_behind(),
+            has_piece,
         }
+    }
+
+    fn fetch(&mut self, from: Option<u32>) -> Result<(), Memory>
+        ensures { self.new ≡ self.old }
+    {
+        match from {
+            Some(from) => self.fetching.ask(from, self.actor.node(), &mut self.notes),
+            None => Ok(()),
+        }
+    }
+
+    // The others are told where it stands, if they are to be.
+    fn tell_standing(&mut self, tells: bool) -> Result<(), Memory>
+        ensures { self.new ≡ self.old }
+    {
+        if !tells {
+            return Ok(());
+        }
+        let text = Status::of(self.actor.node()).text(self.alloc)?;
+        self.notes.add(To::Replicas, Kind::Status, text)
     }
 
     // The operator is told of another view.
@@ -298,10 +354,15 @@ impl Service {
     }
 
     #[tactic(auto, using(crate::proofs::Going::goes_nowhere))]
-    fn propose<R: Threads + Wait + Sync>(&mut self, rt: &R, time: Time) -> Result<(), Memory>
+    fn propose<R: Threads + Wait + Sync>(
+        &mut self,
+        rt: &R,
+        time: Time,
+        proposes: bool,
+    ) -> Result<(), Memory>
         ensures { OnOk result (GoesOn (IsOwn time) self.old self.new) }
     {
-        if !self.is_to_propose() {
+        if !proposes {
             return Ok(());
         }
         self.propose_now(rt, time)?;
@@ -331,26 +392,44 @@ impl Service {
     }
 
     #[tactic(auto, using(crate::proofs::Going::goes_nowhere))]
-    fn time_out<R: Threads + Wait + Sync>(
+    fn leave<R: Threads + Wait + Sync>(
         &mut self,
         rt: &R,
-        now: u64,
         time: Time,
+        leaving: Leaving,
     ) -> Result<(), Memory>
         ensures { OnOk result (GoesOn (IsOwn time) self.old self.new) }
     {
-        if !self.is_to_time_out(now) {
+        if let Leaving::Stays = leaving {
             return Ok(());
         }
-        self.time_out_now(rt, time)?;
+        self.forget_proposed(rt, time)?;
+        self.leave_now(rt, time, leaving)?;
         self.advance(rt, time)?;
         Ok(())
     }
 
-    fn time_out_now<R: Threads + Wait + Sync>(&mut self, rt: &R, time: Time) -> Result<(), Memory>
+    // What it has proposed in its view may be in the way of the next one: its clients send it again.
+    fn forget_proposed<R: Threads + Wait + Sync>(
+        &mut self,
+        rt: &R,
+        time: Time,
+    ) -> Result<(), Memory>
         ensures { OnOk result (GoesOn (IsOwn time) self.old self.new) }
     {
-        let does = self.leave_view(rt, time)?;
+        self.actor.forget_proposed(rt, time)?;
+        Ok(())
+    }
+
+    fn leave_now<R: Threads + Wait + Sync>(
+        &mut self,
+        rt: &R,
+        time: Time,
+        leaving: Leaving,
+    ) -> Result<(), Memory>
+        ensures { OnOk result (GoesOn (IsOwn time) self.old self.new) }
+    {
+        let does = self.leave_view(rt, time, leaving)?;
         if does {
             let asked = self.actor.node().view_asked();
             self.tell_operator("a view is asked for: ", asked)?;
@@ -358,23 +437,21 @@ impl Service {
         Ok(())
     }
 
-    // For the view that f + 1 others ask for, if they do, or for the next one. Whether it did.
-    fn leave_view<R: Threads + Wait + Sync>(&mut self, rt: &R, time: Time) -> Result<bool, Memory>
+    // Whether it did.
+    #[tactic(auto, using(crate::proofs::Going::goes_nowhere))]
+    fn leave_view<R: Threads + Wait + Sync>(
+        &mut self,
+        rt: &R,
+        time: Time,
+        leaving: Leaving,
+    ) -> Result<bool, Memory>
         ensures { OnOk result (GoesOn (IsOwn time) self.old self.new) }
     {
-        match self.actor.node().view_to_follow() {
-            Some(view) => self.actor.leave_for(rt, time, view),
-            None => self.actor.time_out(rt, time),
+        match leaving {
+            Leaving::Follows(view) => self.actor.leave_for(rt, time, view),
+            Leaving::TimesOut => self.actor.time_out(rt, time),
+            Leaving::Stays => Ok(false),
         }
-    }
-
-    fn is_to_time_out(&mut self, now: u64) -> bool
-        ensures { self.new ≡ self.old }
-    {
-        let node = self.actor.node();
-        let is_behind = node.is_behind()
-            || (self.hints.are_ahead(node) && self.fetching.is_hopeful(node));
-        node.view_to_follow().is_some() || (!is_behind && self.pacing.is_late(now))
     }
 
     // what it says of itself: words NAME=VALUE
@@ -405,13 +482,15 @@ impl Service {
         self.notes.add(To::Operator, Kind::Log, text.into_bytes())
     }
 
-    // All that its node gave to be sent, and then notes.
+    // All that its node gave to be sent, then what that gives again, and then notes.
+    #[tactic(auto, using(crate::proofs::Resent::all_told))]
     fn tell(&mut self) -> Result<Vec<Parcel>, Memory>
-        ensures told { IfOk result (λ parcels. Tells self.old.sent (map told_by parcels.items)) }
+        ensures told { IfOk result (λ parcels. Tells self.old (map told_by parcels.items)) }
         ensures left { OnOk result (self.new ≡ record { node = self.old.node; sent = [] }) }
     {
         let sent = self.actor.take_sent(self.alloc);
         let mut parcels = parcels_of(self.alloc, &sent)?;
+        give_again(self.alloc, self.actor.node(), &self.policy, &mut parcels)?;
         self.notes.move_behind(&mut parcels)?;
         Ok(parcels)
     }

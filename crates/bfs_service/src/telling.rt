@@ -1,7 +1,7 @@
 // Messages of a node, as parcels to those who are to have them.
 ghost use Rattle.std.specs.Prelude.{◌≡◌, ◌∷◌, [], ◌++◌, map, IfOk, OnOk};
 ghost use Rattle.bfs_frames.specs.Parcels.{told_by};
-ghost use Rattle.bfs_service.specs.Telling.{kind_of, message_told, place_of};
+ghost use Rattle.bfs_service.specs.Telling.{kind_of, message_given, message_told, place_of, told_to};
 
 use bfs_codec::encode;
 use bfs_frames::{Frame, Kind, Parcel, To};
@@ -25,14 +25,36 @@ pub(crate) fn parcels_of(alloc: Global, sent: &[Signed<Message>]) -> Result<Vec<
 fn parcel_of(alloc: Global, signed: &Signed<Message>) -> Result<Parcel, Memory>
     ensures { IfOk result (λ parcel. told_by parcel ≡ message_told signed.now) }
 {
+    parcel_to(alloc, place_of(receivers_of(&signed.message)), signed)
+}
+
+fn parcel_to(alloc: Global, to: To, signed: &Signed<Message>) -> Result<Parcel, Memory>
+    ensures { IfOk result (λ parcel. told_by parcel ≡ told_to to signed.now) }
+{
     let payload = encode(alloc, signed)?;
     Ok(Parcel {
-        to: place_of(receivers_of(&signed.message)),
+        to,
         frame: Frame {
             kind: kind_of(&signed.message),
             payload,
         },
     })
+}
+
+/// A parcel to one replica for each message, in their order.
+#[tactic(auto, using(crate::proofs::Folding::map_more))]
+pub(crate) fn parcels_to(
+    alloc: Global,
+    number: u32,
+    sent: &[Signed<Message>],
+) -> Result<Vec<Parcel>, Memory>
+    ensures { IfOk result (λ parcels. map told_by parcels.items ≡ map (message_given number) sent.now) }
+{
+    let mut parcels = Vec::new(alloc);
+    for signed in sent {
+        parcels.push(parcel_to(alloc, To::Replica(number), signed)?)?;
+    }
+    Ok(parcels)
 }
 
 fn place_of(receivers: Receivers) -> To

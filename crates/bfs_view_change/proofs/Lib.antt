@@ -14,3 +14,4 @@ mod Right
 mod Behind
 mod Kept
 pub mod Public
+pub mod Few

@@ -5,3 +5,4 @@ pub mod NewViews
 pub mod Making
 pub mod Keeping
 pub mod Codes
+pub mod Restoring

@@ -132,7 +132,7 @@ fn last_number(changes: &[Signed<ViewChange>]) -> u64
     }
 }
 
-fn last_in(certificates: &[PreparedBatch]) -> u64
+pub(crate) fn last_in(certificates: &[PreparedBatch]) -> u64
     ensures value { result ≡ greatest (map number_in certificates.now) }
     ensures within { result ≤ most_number }
 {

@@ -16,9 +16,9 @@ use std::marker::Model;
 /// these stands the one that the keeper has sent last.
 #[derive(Drop)]
 pub struct KeptViewChanges {
-    asked: Vec<u64>,
-    changes: Vec<Option<Signed<ViewChange>>>,
-    own: Option<Signed<ViewChange>>,
+    pub(crate) asked: Vec<u64>,
+    pub(crate) changes: Vec<Option<Signed<ViewChange>>>,
+    pub(crate) own: Option<Signed<ViewChange>>,
 }
 
 impl Model for KeptViewChanges {

@@ -8,6 +8,7 @@ mod laws;
 mod making;
 mod new_views;
 mod proposing;
+mod restoring;
 mod stable;
 mod view_changes;
 

@@ -332,7 +332,7 @@ fn is_of(alloc: Global, frozen: &FrozenFiles, text: &[u8], digest: &[u8; 32]) ->
     let mut put = Vec::new(alloc);
     frozen.put_text(&mut put)?;
     compared(put.as_slice(), text)?;
-    Ok(compared(&frozen.digest(), digest)?)
+    Ok(compared(frozen.digest(), digest)?)
 }
 
 // what is frozen before and behind a call is what the file system was then, also once one of both is gone

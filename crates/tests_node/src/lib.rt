@@ -1,5 +1,5 @@
-//! One replica, as tests: with what it begins, a request's way through it, what it executes as it advances, what it refuses, what waits when a
-//! batch comes, when a batch is hashed, its checkpoints, what it adopts, and calls as values.
+//! One replica, as tests: with what it begins, a request's way through it, what it executes as it advances, what it refuses, what waits of what
+//! it is offered, and when a batch comes, when a batch is hashed, its checkpoints, what it adopts and collects, and calls as values.
 #![tactic(auto)]
 
 #[cfg(test)]
@@ -13,11 +13,15 @@ mod beginning;
 #[cfg(test)]
 mod behind;
 #[cfg(test)]
+mod collecting;
+#[cfg(test)]
 mod gates;
 #[cfg(test)]
 mod hashing;
 #[cfg(test)]
 mod keyrings;
+#[cfg(test)]
+mod offering;
 #[cfg(test)]
 mod parts;
 #[cfg(test)]

@@ -3,7 +3,7 @@ use crate::replica::members;
 use bfs_auth::Authenticator;
 use bfs_codec::encode;
 use bfs_log::StableCheckpoint;
-use bfs_messages::{Checkpoint, Message, Reply, Signed, sign_checkpoint};
+use bfs_messages::{Checkpoint, Message, Reply, Request, Signed, sign_checkpoint};
 use bfs_testing_nodes::members::{null_request, request_message};
 use bfs_types::Memory;
 use std::alloc::Global;
@@ -19,10 +19,15 @@ pub struct Asked {
 }
 
 impl Asked {
+    /// The request.
+    pub fn request(self, alloc: Global) -> Result<Signed<Request>, Memory> {
+        let request = null_request(alloc, self.client, self.timestamp)?;
+        members(0).request(alloc, self.signer, request)
+    }
+
     /// The request as a message.
     pub fn message(self, alloc: Global) -> Result<Signed<Message>, Memory> {
-        let request = null_request(alloc, self.client, self.timestamp)?;
-        Ok(request_message(members(0).request(alloc, self.signer, request)?))
+        Ok(request_message(self.request(alloc)?))
     }
 
     /// The bytes of the message.

@@ -23,12 +23,20 @@ enum Call {
     TakeNone,
     /// It proposes what waits.
     Propose,
+    /// A request is offered.
+    Offer(Asked),
+    /// It forgets what was executed.
+    ForgetAnswered,
+    /// It forgets what it has proposed.
+    ForgetProposed,
     /// It executes the next batch.
     Execute,
     /// It makes a checkpoint.
     Checkpoint,
     /// It adopts no text, by no CHECKPOINT.
     Adopt,
+    /// It settles a checkpoint by no CHECKPOINT.
+    Settle,
 }
 
 fn said(given: &Result<Sent, NodeError>) -> Said {
@@ -70,11 +78,18 @@ fn performed<R: Threads + Wait + Sync>(
         Call::Take(asked) => NodeCall::Take(asked.message(alloc)?),
         Call::TakeNone => NodeCall::TakeRequestsFor(Time::epoch(), &[]),
         Call::Propose => NodeCall::Propose(Time::epoch()),
+        Call::Offer(asked) => NodeCall::Offer(asked.request(alloc)?),
+        Call::ForgetAnswered => NodeCall::ForgetAnswered,
+        Call::ForgetProposed => NodeCall::ForgetProposed,
         Call::Execute => NodeCall::Execute,
         Call::Checkpoint => NodeCall::Checkpoint,
         Call::Adopt => {
             let none = stable_by(alloc, &[], [0; 32])?;
             return Ok(adopts(rt, node, &none));
+        }
+        Call::Settle => {
+            let none = stable_by(alloc, &[], [0; 32])?;
+            return Ok(performs(rt, node, NodeCall::Settle(&none)));
         }
     };
     Ok(performs(rt, node, call))
@@ -116,8 +131,12 @@ static CALLS: &[(Call, Said)] = &[
     (Call::Execute, Said::Nothing),
     (Call::Propose, Said::Sent(1)),
     (Call::Execute, Said::Sent(1)),
+    (Call::Offer(ASKED), Said::Sent(1)),
+    (Call::ForgetAnswered, Said::Nothing),
+    (Call::ForgetProposed, Said::Nothing),
     (Call::Checkpoint, Said::Refused(26)),
     (Call::Adopt, Said::Refused(34)),
+    (Call::Settle, Said::Refused(34)),
 ];
 
 #[test]

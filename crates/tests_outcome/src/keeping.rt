@@ -4,7 +4,7 @@ ghost use Rattle.bfs_model.specs.Server.Limits.{most_number};
 
 use crate::nodes::{fuller_table, snapshot, table};
 use bfs_auth::Authenticator;
-use bfs_checkpoints::{Snapshots, certificate_with};
+use bfs_checkpoints::{Snapshots, certificate_with, checkpoints_told};
 use bfs_log::{Log, Slot};
 use bfs_messages::{Checkpoint, OrderMessage, Signed};
 use bfs_replies::ReplyTable;
@@ -59,6 +59,12 @@ fn stable(alloc: Global, kept: &Snapshots) -> Option<(u64, usize, usize)> {
     ))
 }
 
+// the digest of the snapshot of a number
+fn digest_at(kept: &Snapshots, number: u64) -> Option<[u8; 32]> {
+    let snapshot = kept.snapshot_at(number)?;
+    Some(*snapshot.digest())
+}
+
 // puts the snapshot of a replica with that table behind the others, and gives its digest
 fn keep(
     rt: &(impl Threads + Sync),
@@ -81,12 +87,16 @@ fn snapshots_become_stable_one_after_another(rt: HostRuntime) -> Result<(), Fail
     same!(rt; kept.faults(), 1);
     let first = keep(&rt, alloc, &mut kept, 16, &table(alloc)?)?;
     let second = keep(&rt, alloc, &mut kept, 32, &fuller_table(alloc)?)?;
+    same!(rt; digest_at(&kept, 32), Some(second));
+    same!(rt; digest_at(&kept, 48), None);
     tell(alloc, &mut kept, &mut log, 0, 16, &first)?;
     tell(alloc, &mut kept, &mut log, 1, 16, &second)?;
     tell(alloc, &mut kept, &mut log, 2, 16, &first)?;
     same!(rt; stable(alloc, &kept), None);
     tell(alloc, &mut kept, &mut log, 3, 16, &first)?;
     same!(rt; stable(alloc, &kept), Some((16, 112, 3)));
+    same!(rt; checkpoints_told(alloc, log.messages(), 16, &first)?.len(), 3);
+    same!(rt; checkpoints_told(alloc, log.messages(), 16, &second)?.len(), 1);
     // of a number of which there is no snapshot, and of another digest
     for sender in 0..4u32 {
         tell(alloc, &mut kept, &mut log, sender, 48, &first)?;
@@ -96,6 +106,7 @@ fn snapshots_become_stable_one_after_another(rt: HostRuntime) -> Result<(), Fail
         tell(alloc, &mut kept, &mut log, sender, 32, &second)?;
     }
     same!(rt; stable(alloc, &kept), Some((32, 128, 3)));
+    same!(rt; digest_at(&kept, 16), None);
     Ok(())
 }
 

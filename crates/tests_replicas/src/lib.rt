@@ -19,4 +19,6 @@ mod resending;
 #[cfg(test)]
 mod script;
 #[cfg(test)]
+mod settling;
+#[cfg(test)]
 mod views;

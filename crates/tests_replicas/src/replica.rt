@@ -6,7 +6,9 @@ use bfs_testing_nodes::calls::{
     time_out,
 };
 use bfs_testing_nodes::members::Members;
-use bfs_testing_nodes::snapshots::{Snapshot, adopt, snapshot_of, stable_of};
+use bfs_testing_nodes::snapshots::{
+    Snapshot, adopt, collected_by, settle, snapshot_of, stable_of, told_of,
+};
 use bfs_types::Memory;
 use std::alloc::Global;
 use std::sync::Wait;
@@ -45,8 +47,8 @@ pub enum Silence {
     IsWrong,
 }
 
-// what shows of it: besides, how many CHECKPOINTs tell its stable snapshot, and its digest
-type Shown = (Standing, Option<(usize, [u8; 32])>);
+// what shows of it: besides, the number that is stable, how many CHECKPOINTs tell its stable snapshot, and its digest
+type Shown = (Standing, u64, Option<(usize, [u8; 32])>);
 
 /// A replica, with the digest that it has.
 #[derive(Drop)]
@@ -86,6 +88,11 @@ impl Replica {
         standing_of(&self.node)
     }
 
+    /// The number of its last stable checkpoint.
+    pub fn stable_number(&self) -> u64 {
+        self.node.stable_number()
+    }
+
     /// How far it is.
     pub fn lag(&self) -> Lag {
         Lag {
@@ -109,7 +116,7 @@ impl Replica {
     }
 
     fn shown(&self) -> Shown {
-        (self.standing(), stable_of(&self.node))
+        (self.standing(), self.stable_number(), stable_of(&self.node))
     }
 
     /// Its digest, if it has not failed. Where memory runs out, it is asked again.
@@ -236,6 +243,34 @@ impl Replica {
         };
         self.digest = self.digest(rt);
         took && self.digest.is_some()
+    }
+
+    /// What another replica has told of a number, with what makes it stable of what both have heard, if that is enough. Where memory runs out, it is
+    /// asked again.
+    pub fn collects(&self, other: &Replica, number: u64) -> Result<Option<Snapshot>, Memory> {
+        match self.collects_once(other, number) {
+            Ok(found) => Ok(found),
+            Err(_) => self.collects_once(other, number),
+        }
+    }
+
+    fn collects_once(&self, other: &Replica, number: u64) -> Result<Option<Snapshot>, Memory> {
+        match told_of(self.alloc, &other.node, number)? {
+            Some(told) => collected_by(&self.node, number, told),
+            None => Ok(None),
+        }
+    }
+
+    /// It settles the checkpoint of another replica's stable snapshot. Where memory runs out, it is to be as it was, and is asked again. It gives
+    /// whether all that is so.
+    pub fn settles<R: Threads + Sync>(&mut self, rt: &R, snapshot: &Snapshot) -> bool {
+        let (before, live) = (self.shown(), self.node.is_live());
+        match settle(&mut self.node, &snapshot.checkpoint) {
+            Err(NodeError::Memory) => {
+                self.is_as(rt, before, live) && settle(&mut self.node, &snapshot.checkpoint).is_ok()
+            }
+            given => given.is_ok(),
+        }
     }
 
     fn advances_once<R: Threads + Wait + Sync>(&mut self, rt: &R) -> Result<(), NodeError> {

@@ -102,6 +102,28 @@ impl Replicas {
         true
     }
 
+    /// Whether none of these has a stable snapshot.
+    pub fn have_none(&self, numbers: &[usize]) -> bool {
+        for number in numbers {
+            match self.all.get(*number).map(Replica::snapshot) {
+                Some(Ok(None)) => {}
+                _ => return false,
+            }
+        }
+        true
+    }
+
+    /// Whether the last stable checkpoint of each of these has that number.
+    pub fn stable_at(&self, numbers: &[usize], stable: u64) -> bool {
+        for number in numbers {
+            match self.all.get(*number) {
+                Some(replica) if replica.stable_number() == stable => {}
+                _ => return false,
+            }
+        }
+        true
+    }
+
     /// A replica's digest is noted. It gives whether there is one.
     pub fn note<R: Threads + Sync>(&mut self, rt: &R, number: usize) -> bool {
         self.noted = self.digest(rt, number);
@@ -385,5 +407,63 @@ impl Replicas {
             Some(replica) => replica.adopts(rt, &snapshot),
             None => false,
         })
+    }
+
+    /// A replica adopts what another one has told of a number, by what both have heard.
+    pub fn adopt_told<R: Threads + Sync>(
+        &mut self,
+        rt: &R,
+        number: usize,
+        from: usize,
+        told: u64,
+    ) -> Result<bool, Memory> {
+        let (Some(replica), Some(other)) = (self.all.get(number), self.all.get(from)) else {
+            return Ok(false);
+        };
+        let Some(snapshot) = replica.collects(other, told)? else {
+            return Ok(false);
+        };
+        Ok(match self.all.get_mut(number) {
+            Some(replica) => replica.adopts(rt, &snapshot),
+            None => false,
+        })
+    }
+
+    /// A replica settles the checkpoint of another one's stable snapshot.
+    pub fn settle_by<R: Threads + Sync>(
+        &mut self,
+        rt: &R,
+        number: usize,
+        from: usize,
+    ) -> Result<bool, Memory> {
+        let Some(other) = self.all.get(from) else {
+            return Ok(false);
+        };
+        let Some(snapshot) = other.snapshot()? else {
+            return Ok(false);
+        };
+        Ok(match self.all.get_mut(number) {
+            Some(replica) => replica.settles(rt, &snapshot),
+            None => false,
+        })
+    }
+
+    /// A replica executes what is next, and makes no checkpoint.
+    pub fn pass_on<R: Threads + Wait + Sync>(
+        &mut self,
+        rt: &R,
+        number: usize,
+    ) -> Result<bool, Memory> {
+        let Some(replica) = self.all.get_mut(number) else {
+            return Ok(false);
+        };
+        match replica.goes_on(rt) {
+            Ok(sent) => {
+                self.send(number, sent)?;
+                Ok(true)
+            }
+            Err(Silence::HasFailed) => Err(Memory),
+            Err(_) => Ok(false),
+        }
     }
 }

@@ -116,3 +116,53 @@ fn replicas_that_ask_for_other_views_come_together(rt: HostRuntime) -> Result<()
     same!(rt; wrong_in_both(&rt, rt.alloc(), &ALL_ASK_FOR_OTHERS)?, (None, true));
     Ok(())
 }
+
+static A_NEW_VIEW_IS_LOST: [Event; 11] = [
+    Event::Ask(BACKUPS, 7),
+    Event::TimeOut(BACKUPS),
+    Event::HandOver(BACKUPS),
+    Event::NewView(3, 0),
+    // it comes to replica 2 alone
+    Event::HandOver(&[2]),
+    Event::Stand(&[3], Standing(0, 0, 1)),
+    // replica 2 gives it again, and its primary doesn't
+    Event::Resend(&[2, 3]),
+    Event::Stand(BACKUPS, Standing(1, 0, 1)),
+    Event::Propose(1),
+    Event::Settle(BACKUPS),
+    Event::Stand(BACKUPS, Standing(1, 1, 0)),
+];
+
+#[test]
+fn a_new_view_that_was_lost_comes_of_another_one(rt: HostRuntime) -> Result<(), Fail> {
+    same!(rt; wrong_in_both(&rt, rt.alloc(), &A_NEW_VIEW_IS_LOST)?, (None, true));
+    Ok(())
+}
+
+// replica 0 alone executes number 1, replica 3 falls silent, and in view 1 the PREPAREs don't come to replica 0
+static ONE_HAS_EXECUTED: [Event; 18] = [
+    Event::Ask(ALL, 7),
+    Event::Propose(0),
+    Event::HandOver(ALL),
+    Event::HandOver(ALL),
+    Event::HandOver(&[0]),
+    Event::Execute(ALL),
+    Event::Stand(&[0], Standing(0, 1, 0)),
+    Event::TimeOut(&[0, 1, 2]),
+    Event::HandOver(&[0, 1, 2]),
+    Event::HandOver(&[0, 1, 2]),
+    Event::HandOver(&[1, 2]),
+    Event::HandOver(&[0, 1, 2]),
+    Event::Resend(&[0, 1, 2]),
+    Event::Resend(&[0, 1, 2]),
+    Event::Resend(&[0, 1, 2]),
+    Event::Resend(&[0, 1, 2]),
+    Event::Execute(&[0, 1, 2]),
+    Event::Stand(&[0, 1, 2], Standing(1, 1, 0)),
+];
+
+#[test]
+fn votes_come_to_one_that_has_executed_the_number(rt: HostRuntime) -> Result<(), Fail> {
+    same!(rt; wrong_in_both(&rt, rt.alloc(), &ONE_HAS_EXECUTED)?, (None, true));
+    Ok(())
+}

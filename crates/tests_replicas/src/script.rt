@@ -40,6 +40,8 @@ pub enum Event {
     Lose,
     /// These execute what is next, and make a checkpoint where one is due. One may fail.
     Execute(&'static [usize]),
+    /// A replica executes what is next, and makes no checkpoint.
+    PassOn(usize),
     /// Messages come to these until none is on its way, and they execute what is next.
     Settle(&'static [usize]),
     /// So many batches without requests are proposed by replica 0, and executed by these.
@@ -48,12 +50,20 @@ pub enum Event {
     Mend(&'static [usize]),
     /// A replica adopts the stable snapshot of another one.
     Adopt(usize, usize),
+    /// A replica adopts what another one has told of that number, by what both have heard.
+    AdoptTold(usize, usize, u64),
+    /// A replica settles the checkpoint of another one's stable snapshot.
+    SettleBy(usize, usize),
     /// A NEW-VIEW is on its way that has so many VIEW-CHANGEs and PRE-PREPAREs.
     NewView(usize, usize),
     /// Each of these stands so.
     Stand(&'static [usize], Standing),
     /// Each of these has a stable snapshot that so many CHECKPOINTs tell.
     HaveStable(&'static [usize], usize),
+    /// None of these has a stable snapshot.
+    HaveNone(&'static [usize]),
+    /// The last stable checkpoint of each of these has that number.
+    StableAt(&'static [usize], u64),
     /// These have the same digest.
     Agree(&'static [usize]),
     /// A replica's digest is noted.
@@ -99,13 +109,18 @@ fn happens<R: Threads + Wait + Sync>(
         Event::HandOver(numbers) => all.hand_over(rt, numbers),
         Event::Lose => Ok(lose(all)),
         Event::Execute(numbers) => all.execute(rt, numbers, true),
+        Event::PassOn(number) => all.pass_on(rt, number),
         Event::Settle(numbers) => all.settle(rt, numbers),
         Event::Batches(numbers, count) => batches(rt, all, numbers, count),
         Event::Mend(numbers) => all.mend(rt, numbers),
         Event::Adopt(number, from) => all.adopt(rt, number, from),
+        Event::AdoptTold(number, from, told) => all.adopt_told(rt, number, from, told),
+        Event::SettleBy(number, from) => all.settle_by(rt, number, from),
         Event::NewView(changes, proposals) => Ok(all.new_view()? == Some((changes, proposals))),
         Event::Stand(numbers, wanted) => Ok(all.stand(numbers, wanted)),
         Event::HaveStable(numbers, count) => Ok(all.have_stable(numbers, count)),
+        Event::HaveNone(numbers) => Ok(all.have_none(numbers)),
+        Event::StableAt(numbers, number) => Ok(all.stable_at(numbers, number)),
         Event::Agree(numbers) => Ok(all.agree(rt, numbers)),
         Event::Note(number) => Ok(all.note(rt, number)),
         Event::AsNoted(numbers) => Ok(all.are_as_noted(rt, numbers)),

@@ -1,7 +1,7 @@
 //! Calls are answered, also where the primary is silent, where requests have no room, and behind a state that was fetched.
-use crate::script::Step::{Agree, Answered, Ask, HasExecuted, IsAnswered, Play, Stands};
+use crate::script::Step::{Agree, Answered, Ask, HasExecuted, IsAnswered, Play, Stands, Told};
 use crate::script::{Step, plays};
-use crate::world::{ALL, BACKUPS, TERMS, THREE};
+use crate::world::{ALL, BACKUPS, ONE, TERMS, THREE};
 use bfs_service::Terms;
 use std::test::Fail;
 
@@ -24,12 +24,49 @@ static REPEATED: [Step; 4] = [
     Answered(ALL, 7, 8, 1),
     // an older one never
     Answered(ALL, 6, 7, 0),
-    Stands(1, (0, 2, 0)),
+    // and nothing is ordered for it
+    Stands(1, (0, 1, 0)),
 ];
 
 #[test]
 fn a_call_that_is_repeated_is_answered_again(rt: HostRuntime) -> Result<(), Fail> {
     plays(&rt, rt.alloc(), TERMS, &REPEATED)
+}
+
+// each replica gets the request twice in one turn, and then again
+static COPIES: [Step; 10] = [
+    Ask(3, 7),
+    Ask(3, 7),
+    Play(0, BACKUPS, 1),
+    Stands(1, (0, 0, 1)),
+    Ask(3, 7),
+    Play(0, BACKUPS, 1),
+    Stands(1, (0, 0, 1)),
+    Ask(3, 7),
+    Play(0, ALL, 4),
+    Stands(1, (0, 1, 0)),
+];
+
+#[test]
+fn no_copy_waits(rt: HostRuntime) -> Result<(), Fail> {
+    plays(&rt, rt.alloc(), TERMS, &COPIES)
+}
+
+// a request that comes late to one replica alone: it doesn't wait, and that replica gives its reply again
+static LATE: [Step; 7] = [
+    Answered(ALL, 7, 8, 1),
+    Ask(0, 7),
+    Play(0, ONE, 1),
+    Stands(1, (0, 1, 0)),
+    Told(1, 0),
+    // and it asks for no other view
+    Play(9_000, ONE, 2),
+    Told(1, 0),
+];
+
+#[test]
+fn a_late_request_is_answered_again(rt: HostRuntime) -> Result<(), Fail> {
+    plays(&rt, rt.alloc(), TERMS, &LATE)
 }
 
 static SILENT_PRIMARY: [Step; 7] = [

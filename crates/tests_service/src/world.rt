@@ -18,6 +18,9 @@ pub const ALL: Up = [true; 4];
 /// All but the primary of the first view.
 pub const BACKUPS: Up = [false, true, true, true];
 
+/// Replica 1 alone.
+pub const ONE: Up = [false, true, false, false];
+
 /// All but replica 3.
 pub const THREE: Up = [true, true, true, false];
 

@@ -1,7 +1,7 @@
 //! A connection with another transport, or with an operator.
 #![forbid(unsafe_code)]
 
-use crate::frames::{number_at, Frame, Head, ASK_REPORT, ASK_STATE, HEAD, MOST_FRAME, REQUEST, STATE};
+use crate::frames::{number_at, Frame, Head, ASK_REPORT, ASK_STATE, HEAD, MOST_FRAME, REQUEST, STATE, STATUS};
 use crate::inbox::Source;
 use crate::queue::Queue;
 use crate::rest::{Read, Rest};
@@ -40,10 +40,11 @@ impl Role {
         }
     }
 
-    /// Whether a whole frame is its own. What is said of states begins with the number of the replica that says it, so that none speaks for another.
+    /// Whether a whole frame is its own. What is said of states, and of where one stands, begins with the number of the replica that says it, so that none
+    /// speaks for another.
     fn owns(self, head: Head, payload: &[u8]) -> bool {
         match self {
-            Role::Replica(number) if head.kind == ASK_STATE || head.kind == STATE => number_at(payload, 0).map_or(false, |word| word as usize == number),
+            Role::Replica(number) if [STATUS, ASK_STATE, STATE].contains(&head.kind) => number_at(payload, 0).map_or(false, |word| word as usize == number),
             _ => true,
         }
     }
@@ -170,7 +171,7 @@ mod tests {
 
     #[test]
     fn each_speaks_for_itself_of_states() {
-        for kind in [ASK_STATE, STATE] {
+        for kind in [STATUS, ASK_STATE, STATE] {
             let frame = framed(kind, &[&[0, 0, 0, 2], b"more"]);
             assert_eq!(whole_frames(&frame, Role::Replica(2)), Ok((frame.len(), 1, HEAD)));
             assert_eq!(whole_frames(&frame, Role::Replica(1)), Err(Head { kind, length: 8 }));

@@ -4,6 +4,7 @@
 use std::rc::Rc;
 
 pub const REQUEST: u8 = 1;
+pub const STATUS: u8 = 6;
 pub const ASK_STATE: u8 = 7;
 pub const STATE: u8 = 8;
 pub const ASK_REPORT: u8 = 9;

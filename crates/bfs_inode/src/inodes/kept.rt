@@ -29,7 +29,7 @@ impl Inode {
         ensures { IfSome result (λ kept. arc_value kept.now ≡ frozen_of id self.now) }
     {
         match &self.kept {
-            Some(kept) if kept.id() == id => Some(kept),
+            Some(kept) if kept.0 == id => Some(&kept.1),
             _ => None,
         }
     }
@@ -44,12 +44,12 @@ impl Inode {
         }
     }
 
-    /// Keeps a frozen inode of what it is, in the place of one that it kept, until it changes. It takes no memory.
-    pub fn keep(&mut self, frozen: Arc<FrozenInode>)
-        requires { arc_value frozen ≡ frozen_of (arc_value frozen).id self.old }
+    /// Keeps a frozen inode of what it is under that fileid, in the place of one that it kept, until it changes. It takes no memory.
+    pub fn keep(&mut self, id: FileId, frozen: Arc<FrozenInode>)
+        requires { arc_value frozen ≡ frozen_of id self.old }
         ensures { self.new ≡ self.old }
     {
-        self.kept = Some(frozen);
+        self.kept = Some((id, frozen));
     }
 
     /// Keeps the SHA-256 (FIPS 180-4) of the block of that number of a file, until it changes (`FileBlocks::keep_block`). An inode that is no

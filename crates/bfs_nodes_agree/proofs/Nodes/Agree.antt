@@ -17,7 +17,7 @@ use Rattle.bfs_nodes_agree.specs.Views.Replicas as turns
 use Rattle.bfs_nodes_agree.specs.Nodes.Laws.{ComesOfBatches, Executed, FairIsAuthentic, NodesAgree, StepsAreTurns, TurnsMayBeTaken, WhatIsSentIsFair}
 use Rattle.bfs_nodes_agree.specs.Nodes.Premises.{AreAuthentic, AreFair, Comes, IsAuthentic, IsFair, StatesDontCollide}
 use Rattle.bfs_nodes_agree.specs.Nodes.Replicas.{Beginning, NodeReplicas, Standing, NodeTurn, after_node_turn, after_node_turns, new_node_replicas, turn_of, ordered_turns}
-use Rattle.bfs_nodes_agree.specs.Nodes.Steps.{NodeStep, Delivers, Takes, Adopts, deeds_of}
+use Rattle.bfs_nodes_agree.specs.Nodes.Steps.{NodeStep, Delivers, Takes, Adopts, Settles, deeds_of}
 use Rattle.bfs_nodes_agree.proofs.Nodes.Hearing.{said_alike}
 use Rattle.bfs_nodes_agree.proofs.Nodes.States.{StatesKnown, digest_tells, new_states, one_state, reached_on, states_on}
 use Rattle.bfs_nodes_agree.proofs.Nodes.Turns.{AreRight, may_be_taken, new_right, right_on, step_right}
@@ -53,6 +53,7 @@ comes_so : (P Q : Signed Message → Type 0) → ((m : Signed Message) → P m �
 comes_so P Q so (Delivers bytes) comes = (comes.0, λ m e p of. so p (comes.1 m e p of))
 comes_so P Q so (Takes signed) comes = (comes.0, λ p of. so p (comes.1 p of))
 comes_so P Q so (Adopts certificate files table) comes = λ m i. so m (comes m i)
+comes_so P Q so (Settles certificate) comes = λ m i. so m (comes m i)
 comes_so P Q so step comes = tt
 
 module _ (same : CallsKeepTheReplica) (views : IsKept HasNoLaterView) (written : MessageWasWritten) (one : OneBatch) (f : ℕ) (faulty : ℕ → Bool) where

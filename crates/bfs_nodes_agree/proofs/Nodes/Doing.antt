@@ -25,6 +25,7 @@ use Rattle.bfs_order.specs.Replica.Views.{as_proposals}
 use Rattle.bfs_order.specs.declared.error.OrderError.{OrderError}
 use Rattle.bfs_outcome.specs.Outcome as results
 use Rattle.bfs_replies.specs.Answers.{Answer}
+use Rattle.bfs_replies.specs.Tables.{Last, last_of}
 use Rattle.bfs_agreement.specs.Histories.{IsIn}
 use Rattle.bfs_nodes_agree.specs.Orders.Replicas as ordered
 use Rattle.bfs_nodes_agree.specs.Orders.Replicas.{after_order_deed, histories, votes_by, with_replica}
@@ -39,7 +40,7 @@ use Rattle.bfs_node.specs.Nodes.{Node, Outcome}
 use Rattle.bfs_nodes_agree.proofs.Views.Lists.{out_of_map}
 use Rattle.bfs_nodes_agree.specs.Nodes.Premises.{IsAmong, IsWithin}
 use Rattle.bfs_nodes_agree.specs.Nodes.Replicas.{NodeReplicas, turn_of}
-use Rattle.bfs_nodes_agree.specs.Nodes.Steps.{NodeStep, Executes, Fails, Adopts, outcome, still}
+use Rattle.bfs_nodes_agree.specs.Nodes.Steps.{NodeStep, TakesOffered, Executes, Fails, Adopts, outcome, still}
 use Rattle.bfs_nodes_agree.proofs.Nodes.Bounds.{IsBounded}
 use Rattle.bfs_nodes_agree.proofs.Nodes.Hearing.{Extends, GoesOut, IsGood, IsHeard, IsSaid, IsSpoken, IsWhollySaid, Spoken, change_on, extends_both, extends_deed, extends_same, grown}
 use Rattle.bfs_nodes_agree.proofs.Nodes.Keeping.{AreKept, good_on}
@@ -56,12 +57,17 @@ abbrev pub IsAnswer : Node → model.Reply → Type 0
 IsAnswer node reply = (files : FileSystem) × (node.files ≡ Some files) × (next : Committed) × (next_committed node.order ≡ Some next)
     × (answer : Answer) × IsIn answer (results.outcome files node.table next.batch).answers × (reply ≡ reply_to node.order answer)
 
+-- it gives the last reply to its client once more
+abbrev pub IsLast : Node → model.Reply → Type 0
+IsLast node reply = (last : Last) × (last_of node.table reply.client ≡ Some last) × (reply.timestamp ≡ last.timestamp) × (reply.result ≡ last.reply)
+
 abbrev pub NoReply : model.Reply → Type 0
 NoReply reply = ⊥
 
 -- what a REPLY that a step sends is
 abbrev pub RepliesBy : Node → NodeStep → model.Reply → Type 0
 RepliesBy node Executes = IsAnswer node
+RepliesBy node (TakesOffered request) = IsLast node
 RepliesBy node step = NoReply
 
 -- what a message that it sends tells of its state, and what it replies
@@ -208,18 +214,23 @@ module _ (faulty : ℕ → Bool) (after : NodeReplicas) (who : ℕ) where
         let g = histories (After deeds) in
         (are.0, good_on (IsGood faulty node.keys node.order.f h after) (IsGood faulty node.keys node.order.f g after) (change_on faulty node.keys node.order.f h g after after (grown (map (turn_of who) deeds) v) (λ k s i. i)) 0 kept.changes are.1)
 
-    pub nothing_done : (S : Type 0) (Replies : model.Reply → Type 0) (now : Node) → WereKept now.changes → ArePassed node.keys now.pending → now.keys ≡ node.keys → S → Done S Replies [] (still now)
-    nothing_done S Replies now kept waiting keys stands = record {
+    -- its order does nothing
+    pub said_alone : (S : Type 0) (Replies : model.Reply → Type 0) (out : Outcome) → WereKept out.now.changes → ArePassed node.keys out.now.pending → out.now.keys ≡ node.keys
+        → AllIn (MaySend Replies node (v who)) out.sent → S → Done S Replies [] out
+    said_alone S Replies out kept waiting keys sends stands = record {
       may = tt;
       keys = keys;
-      kept = kept_then [] now.changes kept;
+      kept = kept_then [] out.now.changes kept;
       waiting = waiting;
-      sends = none_in (MaySend Replies node (v who));
+      sends = sends;
       gives = λ m i small. inl i;
       brings = tt;
       offers = tt;
       stands = stands;
     }
+
+    pub nothing_done : (S : Type 0) (Replies : model.Reply → Type 0) (now : Node) → WereKept now.changes → ArePassed node.keys now.pending → now.keys ≡ node.keys → S → Done S Replies [] (still now)
+    nothing_done S Replies now kept waiting keys stands = said_alone S Replies (still now) kept waiting keys (none_in (MaySend Replies node (v who))) stands
 
     -- what its order says is sent, and what no order has to know
     pub deed_done : (S : Type 0) (Replies : model.Reply → Type 0) (deed : ViewDeed) (out : Outcome) (votes : Log) → votes_by node.order (called node.order deed) ≡ votes → MayDoViewDeed faulty (histories v) node.order deed

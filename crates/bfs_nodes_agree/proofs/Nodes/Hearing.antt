@@ -4,7 +4,7 @@ use Rattle.std.proofs.lemmas.Bool.{cond_both, eqb-true}
 use Rattle.bfs_auth.specs.Keys.{Keys}
 use Rattle.bfs_auth.specs.declared.principals.Principal.TheVariants as principal
 use Rattle.bfs_votes.specs.Votes.{Header, Told, prepared}
-use Rattle.bfs_log.specs.Certificates.{faults, messages_in}
+use Rattle.bfs_log.specs.Certificates.{as_checkpoints, faults, messages_in}
 use Rattle.bfs_log.specs.Headers.{header, message_header}
 use Rattle.bfs_log.specs.Logs.{Log, headers}
 use Rattle.bfs_messages.specs.Messages as model
@@ -121,7 +121,10 @@ change_signed keys s valid p of =
     let is = is_valid keys s valid in
     elim of [
       | inl same ↦ subst (λ (x : Signed Message). is_signed keys x ≡ true) (sym same) is.signed
-      | inr within ↦ map_in (λ (x : Signed Message). is_signed keys x ≡ true) (as_message Order) (messages_in within.0) (is.all_signed within.0 within.1) p within.2
+      | inr within ↦ elim within as (λ _. is_signed keys p ≡ true) [
+        | inl told ↦ map_in (λ (x : Signed Message). is_signed keys x ≡ true) (as_message Order) (as_checkpoints s.message.checkpoints) is.told p told
+        | inr proof ↦ map_in (λ (x : Signed Message). is_signed keys x ≡ true) (as_message Order) (messages_in proof.0) (is.all_signed proof.0 proof.1) p proof.2
+      ]
     ]
 
 -- the COMMIT of a replica that is alone goes to nobody
@@ -149,10 +152,10 @@ reply_is reply (Some auth) s e = sym (ap (λ (x : Signed Message). x.message) (s
 
 -- What is in a log, and what is kept --------------------------------------------------------------------------------------------
 
--- f is that of the keys. Nothing tells whether a CHECKPOINT of a certificate was said
+-- f is that of the keys
 pub record IsHeard (faulty : ℕ → Bool) (keys : Keys) (h : World) (w : NodeReplicas) (m : Signed OrderMessage) : Type 0 where
   pub sent : (header m).tag < 5 → WasSent faulty h (header m).tag (header m).sender (header m).view (header m).number (header m).digest
-  pub said : (header m).tag < 5 → GoesOut (faults keys) m → IsSaid faulty w (Order m.message)
+  pub said : GoesOut (faults keys) m → IsSaid faulty w (Order m.message)
   pub whole : IsWhole m.message
   -- of the keys of the node whose log it is
   pub checked : IsChecked keys m
@@ -176,7 +179,7 @@ said_later faulty w after later m said k e correct = let has = said k e correct 
 pub heard_on : (faulty : ℕ → Bool) (keys : Keys) (h g : World) (w after : NodeReplicas) → AreGrown h g → HaveGrown w after → (m : Signed OrderMessage) → IsHeard faulty keys h w m → IsHeard faulty keys g after m
 heard_on faulty keys h g w after on later m is = record {
   sent = λ small. said_on faulty h g on (header m).tag (header m).sender (header m).view (header m).number (header m).digest (is.sent small);
-  said = λ vote goes. said_later faulty w after later (Order m.message) (is.said vote goes);
+  said = λ goes. said_later faulty w after later (Order m.message) (is.said goes);
   whole = is.whole;
   checked = is.checked;
 }
@@ -263,7 +266,7 @@ module _ (faulty : ℕ → Bool) (w : NodeReplicas) (v : ordered.OrderReplicas) 
   pub vote_heard : (keys : Keys) (m : Signed OrderMessage) → IsSaid faulty w (Order m.message) → IsWhole m.message → IsChecked keys m → IsHeard faulty keys (histories v) w m
   vote_heard keys m said whole checked = record {
     sent = λ small correct. let k = (header m).sender in vote_said (v k) (w k).sent (spoken k) m.message small (said k refl correct);
-    said = λ _ _. said;
+    said = λ _. said;
     whole = whole;
     checked = checked;
   }
@@ -280,6 +283,6 @@ module _ (faulty : ℕ → Bool) (w : NodeReplicas) (v : ordered.OrderReplicas) 
     certificates = λ c m i j correct.
         let k = (header m).sender in
         let small = proof_small c m j in
-        vote_said (v k) (w k).sent (spoken k) m.message (omega (arith, small)) (said (as_message Order m) (inr (c, i, in_map (as_message Order) (messages_in c) m j)) k refl correct);
+        vote_said (v k) (w k).sent (spoken k) m.message (omega (arith, small)) (said (as_message Order m) (inr (inr (c, i, in_map (as_message Order) (messages_in c) m j))) k refl correct);
     whole = λ c i. (at_place FitsPreparedBatch s.message.certificates fits.certificates.1 c i).proposal.0.digest;
   }

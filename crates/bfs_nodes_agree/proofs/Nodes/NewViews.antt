@@ -30,13 +30,14 @@ use Rattle.bfs_nodes_agree.proofs.Views.Lists.{map_in, in_map, passes_at}
 use Rattle.bfs_node.specs.Changing.{leads, may_begin, own_new_view, entering_refusal, first_of, view_refusal}
 use Rattle.bfs_node.specs.Nodes.{Node}
 use Rattle.bfs_nodes_agree.specs.Nodes.Replicas.{NodeReplicas}
-use Rattle.bfs_nodes_agree.proofs.Nodes.Hearing.{AreChecked, IsGood, IsHeard, IsSpoken, change_signed, genuine_of, vote_heard}
+use Rattle.bfs_nodes_agree.proofs.Nodes.Hearing.{AreChecked, IsGood, IsHeard, IsSaid, IsSpoken, IsWhollySaid, change_signed, genuine_of, vote_heard}
 use Rattle.bfs_nodes_agree.proofs.Nodes.Keeping.{AreKept, enough_for, good_for}
 use Rattle.bfs_log.specs.Certificates.{faults}
 use Rattle.std.proofs.lemmas.Slice.Eq.{bytes_eq-Decides}
 use Rattle.bfs_codec.specs.Laws.{OneBatch}
 use Rattle.bfs_messages.specs.Limits.{FitsBatch, FitsNewView, FitsPrePrepare, FitsPreparedBatch, FitsSigned, FitsViewChange}
-use Rattle.bfs_messages.specs.declared.message.Message.TheVariants.{NewView, Order}
+use Rattle.bfs_messages.specs.declared.message.Message.{Message}
+use Rattle.bfs_messages.specs.declared.message.Message.TheVariants.{NewView, Order, ViewChange}
 use Rattle.bfs_nodes_agree.specs.Orders.Replicas as ordered
 use Rattle.bfs_nodes_agree.specs.Orders.Replicas.{histories}
 use Rattle.bfs_nodes_agree.proofs.Orders.Results.{passed}
@@ -162,13 +163,14 @@ module _ (keys : Keys) (f sender view : ℕ) (led : sender ≡ primary f view) w
       ]
 
 -- what a node finds of a NEW-VIEW that it takes
-pub record IsTaken (node : Node) (new : model.NewView) : Type 0 where
-  pub led : new.sender ≡ primary node.order.f new.view
-  pub of_view : are_for new.view new.changes ≡ true
-  pub right : choice_refusal node.keys new.changes ≡ None
-  pub proposed : do_propose node.keys new.sender new.view new.proposals (choice (messages_of new.changes)).chosen ≡ true
+pub record IsTaken (node : Node) (s : Signed model.NewView) : Type 0 where
+  pub signed : is_signed node.keys (as_message NewView s) ≡ true
+  pub led : s.message.sender ≡ primary node.order.f s.message.view
+  pub of_view : are_for s.message.view s.message.changes ≡ true
+  pub right : choice_refusal node.keys s.message.changes ≡ None
+  pub proposed : do_propose node.keys s.message.sender s.message.view s.message.proposals (choice (messages_of s.message.changes)).chosen ≡ true
 
-pub is_taken : (node : Node) (s : Signed model.NewView) → faults node.keys ≡ node.order.f → view_refusal node s ≡ None → IsTaken node s.message
+pub is_taken : (node : Node) (s : Signed model.NewView) → faults node.keys ≡ node.order.f → view_refusal node s ≡ None → IsTaken node s
 is_taken node s keys_fit taken =
     let keys = node.keys in
     let new = s.message in
@@ -176,17 +178,24 @@ is_taken node s keys_fit taken =
     let a = both (ground_refusal keys s) (cond (are_chosen keys new) None (Some WrongChoice)) (none_of_view _ (entering_refusal node new) taken) in
     let b = passed ((new.sender == primary (faults keys) new.view) && is_signed keys m) BadAuthenticator _ a.0 in
     let d = passed (are_for new.view new.changes) BadCertificate (choice_refusal keys new.changes) b.1 in
-    let leads = eqb-true new.sender (primary (faults keys) new.view) (and_parts (new.sender == primary (faults keys) new.view) (is_signed keys m) b.0).0 in
-    record { led = leads ∙ ap (λ (f : ℕ). primary f new.view) keys_fit; of_view = d.0; right = d.1; proposed = right_choice _ a.1 }
+    let own = and_parts (new.sender == primary (faults keys) new.view) (is_signed keys m) b.0 in
+    let leads = eqb-true new.sender (primary (faults keys) new.view) own.0 in
+    record { signed = own.1; led = leads ∙ ap (λ (f : ℕ). primary f new.view) keys_fit; of_view = d.0; right = d.1; proposed = right_choice _ a.1 }
 
 module _ (node : Node) (s : Signed model.NewView) (keys_fit : faults node.keys ≡ node.order.f) (fits : FitsNewView s.message) (taken : view_refusal node s ≡ None) where
   abbrev new : model.NewView
   new = s.message
 
-  is : IsTaken node new
+  is : IsTaken node s
   is = is_taken node s keys_fit taken
 
   module _ (faulty : ℕ → Bool) (w : NodeReplicas) (v : ordered.OrderReplicas) (spoken : (k : ℕ) → AllIn (IsSpoken (v k)) (w k).sent) (authentic : IsWholly (IsAuthentic faulty w node.keys) (as_message NewView s)) where
+    -- so was each of its VIEW-CHANGEs, with all that is within it
+    pub taken_said : AllIn (λ (c : Signed model.ViewChange). IsWhollySaid faulty w (as_message ViewChange c)) new.changes
+    taken_said c i p of k e correct =
+        let valid = (enough_senders node.keys node.order.f new.changes keys_fit is.right).1 in
+        authentic p (inr (inr (c, i, of))) k e (change_signed node.keys c (passes_at (valid_view_change node.keys) new.changes c valid i) p of) correct
+
     pub taken_right : IsRightNewView faulty (histories v) node.order new.view new.changes new.proposals
     taken_right =
         let enough = enough_senders node.keys node.order.f new.changes keys_fit is.right in
@@ -198,8 +207,7 @@ module _ (node : Node) (s : Signed model.NewView) (keys_fit : faults node.keys �
               (eqb-true c.message.view new.view (passes_at (λ (x : Signed model.ViewChange). x.message.view == new.view) new.changes c is.of_view i))
               (passes_at (valid_view_change node.keys) new.changes c enough.1 i));
           genuine = map_in (λ (x : model.ViewChange). IsGenuine faulty (histories v) x) (λ (c : Signed model.ViewChange). c.message) new.changes (λ c i.
-              genuine_of faulty w v spoken c
-              (λ p of k e correct. authentic p (inr (inr (c, i, of))) k e (change_signed node.keys c (passes_at (valid_view_change node.keys) new.changes c enough.1 i) p of) correct)
+              genuine_of faulty w v spoken c (taken_said c i)
               (at_place (FitsSigned FitsViewChange) new.changes fits.changes.1 c i).0);
           proposals = proposals_are node.keys node.order.f new.sender new.view is.led new.proposals (choice (messages_of new.changes)).chosen fits.proposals.1 is.proposed;
         }
@@ -217,3 +225,16 @@ module _ (node : Node) (s : Signed model.NewView) (keys_fit : faults node.keys �
         let within = in_map (as_message Order) (as_proposals new.proposals) m (in_map (as_message PrePrepare) new.proposals p i) in
         let same = one p.message.batch good.2.0.batch good.1.batch (fit good.2.0 good.2.1) good.2.2 in
         vote_heard faulty w v spoken node.keys m (λ k e correct. authentic (as_message Order m) (inr (inl within)) k e good.0 correct) good.1.digest (subst (Pass node.keys) (sym same) (pass good.2.0 good.2.1)))
+
+    -- all of it is signed, and was said by its senders
+    pub taken_wholly_said : IsWhollySaid faulty w (as_message NewView s)
+    taken_wholly_said p of = elim of as (λ _. IsSaid faulty w p.message) [
+      | inl same ↦ λ k e correct. authentic p (inl same) k e (subst (λ (x : Signed Message). is_signed node.keys x ≡ true) (sym same) is.signed) correct
+      | inr within ↦ elim within as (λ _. IsSaid faulty w p.message) [
+        | inl proposal ↦ λ k e correct. authentic p (inr (inl proposal)) k e
+            (map_in (λ (x : Signed Message). is_signed node.keys x ≡ true) (as_message Order) (as_proposals new.proposals)
+            (map_in (λ (m : Signed OrderMessage). order_is_signed node.keys m ≡ true) (as_message PrePrepare) new.proposals
+            (λ x i. (proposals_signed node.keys node.order.f new.sender new.view is.led new.proposals (choice (messages_of new.changes)).chosen fits.proposals.1 is.proposed x i).0)) p proposal) correct
+        | inr change ↦ taken_said change.0 change.1 p change.2
+      ]
+    ]

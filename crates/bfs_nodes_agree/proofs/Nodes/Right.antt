@@ -1,8 +1,8 @@
 -- Each step of a node is turns that its order may take.
-use Rattle.std.proofs.Common.{◌≡◌, ℕ, ◌<◌, Bool, true, false, cond, ◌&&◌, List, [], ◌∷◌, length, Option, Some, None, option_map, map, inl, inr, refl, sym, ap, subst, ◌∙◌, arith}
-use Rattle.std.specs.Prelude.{nat_lt, bytes_eq, not}
-use Rattle.std.specs.List.{list_all}
-use Rattle.std.proofs.lemmas.Bool.{and_from, and_parts}
+use Rattle.std.proofs.Common.{◌≡◌, ℕ, Bool, true, false, cond, ◌&&◌, List, [], ◌∷◌, length, Option, Some, None, option_map, map, inl, inr, refl, sym, ap, subst, ◌∙◌, arith}
+use Rattle.std.specs.Prelude.{max, nat_le, nat_lt, bytes_eq, not}
+use Rattle.std.specs.List.{list_all, list_any}
+use Rattle.std.proofs.lemmas.Bool.{and_from, and_parts, leb-true}
 use Rattle.bfs_model.specs.Bytes.Call.{◌>>=◌}
 use Rattle.bfs_model.specs.Server.Stored.{AreBytes}
 use Rattle.bfs_model.specs.Server.Tree.{FileSystem, Time}
@@ -12,7 +12,7 @@ use Rattle.bfs_votes.specs.Votes.{Told}
 use Rattle.bfs_checkpoints.specs.Snapshots.{snapshot_of}
 use Rattle.bfs_checkpoints.specs.Texts.{node_digest}
 use Rattle.bfs_log.specs.Batches.{Committed}
-use Rattle.bfs_log.specs.Certificates.{StableCheckpoint, checkpoints_in, is_shown, messages_in}
+use Rattle.bfs_log.specs.Certificates.{StableCheckpoint, as_checkpoints, checkpoints_in, is_shown, messages_in}
 use Rattle.bfs_log.proofs.Public.{IsVoucher, vouched}
 use Rattle.bfs_log.specs.Headers.{header}
 use Rattle.bfs_log.specs.Logs.{Log, headers}
@@ -30,7 +30,6 @@ use Rattle.bfs_order.specs.Laws.Calls as order
 use Rattle.bfs_order.specs.Replica.Accepting.{accepted}
 use Rattle.bfs_order.specs.Replica.Checkpoints.{checkpoint}
 use Rattle.bfs_order.specs.Replica.Executing.{next_committed}
-use Rattle.bfs_order.specs.Replica.Installing.{raised}
 use Rattle.bfs_order.specs.Replica.Outcomes as outcomes
 use Rattle.bfs_order.specs.Replica.Proposing as proposing
 use Rattle.bfs_order.specs.Replica.Refusals.{is_authentic, place_refusal, refusal}
@@ -38,9 +37,8 @@ use Rattle.bfs_order.specs.Replica.States.{State, with_message}
 use Rattle.bfs_order.specs.Replica.Views as views
 use Rattle.bfs_order.specs.Replica.Views.{as_proposals}
 use Rattle.bfs_order.specs.declared.error.OrderError.{OrderError}
-use Rattle.bfs_order.proofs.Public.{raised_same}
 use Rattle.bfs_outcome.specs.Outcome as results
-use Rattle.bfs_pending.specs.Requests.{is_among}
+use Rattle.bfs_pending.specs.Requests.{is_among, is_same}
 use Rattle.bfs_agreement.specs.Histories as agreement
 use Rattle.bfs_agreement.specs.Histories.{IsIn, World}
 use Rattle.bfs_agreement.proofs.Public.{in_told}
@@ -49,8 +47,12 @@ use Rattle.bfs_nodes_agree.specs.Orders.Replicas.{MayDoOrderDeed, after_order_de
 use Rattle.bfs_nodes_agree.proofs.Orders.Lists.{AllIn, both_in, filter_in, left_in, one_in, out_of_filter_map, some_is}
 use Rattle.bfs_nodes_agree.proofs.Orders.Logs.{Brings, IsChecked, IsOwn, IsWhole, Offers, Shows}
 use Rattle.bfs_nodes_agree.proofs.Orders.Results.{not_hit, passed}
+use Rattle.bfs_nodes_agree.proofs.Orders.Rising.{entered_same}
 use Rattle.bfs_replies.specs.Answers.{Answer}
-use Rattle.bfs_replies.specs.Tables.{Table}
+use Rattle.bfs_replies.specs.Answers.{last_answer}
+use Rattle.bfs_replies.specs.Tables.{Last, Table, last_of}
+use Rattle.bfs_replies.specs.declared.tables.Class.{Class}
+use Rattle.bfs_replies.specs.declared.tables.Class.TheVariants.{New, Repeat, Old, Unknown}
 use Rattle.bfs_view_change.specs.Changes.Keeping.{changes_for, with_asked, with_change, was_asked}
 use Rattle.bfs_view_change.specs.Changes.Making.{signed_new_view}
 use Rattle.bfs_view_change.specs.Changes.NewViews.{latest_checkpoint, new_view_refusal}
@@ -59,30 +61,37 @@ use Rattle.bfs_nodes_agree.specs.Views.Changes.{told_change}
 use Rattle.bfs_nodes_agree.specs.Views.Replicas as turns
 use Rattle.bfs_nodes_agree.specs.Views.Replicas.{ViewDeed, ordered_deed}
 use Rattle.bfs_nodes_agree.proofs.Views.Lists.{at_in, in_map, map_in}
-use Rattle.bfs_nodes_agree.proofs.Views.OfLog.{made_holds, made_proves}
-use Rattle.bfs_nodes_agree.proofs.Views.Proved.{is_valid, valid_proves}
+use Rattle.bfs_nodes_agree.proofs.Views.OfLog.{made_holds, made_proves, stable_holds}
+use Rattle.bfs_nodes_agree.proofs.Views.Proved.{is_valid, latest_among, valid_proves}
 use Rattle.bfs_node.specs.Adopting.{adopted, may_adopt}
 use Rattle.bfs_node.specs.Changing.{begun, begun_if_due, change_refusal, leads, leaving_refusal, left_for, may_begin, next_view, own_change, own_new_view, view_refusal, with_new_view, with_view_change}
 use Rattle.bfs_node.specs.Checkpoints.{checkpointed, checkpoint_refusal}
 use Rattle.bfs_node.specs.Delivering.{after_request, after_requests, bytes_delivered, bytes_refusal, if_taken, message_delivered, message_refusal, ordered as taken, request_in, request_refusal, with_request}
 use Rattle.bfs_node.specs.Errors.{of_order, of_view}
 use Rattle.bfs_node.specs.Executing.{executed_on, is_next, reply_to, told}
+use Rattle.bfs_node.specs.Forgetting.{is_new, open_requests}
 use Rattle.bfs_node.specs.Nodes.{Messages, Node, Outcome}
+use Rattle.bfs_node.specs.Offering as offering
+use Rattle.bfs_node.specs.Offering.{after_offered, answered, offer_refusal, offered_as, refusal_as, sent_for, told_again, waits_already, with_offered}
+use Rattle.bfs_node.specs.declared.offering.Offered.{Offered}
+use Rattle.bfs_node.specs.declared.offering.Offered.TheVariants.{Waits, WaitsAlready, Answered, PassedOver}
 use Rattle.bfs_node.specs.Proposing.{pending_batch, proposed}
+use Rattle.bfs_node.specs.Settling.{may_settle, settling}
 use Rattle.bfs_node.specs.declared.error.NodeError.{NodeError}
+use Rattle.bfs_node.specs.declared.error.NodeError.TheVariants as error
 use Rattle.bfs_nodes_agree.specs.Nodes.Premises.{Comes, IsAmong, IsAuthentic, IsWholly, offers_in}
 use Rattle.bfs_nodes_agree.specs.Nodes.Replicas.{NodeReplicas, turn_of}
-use Rattle.bfs_nodes_agree.specs.Nodes.Steps.{NodeStep, Delivers, Takes, TakesRequests, Proposes, Executes, Fails, Checkpoints, TimesOut, LeavesFor, Adopts, still, unless, or_still, after_execution, outcome, where_taken, begun_deeds, change_deeds, message_deeds, bytes_deeds, checkpoint_deeds, leaving_deeds, deeds_of}
+use Rattle.bfs_nodes_agree.specs.Nodes.Steps.{NodeStep, Delivers, Takes, TakesRequests, TakesOffered, Proposes, Executes, Fails, Checkpoints, TimesOut, LeavesFor, ForgetsAnswered, ForgetsProposed, Adopts, Settles, still, unless, or_still, after_execution, outcome, where_taken, begun_deeds, change_deeds, message_deeds, bytes_deeds, checkpoint_deeds, leaving_deeds, deeds_of}
 use Rattle.bfs_nodes_agree.proofs.Nodes.Bounds.{left_bounded, left_later}
-use Rattle.bfs_nodes_agree.proofs.Nodes.Doing.{After, ArePassed, BringAll, Done, Goes, IsAnswer, IsStill, MaySend, NoReply, OfferAll, RepliesBy, Stands, StandsBy, Tells, WereKept, at_who, deed_done, extends_deeds, here_is, nothing_done, offered, other_sent, own_said, tells_nothing}
+use Rattle.bfs_nodes_agree.proofs.Nodes.Doing.{After, ArePassed, BringAll, Done, Goes, IsAnswer, IsLast, IsStill, MaySend, NoReply, OfferAll, RepliesBy, Stands, StandsBy, Tells, WereKept, at_who, deed_done, extends_deeds, here_is, nothing_done, offered, other_sent, own_said, said_alone, tells_nothing}
 use Rattle.bfs_nodes_agree.proofs.Nodes.Hearing.{HaveGrown, IsGood, IsHeard, IsSaid, IsSpoken, IsWhollySaid, change_on, change_signed, genuine_of, grown, heard_on, GoesOut, lone_stays, proof_small, reply_is, said_later, vote_heard}
-use Rattle.bfs_nodes_agree.proofs.Nodes.NewViews.{begun_right, own_checked, own_handed, taken_heard, taken_right}
+use Rattle.bfs_nodes_agree.proofs.Nodes.NewViews.{begun_right, own_checked, own_handed, taken_heard, taken_right, taken_said}
 use Rattle.bfs_nodes_agree.proofs.Nodes.Keeping.{good_for, good_on, kept_above, kept_with}
 use Rattle.bfs_nodes_agree.proofs.Nodes.Steps.{after_deeds, begins_open, not_refused, not_second, waits, waits_once}
 
 -- Messages that are read keep the limits --------------------------------------------------------------------------------------
 
-fits_read : MessageWasWritten → (bytes : List ℕ) (m : Signed Message) → AreBytes bytes → message_of bytes ≡ Some m → FitsMessage m.message
+pub fits_read : MessageWasWritten → (bytes : List ℕ) (m : Signed Message) → AreBytes bytes → message_of bytes ≡ Some m → FitsMessage m.message
 unfolding message_of
 fits_read written bytes m are e = go (signed_from bytes) refl e
   where
@@ -125,25 +134,41 @@ all_come node (signed ∷ rest) waiting =
     subst (λ (n : Node). ArePassed node.keys (after_requests n rest).pending) (sym first.1)
     (all_come next rest (subst (λ (n : Node). ArePassed node.keys n.pending) first.1 (one_comes node signed signed.message waiting)))
 
+-- The last reply once more --------------------------------------------------------------------------------------------------------
+
+told_is : (o : Option (Signed Message)) (s : Signed Message) → answered o ≡ Answered s → o ≡ Some s
+told_is None s e = absurd cc
+told_is (Some x) s e = let same : x ≡ s = cc in ap (λ (y : Signed Message). Some y) same
+
+-- what is answered again is the last reply
+again_is : (node : Node) (request : Signed model.Request) (s : Signed Message) (class : Class) → offered_as class node request ≡ Answered s
+    → (last : Last) × (last_of node.table request.message.client ≡ Some last) × (told node.keys (reply_to node.order (last_answer request.message.client last)) ≡ Some s)
+again_is node request s New e = absurd (go (waits_already node request) e)
+  where
+    go : (b : Bool) → cond b WaitsAlready Waits ≡ Answered s → ⊥
+    go true e = absurd cc
+    go false e = absurd cc
+again_is node request s Repeat e = go (last_of node.table request.message.client) refl e
+  where
+    go : (o : Option Last) → last_of node.table request.message.client ≡ o → answered (told_again node (option_map (last_answer request.message.client) o)) ≡ Answered s
+        → (last : Last) × (last_of node.table request.message.client ≡ Some last) × (told node.keys (reply_to node.order (last_answer request.message.client last)) ≡ Some s)
+    go None is e = absurd cc
+    go (Some last) is e = (last, is, told_is (told node.keys (reply_to node.order (last_answer request.message.client last))) s e)
+again_is node request s Old e = absurd cc
+again_is node request s Unknown e = absurd cc
+
 pending_pass : (keys : Keys) (requests : List (Signed model.Request)) → ArePassed keys requests → list_all (request_is_signed keys) requests ≡ true
 pending_pass keys [] all = refl
 pending_pass keys (s ∷ rest) all = and_from (request_is_signed keys s) _ (all s (inl refl)) (pending_pass keys rest (λ x i. all x (inr i)))
 
 -- A view begins -----------------------------------------------------------------------------------------------------------------
 
--- what is handed over changes nothing of what is executed
-over_last : (keys : Keys) (s : State) (ms : Log) → (views.all_taken_over keys s ms).now.last ≡ s.last
-over_last keys s [] = refl
-over_last keys s (m ∷ ms) = over_last keys (views.taken_over keys s m).now ms
-    ∙ elim (place_refusal s (header m)) as (λ r. (outcomes.unless r s (accepted keys s m)).now.last ≡ s.last) [ None ↦ refl | Some refused ↦ refl ]
-
--- nor does the checkpoint behind which the view begins
+-- what is handed over changes nothing of what is executed, nor does the checkpoint behind which the view begins
 entered_last : (keys : Keys) (s : State) (view : ℕ) (stable : Option StableCheckpoint) (handed : List (Signed model.PrePrepare)) → (views.entered keys s view stable handed).now.last ≡ s.last
-entered_last keys s view stable handed =
-    over_last keys (views.opened (raised keys s stable) view (views.number_of stable) handed) (as_proposals handed) ∙ raised_same (λ (u : State). u.last) keys s stable (λ low log. refl)
+entered_last = entered_same (λ (s : State). s.last) (λ s low log. refl)
 
 -- a VIEW-CHANGE that is taken is valid
-change_valid : (node : Node) (s : Signed model.ViewChange) → change_refusal node s ≡ None → valid_view_change node.keys s ≡ true
+pub change_valid : (node : Node) (s : Signed model.ViewChange) → change_refusal node s ≡ None → valid_view_change node.keys s ≡ true
 change_valid node s none =
     let a = passed (is_signed node.keys (as_message ViewChange s)) _ _ none in
     let b = passed (nat_lt node.order.view s.message.view) _ _ a.1 in
@@ -155,6 +180,14 @@ fits_whole : (m : OrderMessage) → FitsOrder m → IsWhole m
 fits_whole (PrePrepare proposal) fits = fits.digest
 fits_whole other fits = tt
 
+-- a checkpoint that it settles was executed
+settles_last : (node : Node) (certificate : StableCheckpoint) → may_settle node certificate ≡ true → max node.order.last certificate.number ≡ node.order.last
+settles_last node certificate may =
+    let n = certificate.number in
+    let within = and_parts (is_shown node.keys node.order.f certificate) (nat_lt node.order.low n && nat_le n node.order.last) may in
+    let le = leb-true n node.order.last (and_parts (nat_lt node.order.low n) (nat_le n node.order.last) within.1).1 in
+    omega (arith, le)
+
 module _ (faulty : ℕ → Bool) (after : NodeReplicas) (who : ℕ) where
   -- what a step does, where what it sends is sent
   abbrev Does : (v : ordered.OrderReplicas) (node : Node) → Stands faulty after who v node → (S : Type 0) → (Replies : model.Reply → Type 0) → List ViewDeed → Outcome → Type 0
@@ -164,12 +197,26 @@ module _ (faulty : ℕ → Bool) (after : NodeReplicas) (who : ℕ) where
   abbrev DoesQuietly : (v : ordered.OrderReplicas) (node : Node) → Stands faulty after who v node → (S : Type 0) → List ViewDeed → Outcome → Type 0
   DoesQuietly v node know S deeds out = Does v node know S NoReply deeds out
 
-  checkpoint_heard : (keys : Keys) (h : World) (m : Signed OrderMessage) → (header m).tag ≡ 5 → IsWhole m.message → IsChecked keys m → IsHeard faulty keys h after m
-  checkpoint_heard keys h m five whole checked = record { sent = λ small. absurd (omega (arith, five, small)); said = λ small. absurd (omega (arith, five, small)); whole = whole; checked = checked }
+  checkpoint_heard : (keys : Keys) (h : World) (m : Signed OrderMessage) → (header m).tag ≡ 5 → IsSaid faulty after (Order m.message) → IsWhole m.message → IsChecked keys m → IsHeard faulty keys h after m
+  checkpoint_heard keys h m five said whole checked = record { sent = λ small. absurd (omega (arith, five, small)); said = λ _. said; whole = whole; checked = checked }
 
-  shows_heard : (keys : Keys) (s : State) (h : World) (stable : Option StableCheckpoint) → Shows (IsHeard faulty keys h after) s keys stable
-  shows_heard keys s h None = tt
-  shows_heard keys s h (Some c) = λ _. map_in (IsHeard faulty keys h after) (as_message Checkpoint) c.checkpoints (λ x i. checkpoint_heard keys h (as_message Checkpoint x) refl tt refl)
+  -- the CHECKPOINTs of a certificate, each of which was said
+  told_heard : (keys : Keys) (h : World) (c : StableCheckpoint) → AllIn (λ (m : Signed OrderMessage). IsSaid faulty after (Order m.message)) (checkpoints_in c) → AllIn (IsHeard faulty keys h after) (checkpoints_in c)
+  told_heard keys h c said = map_in (IsHeard faulty keys h after) (as_message Checkpoint) c.checkpoints (λ x i.
+      let m = as_message Checkpoint x in
+      checkpoint_heard keys h m refl (said m (in_map (as_message Checkpoint) c.checkpoints x i)) tt refl)
+
+  -- those behind which a view begins are within one of its VIEW-CHANGEs
+  shows_heard : (keys : Keys) (s : State) (h : World) (changes : List (Signed model.ViewChange)) → AllIn (λ (x : Signed model.ViewChange). IsWhollySaid faulty after (as_message ViewChange x)) changes
+      → Shows (IsHeard faulty keys h after) s keys (latest_checkpoint (messages_of changes))
+  shows_heard keys s h changes said = go (latest_checkpoint (messages_of changes)) refl
+    where
+      go : (o : Option StableCheckpoint) → latest_checkpoint (messages_of changes) ≡ o → Shows (IsHeard faulty keys h after) s keys o
+      go None e = tt
+      go (Some c) e = λ _.
+          let from = latest_among changes c e in
+          told_heard keys h c (λ m i. said from.0 from.1 (as_message Order m)
+          (inr (inl (in_map (as_message Order) (as_checkpoints from.0.message.checkpoints) m (subst (λ (x : StableCheckpoint). IsIn m (checkpoints_in x)) from.2 i)))))
 
   offer_said : (first : Signed Message) → IsIn first (after who).sent → (me : ℕ) → me ≡ who → (p : Signed OrderMessage) → IsIn p (offers_in first.message) → IsOwn me p → IsSaid faulty after (Order p.message)
   offer_said first there me is p i own k e correct =
@@ -214,11 +261,11 @@ module _ (faulty : ℕ → Bool) (after : NodeReplicas) (who : ℕ) where
                   let tells : told who (header m).tag = in_told (headers (w who).offers) (header m) (in_map header (w who).offers m mine) in
                   record {
                     sent = λ small correct. inr (own.0, subst (told (header m).sender) own.0 (subst (λ (k : ℕ). told k (header m).tag) (sym (own.1.sender ∙ know.me)) tells));
-                    said = λ _ _. offer m i;
+                    said = λ _. offer m i;
                     whole = own.1.whole;
                     checked = own_checked faulty (histories v) after node know.kept m i;
                   }),
-              shows_heard node.keys node.order (histories w) stable,
+              shows_heard node.keys node.order (histories w) new.changes (λ x i. (good_for good asked 0 node.changes.changes know.kept.1 x i).1.said),
             )
             tt (refl, refl, entered_last node.keys node.order asked stable new.proposals) goes
       ]) refl
@@ -304,8 +351,11 @@ module _ (faulty : ℕ → Bool) (after : NodeReplicas) (who : ℕ) where
               let opened = not_refused _ (not_second (option_map of_view (new_view_refusal node.keys s)) (option_map of_order (views.entering_refusal node.order new.view)) e) in
               deed_done faulty after who v node know (IsStill node (with_new_view node s).now) NoReply deed (with_new_view node s) done.sent (ap (λ (r : Option OrderError). (outcomes.unless r node.order done).sent) opened)
               (taken_right node s know.fit fits e faulty w v spoken authentic) refl (kept_above (IsGood faulty node.keys node.order.f (histories v) after) node.order.f new.view node.changes know.kept) know.waiting
-              (λ x i. inl i) (λ m i small. in_map (as_message Order) done.sent m i)
-              ((λ m i. heard_then (deed ∷ []) m (taken_heard node s know.fit fits e faulty w v spoken authentic one m i)), shows_heard node.keys node.order (histories (After faulty after who v node know (deed ∷ []))) stable)
+              (λ x i. inl i) (λ m i small. in_map (as_message Order) done.sent m i) (
+                (λ m i. heard_then (deed ∷ []) m (taken_heard node s know.fit fits e faulty w v spoken authentic one m i)),
+                shows_heard node.keys node.order (histories (After faulty after who v node know (deed ∷ []))) new.changes
+                    (λ x i p of. said_later faulty w after on p.message (taken_said node s know.fit fits e faulty w v spoken authentic x i p of)),
+              )
               tt (refl, refl, entered_last node.keys node.order new.view stable new.proposals)
           | Some refused ↦ λ _. nothing_is
         ]) refl
@@ -332,6 +382,36 @@ module _ (faulty : ℕ → Bool) (after : NodeReplicas) (who : ℕ) where
         let is = reply_is (reply_to node.order from.0) _ s from.2 in
         other_sent faulty after who (IsAnswer node) node know.me o s there (ap sender_of is, inl (reply_to node.order from.0, is, (files, live, next, committed, from.0, from.1, refl)))
 
+    again_sent : (request : Signed model.Request) (s : Signed Message) → offering.offered node request ≡ Answered s → IsIn s (after who).sent → MaySend faulty after who (IsLast node) node (v who) s
+    again_sent request s e there =
+        let again = again_is node request s (offering.class_at node request.message) e in
+        let reply = reply_to node.order (last_answer request.message.client again.0) in
+        let is = reply_is reply _ s again.2 in
+        other_sent faulty after who (IsLast node) node know.me (v who) s there (ap sender_of is, inl (reply, is, (again.0, again.1, refl, refl)))
+
+    offer_done : (request : Signed model.Request) → Does v node know (IsStill node (outcome node (TakesOffered request)).now) (IsLast node) [] (outcome node (TakesOffered request))
+    offer_done request = go (offer_refusal node request) refl
+      where
+        quiet : (now : Node) → now.changes ≡ node.changes → ArePassed node.keys now.pending → now.keys ≡ node.keys → IsStill node now → Does v node know (IsStill node now) (IsLast node) [] (still now)
+        quiet now changes waiting keys stands goes = nothing_done faulty after who v node know (IsStill node now) (IsLast node) now (subst (WereKept faulty after who v node know) (sym changes) know.kept) waiting keys stands
+
+        comes : offer_refusal node request ≡ None → (it : Offered) → offering.offered node request ≡ it
+            → Does v node know (IsStill node (after_offered node request it)) (IsLast node) [] (record { now = after_offered node request it; sent = sent_for it })
+        comes none Waits e =
+            let signed = (passed (request_is_signed node.keys request) _ (refusal_as (offering.class_at node request.message) node request) none).0 in
+            quiet (with_request node request).now refl
+            (both_in (λ (r : Signed model.Request). request_is_signed node.keys r ≡ true) node.pending (request ∷ []) know.waiting (one_in (λ (r : Signed model.Request). request_is_signed node.keys r ≡ true) request signed))
+            refl (refl, refl, refl)
+        comes none WaitsAlready e = quiet node refl know.waiting refl (refl, refl, refl)
+        comes none (Answered reply) e = λ goes.
+            said_alone faulty after who v node know (IsStill node node) (IsLast node) (record { now = node; sent = reply ∷ [] }) know.kept know.waiting refl
+            (one_in (MaySend faulty after who (IsLast node) node (v who)) reply (again_sent request reply e (goes reply (inl refl)))) (refl, refl, refl)
+        comes none PassedOver e = quiet node refl know.waiting refl (refl, refl, refl)
+
+        go : (r : Option NodeError) → offer_refusal node request ≡ r → Does v node know (IsStill node (unless r node (with_offered node request)).now) (IsLast node) [] (unless r node (with_offered node request))
+        go None e = comes e (offering.offered node request) refl
+        go (Some refused) e = quiet node refl know.waiting refl (refl, refl, refl)
+
     executes_done : Does v node know (Unit {0}) (IsAnswer node) (deeds_of node Executes) (outcome node Executes)
     executes_done = go node.files (next_committed node.order) refl refl
       where
@@ -355,6 +435,7 @@ module _ (faulty : ℕ → Bool) (after : NodeReplicas) (who : ℕ) where
         go None None is goes = nothing_is goes
         go None (Some files) is goes =
             let deed = turns.Orders (order.Checkpoints node.keys node.order.last (snapshot_of files node.table).digest) in
+            let told = checkpoint node.keys node.order node.order.last (snapshot_of files node.table).digest in
             deed_done faulty after who v node know (IsStill node (checkpointed node files).now) NoReply deed (checkpointed node files) [] refl tt refl know.kept know.waiting
             (λ s i. elim i [
               | inl e ↦
@@ -363,18 +444,36 @@ module _ (faulty : ℕ → Bool) (after : NodeReplicas) (who : ℕ) where
               | inr j ↦ absurd j
             ])
             (λ m i small. absurd i)
-            (checkpoint_heard node.keys (histories (After faulty after who v node know (deed ∷ []))) _ refl tt refl)
+            (checkpoint_heard node.keys (histories (After faulty after who v node know (deed ∷ []))) told refl
+            (own_said faulty after who (as_message Order told) (goes (as_message Order told) (inl refl)) (ap principal.Replica know.me)) tt refl)
             tt (refl, refl, refl) goes
 
-    adopts_done : (certificate : StableCheckpoint) (files : FileSystem) (table : Table) → DoesQuietly v node know (Unit {0}) (deeds_of node (Adopts certificate files table)) (outcome node (Adopts certificate files table))
-    adopts_done certificate files table =
+    -- each CHECKPOINT of a certificate that is shown was said
+    shown_said : (certificate : StableCheckpoint) → ((m : Signed Message) → IsAmong m (checkpoints_in certificate) → IsAuthentic faulty w node.keys m)
+        → is_shown node.keys node.order.f certificate ≡ true → AllIn (λ (m : Signed OrderMessage). IsSaid faulty after (Order m.message)) (checkpoints_in certificate)
+    shown_said certificate authentic right m i =
+        let signed = (at_in (IsVoucher node.keys node.order.f certificate.number certificate.digest) (checkpoints_in certificate) (vouched node.keys node.order.f certificate right).each m i).signed in
+        said_later faulty w after on (Order m.message) (λ k e correct. authentic (as_message Order m) (in_map (as_message Order) (checkpoints_in certificate) m i) k e signed correct)
+
+    adopts_done : (certificate : StableCheckpoint) (files : FileSystem) (table : Table) → ((m : Signed Message) → IsAmong m (checkpoints_in certificate) → IsAuthentic faulty w node.keys m) → DoesQuietly v node know (Unit {0}) (deeds_of node (Adopts certificate files table)) (outcome node (Adopts certificate files table))
+    adopts_done certificate files table authentic =
         let deed = turns.Orders (order.Installs node.keys certificate) in
-        let heard = IsHeard faulty node.keys (histories (After faulty after who v node know (deed ∷ []))) after in
+        let said : is_shown node.keys node.order.f certificate ≡ true → AllIn (λ (m : Signed OrderMessage). IsSaid faulty after (Order m.message)) (checkpoints_in certificate) = shown_said certificate authentic in
         elim (may_adopt node certificate && bytes_eq (node_digest files table) certificate.digest) as (λ b. DoesQuietly v node know (Unit {0}) (cond b (deed ∷ []) []) (cond b (still (adopted node certificate files table)) (still node))) [
           | true ↦ deed_done faulty after who v node know (Unit {0}) NoReply deed (still (adopted node certificate files table)) [] refl tt refl know.kept know.waiting (λ s i. absurd i) (λ m i small. absurd i)
-              (λ right. map_in heard (as_message Checkpoint) certificate.checkpoints (λ x i. checkpoint_heard node.keys (histories (After faulty after who v node know (deed ∷ []))) (as_message Checkpoint x) refl tt refl)) tt tt
+              (λ right. told_heard node.keys (histories (After faulty after who v node know (deed ∷ []))) certificate (said right)) tt tt
           | false ↦ λ goes. nothing_done faulty after who v node know (Unit {0}) NoReply node know.kept know.waiting refl tt
         ]
+
+    settles_done : (certificate : StableCheckpoint) → ((m : Signed Message) → IsAmong m (checkpoints_in certificate) → IsAuthentic faulty w node.keys m) → DoneBy (deeds_of node (Settles certificate)) (outcome node (Settles certificate))
+    settles_done certificate authentic =
+        let deed = turns.Orders (order.Installs node.keys certificate) in
+        let said : is_shown node.keys node.order.f certificate ≡ true → AllIn (λ (m : Signed OrderMessage). IsSaid faulty after (Order m.message)) (checkpoints_in certificate) = shown_said certificate authentic in
+        (elim (may_settle node certificate) as (λ b. may_settle node certificate ≡ b → DoneBy (where_taken (cond (not b) (Some error.NoCertificate) None) (deed ∷ [])) (unless (cond (not b) (Some error.NoCertificate) None) node (still (settling node certificate)))) [
+          | true ↦ λ e. deed_done faulty after who v node know (IsStill node (settling node certificate)) NoReply deed (still (settling node certificate)) [] refl tt refl know.kept know.waiting (λ s i. absurd i) (λ m i small. absurd i)
+              (λ right. told_heard node.keys (histories (After faulty after who v node know (deed ∷ []))) certificate (said right)) tt (refl, refl, settles_last node certificate e)
+          | false ↦ λ e. nothing_is
+        ]) refl
 
     leaves_done : (view : ℕ) → DoneBy (deeds_of node (LeavesFor view)) (outcome node (LeavesFor view))
     leaves_done view =
@@ -397,7 +496,14 @@ module _ (faulty : ℕ → Bool) (after : NodeReplicas) (who : ℕ) where
               let left_is : (order.outcome node.order (order.Leaves view)).now ≡ gone.order = ap (λ (r : Option OrderError). (outcomes.unless r node.order (views.left node.order view)).now) may in
               let said : IsWhollySaid faulty after whole = λ p of. elim of as (λ _. IsSaid faulty after p.message) [
                 | inl same ↦ subst (λ (x : Signed Message). IsSaid faulty after x.message) (sym same) (own_said faulty after who whole (goes whole (inl refl)) (ap principal.Replica know.me))
-                | inr within ↦ map_in (λ (x : Signed Message). IsSaid faulty after x.message) (as_message Order) (messages_in within.0) (λ m i. (proofs within.0 within.1 m i).said (let small = proof_small within.0 m i in omega (arith, small)) (λ four. let small = proof_small within.0 m i in absurd (omega (arith, four, small)))) p within.2
+                | inr within ↦ elim within as (λ _. IsSaid faulty after p.message) [
+                  | inl told ↦ map_in (λ (x : Signed Message). IsSaid faulty after x.message) (as_message Order) (as_checkpoints own.message.checkpoints)
+                      (map_in (λ (m : Signed OrderMessage). IsSaid faulty after (Order m.message)) (as_message Checkpoint) own.message.checkpoints (λ x i.
+                      let m = as_message Checkpoint x in
+                      (stable_holds node.order (IsHeard faulty node.keys (histories u) after) heard m (in_map (as_message Checkpoint) own.message.checkpoints x i)).said (λ four. absurd (omega (arith, four))))) p told
+                  | inr proof ↦ map_in (λ (x : Signed Message). IsSaid faulty after x.message) (as_message Order) (messages_in proof.0)
+                      (λ m i. (proofs proof.0 proof.1 m i).said (λ four. let small = proof_small proof.0 m i in absurd (omega (arith, four, small)))) p proof.2
+                ]
               ] in
               let by = λ (s : State). ordered.changes_by s (ordered_deed s (turns.TimesOut view)) in
               let told_now : IsIn change q.changes = left_in (by (v who).state) (v who).changes change
@@ -458,10 +564,17 @@ module _ (faulty : ℕ → Bool) (after : NodeReplicas) (who : ℕ) where
         let wait = waits node messages in
         subst (λ (n : Node). DoneBy [] (still n)) (sym wait.1)
         (rests (record node { pending = wait.0 }) know.kept (subst (λ (n : Node). ArePassed node.keys n.pending) wait.1 (all_come node messages know.waiting)) refl (refl, refl, refl))
+    step_done written (TakesOffered request) comes = offer_done request
     step_done written (Proposes time) comes = proposes_done time
     step_done written Executes comes = executes_done
     step_done written Fails comes = λ goes. nothing_done faulty after who v node know (Unit {0}) NoReply (record node { files = None }) know.kept know.waiting refl tt
     step_done written Checkpoints comes = tells_done
     step_done written TimesOut comes = leaves_done (next_view node.order)
     step_done written (LeavesFor view) comes = leaves_done view
-    step_done written (Adopts certificate files table) comes = adopts_done certificate files table
+    step_done written ForgetsAnswered comes =
+        rests (outcome node ForgetsAnswered).now know.kept (filter_in (λ (s : Signed model.Request). request_is_signed node.keys s ≡ true) (is_new node.table) node.pending know.waiting) refl (refl, refl, refl)
+    step_done written ForgetsProposed comes =
+        rests (outcome node ForgetsProposed).now know.kept
+        (filter_in (λ (s : Signed model.Request). request_is_signed node.keys s ≡ true) (λ one. not (list_any (is_same one) (open_requests node.order))) node.pending know.waiting) refl (refl, refl, refl)
+    step_done written (Adopts certificate files table) comes = adopts_done certificate files table comes
+    step_done written (Settles certificate) comes = settles_done certificate comes

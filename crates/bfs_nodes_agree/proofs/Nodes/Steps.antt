@@ -42,10 +42,14 @@ use Rattle.bfs_node.specs.Delivering.{after_requests, bytes_delivered, bytes_ref
 use Rattle.bfs_node.specs.Errors.{of_order, of_view}
 use Rattle.bfs_node.specs.Executing.{executed_on, is_next}
 use Rattle.bfs_node.specs.Nodes.{Messages, Node, Outcome}
+use Rattle.bfs_node.specs.Offering.{after_offered, offer_refusal, offered, with_offered}
+use Rattle.bfs_node.specs.declared.offering.Offered.{Offered}
+use Rattle.bfs_node.specs.declared.offering.Offered.TheVariants.{Waits, WaitsAlready, Answered, PassedOver}
 use Rattle.bfs_node.specs.Proposing.{pending_batch, proposed}
+use Rattle.bfs_node.specs.Settling.{may_settle, settling}
 use Rattle.bfs_node.specs.declared.error.NodeError.{NodeError}
 use Rattle.bfs_node.specs.declared.error.NodeError.TheVariants as error
-use Rattle.bfs_nodes_agree.specs.Nodes.Steps.{NodeStep, Delivers, Takes, TakesRequests, Proposes, Executes, Fails, Checkpoints, TimesOut, LeavesFor, Adopts, still, unless, or_still, after_execution, outcome, executed_by, where_taken, begun_deeds, change_deeds, message_deeds, bytes_deeds, checkpoint_deeds, leaving_deeds, deeds_of}
+use Rattle.bfs_nodes_agree.specs.Nodes.Steps.{NodeStep, Delivers, Takes, TakesRequests, TakesOffered, Proposes, Executes, Fails, Checkpoints, TimesOut, LeavesFor, ForgetsAnswered, ForgetsProposed, Adopts, Settles, still, unless, or_still, after_execution, outcome, executed_by, where_taken, begun_deeds, change_deeds, message_deeds, bytes_deeds, checkpoint_deeds, leaving_deeds, deeds_of}
 use Rattle.bfs_nodes_agree.proofs.Nodes.Bounds.{IsBounded, left_bounded}
 use Rattle.bfs_nodes_agree.proofs.Nodes.Executing.{next_executes}
 use Rattle.bfs_model.specs.Server.Limits.{checkpoint_interval, most_number}
@@ -135,6 +139,18 @@ waits node (signed ∷ rest) =
     let first = waits_once node signed signed.message in
     let more = waits (record node { pending = first.0 }) rest in
     (more.0, ap (λ (n : Node). after_requests n rest) first.1 ∙ more.1)
+
+after_offer : (node : Node) (request : Signed model.Request) (it : Offered) → WaitsOn node (after_offered node request it)
+after_offer node request Waits = ((with_request node request).now.pending, refl)
+after_offer node request WaitsAlready = (node.pending, refl)
+after_offer node request (Answered reply) = (node.pending, refl)
+after_offer node request PassedOver = (node.pending, refl)
+
+pub offer_waits : (node : Node) (request : Signed model.Request) → WaitsOn node (outcome node (TakesOffered request)).now
+offer_waits node request = elim (offer_refusal node request) as (λ r. WaitsOn node (unless r node (with_offered node request)).now) [
+  | None ↦ after_offer node request (offered node request)
+  | Some refused ↦ (node.pending, refl)
+]
 
 -- Calls -------------------------------------------------------------------------------------------------------------------
 
@@ -256,10 +272,23 @@ adopts node certificate files table =
       | false ↦ λ e. nothing node.order
     ]) refl
 
+-- a checkpoint that it has executed
+settles : (node : Node) (certificate : StableCheckpoint) → Lead node.order (deeds_of node (Settles certificate)) (outcome node (Settles certificate)).now.order []
+settles node certificate =
+    (elim (may_settle node certificate) as
+    (λ b. may_settle node certificate ≡ b → Lead node.order (where_taken (cond (not b) (Some error.NoCertificate) None) (turns.Orders (order.Installs node.keys certificate) ∷ []))
+    (unless (cond (not b) (Some error.NoCertificate) None) node (still (settling node certificate))).now.order []) [
+      | true ↦ λ e.
+          let proved = (and_parts (is_shown node.keys node.order.f certificate) (nat_lt node.order.low certificate.number && nat_le certificate.number node.order.last) e).0 in
+          one node.order (turns.Orders (order.Installs node.keys certificate)) _ (installs node.order node.keys certificate proved)
+      | false ↦ λ e. nothing node.order
+    ]) refl
+
 pub step_leads : (node : Node) (step : NodeStep) → IsBounded node.order → Lead node.order (deeds_of node step) (outcome node step).now.order (executed_by node step)
 step_leads node (Delivers bytes) bounded = bytes_come node (message_of bytes) bounded
 step_leads node (Takes signed) bounded = message_comes node signed.message signed.auth bounded
 step_leads node (TakesRequests messages) bounded = subst (λ (s : State). Lead node.order [] s []) (sym (ap (λ (n : Node). n.order) (waits node messages).1)) (nothing node.order)
+step_leads node (TakesOffered request) bounded = subst (λ (s : State). Lead node.order [] s []) (sym (ap (λ (n : Node). n.order) (offer_waits node request).1)) (nothing node.order)
 step_leads node (Proposes time) bounded =
     let batch = pending_batch node time in
     one node.order (turns.Orders (order.Proposes node.keys batch)) _ (refused_alike node (proposing.proposal_refusal node.order) (proposing.proposed node.keys node.order batch) (proposed node time) refl)
@@ -268,4 +297,7 @@ step_leads node Fails bounded = nothing node.order
 step_leads node Checkpoints bounded = tells node
 step_leads node TimesOut bounded = leaves node (next_view node.order)
 step_leads node (LeavesFor view) bounded = leaves node view
+step_leads node ForgetsAnswered bounded = nothing node.order
+step_leads node ForgetsProposed bounded = nothing node.order
 step_leads node (Adopts certificate files table) bounded = adopts node certificate files table
+step_leads node (Settles certificate) bounded = settles node certificate

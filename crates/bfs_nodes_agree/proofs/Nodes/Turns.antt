@@ -1,5 +1,5 @@
 -- Whatever nodes do is what turns of their orders do, and these turns may be taken.
-use Rattle.std.proofs.Common.{◌≡◌, ℕ, ◌<◌, ◌==◌, Bool, List, [], ◌∷◌, ◌++◌, None, map, inl, inr, refl, sym, ap, subst, ◌∙◌, arith}
+use Rattle.std.proofs.Common.{◌≡◌, ℕ, ◌==◌, Bool, List, [], ◌∷◌, ◌++◌, None, map, inl, inr, refl, sym, ap, subst, ◌∙◌, arith}
 use Rattle.std.proofs.lemmas.Bool.{cond_both, eqb-true}
 use Rattle.std.proofs.lemmas.List.{length-replicate}
 use Rattle.bfs_auth.specs.Keys.{Keys}
@@ -57,7 +57,7 @@ goes_here r o step before =
     }
 
 -- what holds after the step at the node that takes it, and at all others
-at_each : (P : ℕ → NodeReplica → ordered.OrderReplica → Type 0) (turn : NodeTurn) (w : NodeReplicas) (v : ordered.OrderReplicas)
+pub at_each : (P : ℕ → NodeReplica → ordered.OrderReplica → Type 0) (turn : NodeTurn) (w : NodeReplicas) (v : ordered.OrderReplicas)
     → P turn.who (after_node_step (w turn.who) turn.step) (after_deeds (v turn.who) (deeds_of (w turn.who).node turn.step)) → ((i : ℕ) → P i (w i) (v i))
     → (i : ℕ) → P i (after_node_turn w turn i) (turns.after_view_turns v (map (turn_of turn.who) (deeds_of (w turn.who).node turn.step)) i)
 at_each P turn w v here all i =
@@ -102,10 +102,10 @@ pub record Right (f : ℕ) (faulty : ℕ → Bool) (h : World) (w : NodeReplicas
 abbrev pub AreRight : (f : ℕ) (faulty : ℕ → Bool) → NodeReplicas → ordered.OrderReplicas → Type 0
 AreRight f faulty w v = (i : ℕ) → Right f faulty (histories v) w i (w i) (v i)
 
-sent_on : (w : NodeReplicas) (turn : NodeTurn) → HaveGrown w (after_node_turn w turn)
+pub sent_on : (w : NodeReplicas) (turn : NodeTurn) → HaveGrown w (after_node_turn w turn)
 sent_on w turn k s = both_at w turn (λ i r. IsIn s (w i).sent → IsIn s r.sent) (right_in (outcome (w turn.who).node turn.step).sent (w turn.who).sent s) (λ i j. j) k
 
-sent_here : (w : NodeReplicas) (turn : NodeTurn) (s : Signed Message) → IsIn s (outcome (w turn.who).node turn.step).sent → IsIn s (after_node_turn w turn turn.who).sent
+pub sent_here : (w : NodeReplicas) (turn : NodeTurn) (s : Signed Message) → IsIn s (outcome (w turn.who).node turn.step).sent → IsIn s (after_node_turn w turn turn.who).sent
 sent_here w turn s i = subst (λ (r : NodeReplica). IsIn s r.sent) (sym (here_after w turn)) (left_in (outcome (w turn.who).node turn.step).sent (w turn.who).sent s i)
 
 right_later : (f : ℕ) (faulty : ℕ → Bool) (h g : World) (w after : NodeReplicas) → AreGrown h g → HaveGrown w after → (i : ℕ) (r : NodeReplica) (o : ordered.OrderReplica) → Right f faulty h w i r o → Right f faulty g after i r o
@@ -158,7 +158,7 @@ module _ (same : CallsKeepTheReplica) (views : IsKept HasNoLaterView) (written :
       let own : (m : Signed OrderMessage) → IsIn m o.sent → IsOwn who m → IsHeard faulty node.keys h after m = λ m i is_own. record {
         sent = λ small correct. inl (subst (λ (k : ℕ). Told (h k).sent (header m).tag (header m).sender (header m).view (header m).number (header m).digest) (sym is_own.sender)
             (in_told (headers (next who).sent) (header m) (in_map header (next who).sent m (subst (λ (x : ordered.OrderReplica). IsIn m x.sent) (sym (at_who deeds v who)) i))));
-        said = λ vote goes. own_said faulty after who (as_message Order m) (given m i (goes_as (faults node.keys) node.order.f m right.fit goes)) (ap principal.Replica is_own.sender);
+        said = λ goes. own_said faulty after who (as_message Order m) (given m i (goes_as (faults node.keys) node.order.f m right.fit goes)) (ap principal.Replica is_own.sender);
         whole = is_own.whole;
         checked = sent m i;
       } in

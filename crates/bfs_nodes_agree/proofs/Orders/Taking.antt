@@ -47,7 +47,7 @@ pub record IsPlaced (s : order.State) (h : Header) : Type 0 where
   pub primary : ((h.tag == 2) && not (h.sender == primary s.f h.view)) ≡ false
   pub free : is_there s h ≡ false
 
-placed : (s : order.State) (h : Header) → place_refusal s h ≡ None → IsPlaced s h
+pub placed : (s : order.State) (h : Header) → place_refusal s h ≡ None → IsPlaced s h
 placed s h none =
     let c = passed (is_of_view s h) WrongView _ none in
     let d = passed (is_inside s h) OutsideMarks _ c.1 in
@@ -68,7 +68,7 @@ vote_within s t h tracks at vote =
     within s t h.view h.number tracks (eqb-true h.view s.view view.0) (leb-true s.asked s.view view.1) low.0 min_s low.1
 
 -- a PRE-PREPARE is the primary's
-of_primary : (a b : Bool) → a ≡ true → (a && not b) ≡ false → b ≡ true
+pub of_primary : (a b : Bool) → a ≡ true → (a && not b) ≡ false → b ≡ true
 of_primary true true e h = refl
 of_primary a b e h = absurd cc
 
@@ -88,7 +88,7 @@ answers_may keys s t h tracks in_marks there =
     (λ _. tt))
 
 -- no answer to a CHECKPOINT
-no_answers : (keys : Keys) (s : order.State) (h : Header) → h.tag ≡ 5 → answers_in keys s h ≡ []
+pub no_answers : (keys : Keys) (s : order.State) (h : Header) → h.tag ≡ 5 → answers_in keys s h ≡ []
 no_answers keys s h five =
     let two = not_equal h.tag 2 (λ e. absurd (omega (arith, five, e))) in
     let three = not_equal h.tag 3 (λ e. absurd (omega (arith, five, e))) in

@@ -2,7 +2,7 @@
 use Rattle.std.proofs.Common.{◌≡◌, ℕ, ◌+◌, ◌<◌, ◌≤◌, ◌&&◌, Bool, true, false, cond, List, [], ◌∷◌, ◌++◌, Option, Some, None, ◌⊎◌, inl, inr, refl, sym, ap, subst, ◌∙◌, arith}
 use Rattle.std.specs.Prelude.{nat_lt, nat_le}
 use Rattle.std.specs.List.{list_all}
-use Rattle.std.proofs.lemmas.Bool.{and_parts, and_from, lt-ltb, le-leb, cases_lt, ltb-false}
+use Rattle.std.proofs.lemmas.Bool.{and_parts, and_from, lt-ltb, le-leb, cases_lt, ltb-true, ltb-false}
 use Rattle.bfs_auth.specs.Keys.{Keys}
 use Rattle.bfs_votes.specs.Votes.{Header, SlotsDiffer, is_taken, primary}
 use Rattle.bfs_log.specs.Certificates.{StableCheckpoint, checkpoints_in, is_shown, vouches}
@@ -76,14 +76,17 @@ all_in keys s (p ∷ ps) asked handed high free differ m i =
 
 -- The low mark -------------------------------------------------------------------------------------------------------------
 
--- it rises to a checkpoint that is shown, or is there
-pub raised_low : (keys : Keys) (s : State) (stable : Option StableCheckpoint) → ((c : StableCheckpoint) → stable ≡ Some c → is_shown keys s.f c ≡ true) → number_of stable ≤ (raised keys s stable).low
+-- it rises to a checkpoint that is shown, or is there already
+pub raised_low : (keys : Keys) (s : State) (stable : Option StableCheckpoint) → ((c : StableCheckpoint) → stable ≡ Some c → (is_shown keys s.f c ≡ true) ⊎ (c.number ≤ s.low)) → number_of stable ≤ (raised keys s stable).low
 raised_low keys s None shown = omega arith
 raised_low keys s (Some c) shown =
     let n = c.number in
     let risen : State = record s { low = n; log = certified s.log c } in
     (elim (nat_lt s.low n) as (λ (b : Bool). nat_lt s.low n ≡ b → n ≤ (cond (b && is_shown keys s.f c) risen s).low) [
-      | true ↦ λ _. subst (λ (b : Bool). n ≤ (cond b risen s).low) (sym (shown c refl)) (omega arith)
+      | true ↦ λ is. elim (shown c refl) [
+        | inl shows ↦ subst (λ (b : Bool). n ≤ (cond b risen s).low) (sym shows) (omega arith)
+        | inr there ↦ let lt = ltb-true s.low n is in absurd (omega (arith, lt, there))
+      ]
       | false ↦ λ is. ltb-false s.low n is
     ]) refl
 

@@ -38,10 +38,10 @@ pub record IsFollowedAt (f : ℕ) (r : OrderReplica) (p : History) (i : ℕ) : T
   pub same_f : r.state.f ≡ f
   pub same_me : r.state.me ≡ i
 
-abbrev IsFollowed : (f : ℕ) → OrderReplicas → World → Type 0
+abbrev pub IsFollowed : (f : ℕ) → OrderReplicas → World → Type 0
 IsFollowed f w t = (i : ℕ) → IsFollowedAt f (w i) (t i) i
 
-grows_there : (r : OrderReplica) (p q : History) → Follows r q → Grows (record p { sent = headers r.sent; offers = headers r.offers; changes = r.changes }) q
+pub grows_there : (r : OrderReplica) (p q : History) → Follows r q → Grows (record p { sent = headers r.sent; offers = headers r.offers; changes = r.changes }) q
 grows_there r p q follows =
     record {
       sent = λ t k v n d x. sym (follows.sent (says t k v n d)) ∙ x;
@@ -77,7 +77,7 @@ followed_on f w t i r p all at j = (elim (j == i) as (λ b. (j == i) ≡ b → I
   | false ↦ λ _. all j
 ]) refl
 
-all_turns : (f : ℕ) (faulty : ℕ → Bool) → DeedsAreMoves → CallsKeepTheReplica → (turns : List OrderTurn) (w : OrderReplicas) (t : World) → IsFollowed f w t → MayTakeOrderTurns faulty w turns
+pub all_turns : (f : ℕ) (faulty : ℕ → Bool) → DeedsAreMoves → CallsKeepTheReplica → (turns : List OrderTurn) (w : OrderReplicas) (t : World) → IsFollowed f w t → MayTakeOrderTurns faulty w turns
     → (steps : List Step) × AreAllowed f faulty t steps × IsFollowed f (after_order_turns w turns) (after_steps f t steps)
 all_turns f faulty moved same [] w t all may = ([], tt, all)
 all_turns f faulty moved same (turn ∷ turns) w t all may =
@@ -95,7 +95,7 @@ all_turns f faulty moved same (turn ∷ turns) w t all may =
       subst (λ (x : World). IsFollowed f (after_order_turns (after_order_turn w turn) turns) x) (sym (after_both f t (steps_of i got.0) rest.0)) rest.2,
     )
 
-new_followed : (f : ℕ) → IsFollowed f (new_order_replicas f) new_world
+pub new_followed : (f : ℕ) → IsFollowed f (new_order_replicas f) new_world
 new_followed f i =
     record {
       follows = record {

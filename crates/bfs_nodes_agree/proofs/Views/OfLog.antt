@@ -1,24 +1,42 @@
--- Certificates that are made of a log: its messages, and they are proved.
-use Rattle.std.proofs.Common.{◌≡◌, ℕ, ◌<◌, ◌≤◌, ◌==◌, true, ◌||◌, sym, ap, subst, ◌∙◌, arith}
-use Rattle.std.proofs.lemmas.Bool.{and_parts}
+-- Certificates that are made of a log: its messages, and those of batches are proved.
+use Rattle.std.proofs.Common.{◌≡◌, ℕ, ◌<◌, ◌≤◌, ◌==◌, true, ◌||◌, List, [], Some, sym, ap, subst, ◌∙◌, arith}
+use Rattle.std.proofs.lemmas.Bool.{and_parts, cond_both}
 use Rattle.bfs_votes.specs.Votes.{Header, is_backed, primary, told}
-use Rattle.bfs_log.specs.Certificates.{is_proved, messages_in, view_in}
+use Rattle.bfs_log.specs.Certificates.{as_checkpoints, is_proved, messages_in, view_in}
 use Rattle.bfs_log.specs.Headers.{header}
 use Rattle.bfs_log.specs.Logs.{Log}
 use Rattle.bfs_messages.specs.Messages as model
 use Rattle.bfs_messages.specs.Signing.{as_message}
 use Rattle.bfs_messages.specs.declared.signed.Signed.{Signed}
 use Rattle.bfs_messages.specs.declared.order_messages.OrderMessage.{OrderMessage}
-use Rattle.bfs_messages.specs.declared.order_messages.OrderMessage.TheVariants.{PrePrepare}
+use Rattle.bfs_messages.specs.declared.order_messages.OrderMessage.TheVariants.{PrePrepare, Checkpoint}
 use Rattle.bfs_order.specs.Laws.Logs.{HasNoLaterView}
 use Rattle.bfs_order.specs.Replica.States.{State, known}
 use Rattle.bfs_agreement.specs.Histories.{IsIn}
-use Rattle.bfs_nodes_agree.proofs.Orders.Lists.{AllIn, filter_in, more_in}
-use Rattle.bfs_log.specs.Showing.{backs}
-use Rattle.bfs_view_change.specs.Changes.Making.{certificates, change_of}
+use Rattle.bfs_nodes_agree.proofs.Orders.Lists.{AllIn, filter_in, more_in, none_in, out_of_filter_map, some_is}
+use Rattle.bfs_log.specs.Showing.{backs, checkpoint_in, checkpoints, checkpoints_of, is_of}
+use Rattle.bfs_view_change.specs.Changes.Making.{certificates, change_of, stable_checkpoints}
 use Rattle.bfs_view_change.proofs.Public.{Made, backed_alike, in_window, messages_made}
 use Rattle.bfs_nodes_agree.specs.Views.Changes.{HasProofs}
-use Rattle.bfs_nodes_agree.proofs.Views.Lists.{at_in, contains, in_map, is_in}
+use Rattle.bfs_nodes_agree.proofs.Views.Lists.{at_in, contains, in_map, is_in, map_in}
+
+-- Of its stable number ------------------------------------------------------------------------------------------------------
+
+checkpoint_is : (m : OrderMessage) (auth : List (List ℕ)) (x : Signed model.Checkpoint) → checkpoint_in m auth ≡ Some x → record { message = m; auth = auth } ≡ as_message Checkpoint x
+checkpoint_is (Checkpoint c) auth x e = ap (as_message Checkpoint) (some_is (record { message = c; auth = auth }) x e)
+checkpoint_is other auth x e = absurd cc
+
+-- what holds of each message of the log holds of its CHECKPOINTs
+told_holds : (P : Signed OrderMessage → Type 0) (log : Log) → AllIn P log → AllIn P (as_checkpoints (checkpoints log))
+told_holds P log all = map_in P (as_message Checkpoint) (checkpoints log) (λ x i.
+    let from = out_of_filter_map (λ (m : Signed OrderMessage). checkpoint_in m.message m.auth) log x i in
+    subst P (checkpoint_is from.0.message from.0.auth x from.2) (all from.0 from.1))
+
+pub stable_holds : (s : State) (P : Signed OrderMessage → Type 0) → AllIn P s.log → AllIn P (as_checkpoints (stable_checkpoints s))
+stable_holds s P all = cond_both (s.low == 0) [] (checkpoints_of s.f s.low s.log) (λ (l : List (Signed model.Checkpoint)). AllIn P (as_checkpoints l)) (λ _. none_in P)
+    (λ _. told_holds P _ (filter_in P (λ m. is_of s.f s.low (header m)) s.log all))
+
+-- Of batches ----------------------------------------------------------------------------------------------------------------
 
 module _ (s : State) (c : model.PreparedBatch) (i : IsIn c (certificates s)) where
   made : (n : ℕ) × Made s n c

@@ -21,7 +21,7 @@ may_do faulty made valid w s (ChangesView keys view changes handed) windowed may
     let chs = messages_of changes in
     (right.0, subst (λ (min_s : ℕ). IsValidNewView s.f faulty w (new_view view min_s handed (map told_change chs))) (sym (latest_is chs)) right.1)
 
-abbrev AreWindowed : OrderReplicas → Type 0
+abbrev pub AreWindowed : OrderReplicas → Type 0
 AreWindowed w = (i : ℕ) → IsWindowed (w i).state
 
 windowed_on : IsKept IsWindowed → (w : OrderReplicas) (turn : ordered.OrderTurn) → AreWindowed w → AreWindowed (after_order_turn w turn)
@@ -34,7 +34,7 @@ windowed_on kept w turn all j = go (j == turn.who)
     go true = kept.1 (w turn.who).state (call_of turn.deed) (all turn.who)
     go false = all j
 
-ordered_turns : (faulty : ℕ → Bool) → IsKept IsWindowed → MadeTellsWhatIsPrepared → RightNewViewsAreValid → (turns : List ViewTurn) (w : OrderReplicas) → AreWindowed w → MayTakeViewTurns faulty w turns
+pub ordered_turns : (faulty : ℕ → Bool) → IsKept IsWindowed → MadeTellsWhatIsPrepared → RightNewViewsAreValid → (turns : List ViewTurn) (w : OrderReplicas) → AreWindowed w → MayTakeViewTurns faulty w turns
     → (list : List ordered.OrderTurn) × ordered.MayTakeOrderTurns faulty w list × (ordered.after_order_turns w list ≡ after_view_turns w turns)
 ordered_turns faulty kept made valid [] w all may = ([], tt, refl)
 ordered_turns faulty kept made valid (turn ∷ turns) w all may =

@@ -1,5 +1,5 @@
 -- What replicas answer, and for whom they execute.
-use Rattle.std.specs.Prelude.{◌≡◌, ℕ, suc, Bool, true, List}
+use Rattle.std.specs.Prelude.{◌≡◌, ℕ, suc, Bool, true, List, Some, ◌⊎◌}
 use Rattle.bfs_auth.specs.Keys.{Keys}
 use Rattle.bfs_messages.specs.Messages as model
 use Rattle.bfs_messages.specs.Messages.{Batch, requests_of}
@@ -9,13 +9,14 @@ use Rattle.bfs_messages.specs.declared.message.Message.{Message}
 use Rattle.bfs_messages.specs.declared.message.Message.TheVariants.{Reply}
 use Rattle.bfs_outcome.specs.Outcome.{outcome}
 use Rattle.bfs_replies.specs.Answers.{Answer}
+use Rattle.bfs_replies.specs.Tables.{Last, last_of}
 use Rattle.bfs_agreement.specs.Histories.{IsIn}
 use Rattle.bfs_nodes_agree.specs.Nodes.Laws.{Executed}
 use Rattle.bfs_nodes_agree.specs.Nodes.Premises.{AreAuthentic, AreShared}
 use Rattle.bfs_nodes_agree.specs.Nodes.Replicas.{Beginning, Keyring, NodeReplica, NodeTurn, Standing, after_node_turns, new_node_replicas}
 
 -- a REPLY gives the answer to a request in a batch that the replica executed, on a state that it had reached
-pub record Answers (r : NodeReplica) (reply : model.Reply) : Type 0 where
+pub record AnswersNow (r : NodeReplica) (reply : model.Reply) : Type 0 where
   pub before : Standing
   pub reached : IsIn before r.reached
   pub batch : Batch
@@ -25,6 +26,18 @@ pub record Answers (r : NodeReplica) (reply : model.Reply) : Type 0 where
   pub client : reply.client ≡ answer.client
   pub timestamp : reply.timestamp ≡ answer.timestamp
   pub result : reply.result ≡ answer.reply
+
+-- it gives the last reply to its client once more, as a state has it that the replica had reached, by executing or by adopting
+pub record AnswersAgain (r : NodeReplica) (reply : model.Reply) : Type 0 where
+  pub standing : Standing
+  pub reached : IsIn standing r.reached
+  pub last : Last
+  pub found : last_of standing.table reply.client ≡ Some last
+  pub timestamp : reply.timestamp ≡ last.timestamp
+  pub result : reply.result ≡ last.reply
+
+abbrev pub Answers : NodeReplica → model.Reply → Type 0
+Answers r reply = AnswersNow r reply ⊎ AnswersAgain r reply
 
 -- it has been in a state of that number, which is above 0
 pub record HasCome (r : NodeReplica) (number : ℕ) : Type 0 where

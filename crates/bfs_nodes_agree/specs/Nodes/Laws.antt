@@ -1,8 +1,6 @@
 -- The statements that are proved of the definitions: contracts of functions of src/laws.rt, which do nothing.
-use Rattle.std.specs.Prelude.{◌≡◌, ℕ, zero, suc, Bool, true, false, List, Some, None, nat_le}
-use Rattle.std.specs.List.{list_all}
+use Rattle.std.specs.Prelude.{◌≡◌, ◌⊎◌, ℕ, zero, suc, Bool, true, false, List, Some, None}
 use Rattle.bfs_auth.specs.Keys.{Keys}
-use Rattle.bfs_model.specs.Server.Limits.{most_number}
 use Rattle.bfs_model.specs.Server.Tree.{FileSystem}
 use Rattle.bfs_log.specs.Certificates.{faults}
 use Rattle.bfs_log.specs.Logs.{batch_in}
@@ -10,9 +8,11 @@ use Rattle.bfs_messages.specs.Limits.{FitsNewView}
 use Rattle.bfs_messages.specs.Messages as model
 use Rattle.bfs_messages.specs.Messages.{Batch}
 use Rattle.bfs_messages.specs.declared.signed.Signed.{Signed}
+use Rattle.bfs_messages.specs.Signing.{as_message}
 use Rattle.bfs_messages.specs.declared.message.Message.{Message}
+use Rattle.bfs_messages.specs.declared.message.Message.TheVariants.{ViewChange}
 use Rattle.bfs_messages.specs.declared.order_messages.OrderMessage.{OrderMessage}
-use Rattle.bfs_node.specs.Changing.{begun, may_begin, own_new_view, view_refusal, with_new_view}
+use Rattle.bfs_node.specs.Changing.{view_refusal, with_new_view}
 use Rattle.bfs_node.specs.Nodes.{Node}
 use Rattle.bfs_order.specs.Laws.Logs.{HasNoLaterView}
 use Rattle.bfs_order.specs.Replica.Proposing.{batch_digest}
@@ -26,8 +26,9 @@ use Rattle.bfs_view_change.specs.Changes.NewViews.{latest_checkpoint}
 use Rattle.bfs_view_change.specs.Changes.ViewChanges.{messages_of, valid_view_change}
 use Rattle.bfs_nodes_agree.specs.Views.Laws.{EntersWhole}
 use Rattle.bfs_nodes_agree.specs.Views.Replicas as turns
-use Rattle.bfs_nodes_agree.specs.Nodes.Premises.{AreAuthentic, AreFair, AreSame, AreShared, IsWhollyFair, StatesDontCollide, standing_digest}
+use Rattle.bfs_nodes_agree.specs.Nodes.Premises.{AreAuthentic, AreFair, AreSame, AreShared, Comes, IsAny, IsWhollyFair, StatesDontCollide, standing_digest}
 use Rattle.bfs_nodes_agree.specs.Nodes.Replicas.{Beginning, Keyring, NodeReplica, NodeReplicas, Standing, NodeTurn, new_node_replicas, after_node_turns, ordered_turns}
+use Rattle.bfs_nodes_agree.specs.Nodes.Steps.{NodeStep, outcome as result}
 
 -- Nodes and their orders ----------------------------------------------------------------------------------------------------
 
@@ -52,11 +53,24 @@ NewViewsAreTakenWhole = (node : Node) (s : Signed model.NewView) → faults node
     → FitsNewView s.message → view_refusal node s ≡ None
     → EntersWhole (number_of (latest_checkpoint (messages_of s.message.changes))) s.message.proposals (with_new_view node s).now.order
 
--- so does the primary that begins it, where the VIEW-CHANGEs that it keeps are valid by its own keys
-abbrev pub BegunViewsAreTakenWhole : Type 0
-BegunViewsAreTakenWhole = (node : Node) → faults node.keys ≡ node.order.f → HasNoLaterView node.order → nat_le node.order.asked most_number ≡ true
-    → may_begin node ≡ true → list_all (valid_view_change node.keys) (changes_for node.order.asked node.changes) ≡ true
-    → EntersWhole (number_of (latest_checkpoint (messages_of (changes_for node.order.asked node.changes)))) (own_new_view node).proposals (begun node).now.order
+-- it has so entered its view by the NEW-VIEW that it keeps
+pub record HasEnteredWhole (now : Node) : Type 0 where
+  pub new : Signed model.NewView
+  pub kept : now.new_view ≡ Some new
+  pub of_view : new.message.view ≡ now.order.view
+  pub whole : EntersWhole (number_of (latest_checkpoint (messages_of new.message.changes))) new.message.proposals now.order
+
+-- so does a node by each step by which it enters a view, of another or its own, where it has come to by whatever steps
+abbrev pub ViewsAreEnteredWhole : Type 0
+ViewsAreEnteredWhole = (f : ℕ) (keys : Keyring) (start : Beginning) (steps : List NodeTurn) (i : ℕ) (step : NodeStep) → AreShared f keys → Comes IsAny step
+    → let node = (after_node_turns (new_node_replicas f keys start) steps i).node in
+    ((result node step).now.order.view ≡ node.order.view) ⊎ HasEnteredWhole (result node step).now
+
+-- each VIEW-CHANGE that it keeps for a view is valid by its keys, or is its own, which it has sent
+abbrev pub WhatIsKeptIsValid : Type 0
+WhatIsKeptIsValid = (f : ℕ) (keys : Keyring) (start : Beginning) (steps : List NodeTurn) (i view : ℕ) (s : Signed model.ViewChange) → AreShared f keys
+    → let r = after_node_turns (new_node_replicas f keys start) steps i in
+    IsIn s (changes_for view r.node.changes) → (valid_view_change (keys i) s ≡ true) ⊎ IsIn (as_message ViewChange s) r.sent
 
 -- Agreement -----------------------------------------------------------------------------------------------------------------
 

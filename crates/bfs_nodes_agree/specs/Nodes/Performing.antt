@@ -8,7 +8,7 @@ use Rattle.bfs_node.specs.Delivering.{SomeCame}
 use Rattle.bfs_node.specs.Nodes.{Messages, Node}
 use Rattle.bfs_node.specs.declared.error.NodeError.{NodeError}
 use Rattle.bfs_node.specs.declared.error.NodeError.TheVariants.{Memory}
-use Rattle.bfs_nodes_agree.specs.Nodes.Steps.{NodeStep, Delivers, Takes, TakesRequests, Proposes, Executes, Fails, Checkpoints, TimesOut, LeavesFor, Adopts, outcome, still}
+use Rattle.bfs_nodes_agree.specs.Nodes.Steps.{NodeStep, Delivers, Takes, TakesRequests, TakesOffered, Proposes, Executes, Fails, Checkpoints, TimesOut, LeavesFor, ForgetsAnswered, ForgetsProposed, Adopts, Settles, outcome, still}
 use Rattle.bfs_nodes_agree.specs.declared.node_calls.performing.NodeCall.{NodeCall}
 use Rattle.bfs_nodes_agree.specs.declared.node_calls.performing.NodeCall.TheVariants as code
 use Rattle.bfs_nodes_agree.specs.declared.node_calls.performing.Sent.{Sent}
@@ -41,9 +41,13 @@ Performs node (code.Deliver bytes) result now = DoesOrStays node (Delivers bytes
 Performs node (code.Take signed) result now = DoesOrStays node (Takes signed) result now
 Performs node (code.TakeRequests messages) result now = Does (SomeCame node messages.now) node (TakesRequests messages.now) result now
 Performs node (code.TakeRequestsFor time messages) result now = Does (SomeCame node messages.now) node (TakesRequests messages.now) result now
+Performs node (code.Offer request) result now = DoesOrStays node (TakesOffered request) result now
 Performs node (code.Propose time) result now = DoesOrStays node (Proposes time) result now
 Performs node code.Execute result now = Does (λ left. left ≡ (outcome node Fails).now) node Executes result now
 Performs node code.Checkpoint result now = DoesOrStays node Checkpoints result now
 Performs node code.TimeOut result now = DoesOrStays node TimesOut result now
 Performs node (code.LeaveFor view) result now = DoesOrStays node (LeavesFor view) result now
+Performs node code.ForgetAnswered result now = DoesOrStays node ForgetsAnswered result now
+Performs node code.ForgetProposed result now = DoesOrStays node ForgetsProposed result now
 Performs node (code.Adopt text certificate) result now = AdoptsSpelled node text.now certificate.now result now
+Performs node (code.Settle certificate) result now = DoesOrStays node (Settles certificate.now) result now

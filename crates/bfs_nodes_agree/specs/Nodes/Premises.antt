@@ -5,7 +5,7 @@ use Rattle.bfs_auth.specs.Keys.{Keys}
 use Rattle.bfs_auth.specs.declared.principals.Principal.TheVariants as principal
 use Rattle.bfs_model.specs.Server.Stored.{AreBytes}
 use Rattle.bfs_checkpoints.specs.Texts.{node_digest}
-use Rattle.bfs_log.specs.Certificates.{checkpoints_in, messages_in}
+use Rattle.bfs_log.specs.Certificates.{as_checkpoints, checkpoints_in, messages_in}
 use Rattle.bfs_log.specs.Logs.{Log, as_messages}
 use Rattle.bfs_messages.specs.Fits.{FitsMessage}
 use Rattle.bfs_messages.specs.Messages as model
@@ -20,7 +20,7 @@ use Rattle.bfs_agreement.specs.Histories.{IsIn}
 use Rattle.bfs_order.specs.Replica.Views.{as_proposals}
 use Rattle.bfs_node.specs.Nodes.{Messages}
 use Rattle.bfs_nodes_agree.specs.Nodes.Replicas.{Keyring, NodeReplicas, Standing, NodeTurn, after_node_turn}
-use Rattle.bfs_nodes_agree.specs.Nodes.Steps.{NodeStep, Delivers, Takes, Adopts}
+use Rattle.bfs_nodes_agree.specs.Nodes.Steps.{NodeStep, Delivers, Takes, Adopts, Settles}
 
 -- Keys ------------------------------------------------------------------------------------------------------------------------
 
@@ -34,9 +34,9 @@ AreShared f keys = (k : ℕ) → length (keys k).replicas ≡ replicas f
 abbrev pub IsAmong : Signed Message → Log → Type 0
 IsAmong p messages = IsIn p (as_messages messages)
 
--- a message of a VIEW-CHANGE's certificates
+-- a message of a VIEW-CHANGE's certificates: a CHECKPOINT of its stable number, or one by which a batch was prepared
 abbrev pub IsProofIn : Signed Message → model.ViewChange → Type 0
-IsProofIn p change = (c : model.PreparedBatch) × IsIn c change.certificates × IsAmong p (messages_in c)
+IsProofIn p change = IsAmong p (as_checkpoints change.checkpoints) ⊎ ((c : model.PreparedBatch) × IsIn c change.certificates × IsAmong p (messages_in c))
 
 -- the VIEW-CHANGE, or a message of its certificates
 abbrev pub IsOfChange : Signed Message → Signed model.ViewChange → Type 0
@@ -61,7 +61,12 @@ abbrev pub Comes : (Signed Message → Type 0) → NodeStep → Type 0
 Comes P (Delivers bytes) = AreBytes bytes × ((m : Signed Message) → message_of bytes ≡ Some m → IsWholly P m)
 Comes P (Takes signed) = FitsMessage signed.message × IsWholly P signed
 Comes P (Adopts certificate files table) = (m : Signed Message) → IsAmong m (checkpoints_in certificate) → P m
+Comes P (Settles certificate) = (m : Signed Message) → IsAmong m (checkpoints_in certificate) → P m
 Comes P _ = Unit {0}
+
+-- where nothing more is asked of it
+abbrev pub IsAny : Signed Message → Type 0
+IsAny m = Unit {0}
 
 -- each where it comes, by the keys of the node that it comes to
 abbrev pub EachComes : (NodeReplicas → Keys → Signed Message → Type 0) → NodeReplicas → List NodeTurn → Type 0

@@ -23,8 +23,11 @@ use Rattle.bfs_node.specs.Changing.{change_in, new_view_in, change_refusal, lead
 use Rattle.bfs_node.specs.Checkpoints.{checkpoint, checkpoint_refusal}
 use Rattle.bfs_node.specs.Delivering.{after_requests, bytes_delivered, bytes_refusal, delivered, delivery_refusal, order_in}
 use Rattle.bfs_node.specs.Executing.{execution, is_ready}
+use Rattle.bfs_node.specs.Forgetting.{without_answered, without_proposed}
 use Rattle.bfs_node.specs.Nodes.{Messages, Node, Outcome}
+use Rattle.bfs_node.specs.Offering.{offer_refusal, with_offered}
 use Rattle.bfs_node.specs.Proposing.{pending_batch, proposal_refusal, proposed}
+use Rattle.bfs_node.specs.Settling.{settling, settling_refusal}
 use Rattle.bfs_node.specs.declared.error.NodeError.{NodeError}
 
 -- a call of a node
@@ -34,6 +37,8 @@ pub data NodeStep : Type 0 where
   Takes : Signed Message → NodeStep
   -- the REQUESTs among messages come, one after another
   TakesRequests : Messages → NodeStep
+  -- a REQUEST comes, which waits only if it is new
+  TakesOffered : Signed model.Request → NodeStep
   Proposes : Time → NodeStep
   Executes : NodeStep
   -- memory runs out while a batch is executed
@@ -42,8 +47,13 @@ pub data NodeStep : Type 0 where
   TimesOut : NodeStep
   -- it leaves for that view
   LeavesFor : (view : ℕ) → NodeStep
+  -- what was executed waits no longer, or what it has proposed in its view
+  ForgetsAnswered : NodeStep
+  ForgetsProposed : NodeStep
   -- with the file system and the table that a text spells
   Adopts : (certificate : StableCheckpoint) → FileSystem → Table → NodeStep
+  -- by what another one shows, it settles a checkpoint that it has executed
+  Settles : (certificate : StableCheckpoint) → NodeStep
 
 -- What it leaves ------------------------------------------------------------------------------------------------------------
 
@@ -68,14 +78,18 @@ abbrev pub outcome : Node → NodeStep → Outcome
 outcome node (Delivers bytes) = unless (bytes_refusal node (message_of bytes)) node (bytes_delivered node (message_of bytes))
 outcome node (Takes signed) = unless (delivery_refusal node signed) node (delivered node signed)
 outcome node (TakesRequests messages) = still (after_requests node messages)
+outcome node (TakesOffered request) = unless (offer_refusal node request) node (with_offered node request)
 outcome node (Proposes time) = unless (proposal_refusal node) node (proposed node time)
 outcome node Executes = after_execution node (execution node)
 outcome node Fails = still (record node { files = None })
 outcome node Checkpoints = unless (checkpoint_refusal node) node (or_still node (checkpoint node))
 outcome node TimesOut = unless (timeout_refusal node) node (timed_out node)
 outcome node (LeavesFor view) = unless (leaving_refusal node view) node (left_for node view)
+outcome node ForgetsAnswered = still (without_answered node)
+outcome node ForgetsProposed = still (without_proposed node)
 outcome node (Adopts certificate files table) =
     if may_adopt node certificate && bytes_eq (node_digest files table) certificate.digest then still (adopted node certificate files table) else still node
+outcome node (Settles certificate) = unless (settling_refusal node certificate) node (still (settling node certificate))
 
 -- the PRE-PREPARE of the batch that it executes
 abbrev pub executed_by : Node → NodeStep → Log
@@ -129,4 +143,5 @@ deeds_of node TimesOut = deeds_for node (next_view node.order)
 deeds_of node (LeavesFor view) = deeds_for node view
 deeds_of node (Adopts certificate files table) =
     if may_adopt node certificate && bytes_eq (node_digest files table) certificate.digest then turns.Orders (order.Installs node.keys certificate) ∷ [] else []
+deeds_of node (Settles certificate) = where_taken (settling_refusal node certificate) (turns.Orders (order.Installs node.keys certificate) ∷ [])
 deeds_of node _ = []

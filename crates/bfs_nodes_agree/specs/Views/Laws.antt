@@ -1,6 +1,5 @@
 -- The statements that are proved of the definitions: contracts of functions of src/laws.rt, which do nothing.
 use Rattle.std.specs.Prelude.{◌≡◌, ◌≤◌, ◌⊎◌, ℕ, Bool, true, List, map, None}
-use Rattle.std.specs.List.{list_all}
 use Rattle.bfs_auth.specs.Keys.{Keys}
 use Rattle.bfs_votes.specs.Votes.{SlotsDiffer}
 use Rattle.bfs_log.specs.Certificates.{faults}
@@ -18,6 +17,7 @@ use Rattle.bfs_view_change.specs.Changes.Choice.{choice}
 use Rattle.bfs_view_change.specs.Changes.Making.{change_of}
 use Rattle.bfs_view_change.specs.Changes.NewViews.{latest_checkpoint}
 use Rattle.bfs_view_change.specs.Changes.ViewChanges.{messages_of, valid_view_change}
+use Rattle.bfs_view_change.specs.Inside.Near.{IsNear}
 use Rattle.bfs_nodes_agree.specs.Views.Changes.{proposal_of, told_change}
 use Rattle.bfs_nodes_agree.specs.Views.Replicas.{IsRightNewView, ViewTurn, after_view_turns, MayTakeViewTurns}
 
@@ -39,11 +39,15 @@ pub record EntersWhole (min_s : ℕ) (handed : List (Signed model.PrePrepare)) (
   -- and all of it in the log, but for what is stable
   pub taken : (m : Signed OrderMessage) → IsIn m (as_proposals handed) → ((header m).number ≤ now.low) ⊎ IsIn m now.log
 
--- so does each that enters by a NEW-VIEW whose VIEW-CHANGEs are valid, and whose PRE-PREPAREs are what they choose
+-- it is valid by these keys, or tells no stable number above a low mark, and certificates of the window above it, as a replica's own does
+abbrev pub IsSound : Keys → (low : ℕ) → Signed model.ViewChange → Type 0
+IsSound keys low s = (valid_view_change keys s ≡ true) ⊎ (IsNear s.message × (s.message.stable ≤ low))
+
+-- so does each that enters by a NEW-VIEW whose VIEW-CHANGEs are sound, and whose PRE-PREPAREs are what they choose
 abbrev pub NothingIsPassedOver : Type 0
 NothingIsPassedOver = (keys : Keys) (s : State) (view : ℕ) (changes : List (Signed model.ViewChange)) (handed : List (Signed model.PrePrepare))
     → faults keys ≡ s.f → HasNoLaterView s → entering_refusal s view ≡ None
-    → list_all (valid_view_change keys) changes ≡ true → headers (as_proposals handed) ≡ map (proposal_of s.f view) (choice (messages_of changes)).chosen
+    → ((change : Signed model.ViewChange) → IsIn change changes → IsSound keys s.low change) → headers (as_proposals handed) ≡ map (proposal_of s.f view) (choice (messages_of changes)).chosen
     → EntersWhole (number_of (latest_checkpoint (messages_of changes))) handed (entered keys s view (latest_checkpoint (messages_of changes)) handed).now
 
 -- over every list of calls and deliveries, any two that execute a batch for a number, in whatever views, execute one digest

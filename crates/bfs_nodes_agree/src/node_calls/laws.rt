@@ -1,7 +1,7 @@
 // Agreement of nodes. The bodies do nothing: what is said is the contracts.
 ghost use Rattle.bfs_nodes_agree.specs.Nodes.Answers.{NodesAnswer};
-ghost use Rattle.bfs_nodes_agree.specs.Nodes.Laws.{BegunViewsAreTakenWhole, FairIsAuthentic, NewViewsAreTakenWhole, NodesAgree, StepsAreTurns, TurnsMayBeTaken, WhatIsSentIsFair};
-ghost use Rattle.bfs_nodes_agree.specs.Nodes.Resending.{WhatIsResentWasSent};
+ghost use Rattle.bfs_nodes_agree.specs.Nodes.Laws.{FairIsAuthentic, NewViewsAreTakenWhole, NodesAgree, StepsAreTurns, TurnsMayBeTaken, ViewsAreEnteredWhole, WhatIsKeptIsValid, WhatIsSentIsFair};
+ghost use Rattle.bfs_nodes_agree.specs.Nodes.Resending.{WhatIsResentIsFair, WhatIsResentWasSent};
 
 use crate::view_calls::laws::{nothing_is_passed_over, replicas_agree};
 use bfs_codec::{batches_with_one_text, message_was_written};
@@ -27,13 +27,17 @@ pub fn turns_may_be_taken()
 }
 
 /// A node that enters a view has all PRE-PREPAREs of its NEW-VIEW in its log then, but for numbers that are stable there, and its low mark is not
-/// below the number that the view begins behind: a backup by any NEW-VIEW that it takes, the primary by VIEW-CHANGEs that are valid by its own
-/// keys, as those are that it keeps.
+/// below the number that the view begins behind: by any NEW-VIEW that it takes, and over every list of calls by each step by which it enters a
+/// view, whether it leads it or not. For each VIEW-CHANGE that it keeps is valid by its keys, or its own.
 pub fn new_views_are_taken_whole()
     ensures taken { NewViewsAreTakenWhole }
-    ensures begun { BegunViewsAreTakenWhole }
+    ensures entered { ViewsAreEnteredWhole }
+    ensures kept { WhatIsKeptIsValid }
 {
     nothing_is_passed_over();
+    a_replica_stays_itself();
+    views_are_entered();
+    message_was_written();
 }
 
 /// Over every list of calls of 3f + 1 nodes and deliveries of bytes to them, of which at most f are faulty: any two correct ones that execute
@@ -77,10 +81,12 @@ pub fn nodes_answer()
     batches_with_one_text();
 }
 
-/// What a node gives again it has sent before: a message that says the same, to the letter but for the batch of a PRE-PREPARE and for keyed hashes. It holds of each
-/// correct node, whoever the other one is, where there are others.
+/// What a node gives again it has sent before: a message that says the same, to the letter but for the batch of a PRE-PREPARE and for keyed hashes.
+/// Or it is the NEW-VIEW by which it has entered its view, which it has sent or which came to it. It may be given to any node, with all that is
+/// within it. It holds of each correct node, whoever the other one is, where there are others.
 pub fn what_is_resent_was_sent()
-    ensures { WhatIsResentWasSent }
+    ensures said { WhatIsResentWasSent }
+    ensures fair { WhatIsResentIsFair }
 {
     a_replica_stays_itself();
     views_are_entered();

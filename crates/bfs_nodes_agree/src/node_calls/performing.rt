@@ -1,9 +1,11 @@
 // A call of a node as a value: what agreement is proved of is what the code does.
-ghost use Rattle.bfs_nodes_agree.specs.Nodes.Performing.{Performs};
+ghost use Rattle.std.specs.Prelude.{◌≡◌};
+ghost use Rattle.bfs_node.specs.Offering.{sent_for};
+ghost use Rattle.bfs_nodes_agree.specs.Nodes.Performing.{Performs, messages_in};
 
 use bfs_log::StableCheckpoint;
-use bfs_messages::{Message, Signed};
-use bfs_node::{Executor, Gate, Node, NodeError};
+use bfs_messages::{Message, Request, Signed};
+use bfs_node::{Executor, Gate, Node, NodeError, Offered};
 use bfs_types::Time;
 use std::sync::Wait;
 use std::thread::Threads;
@@ -19,6 +21,8 @@ pub enum NodeCall<'a> {
     TakeRequests(&'a [Signed<Message>]),
     /// The same, before it proposes at that time.
     TakeRequestsFor(Time, &'a [Signed<Message>]),
+    /// A REQUEST comes, which waits only if it is new.
+    Offer(Signed<Request>),
     /// It proposes at that time.
     Propose(Time),
     /// It executes the next committed batch.
@@ -29,11 +33,17 @@ pub enum NodeCall<'a> {
     TimeOut,
     /// It leaves for that view.
     LeaveFor(u64),
+    /// It forgets requests that were executed.
+    ForgetAnswered,
+    /// It forgets requests that it has proposed in its view.
+    ForgetProposed,
     /// It adopts the snapshot of another one.
     Adopt {
         text: &'a [u8],
         certificate: &'a StableCheckpoint,
     },
+    /// It settles a checkpoint by the certificate of another one.
+    Settle(&'a StableCheckpoint),
 }
 
 /// What a call gives to be sent.
@@ -67,6 +77,7 @@ pub fn perform<R: Threads + Wait + Sync, G: Gate + Sync>(
             node.take_requests_for(rt, time, messages)?;
             Ok(Sent::Nothing)
         }
+        NodeCall::Offer(request) => Ok(as_sent(node.offer(request)?)),
         NodeCall::Propose(time) => Ok(Sent::One(node.propose(time)?)),
         NodeCall::Execute => match node.execute_ready(rt, executor, gate)? {
             Some(sent) => Ok(Sent::All(sent)),
@@ -75,9 +86,30 @@ pub fn perform<R: Threads + Wait + Sync, G: Gate + Sync>(
         NodeCall::Checkpoint => Ok(Sent::One(node.checkpoint(rt)?)),
         NodeCall::TimeOut => Ok(Sent::All(node.timeout()?)),
         NodeCall::LeaveFor(view) => Ok(Sent::All(node.leave_for(view)?)),
+        NodeCall::ForgetAnswered => {
+            node.forget_answered()?;
+            Ok(Sent::Nothing)
+        }
+        NodeCall::ForgetProposed => {
+            node.forget_proposed();
+            Ok(Sent::Nothing)
+        }
         NodeCall::Adopt { text, certificate } => {
             node.adopt(rt, text, certificate)?;
             Ok(Sent::Nothing)
         }
+        NodeCall::Settle(certificate) => {
+            node.settle(certificate)?;
+            Ok(Sent::Nothing)
+        }
+    }
+}
+
+fn as_sent(offered: Offered) -> Sent
+    ensures { messages_in result ≡ sent_for offered }
+{
+    match offered {
+        Offered::Answered(reply) => Sent::One(reply),
+        Offered::Waits | Offered::WaitsAlready | Offered::PassedOver => Sent::Nothing,
     }
 }

@@ -3,10 +3,7 @@ ghost use Rattle.bfs_nodes_agree.specs.Views.Laws.{MadeTellsWhatIsPrepared, Noth
 
 use crate::order_calls::laws::orders_agree;
 use bfs_order::numbers_lie_in_the_window;
-use bfs_view_change::{
-    made_has_prepared, prepared_is_chosen, valid_choices_are_short,
-    views_begin_behind_what_is_stable,
-};
+use bfs_view_change::{made_has_prepared, prepared_is_chosen, views_begin_behind_what_is_stable};
 
 /// The VIEW-CHANGE that is made of an order tells all that is prepared.
 pub fn made_tells_what_is_prepared()
@@ -22,13 +19,12 @@ pub fn right_new_views_are_valid()
     prepared_is_chosen();
 }
 
-/// Whoever enters a view by a NEW-VIEW that is right by its own keys has all that it hands over in its log then, but for what is stable
-/// there, and its low mark is not below the number that the view begins behind.
+/// Whoever enters a view by a NEW-VIEW whose VIEW-CHANGEs are valid by its own keys, or its own, has all that it hands over in its log then, but for
+/// what is stable there, and its low mark is not below the number that the view begins behind.
 pub fn nothing_is_passed_over()
     ensures { NothingIsPassedOver }
 {
     prepared_is_chosen();
-    valid_choices_are_short();
     views_begin_behind_what_is_stable();
 }
 

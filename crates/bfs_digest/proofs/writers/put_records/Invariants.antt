@@ -2,7 +2,7 @@ use Rattle.std.proofs.Common.{◌≡◌, ◌++◌}
 use Rattle.std.specs.FinMap.{entries}
 use Rattle.bfs_tree.specs.Tree.{at_home}
 use Rattle.bfs_digest.specs.Text.{records_text}
-use Rattle.bfs_digest.specs.Inside.Putting.{BeginsWith}
+use Rattle.bfs_xdr.specs.Sinks.{BeginsWith}
 use Rattle.bfs_digest.proofs.writers.put_records.Given as goal
 
 abbrev pub invariant-loop-id : goal.invariant-loop-id

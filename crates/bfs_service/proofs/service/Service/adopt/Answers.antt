@@ -3,4 +3,8 @@ use Rattle.bfs_service.proofs.Going.{goes_both}
 use Rattle.bfs_service.proofs.service.Service.adopt.Goals as goal
 
 pub returns : goal.returns
-returns g c = goes_both (IsOwn c.args.time) c.args.self.now c.adopt_now.new.self c.advance.new.self c.in_ok-adopt_now.ensures c.in_ok-advance.ensures
+returns g c =
+    let own = IsOwn c.args.time in
+    let last = c.advance.new.self in
+    goes_both own c.args.self.now c.adopt_now.new.self last c.in_ok-adopt_now.ensures
+    (goes_both own c.adopt_now.new.self c.forget_answered.new.self last c.in_ok-forget_answered.ensures c.in_ok-advance.ensures)

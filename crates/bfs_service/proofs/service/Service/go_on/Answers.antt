@@ -6,8 +6,8 @@ use Rattle.bfs_service.proofs.service.Service.go_on.Goals as goal
 pub returns : goal.returns
 returns g c =
     let own = IsOwn c.args.time in
-    let last = c.time_out.new.self in
+    let last = c.leave.new.self in
     goes_both own c.args.self.now c.advance.new.self last c.in_ok-advance.ensures
     (goes_both own c.advance.new.self c.hear_all.new.self last c.in_ok-hear_all.ensures
-    (subst (λ (a : Acting). GoesOn own a last) c.in_ok-look.ensures
-    (goes_both own c.look.new.self c.propose.new.self last c.in_ok-propose.ensures c.in_ok-time_out.ensures)))
+    (subst (λ (a : Acting). GoesOn own a last) c.in_ok-due.ensures
+    (goes_both own c.look.new.self c.propose.new.self last c.in_ok-propose.ensures c.in_ok-leave.ensures)))

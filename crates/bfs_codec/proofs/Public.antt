@@ -1,0 +1,3 @@
+-- What the crates above may cite.
+pub use Rattle.bfs_codec.proofs.PartsExact.{digest_exact, number_exact}
+pub use Rattle.bfs_codec.proofs.Whole.{spelled, text_spells}

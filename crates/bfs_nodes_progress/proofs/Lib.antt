@@ -1,0 +1,14 @@
+mod Answers
+mod Speaking
+mod Proposing
+mod Grounds
+mod Silent
+mod Reached
+mod Quiet
+mod Taking
+mod Rounds
+mod Executing
+mod Resending
+mod Standing
+mod Entering
+mod Premises

@@ -1,0 +1,23 @@
+-- The premises of the laws hold in a run.
+use Rattle.std.proofs.Common.{◌≡◌, ◌+◌, ◌<◌, ◌≤◌, [], refl, arith}
+use Rattle.bfs_progress.proofs.Public.{each_present, present_quorum}
+use Rattle.bfs_nodes_progress.specs.Examples.{HoldInAView, one_proposal}
+use Rattle.bfs_nodes_progress.specs.Runs.{order_of, reached}
+use Rattle.bfs_nodes_progress.proofs.Standing.{proposals_stand}
+
+pub in_a_view : HoldInAView
+in_a_view keys start time shared =
+    let w = reached 1 keys start (one_proposal time) in (
+      record { others = omega arith; shared = shared; few = omega arith; authentic = (tt, tt) },
+      record {
+        quorum = present_quorum 0 refl;
+        entered = each_present (λ k. (order_of w k).view ≡ 0) refl refl refl;
+        asked = each_present (λ k. (order_of w k).asked ≡ 0) refl refl refl;
+      },
+      record {
+        low = each_present (λ k. (order_of w k).low < 1) (omega arith) (omega arith) (omega arith);
+        min_s = each_present (λ k. (order_of w k).min_s < 1) (omega arith) (omega arith) (omega arith);
+        high = each_present (λ k. 1 ≤ (order_of w k).low + 32) (omega arith) (omega arith) (omega arith);
+      },
+      proposals_stand (reached 1 keys start [] 0).node time refl,
+    )

@@ -1,0 +1,2 @@
+-- What the proofs take from the crates below.
+pub mod Below

@@ -1,0 +1,9 @@
+-- What the contracts of bfs_nodes_progress cite.
+pub mod Runs
+pub mod Members
+pub mod Rounds
+pub mod Entering
+pub mod Executing
+pub mod Laws
+pub mod Examples
+pub mod Inside
