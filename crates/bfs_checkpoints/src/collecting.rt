@@ -2,14 +2,12 @@
 ghost use Rattle.std.specs.Prelude.{◌≡◌, ◌≤◌, ◌==◌, true, IfOk, IfSome};
 ghost use Rattle.std.specs.List.{list_any};
 ghost use Rattle.bfs_model.specs.Server.Limits.{most_faults, most_number};
-ghost use Rattle.bfs_log.specs.Certificates.{as_checkpoints, has_sender, is_shown, vouches};
-ghost use Rattle.bfs_messages.specs.Signing.{as_message};
-ghost use Rattle.bfs_messages.specs.declared.order_messages.OrderMessage.TheVariants as kind;
+ghost use Rattle.bfs_log.specs.Certificates.{as_checkpoints, has_sender, is_shown};
 ghost use Rattle.bfs_checkpoints.specs.Collecting.{collected, right_checkpoints};
 
 use bfs_auth::Keys;
-use bfs_log::StableCheckpoint;
-use bfs_messages::{Checkpoint, Signed, is_checkpoint_signed};
+use bfs_log::{StableCheckpoint, does_vouch};
+use bfs_messages::{Checkpoint, Signed};
 use bfs_types::{Memory, TryClone};
 use std::alloc::Global;
 
@@ -50,29 +48,12 @@ fn right_checkpoints(
     let mut found = Vec::new(alloc);
     for signed in told {
         if !has_sender(&found, signed.message.sender())
-            && is_right(keys, f, number, digest, signed)
+            && does_vouch(keys, f, number, digest, signed)
         {
             found.push(signed.try_clone(alloc)?)?;
         }
     }
     Ok(found)
-}
-
-// A replica's CHECKPOINT of that number and digest, signed by it.
-fn is_right(
-    keys: &Keys,
-    f: u32,
-    number: u64,
-    digest: &[u8; 32],
-    signed: &Signed<Checkpoint>,
-) -> bool
-    requires { f ≤ most_faults }
-    ensures { result ≡ vouches keys.now f number digest.now (as_message kind.Checkpoint signed.now) }
-{
-    let checkpoint = &signed.message;
-    checkpoint.number() == number
-        && (checkpoint.digest() == digest
-            && (checkpoint.sender() < 3 * f + 1 && is_checkpoint_signed(keys, signed)))
 }
 
 // There are at most as many as replicas.

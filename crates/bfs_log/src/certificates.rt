@@ -127,8 +127,8 @@ pub fn is_stable_shown(
         && (do_senders_differ(checkpoints) && 2 * f as usize + 1 <= checkpoints.len())
 }
 
-// Whether it is a replica's CHECKPOINT of that number and digest.
-fn does_vouch(
+/// Whether it is a replica's CHECKPOINT of that number and digest, signed by it. It takes no memory.
+pub fn does_vouch(
     keys: &Keys,
     f: u32,
     number: u64,
