@@ -15,7 +15,9 @@ mod said;
 mod senders;
 mod showing;
 
-pub use certificates::{StableCheckpoint, does_certify, does_vouch, faults_of, is_stable_shown, vote_in};
+pub use certificates::{
+    StableCheckpoint, does_certify, does_vouch, faults_of, is_stable_shown, vote_in,
+};
 pub use committed::Committed;
 pub use counting::primary_of;
 pub use headers::Slot;
