@@ -6,7 +6,7 @@ from pathlib import Path
 from typing import NamedTuple
 
 MOST_FAULTS, MOST_CLIENTS = 10, 1_024
-MOST_PATIENCE = 600_000  # milliseconds
+MOST_PATIENCE = 60_000  # milliseconds
 KEYS = "f", "clients", "replicas", "relay"
 OTHERS = "portmap", "patience", "limits"  # which may be missing; the last two are for replicas and relays alone
 MEBIBYTE = 1 << 20

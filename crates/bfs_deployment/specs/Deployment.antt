@@ -19,7 +19,7 @@ abbrev pub default_patience : ℕ
 default_patience = 2000
 
 abbrev pub most_patience : ℕ
-most_patience = 600000
+most_patience = 60000
 
 pub record IsDeployment (f clients replicas patience : ℕ) (limits : Limits) : Type 0 where
   pub faults : f ≤ most_faults

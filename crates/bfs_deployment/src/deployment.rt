@@ -12,7 +12,7 @@ use std::marker::Model;
 pub const DEFAULT_PATIENCE: u32 = 2_000;
 
 /// The most milliseconds that a replica may wait for a request.
-pub const MOST_PATIENCE: u32 = 600_000;
+pub const MOST_PATIENCE: u32 = 60_000;
 
 /// A cluster as all its processes know it.
 #[derive(Debug, Drop)]

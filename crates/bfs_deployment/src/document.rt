@@ -111,7 +111,7 @@ fn deployment_in(alloc: Global, table: &Table) -> Result<Deployment, DeploymentE
 /// | `replicas` | an array of 3f + 1 texts, where each replica listens |
 /// | `relay` | a text, where the relay listens |
 /// | `portmap` | a text, where the relay tells its port; it may be left out |
-/// | `patience` | milliseconds, 1 to 600,000, that a replica waits for a request before it asks for the next view; 2,000 where it is left out |
+/// | `patience` | milliseconds, 1 to 60,000, that a replica waits for a request before it asks for the next view; 2,000 where it is left out |
 /// | `limits` | a table of the most bytes of frames, with the names of `Limits`' fields; what is left out is as in `Limits::new`, which is also the least |
 ///
 /// No other key may stand there. What a text says is not looked into.

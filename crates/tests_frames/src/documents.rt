@@ -17,7 +17,7 @@ clients = 64
 replicas = ["127.0.0.1:7000", "[::1]:7001", "there:7002", "there:7003"]
 relay = "127.0.0.1:2049" # NFS version 2 and MOUNT
 portmap = "127.0.0.1:111"
-patience = 600_000
+patience = 60_000
 
 [limits]
 request = 17_401
@@ -83,7 +83,7 @@ fn each_key_says_its_part(rt: HostRuntime) -> Result<(), Fail> {
     holds!(rt; addresses_are(&deployment, &wanted));
     holds!(rt; deployment.relay() == "127.0.0.1:2049");
     holds!(rt; deployment.portmap() == Some("127.0.0.1:111"));
-    same!(rt; deployment.patience(), 600_000);
+    same!(rt; deployment.patience(), 60_000);
     same!(rt; deployment.limits(), RAISED);
     Ok(())
 }

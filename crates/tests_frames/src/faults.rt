@@ -63,10 +63,10 @@ const GOOD: &[u8] = b"f = 0\nclients = 1\nreplicas = ['a']\nrelay = 'b'\n";
 static MORE: &[(&str, &str)] = &[
     ("portmap = 111", "portmap: it is no text"),
     ("patience = 0.5", "patience: it is no whole number"),
-    ("patience = 0", "patience: it is no number from 1 to 600000"),
+    ("patience = 0", "patience: it is no number from 1 to 60000"),
     (
-        "patience = 600001",
-        "patience: it is no number from 1 to 600000",
+        "patience = 60001",
+        "patience: it is no number from 1 to 60000",
     ),
     ("limits = 1", "limits: it is no table"),
     (

@@ -44,7 +44,7 @@ def refusals(service):
 def faults_of_cluster(service):
     """Each fault of the public document is named with its key; what may be left out is read where it is there."""
     least = {"f": 0, "clients": 1, "replicas": ["a:1"], "relay": "b:2"}
-    most = least | {"portmap": "b:111", "patience": 600_000, "limits": LIMITS}
+    most = least | {"portmap": "b:111", "patience": 60_000, "limits": LIMITS}
     made = Cluster(0, 1, (Address("a", 1),), Address("b", 2), Address("b", 111))
     check(cluster_in(most) == made and cluster_in(least) == made._replace(portmap=None), "a good document is another cluster")
     path = Path(service.folder, "cluster.toml")
@@ -56,7 +56,7 @@ def faults_of_cluster(service):
         ("clients = 8", "", "clients: it is missing"),
         ("clients = 8", "clients = 8\nmore = 1", "more: there is no such key"),
         ("portmap = ", "portmap = 111 #", "portmap: 111 is no HOST:PORT"),
-        ("clients = 8", "clients = 8\npatience = 0", "patience: 0 is no number from 1 to 600000"),
+        ("clients = 8", "clients = 8\npatience = 0", "patience: 0 is no number from 1 to 60000"),
         ("clients = 8", "clients = 8\nlimits = 1", "limits: 1 is no table"),
         ("clients = 8", "clients = 8\nlimits.orders = 1", "limits.orders: there is no such key"),
         ("clients = 8", "clients = 8\nlimits.request = 17399", "limits.request: 17399 is no number from 17400 to 4294967295"),
