@@ -1,5 +1,5 @@
 //! A relay: it takes calls of NFS clients, has them ordered as requests of BFS clients whose keys it holds, counts the replicas' replies, and answers. It
-//! answers NULL, MOUNT and what is refused by itself. What it does in a turn is a function of the turn; sockets, files and clocks are others'.
+//! answers NULL and MOUNT, and refuses, by itself. What it does in a turn is a function of the turn; sockets, files and clocks are others'.
 #![tactic(auto)]
 
 mod given_keys;
