@@ -29,7 +29,7 @@ row-smallest = refl
 
 abbrev largest : List ℕ
 largest =
-    codes "limits.order = 4294967295 # bytes\npatience = 600000\nportmap = 'p'\nrelay = \"r\"\n"
+    codes "limits.order = 4294967295 # bytes\npatience = 60000\nportmap = 'p'\nrelay = \"r\"\n"
     ++ codes "clients = 1_024\nf = 1\nreplicas = ['a', 'b', 'c', '']\n"
 
 pub row-every_key : deployment_spelled largest
@@ -39,7 +39,7 @@ pub row-every_key : deployment_spelled largest
       replicas = codes "a" ∷ codes "b" ∷ codes "c" ∷ [] ∷ [];
       relay = codes "r";
       portmap = Some (codes "p");
-      patience = 600000;
+      patience = 60000;
       limits = record default_limits { order = 4294967295 };
     })
 unfolding deployment_on_literals
@@ -74,7 +74,7 @@ pub row-a_replica_too_few : deployment_spelled (codes "f = 1\n" ++ rest) ≡ Err
 unfolding deployment_on_literals
 row-a_replica_too_few = refl
 
-pub row-no_patience : deployment_spelled (codes "patience = 0\n" ++ smallest) ≡ Err (error.OutOfBounds key.Patience 1 600000)
+pub row-no_patience : deployment_spelled (codes "patience = 0\n" ++ smallest) ≡ Err (error.OutOfBounds key.Patience 1 60000)
 unfolding deployment_on_literals
 row-no_patience = refl
 
