@@ -190,7 +190,7 @@ impl Tree {
     pub fn iter(&self) -> Inodes<'_>
         ensures { result ≡ entries (at_home self.now) }
     {
-        Inodes::of(self.boxes())
+        Inodes::of(&self.places)
     }
 
     /// The same in their boxes, with what they keep. No inode is fetched.
