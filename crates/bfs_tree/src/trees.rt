@@ -187,6 +187,7 @@ impl Tree {
     }
 
     /// The inodes at home by the numbers of their fileids, which rise.
+    #[tactic(auto, using(crate::proofs::SlotLemmas::home_entries))]
     pub fn iter(&self) -> Inodes<'_>
         ensures { result ≡ entries (at_home self.now) }
     {
@@ -194,6 +195,7 @@ impl Tree {
     }
 
     /// The same in their boxes, with what they keep. No inode is fetched.
+    #[tactic(auto, using(crate::proofs::SlotLemmas::home_entries))]
     pub fn boxes(&self) -> Boxes<'_>
         ensures { result ≡ entries (at_home self.now) }
     {
