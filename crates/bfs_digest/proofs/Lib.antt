@@ -7,6 +7,7 @@ pub mod Fronts
 pub mod Hashed
 pub mod Parts
 pub mod Rising
+pub mod Chunks
 pub mod Skipping
 pub mod BlockDigests
 pub mod Building

@@ -9,6 +9,9 @@ Takes Holds before after bytes = (m : List ℕ) → Holds before m → Holds aft
 pub nothing_taken : {H : Type 0} (Holds : H → List ℕ → Type 0) (h : H) → Takes Holds h h []
 nothing_taken Holds h m holds = subst (Holds h) (sym (append-nil m)) holds
 
+pub both_taken : {H : Type 0} (Holds : H → List ℕ → Type 0) (before now after : H) (first second : List ℕ) → Takes Holds before now first → Takes Holds now after second → Takes Holds before after (first ++ second)
+both_taken Holds before now after first second one two m holds = subst (Holds after) (append_assoc m first second) (two (m ++ first) (one m holds))
+
 -- the pieces so far, with those that are left, are all of them
 pub record Fed {H X : Type 0} (Holds : H → List ℕ → Type 0) (text : X → List ℕ) (before now : H) (rest all : List X) : Type 0 where
   pub done : List ℕ
@@ -23,7 +26,7 @@ pub fed_more : {H X : Type 0} (Holds : H → List ℕ → Type 0) (text : X → 
 fed_more Holds text before now after xs rest all x is more fed = record {
   done = fed.done ++ text x;
   total = append_assoc fed.done (text x) (flat_map text rest) ∙ ap (λ ys. fed.done ++ flat_map text ys) (sym is) ∙ fed.total;
-  holds = λ m holds. subst (Holds after) (append_assoc m fed.done (text x)) (more (m ++ fed.done) (fed.holds m holds));
+  holds = both_taken Holds before now after fed.done (text x) fed.holds more;
 }
 
 pub fed_all : {H X : Type 0} (Holds : H → List ℕ → Type 0) (text : X → List ℕ) (before after : H) (rest all : List X) → rest ≡ [] → Fed Holds text before after rest all → Takes Holds before after (flat_map text all)

@@ -5,3 +5,4 @@ pub mod Taking
 pub mod Formation
 pub mod Names
 pub mod Hashed
+pub mod Sharing

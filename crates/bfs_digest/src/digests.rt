@@ -13,9 +13,9 @@ ghost use Rattle.bfs_digest.specs.Inside.Hashed.{IsHashed, IsRecordOf};
 use crate::hashes::record_digest;
 use crate::hashing::hash_missing;
 use crate::headers::{Header, parts_of, put_header};
-use bfs_inode::{FileId, Inode, RecordDigest};
+use bfs_inode::{FileId, RecordDigest};
 use bfs_serial::{ExecError, FileSystem};
-use bfs_tree::Tree;
+use bfs_tree::{BoxedInode, Tree};
 use bfs_types::Memory;
 use sha2::{Digest, Sha256};
 use std::alloc::Global;
@@ -68,7 +68,7 @@ fn hash_digests(hasher: &mut Sha256, tree: &Tree, made: &[RecordDigest])
     ensures { (m : List ℕ) → Holds256 hasher.old m → Holds256 hasher.new (m ++ model.digests_text (entries (at_home tree.now))) }
 {
     let mut place = 0;
-    for (id, inode) in tree.iter() {
+    for (id, inode) in tree.boxes() {
         let id = FileId::new(*id);
         let digest = digest_at(id, inode, made, &mut place);
         hash_digest(hasher, id, &digest);
@@ -76,7 +76,7 @@ fn hash_digests(hasher: &mut Sha256, tree: &Tree, made: &[RecordDigest])
 }
 
 // of an inode, where those that were made of inodes before it are passed
-fn digest_at(id: FileId, inode: &Inode, made: &[RecordDigest], place: &mut usize) -> [u8; 32]
+fn digest_at(id: FileId, inode: &BoxedInode, made: &[RecordDigest], place: &mut usize) -> [u8; 32]
     requires { All (IsRecordOf id inode.now) made.now }
     ensures { result ≡ record_digest id inode.now }
 {
@@ -89,7 +89,7 @@ fn digest_at(id: FileId, inode: &Inode, made: &[RecordDigest], place: &mut usize
     }
 }
 
-pub(crate) fn hash_digest(hasher: &mut Sha256, id: FileId, digest: &[u8; 32])
+fn hash_digest(hasher: &mut Sha256, id: FileId, digest: &[u8; 32])
     ensures { (m : List ℕ) → Holds256 hasher.old m → Holds256 hasher.new (m ++ (word id ++ digest.now)) }
 {
     hasher.update(digest_behind(id, digest));
@@ -97,7 +97,7 @@ pub(crate) fn hash_digest(hasher: &mut Sha256, id: FileId, digest: &[u8; 32])
 
 // in one piece, which is fed in less time than two
 #[tactic(auto, unfolding(bfs_model::specs::Bytes::Items::word))]
-fn digest_behind(id: FileId, digest: &[u8; 32]) -> [u8; 36]
+pub(crate) fn digest_behind(id: FileId, digest: &[u8; 32]) -> [u8; 36]
     ensures { result ≡ word id ++ digest.now }
 {
     let mut bytes = [0; 36];

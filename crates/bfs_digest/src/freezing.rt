@@ -1,26 +1,25 @@
 // A file system as it was, which shares what didn't change with the ones before it.
-ghost use Rattle.std.specs.Prelude.{◌≡◌, ◌++◌, ◌↔◌, ℕ, List, Some, None, map, IfOk, OnOk, OnErr, IsErrOf};
+ghost use Rattle.std.specs.Prelude.{◌≡◌, ◌++◌, ◌↔◌, Some, None, map, IfOk, OnOk, OnErr, IsErrOf};
 ghost use Rattle.std.specs.Arc.{arc_value};
 ghost use Rattle.std.specs.FinMap.{entries};
 ghost use Rattle.std.specs.Option.{option_map};
-ghost use Rattle.sha2.specs.Hashers.{Holds256};
 ghost use Rattle.bfs_inode.specs.Frozen.{frozen_text};
 ghost use Rattle.bfs_inode.specs.Inodes.{body_seen};
 ghost use Rattle.bfs_inode.specs.Records.{body_text, frozen_of, record_digest};
 ghost use Rattle.bfs_tree.specs.Tree.{at_home};
-ghost use Rattle.bfs_digest.specs.Frozen.{digests_of, frozen_files, frozen_inodes, frozen_with, texts_of};
+ghost use Rattle.bfs_digest.specs.Frozen.{frozen_files, frozen_inodes, frozen_with, texts_of};
 ghost use Rattle.bfs_xdr.specs.Sinks.{BeginsWith};
 
-use crate::digests::{hash_digest, hash_header};
-use crate::hashes::record_digest;
+use crate::digests::hash_header;
 use crate::headers::{Header, parts_of, put_header};
 use crate::lengths::body_length;
 use crate::refreshing::refresh;
+use crate::sharing::freeze_inodes;
 use crate::words::head_words;
 use crate::writers::{put_body, put_frozen};
 use bfs_inode::{Body, FileId, FrozenBody, FrozenInode, Inode};
 use bfs_serial::{ExecError, FileSystem};
-use bfs_tree::{Store, Tree};
+use bfs_tree::Tree;
 use bfs_types::{Memory, TryClone};
 use sha2::{Digest, Sha256};
 use std::alloc::Global;
@@ -120,34 +119,6 @@ fn freeze_tree(alloc: Global, header: Header, tree: &Tree) -> Result<FrozenFiles
         inodes,
         digest: hasher.finalize(),
     })
-}
-
-// each inode is hashed where it is shared, so that what it keeps is fetched once
-fn freeze_inodes(
-    alloc: Global,
-    hasher: &mut Sha256,
-    tree: &Tree,
-) -> Result<Vec<Arc<FrozenInode>>, Memory>
-    ensures value { IfOk result (λ inodes. map arc_value inodes.items ≡ frozen_inodes (entries (at_home tree.now))) }
-    ensures hashed { IfOk result (λ inodes. (m : List ℕ) → Holds256 hasher.old m → Holds256 hasher.new (m ++ digests_of (map arc_value inodes.items))) }
-{
-    let mut inodes = Vec::with_capacity(alloc, tree.count())?;
-    for (id, inode) in tree.iter() {
-        let frozen = shared(alloc, FileId::new(*id), inode)?;
-        hash_digest(hasher, frozen.id(), frozen.digest());
-        inodes.push(frozen)?;
-    }
-    Ok(inodes)
-}
-
-// what it keeps, or else a copy
-fn shared(alloc: Global, id: FileId, inode: &Inode) -> Result<Arc<FrozenInode>, Memory>
-    ensures { IfOk result (λ frozen. arc_value frozen ≡ frozen_of id inode.now) }
-{
-    match inode.kept(id) {
-        Some(kept) => Ok(Arc::try_clone(kept)?),
-        None => freeze_inode(alloc, id, inode, record_digest(id, inode, &[])),
-    }
 }
 
 /// A frozen inode of what an inode is under that fileid. It shares the blocks of a file that keep their digest. `Memory` if memory runs out.

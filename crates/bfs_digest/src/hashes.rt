@@ -11,18 +11,19 @@ use crate::blocks::{BlockDigest, File};
 use crate::listings::put_listing;
 use crate::words::head_words;
 use bfs_inode::{Body, Directory, FileBlocks, FileId, Inode};
+use bfs_tree::BoxedInode;
 use bfs_xdr::{hash_opaque, hash_u32, hash_words};
 use sha2::{Digest, Sha256};
 
-/// The digest of the record of the inode of that fileid. It is hashed only if the inode does not keep it, with those digests of its
+/// The digest of the record of the inode of that fileid. It is hashed only if none is kept with the inode, with those digests of its
 /// blocks that were made before.
-pub(crate) fn record_digest(id: FileId, inode: &Inode, made: &[BlockDigest]) -> [u8; 32]
+pub(crate) fn record_digest(id: FileId, inode: &BoxedInode, made: &[BlockDigest]) -> [u8; 32]
     requires { All (IsBlockOf id (bytes_in inode.now.body)) made.now }
     ensures { result ≡ record_digest id inode.now }
 {
     match inode.kept_digest(id) {
         Some(digest) => digest,
-        None => hash_record(id, inode, made),
+        None => hash_record(id, inode.get(), made),
     }
 }
 

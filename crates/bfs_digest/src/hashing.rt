@@ -80,9 +80,9 @@ pub(crate) fn hash_missing(
 // Of the inodes that don't keep their digest. No contract speaks of it: one left out or too many costs hashing, and changes no digest.
 fn ids_without_digest(alloc: Global, tree: &Tree) -> Result<Vec<FileId>, Memory> {
     let mut ids = Vec::new(alloc);
-    for (number, inode) in tree.iter() {
+    for (number, boxed) in tree.boxes() {
         let id = FileId::new(*number);
-        if inode.kept(id).is_none() {
+        if boxed.kept(id).is_none() {
             ids.push(id)?;
         }
     }
@@ -177,7 +177,7 @@ impl<'a> Files<'a> {
     fn record_at(&self, id: FileId) -> RecordDigest
         ensures { result ≡ hashed_at self.now id }
     {
-        let digest = match self.tree.home(id) {
+        let digest = match self.tree.boxed(id) {
             Some(inode) => record_digest(id, inode, blocks_from(self.blocks, id)),
             None => Sha256::digest(&[]),
         };

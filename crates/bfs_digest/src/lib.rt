@@ -19,6 +19,7 @@ mod reach;
 mod readers;
 mod refreshing;
 mod restoration;
+mod sharing;
 mod snapshots;
 mod spelling;
 mod versions;

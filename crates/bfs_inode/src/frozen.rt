@@ -19,11 +19,12 @@ pub enum FrozenBody {
 /// An inode as it was, with its fileid: what a text has of it, and the digest of its record. Who shares it sees it never change.
 #[derive(Debug, Drop)]
 pub struct FrozenInode {
+    // in front, beside the count of those who share it, so that one fetch reads both
+    digest: [u8; 32],
     id: FileId,
     // the words in front
     head: [u32; 12],
     body: FrozenBody,
-    digest: [u8; 32],
 }
 
 impl Model for FrozenInode {
@@ -43,10 +44,10 @@ impl FrozenInode {
         ensures { result ≡ record { id = id; text = words head ++ frozen_text body; digest = digest } }
     {
         FrozenInode {
+            digest,
             id,
             head,
             body,
-            digest,
         }
     }
 

@@ -14,7 +14,6 @@ mod kept;
 
 use crate::bodies::Body;
 use crate::directories::Directory;
-use crate::frozen::FrozenInode;
 use bfs_blocks::FileBlocks;
 use bfs_types::{
     Attributes, BLOCK_SIZE, Context, FileId, LinkPath, MOST_PERMISSIONS, Memory, SetTime, Settings,
@@ -23,12 +22,8 @@ use bfs_types::{
 pub use kept::RecordDigest;
 use std::alloc::Global;
 use std::marker::Model;
-use std::sync::Arc;
 
 /// A file, a directory or a symbolic link, and its attributes (RFC 1094 section 2.3.5).
-///
-/// It may keep a frozen inode of what it is, with the digest of its record, which goes with it where it is moved. Each change drops that, and
-/// contracts see nothing of it.
 #[derive(Debug, Drop)]
 pub struct Inode {
     permissions: u32,
@@ -39,8 +34,6 @@ pub struct Inode {
     mtime: Time,
     ctime: Time,
     body: Body,
-    // as it is, under that fileid
-    kept: Option<(FileId, Arc<FrozenInode>)>,
 }
 
 /// The attributes of an inode that are stored beside what it holds (RFC 1094 section 2.3.5).
@@ -67,11 +60,11 @@ impl Model for Inode {
 
     ghost Value = { model.Inode };
 
-    ghost use Rattle.bfs_inode.specs.Seen.{seen, IsWithin, KeepsItself};
+    ghost use Rattle.bfs_inode.specs.Seen.{seen, IsWithin};
 
     ghost view = { seen };
 
-    ghost invariant = { λ inode. IsWithin inode × KeepsItself inode };
+    ghost invariant = { IsWithin };
 }
 
 impl Inode {
@@ -91,7 +84,6 @@ impl Inode {
             mtime: metadata.mtime,
             ctime: metadata.ctime,
             body,
-            kept: None,
         }
     }
 
@@ -108,7 +100,6 @@ impl Inode {
             mtime: Time::epoch(),
             ctime: Time::epoch(),
             body: Body::Directory(Directory::new(alloc, FileId::root())),
-            kept: None,
         }
     }
 
@@ -173,7 +164,6 @@ impl Inode {
             mtime: time_set(context.time, settings.mtime, context.time),
             ctime: context.time,
             body,
-            kept: None,
         }
     }
 

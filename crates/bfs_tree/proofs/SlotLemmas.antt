@@ -4,7 +4,7 @@ use Rattle.std.specs.Prelude.{⊤, ◌==◌, IsTrue}
 use Rattle.std.specs.Option.{option_and_then}
 use Rattle.std.specs.BTreeMap.{BTreeMap, btree_map_len, IsOrdered}
 use Rattle.std.specs.Ordering.{nat_cmp, eq_by_cmp}
-use Rattle.std.specs.FinMap.{FinMap, contains_key, get, insert, remove, len, get-insert, get-remove, empty, get-empty, len-empty, same_map, nat_cmp-IsAntisymmetric}
+use Rattle.std.specs.FinMap.{FinMap, contains_key, entries, get, insert, remove, len, get-insert, get-remove, empty, get-empty, len-empty, same_map, nat_cmp-IsAntisymmetric}
 use Rattle.std.proofs.lemmas.Cmp.{nat_cmp_total}
 use Rattle.std.proofs.lemmas.Option.{none-some}
 use Rattle.std.proofs.lemmas.Map.Views.{tells_apart}
@@ -13,13 +13,13 @@ use Rattle.bfs_model.specs.Server.Tree.{Inode}
 use Rattle.bfs_tree.specs.declared.slots.Slot.{Slot}
 use Rattle.bfs_tree.specs.declared.slots.Slot.TheVariants.{Home, Free, Lent}
 use Rattle.bfs_tree.specs.declared.counts.Counts.{Counts}
-use Rattle.bfs_tree.specs.Maps.{map_of, picked}
+use Rattle.bfs_tree.specs.Maps.{map_of, picked, picked_entries}
 use Rattle.bfs_tree.specs.Slots.{Slots, inode_in, loan_in, with_inode}
 use Rattle.bfs_tree.specs.Tree.{at_home, lent, reach_of, reach_without, with_inode_at, with_inode_in}
 use Rattle.bfs_tree.specs.Inside.Counting.{Adds, AreCounted, Includes, inodes_in, loans_in}
 use Rattle.bfs_tree.proofs.Laws.{insert_same}
 use Rattle.bfs_tree.proofs.MapLemmas.{len-map_of}
-use Rattle.bfs_tree.proofs.Picking.{few_picked, get-picked, picked-insert, picked-none, picked-remove, len-picked-insert, len-picked-remove}
+use Rattle.bfs_tree.proofs.Picking.{entries-picked, few_picked, get-picked, picked-insert, picked-none, picked-remove, len-picked-insert, len-picked-remove}
 
 absent_at : {X : Type 0} (m : FinMap nat_cmp X) (k q : ℕ) (b : Bool) → get m k ≡ None → eq_by_cmp nat_cmp q k ≡ b → cond b None (get m q) ≡ get m q
 absent_at m k q true none e = sym none ∙ ap (get m) (sym (tells_apart nat_cmp-IsAntisymmetric q k e))
@@ -56,6 +56,9 @@ loan_has_place s k loan = has_place s k (get s k) refl loan
 
 pub has_inserted : (s : Slots) (k : ℕ) (slot : Slot) → IsTrue (contains_key (insert s k slot) k)
 has_inserted s k slot = ap is_some (get-insert nat_cmp_total s k slot k) ∙ ap (λ b. is_some (cond b (Some slot) (get s k))) (itself k)
+
+pub home_entries : (s : Slots) → entries (at_home s) ≡ picked_entries inode_in (entries s)
+home_entries s = entries-picked inode_in s
 
 pub home_insert : (s : Slots) (k : ℕ) (x : Inode) → at_home (insert s k (Home x)) ≡ insert (at_home s) k x
 home_insert s k x = picked-insert inode_in s k (Home x) x refl

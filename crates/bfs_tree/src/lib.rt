@@ -3,6 +3,7 @@
 
 mod ancestry;
 mod boxed;
+mod boxes;
 mod counts;
 mod inodes;
 mod places;
@@ -13,6 +14,7 @@ mod well_formed;
 
 pub use ancestry::{is_below, is_directory};
 pub use boxed::BoxedInode;
+pub use boxes::Boxes;
 pub use inodes::Inodes;
 pub use store::Store;
 pub use trees::Tree;

@@ -1,7 +1,9 @@
 ghost use Rattle.std.specs.Prelude.{◌≡◌, IfOk, OnOk, OnErr, IsTrue};
-ghost use Rattle.std.specs.Option.{option_copied};
+ghost use Rattle.std.specs.Arc.{arc_value};
+ghost use Rattle.std.specs.Option.{ForSome, option_copied};
 ghost use Rattle.std.specs.FinMap.{contains_key, empty, entries, get, insert, keys, remove};
 ghost use Rattle.std.specs.List.Sorted.{IsStrictlyIncreasing};
+ghost use Rattle.bfs_inode.specs.Records.{frozen_of};
 ghost use Rattle.bfs_model.specs.Server.Conflicts.{set_at};
 ghost use Rattle.bfs_model.specs.Server.Tree.{Inodes, new_tree};
 ghost use Rattle.bfs_model.specs.Server.Procedures.Status.{used_blocks};
@@ -11,14 +13,16 @@ ghost use Rattle.bfs_tree.specs.declared.slots.Slot.TheVariants as slot;
 ghost use Rattle.bfs_tree.specs.Laws.Knowing.{knows_all};
 
 use crate::boxed::BoxedInode;
+use crate::boxes::Boxes;
 use crate::inodes::Inodes;
 use crate::places::Places;
 use crate::slots::Slot;
 use crate::store::Store;
-use bfs_inode::Inode;
+use bfs_inode::{FrozenInode, Inode};
 use bfs_types::{FileId, Memory};
 use std::alloc::Global;
 use std::marker::Model;
+use std::sync::Arc;
 
 /// The inodes of a file system by their fileids. Some may be lent out, to be changed elsewhere and brought home; the tree knows and
 /// owns all fileids but theirs. It keeps counts of the inodes at home and of the fileids lent out, so that `is_whole` and `count` cost
@@ -157,18 +161,45 @@ impl Tree {
     }
 
     /// The inode of a fileid, or `None` if no inode has it, or if it is lent out.
-    #[tactic(auto, using(crate::proofs::SlotLemmas::home_at, crate::proofs::SlotLemmas::no_home_at))]
     pub fn home(&self, id: FileId) -> Option<&Inode>
         ensures { option_copied result ≡ get (at_home self.now) id }
     {
-        self.places.get(id)?.inode()
+        match self.boxed(id) {
+            Some(boxed) => Some(boxed.get()),
+            None => None,
+        }
+    }
+
+    /// The same in its box, with what it keeps.
+    #[tactic(auto, using(crate::proofs::SlotLemmas::home_at, crate::proofs::SlotLemmas::no_home_at))]
+    pub fn boxed(&self, id: FileId) -> Option<&BoxedInode>
+        ensures { option_copied result ≡ get (at_home self.now) id }
+    {
+        self.places.get(id)?.boxed()
+    }
+
+    /// Has the inode of a fileid, if there is one at home, keep a frozen one of what it is (`BoxedInode::keep`). It takes no memory.
+    pub fn keep(&mut self, id: FileId, frozen: Arc<FrozenInode>)
+        requires { ForSome (get (at_home self.old) id) (λ inode. arc_value frozen ≡ frozen_of id inode) }
+        ensures { self.new ≡ self.old }
+    {
+        self.places.keep(id, frozen);
     }
 
     /// The inodes at home by the numbers of their fileids, which rise.
+    #[tactic(auto, using(crate::proofs::SlotLemmas::home_entries))]
     pub fn iter(&self) -> Inodes<'_>
         ensures { result ≡ entries (at_home self.now) }
     {
         Inodes::of(&self.places)
+    }
+
+    /// The same in their boxes, with what they keep. No inode is fetched.
+    #[tactic(auto, using(crate::proofs::SlotLemmas::home_entries))]
+    pub fn boxes(&self) -> Boxes<'_>
+        ensures { result ≡ entries (at_home self.now) }
+    {
+        Boxes::of(&self.places)
     }
 }
 

@@ -17,6 +17,7 @@ use bfs_testing::steps::Step;
 use bfs_testing::words::{
     A, B, C, D, E, EIGHTH, F, FIFTH, FOURTH, G, L, ROOT, SEVENTH, SIXTH, THIRD, UNSET, request,
 };
+use bfs_tree::BoxedInode;
 use bfs_types::{FileId, Memory};
 use std::alloc::Global;
 use std::process::Abort;
@@ -67,8 +68,8 @@ static CHANGES: &[(Step, &[u32])] = &[
     (Step(STATFS, &[ROOT], &[]), &[]),
 ];
 
-// whether that inode keeps its digest
-fn keeps(inode: &Inode, number: u32) -> bool {
+// whether the digest of that inode is kept
+fn keeps(inode: &BoxedInode, number: u32) -> bool {
     inode.kept_digest(FileId::new(number)).is_some()
 }
 
@@ -76,7 +77,7 @@ fn keeps(inode: &Inode, number: u32) -> bool {
 fn without(alloc: Global, files: &FileSystem) -> Result<Vec<u32>, Fail> {
     let mut ids = Vec::new(alloc);
     let tree = files.tree().ok_or("a tree")?;
-    for (number, inode) in tree.iter() {
+    for (number, inode) in tree.boxes() {
         if !keeps(inode, *number) {
             ids.push(*number)?;
         }
@@ -113,7 +114,7 @@ fn keeps_all(
 }
 
 // under how many of the fileids up to one more than the last an inode keeps a digest
-fn count_of(inode: &Inode) -> u32 {
+fn count_of(inode: &BoxedInode) -> u32 {
     let mut count: u32 = 0;
     for number in 0..=LAST + 1 {
         if keeps(inode, number) {
@@ -126,7 +127,7 @@ fn count_of(inode: &Inode) -> u32 {
 // the same of all inodes
 fn kept_under(files: &FileSystem) -> Option<u32> {
     let mut count: u32 = 0;
-    for (_, inode) in files.tree()?.iter() {
+    for (_, inode) in files.tree()?.boxes() {
         count = count.wrapping_add(count_of(inode));
     }
     Some(count)

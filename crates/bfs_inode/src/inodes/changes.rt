@@ -18,7 +18,6 @@ impl Inode {
         ensures ok { OnOk result (self.new ≡ with_settings now settings.now self.old) }
         ensures err { OnErr result (self.new ≡ self.old) }
     {
-        self.kept = None;
         if let Some(size) = settings.size {
             self.body.resize(size)?;
             self.mtime = now;
@@ -39,7 +38,6 @@ impl Inode {
         ensures ok { OnOk result (self.new ≡ with_bytes now offset bytes.now self.old) }
         ensures err { OnErr result (self.new ≡ self.old) }
     {
-        self.kept = None;
         self.body.write(offset, bytes)?;
         self.touch(now);
         Ok(())
@@ -62,7 +60,6 @@ impl Inode {
         ensures ok { OnOk result (self.new ≡ with_entry now (record { cookie = cookie; name = name.now; child = child }) self.old) }
         ensures err { OnErr result (self.new ≡ self.old) }
     {
-        self.kept = None;
         self.body.add_entry(cookie, name, child)?;
         self.touch(now);
         Ok(())
@@ -73,7 +70,6 @@ impl Inode {
         requires { self.old.links < most_links }
         ensures { self.new ≡ with_link now self.old }
     {
-        self.kept = None;
         self.links += 1;
         self.set_ctime(now);
     }
@@ -83,7 +79,6 @@ impl Inode {
     pub fn drop_entry(&mut self, now: Time, name: &[u8])
         ensures { self.new ≡ without_entry now name.now self.old }
     {
-        self.kept = None;
         self.body.drop_entry(name);
         self.touch(now);
     }
@@ -92,7 +87,6 @@ impl Inode {
     pub fn set_parent(&mut self, parent: FileId)
         ensures { self.new ≡ with_parent parent self.old }
     {
-        self.kept = None;
         self.body.set_parent(parent);
     }
 
@@ -100,7 +94,6 @@ impl Inode {
     pub fn lose_link(&mut self, now: Time)
         ensures { self.new ≡ with_link_less now self.old }
     {
-        self.kept = None;
         self.links = self.links.saturating_sub(1);
         self.set_ctime(now);
     }
@@ -109,7 +102,6 @@ impl Inode {
     pub fn set_ctime(&mut self, now: Time)
         ensures { self.new ≡ with_ctime now self.old }
     {
-        self.kept = None;
         self.ctime = now;
     }
 
@@ -117,7 +109,6 @@ impl Inode {
     fn touch(&mut self, now: Time)
         ensures { self.new ≡ touched now self.old }
     {
-        self.kept = None;
         self.mtime = now;
         self.set_ctime(now);
     }

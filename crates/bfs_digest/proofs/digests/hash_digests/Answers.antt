@@ -13,7 +13,7 @@ use Rattle.bfs_digest.proofs.digests.hash_digests.Goals as goal
 
 pub loop-id-init : goal.loop-id-init
 loop-id-init c =
-    let is = c.into_iter-id-iterator.ensures.into_iter_gives ∙ c.iter-id-items.ensures in
+    let is = c.into_iter-id-iterator.ensures.into_iter_gives ∙ c.boxes-id-items.ensures in
     record { fed = fed_none Holds256 digest_text c.args.hasher.now (entries (at_home c.args.tree.now)) _ is; there = all_there (at_home c.args.tree.now) _ is }
 
 pub digest_at-digest-requires : goal.digest_at-digest-requires

@@ -2,4 +2,4 @@ use Rattle.std.proofs.Common.{◌≡◌}
 use Rattle.bfs_digest.proofs.refreshing.keep_each.Given as goal
 
 abbrev pub invariant-loop-hashed : goal.invariant-loop-hashed
-invariant-loop-hashed g l = (g.S.Store.inodes l.store ≡ g.S.Store.inodes l.fn.store) × (g.S.Store.reach l.store ≡ g.S.Store.reach l.fn.store)
+invariant-loop-hashed l = l.tree ≡ l.fn.tree
