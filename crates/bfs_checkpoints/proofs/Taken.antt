@@ -4,18 +4,19 @@ use Rattle.std.specs.Prelude.{bytes_eq}
 use Rattle.std.specs.Result.{IsErrAnd, IsErrOf}
 use Rattle.std.proofs.lemmas.Bool.{both_ways, not-true}
 use Rattle.std.proofs.lemmas.Slice.Eq.{bytes_eq-Decides}
-use Rattle.std.specs.Option.{option_map}
+use Rattle.std.specs.Option.{ForSome, option_map}
 use Rattle.std.proofs.lemmas.Option.{same_Some}
+use Rattle.bfs_model.specs.Server.Stored.{IsLive}
 use Rattle.bfs_model.specs.Server.Tree.{FileSystem}
 use Rattle.bfs_digest.specs.declared.errors.RestoreError.{RestoreError}
 use Rattle.bfs_digest.specs.declared.errors.RestoreError.TheVariants as restore
 use Rattle.sha2.specs.Sha256.{sha256}
 use Rattle.bfs_digest.specs.Frozen.{FrozenFiles, frozen_files}
-use Rattle.bfs_replies.specs.Tables.{Table}
+use Rattle.bfs_replies.specs.Tables.{Table, IsKept}
 use Rattle.bfs_replies.specs.Texts.{table_text}
 use Rattle.bfs_checkpoints.specs.Adoption.{HasDigest, HasOtherDigest, refusal_of}
 use Rattle.bfs_checkpoints.specs.Outcomes.{IsRead}
-use Rattle.bfs_checkpoints.specs.Snapshots.{IsSnapshot, Snapshot, snapshot_of}
+use Rattle.bfs_checkpoints.specs.Snapshots.{IsSnapshot, IsTaken, Snapshot, snapshot_of}
 use Rattle.bfs_checkpoints.specs.Texts.{node_digest, node_text}
 use Rattle.bfs_checkpoints.specs.declared.adoption.AdoptError.{AdoptError}
 use Rattle.bfs_checkpoints.specs.declared.adoption.AdoptError.TheVariants as error
@@ -31,9 +32,13 @@ taken (Some live) table frozen digest is hashed =
     let same = same_Some (frozen_files live) frozen is in
     ap Some (same_snapshot (node_text live table) (table_text table ++ frozen.text) (node_digest live table) digest (ap (λ (f : FrozenFiles). table_text table ++ f.text) same) (ap (λ (f : FrozenFiles). sha256 (f.digest ++ table_text table)) same ∙ sym hashed))
 
-pub is_taken : (files : Option FileSystem) (table : Table) (snapshot : Snapshot) → option_map (λ live. snapshot_of live table) files ≡ Some snapshot → IsSnapshot snapshot
-is_taken None table snapshot is = absurd cc
-is_taken (Some live) table snapshot is = record { files = live; table = table; is = sym (same_Some _ _ is) }
+pub is_taken : (files : Option FileSystem) (table : Table) (snapshot : Snapshot) → ForSome files IsLive → IsKept table → option_map (λ live. snapshot_of live table) files ≡ Some snapshot → IsTaken snapshot
+is_taken None table snapshot live kept is = absurd cc
+is_taken (Some files) table snapshot live kept is = record { files = files; table = table; live = live files refl; kept = kept; is = sym (same_Some _ _ is) }
+
+-- its text and its digest are of one state
+pub of_one_state : (snapshot : Snapshot) → IsTaken snapshot → IsSnapshot snapshot
+of_one_state snapshot taken = record { files = taken.files; table = taken.table; is = taken.is }
 
 -- its digest is that of the state
 pub has_digest : (files : Option FileSystem) (table : Table) (snapshot : Snapshot) → option_map (λ live. snapshot_of live table) files ≡ Some snapshot → HasDigest files table snapshot.digest

@@ -11,9 +11,9 @@ use bfs_types::Memory;
 use std::alloc::Global;
 use std::marker::Model;
 
-/// A snapshot, and the number of its checkpoint.
+/// A snapshot that is kept, and the number of its checkpoint.
 #[derive(Drop)]
-struct Kept {
+pub struct Kept {
     number: u64,
     snapshot: Snapshot,
 }
@@ -27,6 +27,27 @@ impl Model for Kept {
 }
 
 impl Kept {
+    /// The snapshot of the checkpoint of that number.
+    pub fn new(number: u64, snapshot: Snapshot) -> Kept
+        ensures { result ≡ record { number = number; snapshot = snapshot } }
+    {
+        Kept { number, snapshot }
+    }
+
+    /// The number of the checkpoint.
+    pub fn number(&self) -> u64
+        ensures { result ≡ self.now.number }
+    {
+        self.number
+    }
+
+    /// The snapshot.
+    pub fn snapshot(&self) -> &Snapshot
+        ensures { result.now ≡ self.now.snapshot }
+    {
+        &self.snapshot
+    }
+
     fn is_of(&self, number: u64, digest: &[u8; 32]) -> bool
         ensures { result ≡ is_of number digest.now self.now }
     {
@@ -80,6 +101,29 @@ impl Snapshots {
         }
     }
 
+    /// These snapshots, with what makes one of them stable, if any is: as `kept` and `certificate` give them. At most `f` replicas are faulty.
+    pub fn with_kept(f: u32, kept: Vec<Kept>, stable: Option<StableCheckpoint>) -> Snapshots
+        requires { IfSome stable (MakesStable f) }
+        ensures { result ≡ record { f = f; kept = kept.items; stable = stable } }
+    {
+        Snapshots { f, kept, stable }
+    }
+
+    /// The snapshots, in the order in which they came.
+    pub fn kept(&self) -> &[Kept]
+        ensures { result.now ≡ self.now.kept }
+    {
+        &self.kept
+    }
+
+    /// The CHECKPOINTs that make a snapshot stable. None where none is.
+    pub fn certificate(&self) -> Option<&StableCheckpoint>
+        ensures value { option_map (λ c. c.now) result ≡ self.now.stable }
+        ensures certified { IfSome self.now.stable (MakesStable self.now.f) }
+    {
+        self.stable.as_ref()
+    }
+
     /// How many replicas may be faulty at most.
     pub fn faults(&self) -> u32
         ensures { result ≡ self.now.f }
@@ -92,7 +136,7 @@ impl Snapshots {
         ensures ok { OnOk result (self.new ≡ with_snapshot self.old number snapshot) }
         ensures err { OnErr result (self.new ≡ self.old) }
     {
-        Ok(self.kept.push(Kept { number, snapshot })?)
+        Ok(self.kept.push(Kept::new(number, snapshot))?)
     }
 
     /// Forgets the last snapshot, as where the checkpoint that it was taken for is refused. It takes no memory.

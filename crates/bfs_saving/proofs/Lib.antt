@@ -5,4 +5,5 @@ pub mod Apart
 pub mod Stable
 pub mod Whole
 pub mod Again
+pub mod Sealed
 pub mod Seen

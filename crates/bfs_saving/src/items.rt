@@ -92,7 +92,7 @@ pub(crate) fn put_optional<T: Saved>(
 
 /// Appends bytes behind their number. `Memory` if memory runs out.
 #[tactic(auto, using(std::proofs::lemmas::List::append_assoc))]
-pub fn put_long(out: &mut Vec<u8>, bytes: &[u8]) -> Result<(), Memory>
+pub(crate) fn put_long(out: &mut Vec<u8>, bytes: &[u8]) -> Result<(), Memory>
     ensures text { OnOk result (out.new.items ≡ out.old.items ++ long_text bytes.now) }
     ensures fits { OnOk result (FitsLong bytes.now) }
 {
@@ -101,7 +101,8 @@ pub fn put_long(out: &mut Vec<u8>, bytes: &[u8]) -> Result<(), Memory>
     Ok(out.extend_from_slice(bytes)?)
 }
 
-fn are_bytes(bytes: &[u8])
+/// What is said is the contract.
+pub(crate) fn are_bytes(bytes: &[u8])
     ensures double { IsDouble (length bytes.now) }
     ensures bytes { AreBytes bytes.now }
 {

@@ -5,6 +5,7 @@
 mod certificates;
 mod changes;
 mod error;
+mod fronts;
 mod items;
 mod logs;
 mod messages;
@@ -12,12 +13,16 @@ mod orders;
 mod reader;
 mod requests;
 mod saved;
+mod sealing;
+mod states;
 
 pub use certificates::put_stable;
 pub use changes::put_changes;
 pub use error::SavedError;
-pub use items::put_long;
+pub use fronts::{MAGIC, VERSION, put_front, refusal};
 pub use messages::put_new_view;
 pub use orders::put_order;
 pub use requests::put_requests;
-pub use saved::{MAGIC, SavedNode, SavedState, VERSION, put_front, put_state, read_saved};
+pub use saved::{SavedNode, SavedState, read_saved};
+pub use sealing::seal;
+pub use states::{begin_long, begin_many, begin_state, end_long};

@@ -1,41 +1,34 @@
 // A whole saved replica, as it is read.
-ghost use Rattle.std.specs.Prelude.{◌≡◌, ◌<◌, ◌≤◌, ◌+◌, ◌*◌, ◌++◌, true, false, IfOk, IsErrOf, OnOk};
-ghost use Rattle.bfs_model.specs.Bytes.Formats.{items_from, then_from};
-ghost use Rattle.bfs_model.specs.Bytes.Items.{word};
-ghost use Rattle.bfs_model.specs.Server.Limits.{most_faults};
+ghost use Rattle.std.specs.Prelude.{◌≡◌, ◌≢◌, ◌<◌, ◌≤◌, ◌+◌, ◌*◌, length, IfErr, IfOk};
+ghost use Rattle.bfs_model.specs.Bytes.Formats.{items_from, then_from, whole_from};
+ghost use Rattle.bfs_model.specs.Server.Limits.{most_clients, most_faults};
 ghost use Rattle.bfs_codec.specs.Codes.{Gives, Reads};
 ghost use Rattle.bfs_saving.specs.Certificates.{stable_from};
-ghost use Rattle.bfs_saving.specs.Errors.{IsOnly, has_other_version, refusal_of};
+ghost use Rattle.bfs_saving.specs.Errors.{IsOnly, refusal};
 ghost use Rattle.bfs_saving.specs.Parts.{changes_from, new_view_from, order_from, requests_from};
 ghost use Rattle.bfs_saving.specs.declared.error.SavedError.TheVariants as error;
 ghost use Rattle.bfs_saving.specs.Items.{many_from};
 ghost use Rattle.bfs_saving.specs.Saved as model;
-ghost use Rattle.bfs_saving.specs.Saved.{FitsSaved, magic, parts_from, saved_of, saved_text, state_from, state_text, version};
+ghost use Rattle.bfs_saving.specs.Saved.{FitsSaved, parts_from, saved_from, saved_of, saved_text, state_from};
 
 use crate::certificates::read_stable;
 use crate::changes::read_changes;
 use crate::error::SavedError;
-use crate::items::{Saved, put_long};
+use crate::fronts::{MAGIC, VERSION, refusal};
+use crate::items::Saved;
 use crate::orders::read_order;
 use crate::reader::SavedReader;
 use crate::requests::read_requests;
+use crate::sealing::unsealed;
 use bfs_auth::Keys;
 use bfs_codec::DecodeError;
 use bfs_log::StableCheckpoint;
 use bfs_messages::{NewView, Signed};
 use bfs_order::Order;
 use bfs_pending::PendingRequests;
-use bfs_types::Memory;
 use bfs_view_change::KeptViewChanges;
-use bfs_xdr::{Reader, put_u32, put_u64};
 use std::alloc::Global;
 use std::marker::Model;
-
-/// The word in front of every saved replica: `BFSN`.
-pub const MAGIC: u32 = 0x4246_534e;
-
-/// The version of the text that is written.
-pub const VERSION: u32 = 1;
 
 /// The text of a state, and the number of its checkpoint.
 #[derive(Drop)]
@@ -55,6 +48,7 @@ impl<'a> Model for SavedState<'a> {
 /// What a text spells of a replica: its parts, and the texts of its states, which are not copied.
 #[derive(Drop)]
 pub struct SavedNode<'a> {
+    pub clients: u32,
     pub order: Order,
     pub pending: PendingRequests,
     pub changes: KeptViewChanges,
@@ -69,21 +63,12 @@ impl<'a> Model for SavedNode<'a> {
 
     ghost Value = { model.Saved };
 
-    ghost view = { λ s. record { order = s.order; pending = s.pending; changes = s.changes; new_view = s.new_view; stable = s.stable; states = s.states.items; own = s.own.now } };
+    ghost view = { λ s. record { clients = s.clients; order = s.order; pending = s.pending; changes = s.changes; new_view = s.new_view; stable = s.stable; states = s.states.items; own = s.own.now } };
 }
 
-/// Appends the word and the version in front. `Memory` if memory runs out.
-#[tactic(auto, using(std::proofs::lemmas::List::append_assoc))]
-pub fn put_front(out: &mut Vec<u8>) -> Result<(), Memory>
-    ensures { OnOk result (out.new.items ≡ out.old.items ++ (word magic ++ word version)) }
-{
-    put_u32(out, MAGIC)?;
-    put_u32(out, VERSION)
-}
-
-/// What the bytes spell of the replica of that number, where `f` of its replicas may be faulty. `Malformed` if they don't begin with `BFSN`,
-/// `WrongVersion` if another version than 1 follows, `Malformed` if the rest spells none, or one of another number or another f, or with a request
-/// that isn't its client's; `Memory` if memory runs out.
+/// What the bytes spell of the replica of that number, where `f` of its replicas may be faulty. `WrongVersion` if they begin with `BFSN` and another
+/// version than 1 follows; `OtherSettings` if behind that another number of clients or another f follows, `OtherReplica` if another number of a replica
+/// does; `Malformed` if they spell none all the same: if they were cut or changed, or a request that waits isn't its client's; `Memory` if memory runs out.
 pub fn read_saved<'a>(
     alloc: Global,
     keys: &Keys,
@@ -93,49 +78,21 @@ pub fn read_saved<'a>(
 ) -> Result<SavedNode<'a>, SavedError>
     requires faults { f ≤ most_faults }
     requires me { me < 3 * f + 1 }
+    requires clients { length keys.now.clients ≤ most_clients }
     // What is read is spelled so.
     ensures found { IfOk result (λ s. (bytes.now ≡ saved_text s) × FitsSaved keys.now f me s) }
     // What is spelled so is read.
     ensures only { (s : model.Saved) → FitsSaved keys.now f me s → bytes.now ≡ saved_text s → IsOnly s result }
-    ensures wrong_version { IsErrOf result error.WrongVersion → has_other_version bytes.now ≡ true }
-    ensures malformed { IsErrOf result error.Malformed → has_other_version bytes.now ≡ false }
+    ensures refused { IfErr result (λ e. e ≢ error.Memory → e ≡ refusal (length keys.now.clients) f me bytes.now) }
 {
     match read_whole(alloc, keys, f, me, bytes) {
         Ok(saved) => Ok(saved),
-        Err(error) => Err(why_refused(error, bytes)),
+        Err(DecodeError::Malformed) => Err(refusal(keys.clients() as u32, f, me, bytes)),
+        Err(DecodeError::Memory) => Err(SavedError::Memory),
     }
 }
 
-// Why bytes are refused that spell no such replica, or for which memory ran out.
-fn why_refused(error: DecodeError, bytes: &[u8]) -> SavedError
-    ensures { result ≡ refusal_of error bytes.now }
-{
-    match error {
-        DecodeError::Malformed => {
-            if has_other_version(bytes) {
-                SavedError::WrongVersion
-            } else {
-                SavedError::Malformed
-            }
-        }
-        DecodeError::Memory => SavedError::Memory,
-    }
-}
-
-fn has_other_version(bytes: &[u8]) -> bool
-    ensures { result ≡ has_other_version bytes.now }
-{
-    let mut reader = Reader::strict(bytes);
-    let Ok(first) = reader.u32() else {
-        return false;
-    };
-    let Ok(version) = reader.u32() else {
-        return false;
-    };
-    first == MAGIC && version != VERSION
-}
-
-#[tactic(auto, unfolding(crate::specs::Saved::saved_of, crate::specs::Saved::saved_from))]
+#[tactic(auto, unfolding(crate::specs::Saved::saved_of))]
 fn read_whole<'a>(
     alloc: Global,
     keys: &Keys,
@@ -145,11 +102,32 @@ fn read_whole<'a>(
 ) -> Result<SavedNode<'a>, DecodeError>
     requires faults { f ≤ most_faults }
     requires me { me < 3 * f + 1 }
+    requires clients { length keys.now.clients ≤ most_clients }
     ensures { Gives result (saved_of keys.now f me bytes.now) }
+{
+    match unsealed(bytes) {
+        Some(body) => read_body(alloc, keys, f, me, body),
+        None => Err(DecodeError::Malformed),
+    }
+}
+
+#[tactic(auto, unfolding(crate::specs::Saved::saved_from))]
+fn read_body<'a>(
+    alloc: Global,
+    keys: &Keys,
+    f: u32,
+    me: u32,
+    bytes: &'a [u8],
+) -> Result<SavedNode<'a>, DecodeError>
+    requires faults { f ≤ most_faults }
+    requires me { me < 3 * f + 1 }
+    requires clients { length keys.now.clients ≤ most_clients }
+    ensures { Gives result (whole_from (saved_from keys.now f me) bytes.now) }
 {
     let mut reader = SavedReader::new(alloc, bytes);
     reader.tag(MAGIC)?;
     reader.tag(VERSION)?;
+    reader.tag(keys.clients() as u32)?;
     let saved = read_parts(&mut reader, keys, f, me)?;
     if !reader.is_at_end() {
         return Err(DecodeError::Malformed);
@@ -166,6 +144,7 @@ fn read_parts<'a>(
 ) -> Result<SavedNode<'a>, DecodeError>
     requires faults { f ≤ most_faults }
     requires me { me < 3 * f + 1 }
+    requires clients { length keys.now.clients ≤ most_clients }
     ensures { Reads (λ s. s) result (parts_from keys.now f me reader.old) reader.new }
 {
     let (order, pending) = read_first(reader, keys, f, me)?;
@@ -173,6 +152,7 @@ fn read_parts<'a>(
     let (stable, states) = read_kept(reader, f)?;
     let own = reader.long()?;
     Ok(SavedNode {
+        clients: keys.clients() as u32,
         order,
         pending,
         changes,
@@ -248,13 +228,4 @@ fn read_state<'a>(reader: &mut SavedReader<'a>) -> Result<SavedState<'a>, Decode
     let number = reader.u64()?;
     let text = reader.long()?;
     Ok(SavedState { number, text })
-}
-
-/// Appends the number of a checkpoint, and the text of the state there. `Memory` if memory runs out.
-#[tactic(auto, using(std::proofs::lemmas::List::append_assoc))]
-pub fn put_state(out: &mut Vec<u8>, number: u64, text: &[u8]) -> Result<(), Memory>
-    ensures { OnOk result (out.new.items ≡ out.old.items ++ state_text (record { number = number; text = text.now })) }
-{
-    put_u64(out, number)?;
-    put_long(out, text)
 }
