@@ -11,4 +11,13 @@ mod Executing
 mod Resending
 mod Standing
 mod Entering
+mod Each
+mod Least
+mod Resting
+mod Asked
+mod Hears
+mod Following
+mod Snapshots
+mod Collected
+mod CatchingUp
 mod Premises

@@ -4,6 +4,10 @@ pub mod Members
 pub mod Rounds
 pub mod Entering
 pub mod Executing
+pub mod Following
+pub mod LawsOfFollowing
+pub mod CatchingUp
+pub mod LawsOfCatchingUp
 pub mod Laws
 pub mod Examples
 pub mod Inside

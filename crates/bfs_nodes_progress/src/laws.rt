@@ -2,8 +2,12 @@
 // one, and deliveries of bytes and messages to them, of which at most f lie, and nothing that passes under a correct one's name is forged. "Members"
 // are 2f + 1 correct nodes or more, and the view's primary is one of them.
 ghost use Rattle.bfs_nodes_progress.specs.Laws.{AnswersAreSaid, AnswersAreTheTheorys, CommittedIsExecuted, NewViewsAreEntered, ProposalsStand, QuietIsCommitted, RoundsCommit, VotesAreResent};
+ghost use Rattle.bfs_nodes_progress.specs.LawsOfCatchingUp.{AllComeUp, CatchingUpInstalls, CheckpointsTellSnapshots, SnapshotsAreOfStates, WhoIsBehindComesUp};
+ghost use Rattle.bfs_nodes_progress.specs.LawsOfFollowing.{AllAsk, AllFollow, NoneLags, WhatIsHeardWasAsked};
 
 use crate::below::what_is_below;
+use bfs_checkpoints::right_checkpoints_are_collected;
+use bfs_nodes_agree::node_calls::laws::nodes_agree;
 
 /// What an order answers to a message that it takes is, by headers, what a replica answers in the theory of agreement.
 #[tactic(auto, using(crate::proofs::Answers::taken_alike))]
@@ -59,6 +63,74 @@ pub fn new_views_are_entered()
 /// many calls.
 pub fn committed_is_executed()
     ensures { CommittedIsExecuted }
+{
+    what_is_below();
+}
+
+/// Whatever calls and deliveries there were, and whoever lies: by the VIEW-CHANGEs that came to a node no correct one asks for a later view than it
+/// has asked for.
+pub fn what_is_heard_was_asked()
+    ensures { WhatIsHeardWasAsked }
+{
+    what_is_below();
+}
+
+/// For members, of which f + 1 have asked for a view and are heard: one that has asked for less has a view to follow to
+/// (`Node::view_to_follow`, OSDI 1999 section 4.5.2). That is later than its own, and none past all that members have asked for.
+pub fn none_lags()
+    ensures { NoneLags }
+{
+    what_is_below();
+}
+
+/// For members, of which f + 1 have asked for a view and are heard, and none for a later one: by rounds in which each follows once, as far as it
+/// may, all come to ask for that view. There are as many rounds as the least view that one has asked for lies below it, whatever liars ask for.
+pub fn all_ask()
+    ensures { AllAsk }
+{
+    what_is_below();
+}
+
+/// For members: where f + 1 of them have asked for a view, and their VIEW-CHANGEs for it or for later ones come to each other one, by whose keys
+/// they are valid, whatever else comes, then once none has a view to follow to each has asked for that view or a later one.
+pub fn all_follow()
+    ensures { AllFollow }
+{
+    what_is_below();
+}
+
+/// By a checkpoint that is shown to a node by its keys, with a state of its digest, the node's marks rise to the checkpoint's number, each where it
+/// is below: where it has executed up to it by `Node::settle`, and else by `Node::adopt`, by which it holds that state.
+#[tactic(auto, using(crate::proofs::CatchingUp::installs))]
+pub fn catching_up_installs()
+    ensures { CatchingUpInstalls }
+{}
+
+/// Each snapshot that a node keeps is of a state that it was in at that number, by executing or adopting; and each CHECKPOINT of that number that
+/// a correct node has sent tells its digest, where no two batches and no two states of one number have one digest.
+pub fn checkpoints_tell_snapshots()
+    ensures states { SnapshotsAreOfStates }
+    ensures digests { CheckpointsTellSnapshots }
+{
+    what_is_below();
+    nodes_agree();
+}
+
+/// A node that is given a snapshot that a correct one keeps (`Node::told`), and CHECKPOINTs of its number: where those of 2f + 1 correct nodes are
+/// right by its keys, whatever others are among them, it collects what shows the checkpoint (`Node::collect`), and by one turn it comes up to that
+/// number, wherever it was.
+pub fn who_is_behind_comes_up()
+    ensures { WhoIsBehindComesUp }
+{
+    what_is_below();
+    nodes_agree();
+    right_checkpoints_are_collected();
+}
+
+/// For members, to each of which a checkpoint of one number and state is shown by its keys: once each has taken its turn by that, all are up to
+/// that number, and the next one has room at each, where no mark was above it before.
+pub fn all_come_up()
+    ensures { AllComeUp }
 {
     what_is_below();
 }

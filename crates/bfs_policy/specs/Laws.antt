@@ -1,9 +1,9 @@
 -- What holds of a policy whatever it is told.
-use Rattle.std.specs.Prelude.{◌≡◌, ◌<◌, ◌≤◌, false, None}
+use Rattle.std.specs.Prelude.{◌≡◌, ◌↔◌, ℕ, ◌<◌, ◌≤◌, false, Some, None}
 use Rattle.bfs_policy.specs.Policies.{Policy, decision_of, policy_after}
 use Rattle.bfs_policy.specs.Timers.{most_patience}
 use Rattle.bfs_policy.specs.declared.facts.Facts.{Facts}
-use Rattle.bfs_policy.specs.declared.facts.Leaving.TheVariants.{Stays}
+use Rattle.bfs_policy.specs.declared.facts.Leaving.TheVariants.{Follows, Stays}
 use Rattle.bfs_policy.specs.declared.timer.Timer.{Timer}
 
 -- one at which nothing waits leaves its view only to follow others
@@ -21,3 +21,7 @@ PatienceIsBounded = (policy : Policy) (facts : Facts) → IsPatient policy.timer
 -- one that has executed something waits for the next request the least
 abbrev pub ExecutionEndsPatience : Type 0
 ExecutionEndsPatience = (policy : Policy) (facts : Facts) → policy.timer.seen.last < facts.own.last → (policy_after policy facts).timer.patience ≡ policy.timer.least
+
+-- one that sees others ask for later views follows at once to that very view, whatever else it is told, and to no other
+abbrev pub FollowsAsTold : Type 0
+FollowsAsTold = (policy : Policy) (facts : Facts) (view : ℕ) → ((decision_of policy facts).leaving ≡ Follows view) ↔ (facts.follow ≡ Some view)

@@ -12,5 +12,7 @@ mod timer;
 mod times;
 
 pub use facts::{Decision, Facts, Leaving, Standing};
-pub use laws::{execution_ends_patience, patience_is_bounded, times_out_only_waiting};
+pub use laws::{
+    execution_ends_patience, patience_is_bounded, the_policy_follows, times_out_only_waiting,
+};
 pub use policy::Policy;

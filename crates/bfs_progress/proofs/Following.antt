@@ -22,7 +22,7 @@ step_apart true x y n e = omega (arith, e)
 step_apart false x y n e = omega (arith, e)
 
 -- who passes a test and who doesn't are all
-apart : (p : ℕ → Bool) (n : ℕ) → count_below p n + count_below (λ k. not (p k)) n ≡ n
+pub apart : (p : ℕ → Bool) (n : ℕ) → count_below p n + count_below (λ k. not (p k)) n ≡ n
 apart p zero = omega arith
 apart p (suc n) = step_apart (p n) (count_below p n) (count_below (λ k. not (p k)) n) n (apart p n)
 
