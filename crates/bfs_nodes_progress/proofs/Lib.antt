@@ -10,5 +10,11 @@ mod Rounds
 mod Executing
 mod Resending
 mod Standing
+mod Requests
 mod Entering
+mod Places
+mod Prompt
+mod Begun
+mod Giving
+mod Together
 mod Premises

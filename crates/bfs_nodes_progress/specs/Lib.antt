@@ -3,7 +3,10 @@ pub mod Runs
 pub mod Members
 pub mod Rounds
 pub mod Entering
+pub mod Begun
+pub mod Giving
 pub mod Executing
+pub mod Requests
 pub mod Laws
 pub mod Examples
 pub mod Inside
