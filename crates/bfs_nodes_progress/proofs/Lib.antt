@@ -10,6 +10,7 @@ mod Rounds
 mod Executing
 mod Resending
 mod Standing
+mod Requests
 mod Entering
 mod Each
 mod Least
@@ -20,4 +21,9 @@ mod Following
 mod Snapshots
 mod Collected
 mod CatchingUp
+mod Places
+mod Prompt
+mod Begun
+mod Giving
+mod Together
 mod Premises

@@ -1,7 +1,7 @@
 -- The premises of the laws hold in a run.
 use Rattle.std.proofs.Common.{◌≡◌, ◌+◌, ◌<◌, ◌≤◌, [], refl, arith}
 use Rattle.bfs_progress.proofs.Public.{each_present, present_quorum}
-use Rattle.bfs_nodes_progress.specs.Examples.{HoldInAView, one_proposal}
+use Rattle.bfs_nodes_progress.specs.Examples.{HoldBetweenViews, HoldInAView, one_proposal, three_timeouts}
 use Rattle.bfs_nodes_progress.specs.Runs.{order_of, reached}
 use Rattle.bfs_nodes_progress.proofs.Standing.{proposals_stand}
 
@@ -20,4 +20,15 @@ in_a_view keys start time shared =
         high = each_present (λ k. 1 ≤ (order_of w k).low + 32) (omega arith) (omega arith) (omega arith);
       },
       proposals_stand (reached 1 keys start [] 0).node time refl,
+    )
+
+pub between_views : HoldBetweenViews
+between_views keys start shared =
+    let w = reached 1 keys start three_timeouts in (
+      record { others = omega arith; shared = shared; few = omega arith; authentic = (tt, (tt, (tt, tt))) },
+      record {
+        quorum = present_quorum 1 refl;
+        asked = each_present (λ k. (order_of w k).asked ≡ 1) refl refl refl;
+        before = each_present (λ k. (order_of w k).view < 1) (omega arith) (omega arith) (omega arith);
+      },
     )

@@ -26,11 +26,10 @@ use Rattle.bfs_nodes_agree.specs.Orders.Replicas as ordered
 use Rattle.bfs_nodes_agree.proofs.Orders.Lists.{either_in, left_in, right_in, some_is}
 use Rattle.bfs_nodes_agree.proofs.Views.Lists.{contains, in_map, is_in, out_of_map}
 use Rattle.bfs_nodes_agree.specs.Views.Replicas as turns
-use Rattle.bfs_node.specs.Changing.{begun, begun_if_due, change_in, change_refusal, leads, leaving_refusal, left_for, may_begin, new_view_in, next_view, own_change, view_refusal, with_new_view, with_view_change}
+use Rattle.bfs_node.specs.Changing.{begun, begun_if_due, change_in, change_refusal, leads, leaving_refusal, left_for, may_begin, next_view, own_change, with_view_change}
 use Rattle.bfs_node.specs.Delivering.{bytes_delivered, bytes_refusal, message_delivered, message_refusal}
 use Rattle.bfs_node.specs.Nodes.{Node, Outcome}
 use Rattle.bfs_node.specs.Resending.{change_resent, new_view_resent, resent}
-use Rattle.bfs_node.specs.Settling.{settling, settling_refusal}
 use Rattle.bfs_node.specs.declared.error.NodeError.{NodeError}
 use Rattle.bfs_view_change.specs.Changes.Keeping.{Kept, with_asked, with_change}
 use Rattle.bfs_nodes_agree.specs.Nodes.Premises.{AreAuthentic, AreShared, HasSaid, IsWhollyFair, IsWithin, WasGiven, offers_in, signed_part}
