@@ -1,4 +1,4 @@
-// What no inode keeps, hashed on threads: first the blocks of all files, so that one large file takes as many threads as many small ones
+// What is kept of no inode, hashed on threads: first the blocks of all files, so that one large file takes as many threads as many small ones
 // do, and then the records.
 ghost use Rattle.std.specs.Prelude.{◌≡◌, List, ℕ, IfOk};
 ghost use Rattle.std.specs.List.{All};
