@@ -19,6 +19,7 @@ pub use Rattle.bfs_nodes_agree.proofs.Nodes.Hearing.{IsHeard, change_said, grown
 pub use Rattle.bfs_nodes_agree.proofs.Nodes.Keeping.{AreKept, enough_for, good_for, good_on, kept_above, kept_with, none_kept}
 pub use Rattle.bfs_nodes_agree.proofs.Nodes.Kinds.{Kind, Leaves, Left, Rested, TakesChange, TakesNewView, TookChange, TookNewView, step_kind}
 pub use Rattle.bfs_nodes_agree.proofs.Nodes.NewViews.{all_for, is_taken}
+pub use Rattle.bfs_nodes_agree.proofs.Nodes.Resending.{change_keeps}
 pub use Rattle.bfs_nodes_agree.proofs.Nodes.Resting.{Rests}
 pub use Rattle.bfs_nodes_agree.proofs.Nodes.States.{both_at, executed_in, here_after}
 pub use Rattle.bfs_nodes_agree.proofs.Nodes.Steps.{after_deeds, begins_open, called, not_refused, not_second, step_leads}

@@ -23,7 +23,7 @@ use Rattle.bfs_view_change.specs.declared.error.ViewError.TheVariants.{BadAuthen
 use Rattle.bfs_node.specs.Changing.{begun, begun_if_due, entered_by, leads, may_begin, own_change, own_new_view, view_refusal, with_new_view, with_view_change}
 use Rattle.bfs_node.specs.Nodes.{Node, Outcome}
 use Rattle.bfs_nodes_agree.specs.Nodes.Steps.{NodeStep, outcome, still}
-use Rattle.bfs_nodes_agree.proofs.Public.{AreKept, Left, Rested, Rests, TookChange, TookNewView, all_for, enough_for, enough_senders, is_taken, kept_above, kept_with, step_kind}
+use Rattle.bfs_nodes_agree.proofs.Public.{AreKept, Left, Rested, Rests, TookChange, TookNewView, all_for, change_keeps, enough_for, enough_senders, is_taken, kept_above, kept_with, step_kind}
 use Rattle.bfs_nodes_progress.specs.Begun.{new_view_passes}
 use Rattle.bfs_nodes_progress.proofs.Prompt.{entered_asked, entered_view}
 
@@ -195,16 +195,6 @@ module _ (P : (me asked : ℕ) → Type 0) where
         | false ↦ is
       ]
 
--- of its own it has the same
-change_own : (node : Node) (s : Signed model.ViewChange) → (with_view_change node s).now.changes.own ≡ node.changes.own
-change_own node s =
-    let there = record node { changes = with_change node.changes s } in
-    let noted = record node { changes = with_asked node.changes s.message } in
-    elim (leads node s.message.view) as (λ b. (cond b (begun_if_due there) (still noted)).now.changes.own ≡ node.changes.own) [
-      | true ↦ elim (may_begin there) as (λ b. (cond b (begun there) (still there)).now.changes.own ≡ node.changes.own) [ true ↦ refl | false ↦ refl ]
-      | false ↦ refl
-    ]
-
 -- Each step ---------------------------------------------------------------------------------------------------------------
 
 keeps_at : (f : ℕ) (node now : Node) → Rests node now → Keeps f node → Keeps f now
@@ -222,7 +212,7 @@ keeps_step f node step fits is = elim (step_kind node step) [
       subst (λ (o : Outcome). Keeps f o.now) (sym c.is) (record {
         places = entered.0;
         entered = entered.1;
-        leaving = subst (λ (own : Option (Signed model.ViewChange)). IfLeaving (λ (me asked : ℕ). KeepsChange me asked own) (with_view_change node c.change)) (sym (change_own node c.change))
+        leaving = subst (λ (own : Option (Signed model.ViewChange)). IfLeaving (λ (me asked : ℕ). KeepsChange me asked own) (with_view_change node c.change)) (sym (change_keeps node c.change))
             (change_leaving (λ (me asked : ℕ). KeepsChange me asked node.changes.own) node c.change is.leaving);
       })
   | TookNewView c ↦
