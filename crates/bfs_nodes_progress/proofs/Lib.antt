@@ -20,4 +20,5 @@ mod Following
 mod Snapshots
 mod Collected
 mod CatchingUp
+mod Staying
 mod Premises

@@ -1,7 +1,10 @@
 -- The premises of the laws hold in a run.
-use Rattle.std.proofs.Common.{◌≡◌, ◌+◌, ◌<◌, ◌≤◌, [], refl, arith}
+use Rattle.std.proofs.Common.{◌≡◌, ◌+◌, ◌<◌, ◌≤◌, false, [], refl, arith}
+use Rattle.bfs_votes.specs.Votes.{replicas}
+use Rattle.bfs_agreement.specs.Examples.{silent}
 use Rattle.bfs_progress.proofs.Public.{each_present, present_quorum}
-use Rattle.bfs_nodes_progress.specs.Examples.{HoldInAView, one_proposal}
+use Rattle.bfs_nodes_progress.specs.Examples.{HoldBetweenViews, HoldInAView, one_proposal, timeouts}
+use Rattle.bfs_nodes_progress.specs.Following.{asked_by}
 use Rattle.bfs_nodes_progress.specs.Runs.{order_of, reached}
 use Rattle.bfs_nodes_progress.proofs.Standing.{proposals_stand}
 
@@ -20,4 +23,21 @@ in_a_view keys start time shared =
         high = each_present (λ k. 1 ≤ (order_of w k).low + 32) (omega arith) (omega arith) (omega arith);
       },
       proposals_stand (reached 1 keys start [] 0).node time refl,
+    )
+
+pub between_views : HoldBetweenViews
+between_views keys start shared =
+    let w = reached 1 keys start timeouts in (
+      record { others = omega arith; shared = shared; few = omega arith; authentic = (tt, (tt, (tt, tt))) },
+      record {
+        enough = omega arith;
+        correct = each_present (λ k. silent k ≡ false) refl refl refl;
+        among = each_present (λ k. k < replicas 1) (omega arith) (omega arith) (omega arith);
+      },
+      record {
+        enough = omega arith;
+        among = λ k x. x;
+        asked = each_present (λ k. 1 ≤ asked_by w k) (omega arith) (omega arith) (omega arith);
+      },
+      λ j k in_j _ less. let asked = each_present (λ k. asked_by w k ≡ 1) refl refl refl j in_j in absurd (omega (arith, asked, less)),
     )

@@ -2,8 +2,8 @@
 // one, and deliveries of bytes and messages to them, of which at most f lie, and nothing that passes under a correct one's name is forged. "Members"
 // are 2f + 1 correct nodes or more, and the view's primary is one of them.
 ghost use Rattle.bfs_nodes_progress.specs.Laws.{AnswersAreSaid, AnswersAreTheTheorys, CommittedIsExecuted, NewViewsAreEntered, ProposalsStand, QuietIsCommitted, RoundsCommit, VotesAreResent};
-ghost use Rattle.bfs_nodes_progress.specs.LawsOfCatchingUp.{AllComeUp, CatchingUpInstalls, CheckpointsTellSnapshots, SnapshotsAreOfStates, WhoIsBehindComesUp};
-ghost use Rattle.bfs_nodes_progress.specs.LawsOfFollowing.{AllAsk, AllFollow, NoneLags, WhatIsHeardWasAsked};
+ghost use Rattle.bfs_nodes_progress.specs.LawsOfCatchingUp.{AllComeUp, CatchingUpInstalls, CheckpointsTellSnapshots, SnapshotsAreOfStates, UpStaysUp, WhoIsBehindComesUp};
+ghost use Rattle.bfs_nodes_progress.specs.LawsOfFollowing.{AllAsk, AllFollow, FewAreAhead, NoneLags, WhatIsHeardWasAsked};
 
 use crate::below::what_is_below;
 use bfs_checkpoints::right_checkpoints_are_collected;
@@ -83,6 +83,14 @@ pub fn none_lags()
     what_is_below();
 }
 
+/// A member that has no view to follow to, and has heard of the members that have asked for a later view than it, has at most f of them before it. So
+/// where following ends f + 1 members at least have asked for the least view that one has asked for.
+pub fn few_are_ahead()
+    ensures { FewAreAhead }
+{
+    what_is_below();
+}
+
 /// For members, of which f + 1 have asked for a view and are heard, and none for a later one: by rounds in which each follows once, as far as it
 /// may, all come to ask for that view. There are as many rounds as the least view that one has asked for lies below it, whatever liars ask for.
 pub fn all_ask()
@@ -125,6 +133,13 @@ pub fn who_is_behind_comes_up()
     what_is_below();
     nodes_agree();
     right_checkpoints_are_collected();
+}
+
+/// A node that is up to a number stays so, whatever comes to it: neither its low mark nor the number last executed falls.
+pub fn up_stays_up()
+    ensures { UpStaysUp }
+{
+    what_is_below();
 }
 
 /// For members, to each of which a checkpoint of one number and state is shown by its keys: once each has taken its turn by that, all are up to
