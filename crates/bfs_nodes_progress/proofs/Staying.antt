@@ -1,5 +1,5 @@
 -- Who is up to a number stays so.
-use Rattle.std.proofs.Common.{◌≡◌, ℕ, ◌+◌, ◌<◌, ◌≤◌, Bool, ◌&&◌, cond, List, [], ◌∷◌, ◌++◌, map, max, Option, Some, None, refl, sym, ap, subst, ◌∙◌, true, false, arith}
+use Rattle.std.proofs.Common.{◌≡◌, ℕ, ◌<◌, ◌≤◌, Bool, cond, List, [], ◌∷◌, Option, Some, None, refl, sym, ap, subst, true, false, arith}
 use Rattle.bfs_auth.specs.Keys.{Keys}
 use Rattle.bfs_log.specs.Certificates.{StableCheckpoint}
 use Rattle.bfs_log.specs.Headers.{header}
@@ -15,7 +15,7 @@ use Rattle.bfs_order.specs.Replica.States.{State}
 use Rattle.bfs_order.specs.Replica.Views.{all_taken_over, as_proposals, entered, entering_refusal, leaving_refusal, left, number_of, opened}
 use Rattle.bfs_agreement.specs.Histories.{World, FewAreFaulty}
 use Rattle.bfs_nodes_agree.specs.Nodes.Premises.{AreAuthentic, Comes, IsAuthentic}
-use Rattle.bfs_nodes_agree.specs.Nodes.Replicas.{Beginning, Keyring, NodeReplicas, NodeTurn, after_node_turn, after_node_turns, new_node_replicas, turn_of}
+use Rattle.bfs_nodes_agree.specs.Nodes.Replicas.{NodeReplicas, NodeTurn, after_node_turn, after_node_turns, new_node_replicas}
 use Rattle.bfs_nodes_agree.specs.Nodes.Steps.{deeds_of}
 use Rattle.bfs_nodes_agree.specs.Orders.Replicas.{OrderReplicas}
 use Rattle.bfs_nodes_agree.proofs.Public.{at_each, either_way, right_on, stays_kept}
