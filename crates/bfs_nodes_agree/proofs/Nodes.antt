@@ -11,6 +11,7 @@ pub mod Doing
 pub mod Executing
 pub mod Hearing
 pub mod Keeping
+pub mod Kinds
 pub mod Right
 pub mod Spelled
 pub mod States

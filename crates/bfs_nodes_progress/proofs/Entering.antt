@@ -15,7 +15,7 @@ use Rattle.bfs_order.specs.Replica.Accepting.{accepted}
 use Rattle.bfs_order.specs.Replica.Installing.{raised}
 use Rattle.bfs_order.specs.Replica.Refusals.{place_refusal}
 use Rattle.bfs_order.specs.Replica.States.{State}
-use Rattle.bfs_order.specs.Replica.Views.{all_taken_over, as_proposals, entered, entering_refusal, number_of, opened}
+use Rattle.bfs_order.specs.Replica.Views.{all_taken_over, as_proposals, entering_refusal, number_of, opened}
 use Rattle.bfs_order.specs.declared.error.OrderError.{OrderError}
 use Rattle.bfs_order.specs.declared.error.OrderError.TheVariants.{WrongView}
 use Rattle.bfs_agreement.specs.Histories.{World, FewAreFaulty}

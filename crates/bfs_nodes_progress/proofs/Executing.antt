@@ -6,11 +6,13 @@ use Rattle.bfs_votes.specs.Votes.{Told, primary, prepared, committed}
 use Rattle.bfs_log.specs.Batches.{Committed}
 use Rattle.bfs_log.specs.Headers.{header, message_header}
 use Rattle.bfs_log.specs.Logs.{batch_in}
+use Rattle.bfs_messages.specs.declared.signed.Signed.{Signed}
 use Rattle.bfs_messages.specs.declared.order_messages.OrderMessage.{OrderMessage}
 use Rattle.bfs_messages.specs.declared.order_messages.OrderMessage.TheVariants.{PrePrepare, Prepare, Commit, Checkpoint}
 use Rattle.bfs_model.specs.Server.Tree.{FileSystem}
 use Rattle.bfs_order.specs.Replica.Executing.{batch_of, next_committed, next_order, where_committed}
 use Rattle.bfs_order.specs.Replica.States.{State, known}
+use Rattle.bfs_agreement.specs.Histories.{IsIn}
 use Rattle.bfs_agreement.proofs.Public.{in_told, moved}
 use Rattle.bfs_node.specs.Executing.{executed_on}
 use Rattle.bfs_node.specs.Nodes.{Node, Outcome}
@@ -35,13 +37,22 @@ proposal_batch (Commit vote) two = absurd (omega (arith, two))
 proposal_batch (Checkpoint checkpoint) two = absurd (omega (arith, two))
 
 -- the log tells no other digest of the number
-abbrev IsOne : State → (number : ℕ) → List ℕ → Type 0
+abbrev pub IsOne : State → (number : ℕ) → List ℕ → Type 0
 IsOne s number digest = (e : List ℕ) → Told (known s) 2 (primary s.f s.view) s.view number e → e ≡ digest
 
-proposed_in : (s : State) (n : ℕ) (d : List ℕ) → is_committed s s.view n d ≡ true → Told (known s) 2 (primary s.f s.view) s.view n d
+pub proposed_in : (s : State) (n : ℕ) (d : List ℕ) → is_committed s s.view n d ≡ true → Told (known s) 2 (primary s.f s.view) s.view n d
 proposed_in s n d ready = (prepared_is s.f s.me (known s) s.view n d (and_parts (prepared s.f s.me (known s) s.view n d) _ ready).0).proposal
 
-next_is : (s : State) (d : List ℕ) → is_committed s s.view (s.last + 1) d ≡ true → IsOne s (s.last + 1) d → (c : Committed) × (next_committed s ≡ Some c) × (c.number ≡ s.last + 1)
+-- it is found in the log
+pub record IsNext (s : State) (m : Signed OrderMessage) : Type 0 where
+  pub next : next_order s ≡ Some m
+  pub there : IsIn m s.log
+  pub batch : Committed
+  pub holds : batch_in m.message ≡ Some batch
+  pub number : batch.number ≡ s.last + 1
+  pub digest : Told (known s) 2 (primary s.f s.view) s.view (s.last + 1) (header m).digest
+
+pub next_is : (s : State) (d : List ℕ) → is_committed s s.view (s.last + 1) d ≡ true → IsOne s (s.last + 1) d → (m : Signed OrderMessage) × IsNext s m
 next_is s d ready one =
     let n = s.last + 1 in
     let leader : State = record s { me = primary s.f s.view } in
@@ -52,13 +63,21 @@ next_is s d ready one =
     let there : Told (known s) 2 (primary s.f s.view) s.view n h.digest =
     moved h 2 (primary s.f s.view) s.view n h.digest is (λ t k v n d. Told (known s) t k v n d) (in_told (known s) h (in_map header s.log m got.1.there)) in
     let same : committed s.f s.me (known s) s.view n h.digest ≡ true = subst (λ (e : List ℕ). committed s.f s.me (known s) s.view n e ≡ true) (sym (one h.digest there)) ready in
-    let batch = proposal_batch m.message is.tag in
-    let next : next_order s ≡ Some m = ap (where_committed s) got.1.first ∙ ap (λ (b : Bool). cond b (Some m) None) same in
-    (batch.0, ap batch_of next ∙ batch.1, batch.2 ∙ is.number)
+    let batch = proposal_batch m.message is.tag in (
+      m,
+      record {
+        next = ap (where_committed s) got.1.first ∙ ap (λ (b : Bool). cond b (Some m) None) same;
+        there = got.1.there;
+        batch = batch.0;
+        holds = batch.1;
+        number = batch.2 ∙ is.number;
+        digest = there;
+      },
+    )
 
 executes_next : (node : Node) (d : List ℕ) → is_committed node.order node.order.view (node.order.last + 1) d ≡ true → IsOne node.order (node.order.last + 1) d → is_some node.files ≡ true
     → ((outcome node Executes).now.order ≡ record node.order { last = node.order.last + 1 }) × (is_some (outcome node Executes).now.files ≡ true)
-executes_next node d ready one live = let got = next_is node.order d ready one in go node.files (next_committed node.order) got.0 live got.1 got.2
+executes_next node d ready one live = let got = (next_is node.order d ready one).1 in go node.files (next_committed node.order) got.batch live (ap batch_of got.next ∙ got.holds) got.number
   where
     found : Option FileSystem → Option Committed → Option (Option Outcome)
     found files next = option_map (λ (f : FileSystem). option_map (executed_on node f) next) files
@@ -71,11 +90,11 @@ executes_next node d ready one live = let got = next_is node.order d ready one i
 
 -- So many -----------------------------------------------------------------------------------------------------------------
 
-record IsAfter (s : State) (count : ℕ) (node : Node) : Type 0 where
-  order_is : node.order ≡ record s { last = s.last + count }
-  live : is_some node.files ≡ true
+pub record IsAfter (s : State) (count : ℕ) (node : Node) : Type 0 where
+  pub order_is : node.order ≡ record s { last = s.last + count }
+  pub live : is_some node.files ≡ true
 
-after_so_many : (node : Node) (total : ℕ) → is_some node.files ≡ true → AreCommitted node total → ((n : ℕ) (d : List ℕ) → is_committed node.order node.order.view n d ≡ true → IsOne node.order n d)
+pub after_so_many : (node : Node) (total : ℕ) → is_some node.files ≡ true → AreCommitted node total → ((n : ℕ) (d : List ℕ) → is_committed node.order node.order.view n d ≡ true → IsOne node.order n d)
     → (count : ℕ) → count ≤ total → IsAfter node.order count (executing count node)
 after_so_many node total live all one zero le = record { order_is = let e : node.order.last ≡ node.order.last + 0 = omega arith in ap (λ (n : ℕ). record node.order { last = n }) e; live = live }
 after_so_many node total live all one (suc count) le =

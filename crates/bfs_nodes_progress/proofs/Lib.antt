@@ -10,7 +10,13 @@ mod Rounds
 mod Executing
 mod Resending
 mod Standing
+mod Requests
 mod Entering
+mod Places
+mod Prompt
+mod Begun
+mod Giving
+mod Together
 mod Each
 mod Least
 mod Resting

@@ -3,7 +3,7 @@ use Rattle.std.proofs.Common.{◌≡◌, ◌+◌, ◌<◌, ◌≤◌, false, [],
 use Rattle.bfs_votes.specs.Votes.{replicas}
 use Rattle.bfs_agreement.specs.Examples.{silent}
 use Rattle.bfs_progress.proofs.Public.{each_present, present_quorum}
-use Rattle.bfs_nodes_progress.specs.Examples.{HoldBetweenViews, HoldInAView, one_proposal, timeouts}
+use Rattle.bfs_nodes_progress.specs.Examples.{HoldBetweenViews, HoldInAView, HoldWhereAllAsk, one_proposal, three_timeouts}
 use Rattle.bfs_nodes_progress.specs.Following.{asked_by}
 use Rattle.bfs_nodes_progress.specs.Runs.{order_of, reached}
 use Rattle.bfs_nodes_progress.proofs.Standing.{proposals_stand}
@@ -27,8 +27,18 @@ in_a_view keys start time shared =
 
 pub between_views : HoldBetweenViews
 between_views keys start shared =
-    let w = reached 1 keys start timeouts in (
+    let w = reached 1 keys start three_timeouts in (
       record { others = omega arith; shared = shared; few = omega arith; authentic = (tt, (tt, (tt, tt))) },
+      record {
+        quorum = present_quorum 1 refl;
+        asked = each_present (λ k. (order_of w k).asked ≡ 1) refl refl refl;
+        before = each_present (λ k. (order_of w k).view < 1) (omega arith) (omega arith) (omega arith);
+      },
+    )
+
+pub where_all_ask : HoldWhereAllAsk
+where_all_ask keys start shared =
+    let w = reached 1 keys start three_timeouts in (
       record {
         enough = omega arith;
         correct = each_present (λ k. silent k ≡ false) refl refl refl;

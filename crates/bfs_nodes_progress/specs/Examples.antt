@@ -1,4 +1,4 @@
--- Runs of four nodes of which one is silent, whatever keys they share and whatever state they begin with: the primary proposes, and the others time out.
+-- Runs of four nodes of which one is silent, whatever keys they share and whatever state they begin with: the primary proposes, or time runs out.
 use Rattle.std.specs.Prelude.{List, [], ◌∷◌, Some}
 use Rattle.bfs_model.specs.Server.Tree.{Time}
 use Rattle.bfs_messages.specs.Messages.{Batch}
@@ -8,8 +8,9 @@ use Rattle.bfs_progress.specs.Examples.{present}
 use Rattle.bfs_nodes_agree.specs.Nodes.Premises.{AreShared}
 use Rattle.bfs_nodes_agree.specs.Nodes.Replicas.{Beginning, Keyring, NodeTurn}
 use Rattle.bfs_nodes_agree.specs.Nodes.Steps.{Proposes, TimesOut}
-use Rattle.bfs_nodes_progress.specs.Following.{AreMembers, HaveSupport, SupportIsHeard}
 use Rattle.bfs_nodes_progress.specs.Runs.{IsARun, reached}
+use Rattle.bfs_nodes_progress.specs.Entering.{HaveAsked}
+use Rattle.bfs_nodes_progress.specs.Following.{AreMembers, HaveSupport, SupportIsHeard}
 use Rattle.bfs_nodes_progress.specs.Members.{AreTogether, HasRoom, IsProposed}
 
 abbrev pub one_proposal : Time → List NodeTurn
@@ -27,16 +28,18 @@ HoldInAView = (keys : Keyring) (start : Beginning) (time : Time) → AreShared 1
     × HasRoom present (reached 1 keys start (one_proposal time)) 1
     × IsProposed 1 (reached 1 keys start (one_proposal time)) 0 1 (batch_digest (first_batch time))
 
--- Between views -------------------------------------------------------------------------------------------------------
-
--- those that are present time out
-abbrev pub timeouts : List NodeTurn
-timeouts = record { who = 0; step = TimesOut } ∷ record { who = 1; step = TimesOut } ∷ record { who = 2; step = TimesOut } ∷ []
+-- each of three asks for the next view
+abbrev pub three_timeouts : List NodeTurn
+three_timeouts = record { who = 0; step = TimesOut } ∷ record { who = 1; step = TimesOut } ∷ record { who = 2; step = TimesOut } ∷ []
 
 -- it is a run, and they have asked for view 1
 abbrev pub HoldBetweenViews : Type 0
 HoldBetweenViews = (keys : Keyring) (start : Beginning) → AreShared 1 keys
-    → IsARun 1 keys start silent timeouts
-    × AreMembers 1 silent present
-    × HaveSupport 1 present present (reached 1 keys start timeouts) 1
-    × SupportIsHeard present present (reached 1 keys start timeouts) 1
+    → IsARun 1 keys start silent three_timeouts × HaveAsked 1 silent present (reached 1 keys start three_timeouts) 1
+
+-- so they need follow nobody to it
+abbrev pub HoldWhereAllAsk : Type 0
+HoldWhereAllAsk = (keys : Keyring) (start : Beginning) → AreShared 1 keys
+    → AreMembers 1 silent present
+    × HaveSupport 1 present present (reached 1 keys start three_timeouts) 1
+    × SupportIsHeard present present (reached 1 keys start three_timeouts) 1

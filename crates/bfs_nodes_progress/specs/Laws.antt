@@ -1,5 +1,5 @@
 -- The statements that are proved of the definitions: contracts of functions of src/laws.rt, which do nothing.
-use Rattle.std.specs.Prelude.{◌≡◌, ℕ, ◌+◌, ◌<◌, ◌≤◌, Bool, true, false, is_some, List, ◌∷◌, ◌++◌, None}
+use Rattle.std.specs.Prelude.{◌≡◌, ℕ, ◌+◌, ◌-◌, ◌<◌, ◌≤◌, Bool, true, false, is_some, List, ◌∷◌, ◌++◌, None}
 use Rattle.bfs_messages.specs.Signing.{as_message}
 use Rattle.bfs_messages.specs.declared.signed.Signed.{Signed}
 use Rattle.bfs_messages.specs.declared.message.Message.TheVariants.{Order}
@@ -18,16 +18,21 @@ use Rattle.bfs_order.specs.Replica.States.{State, known}
 use Rattle.bfs_order.specs.declared.resending.Lag.{Lag}
 use Rattle.bfs_agreement.specs.Calls.{answers_in}
 use Rattle.bfs_agreement.specs.Histories.{IsIn}
+use Rattle.bfs_node.specs.Changing.{may_begin}
 use Rattle.bfs_node.specs.Nodes.{Node}
 use Rattle.bfs_node.specs.Proposing.{pending_batch, proposal_refusal}
 use Rattle.bfs_node.specs.Resending.{resent}
+use Rattle.bfs_progress.specs.Members.{IsQuorum}
 use Rattle.bfs_nodes_agree.specs.Nodes.Replicas.{Beginning, Keyring, NodeTurn}
 use Rattle.bfs_nodes_agree.specs.Nodes.Steps.{Proposes, outcome}
 use Rattle.bfs_nodes_progress.specs.Runs.{IsARun, order_of, reached}
 use Rattle.bfs_nodes_progress.specs.Members.{AllIsHeard, AreTogether, HasAnswered, HasRoom, IsCommitted, IsProposed}
 use Rattle.bfs_nodes_progress.specs.Rounds.{IsRound}
+use Rattle.bfs_nodes_progress.specs.Begun.{AllAsk, ChangesCome, NewViewIsGiven}
 use Rattle.bfs_nodes_progress.specs.Entering.{HaveAsked, NewViewsCome}
+use Rattle.bfs_nodes_progress.specs.Giving.{GivesChange, GivesNewView}
 use Rattle.bfs_nodes_progress.specs.Executing.{AreCommitted, executing}
+use Rattle.bfs_nodes_progress.specs.Requests.{HasExecuted, IsReadyFor, executions, proposing}
 
 -- What is said --------------------------------------------------------------------------------------------------------
 
@@ -84,6 +89,20 @@ RoundsCommit = (f : ℕ) (keys : Keyring) (start : Beginning) (faulty members : 
 
 -- Between views -------------------------------------------------------------------------------------------------------
 
+-- of the view that it leads, has asked for and not entered, a node keeps VIEW-CHANGEs of fewer than 2f + 1 replicas
+abbrev pub WhatIsDueIsBegun : Type 0
+WhatIsDueIsBegun = (f : ℕ) (keys : Keyring) (start : Beginning) (turns : List NodeTurn) (k : ℕ) → may_begin (reached f keys start turns k).node ≡ false
+
+-- where each member has asked for a view, and for none later, and a VIEW-CHANGE of each other one has come to its primary, right by its keys, it has begun
+-- the view, whatever else has come, before or between them
+abbrev pub ViewsAreBegun : Type 0
+ViewsAreBegun = (f : ℕ) (keys : Keyring) (start : Beginning) (faulty members : ℕ → Bool) (turns : List NodeTurn) (view : ℕ)
+    → IsARun f keys start faulty turns
+    → IsQuorum f faulty members view
+    → AllAsk members (reached f keys start turns) view
+    → ChangesCome f keys members view turns
+    → (order_of (reached f keys start turns) (primary f view)).view ≡ view
+
 -- where its primary has begun the view, a NEW-VIEW that is right by its keys comes to each other member, of whatever VIEW-CHANGEs, and none asks for a
 -- later view meanwhile, they are together in it, whatever else comes
 abbrev pub NewViewsAreEntered : Type 0
@@ -95,6 +114,27 @@ NewViewsAreEntered = (f : ℕ) (keys : Keyring) (start : Beginning) (faulty memb
     → NewViewsCome f keys members view further
     → AreTogether f faulty members (reached f keys start (turns ++ further)) view
 
+-- a node that has asked for a view, and not entered it, gives its VIEW-CHANGE for it again
+abbrev pub ChangesAreGiven : Type 0
+ChangesAreGiven = (f : ℕ) (keys : Keyring) (start : Beginning) (faulty : ℕ → Bool) (turns : List NodeTurn) (k : ℕ) → IsARun f keys start faulty turns
+    → (order_of (reached f keys start turns) k).view < (order_of (reached f keys start turns) k).asked → GivesChange (reached f keys start turns k).node
+
+-- and one that has entered a view gives the NEW-VIEW by which it has, its own where it leads it
+abbrev pub NewViewsAreGiven : Type 0
+NewViewsAreGiven = (f : ℕ) (keys : Keyring) (start : Beginning) (faulty : ℕ → Bool) (turns : List NodeTurn) (k : ℕ) → IsARun f keys start faulty turns
+    → 0 < (order_of (reached f keys start turns) k).view → GivesNewView f faulty (reached f keys start turns) k
+
+-- where members have asked for a view, a VIEW-CHANGE of each has come to its primary, then its NEW-VIEW comes to each, right by their keys, and none asks
+-- for a later view meanwhile, they are together in it, whatever else comes
+abbrev pub EntersTogether : Type 0
+EntersTogether = (f : ℕ) (keys : Keyring) (start : Beginning) (faulty members : ℕ → Bool) (turns one two : List NodeTurn) (view : ℕ)
+    → IsARun f keys start faulty (turns ++ (one ++ two))
+    → HaveAsked f faulty members (reached f keys start turns) view
+    → AllAsk members (reached f keys start (turns ++ (one ++ two))) view
+    → ChangesCome f keys members view (turns ++ one)
+    → NewViewIsGiven f keys members (reached f keys start (turns ++ one)) view two
+    → AreTogether f faulty members (reached f keys start (turns ++ (one ++ two))) view
+
 -- Executing -----------------------------------------------------------------------------------------------------------
 
 -- what is committed behind the number last executed is executed by as many calls, where the file system is live
@@ -104,3 +144,27 @@ CommittedIsExecuted = (f : ℕ) (keys : Keyring) (start : Beginning) (faulty : �
     → is_some (reached f keys start turns k).node.files ≡ true
     → AreCommitted (reached f keys start turns k).node count
     → (executing count (reached f keys start turns k).node).order.last ≡ (order_of (reached f keys start turns) k).last + count
+
+-- All of it -----------------------------------------------------------------------------------------------------------
+
+-- where members are together in a view, its primary proposes the requests that wait there, they stay together, the number stays between the marks of each,
+-- and what they say of it comes in three rounds, whatever else comes, then each of them that is ready for the number executes the batch by so many calls
+abbrev pub RequestsAreExecuted : Type 0
+RequestsAreExecuted = (f : ℕ) (keys : Keyring) (start : Beginning) (faulty members : ℕ → Bool) (turns one two three : List NodeTurn) (view : ℕ) (time : Time) (k : ℕ)
+    → let node = (reached f keys start turns (primary f view)).node in
+    let number = next_number node.order in
+    let proposed = turns ++ proposing f view time in
+    let end = proposed ++ (one ++ (two ++ three)) in
+    IsARun f keys start faulty end
+    → proposal_refusal node ≡ None
+    → AreTogether f faulty members (reached f keys start proposed) view
+    → AreTogether f faulty members (reached f keys start end) view
+    → HasRoom members (reached f keys start proposed) number
+    → HasRoom members (reached f keys start end) number
+    → IsRound members (reached f keys start proposed) number one
+    → IsRound members (reached f keys start (proposed ++ one)) number two
+    → IsRound members (reached f keys start ((proposed ++ one) ++ two)) number three
+    → members k ≡ true
+    → is_some (reached f keys start end k).node.files ≡ true
+    → IsReadyFor (reached f keys start end k).node number
+    → HasExecuted (reached f keys start (end ++ executions k (number - (order_of (reached f keys start end) k).last)) k) number (batch_digest (pending_batch node time))

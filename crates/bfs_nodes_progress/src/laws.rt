@@ -1,7 +1,7 @@
 // What goes on, of nodes. The bodies do nothing: what is said is the contracts. They are over every run (`IsARun`): calls of 3f + 1 nodes, more than
 // one, and deliveries of bytes and messages to them, of which at most f lie, and nothing that passes under a correct one's name is forged. "Members"
 // are 2f + 1 correct nodes or more, and the view's primary is one of them.
-ghost use Rattle.bfs_nodes_progress.specs.Laws.{AnswersAreSaid, AnswersAreTheTheorys, CommittedIsExecuted, NewViewsAreEntered, ProposalsStand, QuietIsCommitted, RoundsCommit, VotesAreResent};
+ghost use Rattle.bfs_nodes_progress.specs.Laws.{AnswersAreSaid, AnswersAreTheTheorys, ChangesAreGiven, CommittedIsExecuted, EntersTogether, NewViewsAreEntered, NewViewsAreGiven, ProposalsStand, QuietIsCommitted, RequestsAreExecuted, RoundsCommit, ViewsAreBegun, VotesAreResent, WhatIsDueIsBegun};
 ghost use Rattle.bfs_nodes_progress.specs.LawsOfCatchingUp.{AllComeUp, CatchingUpInstalls, CheckpointsTellSnapshots, SnapshotsAreOfStates, UpStaysUp, WhoIsBehindComesUp};
 ghost use Rattle.bfs_nodes_progress.specs.LawsOfFollowing.{AllAsk, AllFollow, FewAreAhead, NoneLags, WhatIsHeardWasAsked};
 
@@ -51,6 +51,21 @@ pub fn rounds_commit()
     what_is_below();
 }
 
+/// Over every list of calls and deliveries, and whoever lies: a node that leads the view that it has asked for, and has not entered it, keeps
+/// VIEW-CHANGEs of fewer than 2f + 1 replicas for it. With one more it begins the view in the same step. (A call that answers want of memory is no
+/// step: it changes nothing, and what came has to come again.)
+pub fn what_is_due_is_begun()
+    ensures { WhatIsDueIsBegun }
+{}
+
+/// For members of which each has asked for one view and for none later: where a VIEW-CHANGE of each for it, that is right by the primary's keys, has
+/// come to its primary, at whatever time, the primary has begun the view, whatever VIEW-CHANGEs of liars came before or between them.
+pub fn views_are_begun()
+    ensures { ViewsAreBegun }
+{
+    what_is_below();
+}
+
 /// For members that have asked for one view, and not entered it: where its primary has begun the view, a NEW-VIEW that is right by its keys comes to
 /// each other one, of whatever VIEW-CHANGEs, and none asks for a later view meanwhile, they are together in it, whatever else comes.
 pub fn new_views_are_entered()
@@ -59,10 +74,46 @@ pub fn new_views_are_entered()
     what_is_below();
 }
 
+/// A node that has asked for a view, and has not entered it, keeps its VIEW-CHANGE for it, and gives it again by `Node::resend` to whoever asks.
+pub fn changes_are_given()
+    ensures { ChangesAreGiven }
+{
+    what_is_below();
+}
+
+/// A node that is in a later view than view 0 keeps the NEW-VIEW by which it has entered it, its own where it leads the view, and gives it again by
+/// `Node::resend` to one that tells that it is in an earlier view. The view's primary has said it, if that is correct. It is right for each replica
+/// by whose keys it passes, and each VIEW-CHANGE and each PRE-PREPARE in it does.
+pub fn new_views_are_given()
+    ensures { NewViewsAreGiven }
+{
+    what_is_below();
+}
+
+/// For members that have asked for one view, and not entered it: where a VIEW-CHANGE of each, right by the primary's keys, has come to its primary, in
+/// whatever order and whatever liars send between them, and then the NEW-VIEW that the primary keeps comes to each other member, by whose keys it
+/// passes with what is in it, and none asks for a later view meanwhile, they are together in it. It has to pass at each, for keyed hashes within the
+/// VIEW-CHANGE of a liar may be right for the primary alone.
+pub fn enters_together()
+    ensures { EntersTogether }
+{
+    what_is_below();
+}
+
 /// A correct node with a live file system, at which the numbers behind the one that it executed last are committed in its view, executes them by as
 /// many calls.
 pub fn committed_is_executed()
     ensures { CommittedIsExecuted }
+{
+    what_is_below();
+}
+
+/// For members that are together in a view: where its primary proposes, what waits there is one batch, for its next number. Where they stay together,
+/// the number stays between the marks of each, and what they have said of it comes to each other one and passes there in three rounds, whatever else
+/// comes, each of them with a live file system at which the numbers up to that one are committed or executed executes a batch of that digest as
+/// that number, by as many calls.
+pub fn requests_are_executed()
+    ensures { RequestsAreExecuted }
 {
     what_is_below();
 }

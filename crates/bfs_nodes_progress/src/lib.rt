@@ -1,4 +1,4 @@
-//! Nodes that hear one another go on: what is proposed in a view is committed and executed at each.
+//! Nodes that hear one another go on: they enter a view together, and what is proposed there is committed and executed at each.
 #![tactic(auto)]
 
 mod below;

@@ -34,7 +34,7 @@ use Rattle.bfs_nodes_agree.specs.Nodes.Laws.{Executed}
 use Rattle.bfs_nodes_agree.specs.Nodes.Premises.{AreAuthentic}
 use Rattle.bfs_nodes_agree.specs.Nodes.Replicas.{Keyring, NodeReplica, NodeReplicas, NodeTurn, Standing, after_node_step, after_node_turn, after_node_turns, beginning_node, new_node_replicas, standing_of, turn_of}
 use Rattle.bfs_nodes_agree.specs.Nodes.Steps.{NodeStep, TakesOffered, Executes, Fails, Adopts, after_execution, deeds_of, executed_by, outcome, still}
-use Rattle.bfs_nodes_agree.proofs.Nodes.Doing.{IsStill, RepliesBy, StandsBy}
+use Rattle.bfs_nodes_agree.proofs.Nodes.Doing.{RepliesBy, StandsBy}
 use Rattle.bfs_nodes_agree.proofs.Nodes.Executing.{next_follows}
 use Rattle.bfs_nodes_agree.proofs.Nodes.States.{both_at, executed_in, executes_next, execution_on, here_now, standing_at}
 use Rattle.bfs_nodes_agree.proofs.Nodes.Turns.{AreRight, new_right, right_on, step_right}

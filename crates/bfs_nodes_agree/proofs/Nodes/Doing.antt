@@ -7,7 +7,7 @@ use Rattle.bfs_model.specs.Server.Tree.{FileSystem}
 use Rattle.bfs_checkpoints.specs.Texts.{node_digest}
 use Rattle.bfs_log.specs.Batches.{Committed}
 use Rattle.bfs_log.specs.Certificates.{faults}
-use Rattle.bfs_log.specs.Headers.{header, message_header}
+use Rattle.bfs_log.specs.Headers.{message_header}
 use Rattle.bfs_log.specs.Logs.{Log}
 use Rattle.bfs_messages.specs.Messages as model
 use Rattle.bfs_messages.specs.Signing.{as_message, request_is_signed, sender_of}

@@ -1,14 +1,13 @@
 -- The NEW-VIEW by which a node has entered its view: it has sent it, or it came to it, and all of it was said by its senders.
-use Rattle.std.proofs.Common.{◌≡◌, ℕ, ◌==◌, Bool, true, false, cond, List, [], ◌∷◌, ◌⊎◌, Option, Some, None, map, inl, inr, refl, sym, ap, subst, ◌∙◌}
+use Rattle.std.proofs.Common.{◌≡◌, ℕ, ◌==◌, Bool, true, false, cond, List, [], ◌∷◌, ◌⊎◌, Some, None, map, inl, inr, refl, sym, ap, subst, ◌∙◌}
 use Rattle.std.proofs.lemmas.Bool.{cond_both, eqb-true}
 use Rattle.bfs_codec.specs.Laws.{MessageWasWritten, OneBatch}
-use Rattle.bfs_codec.specs.Reading.{message_of}
 use Rattle.bfs_messages.specs.Fits.{FitsMessage}
 use Rattle.bfs_messages.specs.Messages as model
 use Rattle.bfs_messages.specs.Signing.{as_message}
 use Rattle.bfs_messages.specs.declared.signed.Signed.{Signed}
 use Rattle.bfs_messages.specs.declared.message.Message.{Message}
-use Rattle.bfs_messages.specs.declared.message.Message.TheVariants.{Request, Order, ViewChange, NewView, Reply}
+use Rattle.bfs_messages.specs.declared.message.Message.TheVariants.{NewView}
 use Rattle.bfs_order.specs.Laws.Calls.{CallsKeepTheReplica, IsKept}
 use Rattle.bfs_order.specs.Laws.Logs.{HasNoLaterView}
 use Rattle.bfs_order.specs.Replica.Views.{left}
@@ -18,17 +17,15 @@ use Rattle.bfs_nodes_agree.proofs.Orders.Lists.{some_is}
 use Rattle.bfs_nodes_agree.specs.Views.Replicas as turns
 use Rattle.bfs_view_change.specs.Changes.Keeping.{with_asked, with_change}
 use Rattle.bfs_view_change.specs.Changes.Making.{signed_new_view}
-use Rattle.bfs_node.specs.Changing.{begun, begun_if_due, change_in, change_refusal, leads, leaving_refusal, left_for, may_begin, next_view, own_change, own_new_view, view_refusal, with_new_view, with_view_change}
-use Rattle.bfs_node.specs.Delivering.{bytes_delivered, bytes_refusal, message_delivered, message_refusal}
+use Rattle.bfs_node.specs.Changing.{begun, begun_if_due, leads, left_for, may_begin, own_change, own_new_view, view_refusal, with_view_change}
 use Rattle.bfs_node.specs.Nodes.{Node, Outcome}
-use Rattle.bfs_node.specs.declared.error.NodeError.{NodeError}
 use Rattle.bfs_nodes_agree.specs.Nodes.Premises.{AreAuthentic, Comes, IsAuthentic, IsWholly}
 use Rattle.bfs_nodes_agree.specs.Nodes.Replicas.{NodeReplica, NodeReplicas, NodeTurn, after_node_step, after_node_turn, after_node_turns, turn_of}
 use Rattle.bfs_nodes_agree.specs.Nodes.Resending.{Brings, HasComeTo}
-use Rattle.bfs_nodes_agree.specs.Nodes.Steps.{NodeStep, Delivers, Takes, TakesRequests, Proposes, Executes, Fails, Checkpoints, TimesOut, LeavesFor, Adopts, deeds_of, outcome, still, unless, TakesOffered, ForgetsAnswered, ForgetsProposed, Settles}
+use Rattle.bfs_nodes_agree.specs.Nodes.Steps.{NodeStep, Delivers, Takes, deeds_of, outcome, still}
 use Rattle.bfs_nodes_agree.proofs.Nodes.Hearing.{IsWhollySaid, said_later}
+use Rattle.bfs_nodes_agree.proofs.Nodes.Kinds.{Left, Rested, TookChange, TookNewView, step_kind}
 use Rattle.bfs_nodes_agree.proofs.Nodes.NewViews.{taken_wholly_said}
-use Rattle.bfs_nodes_agree.proofs.Nodes.Resting.{Rests, adopts_rest, executes_rest, proposes_rest, requests_rest, tells_rest, offered_rest, settles_rest, forgets_answered_rest, forgets_proposed_rest}
 use Rattle.bfs_nodes_agree.proofs.Nodes.Right.{fits_read}
 use Rattle.bfs_nodes_agree.proofs.Nodes.States.{both_at}
 use Rattle.bfs_nodes_agree.proofs.Nodes.Turns.{AreRight, right_on, sent_here, sent_on}
@@ -42,9 +39,6 @@ New = Signed model.NewView
 abbrev KeepsOrSends : Node → Outcome → Type 0
 KeepsOrSends node out = (s : New) → out.now.new_view ≡ Some s → (node.new_view ≡ Some s) ⊎ IsIn (as_message NewView s) out.sent
 
-keeps : (node : Node) (out : Outcome) → out.now.new_view ≡ node.new_view → KeepsOrSends node out
-keeps node out same s e = inl (sym same ∙ e)
-
 begins : (node : Node) → KeepsOrSends node (begun_if_due node)
 begins node = elim (may_begin node) as (λ b. KeepsOrSends node (cond b (begun node) (still node))) [
   | true ↦ λ s e. inr (inl (ap (as_message NewView) (sym (some_is (signed_new_view node.keys (own_new_view node)) s e))))
@@ -57,76 +51,27 @@ change_comes node s =
     let noted = record node { changes = with_asked node.changes s.message } in
     elim (leads node s.message.view) as (λ b. KeepsOrSends node (cond b (begun_if_due there) (still noted))) [ true ↦ begins there | false ↦ λ s e. inl e ]
 
-if_sent : (node : Node) (r : Option NodeError) (out : Outcome) → KeepsOrSends node out → KeepsOrSends node (unless r node out)
-if_sent node None out so = so
-if_sent node (Some refused) out so = λ s e. inl e
+leaves : (node : Node) (view : ℕ) → KeepsOrSends node (left_for node view)
+leaves node view s e = elim (change_comes (record node { order = (left node.order view).now }) (own_change node view) s e) [ inl before ↦ inl before | inr now ↦ inr (inr now) ]
 
-leaves : (node : Node) (view : ℕ) → KeepsOrSends node (outcome node (LeavesFor view))
-leaves node view =
-    let gone = record node { order = (left node.order view).now } in
-    if_sent node (leaving_refusal node view) (left_for node view) (λ s e. elim (change_comes gone (own_change node view) s e) [ inl before ↦ inl before | inr now ↦ inr (inr now) ])
-
--- or it comes by the message, and is taken
+-- or it comes by the step, and is taken
 abbrev Keeps : Node → (comes : New → Type 0) → Outcome → Type 0
 Keeps node comes out = (s : New) → out.now.new_view ≡ Some s → (node.new_view ≡ Some s) ⊎ (IsIn (as_message NewView s) out.sent ⊎ (comes s × (view_refusal node s ≡ None)))
 
 so_keeps : (node : Node) (comes : New → Type 0) (out : Outcome) → KeepsOrSends node out → Keeps node comes out
 so_keeps node comes out so s e = elim (so s e) [ inl before ↦ inl before | inr now ↦ inr (inl now) ]
 
-abbrev taken : Node → Signed Message → Message → Outcome
-taken node signed m = unless (message_refusal node signed m) node (message_delivered node signed m)
-
-message_comes : (node : Node) (m : Message) (auth : List (List ℕ)) → Keeps node (λ s. record { message = m; auth = auth } ≡ as_message NewView s) (taken node (record { message = m; auth = auth }) m)
-message_comes node (Request request) auth =
-    let s : Signed Message = record { message = Request request; auth = auth } in
-    so_keeps node _ (taken node s (Request request)) (if_sent node (message_refusal node s (Request request)) (message_delivered node s (Request request)) (λ s e. inl e))
-message_comes node (Order message) auth =
-    let s : Signed Message = record { message = Order message; auth = auth } in
-    so_keeps node _ (taken node s (Order message)) (if_sent node (message_refusal node s (Order message)) (message_delivered node s (Order message)) (λ s e. inl e))
-message_comes node (ViewChange change) auth =
-    let s : Signed Message = record { message = ViewChange change; auth = auth } in
-    so_keeps node _ (taken node s (ViewChange change)) (if_sent node (change_refusal node (change_in s change)) (with_view_change node (change_in s change)) (change_comes node (change_in s change)))
-message_comes node (NewView new) auth =
-    let comes : New = record { message = new; auth = auth } in
-    (elim (view_refusal node comes) as (λ r. view_refusal node comes ≡ r → Keeps node (λ s. as_message NewView comes ≡ as_message NewView s) (unless r node (with_new_view node comes))) [
-      | None ↦ λ none s e.
-          let same : comes ≡ s = some_is comes s e in
-          inr (inr (ap (as_message NewView) same, subst (λ (x : New). view_refusal node x ≡ None) same none))
-      | Some refused ↦ λ _ s e. inl e
-    ]) refl
-message_comes node (Reply reply) auth = λ s e. inl e
-
-abbrev StepKeeps : Node → NodeStep → Type 0
-StepKeeps node step = Keeps node (λ s. Brings step (as_message NewView s)) (outcome node step)
-
-bytes_come : (node : Node) (bytes : List ℕ) → StepKeeps node (Delivers bytes)
-bytes_come node bytes = go (message_of bytes) refl
+pub step_keeps : (node : Node) (step : NodeStep) → Keeps node (λ s. Brings step (as_message NewView s)) (outcome node step)
+step_keeps node step = elim (step_kind node step) [
+  | Rested rests ↦ λ s e. inl (sym rests.new_view ∙ e)
+  | TookChange c ↦ subst (Keeps node comes) (sym c.is) (so_keeps node comes (with_view_change node c.change) (change_comes node c.change))
+  | TookNewView c ↦ subst (Keeps node comes) (sym c.is)
+      (λ s e. inr (inr (subst (λ (x : New). Brings step (as_message NewView x) × (view_refusal node x ≡ None)) (some_is c.new s e) (c.came, c.taken))))
+  | Left l ↦ subst (Keeps node comes) (sym l.is) (so_keeps node comes (left_for node l.view) (leaves node l.view))
+]
   where
-    go : (o : Option (Signed Message)) → message_of bytes ≡ o → Keeps node (λ s. message_of bytes ≡ Some (as_message NewView s)) (unless (bytes_refusal node o) node (bytes_delivered node o))
-    go None is s e = inl e
-    go (Some m) is s e = elim (message_comes node m.message m.auth s e) [
-      | inl before ↦ inl before
-      | inr later ↦ elim later [ inl now ↦ inr (inl now) | inr came ↦ inr (inr (is ∙ ap (λ (x : Signed Message). Some x) came.0, came.1)) ]
-    ]
-
-rests : (node : Node) (step : NodeStep) → Rests node (outcome node step).now → StepKeeps node step
-rests node step are = so_keeps node (λ s. Brings step (as_message NewView s)) (outcome node step) (keeps node (outcome node step) are.new_view)
-
-pub step_keeps : (node : Node) (step : NodeStep) → StepKeeps node step
-step_keeps node (Delivers bytes) = bytes_come node bytes
-step_keeps node (Takes signed) = message_comes node signed.message signed.auth
-step_keeps node (TakesRequests messages) = rests node (TakesRequests messages) (requests_rest node messages)
-step_keeps node (TakesOffered request) = rests node (TakesOffered request) (offered_rest node request)
-step_keeps node (Proposes time) = rests node (Proposes time) (proposes_rest node time)
-step_keeps node Executes = rests node Executes (executes_rest node)
-step_keeps node Fails = λ s e. inl e
-step_keeps node Checkpoints = rests node Checkpoints (tells_rest node)
-step_keeps node TimesOut = so_keeps node (λ s. Brings TimesOut (as_message NewView s)) (outcome node TimesOut) (leaves node (next_view node.order))
-step_keeps node (LeavesFor view) = so_keeps node (λ s. Brings (LeavesFor view) (as_message NewView s)) (outcome node (LeavesFor view)) (leaves node view)
-step_keeps node ForgetsAnswered = rests node ForgetsAnswered (forgets_answered_rest node)
-step_keeps node ForgetsProposed = rests node ForgetsProposed (forgets_proposed_rest node)
-step_keeps node (Adopts certificate files table) = rests node (Adopts certificate files table) (adopts_rest node certificate files table)
-step_keeps node (Settles certificate) = rests node (Settles certificate) (settles_rest node certificate)
+    comes : New → Type 0
+    comes s = Brings step (as_message NewView s)
 
 -- Where it comes from -------------------------------------------------------------------------------------------------------------
 
@@ -173,7 +118,7 @@ abbrev pub IsEnteredRightly : (faulty : ℕ → Bool) → NodeReplicas → NodeR
 IsEnteredRightly faulty w r = (s : New) → r.node.new_view ≡ Some s → IsWhollySaid faulty w (as_message NewView s)
 
 -- what comes by a step is authentic, and within the limits
-comes_so : MessageWasWritten → (P : Signed Message → Type 0) (step : NodeStep) (m : Signed Message) → Comes P step → Brings step m → FitsMessage m.message × IsWholly P m
+pub comes_so : MessageWasWritten → (P : Signed Message → Type 0) (step : NodeStep) (m : Signed Message) → Comes P step → Brings step m → FitsMessage m.message × IsWholly P m
 comes_so written P (Delivers bytes) m comes is = (fits_read written bytes m comes.0 is, comes.1 m is)
 comes_so written P (Takes signed) m comes is = subst (λ (x : Signed Message). FitsMessage x.message × IsWholly P x) is comes
 comes_so written P step m comes is = absurd is

@@ -271,7 +271,7 @@ module _ (faulty : ℕ → Bool) (w : NodeReplicas) (v : ordered.OrderReplicas) 
     checked = checked;
   }
 
-  change_said : (k : ℕ) (change : model.ViewChange) → HasSaid (w k).sent (ViewChange change) → IsIn (told_change change) (v k).changes
+  pub change_said : (k : ℕ) (change : model.ViewChange) → HasSaid (w k).sent (ViewChange change) → IsIn (told_change change) (v k).changes
   change_said k change said = elim said.2 [
     | inl e ↦ change_told (v k) said.0 said.0.message change e (spoken k said.0 said.1)
     | inr offer ↦ absurd cc

@@ -51,7 +51,7 @@ use Rattle.bfs_nodes_agree.specs.Nodes.Premises.{IsAuthentic, IsWholly}
 
 -- It begins it -------------------------------------------------------------------------------------------------------------
 
-all_for : (view : ℕ) (kept : List (Option (Signed model.ViewChange))) → are_for view (filter_map (if_for view) kept) ≡ true
+pub all_for : (view : ℕ) (kept : List (Option (Signed model.ViewChange))) → are_for view (filter_map (if_for view) kept) ≡ true
 all_for view [] = refl
 all_for view (None ∷ kept) = all_for view kept
 all_for view (Some s ∷ kept) =

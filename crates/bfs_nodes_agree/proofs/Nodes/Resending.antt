@@ -8,12 +8,11 @@ use Rattle.bfs_log.specs.Certificates.{faults}
 use Rattle.bfs_log.specs.Headers.{header}
 use Rattle.bfs_log.specs.Logs.{as_messages}
 use Rattle.bfs_codec.specs.Laws.{MessageWasWritten, OneBatch}
-use Rattle.bfs_codec.specs.Reading.{message_of}
 use Rattle.bfs_messages.specs.Messages as model
 use Rattle.bfs_messages.specs.Signing.{as_message}
 use Rattle.bfs_messages.specs.declared.signed.Signed.{Signed}
 use Rattle.bfs_messages.specs.declared.message.Message.{Message}
-use Rattle.bfs_messages.specs.declared.message.Message.TheVariants.{Request, Order, ViewChange, NewView, Reply}
+use Rattle.bfs_messages.specs.declared.message.Message.TheVariants.{Order, ViewChange, NewView}
 use Rattle.bfs_messages.specs.declared.order_messages.OrderMessage.{OrderMessage}
 use Rattle.bfs_order.specs.Laws.Calls.{CallsKeepTheReplica, IsKept}
 use Rattle.bfs_order.specs.Laws.Logs.{HasNoLaterView}
@@ -26,21 +25,18 @@ use Rattle.bfs_nodes_agree.specs.Orders.Replicas as ordered
 use Rattle.bfs_nodes_agree.proofs.Orders.Lists.{either_in, left_in, right_in, some_is}
 use Rattle.bfs_nodes_agree.proofs.Views.Lists.{contains, in_map, is_in, out_of_map}
 use Rattle.bfs_nodes_agree.specs.Views.Replicas as turns
-use Rattle.bfs_node.specs.Changing.{begun, begun_if_due, change_in, change_refusal, leads, leaving_refusal, left_for, may_begin, new_view_in, next_view, own_change, view_refusal, with_new_view, with_view_change}
-use Rattle.bfs_node.specs.Delivering.{bytes_delivered, bytes_refusal, message_delivered, message_refusal}
+use Rattle.bfs_node.specs.Changing.{begun, begun_if_due, leads, may_begin, own_change, with_view_change}
 use Rattle.bfs_node.specs.Nodes.{Node, Outcome}
 use Rattle.bfs_node.specs.Resending.{change_resent, new_view_resent, resent}
-use Rattle.bfs_node.specs.Settling.{settling, settling_refusal}
-use Rattle.bfs_node.specs.declared.error.NodeError.{NodeError}
 use Rattle.bfs_view_change.specs.Changes.Keeping.{Kept, with_asked, with_change}
 use Rattle.bfs_nodes_agree.specs.Nodes.Premises.{AreAuthentic, AreShared, HasSaid, IsWhollyFair, IsWithin, WasGiven, offers_in, signed_part}
 use Rattle.bfs_nodes_agree.specs.Nodes.Replicas.{Beginning, Keyring, NodeReplica, NodeReplicas, NodeTurn, after_node_step, after_node_turn, after_node_turns, new_node_replicas, turn_of}
 use Rattle.bfs_nodes_agree.specs.Nodes.Resending.{IsSaidAgain, WhatIsResentIsFair, WhatIsResentWasSent, HasComeTo, IsItsNewView}
-use Rattle.bfs_nodes_agree.specs.Nodes.Steps.{NodeStep, Delivers, Takes, TakesRequests, TakesOffered, Proposes, Executes, Fails, Checkpoints, TimesOut, LeavesFor, ForgetsAnswered, ForgetsProposed, Adopts, Settles, still, unless, outcome, deeds_of}
+use Rattle.bfs_nodes_agree.specs.Nodes.Steps.{NodeStep, still, outcome, deeds_of}
 use Rattle.bfs_nodes_agree.proofs.Nodes.Agree.{what_is_sent_is_fair}
 use Rattle.bfs_nodes_agree.proofs.Nodes.Entered.{origin, rightly_entered}
 use Rattle.bfs_nodes_agree.proofs.Nodes.Hearing.{IsWhollySaid}
-use Rattle.bfs_nodes_agree.proofs.Nodes.Resting.{Rests, adopts_rest, executes_rest, proposes_rest, requests_rest, tells_rest, offered_rest, settles_rest}
+use Rattle.bfs_nodes_agree.proofs.Nodes.Kinds.{Left, Rested, TookChange, TookNewView, step_kind}
 use Rattle.bfs_nodes_agree.proofs.Nodes.States.{both_at}
 use Rattle.bfs_nodes_agree.proofs.Nodes.Turns.{AreRight, new_right, right_on}
 
@@ -53,65 +49,26 @@ Change = Signed model.ViewChange
 abbrev KeepsAs : Node → Node → Type 0
 KeepsAs node now = now.changes.own ≡ node.changes.own
 
-rests_keep : (node now : Node) → Rests node now → KeepsAs node now
-rests_keep node now rests = ap (λ (k : Kept). k.own) rests.changes
-
-if_taken_keeps : (node : Node) (r : Option NodeError) (out : Outcome) → KeepsAs node out.now → KeepsAs node (unless r node out).now
-if_taken_keeps node None out keeps = keeps
-if_taken_keeps node (Some refused) out keeps = refl
-
 begins_keeps : (node : Node) → KeepsAs node (begun_if_due node).now
 begins_keeps node = elim (may_begin node) as (λ b. KeepsAs node (cond b (begun node) (still node)).now) [ true ↦ refl | false ↦ refl ]
 
-change_keeps : (node : Node) (s : Change) → KeepsAs node (with_view_change node s).now
+pub change_keeps : (node : Node) (s : Change) → KeepsAs node (with_view_change node s).now
 change_keeps node s =
     let there = record node { changes = with_change node.changes s } in
     let noted = record node { changes = with_asked node.changes s.message } in
     elim (leads node s.message.view) as (λ b. KeepsAs node (cond b (begun_if_due there) (still noted)).now) [ true ↦ begins_keeps there | false ↦ refl ]
 
-message_keeps : (node : Node) (m : Message) (auth : List (List ℕ))
-    → KeepsAs node (unless (message_refusal node (record { message = m; auth = auth }) m) node (message_delivered node (record { message = m; auth = auth }) m)).now
-message_keeps node (Request request) auth = if_taken_keeps node _ (message_delivered node (record { message = Request request; auth = auth }) (Request request)) refl
-message_keeps node (Order message) auth = if_taken_keeps node _ (message_delivered node (record { message = Order message; auth = auth }) (Order message)) refl
-message_keeps node (ViewChange change) auth =
-    let s : Signed Message = record { message = ViewChange change; auth = auth } in
-    if_taken_keeps node (change_refusal node (change_in s change)) (with_view_change node (change_in s change)) (change_keeps node (change_in s change))
-message_keeps node (NewView new) auth = if_taken_keeps node _ (message_delivered node (record { message = NewView new; auth = auth }) (NewView new)) refl
-message_keeps node (Reply reply) auth = refl
-
-bytes_keep : (node : Node) (o : Option (Signed Message)) → KeepsAs node (unless (bytes_refusal node o) node (bytes_delivered node o)).now
-bytes_keep node None = refl
-bytes_keep node (Some m) = message_keeps node m.message m.auth
-
 -- it keeps what it kept, or what it sends now
 abbrev KeptOrSent : Node → Outcome → Type 0
 KeptOrSent node out = (s : Change) → out.now.changes.own ≡ Some s → (node.changes.own ≡ Some s) ⊎ IsIn (as_message ViewChange s) out.sent
 
-as_before : (node : Node) (out : Outcome) → KeepsAs node out.now → KeptOrSent node out
-as_before node out keeps s e = inl (sym keeps ∙ e)
-
-leaving_keeps : (node : Node) (view : ℕ) → KeptOrSent node (outcome node (LeavesFor view))
-leaving_keeps node view =
-    elim (leaving_refusal node view) as (λ r. KeptOrSent node (unless r node (left_for node view))) [
-      | Some refused ↦ λ s e. inl e
-      | None ↦ λ s e. inr (inl (ap (as_message ViewChange) (sym (some_is (own_change node view) s e))))
-    ]
-
 step_keeps : (node : Node) (step : NodeStep) → KeptOrSent node (outcome node step)
-step_keeps node (Delivers bytes) = as_before node (outcome node (Delivers bytes)) (bytes_keep node (message_of bytes))
-step_keeps node (Takes signed) = as_before node (outcome node (Takes signed)) (message_keeps node signed.message signed.auth)
-step_keeps node (TakesRequests messages) = as_before node (outcome node (TakesRequests messages)) (rests_keep node _ (requests_rest node messages))
-step_keeps node (TakesOffered request) = as_before node (outcome node (TakesOffered request)) (rests_keep node _ (offered_rest node request))
-step_keeps node (Proposes time) = as_before node (outcome node (Proposes time)) (rests_keep node _ (proposes_rest node time))
-step_keeps node Executes = as_before node (outcome node Executes) (rests_keep node _ (executes_rest node))
-step_keeps node Fails = as_before node (outcome node Fails) refl
-step_keeps node Checkpoints = as_before node (outcome node Checkpoints) (rests_keep node _ (tells_rest node))
-step_keeps node TimesOut = leaving_keeps node (next_view node.order)
-step_keeps node (LeavesFor view) = leaving_keeps node view
-step_keeps node ForgetsAnswered = as_before node (outcome node ForgetsAnswered) refl
-step_keeps node ForgetsProposed = as_before node (outcome node ForgetsProposed) refl
-step_keeps node (Adopts certificate files table) = as_before node (outcome node (Adopts certificate files table)) (rests_keep node _ (adopts_rest node certificate files table))
-step_keeps node (Settles certificate) = as_before node (outcome node (Settles certificate)) (rests_keep node _ (settles_rest node certificate))
+step_keeps node step = elim (step_kind node step) [
+  | Rested rests ↦ λ s e. inl (ap (λ (k : Kept). k.own) (sym rests.changes) ∙ e)
+  | TookChange c ↦ subst (KeptOrSent node) (sym c.is) (λ s e. inl (sym (change_keeps node c.change) ∙ e))
+  | TookNewView c ↦ subst (KeptOrSent node) (sym c.is) (λ s e. inl e)
+  | Left l ↦ subst (KeptOrSent node) (sym l.is) (λ s e. inr (inl (ap (as_message ViewChange) (sym (some_is (own_change node l.view) s e)))))
+]
 
 abbrev OwnIsSent : NodeReplica → Type 0
 OwnIsSent r = (s : Change) → r.node.changes.own ≡ Some s → IsIn (as_message ViewChange s) r.sent

@@ -15,7 +15,7 @@ use Rattle.bfs_log.specs.Batches.{Committed}
 use Rattle.bfs_log.specs.Certificates.{StableCheckpoint, as_checkpoints, checkpoints_in, is_shown, messages_in}
 use Rattle.bfs_log.proofs.Public.{IsVoucher, vouched}
 use Rattle.bfs_log.specs.Headers.{header}
-use Rattle.bfs_log.specs.Logs.{Log, headers}
+use Rattle.bfs_log.specs.Logs.{headers}
 use Rattle.bfs_messages.specs.Fits.{FitsMessage, FitsOrder}
 use Rattle.bfs_codec.specs.Laws.{MessageWasWritten, OneBatch}
 use Rattle.bfs_messages.specs.Messages as model

@@ -1,17 +1,15 @@
 -- A node enters a view with all that the NEW-VIEW hands over, since each VIEW-CHANGE that it keeps is valid by its keys, or its own.
-use Rattle.std.proofs.Common.{◌≡◌, ℕ, ◌≤◌, true, false, cond, List, [], ◌∷◌, ◌⊎◌, Option, Some, None, length, option_map, inl, inr, refl, sym, ap, subst, ◌∙◌, arith}
+use Rattle.std.proofs.Common.{◌≡◌, ℕ, ◌≤◌, true, false, cond, List, [], ◌∷◌, ◌⊎◌, None, option_map, inl, inr, refl, sym, ap, subst, ◌∙◌, arith}
 use Rattle.std.proofs.lemmas.Bool.{and_parts, eqb-true}
 use Rattle.std.proofs.lemmas.List.{length-replicate}
 use Rattle.bfs_auth.specs.Keys.{Keys}
 use Rattle.bfs_codec.specs.Laws.{MessageWasWritten}
-use Rattle.bfs_codec.specs.Reading.{message_of}
 use Rattle.bfs_log.specs.Certificates.{faults}
 use Rattle.bfs_messages.specs.Fits.{FitsMessage}
 use Rattle.bfs_messages.specs.Messages as model
 use Rattle.bfs_messages.specs.Signing.{as_message}
 use Rattle.bfs_messages.specs.declared.signed.Signed.{Signed}
-use Rattle.bfs_messages.specs.declared.message.Message.{Message}
-use Rattle.bfs_messages.specs.declared.message.Message.TheVariants.{Request, Order, ViewChange, NewView, Reply}
+use Rattle.bfs_messages.specs.declared.message.Message.TheVariants.{ViewChange, NewView}
 use Rattle.bfs_votes.specs.Votes.{primary, replicas}
 use Rattle.bfs_order.specs.Laws.Calls as order
 use Rattle.bfs_order.specs.Laws.Logs.{HasNoLaterView}
@@ -27,22 +25,22 @@ use Rattle.bfs_view_change.specs.Changes.Making.{signed_new_view}
 use Rattle.bfs_view_change.specs.Changes.NewViews.{latest_checkpoint, new_view_refusal}
 use Rattle.bfs_view_change.specs.Changes.ViewChanges.{messages_of, valid_view_change}
 use Rattle.bfs_view_change.proofs.Public.{made_near}
-use Rattle.bfs_node.specs.Changing.{begun, begun_if_due, change_refusal, entering_refusal, leads, leaving_refusal, left_for, may_begin, next_view, own_change, own_new_view, view_refusal, with_new_view, with_view_change}
-use Rattle.bfs_node.specs.Delivering.{bytes_delivered, bytes_refusal, message_delivered, message_refusal}
+use Rattle.bfs_node.specs.Changing.{begun, begun_if_due, entering_refusal, leads, leaving_refusal, left_for, may_begin, own_change, own_new_view, view_refusal, with_new_view, with_view_change}
 use Rattle.bfs_node.specs.Errors.{of_view}
 use Rattle.bfs_node.specs.Nodes.{Messages, Node, Outcome}
-use Rattle.bfs_node.specs.declared.error.NodeError.{NodeError}
 use Rattle.bfs_nodes_agree.specs.Nodes.Laws.{HasEnteredWhole, NewViewsAreTakenWhole, ViewsAreEnteredWhole, WhatIsKeptIsValid}
 use Rattle.bfs_nodes_agree.specs.Nodes.Premises.{AreShared, Comes, IsAny}
 use Rattle.bfs_nodes_agree.specs.Nodes.Replicas.{Beginning, Keyring, NodeReplica, NodeReplicas, NodeTurn, after_node_step, after_node_turn, after_node_turns, new_node_replicas}
-use Rattle.bfs_nodes_agree.specs.Nodes.Steps.{NodeStep, Delivers, Takes, TakesRequests, Proposes, Executes, Fails, Checkpoints, TimesOut, LeavesFor, Adopts, deeds_of, outcome, still, unless, TakesOffered, ForgetsAnswered, ForgetsProposed, Settles}
+use Rattle.bfs_nodes_agree.specs.Nodes.Steps.{NodeStep, deeds_of, outcome, still}
 use Rattle.bfs_nodes_agree.specs.Views.Laws.{EntersWhole, IsSound, NothingIsPassedOver}
 use Rattle.bfs_nodes_agree.proofs.Nodes.Bounds.{IsBounded, kept, left_bounded}
 use Rattle.bfs_nodes_agree.proofs.Nodes.Doing.{stays_kept}
+use Rattle.bfs_nodes_agree.proofs.Nodes.Entered.{comes_so}
+use Rattle.bfs_nodes_agree.proofs.Nodes.Kinds.{Left, Rested, TookChange, TookNewView, step_kind}
 use Rattle.bfs_nodes_agree.proofs.Nodes.Keeping.{AreKept, good_for, good_on, kept_above, kept_with, none_kept}
 use Rattle.bfs_nodes_agree.proofs.Nodes.NewViews.{is_taken, own_proposals, proposals_are}
-use Rattle.bfs_nodes_agree.proofs.Nodes.Resting.{Rests, adopts_rest, executes_rest, itself, proposes_rest, requests_rest, tells_rest, offered_rest, settles_rest, forgets_answered_rest, forgets_proposed_rest}
-use Rattle.bfs_nodes_agree.proofs.Nodes.Right.{change_valid, fits_read}
+use Rattle.bfs_nodes_agree.proofs.Nodes.Resting.{Rests, itself}
+use Rattle.bfs_nodes_agree.proofs.Nodes.Right.{change_valid}
 use Rattle.bfs_nodes_agree.proofs.Nodes.States.{both_at}
 use Rattle.bfs_nodes_agree.proofs.Nodes.Steps.{begins_open, not_refused, not_second, step_leads}
 use Rattle.bfs_nodes_agree.proofs.Views.Lists.{passes_at}
@@ -132,84 +130,46 @@ module _ (Said : Change → Type 0) where
         | false ↦ record { keys = refl; kept = stands.kept; enters = λ _. inl refl }
       ]
 
-  if_goes : (Fits : Type 0) (node : Node) (r : Option NodeError) (out : Outcome) → Stands node → (r ≡ None → Goes Fits node out) → Goes Fits node (unless r node out)
-  if_goes Fits node r out stands goes = (elim r as (λ x. r ≡ x → Goes Fits node (unless x node out)) [
-    | None ↦ goes
-    | Some refused ↦ λ _. rests_go Fits node (still node) stands (itself node)
-  ]) refl
+  takes_new : (whole : NothingIsPassedOver) (Fits : Type 0) (node : Node) → Stands node → (s : Signed model.NewView) → view_refusal node s ≡ None → (Fits → FitsMessage (NewView s.message)) → Goes Fits node (with_new_view node s)
+  takes_new whole Fits node stands s none fits = record {
+    keys = refl;
+    kept = kept_above (Good node.keys node.order.low) node.order.f s.message.view node.changes stands.kept;
+    enters = λ so. inr (record {
+      new = s;
+      kept = refl;
+      of_view = sym (entered_view node.keys node.order s.message.view s.message);
+      whole = taken_whole whole node s stands.fit stands.later (fits so) none;
+    });
+  }
 
-  message_goes : (whole : NothingIsPassedOver) (node : Node) → Stands node → (m : Message) (auth : List (List ℕ))
-      → Goes (FitsMessage m) node (unless (message_refusal node (record { message = m; auth = auth }) m) node (message_delivered node (record { message = m; auth = auth }) m))
-  message_goes whole node stands (Request request) auth =
-      let s : Signed Message = record { message = Request request; auth = auth } in
-      if_goes (FitsMessage (Request request)) node (message_refusal node s (Request request)) (message_delivered node s (Request request)) stands (λ _. record { keys = refl; kept = stands.kept; enters = λ _. inl refl })
-  message_goes whole node stands (Order message) auth =
-      let s : Signed Message = record { message = Order message; auth = auth } in
-      if_goes (FitsMessage (Order message)) node (message_refusal node s (Order message)) (message_delivered node s (Order message)) stands (λ _. record { keys = refl; kept = stands.kept; enters = λ _. inl refl })
-  message_goes whole node stands (ViewChange change) auth =
-      let s : Change = record { message = change; auth = auth } in
-      if_goes (FitsMessage (ViewChange change)) node (change_refusal node s) (with_view_change node s) stands (λ none. change_goes whole (FitsMessage (ViewChange change)) node stands s (inl (change_valid node s none)))
-  message_goes whole node stands (NewView new) auth =
-      let s : Signed model.NewView = record { message = new; auth = auth } in
-      if_goes (FitsMessage (NewView new)) node (view_refusal node s) (with_new_view node s) stands (λ none. record {
-        keys = refl;
-        kept = kept_above (Good node.keys node.order.low) node.order.f new.view node.changes stands.kept;
-        enters = λ fits. inr (record {
-          new = s;
-          kept = refl;
-          of_view = sym (entered_view node.keys node.order new.view new);
-          whole = taken_whole whole node s stands.fit stands.later fits none;
-        });
-      })
-  message_goes whole node stands (Reply reply) auth = rests_go (FitsMessage (Reply reply)) node (still node) stands (itself node)
-
-  leaves_goes : (whole : NothingIsPassedOver) (Fits : Type 0) (node : Node) (view : ℕ) → Stands node
-      → ((s : Change) → IsIn (as_message ViewChange s) (outcome node (LeavesFor view)).sent → Said s) → Goes Fits node (outcome node (LeavesFor view))
-  leaves_goes whole Fits node view stands says =
+  leaves_goes : (whole : NothingIsPassedOver) (Fits : Type 0) (node : Node) (view : ℕ) → Stands node → leaving_refusal node view ≡ None
+      → ((s : Change) → IsIn (as_message ViewChange s) (left_for node view).sent → Said s) → Goes Fits node (left_for node view)
+  leaves_goes whole Fits node view stands none said =
       let gone = record node { order = (views.left node.order view).now } in
       let own = own_change node view in
-      (elim (leaving_refusal node view) as (λ r. leaving_refusal node view ≡ r → ((s : Change) → IsIn (as_message ViewChange s) (unless r node (left_for node view)).sent → Said s) → Goes Fits node (unless r node (left_for node view))) [
-        | Some refused ↦ λ _ _. rests_go Fits node (still node) stands (itself node)
-        | None ↦ λ none said.
-            let may = not_refused (views.leaving_refusal node.order view) none in
-            let there : Stands gone = record { fit = stands.fit; bounded = left_bounded node.order view may; later = stands.later; kept = stands.kept } in
-            let goes = change_goes whole Fits gone there own (inr (inr (made_near node.order view, omega arith), said own (inl refl))) in
-            record {
-              keys = goes.keys;
-              kept = goes.kept;
-              enters = λ fits. elim (goes.enters fits) [
-                | inl same ↦ inl same
-                | inr entered ↦ inr (record { new = entered.new; kept = entered.kept; of_view = entered.of_view; whole = entered.whole })
-              ];
-            }
-      ]) refl says
-
-  bytes_go : (whole : NothingIsPassedOver) → MessageWasWritten → (node : Node) → Stands node → (bytes : List ℕ) → Goes (Comes IsAny (Delivers bytes)) node (outcome node (Delivers bytes))
-  bytes_go whole written node stands bytes = go (message_of bytes) refl
-    where
-      Fits : Type 0
-      Fits = Comes IsAny (Delivers bytes)
-
-      go : (o : Option (Signed Message)) → message_of bytes ≡ o → Goes Fits node (unless (bytes_refusal node o) node (bytes_delivered node o))
-      go None is = rests_go Fits node (still node) stands (itself node)
-      go (Some m) is = let goes = message_goes whole node stands m.message m.auth in record { keys = goes.keys; kept = goes.kept; enters = λ comes. goes.enters (fits_read written bytes m comes.0 is) }
+      let may = not_refused (views.leaving_refusal node.order view) none in
+      let there : Stands gone = record { fit = stands.fit; bounded = left_bounded node.order view may; later = stands.later; kept = stands.kept } in
+      let goes = change_goes whole Fits gone there own (inr (inr (made_near node.order view, omega arith), said own (inl refl))) in
+      record {
+        keys = goes.keys;
+        kept = goes.kept;
+        enters = λ fits. elim (goes.enters fits) [
+          | inl same ↦ inl same
+          | inr entered ↦ inr (record { new = entered.new; kept = entered.kept; of_view = entered.of_view; whole = entered.whole })
+        ];
+      }
 
   step_goes : (whole : NothingIsPassedOver) → MessageWasWritten → (node : Node) (step : NodeStep) → Stands node
       → ((s : Change) → IsIn (as_message ViewChange s) (outcome node step).sent → Said s) → Goes (Comes IsAny step) node (outcome node step)
-  step_goes whole written node (Delivers bytes) stands says = bytes_go whole written node stands bytes
-  step_goes whole written node (Takes signed) stands says = let goes = message_goes whole node stands signed.message signed.auth in record { keys = goes.keys; kept = goes.kept; enters = λ comes. goes.enters comes.0 }
-  step_goes whole written node (TakesRequests messages) stands says = rests_go (Unit {0}) node (outcome node (TakesRequests messages)) stands (requests_rest node messages)
-  step_goes whole written node (TakesOffered request) stands says = rests_go (Unit {0}) node (outcome node (TakesOffered request)) stands (offered_rest node request)
-  step_goes whole written node (Proposes time) stands says = rests_go (Unit {0}) node (outcome node (Proposes time)) stands (proposes_rest node time)
-  step_goes whole written node Executes stands says = rests_go (Unit {0}) node (outcome node Executes) stands (executes_rest node)
-  step_goes whole written node Fails stands says = record { keys = refl; kept = stands.kept; enters = λ _. inl refl }
-  step_goes whole written node Checkpoints stands says = rests_go (Unit {0}) node (outcome node Checkpoints) stands (tells_rest node)
-  step_goes whole written node TimesOut stands says = leaves_goes whole (Unit {0}) node (next_view node.order) stands says
-  step_goes whole written node (LeavesFor view) stands says = leaves_goes whole (Unit {0}) node view stands says
-  step_goes whole written node ForgetsAnswered stands says = rests_go (Unit {0}) node (outcome node ForgetsAnswered) stands (forgets_answered_rest node)
-  step_goes whole written node ForgetsProposed stands says = rests_go (Unit {0}) node (outcome node ForgetsProposed) stands (forgets_proposed_rest node)
-  step_goes whole written node (Adopts certificate files table) stands says = rests_go (Comes IsAny (Adopts certificate files table)) node (outcome node (Adopts certificate files table)) stands (adopts_rest node certificate files table)
-  step_goes whole written node (Settles certificate) stands says = rests_go (Comes IsAny (Settles certificate)) node (outcome node (Settles certificate)) stands (settles_rest node certificate)
+  step_goes whole written node step stands says = elim (step_kind node step) [
+    | Rested rests ↦ rests_go Fits node (outcome node step) stands rests
+    | TookChange c ↦ subst (Goes Fits node) (sym c.is) (change_goes whole Fits node stands c.change (inl (change_valid node c.change c.taken)))
+    | TookNewView c ↦ subst (Goes Fits node) (sym c.is) (takes_new whole Fits node stands c.new c.taken (λ comes. (comes_so written IsAny step (as_message NewView c.new) comes c.came).0))
+    | Left l ↦ subst (λ (o : Outcome). ((s : Change) → IsIn (as_message ViewChange s) o.sent → Said s) → Goes Fits node o) (sym l.is) (leaves_goes whole Fits node l.view stands l.taken) says
+  ]
+    where
+      Fits : Type 0
+      Fits = Comes IsAny step
 
 -- All steps -------------------------------------------------------------------------------------------------------------------
 

@@ -1,20 +1,19 @@
 -- Who enters a view takes all that is handed over above its low mark, where none of that lies above the high one.
-use Rattle.std.proofs.Common.{◌≡◌, ℕ, ◌+◌, ◌<◌, ◌≤◌, ◌&&◌, Bool, true, false, cond, List, [], ◌∷◌, ◌++◌, Option, Some, None, ◌⊎◌, inl, inr, refl, sym, ap, subst, ◌∙◌, arith}
+use Rattle.std.proofs.Common.{◌≡◌, ℕ, ◌+◌, ◌<◌, ◌≤◌, ◌&&◌, Bool, true, false, cond, [], ◌∷◌, ◌++◌, Option, Some, None, ◌⊎◌, inl, inr, refl, sym, ap, subst, ◌∙◌, arith}
 use Rattle.std.specs.Prelude.{nat_lt, nat_le}
 use Rattle.std.specs.List.{list_all}
 use Rattle.std.proofs.lemmas.Bool.{and_parts, and_from, lt-ltb, le-leb, cases_lt, ltb-true, ltb-false}
 use Rattle.bfs_auth.specs.Keys.{Keys}
-use Rattle.bfs_votes.specs.Votes.{Header, SlotsDiffer, is_taken, primary}
+use Rattle.bfs_votes.specs.Votes.{Header, SlotsDiffer, is_taken}
 use Rattle.bfs_log.specs.Certificates.{StableCheckpoint, checkpoints_in, is_shown, vouches}
 use Rattle.bfs_log.specs.Headers.{header}
 use Rattle.bfs_log.specs.Logs.{Log, headers, kept_after}
 use Rattle.bfs_messages.specs.declared.signed.Signed.{Signed}
 use Rattle.bfs_messages.specs.declared.order_messages.OrderMessage.{OrderMessage}
 use Rattle.bfs_order.specs.declared.error.OrderError.{OrderError}
-use Rattle.bfs_order.specs.declared.error.OrderError.TheVariants.{OutsideMarks}
 use Rattle.bfs_order.specs.Replica.Accepting.{accepted}
 use Rattle.bfs_order.specs.Replica.Answers.{votes_in}
-use Rattle.bfs_order.specs.Replica.Installing.{certified, raised, raises}
+use Rattle.bfs_order.specs.Replica.Installing.{certified, raised}
 use Rattle.bfs_order.specs.Replica.Outcomes.{Outcome, unless}
 use Rattle.bfs_order.specs.Replica.Refusals.{is_between, place_refusal}
 use Rattle.bfs_order.specs.Replica.States.{State, known, with_message, with_more}
@@ -22,7 +21,6 @@ use Rattle.bfs_order.specs.Replica.Views.{all_taken_over, number_of, taken_over}
 use Rattle.bfs_order.proofs.Public.{raised_either}
 use Rattle.bfs_agreement.specs.Histories.{IsIn}
 use Rattle.bfs_agreement.specs.Moves.{kept_above}
-use Rattle.bfs_nodes_agree.specs.Orders.Following.{HaveTheSameVotes}
 use Rattle.bfs_nodes_agree.proofs.Orders.Dropping.{dropped, each_five, in_kept}
 use Rattle.bfs_nodes_agree.proofs.Orders.Entering.{IsHanded, beyond_refused, differs, later_free, none_refused, still_free, taken}
 use Rattle.bfs_nodes_agree.proofs.Orders.Lists.{left_in, right_in}
