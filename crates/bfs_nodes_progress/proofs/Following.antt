@@ -1,7 +1,7 @@
 -- By following others, members come to ask for one view.
-use Rattle.std.proofs.Common.{◌≡◌, ℕ, zero, suc, ◌+◌, ◌<◌, ◌≤◌, Bool, true, false, cond, not, List, [], max, Option, Some, None, option_map, inl, inr, refl, sym, ap, subst, ◌∙◌, arith}
+use Rattle.std.proofs.Common.{◌≡◌, ℕ, zero, suc, ◌+◌, ◌<◌, ◌≤◌, Bool, ◌&&◌, true, false, cond, not, List, [], max, Option, Some, None, option_map, inl, inr, refl, sym, ap, subst, ◌∙◌, arith}
 use Rattle.std.specs.Prelude.{nat_le, nat_lt}
-use Rattle.std.proofs.lemmas.Bool.{and_from, cases_lt, cond_both, le-leb, leb-true, ltb-true, lt-ltb}
+use Rattle.std.proofs.lemmas.Bool.{and_from, and_parts, cases_lt, cond_both, le-leb, leb-true, ltb-true, lt-ltb}
 use Rattle.bfs_auth.specs.Keys.{Keys}
 use Rattle.bfs_model.specs.Server.Limits.{most_number}
 use Rattle.bfs_votes.specs.Votes.{count_below, replicas}
@@ -18,9 +18,9 @@ use Rattle.bfs_nodes_agree.specs.Nodes.Premises.{AreAuthentic}
 use Rattle.bfs_nodes_agree.specs.Nodes.Replicas.{Beginning, Keyring, NodeReplica, NodeReplicas, NodeTurn, after_node_turns, new_node_replicas}
 use Rattle.bfs_nodes_agree.specs.Nodes.Steps.{LeavesFor, unless}
 use Rattle.bfs_nodes_agree.proofs.Public.{here_after, IsBounded}
-use Rattle.bfs_nodes_progress.specs.Following.{AreMembers, HaveSupport, SupportIsHeard, all_follow, asked_by, following, heard, rounds_of_following}
+use Rattle.bfs_nodes_progress.specs.Following.{AreMembers, HaveSupport, SupportIsHeard, asked_by, following, heard, round_of_following, rounds_of_following}
 use Rattle.bfs_nodes_progress.specs.Inside.Below.{Below}
-use Rattle.bfs_nodes_progress.specs.LawsOfFollowing.{AllAsk, AllFollow, FollowsAMember, MayFollow, NoneLags, WhatIsHeardWasAsked}
+use Rattle.bfs_nodes_progress.specs.LawsOfFollowing.{AllAsk, AllFollow, FewAreAhead, FollowsAMember, MayFollow, NoneLags, WhatIsHeardWasAsked, ahead_of}
 use Rattle.bfs_nodes_progress.specs.Runs.{IsARun, order_of, reached}
 use Rattle.bfs_nodes_progress.proofs.Asked.{left_asks}
 use Rattle.bfs_nodes_progress.proofs.Each.{AreOf, authentic_both, each_authentic, each_once}
@@ -61,18 +61,34 @@ module _ (laws : Below) (f : ℕ) (faulty : ℕ → Bool) (positive : 0 < f) (fe
     own : (k : ℕ) → members k ≡ true → max (order_of w k).view (order_of w k).asked ≡ asked_by w k
     own k in_k = let le = entered_asked laws f faulty positive few w at.orders at.world at.facts k (are.correct k in_k) in omega (arith, le)
 
-    -- who asks for less may follow
-    pub may_follow : (these : ℕ → Bool) (view k : ℕ) → members k ≡ true → HaveSupport f members these w view → SupportIsHeard members these w view → asked_by w k < view → MayFollow w k
-    may_follow these view k in_k support is_heard less =
+    -- who has heard f + 1 ask for later views may follow
+    may_by : (these : ℕ → Bool) (k : ℕ) → members k ≡ true → f + 1 ≤ count_below these (replicas f) → ((j : ℕ) → these j ≡ true → asked_by w k < heard (w k).node j) → MayFollow w k
+    may_by these k in_k enough hears =
         let node = (w k).node in
         let is_own = own k in_k in
         let is_f = same_f f faulty w at.orders at.world at.facts k in
         let later = λ (j : ℕ). nat_lt (max node.order.view node.order.asked) (heard node j) in
-        let enough = support.enough in
         let all : count_below these (replicas f) ≤ count_below later (replicas f) = more these later (replicas f) (λ j x.
-        let le = is_heard k j in_k x less in
-        lt-ltb (max node.order.view node.order.asked) (heard node j) (omega (arith, is_own, less, le))) in
+        let lt = hears j x in
+        lt-ltb (max node.order.view node.order.asked) (heard node j) (omega (arith, is_own, lt))) in
         some_follow node.changes.asked (max node.order.view node.order.asked) (node.order.f + 1) (replicas f) (omega arith) (omega (arith, enough, all, is_f))
+
+    -- so may one that asks for less
+    may_follow : (these : ℕ → Bool) (view k : ℕ) → members k ≡ true → HaveSupport f members these w view → SupportIsHeard members these w view → asked_by w k < view → MayFollow w k
+    may_follow these view k in_k support is_heard less = may_by these k in_k support.enough (λ j x. let le = is_heard k j in_k x less in omega (arith, le, less))
+
+    -- who may not has few before it
+    few_ahead : (k : ℕ) → members k ≡ true → ((j : ℕ) → members j ≡ true → asked_by w k < asked_by w j → asked_by w k < heard (w k).node j) → view_to_follow (w k).node ≡ None → ahead_of f members w k ≤ f
+    few_ahead k in_k hears none =
+        let these = λ (j : ℕ). members j && nat_lt (asked_by w k) (asked_by w j) in
+        elim (cases_lt f (ahead_of f members w k)) [
+          | inl many ↦
+              let got = may_by these k in_k (omega (arith, many)) (λ j x.
+              let parts = and_parts (members j) (nat_lt (asked_by w k) (asked_by w j)) x in
+              hears j parts.0 (ltb-true (asked_by w k) (asked_by w j) parts.1)) in
+              absurd (cc (got.1, none))
+          | inr le ↦ le
+        ]
 
     -- and nobody follows past all members
     pub by_a_member : (k to : ℕ) → members k ≡ true → view_to_follow (w k).node ≡ Some to → FollowsAMember members w k to
@@ -119,7 +135,7 @@ module _ (laws : Below) (f : ℕ) (faulty : ℕ → Bool) (positive : 0 < f) (fe
     round_authentic u k = cond_both (members k) (following k (view_to_follow (w k).node)) [] (AreAuthentic faulty u) (λ _. follow_authentic faulty u k (view_to_follow (w k).node)) (λ _. tt)
 
     abbrev round : List NodeTurn
-    round = all_follow f members w
+    round = round_of_following f members w
 
     abbrev next : NodeReplicas
     next = after_node_turns w round
@@ -157,7 +173,7 @@ module _ (laws : Below) (f : ℕ) (faulty : ℕ → Bool) (positive : 0 < f) (fe
       → AreAuthentic faulty w (rounds_of_following f members w rounds) × ((k : ℕ) → members k ≡ true → asked_by (after_node_turns w (rounds_of_following f members w rounds)) k ≡ view)
   rounds_ask members are these view zero w at support is_heard most least = (tt, λ k in_k. let a = most k in_k in let b = least k in_k in omega (arith, a, b))
   rounds_ask members are these view (suc rounds) w at support is_heard most least =
-      let list = all_follow f members w in
+      let list = round_of_following f members w in
       let authentic = each_authentic faulty (turns_at members are w at) (round_authentic members are w at) (replicas f) w in
       let w1 = after_node_turns w list in
       let asks = asks_next members are w at these view support is_heard most in
@@ -200,6 +216,10 @@ none_lags laws f keys start faulty members turns k run are in_k =
       λ to is. by_a_member laws f faulty run.others run.few members are w at k to in_k is,
     )
 
+pub few_are_ahead : Below → FewAreAhead
+few_are_ahead laws f keys start faulty members turns k run are in_k hears none =
+    few_ahead laws f faulty run.others run.few members are (reached f keys start turns) (stand_of laws f keys start faulty turns run) k in_k hears none
+
 pub all_ask : Below → AllAsk
 all_ask laws f keys start faulty members these turns view rounds run are support is_heard most least =
     let begun = new_node_replicas f keys start in
@@ -210,8 +230,8 @@ all_ask laws f keys start faulty members these turns view rounds run are support
       λ k in_k. subst (λ (x : NodeReplicas). asked_by x k ≡ view) (sym (after_join begun turns list)) (got.1 k in_k),
     )
 
-pub all_follow_all : Below → AllFollow
-all_follow_all laws f keys start faulty members these turns further view run are support come ended k in_k =
+pub all_follow : Below → AllFollow
+all_follow laws f keys start faulty members these turns further view run are support come ended k in_k =
     let begun = new_node_replicas f keys start in
     let w = after_node_turns begun turns in
     let last = after_node_turns w further in

@@ -12,6 +12,11 @@ mod Resending
 mod Standing
 mod Requests
 mod Entering
+mod Places
+mod Prompt
+mod Begun
+mod Giving
+mod Together
 mod Each
 mod Least
 mod Resting
@@ -21,9 +26,5 @@ mod Following
 mod Snapshots
 mod Collected
 mod CatchingUp
-mod Places
-mod Prompt
-mod Begun
-mod Giving
-mod Together
+mod Staying
 mod Premises

@@ -1,7 +1,10 @@
 -- The premises of the laws hold in a run.
-use Rattle.std.proofs.Common.{◌≡◌, ◌+◌, ◌<◌, ◌≤◌, [], refl, arith}
+use Rattle.std.proofs.Common.{◌≡◌, ◌+◌, ◌<◌, ◌≤◌, false, [], refl, arith}
+use Rattle.bfs_votes.specs.Votes.{replicas}
+use Rattle.bfs_agreement.specs.Examples.{silent}
 use Rattle.bfs_progress.proofs.Public.{each_present, present_quorum}
-use Rattle.bfs_nodes_progress.specs.Examples.{HoldBetweenViews, HoldInAView, one_proposal, three_timeouts}
+use Rattle.bfs_nodes_progress.specs.Examples.{HoldBetweenViews, HoldInAView, HoldWhereAllAsk, one_proposal, three_timeouts}
+use Rattle.bfs_nodes_progress.specs.Following.{asked_by}
 use Rattle.bfs_nodes_progress.specs.Runs.{order_of, reached}
 use Rattle.bfs_nodes_progress.proofs.Standing.{proposals_stand}
 
@@ -31,4 +34,20 @@ between_views keys start shared =
         asked = each_present (λ k. (order_of w k).asked ≡ 1) refl refl refl;
         before = each_present (λ k. (order_of w k).view < 1) (omega arith) (omega arith) (omega arith);
       },
+    )
+
+pub where_all_ask : HoldWhereAllAsk
+where_all_ask keys start shared =
+    let w = reached 1 keys start three_timeouts in (
+      record {
+        enough = omega arith;
+        correct = each_present (λ k. silent k ≡ false) refl refl refl;
+        among = each_present (λ k. k < replicas 1) (omega arith) (omega arith) (omega arith);
+      },
+      record {
+        enough = omega arith;
+        among = λ k x. x;
+        asked = each_present (λ k. 1 ≤ asked_by w k) (omega arith) (omega arith) (omega arith);
+      },
+      λ j k in_j _ less. let asked = each_present (λ k. asked_by w k ≡ 1) refl refl refl j in_j in absurd (omega (arith, asked, less)),
     )

@@ -10,6 +10,7 @@ use Rattle.bfs_nodes_agree.specs.Nodes.Replicas.{Beginning, Keyring, NodeTurn}
 use Rattle.bfs_nodes_agree.specs.Nodes.Steps.{Proposes, TimesOut}
 use Rattle.bfs_nodes_progress.specs.Runs.{IsARun, reached}
 use Rattle.bfs_nodes_progress.specs.Entering.{HaveAsked}
+use Rattle.bfs_nodes_progress.specs.Following.{AreMembers, HaveSupport, SupportIsHeard}
 use Rattle.bfs_nodes_progress.specs.Members.{AreTogether, HasRoom, IsProposed}
 
 abbrev pub one_proposal : Time → List NodeTurn
@@ -35,3 +36,10 @@ three_timeouts = record { who = 0; step = TimesOut } ∷ record { who = 1; step 
 abbrev pub HoldBetweenViews : Type 0
 HoldBetweenViews = (keys : Keyring) (start : Beginning) → AreShared 1 keys
     → IsARun 1 keys start silent three_timeouts × HaveAsked 1 silent present (reached 1 keys start three_timeouts) 1
+
+-- so they need follow nobody to it
+abbrev pub HoldWhereAllAsk : Type 0
+HoldWhereAllAsk = (keys : Keyring) (start : Beginning) → AreShared 1 keys
+    → AreMembers 1 silent present
+    × HaveSupport 1 present present (reached 1 keys start three_timeouts) 1
+    × SupportIsHeard present present (reached 1 keys start three_timeouts) 1

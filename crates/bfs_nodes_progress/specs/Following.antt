@@ -65,12 +65,12 @@ each_takes turns zero = []
 each_takes turns (suc k) = turns k ++ each_takes turns k
 
 -- each member follows, if it may
-abbrev pub all_follow : (f : ℕ) (members : ℕ → Bool) → NodeReplicas → List NodeTurn
-all_follow f members w = each_takes (λ k. if members k then following k (view_to_follow (w k).node) else []) (replicas f)
+abbrev pub round_of_following : (f : ℕ) (members : ℕ → Bool) → NodeReplicas → List NodeTurn
+round_of_following f members w = each_takes (λ k. if members k then following k (view_to_follow (w k).node) else []) (replicas f)
 
 -- one round behind another, so many
 abbrev pub rounds_of_following : (f : ℕ) (members : ℕ → Bool) → NodeReplicas → (rounds : ℕ) → List NodeTurn
 rounds_of_following f members w zero = []
 rounds_of_following f members w (suc rounds) =
-    let round = all_follow f members w in
+    let round = round_of_following f members w in
     round ++ rounds_of_following f members (after_node_turns w round) rounds

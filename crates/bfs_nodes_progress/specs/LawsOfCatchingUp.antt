@@ -1,5 +1,5 @@
 -- The statements of CatchingUp that are proved: contracts of functions of src/laws.rt, which do nothing.
-use Rattle.std.specs.Prelude.{◌≡◌, ℕ, ◌+◌, ◌<◌, ◌≤◌, Bool, true, false, List, Some}
+use Rattle.std.specs.Prelude.{◌≡◌, ℕ, ◌+◌, ◌<◌, ◌≤◌, Bool, true, false, List, ◌++◌, Some}
 use Rattle.bfs_checkpoints.specs.Keeping.{Kept}
 use Rattle.bfs_checkpoints.specs.Texts.{node_digest}
 use Rattle.bfs_log.specs.Certificates.{StableCheckpoint, is_shown}
@@ -53,6 +53,11 @@ WhoIsBehindComesUp = (f : ℕ) (keys : Keyring) (start : Beginning) (faulty tell
     → faulty j ≡ false → IsIn kept (reached f keys start turns j).node.snapshots.kept
     → AreTold f faulty tellers (reached f keys start turns) (keys who) kept.number told
     → ComesUp f keys start faulty turns who kept told
+
+-- whatever comes then, it stays so
+abbrev pub UpStaysUp : Type 0
+UpStaysUp = (f : ℕ) (keys : Keyring) (start : Beginning) (faulty : ℕ → Bool) (turns further : List NodeTurn) (k number : ℕ)
+    → IsARun f keys start faulty (turns ++ further) → IsUpTo number (reached f keys start turns k).node → IsUpTo number (reached f keys start (turns ++ further) k).node
 
 -- where a checkpoint is shown to each member by its keys, with a state of its digest, and each takes that turn, all are up to its number; and the next number
 -- has room at each, where none has a later number stable and the views of none begin behind a later one

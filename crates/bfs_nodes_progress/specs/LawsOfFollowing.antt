@@ -1,7 +1,8 @@
 -- The statements of Following that are proved: contracts of functions of src/laws.rt, which do nothing.
-use Rattle.std.specs.Prelude.{◌≡◌, ℕ, ◌+◌, ◌<◌, ◌≤◌, Bool, true, false, List, ◌++◌, Some, None}
+use Rattle.std.specs.Prelude.{◌≡◌, ℕ, ◌+◌, ◌<◌, ◌≤◌, Bool, true, false, ◌&&◌, List, ◌++◌, Some, None, nat_lt}
 use Rattle.bfs_node.specs.Changing.{view_to_follow}
 use Rattle.bfs_nodes_agree.specs.Nodes.Replicas.{Beginning, Keyring, NodeReplicas, NodeTurn}
+use Rattle.bfs_votes.specs.Votes.{count_below, replicas}
 use Rattle.bfs_nodes_progress.specs.Following.{AreMembers, ChangesCome, HaveSupport, SupportIsHeard, asked_by, heard, rounds_of_following}
 use Rattle.bfs_nodes_progress.specs.Runs.{IsARun, reached}
 
@@ -25,6 +26,19 @@ NoneLags = (f : ℕ) (keys : Keyring) (start : Beginning) (faulty members : ℕ 
     → ((these : ℕ → Bool) (view : ℕ) → HaveSupport f members these (reached f keys start turns) view → SupportIsHeard members these (reached f keys start turns) view
     → asked_by (reached f keys start turns) k < view → MayFollow (reached f keys start turns) k)
     × ((to : ℕ) → view_to_follow (reached f keys start turns k).node ≡ Some to → FollowsAMember members (reached f keys start turns) k to)
+
+-- how many members have asked for a later view than one
+abbrev pub ahead_of : (f : ℕ) (members : ℕ → Bool) → NodeReplicas → (k : ℕ) → ℕ
+ahead_of f members w k = count_below (λ j. members j && nat_lt (asked_by w k) (asked_by w j)) (replicas f)
+
+-- where following ends: a member that may not follow, and has heard of those that have asked for a later view, has at most f before it
+abbrev pub FewAreAhead : Type 0
+FewAreAhead = (f : ℕ) (keys : Keyring) (start : Beginning) (faulty members : ℕ → Bool) (turns : List NodeTurn) (k : ℕ)
+    → IsARun f keys start faulty turns → AreMembers f faulty members → members k ≡ true
+    → ((j : ℕ) → members j ≡ true → asked_by (reached f keys start turns) k < asked_by (reached f keys start turns) j
+    → asked_by (reached f keys start turns) k < heard (reached f keys start turns k).node j)
+    → view_to_follow (reached f keys start turns k).node ≡ None
+    → ahead_of f members (reached f keys start turns) k ≤ f
 
 -- where f + 1 members have asked for a view and are heard, and none has asked for a later one, rounds of following lead each to it: as many as the least view
 -- that one has asked for lies below it

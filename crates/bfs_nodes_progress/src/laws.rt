@@ -2,8 +2,8 @@
 // one, and deliveries of bytes and messages to them, of which at most f lie, and nothing that passes under a correct one's name is forged. "Members"
 // are 2f + 1 correct nodes or more, and the view's primary is one of them.
 ghost use Rattle.bfs_nodes_progress.specs.Laws.{AnswersAreSaid, AnswersAreTheTheorys, ChangesAreGiven, CommittedIsExecuted, EntersTogether, NewViewsAreEntered, NewViewsAreGiven, ProposalsStand, QuietIsCommitted, RequestsAreExecuted, RoundsCommit, ViewsAreBegun, VotesAreResent, WhatIsDueIsBegun};
-ghost use Rattle.bfs_nodes_progress.specs.LawsOfCatchingUp.{AllComeUp, CatchingUpInstalls, CheckpointsTellSnapshots, SnapshotsAreOfStates, WhoIsBehindComesUp};
-ghost use Rattle.bfs_nodes_progress.specs.LawsOfFollowing.{AllAsk, AllFollow, NoneLags, WhatIsHeardWasAsked};
+ghost use Rattle.bfs_nodes_progress.specs.LawsOfCatchingUp.{AllComeUp, CatchingUpInstalls, CheckpointsTellSnapshots, SnapshotsAreOfStates, UpStaysUp, WhoIsBehindComesUp};
+ghost use Rattle.bfs_nodes_progress.specs.LawsOfFollowing.{AllAsk, AllFollow, FewAreAhead, NoneLags, WhatIsHeardWasAsked};
 
 use crate::below::what_is_below;
 use bfs_checkpoints::right_checkpoints_are_collected;
@@ -108,6 +108,16 @@ pub fn committed_is_executed()
     what_is_below();
 }
 
+/// For members that are together in a view: where its primary proposes, what waits there is one batch, for its next number. Where they stay together,
+/// the number stays between the marks of each, and what they have said of it comes to each other one and passes there in three rounds, whatever else
+/// comes, each of them with a live file system at which the numbers up to that one are committed or executed executes a batch of that digest as
+/// that number, by as many calls.
+pub fn requests_are_executed()
+    ensures { RequestsAreExecuted }
+{
+    what_is_below();
+}
+
 /// Whatever calls and deliveries there were, and whoever lies: by the VIEW-CHANGEs that came to a node no correct one asks for a later view than it
 /// has asked for.
 pub fn what_is_heard_was_asked()
@@ -120,6 +130,14 @@ pub fn what_is_heard_was_asked()
 /// (`Node::view_to_follow`, OSDI 1999 section 4.5.2). That is later than its own, and none past all that members have asked for.
 pub fn none_lags()
     ensures { NoneLags }
+{
+    what_is_below();
+}
+
+/// A member that has no view to follow to, and has heard of the members that have asked for a later view than it, has at most f of them before it. So
+/// where following ends f + 1 members at least have asked for the least view that one has asked for.
+pub fn few_are_ahead()
+    ensures { FewAreAhead }
 {
     what_is_below();
 }
@@ -168,20 +186,17 @@ pub fn who_is_behind_comes_up()
     right_checkpoints_are_collected();
 }
 
-/// For members, to each of which a checkpoint of one number and state is shown by its keys: once each has taken its turn by that, all are up to
-/// that number, and the next one has room at each, where no mark was above it before.
-pub fn all_come_up()
-    ensures { AllComeUp }
+/// A node that is up to a number stays so, whatever comes to it: neither its low mark nor the number last executed falls.
+pub fn up_stays_up()
+    ensures { UpStaysUp }
 {
     what_is_below();
 }
 
-/// For members that are together in a view: where its primary proposes, what waits there is one batch, for its next number. Where they stay together,
-/// the number stays between the marks of each, and what they have said of it comes to each other one and passes there in three rounds, whatever else
-/// comes, each of them with a live file system at which the numbers up to that one are committed or executed executes a batch of that digest as
-/// that number, by as many calls.
-pub fn requests_are_executed()
-    ensures { RequestsAreExecuted }
+/// For members, to each of which a checkpoint of one number and state is shown by its keys: once each has taken its turn by that, all are up to
+/// that number, and the next one has room at each, where no mark was above it before.
+pub fn all_come_up()
+    ensures { AllComeUp }
 {
     what_is_below();
 }
