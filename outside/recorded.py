@@ -71,6 +71,32 @@ class Recorded:
     def timeout(self):
         return self.call(["timeout"], self.replica.timeout)
 
+    def leave(self, view):
+        return self.call(["leave", str(view)], lambda: self.replica.leave(view))
+
+    def offer(self, request):
+        return self.call(["offer", request.text.hex()], lambda: self.replica.offer(request))
+
+    def resend(self, *lag):
+        return self.call(["resend", *map(str, lag)], lambda: self.replica.resend(*lag))
+
+    def forget_answered(self):
+        return self.call(["forget_answered"], self.replica.forget_answered)
+
+    def forget_proposed(self):
+        return self.call(["forget_proposed"], self.replica.forget_proposed)
+
+    def told(self, number):
+        return self.call(["told", str(number)], lambda: (self.replica.told(number) or (None, []))[1])
+
+    def collect(self, number, digest, told):
+        words = ["collect", str(number), digest.hex(), *(each.text.hex() for each in told)]
+        return self.call(words, lambda: self.replica.collect(number, digest, told))
+
+    def settle(self, number, digest, certificate):
+        words = ["settle", str(number), digest.hex(), *(each.text.hex() for each in certificate)]
+        return self.call(words, lambda: self.replica.settle(number, digest, certificate))
+
     def adopt(self, text, number, digest, certificate):
         words = ["adopt", text.hex(), str(number), digest.hex(), *(each.text.hex() for each in certificate)]
         return self.call(words, lambda: self.replica.adopt(text, number, digest, certificate))

@@ -2,8 +2,8 @@
 from dataclasses import dataclass
 
 from files import FileSystem
-from messages import CHECKPOINT, NEW_VIEW, REPLY, REQUEST, VIEW_CHANGE, Batch, Reply
-from order import ALREADY_HAVE, BAD_AUTHENTICATOR, NO_CERTIFICATE, WRONG_KIND, WRONG_VIEW, Order, Refusal, refuse_if
+from messages import CHECKPOINT, COMMIT, NEW_VIEW, PRE_PREPARE, PREPARE, REPLY, REQUEST, VIEW_CHANGE, Batch, Reply
+from order import ALREADY_HAVE, BAD_AUTHENTICATOR, LOG_SIZE, NO_CERTIFICATE, WRONG_KIND, WRONG_VIEW, Order, Refusal, refuse_if
 from snapshot import restored
 from table import Replies, execute, replica_digest
 from views import BAD_CERTIFICATE, change_of, check_new_view, is_valid, new_view_of
@@ -33,6 +33,7 @@ class Replica:
         self.changes = {}  # the last VIEW-CHANGE of each replica for a view that this one leads
         self.snapshots = []
         self.certificate = []  # the CHECKPOINTs of the stable snapshot
+        self.own_change = self.new_view = None  # its last VIEW-CHANGE, and the NEW-VIEW by which it has entered its view
 
     # Messages
 
@@ -58,6 +59,53 @@ class Replica:
         self.pending.append(request)
         return []
 
+    def offer(self, request):
+        """Only a new request waits, one of each, and of a client no more than its share; the last one that was executed is answered again."""
+        refuse_if(not self.keys.passes(request, self.me), BAD_AUTHENTICATOR)
+        client, timestamp = request.message.sender, request.message.timestamp
+        last = self.replies.last[client] if client < len(self.replies.last) else (timestamp + 1, b"")
+        if last and timestamp <= last[0]:
+            return [self.keys.sign(Reply(self.me, self.order.view, client, *last))] if timestamp == last[0] else []
+        alike = [each for each in self.pending if (each.message.sender, each.message.timestamp) == (client, timestamp)]
+        if alike and self.is_alike(alike[-1], request):
+            return []
+        waiting = sum(each.message.sender == client for each in self.pending)
+        refuse_if(len(self.pending) >= MOST_PENDING or waiting >= MOST_PENDING // max(len(self.replies.last), 1), BATCH_FULL)
+        self.pending.append(request)
+        return []
+
+    def is_alike(self, one, other):
+        """Whether two requests are the same to this replica, which reads one keyed hash of each."""
+        return (one.message.body, one.entries[self.me]) == (other.message.body, other.entries[self.me])
+
+    def forget_answered(self):
+        """What was executed waits no longer."""
+        last = self.replies.last
+        self.pending = [each for each in self.pending if last[each.message.sender] is None or last[each.message.sender][0] < each.message.timestamp]
+        return []
+
+    def forget_proposed(self):
+        """What it has proposed in its view, and not executed, waits no longer."""
+        order, named = self.order, set()
+        for (tag, view, number), votes in order.log.items():
+            if (tag, view) == (PRE_PREPARE, order.view) and number > order.last and self.me in votes:
+                named |= {(each.message.sender, each.message.timestamp) for each in votes[self.me].message.batch.requests}
+        self.pending = [each for each in self.pending if (each.message.sender, each.message.timestamp) not in named]
+        return []
+
+    def resend(self, view, last, stable):
+        """What it has said, and another one may lack that is in that view, and has executed and made stable these numbers."""
+        order = self.order
+        sent = [self.own_change] if order.view < order.asked else []
+        sent += [self.new_view] if view < order.view else []
+        are_together = order.asked <= order.view == view
+        for number in range(order.low, order.low + LOG_SIZE + 1):
+            kinds = [(PRE_PREPARE, view)] if are_together and last < number else []
+            kinds += [(PREPARE, view), (COMMIT, view)] if are_together and stable < number else []
+            kinds += [(CHECKPOINT, 0)] if stable < number else []
+            sent += [votes[self.me] for votes in (order.votes(tag, of, number) for tag, of in kinds) if self.me in votes]
+        return sent
+
     def propose(self, time):
         """All that waits, as one batch. It waits until it is executed."""
         return self.order.propose(Batch(time, tuple(self.pending)))
@@ -66,10 +114,12 @@ class Replica:
 
     def timeout(self):
         """Leaves for the view behind the one entered, or asked for, and says so."""
-        view = max(self.order.view, self.order.asked) + 1
+        return self.leave(max(self.order.view, self.order.asked) + 1)
+
+    def leave(self, view):
         self.order.leave(view)
-        own = change_of(self.order, view)
-        return [own, *self.keep_change(own)]
+        self.own_change = change_of(self.order, view)
+        return [self.own_change, *self.keep_change(self.own_change)]
 
     def take_change(self, signed):
         change = signed.message
@@ -99,7 +149,7 @@ class Replica:
         return self.enter(signed, floor)
 
     def enter(self, signed, floor):
-        new = signed.message
+        new, self.new_view = signed.message, signed
         self.changes = {sender: each for sender, each in self.changes.items() if each.message.view > new.view}
         if floor > self.order.low:
             certificate = next(each.message.checkpoints for each in new.changes if each.message.stable == floor)
@@ -173,6 +223,29 @@ class Replica:
         """The stable snapshot, or None."""
         told = [(each.message.number, each.message.digest) for each in self.certificate[:1]]
         return next((each for each in self.snapshots if (each.number, each.digest) in told), None)
+
+    def told(self, number):
+        """The snapshot of a number that it keeps, stable or not, with the CHECKPOINTs that tell its digest; or None."""
+        kept = next((each for each in self.snapshots if each.number == number), None)
+        return kept and (kept, self.order.certificate(number, kept.digest))
+
+    def collect(self, number, digest, told):
+        """Of CHECKPOINTs those that are right and tell this, the first of each replica, where they are enough."""
+        right = {}
+        for each in told:
+            message = each.message
+            if (message.tag, message.number, message.digest) == (CHECKPOINT, number, digest) and self.keys.passes(each, self.me):
+                right.setdefault(message.sender, each)
+        return list(right.values()) if len(right) > 2 * self.order.faults else []
+
+    def settle(self, number, digest, certificate):
+        """A checkpoint that it has executed is stable, by the CHECKPOINTs that another one shows."""
+        tell = all((each.message.number, each.message.digest) == (number, digest) for each in certificate)
+        is_shown = tell and self.order.is_certificate(certificate)
+        refuse_if(not (is_shown and self.order.low < number <= self.order.last), NO_CERTIFICATE)
+        self.order.install(certificate)
+        self.settle_by(certificate)
+        return []
 
     def adopt(self, text, number, digest, certificate):
         """Goes on from the text of another replica's stable snapshot, by the CHECKPOINTs that tell its number and digest."""

@@ -181,6 +181,39 @@ class Storm:
         number += 16 * self.often(0.05)
         self.node.adopt(text, number, self.chance.randbytes(32) if self.often(0.05) else digest, certificate)
 
+    def settle(self):
+        """CHECKPOINTs of a number that it has executed, or nearly: they are collected, and settle it."""
+        number = self.chance.choice([self.order.low + INTERVAL, self.order.low + INTERVAL, self.order.low + LOG_SIZE, self.order.last, self.order.low])
+        digest = self.state(number)[1]
+        certificate = self.checkpoints(number, 2 * self.settings.faults + self.chance.choice([0, 1, 1, 1, 2]), digest)
+        if self.often(0.2):
+            certificate = [with_other_entry(self.chance, each) if self.often(0.5) else each for each in certificate + certificate[:1]]
+        self.node.collect(number, digest, certificate)
+        self.node.settle(number, digest, certificate)
+
+    def lag(self):
+        """It gives again what it has said, to one that stands near, and tells what it was."""
+        view = max(0, self.order.view - self.chance.choice([0, 0, 0, 1]))
+        last = max(0, self.order.last - self.chance.choice([0, 1, 2, 40]))
+        self.node.resend(view, last, max(0, self.order.low - self.chance.choice([0, 16, 1])))
+        self.node.told(self.chance.choice([self.order.low, self.order.low + INTERVAL]))
+
+    def offer(self):
+        """A request, mostly one that waits or was executed."""
+        own, clients = self.node.replica, self.settings.clients
+        some = self.request()
+        if own.pending and self.often(0.4):
+            some = self.chance.choice(own.pending)
+        elif self.often(0.4):
+            client = self.chance.randrange(clients)
+            last = own.replies.last[client]
+            if last:
+                some = self.keys.sign(Request(client, max(0, last[0] - self.chance.choice([0, 0, 1])), some_call(self.chance, last[0])))
+        self.node.offer(with_other_entry(self.chance, some) if self.often(0.1) else some)
+
+    def forget(self):
+        self.chance.choice([self.node.forget_answered, self.node.forget_proposed])()
+
     # View changes
 
     def certificate(self, view, number):
@@ -265,7 +298,8 @@ class Storm:
         """Gives the script of what was done."""
         steps = {
             self.say: 30, self.agree: 12, self.propose: 2, self.tell: 4, self.adopt: 2, self.ask: 3, self.begin: 2, self.stray: 1,
-            self.node.timeout: 2, self.node.advance: 3, lambda: self.deliver(self.request()): 8,
+            self.node.timeout: 2, self.node.advance: 3, lambda: self.deliver(self.request()): 8, self.settle: 2, self.lag: 2, self.offer: 4,
+            self.forget: 1, lambda: self.node.leave(self.later_view()): 1,
         }  # fmt: skip
         for _ in range(self.chance.choice([60, 150, 300])):
             if not self.script.is_long():

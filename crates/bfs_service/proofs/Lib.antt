@@ -4,3 +4,5 @@ pub mod Going
 pub mod Hearing
 pub mod Processes
 pub mod Resent
+pub mod Said
+pub mod Tracking

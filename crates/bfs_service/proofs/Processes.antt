@@ -13,15 +13,14 @@ use Rattle.bfs_node.specs.Nodes.{Messages, Node}
 use Rattle.bfs_nodes_agree.proofs.Public.{both_in, either_in, here_after, in_map, left_in, none_in, one_in, out_of_map, right_in}
 use Rattle.bfs_nodes_agree.specs.Nodes.Laws.{NodesAgree}
 use Rattle.bfs_nodes_agree.specs.Nodes.Replicas.{NodeReplica, NodeReplicas, NodeTurn, after_node_step, after_node_turn, after_node_turns, new_node_replicas}
+use Rattle.bfs_nodes_agree.specs.Nodes.Resending.{WhatIsResentWasSent}
 use Rattle.bfs_nodes_agree.specs.Nodes.Steps.{NodeStep, Delivers, Takes, TakesRequests, TakesOffered, Proposes, Executes, Fails, Checkpoints, TimesOut, LeavesFor, ForgetsAnswered, ForgetsProposed, Adopts, Settles, outcome}
+use Rattle.bfs_service.proofs.Said.{said_before}
+use Rattle.bfs_service.proofs.Tracking.{Tracks, either, others_stay, sent_stays, steps_track, turns_both, turns_of}
 use Rattle.bfs_service.specs.Acting.{Acting, GoesOn, IsOwn, IsTaking, after_step, after_steps}
 use Rattle.bfs_service.specs.Processes.{HasTold, HasTurned, IsSent, IsSentAgain, HaveTurned, IsOfTurns, IsStepOf, Processes, ProcessesAgree, ProcessTurn, new_processes}
 use Rattle.bfs_service.specs.Telling.{IsGiven, Tells, is_note, message_told}
 use Rattle.bfs_service.specs.Turns.{Hears, Turned, frame_delivered, is_message}
-
-either : {P : Type 0} (b : Bool) → (b ≡ true → P) → (b ≡ false → P) → P
-either true so other = so refl
-either false so other = other refl
 
 -- The steps of a turn ---------------------------------------------------------------------------------------------------------
 
@@ -89,74 +88,18 @@ hears_steps : (turn : Turn) (frames : List Frame) (a b : Acting) → ((frame : F
 hears_steps turn [] a b all same = no_steps turn a b same
 hears_steps turn (frame ∷ frames) a b all hears =
     let next = hears.0 in
-    let delivered = frame_delivered a frame in
-    both_steps turn a delivered b (deliver_steps turn frame a (is_message frame) (all frame (inl refl)) refl)
-    (both_steps turn delivered next b (steps_by turn (IsOwn turn.time) delivered next (own_of turn) hears.1)
-    (hears_steps turn frames next b (λ other i. all other (inr i)) hears.2))
+    let ready = hears.1.0 in
+    let delivered = frame_delivered ready frame in
+    both_steps turn a ready b (steps_by turn (IsOwn turn.time) a ready (own_of turn) hears.1.1)
+    (both_steps turn ready delivered b (deliver_steps turn frame ready (is_message frame) (all frame (inl refl)) refl)
+    (both_steps turn delivered next b (steps_by turn (IsOwn turn.time) delivered next (own_of turn) hears.1.2)
+    (hears_steps turn frames next b (λ other i. all other (inr i)) hears.2)))
 
 steps_of : (turn : Turn) (before after : Acting) (told : List Told) → (t : Turned turn before after told) → Steps turn before t.done
 steps_of turn before after told t =
     both_steps turn before t.asked t.done (steps_by turn IsTaking before t.asked (taking_of turn) t.takes)
     (both_steps turn t.asked t.heard t.done (hears_steps turn turn.frames.items t.asked t.heard (λ frame i. i) t.hears)
     (steps_by turn (IsOwn turn.time) t.heard t.done (own_of turn) t.acts))
-
--- Steps of one node -----------------------------------------------------------------------------------------------------------
-
--- a replica is the node of a process; what it has sent waits to be told, or was said
-record Tracks (Said : Signed Message → Type 0) (r : NodeReplica) (a : Acting) : Type 0 where
-  pub node : r.node ≡ a.node
-  pub all : (m : Signed Message) → IsIn m r.sent → IsIn m a.sent ⊎ Said m
-  pub here : (m : Signed Message) → IsIn m a.sent → IsIn m r.sent
-
-step_tracks : (Said : Signed Message → Type 0) (r : NodeReplica) (a : Acting) (step : NodeStep) → Tracks Said r a → Tracks Said (after_node_step r step) (after_step a step)
-step_tracks Said r a step t =
-    let ours = (outcome r.node step).sent in
-    let theirs = (outcome a.node step).sent in
-    record {
-      node = ap (λ (n : Node). (outcome n step).now) t.node;
-      all = λ m i. elim (either_in ours r.sent m i) [
-        | inl j ↦ inl (right_in a.sent theirs m (subst (λ (n : Node). IsIn m (outcome n step).sent) t.node j))
-        | inr j ↦ elim (t.all m j) [ inl k ↦ inl (left_in a.sent theirs m k) | inr said ↦ inr said ]
-      ];
-      here = λ m i. elim (either_in a.sent theirs m i) [
-        | inl j ↦ right_in ours r.sent m (t.here m j)
-        | inr j ↦ left_in ours r.sent m (subst (λ (n : Node). IsIn m (outcome n step).sent) (sym t.node) j)
-      ];
-    }
-
-abbrev turns_of : ℕ → List NodeStep → List NodeTurn
-turns_of who steps = map (λ step. record { who = who; step = step }) steps
-
-steps_track : (Said : Signed Message → Type 0) (w : NodeReplicas) (who : ℕ) (a : Acting) (steps : List NodeStep) → Tracks Said (w who) a
-    → Tracks Said (after_node_turns w (turns_of who steps) who) (after_steps a steps)
-steps_track Said w who a [] t = t
-steps_track Said w who a (step ∷ steps) t =
-    let turn : NodeTurn = record { who = who; step = step } in
-    steps_track Said (after_node_turn w turn) who (after_step a step) steps
-    (subst (λ (r : NodeReplica). Tracks Said r (after_step a step)) (sym (here_after w turn)) (step_tracks Said (w who) a step t))
-
-other_stays : (w : NodeReplicas) (who k : ℕ) (step : NodeStep) → (k == who) ≡ false → after_node_turn w (record { who = who; step = step }) k ≡ w k
-other_stays w who k step differs = ap (λ (b : Bool). if b then after_node_step (w who) step else w k) differs
-
-others_stay : (w : NodeReplicas) (who k : ℕ) (steps : List NodeStep) → (k == who) ≡ false → after_node_turns w (turns_of who steps) k ≡ w k
-others_stay w who k [] differs = refl
-others_stay w who k (step ∷ steps) differs =
-    others_stay (after_node_turn w (record { who = who; step = step })) who k steps differs ∙ other_stays w who k step differs
-
-turns_both : (w : NodeReplicas) (xs ys : List NodeTurn) → after_node_turns w (xs ++ ys) ≡ after_node_turns (after_node_turns w xs) ys
-turns_both w [] ys = refl
-turns_both w (x ∷ xs) ys = turns_both (after_node_turn w x) xs ys
-
-sent_stays_one : (w : NodeReplicas) (turn : NodeTurn) (k : ℕ) (m : Signed Message) → IsIn m (w k).sent → IsIn m (after_node_turn w turn k).sent
-sent_stays_one w turn k m i = either (k == turn.who)
-    (λ is_it. let same = eqb-true k turn.who is_it in
-    subst (λ (j : ℕ). IsIn m (after_node_turn w turn j).sent) (sym same)
-    (subst (λ (r : NodeReplica). IsIn m r.sent) (sym (here_after w turn)) (right_in (outcome (w turn.who).node turn.step).sent (w turn.who).sent m (subst (λ (j : ℕ). IsIn m (w j).sent) same i))))
-    (λ differs. subst (λ (r : NodeReplica). IsIn m r.sent) (sym (other_stays w turn.who k turn.step differs)) i)
-
-sent_stays : (w : NodeReplicas) (turns : List NodeTurn) (k : ℕ) (m : Signed Message) → IsIn m (w k).sent → IsIn m (after_node_turns w turns k).sent
-sent_stays w [] k m i = i
-sent_stays w (turn ∷ turns) k m i = sent_stays (after_node_turn w turn) turns k m (sent_stays_one w turn k m i)
 
 -- Turns of processes ------------------------------------------------------------------------------------------------------------
 
@@ -304,8 +247,8 @@ follow (t ∷ turns) Said w p after track have =
 
 -- The law -------------------------------------------------------------------------------------------------------------------------
 
-pub processes_agree : NodesAgree → ProcessesAgree
-processes_agree agree f keys start turns after have =
+pub processes_agree : NodesAgree → WhatIsResentWasSent → ProcessesAgree
+processes_agree agree resent f keys start turns after have =
     let w = new_node_replicas f keys start in
     let track : AllTrack (λ k m. ⊥) w (new_processes f keys start) = record { node = λ k. refl; quiet = λ k. refl; all = λ k m i. i } in
     let got = follow turns (λ k m. ⊥) w (new_processes f keys start) after track have in (
@@ -317,4 +260,8 @@ processes_agree agree f keys start turns after have =
         sent = got.sent;
       },
       λ faulty shared few authentic batches states. agree f keys start faulty got.steps shared few authentic batches states,
+      λ faulty others shared authentic t x i j differs correct. elim (got.sent t x i j differs) [
+        | inl sent ↦ inl sent
+        | inr again ↦ inr (said_before resent f keys start faulty got.steps t.who x others shared authentic correct again)
+      ],
     )

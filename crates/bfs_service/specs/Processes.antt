@@ -1,18 +1,22 @@
 -- Processes of replicas, turn by turn, and what they are to nodes, of which agreement is proved. A faulty replica takes no turn here: what it sends is
 -- in the frames that others get.
-use Rattle.std.specs.Prelude.{◌≡◌, ◌⊎◌, ℕ, Bool, true, false, List, [], ◌∷◌, ◌++◌, ◌==◌}
+use Rattle.std.specs.Prelude.{◌≡◌, ◌<◌, ◌⊎◌, ℕ, Bool, true, false, List, [], ◌∷◌, ◌++◌, ◌==◌}
 use Rattle.bfs_agreement.specs.Histories.{IsIn, FewAreFaulty}
 use Rattle.bfs_frames.specs.Parcels.{Told}
 use Rattle.bfs_frames.specs.declared.frames.Frame.{Frame}
 use Rattle.bfs_frames.specs.declared.frames.Turn.{Turn}
+use Rattle.bfs_messages.specs.Messages as model
+use Rattle.bfs_messages.specs.Signing.{as_message}
 use Rattle.bfs_messages.specs.declared.message.Message.{Message}
+use Rattle.bfs_messages.specs.declared.message.Message.TheVariants.{NewView}
 use Rattle.bfs_messages.specs.declared.signed.Signed.{Signed}
 use Rattle.bfs_nodes_agree.specs.Nodes.Laws.{Agree, BatchesDontCollide}
-use Rattle.bfs_nodes_agree.specs.Nodes.Premises.{AreAuthentic, AreShared, StatesDontCollide}
+use Rattle.bfs_nodes_agree.specs.Nodes.Premises.{AreAuthentic, AreShared, HasSaid, StatesDontCollide}
 use Rattle.bfs_nodes_agree.specs.Nodes.Replicas.{Beginning, Keyring, NodeReplicas, NodeTurn, after_node_turns, beginning_node, new_node_replicas}
+use Rattle.bfs_nodes_agree.specs.Nodes.Resending.{HasComeTo}
 use Rattle.bfs_nodes_agree.specs.Nodes.Steps.{NodeStep, Delivers, TakesRequests, TakesOffered}
 use Rattle.bfs_service.specs.Acting.{Acting, IsOwn}
-use Rattle.bfs_service.specs.Telling.{IsGiven, is_note, message_told}
+use Rattle.bfs_service.specs.Telling.{IsGiven, is_note, message_given, message_told}
 use Rattle.bfs_service.specs.Turns.{Turned, is_message}
 
 -- a turn of one process, and what it told
@@ -73,7 +77,21 @@ pub record AreNodes (f : ℕ) (keys : Keyring) (start : Beginning) (turns : List
   pub sent : (t : ProcessTurn) (x : Told) → IsIn t turns → IsIn x t.told → is_note x.kind ≡ false
       → IsSent (after_node_turns (new_node_replicas f keys start) steps) t.who x ⊎ IsSentAgain (new_node_replicas f keys start) steps t.who x
 
--- whatever turns processes take, there are steps of nodes that are the same; so of them holds what is proved of every list of steps: replicas agree
+-- a NEW-VIEW that its node gave to be sent, or that came to it
+abbrev pub IsPassedOn : NodeReplicas → List NodeTurn → (who : ℕ) → Signed Message → Type 0
+IsPassedOn w steps who m = (new : Signed model.NewView) × (m ≡ as_message NewView new) × (IsIn m (w who).sent ⊎ HasComeTo who steps m)
+
+-- once more to one replica, it says what its node gave to be sent, or is such a NEW-VIEW
+abbrev pub IsSaidBefore : NodeReplicas → List NodeTurn → (who : ℕ) → Told → Type 0
+IsSaidBefore w steps who x = (number : ℕ) × (m : Signed Message) × (x ≡ message_given number m) × (HasSaid (w who).sent m.message ⊎ IsPassedOn w steps who m)
+
+-- a correct process tells what its node gave to be sent, and again nothing but what was said before
+abbrev pub TellsWhatWasSaid : (faulty : ℕ → Bool) → List ProcessTurn → NodeReplicas → List NodeTurn → Type 0
+TellsWhatWasSaid faulty turns w steps = (t : ProcessTurn) (x : Told) → IsIn t turns → IsIn x t.told → is_note x.kind ≡ false → faulty t.who ≡ false
+    → IsSent w t.who x ⊎ IsSaidBefore w steps t.who x
+
+-- whatever turns processes take, there are steps of nodes that are the same; so of them holds what is proved of every list of steps: replicas agree, and where
+-- there are others, what one tells again was said before
 abbrev pub ProcessesAgree : Type 0
 ProcessesAgree = (f : ℕ) (keys : Keyring) (start : Beginning) (turns : List ProcessTurn) (after : Processes)
     → HaveTurned (new_processes f keys start) turns after
@@ -83,3 +101,6 @@ ProcessesAgree = (f : ℕ) (keys : Keyring) (start : Beginning) (turns : List Pr
     → BatchesDontCollide faulty (after_node_turns (new_node_replicas f keys start) steps)
     → StatesDontCollide faulty (after_node_turns (new_node_replicas f keys start) steps)
     → Agree start faulty (after_node_turns (new_node_replicas f keys start) steps))
+    × ((faulty : ℕ → Bool) → 0 < f → AreShared f keys
+    → AreAuthentic faulty (new_node_replicas f keys start) steps
+    → TellsWhatWasSaid faulty turns (after_node_turns (new_node_replicas f keys start) steps) steps)

@@ -31,16 +31,16 @@ is_message frame = begins_as frame.kind (word_at frame.payload.items)
 abbrev pub frame_delivered : Acting → Frame → Acting
 frame_delivered acting frame = if is_message frame then after_step acting (Delivers frame.payload.items) else acting
 
--- a frame comes, and then the replica does what it does of itself
+-- a frame comes, before and behind which the replica does what it does of itself
 abbrev pub HearsOne : Time → Frame → Acting → Acting → Type 0
-HearsOne time frame before after = GoesOn (IsOwn time) (frame_delivered before frame) after
+HearsOne time frame before after = (ready : Acting) × GoesOn (IsOwn time) before ready × GoesOn (IsOwn time) (frame_delivered ready frame) after
 
 -- frames come, one after another
 abbrev pub Hears : Time → List Frame → Acting → Acting → Type 0
 Hears time [] before after = before ≡ after
 Hears time (frame ∷ frames) before after = (next : Acting) × HearsOne time frame before next × Hears time frames next after
 
--- REQUESTs are taken, each message of a replica comes, in their order, and between them and behind them the replica does what it does of itself; then
+-- REQUESTs are taken, each message of a replica comes, in their order, and before and behind each the replica does what it does of itself; then
 -- all is told that its node gave to be sent, and what that gives again
 pub record Turned (turn : Turn) (before after : Acting) (told : List Told) : Type 0 where
   pub asked : Acting

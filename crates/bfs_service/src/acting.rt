@@ -182,6 +182,18 @@ impl Actor {
         self.act_own(rt, time, NodeCall::Adopt { text, certificate })
     }
 
+    /// It settles a checkpoint that it has executed, if the certificate shows that it is stable. Whether it did.
+    pub(crate) fn settle<R: Threads + Wait + Sync>(
+        &mut self,
+        rt: &R,
+        time: Time,
+        certificate: &StableCheckpoint,
+    ) -> Result<bool, Memory>
+        ensures { OnOk result (GoesOn (IsOwn time) self.old self.new) }
+    {
+        self.act_own(rt, time, NodeCall::Settle(certificate))
+    }
+
     /// It forgets requests that were executed.
     pub(crate) fn forget_answered<R: Threads + Wait + Sync>(
         &mut self,

@@ -1,6 +1,7 @@
 // What frames of a turn say to a node.
 ghost use Rattle.std.specs.Prelude.{◌≡◌, OnOk};
 ghost use Rattle.bfs_model.specs.Bytes.Items.{word_at};
+ghost use Rattle.bfs_service.specs.Acting.{GoesOn, IsOwn};
 ghost use Rattle.bfs_service.specs.Turns.{Hears, HearsOne, begins_as, frame_delivered, is_message, is_of_kind};
 
 use crate::acting::Actor;
@@ -24,7 +25,7 @@ const NEW_VIEW: u32 = 7;
 
 impl Actor {
     /// Gives its node each message of a replica among the frames, one after another. What it refuses is passed over. All that is committed is executed before the
-    /// next one comes: a CHECKPOINT that makes a later number stable would drop it (OSDI 1999 section 4.3).
+    /// next one comes: a CHECKPOINT that makes a later number stable would drop it (OSDI 1999 section 4.3). Before a NEW-VIEW a primary forgets what it has proposed.
     #[tactic(auto, using(crate::proofs::Hearing::hears_more))]
     pub(crate) fn deliver_all<R: Threads + Wait + Sync>(
         &mut self,
@@ -48,8 +49,25 @@ impl Actor {
     ) -> Result<(), Memory>
         ensures { OnOk result (HearsOne time frame.now self.old self.new) }
     {
+        self.forget_before(rt, time, frame)?;
         self.deliver_frame(rt, frame)?;
         self.advance_if_ready(rt, time)?;
+        Ok(())
+    }
+
+    // A primary that may enter a later view, without asking for it, forgets what it has proposed in its own: its clients send it again.
+    #[tactic(auto, using(crate::proofs::Going::goes_nowhere))]
+    fn forget_before<R: Threads + Wait + Sync>(
+        &mut self,
+        rt: &R,
+        time: Time,
+        frame: &Frame,
+    ) -> Result<(), Memory>
+        ensures { OnOk result (GoesOn (IsOwn time) self.old self.new) }
+    {
+        if frame.kind == Kind::NewView && self.node().leads() {
+            self.forget_proposed(rt, time)?;
+        }
         Ok(())
     }
 

@@ -2,12 +2,14 @@
 #![tactic(auto)]
 
 mod acting;
+mod collecting;
 mod delivering;
 mod fetching;
 mod giving;
 mod laws;
 mod notes;
 mod queue;
+mod reporting;
 mod resending;
 mod service;
 mod standings;

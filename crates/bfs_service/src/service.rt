@@ -6,16 +6,18 @@ ghost use Rattle.bfs_service.specs.Turns.{Takes, Turned};
 
 use crate::acting::Actor;
 use crate::delivering::requests_in;
-use crate::fetching::{Fetched, Fetching};
-use crate::giving::Giving;
+use crate::fetching::{Fetched, Fetching, Heard};
+use crate::giving::{Giving, show_stable};
 use crate::notes::Notes;
 use crate::queue::{Queue, Wanted};
+use crate::reporting::report_of;
 use crate::resending::give_again;
 use crate::standings::{Status, standing_of};
 use crate::telling::parcels_of;
 use crate::terms::Terms;
 use bfs_filter::{Machine, TurnError};
 use bfs_frames::{Frame, Kind, Parcel, To, Turn};
+use bfs_log::StableCheckpoint;
 use bfs_messages::{Message, Request, Signed};
 use bfs_node::{Executor, Node};
 use bfs_policy::{Decision, Facts, Leaving, Policy};
@@ -83,7 +85,8 @@ impl Service {
 
     /// Takes a turn, and gives what is to be told. The node takes the new REQUESTs for which there is room, and answers its clients' last ones again;
     /// then it takes each message of a replica, in the order of the frames;
-    /// whatever is committed meanwhile is executed, with the checkpoints that are due. Then it adopts a state that has come, and does what is due by its `Policy`: it
+    /// whatever is committed meanwhile is executed, with the checkpoints that are due. Then it adopts a state that has come, or settles a checkpoint that
+    /// was shown to be stable, and does what is due by its `Policy`: it
     /// proposes all that waits as one batch of the turn's time, where it leads and its last batch is executed; it asks for a later view; it asks another one for
     /// its state; it tells where it stands; and it gives each other one what that may lack, once more. `Memory` if memory runs out: the process is to end
     /// then, and to tell nothing of this turn.
@@ -235,26 +238,42 @@ impl Service {
             .fetching
             .hear(self.actor.node(), payload, &mut self.notes)?;
         match heard {
-            Some(fetched) => self.adopt(rt, time, &fetched),
-            None => Ok(()),
+            Heard::Nothing => Ok(()),
+            heard => self.catch_up(rt, time, &heard),
         }
     }
 
-    fn adopt<R: Threads + Wait + Sync>(
+    fn catch_up<R: Threads + Wait + Sync>(
         &mut self,
         rt: &R,
         time: Time,
-        fetched: &Fetched,
+        heard: &Heard,
     ) -> Result<(), Memory>
         ensures { OnOk result (GoesOn (IsOwn time) self.old self.new) }
     {
-        self.adopt_now(rt, time, fetched)?;
+        self.take_over(rt, time, heard)?;
         self.forget_answered(rt, time)?;
         self.advance(rt, time)?;
         Ok(())
     }
 
-    // What was executed before the state that it has adopted waits no longer.
+    #[tactic(auto, using(crate::proofs::Going::goes_nowhere))]
+    fn take_over<R: Threads + Wait + Sync>(
+        &mut self,
+        rt: &R,
+        time: Time,
+        heard: &Heard,
+    ) -> Result<(), Memory>
+        ensures { OnOk result (GoesOn (IsOwn time) self.old self.new) }
+    {
+        match heard {
+            Heard::State(fetched) => self.adopt(rt, time, fetched),
+            Heard::Shown(certificate) => self.settle(rt, time, certificate),
+            Heard::Nothing => Ok(()),
+        }
+    }
+
+    // What was executed before such a state waits no longer.
     fn forget_answered<R: Threads + Wait + Sync>(
         &mut self,
         rt: &R,
@@ -266,7 +285,7 @@ impl Service {
         Ok(())
     }
 
-    fn adopt_now<R: Threads + Wait + Sync>(
+    fn adopt<R: Threads + Wait + Sync>(
         &mut self,
         rt: &R,
         time: Time,
@@ -282,6 +301,21 @@ impl Service {
                 "a state is adopted, of number ",
                 fetched.certificate.number(),
             )?;
+        }
+        Ok(())
+    }
+
+    fn settle<R: Threads + Wait + Sync>(
+        &mut self,
+        rt: &R,
+        time: Time,
+        certificate: &StableCheckpoint,
+    ) -> Result<(), Memory>
+        ensures { OnOk result (GoesOn (IsOwn time) self.old self.new) }
+    {
+        let does = self.actor.settle(rt, time, certificate)?;
+        if does {
+            self.tell_operator("a checkpoint is settled, of number ", certificate.number())?;
         }
         Ok(())
     }
@@ -304,6 +338,7 @@ impl Service {
         let due = self.policy.look(facts);
         self.tell_standing(due.tells)?;
         self.fetch(due.fetches_from)?;
+        self.show_stable()?;
         Ok(due)
     }
 
@@ -328,6 +363,13 @@ impl Service {
             Some(from) => self.fetching.ask(from, self.actor.node(), &mut self.notes),
             None => Ok(()),
         }
+    }
+
+    // Others are shown what is stable, where they may lack that.
+    fn show_stable(&mut self) -> Result<(), Memory>
+        ensures { self.new ≡ self.old }
+    {
+        show_stable(self.alloc, self.actor.node(), &self.policy, &mut self.notes)
     }
 
     // The others are told where it stands, if they are to be.
@@ -454,23 +496,11 @@ impl Service {
         }
     }
 
-    // what it says of itself: words NAME=VALUE
+    // what it says of itself
     fn report<R: Threads + Sync>(&mut self, rt: &R) -> Result<(), Memory>
         ensures { self.new ≡ self.old }
     {
-        let node = self.actor.node();
-        let digest = match node.digest(rt) {
-            Ok(digest) => hex::encode(self.alloc, &digest)?,
-            Err(_) => String::new(self.alloc),
-        };
-        let view = node.view();
-        let asked = node.view_asked();
-        let executed = node.last_executed();
-        let stable = node.stable_number();
-        let waiting = node.waiting().len().saturating_add(self.queue.len());
-        let text = format!(in self.alloc;
-            "view={view} asked={asked} executed={executed} stable={stable} waiting={waiting} digest={digest}"
-        )?;
+        let text = report_of(self.alloc, rt, self.actor.node(), self.queue.len())?;
         self.notes
             .add(To::Operator, Kind::Report, text.into_bytes())
     }

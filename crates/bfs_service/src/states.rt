@@ -1,8 +1,7 @@
 // What ASK-STATEs and STATEs say, as items of XDR (RFC 4506).
 use bfs_codec::{DecodeError, decode, encode};
-use bfs_log::StableCheckpoint;
 use bfs_messages::{Checkpoint, Message, OrderMessage, Signed};
-use bfs_types::{MOST_NUMBER, MOST_REPLICAS, Memory, TryClone};
+use bfs_types::{MOST_REPLICAS, Memory, TryClone};
 use bfs_xdr::{Reader, XdrError, put_u32, put_u64};
 use std::alloc::Global;
 
@@ -39,7 +38,7 @@ impl Ask {
     }
 }
 
-/// Bytes of a state's text; or, where these are all before the offset, of its certificate.
+/// Bytes of a state's text; or, where these are all before the offset, the CHECKPOINTs that tell its digest.
 #[derive(Clone, Copy, Drop)]
 pub(crate) struct Piece<'a> {
     pub(crate) sender: u32,
@@ -73,13 +72,13 @@ impl<'a> Piece<'a> {
     }
 }
 
-/// The CHECKPOINTs of a certificate, each behind the length of its text.
-pub(crate) fn certificate_text(
+/// CHECKPOINTs, each behind the length of its text.
+pub(crate) fn checkpoints_text(
     alloc: Global,
-    certificate: &StableCheckpoint,
+    checkpoints: &[Signed<Checkpoint>],
 ) -> Result<Vec<u8>, Memory> {
     let mut text = Vec::new(alloc);
-    for signed in certificate.checkpoints() {
+    for signed in checkpoints {
         let message = encode(alloc, &as_message(alloc, signed)?)?;
         if let Ok(length) = u32::try_from(message.len()) {
             put_u32(&mut text, length)?;
@@ -96,11 +95,11 @@ fn as_message(alloc: Global, signed: &Signed<Checkpoint>) -> Result<Signed<Messa
     })
 }
 
-/// The certificate that bytes spell, for the number and the digest of its first CHECKPOINT. `None` where they spell none.
-pub(crate) fn certificate_in(
+/// The CHECKPOINTs that bytes spell, at most as many as there may be replicas. What is none is passed over.
+pub(crate) fn checkpoints_in(
     alloc: Global,
     bytes: &[u8],
-) -> Result<Option<StableCheckpoint>, Memory> {
+) -> Result<Vec<Signed<Checkpoint>>, Memory> {
     let mut reader = Reader::new(bytes);
     let mut checkpoints = Vec::new(alloc);
     for _ in 0..MOST_REPLICAS {
@@ -111,15 +110,7 @@ pub(crate) fn certificate_in(
             checkpoints.push(checkpoint)?;
         }
     }
-    let Some(first) = checkpoints.first() else {
-        return Ok(None);
-    };
-    let number = first.message.number();
-    let digest = *first.message.digest();
-    if number > MOST_NUMBER {
-        return Ok(None);
-    }
-    Ok(Some(StableCheckpoint::new(number, digest, checkpoints)))
+    Ok(checkpoints)
 }
 
 fn next_text<'a>(reader: &mut Reader<'a>) -> Option<&'a [u8]> {
