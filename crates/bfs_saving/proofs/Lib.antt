@@ -7,3 +7,4 @@ pub mod Whole
 pub mod Again
 pub mod Sealed
 pub mod Seen
+pub mod Public

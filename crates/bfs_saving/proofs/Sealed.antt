@@ -67,6 +67,9 @@ hyper_long : (n : ℕ) → length (hyper n) ≡ 8
 unfolding hyper
 hyper_long n = refl
 
+pub has_room : (before now : List ℕ) (start : ℕ) → start ≡ length before → now ≡ before ++ hyper 0 → start + 8 ≤ length now
+has_room before now start place is = omega (arith, ap length is, length-append before (hyper 0), hyper_long 0)
+
 -- as they are made of a number
 pub eight_bytes : (n : ℕ) → to_be_bytes w64 n ≡ hyper n
 unfolding hyper

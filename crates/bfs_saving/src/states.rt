@@ -22,6 +22,7 @@ pub fn begin_many(out: &mut Vec<u8>, count: usize) -> Result<(), Memory>
 pub fn begin_state(out: &mut Vec<u8>, number: u64) -> Result<usize, Memory>
     ensures text { OnOk result (out.new.items ≡ (out.old.items ++ hyper number) ++ hyper 0) }
     ensures place { IfOk result (λ start. start ≡ length (out.old.items ++ hyper number)) }
+    ensures room { IfOk result (λ start. start + 8 ≤ length out.new.items) }
     ensures fits { IsDouble number }
 {
     put_u64(out, number)?;
@@ -29,9 +30,11 @@ pub fn begin_state(out: &mut Vec<u8>, number: u64) -> Result<usize, Memory>
 }
 
 /// Appends room for the length of what is to follow, and gives its place: `end_long` takes that. `Memory` if memory runs out.
+#[tactic(auto, using(crate::proofs::Sealed::has_room))]
 pub fn begin_long(out: &mut Vec<u8>) -> Result<usize, Memory>
     ensures text { OnOk result (out.new.items ≡ out.old.items ++ hyper 0) }
     ensures place { IfOk result (λ start. start ≡ length out.old.items) }
+    ensures room { IfOk result (λ start. start + 8 ≤ length out.new.items) }
 {
     let start = out.len();
     put_u64(out, 0)?;

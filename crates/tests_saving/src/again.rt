@@ -10,13 +10,12 @@ use bfs_messages::{
 use bfs_order::{Marks, Order};
 use bfs_pending::PendingRequests;
 use bfs_saving::{
-    SavedError, SavedNode, put_changes, put_front, put_long, put_new_view, put_order, put_requests,
-    put_stable, put_state, read_saved,
+    SavedError, SavedNode, begin_long, begin_many, begin_state, end_long, put_changes, put_front,
+    put_new_view, put_order, put_requests, put_stable, read_saved, seal,
 };
 use bfs_testing::{holds, same};
-use bfs_types::{MOST_REPLICAS, Memory, TryClone};
+use bfs_types::{MOST_CLIENTS, MOST_REPLICAS, Memory, TryClone};
 use bfs_view_change::KeptViewChanges;
-use bfs_xdr::put_u64;
 use std::alloc::Global;
 use std::test::Fail;
 
@@ -84,31 +83,46 @@ fn waiting(alloc: Global, keys: &Keys) -> Result<PendingRequests, Memory>
 // With a state at 16.
 fn text(alloc: Global, keys: &Keys) -> Result<Vec<u8>, Memory> {
     let mut out = Vec::new(alloc);
-    put_front(&mut out)?;
+    put_front(&mut out, 16)?;
     put_order(&order(alloc)?, alloc, &mut out)?;
     put_requests(&waiting(alloc, keys)?, keys, alloc, &mut out)?;
     put_changes(&KeptViewChanges::new(alloc, 1)?, alloc, &mut out)?;
     put_new_view(None, alloc, &mut out)?;
     put_stable(None, 1, alloc, &mut out)?;
-    put_u64(&mut out, 1)?;
-    put_state(&mut out, 16, b"a state")?;
-    put_long(&mut out, b"its own")?;
+    begin_many(&mut out, 1)?;
+    let start = begin_state(&mut out, 16)?;
+    out.extend_from_slice(b"a state")?;
+    end_long(&mut out, start);
+    let start = begin_long(&mut out)?;
+    out.extend_from_slice(b"its own")?;
+    end_long(&mut out, start);
+    seal(&mut out)?;
     Ok(out)
 }
 
 fn are_parts(saved: &SavedNode<'_>) -> bool {
-    saved.order.marks() == MARKS
+    saved.clients == 16
+        && saved.order.marks() == MARKS
         && (saved.order.log().len() == 3 && saved.pending.len() == 1)
         && (saved.changes.asked().len() == 4 && saved.new_view.is_none())
         && (saved.stable.is_none() && saved.states.len() == 1)
         && saved.own == b"its own".as_slice()
 }
 
-fn refusal(alloc: Global, keys: &Keys, me: u32, bytes: &[u8]) -> Option<u32> {
-    if me > 3 {
-        return None;
+fn read<'a>(
+    alloc: Global,
+    keys: &Keys,
+    me: u32,
+    bytes: &'a [u8],
+) -> Result<SavedNode<'a>, SavedError> {
+    if me > 3 || keys.clients() > MOST_CLIENTS as usize {
+        return Err(SavedError::Memory);
     }
-    match read_saved(alloc, keys, 1, me, bytes) {
+    read_saved(alloc, keys, 1, me, bytes)
+}
+
+fn refusal(alloc: Global, keys: &Keys, me: u32, bytes: &[u8]) -> Option<u32> {
+    match read(alloc, keys, me, bytes) {
         Ok(_) => None,
         Err(error) => Some(error.code()),
     }
@@ -119,11 +133,11 @@ fn parts_are_read_again(rt: HostRuntime) -> Result<(), Fail> {
     let alloc = rt.alloc();
     let keys = keys_of(alloc, Principal::Replica(2))?;
     let text = text(alloc, &keys)?;
-    match read_saved(alloc, &keys, 1, 2, &text) {
+    match read(alloc, &keys, 2, &text) {
         Ok(saved) => holds!(rt; are_parts(&saved)),
         Err(_) => holds!(rt; false),
     }
-    same!(rt; refusal(alloc, &keys, 1, &text), Some(20));
+    same!(rt; refusal(alloc, &keys, 1, &text), Some(45));
     Ok(())
 }
 
@@ -144,5 +158,30 @@ fn fronts_are_refused(rt: HostRuntime) -> Result<(), Fail> {
 fn refusals_have_numbers(rt: HostRuntime) {
     same!(rt; SavedError::Malformed.code(), 20);
     same!(rt; SavedError::WrongVersion.code(), 22);
+    same!(rt; SavedError::OtherSettings.code(), 44);
+    same!(rt; SavedError::OtherReplica.code(), 45);
     same!(rt; SavedError::Memory.code(), 40);
+}
+
+// One word of the front is another one.
+fn changed(alloc: Global, text: &[u8], place: usize) -> Result<Vec<u8>, Memory> {
+    let mut changed = Vec::new(alloc);
+    changed.extend_from_slice(text)?;
+    if place < changed.len() {
+        changed[place] ^= 1;
+    }
+    Ok(changed)
+}
+
+#[test]
+fn each_word_in_front_tells_why(rt: HostRuntime) -> Result<(), Fail> {
+    let alloc = rt.alloc();
+    let keys = keys_of(alloc, Principal::Replica(2))?;
+    let text = text(alloc, &keys)?;
+    let wanted = [20, 22, 44, 44, 45, 20];
+    for word in 0..6 {
+        let text = changed(alloc, &text, 4 * word + 3)?;
+        same!(rt; refusal(alloc, &keys, 2, &text), Some(wanted[word]));
+    }
+    Ok(())
 }
