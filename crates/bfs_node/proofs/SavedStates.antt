@@ -1,9 +1,9 @@
 -- The states of a replica as they are written, and as they are read again.
-use Rattle.std.proofs.Common.{◌≡◌, ◌∙◌, ℕ, zero, suc, ◌+◌, ◌<◌, ◌≤◌, Bool, true, List, [], ◌∷◌, ◌++◌, map, length, take, get_or, Option, Result, Ok, Err, refl, sym, ap, ap₂, subst, append_assoc, length-append, arith}
-use Rattle.std.specs.Prelude.{IfSome, OnOk}
+use Rattle.std.proofs.Common.{◌≡◌, ◌∙◌, ℕ, zero, suc, ◌+◌, ◌<◌, ◌≤◌, Bool, true, false, cond, not, List, [], ◌∷◌, ◌++◌, map, length, take, get_or, Option, Result, Ok, Err, refl, sym, ap, ap₂, subst, add-one, append_assoc, length-append, arith}
+use Rattle.std.specs.Prelude.{◌≢◌, IfSome, OnOk}
 use Rattle.std.specs.List.{AllByRecursion, flat_map, list_all}
 use Rattle.std.proofs.lemmas.Bool.{and_parts}
-use Rattle.std.proofs.lemmas.List.{length-map}
+use Rattle.std.proofs.lemmas.List.{length-map, map-append, take_more}
 use Rattle.bfs_model.specs.Bytes.Items.{hyper}
 use Rattle.bfs_model.specs.Server.Limits.{most_requests}
 use Rattle.bfs_model.specs.Server.Stored.{IsDouble}
@@ -12,13 +12,19 @@ use Rattle.bfs_auth.specs.Keys.{Keys}
 use Rattle.bfs_auth.specs.Principals.{number_of}
 use Rattle.bfs_checkpoints.specs.Keeping.{Kept}
 use Rattle.bfs_checkpoints.specs.Snapshots.{IsTaken}
+use Rattle.bfs_digest.specs.declared.errors.RestoreError.{RestoreError}
+use Rattle.bfs_digest.specs.declared.errors.RestoreError.TheVariants as restore
 use Rattle.bfs_checkpoints.specs.States.{state_text as own_text}
-use Rattle.bfs_log.specs.Certificates.{StableCheckpoint, faults}
+use Rattle.bfs_log.specs.Certificates.{MakesStable, StableCheckpoint, faults}
 use Rattle.bfs_replies.specs.Tables.{Table}
 use Rattle.bfs_saving.specs.Items.{FitMany, many_text}
-use Rattle.bfs_saving.specs.Saved.{FitsState, Saved, SavedState, state_text}
+use Rattle.bfs_saving.proofs.Public.{kept_is}
+use Rattle.bfs_saving.specs.Errors.{refusal}
+use Rattle.bfs_saving.specs.declared.error.SavedError.{SavedError}
+use Rattle.bfs_saving.specs.declared.error.SavedError.TheVariants as error
+use Rattle.bfs_saving.specs.Saved.{FitsSaved, FitsState, Saved, SavedState, state_text}
 use Rattle.bfs_node.specs.Nodes.{Node}
-use Rattle.bfs_node.specs.Saving.{AreTaken, saved, saved_snapshot}
+use Rattle.bfs_node.specs.Saving.{AreTaken, IsOf, IsSavable, of_state, saved, saved_snapshot}
 
 -- As they are written --------------------------------------------------------------------------------------------------
 
@@ -69,22 +75,36 @@ pub at_place : (states : List SavedState) (kept : List Kept) (i : ℕ) (state : 
 at_place states kept i state lt is taken same =
     at kept i state (subst (λ (s : List SavedState). i < length s) same lt) (is ∙ ap (λ (s : List SavedState). get_or s i state) same) taken
 
+pub pushed : (old now : List Kept) (one : Kept) (ok err : Bool) → now ≡ cond ok (old ++ one ∷ []) old → ok ≡ not err → err ≡ false → now ≡ old ++ one ∷ []
+pushed old now one true err is told none = is
+pushed old now one false err is told none = let both : not err ≡ true = ap not none in absurd cc
+
+pub found_more : (states : List SavedState) (old now : List Kept) (i : ℕ) (one : Kept) (state : SavedState) → i < length states → state ≡ get_or states i state → map saved_snapshot old ≡ take i states → now ≡ old ++ one ∷ []
+    → saved_snapshot one ≡ state → map saved_snapshot now ≡ take (i + 1) states
+found_more states old now i one state lt is so_far put same =
+    ap (map saved_snapshot) put
+    ∙ map-append saved_snapshot old (one ∷ [])
+    ∙ ap₂ (λ (x : List SavedState) (s : SavedState). x ++ s ∷ []) so_far (same ∙ is)
+    ∙ sym (take_more states i state lt)
+
+pub only_more : (kept old now : List Kept) (i : ℕ) (one : Kept) (state : SavedState) (here : At kept i state) → old ≡ take i kept → now ≡ old ++ one ∷ [] → one ≡ here.one → now ≡ take (i + 1) kept
+only_more kept old now i one state here so_far put same =
+    put ∙ ap₂ (λ (x : List Kept) (k : Kept). x ++ k ∷ []) so_far same ∙ sym here.more ∙ ap (λ (n : ℕ). take n kept) (sym (add-one i))
+
 -- The replica ----------------------------------------------------------------------------------------------------------
 
-pub same_saved : (s : Saved) (clients : ℕ) (states : List SavedState) (own : List ℕ) → s.clients ≡ clients → s.states ≡ states → s.own ≡ own → s ≡ record s { clients = clients; states = states; own = own }
-same_saved s clients states own e d h =
-    ap (λ (n : ℕ). record s { clients = n }) e
-    ∙ ap (λ (t : List SavedState). record s { clients = clients; states = t }) d
-    ∙ ap (λ (t : List ℕ). record s { clients = clients; states = states; own = t }) h
+-- what was read as stable is shown by its CHECKPOINTs
+pub certified : (keys : Keys) (s : Saved) (f : ℕ) (stable : Option StableCheckpoint) → FitsSaved keys (faults keys) (number_of keys.me) s → s.stable ≡ stable → f ≡ s.order.f → IfSome stable (MakesStable f)
+certified keys s f stable fits is same =
+    subst (λ (t : Option StableCheckpoint). IfSome t (MakesStable f)) is
+    (subst (λ (n : ℕ). IfSome s.stable (MakesStable n)) (sym (same ∙ fits.1.0.0.0.0.0.f_is)) (kept_is (faults keys) s.stable fits.1.0.1.0.1))
 
--- what is put together of what was saved of a replica, and of what its states were read to, is the replica
-pub put_together : (node : Node) (keys : Keys) (s : Saved) (files : Option FileSystem) (table : Table) (kept : List Kept) → node.keys ≡ keys → node.snapshots.f ≡ node.order.f → s ≡ saved node → files ≡ node.files → table ≡ node.table
-    → kept ≡ node.snapshots.kept
-    → ◌≡◌ {A = Node} (record { keys = keys; order = s.order; files = files; table = table; pending = s.pending; changes = s.changes; snapshots = record { f = s.order.f; kept = kept; stable = s.stable }; new_view = s.new_view }) node
-put_together node keys s files table kept held same is files_are table_is kept_are =
-    ap (λ (k : Keys). record { keys = k; order = s.order; files = files; table = table; pending = s.pending; changes = s.changes; snapshots = record { f = s.order.f; kept = kept; stable = s.stable }; new_view = s.new_view }) (sym held)
-    ∙ ap (λ (t : Saved). record node { order = t.order; files = files; table = table; pending = t.pending; changes = t.changes; snapshots = record { f = t.order.f; kept = kept; stable = t.stable }; new_view = t.new_view }) is
-    ∙ ap (λ (n : ℕ). record node { files = files; table = table; snapshots = record { f = n; kept = kept; stable = node.snapshots.stable } }) (sym same)
-    ∙ ap (λ (x : Option FileSystem). record node { files = x; table = table; snapshots = record node.snapshots { kept = kept } }) files_are
-    ∙ ap (λ (x : Table). record node { table = x; snapshots = record node.snapshots { kept = kept } }) table_is
-    ∙ ap (λ (x : List Kept). record node { snapshots = record node.snapshots { kept = x } }) kept_are
+-- a replica that is saved has a text by its keys
+pub fits_as : (keys : Keys) (node : Node) (f me : ℕ) → IsSavable node → IsOf keys node → f ≡ faults keys → me ≡ number_of keys.me → FitsSaved keys f me (saved node)
+fits_as keys node f me savable of f_is me_is =
+    subst (λ (n : ℕ). FitsSaved keys f n (saved node)) (of.number_is ∙ sym me_is)
+    (subst (λ (n : ℕ). FitsSaved keys n node.order.me (saved node)) (of.faults_are ∙ sym f_is)
+    (subst (λ (k : Keys). FitsSaved k node.order.f node.order.me (saved node)) of.keys_are savable.fits))
+
+pub told_memory : (e : RestoreError) (why refused : SavedError) → refused ≡ of_state e why → e ≡ restore.Memory → refused ≡ error.Memory
+told_memory e why refused is same = is ∙ ap (λ (x : RestoreError). of_state x why) same

@@ -9,10 +9,12 @@ use Rattle.bfs_checkpoints.specs.Keeping.{Kept}
 use Rattle.bfs_checkpoints.specs.Snapshots.{IsTaken}
 use Rattle.bfs_checkpoints.specs.States.{state_text}
 use Rattle.bfs_digest.specs.declared.errors.RestoreError.{RestoreError}
-use Rattle.bfs_digest.specs.declared.errors.RestoreError.TheVariants.{Memory}
+use Rattle.bfs_digest.specs.declared.errors.RestoreError.TheVariants as restore
 use Rattle.bfs_log.specs.Certificates.{faults}
 use Rattle.bfs_replies.specs.Tables.{IsKept}
 use Rattle.bfs_saving.specs.Saved.{FitsSaved, Saved, SavedState, saved_text}
+use Rattle.bfs_saving.specs.declared.error.SavedError.{SavedError}
+use Rattle.bfs_saving.specs.declared.error.SavedError.TheVariants as error
 use Rattle.bfs_node.specs.Nodes.{Node}
 
 abbrev pub saved_snapshot : Kept → SavedState
@@ -51,11 +53,18 @@ pub record IsOf (keys : Keys) (node : Node) : Type 0 where
   pub faults_are : node.order.f ≡ faults keys
   pub number_is : node.order.me ≡ number_of keys.me
 
+-- a state that can't be read is a fault of the text
+abbrev pub of_state : RestoreError → (why : SavedError) → SavedError
+of_state restore.Malformed why = why
+of_state restore.WrongVersion why = why
+of_state restore.NotWellFormed why = why
+of_state restore.Memory why = error.Memory
+
 -- it was read, or memory ran out
 abbrev pub IsKeptReadAs : Kept → Result Kept RestoreError → Type 0
 IsKeptReadAs kept (Ok read) = read ≡ kept
-IsKeptReadAs kept (Err e) = e ≡ Memory
+IsKeptReadAs kept (Err e) = e ≡ restore.Memory
 
 abbrev pub IsReadAs : Node → Result Node RestoreError → Type 0
 IsReadAs node (Ok read) = read ≡ node
-IsReadAs node (Err e) = e ≡ Memory
+IsReadAs node (Err e) = e ≡ restore.Memory

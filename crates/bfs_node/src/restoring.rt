@@ -13,7 +13,7 @@ ghost use Rattle.bfs_model.specs.Server.Tree as state;
 ghost use Rattle.bfs_digest.specs.declared.errors.RestoreError.TheVariants as restore;
 ghost use Rattle.bfs_log.specs.Certificates.{faults};
 ghost use Rattle.bfs_node.specs.Nodes as model;
-ghost use Rattle.bfs_node.specs.Saving.{AreTaken, IsKeptReadAs, IsOf, IsReadAs, IsSavable, saved, saved_snapshot, text_of};
+ghost use Rattle.bfs_node.specs.Saving.{AreTaken, IsKeptReadAs, IsOf, IsReadAs, IsSavable, of_state, saved, saved_snapshot, text_of};
 ghost use Rattle.bfs_saving.specs.Errors.{IsOnly, refusal};
 ghost use Rattle.bfs_saving.specs.Saved.{FitsSaved};
 ghost use Rattle.bfs_saving.specs.declared.error.SavedError.TheVariants as error;
@@ -53,8 +53,7 @@ impl Node {
         match read_saved(alloc, &keys, f, me, bytes) {
             Ok(saved) => match Node::of_saved(rt, alloc, keys, saved) {
                 Ok(node) => Ok(node),
-                Err(RestoreError::Memory) => Err(SavedError::Memory),
-                Err(_) => Err(refusal(clients, f, me, bytes)),
+                Err(error) => Err(why_refused(error, refusal(clients, f, me, bytes))),
             },
             Err(error) => Err(error),
         }
@@ -67,9 +66,9 @@ impl Node {
         parts: SavedNode<'_>,
     ) -> Result<Node, RestoreError>
         requires { FitsSaved keys (faults keys) (number_in keys.me) parts }
-        ensures found { IfOk result (λ node. parts ≡ saved node) }
+        ensures found { IfOk result (λ node. parts.entry ≡ saved node) }
         ensures holder { IfOk result (IsOf keys) }
-        ensures only { (node : model.Node) → IsSavable node → IsOf keys node → parts ≡ saved node → IsReadAs node result }
+        ensures only { (node : model.Node) → IsSavable node → IsOf keys node → parts.entry ≡ saved node → IsReadAs node result }
     {
         let SavedNode {
             clients,
@@ -99,6 +98,18 @@ impl Node {
             }),
             Err(refused) => Err(refused),
         }
+    }
+}
+
+// A state that can't be read is a fault of the text.
+fn why_refused(error: RestoreError, refused: SavedError) -> SavedError
+    ensures { result ≡ of_state error refused }
+{
+    match error {
+        RestoreError::Malformed | RestoreError::WrongVersion | RestoreError::NotWellFormed => {
+            refused
+        }
+        RestoreError::Memory => SavedError::Memory,
     }
 }
 
