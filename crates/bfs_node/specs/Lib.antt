@@ -14,4 +14,5 @@ pub mod Settling
 pub mod Telling
 pub mod Offering
 pub mod Forgetting
+pub mod Saving
 pub mod Inside

@@ -16,12 +16,15 @@ mod receivers;
 mod replying;
 mod requests;
 mod resending;
+mod restoring;
+mod saving;
 mod settling;
 mod telling;
 
 pub use bfs_order::Lag;
 pub use bfs_outcome::{Engine, Executor, Gate, MOST_WORKERS, NoGate, Workers};
 pub use bfs_replies::Class;
+pub use bfs_saving::SavedError;
 pub use error::NodeError;
 pub use node::Node;
 pub use offering::Offered;
