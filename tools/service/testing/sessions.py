@@ -52,14 +52,14 @@ class Kernel(Client):
         self.address, self.stream, self.xid = address, None, 0
 
     def call(self, *arguments):
-        end = time.monotonic() + SLOW
+        end, xid = time.monotonic() + SLOW, self.xid
         while True:
             try:
                 self.stream = self.stream or Stream(self.address, SLOW)
                 return super().call(*arguments)
             except OSError as fault:
                 check(time.monotonic() < end, f"no reply: {fault}")
-                self.stream, self.xid = None, self.xid - 1
+                self.stream, self.xid = None, xid
                 time.sleep(0.1)
 
     def make(self, name):
