@@ -22,6 +22,8 @@ enum Event {
     Lose(u32, u64, Set, u32),
     /// Client 0 asks so often, one thing after another.
     Ask(u32),
+    /// The same, while frames come to these alone.
+    AskAmong(Set, u32),
     /// A request comes to these alone, and its client waits.
     AskOf(Set),
     /// What was asked last comes to these once more.
@@ -97,9 +99,10 @@ fn ask_often<R: Threads + Wait + Sync>(
     rt: &R,
     world: &mut World,
     asking: &mut Asking,
+    hear: Set,
     times: u32,
 ) -> Result<bool, Fail> {
-    run_up(rt, world, asking, Set::ALL, times)?;
+    run_up(rt, world, asking, hear, times)?;
     Ok(true)
 }
 
@@ -130,7 +133,8 @@ fn happens<R: Threads + Wait + Sync>(
                 left,
             },
         ),
-        Event::Ask(times) => ask_often(rt, world, asking, times),
+        Event::Ask(times) => ask_often(rt, world, asking, Set::ALL, times),
+        Event::AskAmong(hear, times) => ask_often(rt, world, asking, hear, times),
         Event::AskOf(to) => ask_of(world, asking, to),
         Event::Repeat(to) => repeat(world, asking, to),
         Event::Hurry(number, millis) => Ok(hurry(world, number, millis)),
@@ -224,6 +228,54 @@ static BEHIND_A_CHECKPOINT: [Event; 11] = [
 #[test]
 fn a_view_begins_behind_a_checkpoint_that_one_has(rt: HostRuntime) -> Result<(), Fail> {
     same!(rt; first_wrong(&rt, rt.alloc(), &BEHIND_A_CHECKPOINT)?, None);
+    Ok(())
+}
+
+const EXECUTING: Set = Set(0b0111);
+
+// replica 2 tells its CHECKPOINT to the one alone that lags, and is silent then: what the others have told is adopted, and they are shown that it is stable
+static TOLD: [Event; 13] = [
+    Event::AskAmong(EXECUTING, 15),
+    Event::Lose(CHECKPOINT, 16, Set(0b0011), 4),
+    Event::Ask(1),
+    Event::Silence(2),
+    Event::Play(1),
+    Event::Stands(3, 0, 0),
+    Event::HasStable(3, 16),
+    Event::HasStable(0, 0),
+    Event::Play(20),
+    Event::Stands(3, 0, 16),
+    Event::HasStable(0, 16),
+    Event::HasStable(1, 16),
+    Event::Recovers(20),
+];
+
+#[test]
+fn what_was_told_is_adopted(rt: HostRuntime) -> Result<(), Fail> {
+    same!(rt; first_wrong(&rt, rt.alloc(), &TOLD)?, None);
+    Ok(())
+}
+
+// replica 2 tells its CHECKPOINT to the primary alone, and is silent then: replica 3 adopts, and has none of its own that replica 1 could wait for
+static SHOWN: [Event; 13] = [
+    Event::AskAmong(EXECUTING, 15),
+    Event::Lose(CHECKPOINT, 16, Set(0b1010), 4),
+    Event::Ask(1),
+    Event::Silence(2),
+    Event::Play(1),
+    Event::HasStable(0, 16),
+    Event::HasStable(1, 0),
+    Event::Stands(3, 0, 0),
+    Event::Play(20),
+    Event::Stands(3, 0, 16),
+    Event::HasStable(3, 16),
+    Event::HasStable(1, 16),
+    Event::Recovers(20),
+];
+
+#[test]
+fn one_settles_what_it_is_shown(rt: HostRuntime) -> Result<(), Fail> {
+    same!(rt; first_wrong(&rt, rt.alloc(), &SHOWN)?, None);
     Ok(())
 }
 
