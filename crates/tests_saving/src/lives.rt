@@ -88,7 +88,8 @@ impl Lives {
 
     // one message comes to all others, but for some who lose it
     fn deliver<R: Threads + Sync>(&mut self, rt: &R) -> Result<(), Memory> {
-        let place = self.draw(self.on_their_way.len());
+        let count = self.on_their_way.len();
+        let place = self.draw(count);
         if place >= self.on_their_way.len() {
             return Ok(());
         }
