@@ -215,9 +215,9 @@ fn stopped<R: Threads + Wait + Sync>(
 fn those_that_are_restored_go_on_as_those_that_never_stopped(rt: HostRuntime) -> Result<(), Fail> {
     let alloc = rt.alloc();
     let (mut stable, mut view) = (0, 0);
-    for seed in 1..3 {
-        let lives = lived(&rt, alloc, seed, 800)?;
-        match stopped(&rt, alloc, seed, 800)? {
+    for seed in 1..2 {
+        let lives = lived(&rt, alloc, seed, 3_000)?;
+        match stopped(&rt, alloc, seed, 3_000)? {
             Some(others) => {
                 holds!(rt; lives.told()?.as_slice() == others.told()?.as_slice());
             }
