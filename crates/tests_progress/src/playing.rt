@@ -68,7 +68,8 @@ fn trouble(world: &mut World) {
 }
 
 // a client asks, or sends again
-fn call(world: &mut World, asking: &mut Asking, client: usize) -> Result<(), Fail> {
+fn call(world: &mut World, asking: &mut Asking, number: u32) -> Result<(), Fail> {
+    let client = number as usize;
     let to = if happens(&mut world.draws, 80) {
         Set::ALL
     } else {
@@ -78,15 +79,15 @@ fn call(world: &mut World, asking: &mut Asking, client: usize) -> Result<(), Fai
         if happens(&mut world.draws, 40) {
             asking.ask(world, client, to)?;
         }
-    } else if world.tick % AGAIN == client as u32 {
+    } else if world.tick % AGAIN == number {
         asking.repeat(world, client, to)?;
     }
     Ok(())
 }
 
 fn call_all(world: &mut World, asking: &mut Asking) -> Result<(), Fail> {
-    for client in 0..CLIENTS {
-        call(world, asking, client as usize)?;
+    for number in 0..CLIENTS {
+        call(world, asking, number)?;
     }
     Ok(())
 }
