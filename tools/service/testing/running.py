@@ -107,13 +107,13 @@ class Service:
         return text in self.log.read_text(errors="replace")
 
     def up(self, **environment):
-        """Starts all, and waits until each is connected with each."""
+        """Starts all, and waits until each is connected with each. From one that lies nothing is wanted: others may close what it sends on."""
         process = self.start("up", **environment)
-        count = len(self.replicas)
-        wanted = [f"replica {one}: replica {other} is connected" for one in range(count) for other in range(count) if one != other]
-        wanted += [f"relay: replica {one} is connected" for one in range(count)]
+        each = [number for number in range(len(self.replicas)) if str(number) != environment.get("LIAR")]
+        wanted = [f"replica {one}: replica {other} is connected" for one in each for other in each if one != other]
+        wanted += [f"relay: replica {one} is connected" for one in each]
         if self.programs is FAKES:
-            wanted += ["fake relay begins"] + [f"replica {one}: a fake replica begins" for one in range(count)]
+            wanted += ["fake relay begins"] + [f"replica {one}: a fake replica begins" for one in each]
         until(lambda: all(map(self.said, wanted)), "all are connected")
         return process
 
