@@ -7,24 +7,24 @@ use Rattle.bfs_log.specs.Logs.{Log, headers}
 use Rattle.bfs_messages.specs.declared.signed.Signed.{Signed}
 use Rattle.bfs_messages.specs.declared.order_messages.OrderMessage.{OrderMessage}
 
-either_left : (a b : Bool) → (a || b) ≡ false → a ≡ false
+pub either_left : (a b : Bool) → (a || b) ≡ false → a ≡ false
 either_left true b e = absurd cc
 either_left false b e = refl
 
-either_right : (a b : Bool) → (a || b) ≡ false → b ≡ false
+pub either_right : (a b : Bool) → (a || b) ≡ false → b ≡ false
 either_right true b e = absurd cc
 either_right false b e = e
 
-neither : (a b : Bool) → a ≡ false → b ≡ false → (a || b) ≡ false
+pub neither : (a b : Bool) → a ≡ false → b ≡ false → (a || b) ≡ false
 neither a b e d = ap (λ c. c || b) e ∙ d
 
 swap : (a b : ℕ) → (a == b) ≡ (b == a)
 swap a b = grind arith
 
-abbrev same_slot : Header → Header → Bool
+abbrev pub same_slot : Header → Header → Bool
 same_slot g h = is_slot h.tag h.sender h.view h.number g
 
-same_again : (g h : Header) → same_slot g h ≡ same_slot h g
+pub same_again : (g h : Header) → same_slot g h ≡ same_slot h g
 same_again g h =
     ap (λ a. a && ((g.sender == h.sender) && ((g.view == h.view) && (g.number == h.number)))) (swap g.tag h.tag)
     ∙ ap (λ a. (h.tag == g.tag) && (a && ((g.view == h.view) && (g.number == h.number)))) (swap g.sender h.sender)

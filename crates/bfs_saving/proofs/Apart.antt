@@ -1,17 +1,18 @@
 -- Messages that may be those of a log.
-use Rattle.std.proofs.Common.{◌≡◌, ℕ, ◌<◌, Bool, true, false, cond, ◌&&◌, ◌||◌, not, List, [], ◌∷◌, ◌++◌, Option, Some, None, Result, Ok, Err, refl, sym, ap, subst, ◌∙◌, arith}
-use Rattle.std.specs.Prelude.{⊤, ◌==◌, All, OnOk}
+use Rattle.std.proofs.Common.{◌≡◌, ℕ, ◌<◌, Bool, true, false, cond, not, List, [], ◌∷◌, ◌++◌, Option, Some, None, Result, Ok, Err, refl, sym, ap, subst, ◌∙◌}
+use Rattle.std.specs.Prelude.{⊤, All, OnOk}
 use Rattle.std.specs.List.{list_all, AllByRecursion}
 use Rattle.std.proofs.lemmas.Bool.{and_from, and_parts, lt-ltb}
 use Rattle.std.proofs.lemmas.List.Elements.{recursion_from_All}
 use Rattle.bfs_model.specs.Server.Limits.{most_replicas}
-use Rattle.bfs_votes.specs.Votes.{Header, SlotsDiffer, is_slot, is_taken}
+use Rattle.bfs_votes.specs.Votes.{Header, SlotsDiffer, is_taken}
 use Rattle.bfs_messages.specs.Signing.{as_message}
 use Rattle.bfs_messages.specs.declared.message.Message.TheVariants.{Order}
 use Rattle.bfs_messages.specs.declared.signed.Signed.{Signed}
 use Rattle.bfs_messages.specs.declared.order_messages.OrderMessage.{OrderMessage}
 use Rattle.bfs_log.specs.Headers.{header}
 use Rattle.bfs_log.specs.Logs.{Log, headers}
+use Rattle.bfs_log.proofs.Public.{either_left, either_right, neither, same_again, same_slot}
 use Rattle.bfs_model.proofs.Public.{IsExact, where_exact}
 use Rattle.bfs_saving.specs.Items.{FitMany}
 use Rattle.bfs_saving.specs.Messages.{FitsText}
@@ -47,30 +48,6 @@ few_there [] m ys all = (and_parts (is_from_few m) (list_all is_from_few ys) all
 few_there (x ∷ xs) m ys all = few_there xs m ys (and_parts (is_from_few x) (list_all is_from_few (xs ++ m ∷ ys)) all).1
 
 -- A slot is free in what stands before its message --------------------------------------------------------------------
-
-either_left : (a b : Bool) → (a || b) ≡ false → a ≡ false
-either_left true b e = absurd cc
-either_left false b e = refl
-
-either_right : (a b : Bool) → (a || b) ≡ false → b ≡ false
-either_right true b e = absurd cc
-either_right false b e = e
-
-neither : (a b : Bool) → a ≡ false → b ≡ false → (a || b) ≡ false
-neither a b e d = ap (λ c. c || b) e ∙ d
-
-swap : (a b : ℕ) → (a == b) ≡ (b == a)
-swap a b = grind arith
-
-abbrev same_slot : Header → Header → Bool
-same_slot g h = is_slot h.tag h.sender h.view h.number g
-
-same_again : (g h : Header) → same_slot g h ≡ same_slot h g
-same_again g h =
-    ap (λ a. a && ((g.sender == h.sender) && ((g.view == h.view) && (g.number == h.number)))) (swap g.tag h.tag)
-    ∙ ap (λ a. (h.tag == g.tag) && (a && ((g.view == h.view) && (g.number == h.number)))) (swap g.sender h.sender)
-    ∙ ap (λ a. (h.tag == g.tag) && ((h.sender == g.sender) && (a && (g.number == h.number)))) (swap g.view h.view)
-    ∙ ap (λ a. (h.tag == g.tag) && ((h.sender == g.sender) && ((h.view == g.view) && a))) (swap g.number h.number)
 
 not_there : (h : Header) (xs : Log) (m : Signed OrderMessage) (ys : Log) → is_taken (headers (xs ++ m ∷ ys)) h ≡ false → same_slot (header m) h ≡ false
 not_there h [] m ys e = either_left (same_slot (header m) h) (is_taken (headers ys) h) e

@@ -1,4 +1,4 @@
-//! What votes of replicas prove, and that replicas agree by them.
+//! What votes of replicas prove: any two quorums meet in a replica that does not lie.
 #![tactic(auto)]
 
 pub mod quorums;
