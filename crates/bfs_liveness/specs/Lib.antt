@@ -1,0 +1,2 @@
+-- What the contracts of bfs_liveness cite.
+pub mod Ways

@@ -1,0 +1,6 @@
+//! What waits is executed: from every state that replicas can come into, members have a finite schedule of turns by which they execute it.
+#![tactic(auto)]
+
+pub mod catching;
+pub mod executing;
+pub mod meeting;
