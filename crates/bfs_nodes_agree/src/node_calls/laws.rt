@@ -71,7 +71,8 @@ pub fn what_was_sent_is_authentic()
 }
 
 /// Over every list of calls of nodes and deliveries of bytes: each REPLY that a node has sent gives the answer to a request in a batch that it
-/// executed, on a state that it had reached; and each request in such a batch has a right keyed hash of the client that it names.
+/// executed, on a state that it had reached, or once more the last reply to its client that such a state has; and each request in such a batch
+/// has a right keyed hash of the client that it names.
 pub fn nodes_answer()
     ensures { NodesAnswer }
 {
