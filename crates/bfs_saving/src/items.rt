@@ -14,8 +14,8 @@ use bfs_types::Memory;
 use bfs_xdr::{put_bool, put_u64};
 use std::alloc::Global;
 
-/// A part of a saved replica.
-pub(crate) trait Saved: Drop + Sized {
+/// A part of what is saved, which has one text, and is read back from it.
+pub trait Saved: Drop + Sized {
     /// Its text.
     ghost text: { Self → List ℕ };
 
@@ -92,7 +92,7 @@ pub(crate) fn put_optional<T: Saved>(
 
 /// Appends bytes behind their number. `Memory` if memory runs out.
 #[tactic(auto, using(std::proofs::lemmas::List::append_assoc))]
-pub(crate) fn put_long(out: &mut Vec<u8>, bytes: &[u8]) -> Result<(), Memory>
+pub fn put_long(out: &mut Vec<u8>, bytes: &[u8]) -> Result<(), Memory>
     ensures text { OnOk result (out.new.items ≡ out.old.items ++ long_text bytes.now) }
     ensures fits { OnOk result (FitsLong bytes.now) }
 {
@@ -111,7 +111,7 @@ pub(crate) fn are_bytes(bytes: &[u8])
 
 /// Appends things behind their number. `Memory` if memory runs out.
 #[tactic(auto, using(std::proofs::lemmas::List::append_assoc))]
-pub(crate) fn put_many<T: Saved>(list: &[T], alloc: Global, out: &mut Vec<u8>) -> Result<(), Memory>
+pub fn put_many<T: Saved>(list: &[T], alloc: Global, out: &mut Vec<u8>) -> Result<(), Memory>
     ensures text { OnOk result (out.new.items ≡ out.old.items ++ many_text T.text list.now) }
     ensures fits { OnOk result (FitMany T.fits list.now) }
 {

@@ -6,7 +6,7 @@ ghost use Rattle.bfs_messages.specs.declared.message.Message as declared;
 ghost use Rattle.bfs_messages.specs.declared.message.Message.TheVariants as kind;
 ghost use Rattle.bfs_messages.specs.declared.order_messages.OrderMessage.TheVariants as order;
 ghost use Rattle.bfs_saving.specs.Parts.{FitsNewView, new_view_text};
-ghost use Rattle.bfs_saving.specs.Messages.{FitsText, checkpoint_of, kind_from, message_text, new_view_of, order_of, request_of, view_change_of};
+ghost use Rattle.bfs_saving.specs.Messages.{FitsText, checkpoint_of, kind_from, message_from, message_text, new_view_of, order_of, request_of, view_change_of};
 
 use crate::items::{Saved, put_long, put_optional};
 use crate::reader::SavedReader;
@@ -16,14 +16,16 @@ use bfs_types::{Memory, TryClone};
 use std::alloc::Global;
 
 /// A kind of messages.
-pub(crate) trait Carried: TryClone + Drop + Sized {
+pub trait Carried: TryClone + Drop + Sized {
     ghost to: { Self → declared.Message };
 
     ghost of: { declared.Message → Option Self };
 
+    /// One of the kind, as a message.
     fn into_message(self) -> Message
         ensures { result ≡ to self };
 
+    /// A message, if it is of the kind.
     fn from_message(message: Message) -> Option<Self>
         ensures { result ≡ of message };
 }
@@ -144,6 +146,22 @@ impl<T: Carried> Saved for Signed<T> {
             }),
             None => Err(DecodeError::Malformed),
         }
+    }
+}
+
+impl Saved for Signed<Message> {
+    ghost text = { message_text };
+
+    ghost fits = { FitsText };
+
+    ghost from = { message_from };
+
+    fn put(&self, alloc: Global, out: &mut Vec<u8>) -> Result<(), Memory> {
+        put_message(alloc, out, self)
+    }
+
+    fn read(reader: &mut SavedReader<'_>) -> Result<Signed<Message>, DecodeError> {
+        reader.message()
     }
 }
 

@@ -3,21 +3,21 @@ ghost use Rattle.std.specs.Prelude.{◌≡◌, ◌≤◌, length, nat_lt, not, I
 ghost use Rattle.bfs_model.specs.Bytes.Formats.{boolean_from, hyper_from, items_from, word_from};
 ghost use Rattle.bfs_model.specs.Server.Limits.{most_number};
 ghost use Rattle.bfs_codec.specs.Codes.{Reads};
-ghost use Rattle.bfs_codec.specs.Parts.{digest_from, number_from, tag_from};
+ghost use Rattle.bfs_codec.specs.Parts.{digest_from, number_from, tag_from, time_from};
 ghost use Rattle.bfs_saving.specs.Items.{long_from, many_from};
 ghost use Rattle.bfs_saving.specs.Messages.{message_from};
 
 use crate::items::Saved;
 use bfs_codec::{DecodeError, decode};
 use bfs_messages::{Message, Signed};
-use bfs_types::MOST_NUMBER;
+use bfs_types::{MOST_NUMBER, Time};
 use bfs_xdr::Reader;
 use std::alloc::Global;
 use std::marker::Model;
 
-/// A strict reader of a saved replica.
+/// A strict reader of what is saved: bytes from their front on, in the items of XDR (RFC 4506). What it refuses is malformed, and after an error it is to be used no more.
 #[derive(Drop)]
-pub(crate) struct SavedReader<'a> {
+pub struct SavedReader<'a> {
     alloc: Global,
     reader: Reader<'a>,
 }
@@ -33,7 +33,8 @@ impl<'a> Model for SavedReader<'a> {
 }
 
 impl<'a> SavedReader<'a> {
-    pub(crate) fn new(alloc: Global, bytes: &'a [u8]) -> SavedReader<'a>
+    /// A reader of those bytes. What is read takes its memory of that allocator.
+    pub fn new(alloc: Global, bytes: &'a [u8]) -> SavedReader<'a>
         ensures { result ≡ bytes.now }
     {
         SavedReader {
@@ -47,13 +48,15 @@ impl<'a> SavedReader<'a> {
         self.alloc
     }
 
-    pub(crate) fn is_at_end(&self) -> bool
+    /// Whether no byte is left.
+    pub fn is_at_end(&self) -> bool
         ensures { result ≡ not (nat_lt 0 (length self.now)) }
     {
         self.reader.rest().is_empty()
     }
 
-    pub(crate) fn u32(&mut self) -> Result<u32, DecodeError>
+    /// An unsigned integer (RFC 4506 section 4.2).
+    pub fn u32(&mut self) -> Result<u32, DecodeError>
         ensures { Reads (λ x. x) result (word_from self.old) self.new }
     {
         match self.reader.u32() {
@@ -62,7 +65,8 @@ impl<'a> SavedReader<'a> {
         }
     }
 
-    pub(crate) fn u64(&mut self) -> Result<u64, DecodeError>
+    /// An unsigned hyper integer (RFC 4506 section 4.5).
+    pub fn u64(&mut self) -> Result<u64, DecodeError>
         ensures { Reads (λ x. x) result (hyper_from self.old) self.new }
     {
         match self.reader.u64() {
@@ -71,7 +75,8 @@ impl<'a> SavedReader<'a> {
         }
     }
 
-    pub(crate) fn boolean(&mut self) -> Result<bool, DecodeError>
+    /// A boolean (RFC 4506 section 4.4).
+    pub fn boolean(&mut self) -> Result<bool, DecodeError>
         ensures { Reads (λ x. x) result (boolean_from self.old) self.new }
     {
         match self.reader.boolean() {
@@ -81,7 +86,7 @@ impl<'a> SavedReader<'a> {
     }
 
     /// The number of a view, or of a batch in the order.
-    pub(crate) fn number(&mut self) -> Result<u64, DecodeError>
+    pub fn number(&mut self) -> Result<u64, DecodeError>
         ensures read { Reads (λ x. x) result (number_from self.old) self.new }
         ensures within { IfOk result (λ number. number ≤ most_number) }
     {
@@ -92,8 +97,21 @@ impl<'a> SavedReader<'a> {
         Ok(number)
     }
 
+    /// Seconds and microseconds, of which there are fewer than 1,000,000.
+    #[tactic(auto, unfolding(bfs_codec::specs::Parts::time_from))]
+    pub fn time(&mut self) -> Result<Time, DecodeError>
+        ensures { Reads (λ x. x) result (time_from self.old) self.new }
+    {
+        let seconds = self.u32()?;
+        let useconds = self.u32()?;
+        match Time::new(seconds, useconds) {
+            Some(time) => Ok(time),
+            None => Err(DecodeError::Malformed),
+        }
+    }
+
     /// Just that word.
-    pub(crate) fn tag(&mut self, tag: u32) -> Result<(), DecodeError>
+    pub fn tag(&mut self, tag: u32) -> Result<(), DecodeError>
         ensures { Reads (λ _. tag) result (tag_from tag self.old) self.new }
     {
         if self.u32()? != tag {
@@ -102,8 +120,9 @@ impl<'a> SavedReader<'a> {
         Ok(())
     }
 
+    /// 32 bytes.
     #[tactic(auto, using(crate::proofs::Loops::fixed_long))]
-    pub(crate) fn digest(&mut self) -> Result<[u8; 32], DecodeError>
+    pub fn digest(&mut self) -> Result<[u8; 32], DecodeError>
         ensures { Reads (λ x. x) result (digest_from self.old) self.new }
     {
         match self.reader.fixed(32) {
@@ -118,7 +137,7 @@ impl<'a> SavedReader<'a> {
 
     /// Bytes behind their number. They are not copied.
     #[tactic(auto, unfolding(crate::specs::Items::long_from))]
-    pub(crate) fn long(&mut self) -> Result<&'a [u8], DecodeError>
+    pub fn long(&mut self) -> Result<&'a [u8], DecodeError>
         ensures { Reads (λ bytes. bytes.now) result (long_from self.old) self.new }
     {
         let count = self.u64()?;
@@ -132,7 +151,7 @@ impl<'a> SavedReader<'a> {
     }
 
     /// A message behind its length.
-    pub(crate) fn message(&mut self) -> Result<Signed<Message>, DecodeError>
+    pub fn message(&mut self) -> Result<Signed<Message>, DecodeError>
         ensures { Reads (λ signed. signed) result (message_from self.old) self.new }
     {
         let bytes = self.long()?;
@@ -141,7 +160,7 @@ impl<'a> SavedReader<'a> {
 
     /// Things behind their number. Memory is taken as they are read, whatever number is claimed.
     #[tactic(auto, unfolding(crate::specs::Items::many_from))]
-    pub(crate) fn many<T: Saved>(&mut self) -> Result<Vec<T>, DecodeError>
+    pub fn many<T: Saved>(&mut self) -> Result<Vec<T>, DecodeError>
         ensures { Reads (λ list. list.items) result (many_from T.from self.old) self.new }
     {
         let count = self.u64()?;
