@@ -1,22 +1,29 @@
--- The frozen inodes that are shared and hashed by chunks.
-use Rattle.std.proofs.Common.{◌≡◌, ℕ, ◌+◌, ◌-◌, List, ◌++◌, map, take, drop, sym, ap, subst, ◌∙◌, arith}
-use Rattle.std.proofs.lemmas.List.{map-append}
+-- The frozen inodes of a tree, which are shared and hashed by chunks.
+use Rattle.std.proofs.Common.{◌≡◌, ℕ, List, [], ◌∷◌, ◌++◌, sym, ap, subst, ◌∙◌, append_assoc}
 use Rattle.std.proofs.lemmas.Grind.{flat_map-append}
-use Rattle.std.proofs.Math.Seq.{take-add}
 use Rattle.bfs_model.specs.Bytes.Items.{word}
 use Rattle.bfs_inode.specs.Records.{Frozen}
 use Rattle.bfs_digest.specs.Frozen.{digests_of}
 use Rattle.bfs_digest.proofs.Pieces.{Takes, both_taken}
 
--- with the chunk behind a place, those before its end are done
-pub chunk_done : {X Y : Type 0} (f : X → Y) (done after : List Y) (all : List X) (place count : ℕ) → after ≡ done ++ map f (take (place + count - place) (drop place all)) → done ≡ map f (take place all) → after ≡ map f (take (place + count) all)
-chunk_done f done after all place count is so_far =
-    let same : place + count - place ≡ count = omega arith in
-    let chunk = take count (drop place all) in
-    is ∙ ap (λ n. done ++ map f (take n (drop place all))) same ∙ ap (λ ys. ys ++ map f chunk) so_far
-    ∙ sym (map-append f (take place all) chunk) ∙ ap (map f) (sym (take-add place count all))
+-- some are shared, and hashed; with those that wait, and the rest, they are all of them
+pub record AreShared {H : Type 0} (Holds : H → List ℕ → Type 0) (before now : H) (shared waiting rest all : List Frozen) : Type 0 where
+  pub total : shared ++ (waiting ++ rest) ≡ all
+  pub hashed : Takes Holds before now (digests_of shared)
 
-pub chunk_hashed : {H : Type 0} (Holds : H → List ℕ → Type 0) (before now behind : H) (done chunk after : List Frozen) → after ≡ done ++ chunk → Takes Holds before now (digests_of done) → Takes Holds now behind (digests_of chunk) → Takes Holds before behind (digests_of after)
-chunk_hashed Holds before now behind done chunk after is so_far more =
-    subst (Takes Holds before behind) (sym (ap digests_of is ∙ flat_map-append (λ (inode : Frozen). word inode.id ++ inode.digest) done chunk))
-    (both_taken Holds before now behind (digests_of done) (digests_of chunk) so_far more)
+-- the first of the rest waits
+pub one_waits : {H : Type 0} (Holds : H → List ℕ → Type 0) (before now : H) (shared waiting more xs rest all : List Frozen) (x : Frozen) → xs ≡ x ∷ rest → more ≡ waiting ++ (x ∷ [])
+    → AreShared Holds before now shared waiting xs all → AreShared Holds before now shared more rest all
+one_waits Holds before now shared waiting more xs rest all x is put so_far = record {
+  total = ap (λ ys. shared ++ (ys ++ rest)) put ∙ ap (λ ys. shared ++ ys) (append_assoc waiting (x ∷ []) rest ∙ ap (λ ys. waiting ++ ys) (sym is)) ∙ so_far.total;
+  hashed = so_far.hashed;
+}
+
+-- those that waited are shared, and none waits
+pub more_shared : {H : Type 0} (Holds : H → List ℕ → Type 0) (before now after : H) (shared waiting more none rest all : List Frozen) → more ≡ shared ++ waiting → none ≡ [] → Takes Holds now after (digests_of waiting)
+    → AreShared Holds before now shared waiting rest all → AreShared Holds before after more none rest all
+more_shared Holds before now after shared waiting more none rest all is taken took so_far = record {
+  total = ap (λ ys. more ++ (ys ++ rest)) taken ∙ ap (λ ys. ys ++ rest) is ∙ append_assoc shared waiting rest ∙ so_far.total;
+  hashed = subst (Takes Holds before after) (sym (ap digests_of is ∙ flat_map-append (λ (inode : Frozen). word inode.id ++ inode.digest) shared waiting))
+      (both_taken Holds before now after (digests_of shared) (digests_of waiting) so_far.hashed took);
+}

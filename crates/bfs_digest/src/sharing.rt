@@ -1,5 +1,5 @@
 // The frozen inodes of a tree, shared and hashed.
-ghost use Rattle.std.specs.Prelude.{◌≡◌, ◌++◌, ℕ, List, map, IfOk, OnOk};
+ghost use Rattle.std.specs.Prelude.{◌≡◌, ◌++◌, ℕ, List, [], map, IfOk, OnOk};
 ghost use Rattle.std.specs.Arc.{arc_value};
 ghost use Rattle.std.specs.FinMap.{entries};
 ghost use Rattle.sha2.specs.Hashers.{Holds256};
@@ -72,40 +72,35 @@ pub(crate) fn freeze_inodes(
     ensures value { IfOk result (λ inodes. map arc_value inodes.items ≡ frozen_inodes (entries (at_home tree.now))) }
     ensures hashed { IfOk result (λ inodes. (m : List ℕ) → Holds256 hasher.old m → Holds256 hasher.new (m ++ digests_of (map arc_value inodes.items))) }
 {
-    let shared = shared_of(alloc, tree)?;
-    share(alloc, hasher, &shared)
-}
-
-fn share(
-    alloc: Global,
-    hasher: &mut Sha256,
-    shared: &[Shared<'_>],
-) -> Result<Vec<Arc<FrozenInode>>, Memory>
-    ensures value { IfOk result (λ inodes. map arc_value inodes.items ≡ all_frozen shared.now) }
-    ensures hashed { IfOk result (λ inodes. (m : List ℕ) → Holds256 hasher.old m → Holds256 hasher.new (m ++ digests_of (map arc_value inodes.items))) }
-{
-    let mut inodes = Vec::with_capacity(alloc, shared.len())?;
+    let mut inodes = Vec::with_capacity(alloc, tree.count())?;
     let mut bytes = Vec::with_capacity(alloc, CHUNK * DIGEST_BYTES)?;
-    let mut place = 0;
-    while place < shared.len() {
-        let end = place + CHUNK.min(shared.len() - place);
-        let chunk = &shared[place..end];
-        hash_all(hasher, &mut bytes, chunk)?;
-        share_all(&mut inodes, chunk)?;
-        place = end;
+    let mut chunk = Vec::with_capacity(alloc, CHUNK)?;
+    for (id, inode) in tree.boxes() {
+        let shared = Shared::of(alloc, FileId::new(*id), inode)?;
+        chunk.push(shared)?;
+        if chunk.len() == CHUNK {
+            share(hasher, &mut bytes, &mut inodes, &mut chunk)?;
+        }
     }
+    share(hasher, &mut bytes, &mut inodes, &mut chunk)?;
     Ok(inodes)
 }
 
-fn shared_of<'a>(alloc: Global, tree: &'a Tree) -> Result<Vec<Shared<'a>>, Memory>
-    ensures { IfOk result (λ shared. all_frozen shared.items ≡ frozen_inodes (entries (at_home tree.now))) }
+// hashes those of a chunk, by way of those bytes, and takes them out of it
+fn share(
+    hasher: &mut Sha256,
+    bytes: &mut Vec<u8>,
+    inodes: &mut Vec<Arc<FrozenInode>>,
+    chunk: &mut Vec<Shared<'_>>,
+) -> Result<(), Memory>
+    ensures shared { OnOk result (map arc_value inodes.new.items ≡ map arc_value inodes.old.items ++ all_frozen chunk.old.items) }
+    ensures hashed { OnOk result ((m : List ℕ) → Holds256 hasher.old m → Holds256 hasher.new (m ++ digests_of (all_frozen chunk.old.items))) }
+    ensures taken { OnOk result (chunk.new.items ≡ []) }
 {
-    let mut all = Vec::with_capacity(alloc, tree.count())?;
-    for (id, inode) in tree.boxes() {
-        let shared = Shared::of(alloc, FileId::new(*id), inode)?;
-        all.push(shared)?;
-    }
-    Ok(all)
+    hash_all(hasher, bytes, chunk)?;
+    share_all(inodes, chunk)?;
+    chunk.clear();
+    Ok(())
 }
 
 // by way of those bytes
