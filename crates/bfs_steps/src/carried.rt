@@ -71,12 +71,9 @@ impl Carried for Signed<Request> {
     }
 
     fn read(reader: &mut StepReader<'_>) -> Result<Signed<Request>, DecodeError> {
-        let signed = reader.message()?;
-        match signed.message {
-            Message::Request(message) => Ok(Signed {
-                message,
-                auth: signed.auth,
-            }),
+        let Signed { message, auth } = reader.message()?;
+        match message {
+            Message::Request(message) => Ok(Signed { message, auth }),
             _ => Err(DecodeError::Malformed),
         }
     }
@@ -98,11 +95,11 @@ impl Carried for Signed<Checkpoint> {
     }
 
     fn read(reader: &mut StepReader<'_>) -> Result<Signed<Checkpoint>, DecodeError> {
-        let signed = reader.message()?;
-        match signed.message {
-            Message::Order(OrderMessage::Checkpoint(message)) => Ok(Signed {
-                message,
-                auth: signed.auth,
+        let Signed { message, auth } = reader.message()?;
+        match &message {
+            Message::Order(OrderMessage::Checkpoint(checkpoint)) => Ok(Signed {
+                message: *checkpoint,
+                auth,
             }),
             _ => Err(DecodeError::Malformed),
         }

@@ -78,7 +78,6 @@ impl<'a> StepReader<'a> {
         Ok(number)
     }
 
-    #[tactic(auto, using(bfs_model::proofs::Public::fixed_written))]
     pub(crate) fn digest(&mut self) -> Result<[u8; 32], DecodeError>
         ensures { Reads (λ x. x) result (digest_from self.old) self.new }
     {

@@ -1,8 +1,6 @@
 // The steps of a body, made again.
-ghost use Rattle.std.specs.Prelude.{◌≡◌, ◌≢◌, ◌∷◌, [], OnOk};
-ghost use Rattle.bfs_node.specs.declared.error.NodeError.TheVariants as errors;
-ghost use Rattle.bfs_nodes_agree.specs.Nodes.Steps as model;
-ghost use Rattle.bfs_steps.specs.Replaying.{Replays, after_step, node_step};
+ghost use Rattle.std.specs.Prelude.{◌≡◌, ◌≢◌, [], OnOk};
+ghost use Rattle.bfs_steps.specs.Replaying.{Replays, after_step, after_steps, node_step};
 ghost use Rattle.bfs_steps.specs.Steps.{steps_of};
 
 use crate::error::ReplayError;
@@ -40,6 +38,7 @@ pub fn replay<R: Threads + Wait + Sync>(
     Ok(())
 }
 
+// Makes the call of a step, with what was read.
 fn make_again<R: Threads + Wait + Sync>(
     node: &mut Node,
     rt: &R,
@@ -76,7 +75,7 @@ fn make_call<R: Threads + Wait + Sync>(
     executor: Executor,
     call: NodeCall<'_>,
 ) -> Result<(), Memory>
-    ensures { OnOk result ((step : model.NodeStep) → steps_of call.entry ≡ step ∷ [] → node.new ≡ after_step node.old step) }
+    ensures { OnOk result (steps_of call.entry ≢ [] → node.new ≡ after_steps node.old (steps_of call.entry)) }
 {
     match perform(node, rt, executor, &NoGate, call) {
         Err(NodeError::Memory) => Err(Memory),

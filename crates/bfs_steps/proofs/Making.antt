@@ -1,0 +1,90 @@
+-- What is made again goes the way of the steps that are read.
+use Rattle.std.proofs.Common.{◌≡◌, ◌≢◌, ⊤, ℕ, zero, suc, true, false, cond, ltb, List, [], ◌∷◌, length, Option, Some, None, Result, Ok, Err, refl, sym, ap, subst, ◌∙◌}
+use Rattle.std.specs.Option.{option_map}
+use Rattle.bfs_model.specs.Bytes.Call.{◌>>=◌}
+use Rattle.bfs_node.specs.Nodes.{Node}
+use Rattle.bfs_node.specs.declared.error.NodeError.{NodeError}
+use Rattle.bfs_node.specs.declared.error.NodeError.TheVariants.{Memory}
+use Rattle.bfs_nodes_agree.specs.Nodes.Performing.{Does, Performs}
+use Rattle.bfs_nodes_agree.specs.Nodes.Steps.{NodeStep, Delivers, Takes, TakesRequests, TakesOffered, Proposes, Executes, Fails, Checkpoints, TimesOut, LeavesFor, ForgetsAnswered, ForgetsProposed, Settles, outcome}
+use Rattle.bfs_nodes_agree.specs.declared.node_calls.performing.NodeCall.{NodeCall}
+use Rattle.bfs_nodes_agree.specs.declared.node_calls.performing.NodeCall.TheVariants as code
+use Rattle.bfs_nodes_agree.specs.declared.node_calls.performing.Sent.{Sent}
+use Rattle.bfs_node.specs.Delivering.{SomeCame}
+use Rattle.bfs_steps.specs.Reading.{step_from, steps_within}
+use Rattle.bfs_steps.specs.Replaying.{after_step, after_steps}
+use Rattle.bfs_steps.specs.Steps.{steps_of}
+
+-- One call -----------------------------------------------------------------------------------------------------------
+
+-- taken or refused, but for want of memory
+did : (lacking : Node → Type 0) (node : Node) (step : NodeStep) (r : Result Sent NodeError) (now : Node) → Does lacking node step r now → r ≢ Err Memory → now ≡ after_step node step
+did lacking node step (Ok sent) now is other = ap (λ out. out.now) (sym is)
+did lacking node step (Err e) now is other =
+    let same = is.1 (λ memory. other (ap Err memory)) in
+    same.0 ∙ ap (λ out. out.now) (sym same.1)
+
+pub made : (node : Node) (call : NodeCall) (r : Result Sent NodeError) (now : Node) → Performs node call r now → r ≢ Err Memory → steps_of call ≢ [] → now ≡ after_steps node (steps_of call)
+made node (code.Deliver bytes) r now is other some = did (λ left. left ≡ node) node (Delivers bytes.now) r now is other
+made node (code.Take signed) r now is other some = did (λ left. left ≡ node) node (Takes signed) r now is other
+made node (code.TakeRequests messages) r now is other some = did (SomeCame node messages.now) node (TakesRequests messages.now) r now is other
+made node (code.TakeRequestsFor time messages) r now is other some = did (SomeCame node messages.now) node (TakesRequests messages.now) r now is other
+made node (code.Offer request) r now is other some = did (λ left. left ≡ node) node (TakesOffered request) r now is other
+made node (code.Propose time) r now is other some = did (λ left. left ≡ node) node (Proposes time) r now is other
+made node code.Execute r now is other some = did (λ left. left ≡ (outcome node Fails).now) node Executes r now is other
+made node code.Checkpoint r now is other some = did (λ left. left ≡ node) node Checkpoints r now is other
+made node code.TimeOut r now is other some = did (λ left. left ≡ node) node TimesOut r now is other
+made node (code.LeaveFor view) r now is other some = did (λ left. left ≡ node) node (LeavesFor view) r now is other
+made node code.ForgetAnswered r now is other some = did (λ left. left ≡ node) node ForgetsAnswered r now is other
+made node code.ForgetProposed r now is other some = did (λ left. left ≡ node) node ForgetsProposed r now is other
+made node (code.Adopt text certificate) r now is other some = absurd (some refl)
+made node (code.Settle certificate) r now is other some = did (λ left. left ≡ node) node (Settles certificate.now) r now is other
+
+-- A body -------------------------------------------------------------------------------------------------------------
+
+-- what the steps that are left make of a node
+abbrev pub left_by : Node → (most : ℕ) → List ℕ → Option Node
+left_by node most bytes = option_map (after_steps node) (steps_within most bytes)
+
+-- one more is made
+pub one_more : (node now : Node) (most : ℕ) (bytes rest : List ℕ) (step : NodeStep) (last : Option Node) → ltb 0 (length bytes) ≡ true → step_from bytes ≡ Some (step, rest) → now ≡ after_step node step
+    → left_by node (suc most) bytes ≡ last → left_by now most rest ≡ last
+unfolding steps_within
+one_more node now most bytes rest step last more read is so_far = by (steps_within most rest) refl
+  where
+    whole : steps_within (suc most) bytes ≡ (steps_within most rest >>= λ steps. Some (step ∷ steps))
+    unfolding steps_within
+    whole =
+        ap (λ b. cond b (step_from bytes >>= λ s. steps_within most s.1 >>= λ steps. Some (s.0 ∷ steps)) (Some [])) more
+        ∙ ap (λ o. o >>= λ s. steps_within most s.1 >>= λ steps. Some (s.0 ∷ steps)) read
+
+    by : (o : Option (List NodeStep)) → steps_within most rest ≡ o → left_by now most rest ≡ last
+    by None e = ap (option_map (after_steps now)) e ∙ sym (ap (option_map (after_steps node)) (whole ∙ ap (λ o. o >>= λ steps. Some (step ∷ steps)) e)) ∙ so_far
+    by (Some steps) e =
+        ap (option_map (after_steps now)) e ∙ ap (λ n. Some (after_steps n steps)) is
+        ∙ sym (ap (option_map (after_steps node)) (whole ∙ ap (λ o. o >>= λ steps. Some (step ∷ steps)) e)) ∙ so_far
+
+-- nothing is left
+pub at_end : (node : Node) (most : ℕ) (bytes : List ℕ) (last : Option Node) → ltb 0 (length bytes) ≡ false → left_by node most bytes ≡ last → last ≡ Some node
+unfolding steps_within
+at_end node zero bytes last none so_far = sym so_far ∙ ap (λ b. option_map (after_steps node) (cond b None (Some []))) none
+at_end node (suc most) bytes last none so_far =
+    sym so_far ∙ ap (λ b. option_map (after_steps node) (cond b (step_from bytes >>= λ step. steps_within most step.1 >>= λ steps. Some (step.0 ∷ steps)) (Some []))) none
+
+none_of : {A B : Type 0} (f : A → B) (o : Option A) → option_map f o ≡ None → o ≡ None
+none_of f None e = refl
+none_of f (Some x) e = absurd cc
+
+-- no step is read
+pub malformed : (node first : Node) (most : ℕ) (bytes : List ℕ) (steps : Option (List NodeStep)) → ltb 0 (length bytes) ≡ true → step_from bytes ≡ None → left_by node (suc most) bytes ≡ option_map (after_steps first) steps → steps ≡ None
+unfolding steps_within
+malformed node first most bytes steps more none so_far =
+    none_of (after_steps first) steps
+    (sym so_far
+    ∙ ap (λ b. option_map (after_steps node) (cond b (step_from bytes >>= λ step. steps_within most step.1 >>= λ steps. Some (step.0 ∷ steps)) (Some []))) more
+    ∙ ap (λ o. option_map (after_steps node) (o >>= λ step. steps_within most step.1 >>= λ steps. Some (step.0 ∷ steps))) none)
+
+-- there are more bytes than steps
+pub too_many : (node first : Node) (bytes : List ℕ) (steps : Option (List NodeStep)) → ltb 0 (length bytes) ≡ true → left_by node 0 bytes ≡ option_map (after_steps first) steps → steps ≡ None
+unfolding steps_within
+too_many node first bytes steps more so_far = none_of (after_steps first) steps (sym so_far ∙ ap (λ b. option_map (after_steps node) (cond b None (Some []))) more)
