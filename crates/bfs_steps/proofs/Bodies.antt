@@ -1,15 +1,16 @@
 -- The steps of a body are read again.
-use Rattle.std.proofs.Common.{◌≡◌, ℕ, zero, suc, ◌+◌, ◌<◌, ◌≤◌, ◌^◌, true, false, cond, ltb, List, [], ◌∷◌, ◌++◌, length, take, drop, Some, None, refl, sym, ap, ◌∙◌, append_assoc, length-append, arith}
+use Rattle.std.proofs.Common.{◌≡◌, ℕ, zero, suc, ◌+◌, ◌<◌, ◌≤◌, ◌^◌, true, false, cond, ltb, List, [], ◌∷◌, ◌++◌, length, take, drop, Some, None, refl, sym, ap, ◌∙◌, append_assoc, append-nil, length-append, arith}
 use Rattle.std.specs.List.{flat_map, AllByRecursion}
 use Rattle.std.proofs.lemmas.Bool.{le-ltb, lt-ltb, ltb-true}
 use Rattle.std.proofs.lemmas.List.{drop_at, take_at}
 use Rattle.bfs_model.specs.Bytes.Call.{◌>>=◌}
 use Rattle.bfs_model.specs.Bytes.Formats.{Reading, as_from, items_from, then_from, where_from, word_from}
-use Rattle.bfs_model.specs.Bytes.Items.{hyper, word, word_at}
+use Rattle.bfs_model.specs.Bytes.Items.{fixed, hyper, word, word_at}
 use Rattle.bfs_model.specs.Server.Stored.{IsDouble, IsTime, IsWord}
 use Rattle.bfs_model.specs.Server.Tree.{Time}
 use Rattle.bfs_model.proofs.Public.{go_on, hyper_exact, then_exact, where_exact, word_exact}
 use Rattle.bfs_messages.specs.Batches.{time_text}
+use Rattle.bfs_messages.specs.Limits.{IsDigest, IsNumber}
 use Rattle.bfs_messages.specs.Messages as model
 use Rattle.bfs_messages.specs.Signing.{as_message}
 use Rattle.bfs_messages.specs.Spelling.{signed_text}
@@ -90,7 +91,9 @@ certificate_again : IsRead certificate_text FitsCertificate certificate_from
 unfolding certificate_from
 certificate_again c rest fits =
     ap (λ o. o >>= λ p. Some (record { number = p.0.0.0; digest = p.0.0.1; checkpoints = p.0.1 }, p.1))
-    (then_again _ _ (then_from number_from digest_from) _ _ _ (then_exact number_exact digest_exact).again (many_again _ _ _ checkpoint_again) ((c.number, c.digest), c.checkpoints) rest fits)
+    (then_again (λ (p : ℕ × List ℕ). hyper p.0 ++ fixed p.1) (λ (p : ℕ × List ℕ). IsNumber p.0 × IsDigest p.1) (then_from number_from digest_from)
+    (many_text checkpoint_text) (FitMany FitsCheckpoint) (many_from (kind_from checkpoint_of))
+    (then_exact number_exact digest_exact).again (many_again checkpoint_text FitsCheckpoint (kind_from checkpoint_of) checkpoint_again) ((c.number, c.digest), c.checkpoints) rest fits)
 
 -- One step -----------------------------------------------------------------------------------------------------------
 
@@ -103,8 +106,8 @@ unfolding step_from
 alone which small rest = go_on word_exact (λ w. behind_word_from w.0 w.1) which rest small
 
 -- made into a step
-as_step : {A : Type 0} (to : A → NodeStep) (x : A) (rest : List ℕ) (o : Reading A) → o ≡ Some (x, rest) → (o >>= λ read. Some (to read.0, read.1)) ≡ Some (to x, rest)
-as_step to x rest o is = ap (λ o. o >>= λ read. Some (to read.0, read.1)) is
+as_step : {A : Type 0} (to : A → NodeStep) (x : A) (rest : List ℕ) (o : Reading A) → o ≡ Some (x, rest) → as_from to (λ _. o) [] ≡ Some (to x, rest)
+as_step {A} to x rest o is = ap (λ (o : Reading A). as_from to (λ _. o) []) is
 
 step_again : IsRead step_text FitsStep step_from
 unfolding behind_word_from
@@ -130,7 +133,7 @@ step_again (Adopts certificate files table) rest fits = absurd fits
 has_bytes : (bytes : List ℕ) (read : NodeStep × List ℕ) → step_from bytes ≡ Some read → ltb 0 (length bytes) ≡ true
 unfolding step_from word_at
 has_bytes [] read is = absurd cc
-has_bytes (x ∷ xs) read is = refl
+has_bytes (x ∷ xs) read is = lt-ltb 0 (suc (length xs)) (omega arith)
 
 few : (steps : List NodeStep) → FitSteps steps → length steps ≤ length (body_text steps)
 few [] fits = omega arith
@@ -149,6 +152,9 @@ all_again (suc most) (step ∷ steps) le fits =
     ap (λ b. cond b (step_from (step_text step ++ body_text steps) >>= λ s. steps_within most s.1 >>= λ more. Some (s.0 ∷ more)) (Some [])) (has_bytes (step_text step ++ body_text steps) (step, body_text steps) read)
     ∙ ap (λ o. o >>= λ s. steps_within most s.1 >>= λ more. Some (s.0 ∷ more)) read
     ∙ ap (λ o. o >>= λ more. Some (step ∷ more)) (all_again most steps (omega (arith, le)) fits.1)
+
+pub of_one : (text : List ℕ) → text ++ [] ≡ text
+of_one text = append-nil text
 
 pub bodies_read : BodiesAreRead
 bodies_read steps fits = all_again (length (body_text steps)) steps (few steps fits) fits

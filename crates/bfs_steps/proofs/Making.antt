@@ -1,5 +1,6 @@
 -- What is made again goes the way of the steps that are read.
 use Rattle.std.proofs.Common.{◌≡◌, ◌≢◌, ⊤, ℕ, zero, suc, true, false, cond, ltb, List, [], ◌∷◌, length, Option, Some, None, Result, Ok, Err, refl, sym, ap, subst, ◌∙◌}
+use Rattle.std.specs.Prelude.{OnOk}
 use Rattle.std.specs.Option.{option_map}
 use Rattle.bfs_model.specs.Bytes.Call.{◌>>=◌}
 use Rattle.bfs_node.specs.Nodes.{Node}
@@ -24,7 +25,7 @@ did lacking node step (Err e) now is other =
     let same = is.1 (λ memory. other (ap Err memory)) in
     same.0 ∙ ap (λ out. out.now) (sym same.1)
 
-pub made : (node : Node) (call : NodeCall) (r : Result Sent NodeError) (now : Node) → Performs node call r now → r ≢ Err Memory → steps_of call ≢ [] → now ≡ after_steps node (steps_of call)
+made : (node : Node) (call : NodeCall) (r : Result Sent NodeError) (now : Node) → Performs node call r now → r ≢ Err Memory → steps_of call ≢ [] → now ≡ after_steps node (steps_of call)
 made node (code.Deliver bytes) r now is other some = did (λ left. left ≡ node) node (Delivers bytes.now) r now is other
 made node (code.Take signed) r now is other some = did (λ left. left ≡ node) node (Takes signed) r now is other
 made node (code.TakeRequests messages) r now is other some = did (SomeCame node messages.now) node (TakesRequests messages.now) r now is other
@@ -40,6 +41,13 @@ made node code.ForgetProposed r now is other some = did (λ left. left ≡ node)
 made node (code.Adopt text certificate) r now is other some = absurd (some refl)
 made node (code.Settle certificate) r now is other some = did (λ left. left ≡ node) node (Settles certificate.now) r now is other
 
+pub taken : (node : Node) (call : NodeCall) (sent : Sent) (now : Node) → Performs node call (Ok sent) now → steps_of call ≢ [] → now ≡ after_steps node (steps_of call)
+taken node call sent now is some = made node call (Ok sent) now is (λ e. absurd cc) some
+
+pub refused : {E : Type 0} (node : Node) (call : NodeCall) (e : NodeError) (now : Node) (r : Result ⊤ E) → Performs node call (Err e) now → OnOk r (e ≢ Memory) → OnOk r (steps_of call ≢ [] → now ≡ after_steps node (steps_of call))
+refused node call e now (Ok done) is other = λ some. made node call (Err e) now is (λ same. other cc) some
+refused node call e now (Err x) is other = tt
+
 -- A body -------------------------------------------------------------------------------------------------------------
 
 -- what the steps that are left make of a node
@@ -53,7 +61,6 @@ unfolding steps_within
 one_more node now most bytes rest step last more read is so_far = by (steps_within most rest) refl
   where
     whole : steps_within (suc most) bytes ≡ (steps_within most rest >>= λ steps. Some (step ∷ steps))
-    unfolding steps_within
     whole =
         ap (λ b. cond b (step_from bytes >>= λ s. steps_within most s.1 >>= λ steps. Some (s.0 ∷ steps)) (Some [])) more
         ∙ ap (λ o. o >>= λ s. steps_within most s.1 >>= λ steps. Some (s.0 ∷ steps)) read

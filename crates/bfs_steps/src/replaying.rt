@@ -1,5 +1,6 @@
 // The steps of a body, made again.
 ghost use Rattle.std.specs.Prelude.{◌≡◌, ◌≢◌, [], OnOk};
+ghost use Rattle.bfs_node.specs.declared.error.NodeError.TheVariants as errors;
 ghost use Rattle.bfs_steps.specs.Replaying.{Replays, after_step, after_steps, node_step};
 ghost use Rattle.bfs_steps.specs.Steps.{steps_of};
 
@@ -45,7 +46,7 @@ fn make_again<R: Threads + Wait + Sync>(
     executor: Executor,
     step: Step<'_>,
 ) -> Result<(), Memory>
-    ensures { OnOk result (node.new ≡ after_step node.old (node_step step)) }
+    ensures { OnOk result (node.new ≡ after_step node.old (node_step step.entry)) }
 {
     match step {
         Step::Deliver(bytes) => make_call(node, rt, executor, NodeCall::Deliver(bytes)),
@@ -69,6 +70,7 @@ fn make_again<R: Threads + Wait + Sync>(
 }
 
 // Makes a call whose answer nobody waits for. A refusal changes nothing, now as it did then.
+#[tactic(auto, using(crate::proofs::Making::taken, crate::proofs::Making::refused))]
 fn make_call<R: Threads + Wait + Sync>(
     node: &mut Node,
     rt: &R,
@@ -78,7 +80,16 @@ fn make_call<R: Threads + Wait + Sync>(
     ensures { OnOk result (steps_of call.entry ≢ [] → node.new ≡ after_steps node.old (steps_of call.entry)) }
 {
     match perform(node, rt, executor, &NoGate, call) {
-        Err(NodeError::Memory) => Err(Memory),
+        Ok(_) => Ok(()),
+        Err(error) => unless_memory(error),
+    }
+}
+
+fn unless_memory(error: NodeError) -> Result<(), Memory>
+    ensures { OnOk result (error ≢ errors.Memory) }
+{
+    match error {
+        NodeError::Memory => Err(Memory),
         _ => Ok(()),
     }
 }

@@ -17,7 +17,7 @@ use std::alloc::Global;
 
 /// Appends the text of the step that a call is, whatever comes of it. An adoption has none: nothing is appended. `Memory` if memory runs out: what stands behind
 /// the bytes that were there is to be cut off then.
-#[tactic(auto, using(std::proofs::lemmas::List::append_assoc, std::proofs::lemmas::List::append_nil))]
+#[tactic(auto, using(std::proofs::lemmas::List::append_assoc, crate::proofs::Bodies::of_one))]
 pub fn put_step(call: &NodeCall<'_>, alloc: Global, out: &mut Vec<u8>) -> Result<(), Memory>
     ensures text { OnOk result (out.new.items ≡ out.old.items ++ body_text (steps_of call.now)) }
     ensures fits { OnOk result (FitSteps (steps_of call.now)) }

@@ -1,7 +1,7 @@
 //! Replicas at random: those that are saved and restored between their steps go the way of those that never stop.
 use crate::replica::{MEMBERS, are_alike, restored};
 use bfs_codec::encode;
-use bfs_messages::{Message, Signed};
+use bfs_messages::{Message, Request, Signed};
 use bfs_node::{Executor, NoGate, Node, NodeError};
 use bfs_nodes_agree::node_calls::performing::{NodeCall, Sent, perform};
 use bfs_steps::put_step;
@@ -9,7 +9,7 @@ use bfs_testing::generated::Generator;
 use bfs_testing::numbers::{CREATE, MKDIR, NULL, REMOVE, WRITE};
 use bfs_testing::{holds, same};
 use bfs_testing_nodes::members::{request, request_message};
-use bfs_types::{Memory, Time};
+use bfs_types::{Memory, Time, TryClone};
 use std::alloc::Global;
 use std::sync::Wait;
 use std::test::Fail;
@@ -101,11 +101,15 @@ impl Lives {
         self.send(who, sent)
     }
 
-    fn ask(&mut self) -> Result<(), Memory> {
+    fn request(&mut self) -> Result<Signed<Request>, Memory> {
         self.timestamp = self.timestamp.saturating_add(1);
         let call = self.draws.request(self.alloc)?;
         let asked = request(self.alloc, 1, self.timestamp as u64, &call)?;
-        let signed = request_message(MEMBERS.request(self.alloc, 1, asked)?);
+        MEMBERS.request(self.alloc, 1, asked)
+    }
+
+    fn ask(&mut self) -> Result<(), Memory> {
+        let signed = request_message(self.request()?);
         let bytes = spelled(self.alloc, &signed)?;
         self.on_their_way.push((CLIENT, bytes))?;
         Ok(())
@@ -153,6 +157,48 @@ impl Lives {
             6..=12 => self.advance(rt, who),
             13 if self.draws.next() % 16 == 0 => self.act(rt, who, NodeCall::TimeOut),
             _ => self.deliver(rt),
+        }
+    }
+
+    // a request comes, and then another one
+    fn take_requests<R: Threads + Wait + Sync>(
+        &mut self,
+        rt: &R,
+        who: usize,
+    ) -> Result<(), Memory> {
+        let mut requests = Vec::new(self.alloc);
+        for _ in 0..2 {
+            requests.push(request_message(self.request()?))?;
+        }
+        self.act(rt, who, NodeCall::TakeRequests(&requests))
+    }
+
+    fn settle<R: Threads + Wait + Sync>(&mut self, rt: &R, who: usize) -> Result<(), Memory> {
+        let other = self.draw(4);
+        let Some(Some(stable)) = self.nodes.get(other).map(|node| node.stable()) else {
+            return Ok(());
+        };
+        let certificate = stable.checkpoint.try_clone(self.alloc)?;
+        self.act(rt, who, NodeCall::Settle(&certificate))
+    }
+
+    /// One step of another kind, which is drawn.
+    pub fn other_step<R: Threads + Wait + Sync>(&mut self, rt: &R) -> Result<(), Memory> {
+        let (what, who) = (self.draw(6), self.draw(4));
+        match what {
+            0 => {
+                let signed = request_message(self.request()?);
+                self.act(rt, who, NodeCall::Take(signed))
+            }
+            1 => self.take_requests(rt, who),
+            2 => {
+                let signed = self.request()?;
+                self.act(rt, who, NodeCall::Offer(signed))
+            }
+            3 => self.act(rt, who, NodeCall::ForgetAnswered),
+            4 => self.act(rt, who, NodeCall::ForgetProposed),
+            _ if self.draw(16) == 0 => self.act(rt, who, NodeCall::LeaveFor(2)),
+            _ => self.settle(rt, who),
         }
     }
 

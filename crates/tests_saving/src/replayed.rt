@@ -1,6 +1,6 @@
 //! Replicas of which it is put down what they do: those that do it again are as they are.
 use crate::lives::Lives;
-use crate::replica::{MEMBERS, are_alike};
+use crate::replica::MEMBERS;
 use bfs_node::{Executor, Node};
 use bfs_steps::{ReplayError, replay};
 use bfs_testing::changes::Changes;
@@ -11,7 +11,7 @@ use std::sync::Wait;
 use std::test::Fail;
 use std::thread::Threads;
 
-// Whether the bytes spell steps, which it does.
+// Whether the bytes spell steps, which it does then.
 fn does<R: Threads + Wait + Sync>(
     rt: &R,
     alloc: Global,
@@ -25,32 +25,58 @@ fn does<R: Threads + Wait + Sync>(
     }
 }
 
-// Whether a replica is as it was, once it has done again what one of the lives has.
-fn is_again<R: Threads + Wait + Sync>(
+// Whether both have one text.
+fn are_same(one: &Node, other: &Node) -> Result<bool, Memory> {
+    Ok(one.save()?.as_slice() == other.save()?.as_slice())
+}
+
+// What replica 1 does in steps of all kinds, and whether another one that does it again, behind each step, is as it is.
+fn done<R: Threads + Wait + Sync>(
     rt: &R,
     alloc: Global,
-    lives: &mut Lives,
-    number: usize,
-    again: &mut Node,
-) -> Result<bool, Memory> {
-    let body = lives.take_done(number);
-    if !does(rt, alloc, again, &body)? {
-        return Ok(false);
+    steps: u32,
+) -> Result<(Vec<u8>, bool), Memory> {
+    let mut lives = Lives::new(alloc, 7)?;
+    let mut again = MEMBERS.replica(alloc, 1)?;
+    let (mut all, mut is_same) = (Vec::new(alloc), true);
+    for step in 0..steps {
+        if step % 4 == 0 {
+            lives.other_step(rt)?;
+        } else {
+            lives.step(rt)?;
+        }
+        let body = lives.take_done(1);
+        all.extend_from_slice(&body)?;
+        is_same &= does(rt, alloc, &mut again, &body)?;
+        if let Some(node) = lives.node(1) {
+            is_same &= body.is_empty() || are_same(node, &again)?;
+        }
     }
-    match lives.node(number) {
-        Some(node) => are_alike(rt, alloc, node, again),
-        None => Ok(false),
-    }
+    Ok((all, is_same))
 }
 
 #[test]
 fn what_was_done_is_done_again(rt: HostRuntime) -> Result<(), Fail> {
     let alloc = rt.alloc();
-    let mut lives = Lives::new(alloc, 7)?;
-    let mut again = MEMBERS.replica(alloc, 1)?;
-    for _ in 0..1_000 {
-        lives.step(&rt)?;
-        holds!(rt; is_again(&rt, alloc, &mut lives, 1, &mut again)?);
+    let (_, is_same) = done(&rt, alloc, 1_000)?;
+    holds!(rt; is_same);
+    Ok(())
+}
+
+#[test]
+fn changed_steps_are_refused_or_are_others(rt: HostRuntime) -> Result<(), Fail> {
+    let alloc = rt.alloc();
+    let (all, _) = done(&rt, alloc, 80)?;
+    let (other, _) = done(&rt, alloc, 60)?;
+    let mut changes = Changes { state: 3 };
+    let mut refused = 0;
+    for _ in 0..100 {
+        let (_, changed) = changes.changed(alloc, &all, &other)?;
+        let mut node = MEMBERS.replica(alloc, 1)?;
+        if !does(&rt, alloc, &mut node, &changed)? {
+            refused += 1;
+        }
     }
+    holds!(rt; refused > 0 && refused < 100);
     Ok(())
 }
