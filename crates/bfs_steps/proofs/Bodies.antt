@@ -74,11 +74,18 @@ many_again text Fits from again xs rest fits =
     ∙ go_on hyper_exact (λ n. items_from from n.0 n.1) (length xs) (flat_map text xs ++ rest) fits.0
     ∙ items_again text Fits from again xs rest fits.1
 
+-- made into something else
+as_made : {A B : Type 0} (to : A → B) (x : A) (rest : List ℕ) (o : Reading A) → o ≡ Some (x, rest) → as_from to (λ _. o) [] ≡ Some (to x, rest)
+as_made {A} to x rest o is = ap (λ (o : Reading A). as_from to (λ _. o) []) is
+
+abbrev time_with : ℕ × ℕ → Time
+time_with p = record { seconds = p.0; useconds = p.1 }
+
 time_again : IsRead time_text IsTime time_from
 unfolding time_from
 time_again t rest fits =
-    go_on (then_exact word_exact (where_exact (λ u. ltb u 1000000) word_exact)) (λ p. Some (record { seconds = p.0.0; useconds = p.0.1 }, p.1)) (t.seconds, t.useconds) rest
-    (fits.seconds, (omega (arith, fits.useconds), lt-ltb t.useconds 1000000 fits.useconds))
+    as_made time_with (t.seconds, t.useconds) rest _
+    ((then_exact word_exact (where_exact (λ u. ltb u 1000000) word_exact)).again (t.seconds, t.useconds) rest (fits.seconds, (omega (arith, fits.useconds), lt-ltb t.useconds 1000000 fits.useconds)))
 
 then_again : {A B : Type 0} (ta : A → List ℕ) (Fa : A → Type 0) (first : List ℕ → Reading A) (tb : B → List ℕ) (Fb : B → Type 0) (second : List ℕ → Reading B) → IsRead ta Fa first → IsRead tb Fb second
     → IsRead (λ (p : A × B). ta p.0 ++ tb p.1) (λ (p : A × B). Fa p.0 × Fb p.1) (then_from first second)
@@ -87,10 +94,13 @@ then_again ta Fa first tb Fb second one two p rest fits =
     ∙ ap (λ o. o >>= λ x. second x.1 >>= λ y. Some ((x.0, y.0), y.1)) (one p.0 (tb p.1 ++ rest) fits.0)
     ∙ ap (λ o. o >>= λ y. Some ((p.0, y.0), y.1)) (two p.1 rest fits.1)
 
+abbrev certificate_with : (ℕ × List ℕ) × List (Signed model.Checkpoint) → StableCheckpoint
+certificate_with p = record { number = p.0.0; digest = p.0.1; checkpoints = p.1 }
+
 certificate_again : IsRead certificate_text FitsCertificate certificate_from
 unfolding certificate_from
 certificate_again c rest fits =
-    ap (λ o. o >>= λ p. Some (record { number = p.0.0.0; digest = p.0.0.1; checkpoints = p.0.1 }, p.1))
+    as_made certificate_with ((c.number, c.digest), c.checkpoints) rest _
     (then_again (λ (p : ℕ × List ℕ). hyper p.0 ++ fixed p.1) (λ (p : ℕ × List ℕ). IsNumber p.0 × IsDigest p.1) (then_from number_from digest_from)
     (many_text checkpoint_text) (FitMany FitsCheckpoint) (many_from (kind_from checkpoint_of))
     (then_exact number_exact digest_exact).again (many_again checkpoint_text FitsCheckpoint (kind_from checkpoint_of) checkpoint_again) ((c.number, c.digest), c.checkpoints) rest fits)
@@ -105,25 +115,21 @@ alone : (which : ℕ) → IsWord which → (rest : List ℕ) → step_from (word
 unfolding step_from
 alone which small rest = go_on word_exact (λ w. behind_word_from w.0 w.1) which rest small
 
--- made into a step
-as_step : {A : Type 0} (to : A → NodeStep) (x : A) (rest : List ℕ) (o : Reading A) → o ≡ Some (x, rest) → as_from to (λ _. o) [] ≡ Some (to x, rest)
-as_step {A} to x rest o is = ap (λ (o : Reading A). as_from to (λ _. o) []) is
-
 step_again : IsRead step_text FitsStep step_from
 unfolding behind_word_from
-step_again (Delivers bytes) rest fits = behind 1 (omega arith) (long_text bytes) rest ∙ as_step Delivers bytes rest _ (long_again bytes rest fits.0)
-step_again (Takes signed) rest fits = behind 2 (omega arith) (message_text signed) rest ∙ as_step Takes signed rest _ (message_again signed rest fits)
+step_again (Delivers bytes) rest fits = behind 1 (omega arith) (long_text bytes) rest ∙ as_made Delivers bytes rest _ (long_again bytes rest fits.0)
+step_again (Takes signed) rest fits = behind 2 (omega arith) (message_text signed) rest ∙ as_made Takes signed rest _ (message_again signed rest fits)
 step_again (TakesRequests messages) rest fits =
-    behind 3 (omega arith) (many_text message_text messages) rest ∙ as_step TakesRequests messages rest _ (many_again message_text FitsText message_from message_again messages rest fits)
-step_again (TakesOffered request) rest fits = behind 4 (omega arith) (message_text (as_message Request request)) rest ∙ as_step TakesOffered request rest _ (request_again request rest fits)
-step_again (Proposes time) rest fits = behind 5 (omega arith) (time_text time) rest ∙ as_step Proposes time rest _ (time_again time rest fits)
+    behind 3 (omega arith) (many_text message_text messages) rest ∙ as_made TakesRequests messages rest _ (many_again message_text FitsText message_from message_again messages rest fits)
+step_again (TakesOffered request) rest fits = behind 4 (omega arith) (message_text (as_message Request request)) rest ∙ as_made TakesOffered request rest _ (request_again request rest fits)
+step_again (Proposes time) rest fits = behind 5 (omega arith) (time_text time) rest ∙ as_made Proposes time rest _ (time_again time rest fits)
 step_again Executes rest fits = alone 6 (omega arith) rest
 step_again Checkpoints rest fits = alone 7 (omega arith) rest
 step_again TimesOut rest fits = alone 8 (omega arith) rest
-step_again (LeavesFor view) rest fits = behind 9 (omega arith) (hyper view) rest ∙ as_step LeavesFor view rest _ (hyper_exact.again view rest fits)
+step_again (LeavesFor view) rest fits = behind 9 (omega arith) (hyper view) rest ∙ as_made LeavesFor view rest _ (hyper_exact.again view rest fits)
 step_again ForgetsAnswered rest fits = alone 10 (omega arith) rest
 step_again ForgetsProposed rest fits = alone 11 (omega arith) rest
-step_again (Settles certificate) rest fits = behind 12 (omega arith) (certificate_text certificate) rest ∙ as_step Settles certificate rest _ (certificate_again certificate rest fits)
+step_again (Settles certificate) rest fits = behind 12 (omega arith) (certificate_text certificate) rest ∙ as_made Settles certificate rest _ (certificate_again certificate rest fits)
 step_again Fails rest fits = absurd fits
 step_again (Adopts certificate files table) rest fits = absurd fits
 
