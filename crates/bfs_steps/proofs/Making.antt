@@ -58,12 +58,12 @@ abbrev pub left_by : Node → (most : ℕ) → List ℕ → Option Node
 left_by node most bytes = option_map (after_steps node) (steps_within most bytes)
 
 pub nothing_left : (ends more : Bool) → ends ≡ not more → ends ≡ true → more ≡ false
-nothing_left ends true is yes = absurd cc
-nothing_left ends false is yes = refl
+nothing_left ends true is e = absurd cc
+nothing_left ends false is e = refl
 
 pub some_left : (ends more : Bool) → ends ≡ not more → ends ≡ false → more ≡ true
-some_left ends true is none = refl
-some_left ends false is none = absurd cc
+some_left ends true is e = refl
+some_left ends false is e = absurd cc
 
 -- the steps that are left, behind the first one
 behind_one : (most : ℕ) (bytes rest : List ℕ) (step : NodeStep) → ltb 0 (length bytes) ≡ true → step_from bytes ≡ Some (step, rest) → steps_within (suc most) bytes ≡ (steps_within most rest >>= λ steps. Some (step ∷ steps))
