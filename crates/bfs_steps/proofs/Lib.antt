@@ -1,4 +1,3 @@
-pub mod Loops
 pub mod Bodies
 pub mod Making
 pub mod Public

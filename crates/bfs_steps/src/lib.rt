@@ -2,11 +2,8 @@
 //! 4506), which stand one behind another.
 #![tactic(auto)]
 
-mod carried;
-mod certificates;
 mod error;
 mod laws;
-mod reader;
 mod reading;
 mod replaying;
 mod words;

@@ -3,9 +3,6 @@ ghost use Rattle.bfs_codec.specs.Codes.{Reads};
 ghost use Rattle.bfs_steps.specs.Reading.{behind_word_from, step_from};
 ghost use Rattle.bfs_steps.specs.Replaying.{node_step};
 
-use crate::carried::Carried;
-use crate::certificates::read_certificate;
-use crate::reader::StepReader;
 use crate::words::{
     CHECKPOINTS, DELIVERS, EXECUTES, FORGETS_ANSWERED, FORGETS_PROPOSED, LEAVES_FOR, PROPOSES,
     SETTLES, TAKES, TAKES_OFFERED, TAKES_REQUESTS, TIMES_OUT,
@@ -13,6 +10,7 @@ use crate::words::{
 use bfs_codec::DecodeError;
 use bfs_log::StableCheckpoint;
 use bfs_messages::{Message, Request, Signed};
+use bfs_saving::{Saved, SavedReader};
 use bfs_types::Time;
 
 /// A call that is to be made again, with what it carries.
@@ -34,7 +32,7 @@ pub(crate) enum Step<'a> {
 
 /// Reads one step.
 #[tactic(auto, unfolding(crate::specs::Reading::step_from))]
-pub(crate) fn read_step<'a>(reader: &mut StepReader<'a>) -> Result<Step<'a>, DecodeError>
+pub(crate) fn read_step<'a>(reader: &mut SavedReader<'a>) -> Result<Step<'a>, DecodeError>
     ensures { Reads node_step result (step_from reader.old) reader.new }
 {
     let word = reader.u32()?;
@@ -42,7 +40,7 @@ pub(crate) fn read_step<'a>(reader: &mut StepReader<'a>) -> Result<Step<'a>, Dec
 }
 
 #[tactic(auto, unfolding(crate::specs::Reading::behind_word_from))]
-fn read_behind_word<'a>(word: u32, reader: &mut StepReader<'a>) -> Result<Step<'a>, DecodeError>
+fn read_behind_word<'a>(word: u32, reader: &mut SavedReader<'a>) -> Result<Step<'a>, DecodeError>
     ensures { Reads node_step result (behind_word_from word reader.old) reader.new }
 {
     match word {
@@ -57,7 +55,7 @@ fn read_behind_word<'a>(word: u32, reader: &mut StepReader<'a>) -> Result<Step<'
         LEAVES_FOR => Ok(Step::LeaveFor(reader.u64()?)),
         FORGETS_ANSWERED => Ok(Step::ForgetAnswered),
         FORGETS_PROPOSED => Ok(Step::ForgetProposed),
-        SETTLES => Ok(Step::Settle(read_certificate(reader)?)),
+        SETTLES => Ok(Step::Settle(StableCheckpoint::read(reader)?)),
         _ => Err(DecodeError::Malformed),
     }
 }

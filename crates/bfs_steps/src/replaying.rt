@@ -5,10 +5,10 @@ ghost use Rattle.bfs_steps.specs.Replaying.{Replays, after_step, after_steps, no
 ghost use Rattle.bfs_steps.specs.Steps.{steps_of};
 
 use crate::error::ReplayError;
-use crate::reader::StepReader;
 use crate::reading::{Step, read_step};
 use bfs_node::{Executor, NoGate, Node, NodeError};
 use bfs_nodes_agree::node_calls::performing::{NodeCall, perform};
+use bfs_saving::SavedReader;
 use bfs_types::Memory;
 use std::alloc::Global;
 use std::sync::Wait;
@@ -25,7 +25,7 @@ pub fn replay<R: Threads + Wait + Sync>(
 ) -> Result<(), ReplayError>
     ensures { Replays node.old body.now result node.new }
 {
-    let mut reader = StepReader::new(alloc, body);
+    let mut reader = SavedReader::new(alloc, body);
     // Each step has bytes.
     for _step in 0..body.len() {
         if reader.is_at_end() {

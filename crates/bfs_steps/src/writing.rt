@@ -4,13 +4,12 @@ ghost use Rattle.bfs_model.specs.Server.Stored.{IsTime};
 ghost use Rattle.bfs_messages.specs.Batches.{time_text};
 ghost use Rattle.bfs_steps.specs.Steps.{FitSteps, body_text, steps_of};
 
-use crate::carried::{Carried, put_long, put_many};
-use crate::certificates::put_certificate;
 use crate::words::{
     CHECKPOINTS, DELIVERS, EXECUTES, FORGETS_ANSWERED, FORGETS_PROPOSED, LEAVES_FOR, PROPOSES,
     SETTLES, TAKES, TAKES_OFFERED, TAKES_REQUESTS, TIMES_OUT,
 };
 use bfs_nodes_agree::node_calls::performing::NodeCall;
+use bfs_saving::{Saved, put_long, put_many};
 use bfs_types::{Memory, Time};
 use bfs_xdr::{put_u32, put_u64};
 use std::alloc::Global;
@@ -25,7 +24,7 @@ pub fn put_step(call: &NodeCall<'_>, alloc: Global, out: &mut Vec<u8>) -> Result
     match call {
         NodeCall::Deliver(bytes) => {
             put_u32(out, DELIVERS)?;
-            put_long(bytes, out)
+            put_long(out, bytes)
         }
         NodeCall::Take(signed) => {
             put_u32(out, TAKES)?;
@@ -55,7 +54,7 @@ pub fn put_step(call: &NodeCall<'_>, alloc: Global, out: &mut Vec<u8>) -> Result
         NodeCall::Adopt { .. } => Ok(()),
         NodeCall::Settle(certificate) => {
             put_u32(out, SETTLES)?;
-            put_certificate(certificate, alloc, out)
+            certificate.put(alloc, out)
         }
     }
 }
