@@ -1,10 +1,10 @@
 -- The steps of a body are read again.
-use Rattle.std.proofs.Common.{◌≡◌, ℕ, zero, suc, ◌+◌, ◌<◌, ◌≤◌, ◌^◌, true, false, cond, ltb, List, [], ◌∷◌, ◌++◌, length, take, drop, Some, None, refl, sym, ap, ◌∙◌, append_assoc, append-nil, length-append, arith}
+use Rattle.std.proofs.Common.{◌≡◌, ℕ, zero, suc, ◌<◌, ◌≤◌, true, cond, ltb, List, [], ◌∷◌, ◌++◌, length, take, drop, Some, None, refl, ap, ◌∙◌, append_assoc, append-nil, length-append, arith}
 use Rattle.std.specs.List.{flat_map, AllByRecursion}
 use Rattle.std.proofs.lemmas.Bool.{le-ltb, lt-ltb, ltb-true}
 use Rattle.std.proofs.lemmas.List.{drop_at, take_at}
 use Rattle.bfs_model.specs.Bytes.Call.{◌>>=◌}
-use Rattle.bfs_model.specs.Bytes.Formats.{Reading, as_from, items_from, then_from, where_from, word_from}
+use Rattle.bfs_model.specs.Bytes.Formats.{Reading, as_from, items_from, then_from}
 use Rattle.bfs_model.specs.Bytes.Items.{fixed, hyper, word, word_at}
 use Rattle.bfs_model.specs.Server.Stored.{IsDouble, IsTime, IsWord}
 use Rattle.bfs_model.specs.Server.Tree.{Time}
@@ -15,7 +15,6 @@ use Rattle.bfs_messages.specs.Messages as model
 use Rattle.bfs_messages.specs.Signing.{as_message}
 use Rattle.bfs_messages.specs.Spelling.{signed_text}
 use Rattle.bfs_messages.specs.declared.signed.Signed.{Signed}
-use Rattle.bfs_messages.specs.declared.message.Message.{Message}
 use Rattle.bfs_messages.specs.declared.message.Message.TheVariants.{Order, Request}
 use Rattle.bfs_messages.specs.declared.order_messages.OrderMessage.TheVariants.{Checkpoint}
 use Rattle.bfs_codec.specs.Parts.{digest_from, number_from, time_from}
@@ -23,11 +22,11 @@ use Rattle.bfs_codec.specs.Reading.{message_of}
 use Rattle.bfs_codec.proofs.Public.{digest_exact, number_exact, text_spells}
 use Rattle.bfs_log.specs.Certificates.{StableCheckpoint}
 use Rattle.bfs_saving.specs.Certificates.{FitsCertificate, FitsCheckpoint, certificate_from, certificate_text, checkpoint_text}
-use Rattle.bfs_saving.specs.Items.{FitMany, long_from, long_text, made_from, many_from, many_text}
+use Rattle.bfs_saving.specs.Items.{FitMany, long_from, long_text, many_from, many_text}
 use Rattle.bfs_saving.specs.Messages.{FitsText, checkpoint_of, kind_from, message_from, message_text, request_of, signed_of}
 use Rattle.bfs_nodes_agree.specs.Nodes.Steps.{NodeStep, Delivers, Takes, TakesRequests, TakesOffered, Proposes, Executes, Fails, Checkpoints, TimesOut, LeavesFor, ForgetsAnswered, ForgetsProposed, Adopts, Settles}
 use Rattle.bfs_steps.specs.Laws.{BodiesAreRead}
-use Rattle.bfs_steps.specs.Reading.{behind_word_from, step_from, steps_from, steps_within}
+use Rattle.bfs_steps.specs.Reading.{behind_word_from, step_from, steps_within}
 use Rattle.bfs_steps.specs.Steps.{FitSteps, FitsStep, body_text, step_text}
 
 -- What steps carry ---------------------------------------------------------------------------------------------------

@@ -1,5 +1,5 @@
 -- What a node is once the steps of a body were made again.
-use Rattle.std.specs.Prelude.{◌≡◌, ⊤, ℕ, List, fold, Option, Some, None, Result, Ok, Err}
+use Rattle.std.specs.Prelude.{◌≡◌, ⊤, ℕ, List, fold, Some, None, Result, Ok, Err}
 use Rattle.std.specs.Option.{option_map}
 use Rattle.bfs_node.specs.Nodes.{Node}
 use Rattle.bfs_codec.specs.declared.error.DecodeError.{DecodeError}

@@ -1,10 +1,9 @@
 use Rattle.std.proofs.Common.{◌+◌, ◌-◌, length, arith}
 use Rattle.std.specs.Prelude.{nat_lt}
-use Rattle.std.specs.Option.{option_map}
 use Rattle.std.proofs.lemmas.Result.{err_from_is_err_and}
 use Rattle.bfs_steps.proofs.Making.{at_end, nothing_left, one_more, some_left, too_many, unread}
 use Rattle.bfs_steps.specs.Reading.{steps_from}
-use Rattle.bfs_steps.specs.Replaying.{after_steps, node_step}
+use Rattle.bfs_steps.specs.Replaying.{node_step}
 use Rattle.bfs_steps.proofs.replaying.replay.Goals as goal
 
 pub returns-then-is_at_end : goal.returns-then-is_at_end
