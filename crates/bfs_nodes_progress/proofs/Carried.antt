@@ -1,5 +1,5 @@
 -- Where what comes to a node is of words and bytes, so is what it holds: its log, the requests that wait, and the VIEW-CHANGEs that it keeps.
-use Rattle.std.proofs.Common.{◌≡◌, ℕ, true, false, cond, ◌&&◌, not, List, [], ◌∷◌, ◌++◌, Option, Some, None, option_map, inl, inr, refl, sym, ap, subst}
+use Rattle.std.proofs.Common.{◌≡◌, ℕ, true, false, cond, ◌&&◌, not, List, [], ◌∷◌, ◌++◌, Option, Some, None, option_map, inl, inr, refl, sym, ap, subst, ◌∙◌}
 use Rattle.std.specs.Prelude.{bytes_eq, ◌==◌}
 use Rattle.std.specs.List.{list_any}
 use Rattle.std.proofs.lemmas.Bool.{cond_both}
@@ -50,7 +50,7 @@ use Rattle.bfs_node.specs.Forgetting.{is_new, open_requests}
 use Rattle.bfs_node.specs.Nodes.{Messages, Node, Outcome, node_with}
 use Rattle.bfs_node.specs.Offering.{after_offered, offer_refusal, offered, with_offered}
 use Rattle.bfs_node.specs.declared.offering.Offered.{Offered}
-use Rattle.bfs_node.specs.declared.offering.Offered.TheVariants.{Waits, WaitsAlready, Answered, PassedOver}
+use Rattle.bfs_node.specs.declared.offering.Offered.TheVariants.{Waits}
 use Rattle.bfs_node.specs.Proposing.{proposed}
 use Rattle.bfs_node.specs.Settling.{settling, settling_refusal}
 use Rattle.bfs_node.specs.declared.error.NodeError.{NodeError}
@@ -59,7 +59,6 @@ use Rattle.bfs_nodes_agree.specs.Views.Replicas as turns
 use Rattle.bfs_nodes_agree.specs.Views.Replicas.{ViewDeed, ordered_deed}
 use Rattle.bfs_nodes_agree.specs.Nodes.Steps.{NodeStep, Delivers, Takes, TakesRequests, TakesOffered, Proposes, Executes, Fails, Checkpoints, TimesOut, LeavesFor, ForgetsAnswered, ForgetsProposed, Adopts, Settles, after_execution, begun_deeds, bytes_deeds, change_deeds, checkpoint_deeds, deeds_of, leaving_deeds, message_deeds, or_still, outcome, still, unless, where_taken}
 use Rattle.bfs_nodes_agree.proofs.Public.{AllIn, AreKept, AreSo, BringAll, IsBounded, OfferAll, Offers, Shows, after_deeds, both_in, called, chosen_so, deeds_keep, either_way, filter_in, good_for, kept, kept_above, kept_with, left_bounded, made_holds, map_in, more_in, none_in, none_kept, not_refused, one_in, stays_kept, step_leads}
-use Rattle.bfs_nodes_agree.proofs.Nodes.Steps.{offer_waits, waits}
 use Rattle.bfs_nodes_progress.specs.Living.{Asks, BatchIsOfBytes, MessageIsOfBytes, OrderIsOfBytes, StepIsOfBytes}
 
 abbrev pub Known : Signed OrderMessage → Type 0
@@ -214,30 +213,39 @@ module _ (f : ℕ) where
       go None e = nothing node holds
       go (Some m) e = message_does node holds m.message m.auth (is m e)
 
-  request_waits : (node : Node) (signed : Signed Message) (m : Message) → MessageIsOfBytes m → AllIn Asks node.pending → AllIn Asks (after_request node signed m).pending
+  -- but for requests that wait it is the node
+  abbrev WaitsOn : (node now : Node) → Type 0
+  WaitsOn node now = (pending : List (Signed model.Request)) × (now ≡ record node { pending = pending }) × AllIn Asks pending
+
+  request_waits : (node : Node) (signed : Signed Message) (m : Message) → MessageIsOfBytes m → AllIn Asks node.pending → WaitsOn node (after_request node signed m)
   request_waits node signed (Request request) is all =
       let s = request_in signed request in
-      elim (request_refusal node s) as (λ r. AllIn Asks (if_taken r (with_request node s).now node).pending) [
-        | None ↦ both_in Asks node.pending (s ∷ []) all (one_in Asks s is)
-        | Some refused ↦ all
+      elim (request_refusal node s) as (λ r. WaitsOn node (if_taken r (with_request node s).now node)) [
+        | None ↦ ((with_request node s).now.pending, refl, both_in Asks node.pending (s ∷ []) all (one_in Asks s is))
+        | Some refused ↦ (node.pending, refl, all)
       ]
-  request_waits node signed other is all = all
+  request_waits node signed other is all = (node.pending, refl, all)
 
-  requests_wait : (messages : Messages) (node : Node) → ((s : Signed Message) → IsIn s messages → MessageIsOfBytes s.message) → AllIn Asks node.pending → AllIn Asks (after_requests node messages).pending
-  requests_wait [] node is all = all
-  requests_wait (s ∷ rest) node is all = requests_wait rest (after_request node s s.message) (λ x i. is x (inr i)) (request_waits node s s.message (is s (inl refl)) all)
+  requests_wait : (messages : Messages) (node : Node) → StepIsOfBytes (TakesRequests messages) → AllIn Asks node.pending → WaitsOn node (after_requests node messages)
+  requests_wait [] node is all = (node.pending, refl, all)
+  requests_wait (s ∷ rest) node is all =
+      let first = request_waits node s s.message (is s (inl refl)) all in
+      let more = requests_wait rest (record node { pending = first.0 }) (λ x i. is x (inr i)) first.2 in
+      (more.0, ap (λ (n : Node). after_requests n rest) first.1 ∙ more.1, more.2)
 
-  offered_waits : (node : Node) (request : Signed model.Request) → Asks request → AllIn Asks node.pending → AllIn Asks (outcome node (TakesOffered request)).now.pending
-  offered_waits node request is all = elim (offer_refusal node request) as (λ r. AllIn Asks (unless r node (with_offered node request)).now.pending) [
+  offered_waits : (node : Node) (request : Signed model.Request) → Asks request → AllIn Asks node.pending → WaitsOn node (outcome node (TakesOffered request)).now
+  offered_waits node request is all = elim (offer_refusal node request) as (λ r. WaitsOn node (unless r node (with_offered node request)).now) [
     | None ↦ waits (offered node request)
-    | Some refused ↦ all
+    | Some refused ↦ (node.pending, refl, all)
   ]
     where
-      waits : (o : Offered) → AllIn Asks (after_offered node request o).pending
-      waits Waits = both_in Asks node.pending (request ∷ []) all (one_in Asks request is)
-      waits WaitsAlready = all
-      waits (Answered reply) = all
-      waits PassedOver = all
+      waits : (o : Offered) → WaitsOn node (after_offered node request o)
+      waits Waits = ((with_request node request).now.pending, refl, both_in Asks node.pending (request ∷ []) all (one_in Asks request is))
+      waits other = (node.pending, refl, all)
+
+  waiting_does : (node now : Node) → HoldsBytes f node → WaitsOn node now → Does node.order node.files node.table [] now
+  waiting_does node now holds wait = subst (λ (n : Node). Does node.order node.files node.table [] n) (sym wait.1)
+      (record { brings = tt; offers = tt; pending = wait.2; changes = holds.changes; still = (refl, refl) })
 
   -- Calls ---------------------------------------------------------------------------------------------------------------
 
@@ -305,20 +313,6 @@ module _ (f : ℕ) where
       go (Some files) (Some next) =
           record { brings = (tt, tt); offers = (tt, tt); pending = filter_in Asks (λ s. not (is_among next.batch s)) node.pending holds.pending; changes = holds.changes; still = (refl, refl) }
 
-  requests_do : (node : Node) (messages : Messages) → HoldsBytes f node → StepIsOfBytes (TakesRequests messages) → Does node.order node.files node.table [] (outcome node (TakesRequests messages)).now
-  requests_do node messages holds is =
-      let wait = waits node messages in
-      let all = requests_wait messages node is holds.pending in
-      subst (λ (n : Node). Does node.order node.files node.table [] n) (sym wait.1)
-      (record { brings = tt; offers = tt; pending = subst (λ (n : Node). AllIn Asks n.pending) wait.1 all; changes = holds.changes; still = (refl, refl) })
-
-  offer_does : (node : Node) (request : Signed model.Request) → HoldsBytes f node → Asks request → Does node.order node.files node.table [] (outcome node (TakesOffered request)).now
-  offer_does node request holds is =
-      let wait = offer_waits node request in
-      let all = offered_waits node request is holds.pending in
-      subst (λ (n : Node). Does node.order node.files node.table [] n) (sym wait.1)
-      (record { brings = tt; offers = tt; pending = subst (λ (n : Node). AllIn Asks n.pending) wait.1 all; changes = holds.changes; still = (refl, refl) })
-
   -- All steps -----------------------------------------------------------------------------------------------------------
 
   module _ (same : order.CallsKeepTheReplica) (node : Node) (holds : HoldsBytes f node) where
@@ -344,8 +338,8 @@ module _ (f : ℕ) where
     pub step_holds : (step : NodeStep) → StepIsOfBytes step → HoldsBytes f (outcome node step).now × StaysBy step
     step_holds (Delivers bytes) is = let done = bytes_does node holds bytes is in (leaves (Delivers bytes) node.files node.table done, done.still)
     step_holds (Takes signed) is = let done = message_does node holds signed.message signed.auth is in (leaves (Takes signed) node.files node.table done, done.still)
-    step_holds (TakesRequests messages) is = let done = requests_do node messages holds is in (leaves (TakesRequests messages) node.files node.table done, done.still)
-    step_holds (TakesOffered request) is = let done = offer_does node request holds is in (leaves (TakesOffered request) node.files node.table done, done.still)
+    step_holds (TakesRequests messages) is = let done = waiting_does node (outcome node (TakesRequests messages)).now holds (requests_wait messages node is holds.pending) in (leaves (TakesRequests messages) node.files node.table done, done.still)
+    step_holds (TakesOffered request) is = let done = waiting_does node (outcome node (TakesOffered request)).now holds (offered_waits node request is holds.pending) in (leaves (TakesOffered request) node.files node.table done, done.still)
     step_holds (Proposes time) is = let done = proposes_does node time holds is in (leaves (Proposes time) node.files node.table done, done.still)
     step_holds Executes is = (leaves Executes _ _ (executes_does node holds), tt)
     step_holds Fails is = (record { bounded = holds.bounded; log = holds.log; pending = holds.pending; changes = holds.changes }, tt)

@@ -1,5 +1,5 @@
 -- What nodes come to by messages of words and bytes can be stored.
-use Rattle.std.proofs.Common.{◌≡◌, ℕ, true, false, cond, ◌&&◌, List, [], ◌∷◌, Option, Some, None, bytes_eq, inl, inr, refl, sym, ap, subst}
+use Rattle.std.proofs.Common.{◌≡◌, ℕ, Bool, true, false, cond, ◌&&◌, List, [], ◌∷◌, Option, Some, None, bytes_eq, option_map, inl, inr, refl, sym, ap, subst, ◌∙◌}
 use Rattle.std.specs.List.{AllByRecursion}
 use Rattle.std.specs.Option.{ForSome}
 use Rattle.bfs_agreement.specs.Histories.{IsIn}
@@ -8,22 +8,24 @@ use Rattle.bfs_checkpoints.specs.Snapshots.{IsTaken, snapshot_of}
 use Rattle.bfs_checkpoints.specs.Texts.{node_digest}
 use Rattle.bfs_log.specs.Batches.{Committed}
 use Rattle.bfs_log.specs.Logs.{batch_in}
+use Rattle.bfs_messages.specs.declared.signed.Signed.{Signed}
 use Rattle.bfs_messages.specs.declared.order_messages.OrderMessage.{OrderMessage}
 use Rattle.bfs_messages.specs.declared.order_messages.OrderMessage.TheVariants.{PrePrepare}
 use Rattle.bfs_model.specs.Server.Stored.{IsLive}
 use Rattle.bfs_model.specs.Server.Tree.{FileSystem}
 use Rattle.bfs_order.specs.Laws.Calls.{CallsKeepTheReplica}
-use Rattle.bfs_order.specs.Replica.Executing.{next_committed}
+use Rattle.bfs_order.specs.Replica.Executing.{batch_of, next_committed, next_order}
 use Rattle.bfs_outcome.specs.Outcome as results
 use Rattle.bfs_replies.specs.Tables.{IsKept, Table}
 use Rattle.bfs_node.specs.Adopting.{adopted, may_adopt}
-use Rattle.bfs_node.specs.Nodes.{Node}
+use Rattle.bfs_node.specs.Executing.{executed_on, is_next, is_ready}
+use Rattle.bfs_node.specs.Nodes.{Node, Outcome}
+use Rattle.bfs_nodes_agree.specs.Orders.Replicas.{message_in}
 use Rattle.bfs_nodes_agree.specs.Nodes.Replicas.{NodeReplica, NodeReplicas, NodeTurn, after_node_step, after_node_turn, after_node_turns, new_node_replicas, standing_of, standing_with}
 use Rattle.bfs_nodes_agree.specs.Nodes.Steps.{NodeStep, Executes, Fails, Adopts, after_execution, outcome, still}
 use Rattle.bfs_nodes_agree.proofs.Public.{AllIn, both_at, both_in, executed_in, none_in, one_in, some_is}
-use Rattle.bfs_nodes_agree.proofs.Nodes.States.{execution_on, executes_next}
 use Rattle.bfs_nodes_progress.specs.Living.{BatchIsOfBytes, OrderIsOfBytes, ReachedStatesCanBeStored, StandingIsLive, StepIsOfBytes}
-use Rattle.bfs_nodes_progress.proofs.Carried.{HoldsBytes, StaysBy, begins_holding, step_holds}
+use Rattle.bfs_nodes_progress.proofs.Carried.{HoldsBytes, Known, StaysBy, begins_holding, step_holds}
 use Rattle.bfs_nodes_progress.proofs.Snapshots.{step_keeps}
 use Rattle.bfs_nodes_progress.proofs.Storing.{Storing, outcome_holds}
 
@@ -33,6 +35,23 @@ use Rattle.bfs_nodes_progress.proofs.Storing.{Storing, outcome_holds}
 carried : (m : OrderMessage) (next : Committed) → batch_in m ≡ Some next → OrderIsOfBytes m → BatchIsOfBytes next.batch
 carried (PrePrepare proposal) next e is = subst (λ (c : Committed). BatchIsOfBytes c.batch) (some_is (record { number = proposal.vote.number; batch = proposal.batch }) next e) is
 carried other next e is = absurd cc
+
+-- of a live file system and a committed batch
+abbrev execution_on : Node → Option FileSystem → Option Committed → Option (Option Outcome)
+execution_on node live next = option_map (λ (files : FileSystem). option_map (executed_on node files) next) live
+
+-- the batch that is executed next is that of a PRE-PREPARE in the log
+next_of_bytes : (node : Node) (files : FileSystem) (next : Committed) → AllIn Known node.order.log → node.files ≡ Some files → next_committed node.order ≡ Some next → BatchIsOfBytes next.batch
+next_of_bytes node files next log e n = go (next_order node.order) refl n
+  where
+    ready : is_ready node ≡ true
+    ready = ap (λ (o : Option FileSystem). is_next (execution_on node o (next_committed node.order))) e ∙ ap (λ (o : Option Committed). is_next (execution_on node (Some files) o)) n
+
+    go : (o : Option (Signed OrderMessage)) → next_order node.order ≡ o → batch_of o ≡ Some next → BatchIsOfBytes next.batch
+    go None is b = absurd cc
+    go (Some m) is b =
+        let here : IsIn m (message_in (next_order node.order)) = subst (λ (o : Option (Signed OrderMessage)). IsIn m (message_in o)) (sym is) (inl refl) in
+        carried m.message next b (log m (executed_in node Executes m (subst (λ (b : Bool). IsIn m (cond b (message_in (next_order node.order)) [])) (sym ready) here)))
 
 -- a file system that has not failed is live, and the table can be stored
 abbrev IsWell : Option FileSystem → Table → Type 0
@@ -50,9 +69,7 @@ module _ (laws : Storing) (f : ℕ) (node : Node) (holds : HoldsBytes f node) (w
       go None next e n = well
       go (Some files) None e n = well
       go (Some files) (Some next) e n =
-          let m = executes_next node files next e n in
-          let batch = carried m.0.message next m.2 (holds.log m.0 (executed_in node Executes m.0 m.1)) in
-          let done = outcome_holds laws files node.table next.batch batch (record { live = well.0 files e; kept = well.1 }) in
+          let done = outcome_holds laws files node.table next.batch (next_of_bytes node files next holds.log e n) (record { live = well.0 files e; kept = well.1 }) in
           some_well _ _ done.live done.kept
 
   step_well : (same : CallsKeepTheReplica) (step : NodeStep) → StepIsOfBytes step → StaysBy f same node holds step → IsWell (outcome node step).now.files (outcome node step).now.table

@@ -1,6 +1,7 @@
 -- A batch of words and bytes leaves a state that can be stored, where it found one.
-use Rattle.std.proofs.Common.{List, [], ◌∷◌, Some, None, inl, inr, refl}
-use Rattle.std.proofs.lemmas.List.Elements.{All-cons, All-nil}
+use Rattle.std.proofs.Common.{ℕ, List, [], ◌∷◌, Some, None, inl, inr, refl, arith}
+use Rattle.std.proofs.lemmas.List.{length-set}
+use Rattle.std.proofs.lemmas.List.Elements.{All-cons, All-nil, All-set}
 use Rattle.bfs_agreement.specs.Histories.{IsIn}
 use Rattle.bfs_messages.specs.Messages as model
 use Rattle.bfs_messages.specs.declared.signed.Signed.{Signed}
@@ -12,8 +13,7 @@ use Rattle.bfs_model.specs.Server.Stored.{AreBytes, IsLive, IsTime}
 use Rattle.bfs_model.specs.Server.Tree.{FileSystem, Time}
 use Rattle.bfs_outcome.specs.Outcome as results
 use Rattle.bfs_outcome.specs.Outcome.{at_start, class_at, executed, outcome, standing_after, standing_as, stands}
-use Rattle.bfs_replies.proofs.Keeping.{recorded_kept}
-use Rattle.bfs_replies.specs.Tables.{IsKept, Table}
+use Rattle.bfs_replies.specs.Tables.{IsKept, Last, LastIsKept, Table, recorded}
 use Rattle.bfs_replies.specs.declared.tables.Class.{Class}
 use Rattle.bfs_replies.specs.declared.tables.Class.TheVariants.{New, Repeat, Old, Unknown}
 use Rattle.bfs_nodes_progress.specs.Living.{Asks, BatchIsOfBytes, RequestIsOfBytes}
@@ -29,10 +29,12 @@ pub record Holds (files : FileSystem) (table : Table) : Type 0 where
   pub live : IsLive files
   pub kept : IsKept table
 
-module _ (laws : Storing) (last proposed : Time) (last_is : IsTime last) (is : IsTime proposed) where
-  time : Time
-  time = effective_time last proposed
+recorded_kept : (table : Table) (client : ℕ) (last : Last) → IsKept table → LastIsKept (Some last) → IsKept (recorded table client last.timestamp last.reply)
+recorded_kept table client last kept is =
+    let few = kept.clients in
+    record { clients = omega (arith, length-set table client (Some last), few); lasts = All-set LastIsKept table client (Some last) is kept.lasts }
 
+module _ (laws : Storing) (last proposed : Time) (last_is : IsTime last) (is : IsTime proposed) where
   -- as behind the last batch
   abbrev files_at : results.Standing → FileSystem
   files_at s = record { tree = s.inodes; next_ordinal = s.ordinal; last_time = last }
@@ -48,9 +50,11 @@ module _ (laws : Storing) (last proposed : Time) (last_is : IsTime last) (is : I
       let reply = (executed s (effective_time last proposed) request).1 in
       record {
         live = record { formed = formed_again after.inodes after.ordinal last (servable (execute (files_at s) (record { time = proposed; requests = request.call ∷ [] })).0 done.formed); storable = done.storable; last_time = last_is };
-        kept = recorded_kept s.table request.client request.timestamp reply holds.kept of.timestamp
-            (laws.bytes s.inodes s.ordinal (effective_time last proposed) request.call holds.live.storable)
-            (laws.short s.inodes s.ordinal (effective_time last proposed) request.call holds.live.formed.tree.limited);
+        kept = recorded_kept s.table request.client (record { timestamp = request.timestamp; reply = reply }) holds.kept (
+          of.timestamp,
+          laws.bytes s.inodes s.ordinal (effective_time last proposed) request.call holds.live.storable,
+          laws.short s.inodes s.ordinal (effective_time last proposed) request.call holds.live.formed.tree.limited,
+        );
       }
 
   one_stands : (s : results.Standing) (class : Class) (request : model.Request) → RequestIsOfBytes request → Stands s → Stands (standing_as class s (effective_time last proposed) request)
