@@ -4,7 +4,6 @@ use Rattle.std.specs.Prelude.{bytes_eq, ◌==◌}
 use Rattle.std.specs.List.{list_any}
 use Rattle.std.proofs.lemmas.Bool.{cond_both}
 use Rattle.std.proofs.lemmas.List.{length-replicate}
-use Rattle.bfs_agreement.specs.Histories.{IsIn}
 use Rattle.bfs_auth.specs.Keys.{Keys}
 use Rattle.bfs_checkpoints.specs.Texts.{node_digest}
 use Rattle.bfs_codec.specs.Reading.{message_of}

@@ -15,7 +15,6 @@ use Rattle.bfs_model.specs.Server.Stored.{IsLive}
 use Rattle.bfs_model.specs.Server.Tree.{FileSystem}
 use Rattle.bfs_order.specs.Laws.Calls.{CallsKeepTheReplica}
 use Rattle.bfs_order.specs.Replica.Executing.{batch_of, next_committed, next_order}
-use Rattle.bfs_outcome.specs.Outcome as results
 use Rattle.bfs_replies.specs.Tables.{IsKept, Table}
 use Rattle.bfs_node.specs.Adopting.{adopted, may_adopt}
 use Rattle.bfs_node.specs.Executing.{executed_on, is_next, is_ready}
