@@ -26,5 +26,8 @@ pub mod Following
 pub mod Snapshots
 pub mod Collected
 pub mod CatchingUp
+pub mod Storing
+pub mod Carried
+pub mod Savable
 pub mod Staying
 pub mod Premises

@@ -67,11 +67,11 @@ settled_by_from s h keeping =
 -- What a step keeps ---------------------------------------------------------------------------------------------------
 
 -- of the state that the node was in, or of the one that it is in
-abbrev IsNew : (node now : Node) → Kept → Type 0
+abbrev pub IsNew : (node now : Node) → Kept → Type 0
 IsNew node now x = ((files : FileSystem) × (node.files ≡ Some files) × (x ≡ record { number = node.order.last; snapshot = snapshot_of files node.table }))
     ⊎ ((files : FileSystem) × (now.files ≡ Some files) × (x ≡ record { number = now.order.last; snapshot = snapshot_of files now.table }))
 
-abbrev Keeps : (node now : Node) → Type 0
+abbrev pub Keeps : (node now : Node) → Type 0
 Keeps node now = (x : Kept) → IsIn x now.snapshots.kept → IsIn x node.snapshots.kept ⊎ IsNew node now x
 
 no_new : (node now : Node) → AreFrom node.snapshots now.snapshots → Keeps node now
@@ -168,7 +168,7 @@ adopts_keeps node certificate files table = go (may_adopt node certificate && by
           | inr new ↦ inr (inr (files, refl, new ∙ ap (λ (n : ℕ). record { number = n; snapshot = snapshot }) (sym ahead)))
         ]
 
-step_keeps : (node : Node) (step : NodeStep) → Keeps node (outcome node step).now
+pub step_keeps : (node : Node) (step : NodeStep) → Keeps node (outcome node step).now
 step_keeps node (Delivers bytes) = no_new node (outcome node (Delivers bytes)).now (bytes_keeps node bytes)
 step_keeps node (Takes signed) = no_new node (outcome node (Takes signed)).now (message_keeps node signed.message signed.auth)
 step_keeps node (TakesRequests messages) = rests_keeps node (outcome node (TakesRequests messages)).now (requests_rest node messages)

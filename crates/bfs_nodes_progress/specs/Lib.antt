@@ -11,6 +11,7 @@ pub mod LawsOfFollowing
 pub mod CatchingUp
 pub mod LawsOfCatchingUp
 pub mod Requests
+pub mod Living
 pub mod Laws
 pub mod Examples
 pub mod Inside

@@ -4,3 +4,4 @@
 mod below;
 pub mod examples;
 pub mod laws;
+pub mod living;

@@ -68,19 +68,13 @@ fn a_view_begins_behind_a_checkpoint(rt: HostRuntime) -> Result<(), Fail> {
 }
 
 // 16 and 32 are stable at replica 3 alone, which then falls silent
-static A_CHECKPOINT_OF_ONE: [Event; 22] = [
+static A_CHECKPOINT_OF_ONE: [Event; 16] = [
     Event::Batches(ALL, 15),
-    Event::Propose(0),
-    Event::HandOver(ALL),
-    Event::HandOver(ALL),
-    Event::HandOver(ALL),
+    Event::Commit(ALL),
     Event::Execute(ALL),
     Event::HandOver(&[3]),
     Event::Batches(ALL, 15),
-    Event::Propose(0),
-    Event::HandOver(ALL),
-    Event::HandOver(ALL),
-    Event::HandOver(ALL),
+    Event::Commit(ALL),
     Event::Execute(ALL),
     Event::HandOver(&[3]),
     Event::TimeOut(BACKUPS),
@@ -100,12 +94,9 @@ fn three_go_on_behind_a_checkpoint_of_the_fourth(rt: HostRuntime) -> Result<(), 
 }
 
 // no CHECKPOINT comes to replica 1, and nothing from number 32 on
-static A_PRIMARY_LAGS: [Event; 24] = [
+static A_PRIMARY_LAGS: [Event; 21] = [
     Event::Batches(ALL, 15),
-    Event::Propose(0),
-    Event::HandOver(ALL),
-    Event::HandOver(ALL),
-    Event::HandOver(ALL),
+    Event::Commit(ALL),
     Event::Execute(ALL),
     Event::HandOver(&[0, 2, 3]),
     Event::Batches(ALL, 15),

@@ -36,13 +36,10 @@ fn sixteen_batches(rt: HostRuntime) -> Result<(), Fail> {
     Ok(())
 }
 
-static THE_SEVENTEENTH: [Event; 10] = [
+static THE_SEVENTEENTH: [Event; 7] = [
     Event::Batches(ALL, 16),
     Event::Ask(ALL, 7),
-    Event::Propose(0),
-    Event::HandOver(ALL),
-    Event::HandOver(ALL),
-    Event::HandOver(ALL),
+    Event::Commit(ALL),
     Event::Execute(ALL),
     Event::Mend(ALL),
     Event::Stand(ALL, Standing(0, 17, 0)),

@@ -47,12 +47,9 @@ fn three_rounds_bring_all_that_was_said(rt: HostRuntime) -> Result<(), Fail> {
 }
 
 // the CHECKPOINTs of number 16 come to nobody before they are given again
-static CHECKPOINTS_ARE_LOST: [Event; 11] = [
+static CHECKPOINTS_ARE_LOST: [Event; 8] = [
     Event::Batches(ALL, 15),
-    Event::Propose(0),
-    Event::HandOver(ALL),
-    Event::HandOver(ALL),
-    Event::HandOver(ALL),
+    Event::Commit(ALL),
     Event::Execute(ALL),
     Event::Lose,
     Event::Resend(ALL),

@@ -24,6 +24,8 @@ pub enum Event {
     AskMuch(&'static [usize], u32),
     /// A replica proposes what waits.
     Propose(usize),
+    /// Replica 0 proposes what waits, and what is said of it comes to these: it is committed there.
+    Commit(&'static [usize]),
     /// A replica may propose nothing.
     MayNotPropose(usize),
     /// Time runs out at each of these.
@@ -40,6 +42,8 @@ pub enum Event {
     Lose,
     /// These execute what is next, and make a checkpoint where one is due. One may fail.
     Execute(&'static [usize]),
+    /// These execute what is next, and make a checkpoint where one is due. None may fail: where memory runs out at one, the run ends.
+    MustExecute(&'static [usize]),
     /// A replica executes what is next, and makes no checkpoint.
     PassOn(usize),
     /// Messages come to these until none is on its way, and they execute what is next.
@@ -86,6 +90,19 @@ fn batches<R: Threads + Wait + Sync>(
     Ok(true)
 }
 
+// PRE-PREPARE, PREPAREs and COMMITs
+fn commit<R: Threads + Wait + Sync>(
+    rt: &R,
+    all: &mut Replicas,
+    heard: &[usize],
+) -> Result<bool, Memory> {
+    let mut goes_on = all.ask(rt, 0, Call::Propose)?;
+    for _ in 0u32..3 {
+        goes_on = goes_on && all.hand_over(rt, heard)?;
+    }
+    Ok(goes_on)
+}
+
 fn lose(all: &mut Replicas) -> bool {
     all.lose();
     true
@@ -101,6 +118,7 @@ fn happens<R: Threads + Wait + Sync>(
         Event::Ask(numbers, timestamp) => all.request(rt, numbers, timestamp),
         Event::AskMuch(numbers, timestamp) => all.large_request(rt, numbers, timestamp),
         Event::Propose(number) => all.ask(rt, number, Call::Propose),
+        Event::Commit(numbers) => commit(rt, all, numbers),
         Event::MayNotPropose(number) => Ok(all.refuses(rt, number, Call::Propose)),
         Event::TimeOut(numbers) => all.ask_each(rt, numbers, Call::TimeOut),
         Event::LeaveFor(numbers, view) => all.ask_each(rt, numbers, Call::LeaveFor(view)),
@@ -109,6 +127,7 @@ fn happens<R: Threads + Wait + Sync>(
         Event::HandOver(numbers) => all.hand_over(rt, numbers),
         Event::Lose => Ok(lose(all)),
         Event::Execute(numbers) => all.execute(rt, numbers, true),
+        Event::MustExecute(numbers) => all.execute(rt, numbers, false),
         Event::PassOn(number) => all.pass_on(rt, number),
         Event::Settle(numbers) => all.settle(rt, numbers),
         Event::Batches(numbers, count) => batches(rt, all, numbers, count),

@@ -19,16 +19,13 @@ fn fifteen_batches_without_one(rt: HostRuntime) -> Result<(), Fail> {
     Ok(())
 }
 
-static ONE_CRASHES: [Event; 20] = [
+static ONE_CRASHES: [Event; 17] = [
     Event::Batches(EXECUTING, 15),
-    Event::Propose(0),
-    Event::HandOver(EXECUTING),
-    Event::HandOver(EXECUTING),
-    Event::HandOver(EXECUTING),
+    Event::Commit(EXECUTING),
     // its CHECKPOINT comes to the one alone that lags, and then it is silent
-    Event::Execute(&[2]),
+    Event::MustExecute(&[2]),
     Event::HandOver(&[3]),
-    Event::Execute(&[0, 1]),
+    Event::MustExecute(&[0, 1]),
     Event::HandOver(LIVING),
     Event::StableAt(&[0, 1], 0),
     Event::StableAt(&[3], 16),
@@ -49,16 +46,13 @@ fn what_was_told_is_adopted(rt: HostRuntime) -> Result<(), Fail> {
     Ok(())
 }
 
-static ONE_ADOPTS: [Event; 17] = [
+static ONE_ADOPTS: [Event; 14] = [
     Event::Batches(EXECUTING, 15),
-    Event::Propose(0),
-    Event::HandOver(EXECUTING),
-    Event::HandOver(EXECUTING),
-    Event::HandOver(EXECUTING),
+    Event::Commit(EXECUTING),
     // its CHECKPOINT comes to the primary alone, and then it is silent
-    Event::Execute(&[2]),
+    Event::MustExecute(&[2]),
     Event::HandOver(PRIMARY),
-    Event::Execute(&[0, 1]),
+    Event::MustExecute(&[0, 1]),
     Event::HandOver(&[0, 1]),
     // replica 3 adopts, and has no CHECKPOINT of its own that replica 1 could wait for
     Event::Adopt(3, 0),
@@ -77,21 +71,15 @@ fn one_settles_by_one_that_has_adopted(rt: HostRuntime) -> Result<(), Fail> {
     Ok(())
 }
 
-static ONE_PASSES_ON: [Event; 21] = [
+static ONE_PASSES_ON: [Event; 15] = [
     Event::Batches(ALL, 15),
-    Event::Propose(0),
-    Event::HandOver(ALL),
-    Event::HandOver(ALL),
-    Event::HandOver(ALL),
-    Event::Execute(BACKUPS),
+    Event::Commit(ALL),
+    Event::MustExecute(BACKUPS),
     Event::PassOn(0),
     Event::HandOver(BACKUPS),
     Event::HaveStable(BACKUPS, 3),
-    Event::Propose(0),
-    Event::HandOver(ALL),
-    Event::HandOver(ALL),
-    Event::HandOver(ALL),
-    Event::Execute(ALL),
+    Event::Commit(ALL),
+    Event::MustExecute(ALL),
     // it has passed number 16 without a checkpoint
     Event::StableAt(PRIMARY, 0),
     Event::SettleBy(0, 1),
