@@ -1,15 +1,22 @@
-//! A replica of the file service: `replica CLUSTER_TOML REPLICA_TOML`. Turns come on standard input, and what it tells of each goes to standard output.
-//! docs/SERVICE.md says more.
+//! A replica of the file service: `replica CLUSTER_TOML REPLICA_TOML FOLDER [--new] [--damaged]`. Turns come on standard input, and what it tells of each goes to
+//! standard output. What it does it keeps in the folder, before it tells it; a later process with that folder goes on as the same replica. docs/SERVICE.md says
+//! more.
 #![tactic(auto)]
 
+mod folder;
+
+use crate::folder::{Held, ReplicaFolder};
 use anyhow::{Context, Error};
 use bfs_auth::Keys;
 use bfs_deployment::{Deployment, parse_deployment};
 use bfs_filter::serve;
+use bfs_journal::{Recovered, Rest, read_journal};
 use bfs_node::{Executor, Node};
-use bfs_service::{Service, Terms};
+use bfs_recovery::{Keeping, recover};
+use bfs_service::Terms;
 use bfs_settings::parse_keys;
 use bfs_types::MOST_CLIENTS;
+use std::fs::{File, Files};
 use std::io::BufReader;
 use std::process::ExitCode;
 use std::rt::Runtime;
@@ -29,22 +36,106 @@ fn main(rt: HostRuntime) -> ExitCode {
 }
 
 /// Serves standard input to its end.
-fn run<R: Runtime + AllocGlobal + Threads + Wait + Sync>(rt: &R) -> Result<(), Error> {
+fn run<R: Runtime + Files<File = File> + AllocGlobal + Threads + Wait + Sync>(
+    rt: &R,
+) -> Result<(), Error> {
     let alloc = rt.alloc();
     let words: Vec<String> = std::env::args(rt)?.collect(alloc)?;
-    let [_, cluster, keys] = words.as_slice() else {
-        return Err(Error::msg("usage: replica CLUSTER_TOML REPLICA_TOML"));
+    let [_, cluster, keys, folder, options @ ..] = words.as_slice() else {
+        return Err(Error::msg(USAGE));
     };
+    let options = options_in(options)?;
     let deployment = deployment_at(rt, cluster.as_str()).context(cluster.clone()?)?;
-    let node = node_at(rt, &deployment, keys.as_str()).context(keys.clone()?)?;
-    let mut service = Service::new(alloc, node, Executor::serial(), terms_of(&deployment));
-    answer(rt, &deployment, &mut service)
+    let keys = keys_at(rt, &deployment, keys.as_str()).context(keys.clone()?)?;
+    live(rt, &deployment, keys, folder.as_str(), options).context(folder.clone()?)
+}
+
+const USAGE: &str = "usage: replica CLUSTER_TOML REPLICA_TOML FOLDER [--new] [--damaged]";
+
+/// What an operator answers for.
+#[derive(Clone, Copy)]
+struct Options {
+    /// The replica has never run: it begins in an empty folder.
+    is_new: bool,
+    /// What stands behind damage in its journal is not needed.
+    is_damaged: bool,
+}
+
+fn options_in(words: &[String]) -> Result<Options, Error> {
+    let mut options = Options {
+        is_new: false,
+        is_damaged: false,
+    };
+    for word in words {
+        match word.as_str() {
+            "--new" => options.is_new = true,
+            "--damaged" => options.is_damaged = true,
+            _ => return Err(Error::msg(USAGE)),
+        }
+    }
+    Ok(options)
+}
+
+/// Goes on as the replica that the folder holds.
+fn live<R: Runtime + Files<File = File> + AllocGlobal + Threads + Wait + Sync>(
+    rt: &R,
+    deployment: &Deployment,
+    keys: Keys,
+    folder: &str,
+    options: Options,
+) -> Result<(), Error> {
+    if options.is_new {
+        folder::make(rt, folder)?;
+    }
+    // it is held to the end
+    let _lock = folder::lock(rt, folder)?;
+    let held = folder::read(rt, folder)?;
+    let next = held.as_ref().map_or(0, |held| held.number.saturating_add(1));
+    let node = node_of(rt, keys, held, options)?;
+    let folder = ReplicaFolder::new(rt, folder, next);
+    let mut keeping = Keeping::begin(rt.alloc(), node, Executor::serial(), terms_of(deployment), folder)?;
+    answer(rt, deployment, &mut keeping)
+}
+
+/// The replica that was held, or a new one.
+fn node_of<R: Runtime + AllocGlobal + Threads + Wait + Sync>(
+    rt: &R,
+    keys: Keys,
+    held: Option<Held>,
+    options: Options,
+) -> Result<Node, Error> {
+    match (held, options.is_new) {
+        (Some(held), false) => recovered(rt, keys, &held, options),
+        (None, true) => Ok(Node::new(rt.alloc(), keys)?),
+        (Some(_), true) => Err(Error::msg("it holds a replica, and a new one (--new) would forget what that has said")),
+        (None, false) => Err(Error::msg("it holds no replica: one that has never run begins with --new; one that has is faulty without its folder")),
+    }
+}
+
+const DAMAGE: &str = "it may have said what it no longer knows, and is faulty; with --damaged it goes on so";
+
+fn recovered<R: Runtime + AllocGlobal + Threads + Wait + Sync>(
+    rt: &R,
+    keys: Keys,
+    held: &Held,
+    options: Options,
+) -> Result<Node, Error> {
+    let alloc = rt.alloc();
+    let Recovered { bodies, end, rest } = read_journal(alloc, held.journal.as_slice())?;
+    let (number, records, left) = (held.number, bodies.len(), held.journal.len() - end);
+    if rest == Rest::Damaged && !options.is_damaged {
+        let text = format!(in alloc; "journal-{number} is damaged behind {records} records: {DAMAGE}")?;
+        return Err(Error::msg(text));
+    }
+    let node = recover(rt, alloc, keys, Executor::serial(), held.saved.as_slice(), bodies.as_slice())?;
+    let _ = eprintln!(rt; "replica: goes on behind saved-{number} and {records} records; {left} bytes behind them are none");
+    Ok(node)
 }
 
 fn answer<R: Runtime + AllocGlobal + Threads + Wait + Sync>(
     rt: &R,
     deployment: &Deployment,
-    service: &mut Service,
+    keeping: &mut Keeping<ReplicaFolder<'_, R>>,
 ) -> Result<(), Error> {
     let alloc = rt.alloc();
     let mut reader = BufReader::new(alloc, rt.reader())?;
@@ -52,7 +143,7 @@ fn answer<R: Runtime + AllocGlobal + Threads + Wait + Sync>(
     serve(
         alloc,
         rt,
-        service,
+        keeping,
         &deployment.limits(),
         &mut reader,
         &mut writer,
@@ -69,22 +160,14 @@ fn terms_of(deployment: &Deployment) -> Terms {
     Terms::of(deployment.f(), deployment.patience(), &deployment.limits())
 }
 
-/// A replica of that cluster, by its own keys.
-fn node_at<R: Runtime + AllocGlobal>(
+/// The keys of a replica of that cluster.
+fn keys_at<R: Runtime + AllocGlobal>(
     rt: &R,
     deployment: &Deployment,
     path: &str,
-) -> Result<Node, Error> {
+) -> Result<Keys, Error> {
     let document = fs::read(rt, path)?;
     let keys = parse_keys(rt.alloc(), document.as_slice())?;
-    node_of(rt, deployment, keys)
-}
-
-fn node_of<R: Runtime + AllocGlobal>(
-    rt: &R,
-    deployment: &Deployment,
-    keys: Keys,
-) -> Result<Node, Error> {
     let Some((f, _)) = keys.replica_of() else {
         return Err(Error::msg("these are not the keys of a replica"));
     };
@@ -94,5 +177,5 @@ fn node_of<R: Runtime + AllocGlobal>(
     if keys.clients() != deployment.clients() as usize || keys.clients() > MOST_CLIENTS as usize {
         return Err(Error::msg("there are other clients in the cluster"));
     }
-    Ok(Node::new(rt.alloc(), keys)?)
+    Ok(keys)
 }

@@ -22,6 +22,8 @@ def pairs(service):
     check(all("clients" not in each for each in clients), "a client has keys of clients")
     modes = {stat.S_IMODE(path.stat().st_mode) for path in Path(service.folder).glob("*-*.toml")}
     check(modes == {0o600}, f"modes {modes}")
+    folders = [Path(service.folder, f"replica-{number}") for number in range(4)]
+    check(all(stat.S_IMODE(folder.stat().st_mode) == 0o700 and [each.name for each in folder.iterdir()] == ["new"] for folder in folders), "folders")
     check(Path(service.folder, "relay.counter").read_text() == "0\n", "the relay's first timestamp is another")
 
 
