@@ -22,6 +22,7 @@ def worked(service, name, requests=REQUESTS):
     single = Single(service, folder, "--new")
     for _ in range(requests):
         client.ask(single)
+    single.executed()
     single.kill()
     return folder
 

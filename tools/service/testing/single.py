@@ -74,7 +74,8 @@ class Asking:
         """Has a request executed, and gives its timestamp."""
         self.timestamp += 1
         request = self.keys.sign(messages.Request(0, self.timestamp, NULL)).text
-        check(any(kind == REPLY for kind, _ in single.turn(framed(REQUEST, request))), "no reply")
+        kinds = [kind for kind, _ in single.turn(framed(REQUEST, request))]
+        check(REPLY in kinds, f"no reply among {kinds}")
         return self.timestamp
 
 
