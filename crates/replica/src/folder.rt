@@ -1,10 +1,14 @@
 // The folder in which a replica outlives its process. `saved-N` is the text of a saved replica, `journal-N` what that did since; those of the highest number count.
 // Who has `lock` has the folder.
-ghost use Rattle.std.specs.Prelude.{⊤, tt, None};
+ghost use Rattle.std.specs.Prelude.{⊤, None};
+ghost use Rattle.bfs_journal.specs.Records.{IsBody};
+ghost use Rattle.replica.specs.Folders.{held};
 
+use crate::notes::Notes;
 use anyhow::{Context, Error};
 use bfs_journal::{Disk, KeepError, keep};
 use bfs_recovery::Folder;
+use std::alloc::Global;
 use std::fs::{DirBuilder, File, Files, OpenFile, OpenOptions, TryLockError};
 use std::io::{ErrorKind, Write};
 use std::os::unix::fs::{DirBuilderExt, OpenOptionsExt};
@@ -12,6 +16,7 @@ use std::rt::Runtime;
 use std::{fs, io};
 
 const SAVED: &str = "saved-";
+
 const JOURNAL: &str = "journal-";
 
 /// What a folder holds.
@@ -77,11 +82,7 @@ fn read_if_there<R: Runtime + AllocGlobal>(rt: &R, path: &str) -> io::Result<Vec
 }
 
 // the highest number of the files whose names begin so
-fn highest<R: Runtime + AllocGlobal>(
-    rt: &R,
-    folder: &str,
-    kind: &str,
-) -> io::Result<Option<u64>> {
+fn highest<R: Runtime + AllocGlobal>(rt: &R, folder: &str, kind: &str) -> io::Result<Option<u64>> {
     let mut highest = None;
     for entry in fs::read_dir(rt, folder)? {
         highest = highest.max(number_in(entry?.file_name(), kind));
@@ -102,6 +103,9 @@ pub(crate) struct ReplicaFolder<'a, R: Runtime> {
     next: u64,
     // the journal behind the last one
     journal: Option<Journal<R::File>>,
+    // what was written to both
+    texts: Notes,
+    bodies: Notes,
 }
 
 impl<'a, R: Runtime> ReplicaFolder<'a, R> {
@@ -112,22 +116,22 @@ impl<'a, R: Runtime> ReplicaFolder<'a, R> {
             folder,
             next,
             journal: None,
+            texts: Notes::new(),
+            bodies: Notes::new(),
         }
     }
 }
 
 impl<R: Runtime + AllocGlobal> Folder for ReplicaFolder<'_, R> {
-    ghost kept = { λ _. None };
+    ghost kept = { λ folder. held folder.texts.items folder.bodies.items };
 
     fn append(&mut self, body: &[u8]) -> io::Result<()> {
         let Some(journal) = &mut self.journal else {
             return Err(io::Error::from(ErrorKind::NotFound));
         };
-        match keep(self.rt.alloc(), journal, body) {
-            Ok(()) => Ok(()),
-            Err(KeepError::Memory) => Err(io::Error::from(ErrorKind::OutOfMemory)),
-            Err(KeepError::Storage(error)) => Err(error),
-        }
+        append_to(journal, self.rt.alloc(), body)?;
+        self.bodies.note(body);
+        Ok(())
     }
 
     fn replace(&mut self, text: &[u8]) -> io::Result<()> {
@@ -135,7 +139,21 @@ impl<R: Runtime + AllocGlobal> Folder for ReplicaFolder<'_, R> {
         write_saved(rt, folder, number, text)?;
         self.journal = Some(begin_journal(rt, folder, number)?);
         self.next = number.saturating_add(1);
-        remove_below(rt, folder, number)
+        remove_below(rt, folder, number)?;
+        self.texts = Notes::new();
+        self.texts.note(text);
+        self.bodies = Notes::new();
+        Ok(())
+    }
+}
+
+fn append_to<D: Disk>(journal: &mut D, alloc: Global, body: &[u8]) -> io::Result<()>
+    requires { IsBody body.now }
+{
+    match keep(alloc, journal, body) {
+        Ok(()) => Ok(()),
+        Err(KeepError::Memory) => Err(io::Error::from(ErrorKind::OutOfMemory)),
+        Err(KeepError::Storage(error)) => Err(error),
     }
 }
 

@@ -4,6 +4,7 @@
 #![tactic(auto)]
 
 mod folder;
+mod notes;
 
 use crate::folder::{Held, ReplicaFolder};
 use anyhow::{Context, Error};
@@ -90,10 +91,18 @@ fn live<R: Runtime + Files<File = File> + AllocGlobal + Threads + Wait + Sync>(
     // it is held to the end
     let _lock = folder::lock(rt, folder)?;
     let held = folder::read(rt, folder)?;
-    let next = held.as_ref().map_or(0, |held| held.number.saturating_add(1));
+    let next = held
+        .as_ref()
+        .map_or(0, |held| held.number.saturating_add(1));
     let node = node_of(rt, keys, held, options)?;
     let folder = ReplicaFolder::new(rt, folder, next);
-    let mut keeping = Keeping::begin(rt.alloc(), node, Executor::serial(), terms_of(deployment), folder)?;
+    let mut keeping = Keeping::begin(
+        rt.alloc(),
+        node,
+        Executor::serial(),
+        terms_of(deployment),
+        folder,
+    )?;
     answer(rt, deployment, &mut keeping)
 }
 
@@ -107,12 +116,17 @@ fn node_of<R: Runtime + AllocGlobal + Threads + Wait + Sync>(
     match (held, options.is_new) {
         (Some(held), false) => recovered(rt, keys, &held, options),
         (None, true) => Ok(Node::new(rt.alloc(), keys)?),
-        (Some(_), true) => Err(Error::msg("it holds a replica, and a new one (--new) would forget what that has said")),
-        (None, false) => Err(Error::msg("it holds no replica: one that has never run begins with --new; one that has is faulty without its folder")),
+        (Some(_), true) => Err(Error::msg(
+            "it holds a replica, and a new one (--new) would forget what that has said",
+        )),
+        (None, false) => Err(Error::msg(
+            "it holds no replica: one that has never run begins with --new; one that has is faulty without its folder",
+        )),
     }
 }
 
-const DAMAGE: &str = "it may have said what it no longer knows, and is faulty; with --damaged it goes on so";
+const DAMAGE: &str =
+    "it may have said what it no longer knows, and is faulty; with --damaged it goes on so";
 
 fn recovered<R: Runtime + AllocGlobal + Threads + Wait + Sync>(
     rt: &R,
@@ -124,11 +138,22 @@ fn recovered<R: Runtime + AllocGlobal + Threads + Wait + Sync>(
     let Recovered { bodies, end, rest } = read_journal(alloc, held.journal.as_slice())?;
     let (number, records, left) = (held.number, bodies.len(), held.journal.len() - end);
     if rest == Rest::Damaged && !options.is_damaged {
-        let text = format!(in alloc; "journal-{number} is damaged behind {records} records: {DAMAGE}")?;
+        let text = format!(in alloc;
+            "journal-{number} is damaged behind {records} records: {DAMAGE}"
+        )?;
         return Err(Error::msg(text));
     }
-    let node = recover(rt, alloc, keys, Executor::serial(), held.saved.as_slice(), bodies.as_slice())?;
-    let _ = eprintln!(rt; "replica: goes on behind saved-{number} and {records} records; {left} bytes behind them are none");
+    let node = recover(
+        rt,
+        alloc,
+        keys,
+        Executor::serial(),
+        held.saved.as_slice(),
+        bodies.as_slice(),
+    )?;
+    let _ = eprintln!(rt;
+        "replica: goes on behind saved-{number} and {records} records; {left} bytes behind them are none"
+    );
     Ok(node)
 }
 
