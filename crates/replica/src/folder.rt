@@ -99,6 +99,8 @@ fn number_in(name: &str, kind: &str) -> Option<u64> {
 pub(crate) struct ReplicaFolder<'a, R: Runtime> {
     rt: &'a R,
     folder: &'a str,
+    // no other process has it while this is open
+    lock: R::File,
     // the number of the text that is saved next
     next: u64,
     // the journal behind the last one
@@ -109,11 +111,12 @@ pub(crate) struct ReplicaFolder<'a, R: Runtime> {
 }
 
 impl<'a, R: Runtime> ReplicaFolder<'a, R> {
-    /// A folder whose next saved replica has that number. There is no journal before it is saved.
-    pub fn new(rt: &'a R, folder: &'a str, next: u64) -> ReplicaFolder<'a, R> {
+    /// A folder of which this process has the lock, and whose next saved replica has that number. There is no journal before it is saved.
+    pub fn new(rt: &'a R, folder: &'a str, lock: R::File, next: u64) -> ReplicaFolder<'a, R> {
         ReplicaFolder {
             rt,
             folder,
+            lock,
             next,
             journal: None,
             texts: Notes::new(),

@@ -3,6 +3,12 @@
 //! more.
 #![tactic(auto)]
 
+ghost use Rattle.std.specs.Prelude.{◌≤◌, length, IfOk};
+ghost use Rattle.bfs_model.specs.Server.Limits.{most_clients};
+ghost use Rattle.bfs_auth.specs.Principals.{number_of};
+ghost use Rattle.bfs_auth.specs.Replicas.{AreOfReplica};
+ghost use Rattle.bfs_log.specs.Certificates.{faults};
+
 mod folder;
 mod notes;
 
@@ -48,7 +54,10 @@ fn run<R: Runtime + Files<File = File> + AllocGlobal + Threads + Wait + Sync>(
     let options = options_in(options)?;
     let deployment = deployment_at(rt, cluster.as_str()).context(cluster.clone()?)?;
     let keys = keys_at(rt, &deployment, keys.as_str()).context(keys.clone()?)?;
-    live(rt, &deployment, keys, folder.as_str(), options).context(folder.clone()?)
+    let mut keeping = begin(rt, &deployment, keys, folder.as_str(), options).context(
+        folder.clone()?,
+    )?;
+    answer(rt, &deployment, &mut keeping)
 }
 
 const USAGE: &str = "usage: replica CLUSTER_TOML REPLICA_TOML FOLDER [--new] [--damaged]";
@@ -56,9 +65,9 @@ const USAGE: &str = "usage: replica CLUSTER_TOML REPLICA_TOML FOLDER [--new] [--
 /// What an operator answers for.
 #[derive(Clone, Copy)]
 struct Options {
-    /// The replica has never run: it begins in an empty folder.
+    /// The replica has said nothing yet: it begins in an empty folder.
     is_new: bool,
-    /// What stands behind damage in its journal is not needed.
+    /// A replica whose journal is damaged may go on with what stands before the damage.
     is_damaged: bool,
 }
 
@@ -77,33 +86,30 @@ fn options_in(words: &[String]) -> Result<Options, Error> {
     Ok(options)
 }
 
-/// Goes on as the replica that the folder holds.
-fn live<R: Runtime + Files<File = File> + AllocGlobal + Threads + Wait + Sync>(
-    rt: &R,
+/// A life of the replica that the folder holds, or of a new one.
+fn begin<'a, R: Runtime + Files<File = File> + AllocGlobal + Threads + Wait + Sync>(
+    rt: &'a R,
     deployment: &Deployment,
     keys: Keys,
-    folder: &str,
+    folder: &'a str,
     options: Options,
-) -> Result<(), Error> {
+) -> Result<Keeping<ReplicaFolder<'a, R>>, Error>
+    requires replica { AreOfReplica (faults keys) (number_of keys.me) keys }
+    requires clients { length keys.clients ≤ most_clients }
+{
     if options.is_new {
         folder::make(rt, folder)?;
     }
-    // it is held to the end
-    let _lock = folder::lock(rt, folder)?;
+    let lock = folder::lock(rt, folder)?;
     let held = folder::read(rt, folder)?;
-    let next = held
-        .as_ref()
-        .map_or(0, |held| held.number.saturating_add(1));
+    let next = match &held {
+        Some(held) => held.number.saturating_add(1),
+        None => 0,
+    };
     let node = node_of(rt, keys, held, options)?;
-    let folder = ReplicaFolder::new(rt, folder, next);
-    let mut keeping = Keeping::begin(
-        rt.alloc(),
-        node,
-        Executor::serial(),
-        terms_of(deployment),
-        folder,
-    )?;
-    answer(rt, deployment, &mut keeping)
+    let folder = ReplicaFolder::new(rt, folder, lock, next);
+    let terms = terms_of(deployment);
+    Ok(Keeping::begin(rt.alloc(), node, Executor::serial(), terms, folder)?)
 }
 
 /// The replica that was held, or a new one.
@@ -112,31 +118,37 @@ fn node_of<R: Runtime + AllocGlobal + Threads + Wait + Sync>(
     keys: Keys,
     held: Option<Held>,
     options: Options,
-) -> Result<Node, Error> {
+) -> Result<Node, Error>
+    requires replica { AreOfReplica (faults keys) (number_of keys.me) keys }
+    requires clients { length keys.clients ≤ most_clients }
+{
     match (held, options.is_new) {
         (Some(held), false) => recovered(rt, keys, &held, options),
         (None, true) => Ok(Node::new(rt.alloc(), keys)?),
         (Some(_), true) => Err(Error::msg(
-            "it holds a replica, and a new one (--new) would forget what that has said",
+            "it holds a replica: a new one would forget what that has said",
         )),
         (None, false) => Err(Error::msg(
-            "it holds no replica: one that has never run begins with --new; one that has is faulty without its folder",
+            "it holds no replica: --new begins one that has never run; another one is faulty without its folder",
         )),
     }
 }
 
-const DAMAGE: &str =
-    "it may have said what it no longer knows, and is faulty; with --damaged it goes on so";
+const DAMAGE: &str = "what it said may be lost, so it is faulty; --damaged lets it go on";
 
 fn recovered<R: Runtime + AllocGlobal + Threads + Wait + Sync>(
     rt: &R,
     keys: Keys,
     held: &Held,
     options: Options,
-) -> Result<Node, Error> {
+) -> Result<Node, Error>
+    requires replica { AreOfReplica (faults keys) (number_of keys.me) keys }
+    requires clients { length keys.clients ≤ most_clients }
+{
     let alloc = rt.alloc();
+    let number = held.number;
     let Recovered { bodies, end, rest } = read_journal(alloc, held.journal.as_slice())?;
-    let (number, records, left) = (held.number, bodies.len(), held.journal.len() - end);
+    let records = bodies.len();
     if rest == Rest::Damaged && !options.is_damaged {
         let text = format!(in alloc;
             "journal-{number} is damaged behind {records} records: {DAMAGE}"
@@ -151,8 +163,9 @@ fn recovered<R: Runtime + AllocGlobal + Threads + Wait + Sync>(
         held.saved.as_slice(),
         bodies.as_slice(),
     )?;
+    let left = held.journal.len() - end;
     let _ = eprintln!(rt;
-        "replica: goes on behind saved-{number} and {records} records; {left} bytes behind them are none"
+        "replica: goes on behind saved-{number} and {records} records; {left} bytes behind these are none"
     );
     Ok(node)
 }
@@ -190,7 +203,10 @@ fn keys_at<R: Runtime + AllocGlobal>(
     rt: &R,
     deployment: &Deployment,
     path: &str,
-) -> Result<Keys, Error> {
+) -> Result<Keys, Error>
+    ensures replica { IfOk result (λ keys. AreOfReplica (faults keys) (number_of keys.me) keys) }
+    ensures clients { IfOk result (λ keys. length keys.clients ≤ most_clients) }
+{
     let document = fs::read(rt, path)?;
     let keys = parse_keys(rt.alloc(), document.as_slice())?;
     let Some((f, _)) = keys.replica_of() else {

@@ -2,10 +2,26 @@
 import random
 import time
 
-from service.testing.sessions import Session, Worker, end, kill_all, same
+from service.testing.sessions import Session, Worker, end, kill_all, reports, same
 
 WORKERS, REPLICAS = 3, 4
 MOST_WAIT = 0.3  # seconds
+MOST_VIEWS = 5
+
+
+def join(service, workers):
+    """One that has asked for a later view alone, and keeps its word, takes part again behind the next view: the primary is killed, until no one is left out."""
+    for _ in range(MOST_VIEWS):
+        rows = reports(service)
+        if all(row.get("asked") == row.get("view") for row in rows):
+            return
+        primary = "replica", str(max(int(row.get("view", 0)) for row in rows) % REPLICAS)
+        kill_all(service, primary)
+        for worker in workers:
+            worker.goes_on()
+        service.start(*primary)
+        for worker in workers:
+            worker.goes_on()
 
 
 def kills(service):
@@ -25,6 +41,7 @@ def kills(service):
             service.start(*victim)
         for worker in workers:
             worker.goes_on()
+    join(service, workers)
     for worker in workers:
         worker.end()
     same(service, range(REPLICAS))
