@@ -55,7 +55,7 @@ pub(crate) fn make<R: Runtime>(rt: &R, folder: &str) -> io::Result<()> {
 pub(crate) fn read<R: Runtime + AllocGlobal>(rt: &R, folder: &str) -> Result<Option<Held>, Error> {
     let (saved, journal) = (highest(rt, folder, SAVED)?, highest(rt, folder, JOURNAL)?);
     if saved < journal {
-        return Err(Error::msg("the saved replica of the last journal is missing"));
+        return Err(Error::msg("the saved replica is missing, of which it has a journal"));
     }
     match saved {
         Some(number) => Ok(Some(read_files(rt, folder, number)?)),

@@ -112,7 +112,7 @@ def others(service):
         saved.write_bytes(text)
         refused(service, folder, told)
     saved.unlink()
-    refused(service, folder, "the saved replica of the last journal is missing")
+    refused(service, folder, "the saved replica is missing")
     only(folder, "journal").unlink()
     refused(service, folder, "it holds no replica")
     goes_on(service, folder, 0, "--new")
