@@ -165,8 +165,9 @@ def end(service):
 
 
 def whole(service):
-    """A session on a whole service; all replicas have one digest."""
+    """A session on a whole service; all replicas have one digest, and none counts as new any more."""
     service.up()
+    check(not list(Path(service.folder).glob(f"replica-*/{NEW}")), "replicas are new")
     Session(service, "whole", 2).end()
     same(service, range(len(service.replicas)))
     end(service)
