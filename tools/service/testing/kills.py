@@ -1,12 +1,15 @@
 """A check that what was answered is there, and is the same everywhere, whichever replicas are killed and started again, all of them too."""
 import random
+import struct
 import time
+from pathlib import Path
 
 from service.testing.sessions import Session, Worker, end, kill_all, reports, same
 
 WORKERS, REPLICAS = 3, 4
 MOST_WAIT = 0.3  # seconds
 MOST_VIEWS = 5
+MOST_BODY, DIGEST = 5_000, 32  # bytes
 
 
 def join(service, workers):
@@ -24,8 +27,18 @@ def join(service, workers):
             worker.goes_on()
 
 
+def tear(folder, words):
+    """A write of a record that was cut stands behind what a replica has synced."""
+    journals = sorted(Path(folder).glob("journal-*"), key=lambda path: int(path.name.partition("-")[2]))
+    length = words.randrange(1, MOST_BODY)
+    record = struct.pack(">II", length, length) + words.randbytes(DIGEST + length)
+    for path in journals[-1:]:
+        with open(path, "ab") as file:
+            file.write(record[: words.randrange(len(record))])
+
+
 def kills(service):
-    """While kernels work, replica 0, 1, 2, 3 and then all of them are killed with -9, and started again, over and over."""
+    """While kernels work, replica 0, 1, 2, 3 and then all of them are killed with -9, their journals torn, and they started again, over and over."""
     service.up()
     words, workers = random.Random(service.seed), [Worker(service, b"work %d" % number) for number in range(WORKERS)]
     for worker in workers:
@@ -38,6 +51,7 @@ def kills(service):
         kill_all(service, *victims)
         time.sleep(words.uniform(0, MOST_WAIT))
         for victim in victims:
+            tear(f"{service.folder}/{'-'.join(victim)}", words)
             service.start(*victim)
         for worker in workers:
             worker.goes_on()
