@@ -105,7 +105,7 @@ pub(crate) struct ReplicaFolder<'a, R: Runtime> {
     next: u64,
     // the journal behind the last one
     journal: Option<Journal<R::File>>,
-    // what was written to both
+    // what both were given to keep, which contracts see
     texts: Notes,
     bodies: Notes,
 }
