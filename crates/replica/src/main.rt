@@ -53,12 +53,27 @@ fn run<R: Runtime + Files<File = File> + AllocGlobal + Threads + Wait + Sync>(
     };
     let options = options_in(options)?;
     let deployment = deployment_at(rt, cluster.as_str()).context(cluster.clone()?)?;
-    let keys = keys_at(rt, &deployment, keys.as_str()).context(keys.clone()?)?;
-    let mut keeping = begin(rt, &deployment, keys, folder.as_str(), options).context(
+    live(rt, &deployment, keys, folder, options)
+}
+
+/// Lives as the replica with the keys in that document, which the folder holds.
+fn live<R: Runtime + Files<File = File> + AllocGlobal + Threads + Wait + Sync>(
+    rt: &R,
+    deployment: &Deployment,
+    keys: &String,
+    folder: &String,
+    options: Options,
+) -> Result<(), Error> {
+    let keys = keys_at(rt, deployment, keys.as_str()).context(keys.clone()?)?;
+    let mut keeping = begin(rt, deployment, keys, folder.as_str(), options).context(
         folder.clone()?,
     )?;
-    answer(rt, &deployment, &mut keeping)
+    answer(rt, deployment, &mut keeping)
 }
+
+const NEW: &str = "--new";
+
+const DAMAGED: &str = "--damaged";
 
 const USAGE: &str = "usage: replica CLUSTER_TOML REPLICA_TOML FOLDER [--new] [--damaged]";
 
@@ -72,21 +87,20 @@ struct Options {
 }
 
 fn options_in(words: &[String]) -> Result<Options, Error> {
-    let mut options = Options {
-        is_new: false,
-        is_damaged: false,
-    };
-    for word in words {
-        match word.as_str() {
-            "--new" => options.is_new = true,
-            "--damaged" => options.is_damaged = true,
-            _ => return Err(Error::msg(USAGE)),
-        }
+    let (is_new, is_damaged) = (has(words, NEW), has(words, DAMAGED));
+    let known = usize::from(is_new) + usize::from(is_damaged);
+    if words.len() == known {
+        Ok(Options { is_new, is_damaged })
+    } else {
+        Err(Error::msg(USAGE))
     }
-    Ok(options)
 }
 
-/// A life of the replica that the folder holds, or of a new one.
+fn has(words: &[String], word: &str) -> bool {
+    words.iter().any(|each| each.as_str() == word)
+}
+
+/// A life of the replica that the folder holds, or of a new one, with these keys.
 fn begin<'a, R: Runtime + Files<File = File> + AllocGlobal + Threads + Wait + Sync>(
     rt: &'a R,
     deployment: &Deployment,
