@@ -1,12 +1,12 @@
-// What was written, which only contracts read.
+// What was written, for contracts alone: a running program has nothing of it.
 ghost use Rattle.std.specs.Prelude.{◌≡◌, ℕ, List, [], ◌∷◌, ◌++◌};
 ghost use Rattle.std.specs.Borrow.{ftrue};
 
 use std::marker::{Model, PhantomData};
 
-/// Pieces of bytes, one behind another. It takes no memory.
+/// Pieces of bytes, one behind another.
 #[derive(Drop)]
-pub struct Notes {
+pub(crate) struct Notes {
     marker: PhantomData<u8>,
     pub ghost items: { List (List ℕ) },
 }
