@@ -173,6 +173,21 @@ def whole(service):
     end(service)
 
 
+def stopped(service):
+    """All end as they are told, and are started again: what was written is there, and calls go on."""
+    service.up()
+    worker = Worker(service, b"work")
+    worker.goes_on()
+    worker.end()
+    end(service)
+    service.up()
+    for block in worker.written:
+        worker.look(block)
+    Session(service, "behind").end()
+    same(service, range(4))
+    end(service)
+
+
 def killed(service):
     """Replica 3 is killed with -9 within a session: that goes on, and another one."""
     service.up()
