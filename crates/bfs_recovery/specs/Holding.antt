@@ -1,5 +1,5 @@
 -- What a replica's folder holds, and which replica that is.
-use Rattle.std.specs.Prelude.{◌≡◌, ◌⊎◌, ℕ, List, [], ◌∷◌, ◌++◌, fold, map, Result, Ok, Err}
+use Rattle.std.specs.Prelude.{◌≡◌, ℕ, List, [], ◌∷◌, ◌++◌, fold, map}
 use Rattle.std.specs.List.{AllByRecursion}
 use Rattle.bfs_auth.specs.Keys.{Keys}
 use Rattle.bfs_node.specs.Nodes.{Node}
@@ -7,8 +7,6 @@ use Rattle.bfs_node.specs.Saving.{IsOf, IsSavable, text_of}
 use Rattle.bfs_nodes_agree.specs.Nodes.Steps.{NodeStep}
 use Rattle.bfs_steps.specs.Replaying.{after_steps}
 use Rattle.bfs_steps.specs.Steps.{FitSteps, body_text}
-use Rattle.bfs_recovery.specs.declared.error.RecoverError.{RecoverError}
-use Rattle.bfs_recovery.specs.declared.error.RecoverError.TheVariants.{Memory}
 
 pub record Held : Type 0 where
   -- the text of a saved replica
@@ -38,8 +36,3 @@ pub record IsHeld (keys : Keys) (held : Held) (node : Node) : Type 0 where
   pub each : AllByRecursion FitSteps turns
   pub bodies_are : held.bodies ≡ map body_text turns
   pub node_is : node ≡ after_turns saved turns
-
--- it was recovered, or memory ran out
-abbrev pub IsRecovered : Node → Result Node RecoverError → Type 0
-IsRecovered node (Ok found) = found ≡ node
-IsRecovered node (Err e) = e ≡ Memory

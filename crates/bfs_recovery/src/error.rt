@@ -1,3 +1,6 @@
+ghost use Rattle.std.specs.Prelude.{◌≡◌};
+ghost use Rattle.bfs_recovery.specs.Recovering.{of_replay, of_saved};
+
 use bfs_saving::SavedError;
 use bfs_steps::ReplayError;
 use thiserror::Error;
@@ -5,7 +8,7 @@ use thiserror::Error;
 /// Why no replica is recovered.
 #[derive(Clone, Copy, Debug, PartialEq, Eq, Error)]
 pub enum RecoverError {
-    /// The saved text is refused: it is no replica's, or another version's, or that of another replica or of other settings.
+    /// The saved text is refused: it spells no replica, or is of another version, or of another replica, or of one with other settings.
     #[error("the saved replica cannot be read: {0}")]
     Saved(SavedError),
     /// A record of the journal spells no steps.
@@ -17,6 +20,8 @@ pub enum RecoverError {
 }
 
 impl From<SavedError> for RecoverError {
+    ghost from_gives = { λ error given. given ≡ of_saved error };
+
     fn from(error: SavedError) -> RecoverError {
         match error {
             SavedError::Memory => RecoverError::Memory,
@@ -26,6 +31,8 @@ impl From<SavedError> for RecoverError {
 }
 
 impl From<ReplayError> for RecoverError {
+    ghost from_gives = { λ error given. given ≡ of_replay error };
+
     fn from(error: ReplayError) -> RecoverError {
         match error {
             ReplayError::Malformed => RecoverError::Malformed,

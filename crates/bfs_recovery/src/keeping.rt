@@ -2,27 +2,22 @@ ghost use Rattle.std.specs.Prelude.{◌≡◌, IfOk, OnErr};
 ghost use Rattle.bfs_recovery.specs.Turns.{Begins, IsUntold, Takes};
 
 use crate::folder::Folder;
+use crate::storing::Store;
 use bfs_filter::{Machine, TurnError};
 use bfs_frames::{Parcel, Turn};
-use bfs_journal::MOST_BODY_BYTES;
 use bfs_node::{Executor, Node};
 use bfs_service::{Service, Terms};
+use bfs_steps::bodies_are_read;
 use std::alloc::Global;
 use std::marker::Model;
 use std::sync::Wait;
 use std::thread::Threads;
 
-// The node is saved in the place of its journal only where that has more bytes than this.
-const LEAST_JOURNAL_BYTES: usize = 1 << 20;
-
 /// A replica as a process that tells nothing of a turn before what it did in it is kept.
 #[derive(Drop)]
 pub struct Keeping<F: Folder> {
     service: Service,
-    folder: F,
-    // bytes of the text that was saved last, and of the bodies that were appended since
-    saved: usize,
-    journaled: usize,
+    store: Store<F>,
 }
 
 impl<F: Folder> Model for Keeping<F> {
@@ -34,11 +29,11 @@ impl<F: Folder> Model for Keeping<F> {
 
     ghost coded = { Prim.hlevel (codes, inodes_code) };
 
-    ghost view = { λ one. record { acting = one.service.acting; held = F.kept one.folder } };
+    ghost view = { λ one. record { acting = one.service.acting; held = one.store } };
 }
 
 impl<F: Folder + Drop> Keeping<F> {
-    /// A life of a replica, which begins as that node: all that the folder holds is replaced by it. `Memory` if memory runs out, `Storage` if the folder refuses.
+    /// A life of a replica, which begins as that node: it takes the place of all that the folder holds. `Memory` if memory runs out, `Storage` if the folder refuses.
     pub fn begin(
         alloc: Global,
         node: Node,
@@ -48,14 +43,11 @@ impl<F: Folder + Drop> Keeping<F> {
     ) -> Result<Keeping<F>, TurnError>
         ensures { IfOk result (Begins node) }
     {
-        let mut folder = folder;
-        let text = node.save()?;
-        folder.replace(text.as_slice())?;
+        let mut store = Store::new(folder);
+        store.save(&node)?;
         Ok(Keeping {
             service: Service::new(alloc, node, executor, terms),
-            folder,
-            saved: text.len(),
-            journaled: 0,
+            store,
         })
     }
 
@@ -66,9 +58,15 @@ impl<F: Folder + Drop> Keeping<F> {
         self.service.node()
     }
 
-    /// Takes a turn as a `Service` does, and keeps what changed the node before it gives what is to be told: by a record of the journal, or by all of the node where
-    /// it has adopted a state, or where the journal has grown past the text that was saved last. Nothing is kept where nothing changed. `Memory` if memory runs out,
-    /// `Storage` if the folder refuses: the process is to end then, and to tell nothing of this turn.
+    /// The folder that keeps it.
+    pub fn folder(&self) -> &F
+        ensures { F.kept result.now ≡ self.now.held }
+    {
+        self.store.folder()
+    }
+
+    /// Takes a turn as a `Service` does, and keeps what the node did in it, if anything, before it gives what is to be told. `Memory` if memory runs out, `Storage` if
+    /// the folder refuses: the process is to end then, and to tell nothing of this turn.
     pub fn take_turn<R: Threads + Wait + Sync>(
         &mut self,
         rt: &R,
@@ -77,45 +75,10 @@ impl<F: Folder + Drop> Keeping<F> {
         ensures taken { IfOk result (λ parcels. Takes self.old turn.now parcels.items self.new) }
         ensures untold { OnErr result (IsUntold self.old turn.now self.new.held) }
     {
+        bodies_are_read();
         let parcels = self.service.take_turn(rt, turn)?;
-        self.keep()?;
+        self.store.keep(&self.service)?;
         Ok(parcels)
-    }
-
-    fn keep(&mut self) -> Result<(), TurnError> {
-        if !self.service.is_spelled() {
-            return self.save();
-        }
-        let bytes = self.service.steps().len();
-        if bytes == 0 {
-            return Ok(());
-        }
-        if self.has_room(bytes) {
-            self.append()
-        } else {
-            self.save()
-        }
-    }
-
-    // whether so many bytes more are to be appended to the journal
-    fn has_room(&self, bytes: usize) -> bool {
-        bytes <= MOST_BODY_BYTES
-            && (self.journaled <= LEAST_JOURNAL_BYTES || self.journaled <= self.saved)
-    }
-
-    fn append(&mut self) -> Result<(), TurnError> {
-        let steps = self.service.steps();
-        self.folder.append(steps)?;
-        self.journaled = self.journaled.saturating_add(steps.len());
-        Ok(())
-    }
-
-    fn save(&mut self) -> Result<(), TurnError> {
-        let text = self.service.node().save()?;
-        self.folder.replace(text.as_slice())?;
-        self.saved = text.len();
-        self.journaled = 0;
-        Ok(())
     }
 }
 

@@ -5,9 +5,12 @@
 mod error;
 mod folder;
 mod keeping;
+mod laws;
 mod recovering;
+mod storing;
 
 pub use error::RecoverError;
 pub use folder::Folder;
 pub use keeping::Keeping;
+pub use laws::{lives_agree, the_node_comes_back};
 pub use recovering::recover;

@@ -1,0 +1,47 @@
+-- Bodies of steps that are made again.
+use Rattle.std.proofs.Common.{◌≡◌, ◌≢◌, ◌∙◌, ℕ, ◌+◌, ◌<◌, List, [], ◌∷◌, ◌++◌, drop, get_or, length, map, take, Option, Some, None, Result, Ok, Err, fold, refl, sym, ap, subst}
+use Rattle.std.specs.Option.{option_map}
+use Rattle.std.specs.List.{AllByRecursion}
+use Rattle.std.proofs.lemmas.List.{take-append-drop, take_more}
+use Rattle.std.proofs.lemmas.List.Sums.{fold-append}
+use Rattle.bfs_auth.specs.Keys.{Keys}
+use Rattle.bfs_node.specs.Nodes.{Node}
+use Rattle.bfs_node.specs.Saving.{IsOf, IsSavable, text_of}
+use Rattle.bfs_nodes_agree.proofs.Public.{some_is}
+use Rattle.bfs_nodes_agree.specs.Nodes.Steps.{NodeStep}
+use Rattle.bfs_steps.specs.Laws.{BodiesAreRead}
+use Rattle.bfs_steps.specs.Reading.{steps_from}
+use Rattle.bfs_steps.specs.Replaying.{after_steps}
+use Rattle.bfs_steps.specs.Steps.{FitSteps, body_text}
+use Rattle.bfs_recovery.specs.Holding.{Held, IsHeld, after_turns}
+use Rattle.bfs_recovery.specs.Recovering.{after_bodies, after_body}
+
+-- one body more
+pub one_more : (node next : Node) (now : Option Node) (bodies : List (List ℕ)) (i : ℕ) (body : List ℕ) → i < length bodies → body ≡ get_or bodies i body
+    → after_bodies node (take i bodies) ≡ Some next → option_map (after_steps next) (steps_from body) ≡ now → after_bodies node (take (i + 1) bodies) ≡ now
+one_more node next now bodies i body within is first made =
+    ap (after_bodies node) (take_more bodies i body within) ∙ fold-append after_body (Some node) (take i bodies) (get_or bodies i body ∷ [])
+    ∙ ap (λ (o : Option Node). after_body o (get_or bodies i body)) first ∙ ap (λ (b : List ℕ). option_map (after_steps next) (steps_from b)) (sym is) ∙ made
+
+nothing_made : (bodies : List (List ℕ)) → fold after_body None bodies ≡ None
+nothing_made [] = refl
+nothing_made (body ∷ bodies) = nothing_made bodies
+
+-- one that spells no steps
+pub not_one : (node next : Node) (bodies : List (List ℕ)) (i : ℕ) (body : List ℕ) → i < length bodies → body ≡ get_or bodies i body
+    → after_bodies node (take i bodies) ≡ Some next → steps_from body ≡ None → after_bodies node bodies ≡ None
+not_one node next bodies i body within is first none =
+    ap (after_bodies node) (sym (take-append-drop (i + 1) bodies)) ∙ fold-append after_body (Some node) (take (i + 1) bodies) (drop (i + 1) bodies)
+    ∙ ap (λ (o : Option Node). fold after_body o (drop (i + 1) bodies)) (one_more node next None bodies i body within is first (ap (option_map (after_steps next)) none))
+    ∙ nothing_made (drop (i + 1) bodies)
+
+-- the bodies of turns are made as these turns
+pub turns_made : BodiesAreRead → (node : Node) (turns : List (List NodeStep)) → AllByRecursion FitSteps turns → after_bodies node (map body_text turns) ≡ Some (after_turns node turns)
+turns_made read node [] fit = refl
+turns_made read node (steps ∷ turns) fit =
+    ap (λ (o : Option Node). fold after_body o (map body_text turns)) (ap (option_map (after_steps node)) (read steps fit.0))
+    ∙ turns_made read (after_steps node steps) turns fit.1
+
+-- what is held is what is read
+pub held_is_read : BodiesAreRead → (keys : Keys) (held : Held) (node : Node) → (h : IsHeld keys held node) → after_bodies h.saved held.bodies ≡ Some node
+held_is_read read keys held node h = ap (after_bodies h.saved) h.bodies_are ∙ turns_made read h.saved h.turns h.each ∙ ap (λ (n : Node). Some n) (sym h.node_is)
