@@ -9,12 +9,18 @@ use Rattle.bfs_node.specs.Nodes.{Node}
 use Rattle.bfs_node.specs.Saving.{IsOf, IsSavable, text_of}
 use Rattle.bfs_nodes_agree.proofs.Public.{some_is}
 use Rattle.bfs_nodes_agree.specs.Nodes.Steps.{NodeStep}
+use Rattle.bfs_saving.specs.declared.error.SavedError.{SavedError}
+use Rattle.bfs_saving.specs.declared.error.SavedError.TheVariants as saved
 use Rattle.bfs_steps.specs.Laws.{BodiesAreRead}
 use Rattle.bfs_steps.specs.Reading.{steps_from}
 use Rattle.bfs_steps.specs.Replaying.{after_steps}
 use Rattle.bfs_steps.specs.Steps.{FitSteps, body_text}
+use Rattle.bfs_steps.specs.declared.error.ReplayError.{ReplayError}
+use Rattle.bfs_steps.specs.declared.error.ReplayError.TheVariants as replay
 use Rattle.bfs_recovery.specs.Holding.{Held, IsHeld, after_turns}
-use Rattle.bfs_recovery.specs.Recovering.{after_bodies, after_body}
+use Rattle.bfs_recovery.specs.Recovering.{ReplaysAll, after_bodies, after_body, of_replay, of_saved}
+use Rattle.bfs_recovery.specs.declared.error.RecoverError.{RecoverError}
+use Rattle.bfs_recovery.specs.declared.error.RecoverError.TheVariants.{Memory}
 
 -- one body more
 pub one_more : (node next : Node) (now : Option Node) (bodies : List (List ℕ)) (i : ℕ) (body : List ℕ) → i < length bodies → body ≡ get_or bodies i body
@@ -45,3 +51,27 @@ turns_made read node (steps ∷ turns) fit =
 -- what is held is what is read
 pub held_is_read : BodiesAreRead → (keys : Keys) (held : Held) (node : Node) → (h : IsHeld keys held node) → after_bodies h.saved held.bodies ≡ Some node
 held_is_read read keys held node h = ap (after_bodies h.saved) h.bodies_are ∙ turns_made read h.saved h.turns h.each ∙ ap (λ (n : Node). Some n) (sym h.node_is)
+
+-- What is recovered ---------------------------------------------------------------------------------------------------------
+
+-- the replica that a text is read as, if that is one's that has these keys
+abbrev IsTheOne : Keys → (text : List ℕ) → (P : Node → Type 0) → Type 0
+IsTheOne keys text P = (node : Node) → IsSavable node → IsOf keys node → text ≡ text_of node → P node
+
+pub recovered : BodiesAreRead → (keys : Keys) (held : Held) (start now : Node) → IsTheOne keys held.text (λ node. start ≡ node) → after_bodies start held.bodies ≡ Some now
+    → (node : Node) → IsHeld keys held node → now ≡ node
+recovered read keys held start now only made node h =
+    some_is now node (sym made ∙ ap (λ (n : Node). after_bodies n held.bodies) (only h.saved h.savable h.holder h.text_is) ∙ held_is_read read keys held node h)
+
+-- a text that was saved is refused for want of memory alone
+pub not_restored : (keys : Keys) (held : Held) (e : SavedError) (given : RecoverError) → IsTheOne keys held.text (λ node. e ≡ saved.Memory) → given ≡ of_saved e
+    → (node : Node) → IsHeld keys held node → given ≡ Memory
+not_restored keys held e given only is node h = is ∙ ap of_saved (only h.saved h.savable h.holder h.text_is)
+
+-- and so are steps that were journaled
+pub not_replayed : BodiesAreRead → (keys : Keys) (held : Held) (start now : Node) (e : ReplayError) (given : RecoverError) → IsTheOne keys held.text (λ node. start ≡ node)
+    → ReplaysAll start held.bodies (Err e) now → given ≡ of_replay e → (node : Node) → IsHeld keys held node → given ≡ Memory
+not_replayed read keys held start now replay.Malformed given only none is node h =
+    let read_as : None ≡ Some node = sym none ∙ ap (λ (n : Node). after_bodies n held.bodies) (only h.saved h.savable h.holder h.text_is) ∙ held_is_read read keys held node h in
+    absurd cc
+not_replayed read keys held start now replay.Memory given only none is node h = is

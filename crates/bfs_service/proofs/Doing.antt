@@ -1,7 +1,8 @@
 -- A process goes on by steps that are journaled.
-use Rattle.std.proofs.Common.{◌≡◌, ◌&&◌, ◌∙◌, ℕ, Bool, true, false, List, [], ◌∷◌, ◌++◌, length, take, refl, sym, ap, subst, append_assoc, append-nil, flat_map-append}
+use Rattle.std.proofs.Common.{◌≡◌, ◌&&◌, ◌∙◌, ℕ, Bool, true, false, List, [], ◌∷◌, ◌++◌, length, take, refl, sym, ap, subst, append_assoc, append-nil}
 use Rattle.std.specs.List.{AllByRecursion}
 use Rattle.std.proofs.lemmas.Bool.{and_parts}
+use Rattle.std.proofs.lemmas.Grind.{flat_map-append}
 use Rattle.std.proofs.lemmas.List.Sums.{fold-append}
 use Rattle.std.proofs.Math.Seq.{take-append_seam}
 use Rattle.bfs_messages.specs.Messages.{Request}
@@ -97,21 +98,21 @@ IsTakingCall (code.TakeRequestsFor time messages) = Unit {0}
 IsTakingCall (code.Offer request) = Unit {0}
 IsTakingCall _ = ⊥
 
-pub taking_goes : (call : NodeCall) (before after : Doing) → IsTakingCall call → Acts call before after → Goes IsTaking before after
-taking_goes (code.Deliver bytes) before after taking acts = absurd taking
-taking_goes (code.Take signed) before after taking acts = absurd taking
-taking_goes (code.TakeRequests messages) before after taking acts =
+pub taking_goes : (call : NodeCall) (before after : Doing) → Acts call before after → IsTakingCall call → Goes IsTaking before after
+taking_goes (code.Deliver bytes) before after acts taking = absurd taking
+taking_goes (code.Take signed) before after acts taking = absurd taking
+taking_goes (code.TakeRequests messages) before after acts taking =
     record { goes = going.goes_by_one IsTaking before.acting after.acting (TakesRequests messages.now) tt acts.after_is; journals = acts.journals }
-taking_goes (code.TakeRequestsFor time messages) before after taking acts =
+taking_goes (code.TakeRequestsFor time messages) before after acts taking =
     record { goes = going.goes_by_one IsTaking before.acting after.acting (TakesRequests messages.now) tt acts.after_is; journals = acts.journals }
-taking_goes (code.Offer request) before after taking acts =
+taking_goes (code.Offer request) before after acts taking =
     record { goes = going.goes_by_one IsTaking before.acting after.acting (TakesOffered request) tt acts.after_is; journals = acts.journals }
-taking_goes (code.Propose time) before after taking acts = absurd taking
-taking_goes code.Execute before after taking acts = absurd taking
-taking_goes code.Checkpoint before after taking acts = absurd taking
-taking_goes code.TimeOut before after taking acts = absurd taking
-taking_goes (code.LeaveFor view) before after taking acts = absurd taking
-taking_goes code.ForgetAnswered before after taking acts = absurd taking
-taking_goes code.ForgetProposed before after taking acts = absurd taking
-taking_goes (code.Adopt text certificate) before after taking acts = absurd taking
-taking_goes (code.Settle certificate) before after taking acts = absurd taking
+taking_goes (code.Propose time) before after acts taking = absurd taking
+taking_goes code.Execute before after acts taking = absurd taking
+taking_goes code.Checkpoint before after acts taking = absurd taking
+taking_goes code.TimeOut before after acts taking = absurd taking
+taking_goes (code.LeaveFor view) before after acts taking = absurd taking
+taking_goes code.ForgetAnswered before after acts taking = absurd taking
+taking_goes code.ForgetProposed before after acts taking = absurd taking
+taking_goes (code.Adopt text certificate) before after acts taking = absurd taking
+taking_goes (code.Settle certificate) before after acts taking = absurd taking

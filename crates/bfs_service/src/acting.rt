@@ -105,7 +105,6 @@ impl Actor {
     }
 
     /// REQUESTs come.
-    #[tactic(auto, using(crate::proofs::Doing::taking_goes))]
     pub(crate) fn take_requests<R: Threads + Wait + Sync>(
         &mut self,
         rt: &R,
@@ -118,7 +117,6 @@ impl Actor {
     }
 
     /// REQUESTs come, before it proposes them at that time.
-    #[tactic(auto, using(crate::proofs::Doing::taking_goes))]
     pub(crate) fn take_requests_for<R: Threads + Wait + Sync>(
         &mut self,
         rt: &R,
@@ -147,7 +145,6 @@ impl Actor {
     }
 
     // A REQUEST comes, which waits only if it is new, and is answered again if it is its client's last one.
-    #[tactic(auto, using(crate::proofs::Doing::taking_goes))]
     fn offer<R: Threads + Wait + Sync>(
         &mut self,
         rt: &R,
@@ -305,13 +302,13 @@ impl Actor {
         let before = self.steps.len();
         let is_spelled = stay_spelled(self.is_spelled, &call);
         put_step(&call, self.alloc, &mut self.steps)?;
-        if make(&mut self.node, rt, self.executor, &mut self.sent, call)? {
+        let is_taken = make(&mut self.node, rt, self.executor, &mut self.sent, call)?;
+        if is_taken {
             self.is_spelled = is_spelled;
-            Ok(true)
         } else {
             self.steps.truncate(before);
-            Ok(false)
         }
+        Ok(is_taken)
     }
 }
 

@@ -117,7 +117,8 @@ impl Service {
         self.take_requests(rt, turn.time, &turn.frames)?;
         self.actor.deliver_all(rt, turn.time, &turn.frames)?;
         self.go_on(rt, turn.microseconds(), turn.time, &turn.frames)?;
-        self.tell()
+        let parcels = self.tell()?;
+        Ok(parcels)
     }
 
     #[tactic(auto, using(crate::proofs::Doing::goes_both, crate::proofs::Doing::goes_nowhere))]
