@@ -11,7 +11,7 @@ use Rattle.bfs_nodes_agree.proofs.Public.{some_is}
 use Rattle.bfs_nodes_agree.specs.Nodes.Steps.{NodeStep}
 use Rattle.bfs_saving.specs.declared.error.SavedError.{SavedError}
 use Rattle.bfs_saving.specs.declared.error.SavedError.TheVariants as saved
-use Rattle.bfs_steps.specs.Laws.{BodiesAreRead}
+use Rattle.bfs_steps.proofs.Public.{bodies_read}
 use Rattle.bfs_steps.specs.Reading.{steps_from}
 use Rattle.bfs_steps.specs.Replaying.{after_steps}
 use Rattle.bfs_steps.specs.Steps.{FitSteps, body_text}
@@ -42,15 +42,15 @@ not_one node next bodies i body within is first none =
     ∙ nothing_made (drop (i + 1) bodies)
 
 -- the bodies of turns are made as these turns
-pub turns_made : BodiesAreRead → (node : Node) (turns : List (List NodeStep)) → AllByRecursion FitSteps turns → after_bodies node (map body_text turns) ≡ Some (after_turns node turns)
-turns_made read node [] fit = refl
-turns_made read node (steps ∷ turns) fit =
-    ap (λ (o : Option Node). fold after_body o (map body_text turns)) (ap (option_map (after_steps node)) (read steps fit.0))
-    ∙ turns_made read (after_steps node steps) turns fit.1
+pub turns_made : (node : Node) (turns : List (List NodeStep)) → AllByRecursion FitSteps turns → after_bodies node (map body_text turns) ≡ Some (after_turns node turns)
+turns_made node [] fit = refl
+turns_made node (steps ∷ turns) fit =
+    ap (λ (o : Option Node). fold after_body o (map body_text turns)) (ap (option_map (after_steps node)) (bodies_read steps fit.0))
+    ∙ turns_made (after_steps node steps) turns fit.1
 
 -- what is held is what is read
-pub held_is_read : BodiesAreRead → (keys : Keys) (held : Held) (node : Node) → (h : IsHeld keys held node) → after_bodies h.saved held.bodies ≡ Some node
-held_is_read read keys held node h = ap (after_bodies h.saved) h.bodies_are ∙ turns_made read h.saved h.turns h.each ∙ ap (λ (n : Node). Some n) (sym h.node_is)
+pub held_is_read : (keys : Keys) (held : Held) (node : Node) → (h : IsHeld keys held node) → after_bodies h.saved held.bodies ≡ Some node
+held_is_read keys held node h = ap (after_bodies h.saved) h.bodies_are ∙ turns_made h.saved h.turns h.each ∙ ap (λ (n : Node). Some n) (sym h.node_is)
 
 -- What is recovered ---------------------------------------------------------------------------------------------------------
 
@@ -58,10 +58,10 @@ held_is_read read keys held node h = ap (after_bodies h.saved) h.bodies_are ∙ 
 abbrev IsTheOne : Keys → (text : List ℕ) → (P : Node → Type 0) → Type 0
 IsTheOne keys text P = (node : Node) → IsSavable node → IsOf keys node → text ≡ text_of node → P node
 
-pub recovered : BodiesAreRead → (keys : Keys) (held : Held) (start now : Node) → IsTheOne keys held.text (λ node. start ≡ node) → after_bodies start held.bodies ≡ Some now
+pub recovered : (keys : Keys) (held : Held) (start now : Node) → IsTheOne keys held.text (λ node. start ≡ node) → after_bodies start held.bodies ≡ Some now
     → (node : Node) → IsHeld keys held node → now ≡ node
-recovered read keys held start now only made node h =
-    some_is now node (sym made ∙ ap (λ (n : Node). after_bodies n held.bodies) (only h.saved h.savable h.holder h.text_is) ∙ held_is_read read keys held node h)
+recovered keys held start now only made node h =
+    some_is now node (sym made ∙ ap (λ (n : Node). after_bodies n held.bodies) (only h.saved h.savable h.holder h.text_is) ∙ held_is_read keys held node h)
 
 -- a text that was saved is refused for want of memory alone
 pub not_restored : (keys : Keys) (held : Held) (e : SavedError) (given : RecoverError) → IsTheOne keys held.text (λ node. e ≡ saved.Memory) → given ≡ of_saved e
@@ -69,9 +69,9 @@ pub not_restored : (keys : Keys) (held : Held) (e : SavedError) (given : Recover
 not_restored keys held e given only is node h = is ∙ ap of_saved (only h.saved h.savable h.holder h.text_is)
 
 -- and so are steps that were journaled
-pub not_replayed : BodiesAreRead → (keys : Keys) (held : Held) (start now : Node) (e : ReplayError) (given : RecoverError) → IsTheOne keys held.text (λ node. start ≡ node)
+pub not_replayed : (keys : Keys) (held : Held) (start now : Node) (e : ReplayError) (given : RecoverError) → IsTheOne keys held.text (λ node. start ≡ node)
     → ReplaysAll start held.bodies (Err e) now → given ≡ of_replay e → (node : Node) → IsHeld keys held node → given ≡ Memory
-not_replayed read keys held start now replay.Malformed given only none is node h =
-    let read_as : None ≡ Some node = sym none ∙ ap (λ (n : Node). after_bodies n held.bodies) (only h.saved h.savable h.holder h.text_is) ∙ held_is_read read keys held node h in
+not_replayed keys held start now replay.Malformed given only none is node h =
+    let read_as : None ≡ Some node = sym none ∙ ap (λ (n : Node). after_bodies n held.bodies) (only h.saved h.savable h.holder h.text_is) ∙ held_is_read keys held node h in
     absurd cc
-not_replayed read keys held start now replay.Memory given only none is node h = is
+not_replayed keys held start now replay.Memory given only none is node h = is

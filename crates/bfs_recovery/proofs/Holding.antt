@@ -15,13 +15,13 @@ use Rattle.bfs_service.proofs.Public.{turned_keeps}
 use Rattle.bfs_service.specs.Acting.{Acting}
 use Rattle.bfs_service.specs.Journals.{AreSpelled, Doing, Journals, with_no_steps}
 use Rattle.bfs_service.specs.Turns.{Turned}
-use Rattle.bfs_steps.specs.Laws.{BodiesAreRead}
+use Rattle.bfs_steps.proofs.Public.{bodies_read}
 use Rattle.bfs_steps.specs.Reading.{steps_from, steps_within}
 use Rattle.bfs_steps.specs.Replaying.{after_steps}
 use Rattle.bfs_steps.specs.Steps.{FitSteps, body_text}
 use Rattle.bfs_recovery.proofs.Holders.{of_step, of_turns}
 use Rattle.bfs_recovery.specs.Holding.{Held, IsHeld, after_turns, saved_as, with_body}
-use Rattle.bfs_recovery.specs.Keeping.{IsKept, Saved, Appended, Unchanged}
+use Rattle.bfs_recovery.specs.Keeping.{IsKept, IsSaved, Saved, Appended, Unchanged}
 use Rattle.bfs_recovery.specs.Turns.{Holds, IsTaken, IsUntold, Living}
 
 pub fit_both : (xs ys : List (List NodeStep)) → AllByRecursion FitSteps xs → AllByRecursion FitSteps ys → AllByRecursion FitSteps (xs ++ ys)
@@ -54,34 +54,42 @@ unfolding steps_within
 read_none = refl
 
 -- an empty body is that of no steps
-none_spelled : BodiesAreRead → (steps : List NodeStep) → FitSteps steps → body_text steps ≡ [] → [] ≡ steps
-none_spelled read steps fit is = some_is [] steps (sym read_none ∙ ap steps_from (sym is) ∙ read steps fit)
+none_spelled : (steps : List NodeStep) → FitSteps steps → body_text steps ≡ [] → [] ≡ steps
+none_spelled steps fit is = some_is [] steps (sym read_none ∙ ap steps_from (sym is) ∙ bodies_read steps fit)
 
-spelled_held : BodiesAreRead → (before doing : Doing) (held : Held) → AreSpelled (with_no_steps before) doing → doing.body ≡ [] → Holds held before.acting.node held doing.acting.node
-spelled_held read before doing held s none keys h =
-    let no_steps = none_spelled read s.steps s.fit (sym s.body_is ∙ none) in
+spelled_held : (before doing : Doing) (held : Held) → AreSpelled (with_no_steps before) doing → doing.body ≡ [] → Holds held before.acting.node held doing.acting.node
+spelled_held before doing held s none keys h =
+    let no_steps = none_spelled s.steps s.fit (sym s.body_is ∙ none) in
     let same : doing.acting.node ≡ before.acting.node = s.node_is ∙ ap (λ (steps : List NodeStep). after_steps before.acting.node steps) (sym no_steps) in
     subst (λ (n : Node). IsHeld keys held n) (sym same) h
 
 -- what was kept of a turn is held
-kept_holds : BodiesAreRead → (turn : Turn) (before doing : Doing) (told : List Told) (old new : Held) → Turned turn before.acting doing.acting told → Journals (with_no_steps before) doing
+kept_holds : (turn : Turn) (before doing : Doing) (told : List Told) (old new : Held) → Turned turn before.acting doing.acting told → Journals (with_no_steps before) doing
     → IsKept doing old new → Holds old before.acting.node new doing.acting.node
-kept_holds read turn before doing told old new turned journals (Saved savable is) keys h =
+kept_holds turn before doing told old new turned journals (Saved saved) keys h =
     let holder = turned_keeps (IsOf keys) (of_step keys) turn before.acting doing.acting told turned (held_of keys old before.acting.node h) in
-    subst (λ (held : Held). IsHeld keys held doing.acting.node) (sym is) (saved_alone keys doing.acting.node savable holder)
-kept_holds read turn before doing told old new turned journals (Appended spelled is) keys h =
+    subst (λ (held : Held). IsHeld keys held doing.acting.node) (sym saved.is) (saved_alone keys doing.acting.node saved.savable holder)
+kept_holds turn before doing told old new turned journals (Appended spelled is) keys h =
     let s = journals spelled in
     subst (λ (held : Held). IsHeld keys held doing.acting.node) (sym (is ∙ ap (with_body old) s.body_is)) (appended old before.acting.node doing.acting.node s.steps s.fit s.node_is keys h)
-kept_holds read turn before doing told old new turned journals (Unchanged spelled none is) keys h =
-    subst (λ (held : Held). IsHeld keys held doing.acting.node) (sym is) (spelled_held read before doing old (journals spelled) none keys h)
+kept_holds turn before doing told old new turned journals (Unchanged spelled none is) keys h =
+    subst (λ (held : Held). IsHeld keys held doing.acting.node) (sym is) (spelled_held before doing old (journals spelled) none keys h)
 
-pub is_taken : BodiesAreRead → (turn : Turn) (before doing : Doing) (told : List Told) (old new : Held) → Turned turn before.acting doing.acting told → Journals (with_no_steps before) doing
+pub is_taken : (turn : Turn) (before doing : Doing) (told : List Told) (old new : Held) → Turned turn before.acting doing.acting told → Journals (with_no_steps before) doing
     → IsKept doing old new → IsTaken (record { acting = before.acting; held = old }) turn told (record { acting = doing.acting; held = new })
-is_taken read turn before doing told old new turned journals kept = record { turned = turned; kept = kept_holds read turn before doing told old new turned journals kept }
+is_taken turn before doing told old new turned journals kept = record { turned = turned; kept = kept_holds turn before doing told old new turned journals kept }
 
-pub is_untold : BodiesAreRead → (turn : Turn) (before doing : Doing) (told : List Told) (old new : Held) → Turned turn before.acting doing.acting told → Journals (with_no_steps before) doing
+pub is_untold : (turn : Turn) (before doing : Doing) (told : List Told) (old new : Held) → Turned turn before.acting doing.acting told → Journals (with_no_steps before) doing
     → (new ≡ old) ⊎ IsKept doing old new → IsUntold (record { acting = before.acting; held = old }) turn new
-is_untold read turn before doing told old new turned journals left = elim left [
+is_untold turn before doing told old new turned journals left = elim left [
   | inl same ↦ inl same
-  | inr kept ↦ inr (record { acting = doing.acting; told = told; taken = is_taken read turn before doing told old new turned journals kept })
+  | inr kept ↦ inr (record { acting = doing.acting; told = told; taken = is_taken turn before doing told old new turned journals kept })
 ]
+
+-- What a store does, also where its folder refuses -----------------------------------------------------------------------------
+
+pub saved_or_not : (doing : Doing) (old new : Held) → (new ≡ old) ⊎ IsSaved doing.acting.node new → (new ≡ old) ⊎ IsKept doing old new
+saved_or_not doing old new left = elim left [ inl same ↦ inl same | inr saved ↦ inr (Saved saved) ]
+
+pub appended_or_not : (doing : Doing) (old new : Held) (body : List ℕ) → doing.is_spelled ≡ true → body ≡ doing.body → (new ≡ old) ⊎ (new ≡ with_body old body) → (new ≡ old) ⊎ IsKept doing old new
+appended_or_not doing old new body spelled is left = elim left [ inl same ↦ inl same | inr more ↦ inr (Appended spelled (more ∙ ap (with_body old) is)) ]

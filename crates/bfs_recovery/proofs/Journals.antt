@@ -9,7 +9,7 @@ use Rattle.bfs_journal.specs.Records.{IsBody, Splits, journal_of}
 use Rattle.bfs_node.specs.Nodes.{Node}
 use Rattle.bfs_nodes_agree.specs.Nodes.Steps.{NodeStep}
 use Rattle.bfs_steps.specs.Steps.{FitSteps, body_text}
-use Rattle.bfs_recovery.specs.Lives.{TheNodeComesBack}
+use Rattle.bfs_recovery.specs.Journals.{TheNodeComesBack}
 
 fit_first : (n : ℕ) (turns : List (List NodeStep)) → AllByRecursion FitSteps turns → AllByRecursion FitSteps (take n turns)
 fit_first zero turns fit = tt

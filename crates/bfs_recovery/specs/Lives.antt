@@ -1,19 +1,14 @@
 -- Lives of replicas: each life begins as the node that is recovered of what the folder holds, takes turns, and ends at any moment.
-use Rattle.std.specs.Prelude.{◌≡◌, ◌⊎◌, ◌<◌, ◌≤◌, ◌==◌, ℕ, false, List, [], ◌∷◌, ◌++◌, length, map, take, All}
+use Rattle.std.specs.Prelude.{◌≡◌, ◌⊎◌, ◌<◌, ◌==◌, ℕ, false, List, [], ◌∷◌}
 use Rattle.std.specs.List.{AllByRecursion}
 use Rattle.bfs_auth.specs.Keys.{Keys}
 use Rattle.bfs_frames.specs.Parcels.{Told}
 use Rattle.bfs_frames.specs.declared.frames.Turn.{Turn}
-use Rattle.bfs_journal.specs.Laws.{IsFront}
-use Rattle.bfs_journal.specs.Records.{IsBody, Splits, journal_of}
 use Rattle.bfs_node.specs.Nodes.{Node}
-use Rattle.bfs_node.specs.Saving.{IsOf, IsSavable, text_of}
 use Rattle.bfs_nodes_agree.specs.Nodes.Replicas.{Beginning, Keyring, beginning_node}
-use Rattle.bfs_nodes_agree.specs.Nodes.Steps.{NodeStep}
 use Rattle.bfs_service.specs.Processes.{AreAgreed, HaveTurned, Processes, ProcessTurn, new_processes}
-use Rattle.bfs_steps.specs.Steps.{FitSteps, body_text}
 use Rattle.bfs_votes.specs.Votes.{replicas}
-use Rattle.bfs_recovery.specs.Holding.{Held, IsHeld, after_turns}
+use Rattle.bfs_recovery.specs.Holding.{Held, IsHeld}
 use Rattle.bfs_recovery.specs.Turns.{Begins, IsTaken, IsUntold, Living}
 
 -- What happens -------------------------------------------------------------------------------------------------------------
@@ -82,15 +77,3 @@ LivesAgree = (f : ℕ) (keys : Keyring) (start : Beginning) (events : List Event
     × HaveTurned (new_processes f keys start) turns (acting_in after)
     × AreAgreed f keys start turns (acting_in after)
     × ((k : ℕ) → k < replicas f → IsHeld (keys k) (after k).held (after k).acting.node)
-
--- of a journal that was cut behind what was synced, that replica is recovered which it was behind a beginning of its turns, with all that were synced
-abbrev pub TheNodeComesBack : Type 0
-TheNodeComesBack = (keys : Keys) (saved : Node) (synced more : List (List NodeStep)) (count : ℕ) (bodies : List (List ℕ)) (rest : List ℕ)
-    → IsSavable saved
-    → IsOf keys saved
-    → AllByRecursion FitSteps (synced ++ more)
-    → All IsBody (map body_text (synced ++ more))
-    → length (journal_of (map body_text synced)) ≤ count
-    → Splits (take count (journal_of (map body_text (synced ++ more)))) bodies rest
-    → (front : List (List NodeStep)) × IsFront synced (synced ++ more) front
-    × IsHeld keys (record { text = text_of saved; bodies = bodies }) (after_turns saved front)

@@ -7,7 +7,6 @@ use bfs_filter::{Machine, TurnError};
 use bfs_frames::{Parcel, Turn};
 use bfs_node::{Executor, Node};
 use bfs_service::{Service, Terms};
-use bfs_steps::bodies_are_read;
 use std::alloc::Global;
 use std::marker::Model;
 use std::sync::Wait;
@@ -75,7 +74,6 @@ impl<F: Folder + Drop> Keeping<F> {
         ensures taken { IfOk result (λ parcels. Takes self.old turn.now parcels.items self.new) }
         ensures untold { OnErr result (IsUntold self.old turn.now self.new.held) }
     {
-        bodies_are_read();
         let parcels = self.service.take_turn(rt, turn)?;
         self.store.keep(&self.service)?;
         Ok(parcels)

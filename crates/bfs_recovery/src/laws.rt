@@ -1,5 +1,6 @@
 //! What is said of replicas over all their lives. The bodies only call what is proved of processes and journals: what is said is each contract.
-ghost use Rattle.bfs_recovery.specs.Lives.{LivesAgree, TheNodeComesBack};
+ghost use Rattle.bfs_recovery.specs.Journals.{TheNodeComesBack};
+ghost use Rattle.bfs_recovery.specs.Lives.{LivesAgree};
 
 use bfs_journal::fronts_are_read;
 use bfs_service::processes_agree;

@@ -10,7 +10,7 @@ ghost use Rattle.bfs_recovery.specs.Recovering.{IsReadFrom, IsRecovered, Replays
 use crate::error::RecoverError;
 use bfs_auth::Keys;
 use bfs_node::{Executor, Node};
-use bfs_steps::{ReplayError, bodies_are_read, replay};
+use bfs_steps::{ReplayError, replay};
 use std::alloc::Global;
 use std::sync::Wait;
 use std::thread::Threads;
@@ -32,7 +32,6 @@ pub fn recover<R: Threads + Wait + Sync>(
     // whatever is recovered is read so.
     ensures found { IfOk result (IsReadFrom keys (record { text = text.now; bodies = map (λ body. body.now) bodies.now })) }
 {
-    bodies_are_read();
     let mut node = Node::restored(rt, alloc, keys, text)?;
     replay_all(&mut node, rt, executor, alloc, bodies)?;
     Ok(node)

@@ -1,8 +1,7 @@
-ghost use Rattle.std.specs.Prelude.{◌≡◌, ◌⊎◌, ◌≤◌, OnErr, OnOk};
+ghost use Rattle.std.specs.Prelude.{◌≡◌, ◌⊎◌, OnErr, OnOk};
 ghost use Rattle.bfs_journal.specs.Records.{IsBody};
-ghost use Rattle.bfs_node.specs.Saving.{IsSavable, text_of};
-ghost use Rattle.bfs_recovery.specs.Holding.{saved_as, with_body};
-ghost use Rattle.bfs_recovery.specs.Keeping.{IsKept};
+ghost use Rattle.bfs_recovery.specs.Holding.{with_body};
+ghost use Rattle.bfs_recovery.specs.Keeping.{IsKept, IsSaved};
 
 use crate::folder::Folder;
 use bfs_filter::TurnError;
@@ -55,23 +54,25 @@ impl<F: Folder + Drop> Store<F> {
         ensures either { OnErr result ((self.new ≡ self.old) ⊎ IsKept service.now self.old self.new) }
     {
         if !service.is_spelled() {
-            return self.save(service.node());
+            self.save(service.node())?;
+            return Ok(());
         }
         let steps = service.steps();
         if steps.is_empty() {
             return Ok(());
         }
         if self.is_full() || steps.len() > MOST_BODY_BYTES {
-            return self.save(service.node());
+            self.save(service.node())?;
+            return Ok(());
         }
-        self.append(steps)
+        self.append(steps)?;
+        Ok(())
     }
 
     /// Puts a node in the place of all that is held.
     pub(crate) fn save(&mut self, node: &Node) -> Result<(), TurnError>
-        ensures savable { OnOk result (IsSavable node.now) }
-        ensures kept { OnOk result (self.new ≡ saved_as (text_of node.now)) }
-        ensures either { OnErr result ((self.new ≡ self.old) ⊎ (IsSavable node.now × (self.new ≡ saved_as (text_of node.now)))) }
+        ensures kept { OnOk result (IsSaved node.now self.new) }
+        ensures either { OnErr result ((self.new ≡ self.old) ⊎ IsSaved node.now self.new) }
     {
         let text = node.save()?;
         self.folder.replace(text.as_slice())?;
