@@ -25,8 +25,8 @@ the_node_comes_back fronts keys saved synced more count bodies rest savable hold
       take front.n (synced ++ more),
       record {
         n = front.n;
-        no_fewer = subst (λ (k : ℕ). k ≤ front.n) (length-map body_text synced) front.no_fewer;
-        no_more = subst (λ (k : ℕ). front.n ≤ k) (ap length (sym both) ∙ length-map body_text (synced ++ more)) front.no_more;
+        no_fewer = subst (λ (k : ℕ). k ≤ front.n) (length-map synced body_text) front.no_fewer;
+        no_more = subst (λ (k : ℕ). front.n ≤ k) (ap length (sym both) ∙ length-map (synced ++ more) body_text) front.no_more;
         read = refl;
       },
       record {

@@ -49,6 +49,7 @@ fn replay_all<R: Threads + Wait + Sync>(
     ensures { ReplaysAll node.old (map (λ body. body.now) bodies.now) result node.new }
 {
     for body in bodies {
+        let body = *body;
         replay(node, rt, executor, alloc, body)?;
     }
     Ok(())
