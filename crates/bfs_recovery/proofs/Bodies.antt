@@ -13,7 +13,7 @@ use Rattle.bfs_saving.specs.declared.error.SavedError.{SavedError}
 use Rattle.bfs_saving.specs.declared.error.SavedError.TheVariants as saved
 use Rattle.bfs_steps.proofs.Public.{bodies_read}
 use Rattle.bfs_steps.specs.Reading.{steps_from}
-use Rattle.bfs_steps.specs.Replaying.{after_steps}
+use Rattle.bfs_steps.specs.Replaying.{Replays, after_steps}
 use Rattle.bfs_steps.specs.Steps.{FitSteps, body_text}
 use Rattle.bfs_steps.specs.declared.error.ReplayError.{ReplayError}
 use Rattle.bfs_steps.specs.declared.error.ReplayError.TheVariants as replay
@@ -34,12 +34,18 @@ nothing_made [] = refl
 nothing_made (body ∷ bodies) = nothing_made bodies
 
 -- one that spells no steps
-pub not_one : (node next : Node) (bodies : List (List ℕ)) (i : ℕ) (body : List ℕ) → i < length bodies → body ≡ get_or bodies i body
+not_one : (node next : Node) (bodies : List (List ℕ)) (i : ℕ) (body : List ℕ) → i < length bodies → body ≡ get_or bodies i body
     → after_bodies node (take i bodies) ≡ Some next → steps_from body ≡ None → after_bodies node bodies ≡ None
 not_one node next bodies i body within is first none =
     ap (after_bodies node) (sym (take-append-drop (i + 1) bodies)) ∙ fold-append after_body (Some node) (take (i + 1) bodies) (drop (i + 1) bodies)
     ∙ ap (λ (o : Option Node). fold after_body o (drop (i + 1) bodies)) (one_more node next None bodies i body within is first (ap (option_map (after_steps next)) none))
     ∙ nothing_made (drop (i + 1) bodies)
+
+-- neither is all made where one is not
+pub not_all : (node next now : Node) (bodies : List (List ℕ)) (i : ℕ) (body : List ℕ) (e : ReplayError) → i < length bodies → body ≡ get_or bodies i body
+    → after_bodies node (take i bodies) ≡ Some next → Replays next body (Err e) now → ReplaysAll node bodies (Err e) now
+not_all node next now bodies i body replay.Malformed within is first none = not_one node next bodies i body within is first none
+not_all node next now bodies i body replay.Memory within is first none = tt
 
 -- the bodies of turns are made as these turns
 pub turns_made : (node : Node) (turns : List (List NodeStep)) → AllByRecursion FitSteps turns → after_bodies node (map body_text turns) ≡ Some (after_turns node turns)

@@ -1,6 +1,6 @@
 -- What a folder holds behind a turn.
 use Rattle.std.proofs.Common.{◌≡◌, ◌∙◌, ℕ, Bool, true, List, [], ◌∷◌, ◌++◌, map, Option, Some, inl, inr, refl, sym, ap, subst}
-use Rattle.std.specs.Prelude.{◌⊎◌}
+use Rattle.std.specs.Prelude.{◌⊎◌, OnErr, Result, Ok, Err}
 use Rattle.std.proofs.lemmas.List.{map-append}
 use Rattle.std.proofs.lemmas.List.Sums.{fold-append}
 use Rattle.std.specs.List.{AllByRecursion}
@@ -93,3 +93,8 @@ saved_or_not doing old new left = elim left [ inl same ↦ inl same | inr saved 
 
 pub appended_or_not : (doing : Doing) (old new : Held) (body : List ℕ) → doing.is_spelled ≡ true → body ≡ doing.body → (new ≡ old) ⊎ (new ≡ with_body old body) → (new ≡ old) ⊎ IsKept doing old new
 appended_or_not doing old new body spelled is left = elim left [ inl same ↦ inl same | inr more ↦ inr (Appended spelled (more ∙ ap (with_body old) is)) ]
+
+-- what holds at all holds of an error
+pub on_err : {T E : Type 0} (P : Type 0) (result : Result T E) → P → OnErr result P
+on_err P (Ok value) p = tt
+on_err P (Err e) p = p

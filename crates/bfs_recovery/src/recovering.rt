@@ -33,24 +33,27 @@ pub fn recover<R: Threads + Wait + Sync>(
     ensures found { IfOk result (IsReadFrom keys (record { text = text.now; bodies = map (λ body. body.now) bodies.now })) }
 {
     let mut node = Node::restored(rt, alloc, keys, text)?;
-    replay_all(&mut node, rt, executor, alloc, bodies)?;
-    Ok(node)
+    match replay_all(&mut node, rt, &executor, alloc, bodies) {
+        Ok(()) => Ok(node),
+        Err(error) => Err(RecoverError::from(error)),
+    }
 }
 
 // Each body, one after another.
-#[tactic(auto, using(crate::proofs::Bodies::one_more, crate::proofs::Bodies::not_one))]
 fn replay_all<R: Threads + Wait + Sync>(
     node: &mut Node,
     rt: &R,
-    executor: Executor,
+    executor: &Executor,
     alloc: Global,
     bodies: &[&[u8]],
 ) -> Result<(), ReplayError>
     ensures { ReplaysAll node.old (map (λ body. body.now) bodies.now) result node.new }
 {
     for body in bodies {
-        let body = *body;
-        replay(node, rt, executor, alloc, body)?;
+        match replay(node, rt, *executor, alloc, body) {
+            Ok(()) => {}
+            Err(error) => return Err(error),
+        }
     }
     Ok(())
 }
