@@ -1,8 +1,8 @@
 -- Bodies of steps that are made again.
-use Rattle.std.proofs.Common.{◌≡◌, ◌≢◌, ◌∙◌, ℕ, ◌+◌, ◌<◌, List, [], ◌∷◌, ◌++◌, drop, get_or, length, map, take, Option, Some, None, Result, Ok, Err, fold, refl, sym, ap, subst}
+use Rattle.std.proofs.Common.{Bor, ◌≡◌, ◌≢◌, ◌∙◌, ℕ, ◌+◌, ◌<◌, List, [], ◌∷◌, ◌++◌, drop, get_or, length, map, take, Option, Some, None, Result, Ok, Err, fold, refl, sym, ap, subst}
 use Rattle.std.specs.Option.{option_map}
 use Rattle.std.specs.List.{AllByRecursion}
-use Rattle.std.proofs.lemmas.List.{take-append-drop, take_more}
+use Rattle.std.proofs.lemmas.List.{get_or-map, length-map, take-append-drop, take_more}
 use Rattle.std.proofs.lemmas.List.Sums.{fold-append}
 use Rattle.bfs_auth.specs.Keys.{Keys}
 use Rattle.bfs_node.specs.Nodes.{Node}
@@ -23,7 +23,7 @@ use Rattle.bfs_recovery.specs.declared.error.RecoverError.{RecoverError}
 use Rattle.bfs_recovery.specs.declared.error.RecoverError.TheVariants.{Memory}
 
 -- one body more
-pub one_more : (node next : Node) (now : Option Node) (bodies : List (List ℕ)) (i : ℕ) (body : List ℕ) → i < length bodies → body ≡ get_or bodies i body
+one_more : (node next : Node) (now : Option Node) (bodies : List (List ℕ)) (i : ℕ) (body : List ℕ) → i < length bodies → body ≡ get_or bodies i body
     → after_bodies node (take i bodies) ≡ Some next → option_map (after_steps next) (steps_from body) ≡ now → after_bodies node (take (i + 1) bodies) ≡ now
 one_more node next now bodies i body within is first made =
     ap (after_bodies node) (take_more bodies i body within) ∙ fold-append after_body (Some node) (take i bodies) (get_or bodies i body ∷ [])
@@ -41,11 +41,28 @@ not_one node next bodies i body within is first none =
     ∙ ap (λ (o : Option Node). fold after_body o (drop (i + 1) bodies)) (one_more node next None bodies i body within is first (ap (option_map (after_steps next)) none))
     ∙ nothing_made (drop (i + 1) bodies)
 
--- neither is all made where one is not
-pub not_all : (node next now : Node) (bodies : List (List ℕ)) (i : ℕ) (body : List ℕ) (e : ReplayError) → i < length bodies → body ≡ get_or bodies i body
-    → after_bodies node (take i bodies) ≡ Some next → Replays next body (Err e) now → ReplaysAll node bodies (Err e) now
-not_all node next now bodies i body replay.Malformed within is first none = not_one node next bodies i body within is first none
-not_all node next now bodies i body replay.Memory within is first none = tt
+-- as slices of bytes, one behind another
+module _ (node next now : Node) (bodies : List (Bor (List ℕ))) (i : ℕ) (d : Bor (List ℕ)) (within : i < length bodies)
+    (first : after_bodies node (take i (map (λ (b : Bor (List ℕ)). b.now) bodies)) ≡ Some next) where
+  abbrev all_bodies : List (List ℕ)
+  all_bodies = map (λ (b : Bor (List ℕ)). b.now) bodies
+
+  among : i < length all_bodies
+  among = subst (λ (n : ℕ). i < n) (sym (length-map bodies (λ (b : Bor (List ℕ)). b.now))) within
+
+  abbrev body : List ℕ
+  body = (get_or bodies i d).now
+
+  is_there : body ≡ get_or all_bodies i body
+  is_there = sym (get_or-map (λ (b : Bor (List ℕ)). b.now) bodies i d body within)
+
+  pub next_made : option_map (after_steps next) (steps_from body) ≡ Some now → after_bodies node (take (i + 1) all_bodies) ≡ Some now
+  next_made made = one_more node next (Some now) all_bodies i body among is_there first made
+
+  -- nor is all made where one is not
+  pub not_all : (e : ReplayError) → Replays next body (Err e) now → ReplaysAll node all_bodies (Err e) now
+  not_all replay.Malformed none = not_one node next all_bodies i body among is_there first none
+  not_all replay.Memory none = tt
 
 -- the bodies of turns are made as these turns
 pub turns_made : (node : Node) (turns : List (List NodeStep)) → AllByRecursion FitSteps turns → after_bodies node (map body_text turns) ≡ Some (after_turns node turns)

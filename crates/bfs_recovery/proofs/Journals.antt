@@ -20,8 +20,7 @@ pub the_node_comes_back : FrontsAreRead → TheNodeComesBack
 the_node_comes_back fronts keys saved synced more count bodies rest savable holder fit each reaches splits =
     let both = map-append body_text synced more in
     let front = fronts (map body_text synced) (map body_text more) count bodies rest (subst (λ (all : List (List ℕ)). All IsBody all) both each) reaches
-        (subst (λ (all : List (List ℕ)). Splits (take count (journal_of all)) bodies rest) both splits) in
-    (
+    (subst (λ (all : List (List ℕ)). Splits (take count (journal_of all)) bodies rest) both splits) in (
       take front.n (synced ++ more),
       record {
         n = front.n;
