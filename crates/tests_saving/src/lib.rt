@@ -9,4 +9,6 @@ mod hostile;
 #[cfg(test)]
 mod lives;
 #[cfg(test)]
+mod replayed;
+#[cfg(test)]
 mod replica;

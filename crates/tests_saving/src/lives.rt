@@ -1,24 +1,26 @@
 //! Replicas at random: those that are saved and restored between their steps go the way of those that never stop.
 use crate::replica::{MEMBERS, are_alike, restored};
 use bfs_codec::encode;
-use bfs_messages::{Message, Signed};
-use bfs_node::Node;
+use bfs_messages::{Message, Request, Signed};
+use bfs_node::{Executor, NoGate, Node, NodeError};
+use bfs_nodes_agree::node_calls::performing::{NodeCall, Sent, perform};
+use bfs_steps::put_step;
 use bfs_testing::generated::Generator;
 use bfs_testing::numbers::{CREATE, MKDIR, NULL, REMOVE, WRITE};
 use bfs_testing::{holds, same};
-use bfs_testing_nodes::calls::{Given, advance, deliver, propose, time_out};
 use bfs_testing_nodes::members::{request, request_message};
-use bfs_types::Memory;
+use bfs_types::{Memory, Time, TryClone};
 use std::alloc::Global;
 use std::sync::Wait;
 use std::test::Fail;
 use std::thread::Threads;
 
-/// Four replicas, the bytes of messages on their way, each with who sends it, and the bytes of all that were sent.
+/// Four replicas, what each has done as bytes, the bytes of messages on their way, each with who sends it, and the bytes of all that were sent.
 #[derive(Drop)]
 pub struct Lives {
     alloc: Global,
     nodes: Vec<Node>,
+    done: Vec<Vec<u8>>,
     on_their_way: Vec<(usize, Vec<u8>)>,
     said: Vec<u8>,
     draws: Generator,
@@ -32,12 +34,15 @@ impl Lives {
     /// Four that have done nothing.
     pub fn new(alloc: Global, seed: u64) -> Result<Lives, Memory> {
         let mut nodes = Vec::new(alloc);
+        let mut done = Vec::new(alloc);
         for me in 0..4 {
             nodes.push(MEMBERS.replica(alloc, me)?)?;
+            done.push(Vec::new(alloc))?;
         }
         Ok(Lives {
             alloc,
             nodes,
+            done,
             on_their_way: Vec::new(alloc),
             said: Vec::new(alloc),
             draws: Generator {
@@ -61,11 +66,16 @@ impl Lives {
         self.draws.next() as usize % below.max(1)
     }
 
-    // a REPLY is said, and goes to no replica; a refusal is passed over
-    fn send(&mut self, sender: usize, given: Given) -> Result<(), Memory> {
-        let Ok(sent) = given else {
-            return Ok(());
-        };
+    /// What a replica has done since this was asked last, as bytes.
+    pub fn take_done(&mut self, number: usize) -> Vec<u8> {
+        match self.done.get_mut(number) {
+            Some(done) => std::mem::replace(done, Vec::new(self.alloc)),
+            None => Vec::new(self.alloc),
+        }
+    }
+
+    // a REPLY is said, and goes to no replica
+    fn send(&mut self, sender: usize, sent: Vec<Signed<Message>>) -> Result<(), Memory> {
         for signed in &sent {
             let bytes = spelled(self.alloc, signed)?;
             self.said.extend_from_slice(&bytes)?;
@@ -76,18 +86,37 @@ impl Lives {
         Ok(())
     }
 
-    fn ask(&mut self) -> Result<(), Memory> {
+    // it does so, and a refusal is passed over
+    fn act<R: Threads + Wait + Sync>(
+        &mut self,
+        rt: &R,
+        who: usize,
+        call: NodeCall<'_>,
+    ) -> Result<(), Memory> {
+        let (Some(node), Some(done)) = (self.nodes.get_mut(who), self.done.get_mut(who)) else {
+            return Ok(());
+        };
+        put_step(&call, self.alloc, done)?;
+        let sent = performed(rt, self.alloc, node, call)?;
+        self.send(who, sent)
+    }
+
+    fn request(&mut self) -> Result<Signed<Request>, Memory> {
         self.timestamp = self.timestamp.saturating_add(1);
         let call = self.draws.request(self.alloc)?;
         let asked = request(self.alloc, 1, self.timestamp as u64, &call)?;
-        let signed = request_message(MEMBERS.request(self.alloc, 1, asked)?);
+        MEMBERS.request(self.alloc, 1, asked)
+    }
+
+    fn ask(&mut self) -> Result<(), Memory> {
+        let signed = request_message(self.request()?);
         let bytes = spelled(self.alloc, &signed)?;
         self.on_their_way.push((CLIENT, bytes))?;
         Ok(())
     }
 
     // one message comes to all others, but for some who lose it
-    fn deliver<R: Threads + Sync>(&mut self, rt: &R) -> Result<(), Memory> {
+    fn deliver<R: Threads + Wait + Sync>(&mut self, rt: &R) -> Result<(), Memory> {
         let count = self.on_their_way.len();
         let place = self.draw(count);
         if place >= self.on_their_way.len() {
@@ -96,46 +125,27 @@ impl Lives {
         let (sender, bytes) = self.on_their_way.swap_remove(place);
         for to in 0..4 {
             if to != sender && self.draw(24) != 0 {
-                self.give(rt, to, &bytes)?;
+                self.act(rt, to, NodeCall::Deliver(&bytes))?;
             }
         }
         Ok(())
     }
 
-    fn give<R: Threads + Sync>(&mut self, rt: &R, to: usize, bytes: &[u8]) -> Result<(), Memory> {
-        let Some(node) = self.nodes.get_mut(to) else {
-            return Ok(());
-        };
-        let given = deliver(rt, node, bytes);
-        self.send(to, given)
-    }
-
-    fn propose(&mut self, who: usize) -> Result<(), Memory> {
-        let Some(node) = self.nodes.get_mut(who) else {
-            return Ok(());
-        };
-        let Ok(signed) = propose(node, self.timestamp) else {
-            return Ok(());
-        };
-        let mut sent = Vec::new(self.alloc);
-        sent.push(signed)?;
-        self.send(who, Ok(sent))
+    fn propose<R: Threads + Wait + Sync>(&mut self, rt: &R, who: usize) -> Result<(), Memory> {
+        let time = Time::new(self.timestamp, 0).unwrap_or(Time::epoch());
+        self.act(rt, who, NodeCall::Propose(time))
     }
 
     fn advance<R: Threads + Wait + Sync>(&mut self, rt: &R, who: usize) -> Result<(), Memory> {
-        let Some(node) = self.nodes.get_mut(who) else {
-            return Ok(());
-        };
-        let given = advance(rt, node);
-        self.send(who, given)
-    }
-
-    fn time_out(&mut self, who: usize) -> Result<(), Memory> {
-        let Some(node) = self.nodes.get_mut(who) else {
-            return Ok(());
-        };
-        let given = time_out(node);
-        self.send(who, given)
+        self.act(rt, who, NodeCall::Checkpoint)?;
+        for _ in 0..16 {
+            if !self.nodes.get(who).is_some_and(|node| node.is_ready()) {
+                break;
+            }
+            self.act(rt, who, NodeCall::Execute)?;
+            self.act(rt, who, NodeCall::Checkpoint)?;
+        }
+        Ok(())
     }
 
     /// One step, which is drawn.
@@ -143,10 +153,52 @@ impl Lives {
         let (what, who) = (self.draw(32), self.draw(4));
         match what {
             0 | 1 => self.ask(),
-            2..=5 => self.propose(who),
+            2..=5 => self.propose(rt, who),
             6..=12 => self.advance(rt, who),
-            13 if self.draws.next() % 16 == 0 => self.time_out(who),
+            13 if self.draws.next() % 16 == 0 => self.act(rt, who, NodeCall::TimeOut),
             _ => self.deliver(rt),
+        }
+    }
+
+    // a request comes, and then another one
+    fn take_requests<R: Threads + Wait + Sync>(
+        &mut self,
+        rt: &R,
+        who: usize,
+    ) -> Result<(), Memory> {
+        let mut requests = Vec::new(self.alloc);
+        for _ in 0..2 {
+            requests.push(request_message(self.request()?))?;
+        }
+        self.act(rt, who, NodeCall::TakeRequests(&requests))
+    }
+
+    fn settle<R: Threads + Wait + Sync>(&mut self, rt: &R, who: usize) -> Result<(), Memory> {
+        let other = self.draw(4);
+        let Some(Some(stable)) = self.nodes.get(other).map(|node| node.stable()) else {
+            return Ok(());
+        };
+        let certificate = stable.checkpoint.try_clone(self.alloc)?;
+        self.act(rt, who, NodeCall::Settle(&certificate))
+    }
+
+    /// One step of another kind, which is drawn.
+    pub fn other_step<R: Threads + Wait + Sync>(&mut self, rt: &R) -> Result<(), Memory> {
+        let (what, who) = (self.draw(6), self.draw(4));
+        match what {
+            0 => {
+                let signed = request_message(self.request()?);
+                self.act(rt, who, NodeCall::Take(signed))
+            }
+            1 => self.take_requests(rt, who),
+            2 => {
+                let signed = self.request()?;
+                self.act(rt, who, NodeCall::Offer(signed))
+            }
+            3 => self.act(rt, who, NodeCall::ForgetAnswered),
+            4 => self.act(rt, who, NodeCall::ForgetProposed),
+            _ if self.draw(16) == 0 => self.act(rt, who, NodeCall::LeaveFor(2)),
+            _ => self.settle(rt, who),
         }
     }
 
@@ -174,6 +226,23 @@ impl Lives {
         }
         Ok(told)
     }
+}
+
+// what a call gives to be sent, nothing where it is refused
+fn performed<R: Threads + Wait + Sync>(
+    rt: &R,
+    alloc: Global,
+    node: &mut Node,
+    call: NodeCall<'_>,
+) -> Result<Vec<Signed<Message>>, Memory> {
+    let mut given = Vec::new(alloc);
+    match perform(node, rt, Executor::serial(), &NoGate, call) {
+        Ok(Sent::All(sent)) => given = sent,
+        Ok(Sent::One(signed)) => given.push(signed)?,
+        Err(NodeError::Memory) => return Err(Memory),
+        _ => (),
+    }
+    Ok(given)
 }
 
 fn spelled(alloc: Global, signed: &Signed<Message>) -> Result<Vec<u8>, Memory> {

@@ -1,0 +1,4 @@
+pub mod Loops
+pub mod Bodies
+pub mod Making
+pub mod Public
