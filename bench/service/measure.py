@@ -1,7 +1,8 @@
 """service [f=N seconds=N clients=N replica=PATH relay=PATH bfs=PATH ganesha=1]: what calls take through a relay and replicas as processes.
 
 GETATTRs and WRITEs of 8 KiB, 1 and 64 at a time, on this machine: calls a second, the median and the slowest hundredth of the times that calls took, and the
-processor time of a call in transports (their part of both) and in filters. Without programs the filters are bench/service/fakes.rs, which do next to nothing.
+processor time of a call in transports (their part of both) and in filters; beside them what appending and syncing alone takes, in the folder where replicas
+do that before they answer. Without programs the filters are bench/service/fakes.rs, which do next to nothing.
 `bfs=` names another checkout's tools/bfs. With `ganesha=1` it is Debian's one NFS server in user space instead, alone and with its files in memory, by
 version 3 of NFS, since it speaks no version 2.
 """
@@ -23,6 +24,7 @@ BLOCK, BLOCKS = 8_192, 64  # bytes of a WRITE, and how many of them the file has
 AT_A_TIME = 1, 64
 WARM = 0.5  # seconds before it is measured
 PATIENCE = 60
+RECORD, RECORDS = 1_024, 200  # bytes that are appended and synced, and how often
 UNSET = bytes([255]) * 4
 SECOND = os.sysconf("SC_CLK_TCK")
 NFS, MOUNT = (100_003, 2), (100_005, 1)
@@ -180,6 +182,19 @@ def measure(service, client, all_calls, seconds):
             print(f"{line}  {part:10.0%}  {all_used:11.2f}")
 
 
+def measure_syncs(room):
+    """What it takes to append a record and to sync it."""
+    took = []
+    with open(f"{room}/journal", "ab", buffering=0) as file:
+        for _ in range(RECORDS):
+            begun = time.monotonic()
+            file.write(bytes(RECORD))
+            os.fdatasync(file.fileno())
+            took.append(time.monotonic() - begun)
+    median, late = statistics.median(took) * 1_000, statistics.quantiles(took, n=100)[-1] * 1_000
+    print(f"append, sync  {1:9}  {len(took) / sum(took):8,.0f}  {median:10.2f}  {late:8.2f}")
+
+
 def main(room, words):
     pairs = [word.partition("=") for word in words]
     lib.chosen([name for name, *_ in pairs], SETTINGS)
@@ -197,5 +212,6 @@ def main(room, words):
         client = Client(service.port)
         handle = made_file(client)
         measure(service, client, (getattrs(handle), writes(handle)), settings["seconds"])
+        measure_syncs(room)
     finally:
         service.end()

@@ -75,6 +75,22 @@ refused acting (code.Adopt text certificate) e now other is =
     subst (λ (n : Node). GoesOn (IsAdoption certificate.now) acting (record { node = n; sent = acting.sent })) (sym is) (goes_nowhere (IsAdoption certificate.now) acting)
 refused acting (code.Settle certificate) e now other is = without_sent acting (Settles certificate.now) now (is.1 other).0 (is.1 other).1
 
+pub stays : (node : Node) (call : NodeCall) (e : NodeError) (now : Node) → e ≢ Memory → Performs node call (Err e) now → now ≡ node
+stays node (code.Deliver bytes) e now other is = (is.1 other).0
+stays node (code.Take signed) e now other is = (is.1 other).0
+stays node (code.TakeRequests messages) e now other is = (is.1 other).0
+stays node (code.TakeRequestsFor time messages) e now other is = (is.1 other).0
+stays node (code.Offer request) e now other is = (is.1 other).0
+stays node (code.Propose time) e now other is = (is.1 other).0
+stays node code.Execute e now other is = (is.1 other).0
+stays node code.Checkpoint e now other is = (is.1 other).0
+stays node code.TimeOut e now other is = (is.1 other).0
+stays node (code.LeaveFor view) e now other is = (is.1 other).0
+stays node code.ForgetAnswered e now other is = (is.1 other).0
+stays node code.ForgetProposed e now other is = (is.1 other).0
+stays node (code.Adopt text certificate) e now other is = is
+stays node (code.Settle certificate) e now other is = (is.1 other).0
+
 -- Calls one after another -----------------------------------------------------------------------------------------------------
 
 pub goes_both : (P : NodeStep → Type 0) (first next last : Acting) → GoesOn P first next → GoesOn P next last → GoesOn P first last
@@ -104,9 +120,3 @@ own_goes time code.ForgetProposed before after own is = goes_by_one (IsOwn time)
 own_goes time (code.Adopt text certificate) before after own is =
     goes_as (IsAdoption certificate.now) (IsOwn time) before after (λ step adopts. subst (IsOwn time) (sym adopts.2) tt) is
 own_goes time (code.Settle certificate) before after own is = goes_by_one (IsOwn time) before after (Settles certificate.now) tt is
-
-pub taking_goes : (messages : Messages) (before after : Acting) → after ≡ after_step before (TakesRequests messages) → GoesOn IsTaking before after
-taking_goes messages before after is = goes_by_one IsTaking before after (TakesRequests messages) tt is
-
-pub offering_goes : (request : Signed Request) (before after : Acting) → after ≡ after_step before (TakesOffered request) → GoesOn IsTaking before after
-offering_goes request before after is = goes_by_one IsTaking before after (TakesOffered request) tt is

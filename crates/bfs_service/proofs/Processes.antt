@@ -101,6 +101,17 @@ steps_of turn before after told t =
     (both_steps turn t.asked t.heard t.done (hears_steps turn turn.frames.items t.asked t.heard (λ frame i. i) t.hears)
     (steps_by turn (IsOwn turn.time) t.heard t.done (own_of turn) t.acts))
 
+steps_keep : (P : Node → Type 0) → ((node : Node) (step : NodeStep) → P node → P (outcome node step).now) → (a : Acting) (steps : List NodeStep) → P a.node → P (after_steps a steps).node
+steps_keep P keeps a [] is = is
+steps_keep P keeps a (step ∷ steps) is = steps_keep P keeps (after_step a step) steps (keeps a.node step is)
+
+-- what each step keeps a turn keeps
+pub turned_keeps : (P : Node → Type 0) → ((node : Node) (step : NodeStep) → P node → P (outcome node step).now) → (turn : Turn) (before after : Acting) (told : List Told)
+    → Turned turn before after told → P before.node → P after.node
+turned_keeps P keeps turn before after told t is =
+    let s = steps_of turn before after told t in
+    subst (λ (a : Acting). P a.node) (sym t.after_is) (subst (λ (a : Acting). P a.node) (sym s.done_is) (steps_keep P keeps before s.steps is))
+
 -- Turns of processes ------------------------------------------------------------------------------------------------------------
 
 -- between turns nothing waits to be told

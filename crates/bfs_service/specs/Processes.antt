@@ -90,12 +90,11 @@ abbrev pub TellsWhatWasSaid : (faulty : ℕ → Bool) → List ProcessTurn → N
 TellsWhatWasSaid faulty turns w steps = (t : ProcessTurn) (x : Told) → IsIn t turns → IsIn x t.told → is_note x.kind ≡ false → faulty t.who ≡ false
     → IsSent w t.who x ⊎ IsSaidBefore w steps t.who x
 
--- whatever turns processes take, there are steps of nodes that are the same; so of them holds what is proved of every list of steps: replicas agree, and where
--- there are others, what one tells again was said before
-abbrev pub ProcessesAgree : Type 0
-ProcessesAgree = (f : ℕ) (keys : Keyring) (start : Beginning) (turns : List ProcessTurn) (after : Processes)
-    → HaveTurned (new_processes f keys start) turns after
-    → (steps : List NodeTurn) × AreNodes f keys start turns after steps
+-- there are steps of nodes that are the same; so of them holds what is proved of every list of steps: replicas agree, and where there are others, what one tells
+-- again was said before
+abbrev pub AreAgreed : (f : ℕ) → Keyring → Beginning → List ProcessTurn → Processes → Type 0
+AreAgreed f keys start turns after =
+    (steps : List NodeTurn) × AreNodes f keys start turns after steps
     × ((faulty : ℕ → Bool) → AreShared f keys → FewAreFaulty f faulty
     → AreAuthentic faulty (new_node_replicas f keys start) steps
     → BatchesDontCollide faulty (after_node_turns (new_node_replicas f keys start) steps)
@@ -104,3 +103,9 @@ ProcessesAgree = (f : ℕ) (keys : Keyring) (start : Beginning) (turns : List Pr
     × ((faulty : ℕ → Bool) → 0 < f → AreShared f keys
     → AreAuthentic faulty (new_node_replicas f keys start) steps
     → TellsWhatWasSaid faulty turns (after_node_turns (new_node_replicas f keys start) steps) steps)
+
+-- whatever turns processes take
+abbrev pub ProcessesAgree : Type 0
+ProcessesAgree = (f : ℕ) (keys : Keyring) (start : Beginning) (turns : List ProcessTurn) (after : Processes)
+    → HaveTurned (new_processes f keys start) turns after
+    → AreAgreed f keys start turns after

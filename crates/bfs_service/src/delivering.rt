@@ -1,7 +1,8 @@
 // What frames of a turn say to a node.
 ghost use Rattle.std.specs.Prelude.{◌≡◌, OnOk};
 ghost use Rattle.bfs_model.specs.Bytes.Items.{word_at};
-ghost use Rattle.bfs_service.specs.Acting.{GoesOn, IsOwn};
+ghost use Rattle.bfs_service.specs.Acting.{IsOwn};
+ghost use Rattle.bfs_service.specs.Journals.{Goes, Journals};
 ghost use Rattle.bfs_service.specs.Turns.{Hears, HearsOne, begins_as, frame_delivered, is_message, is_of_kind};
 
 use crate::acting::Actor;
@@ -26,14 +27,15 @@ const NEW_VIEW: u32 = 7;
 impl Actor {
     /// Gives its node each message of a replica among the frames, one after another. What it refuses is passed over. All that is committed is executed before the
     /// next one comes: a CHECKPOINT that makes a later number stable would drop it (OSDI 1999 section 4.3). Before a NEW-VIEW a primary forgets what it has proposed.
-    #[tactic(auto, using(crate::proofs::Hearing::hears_more))]
+    #[tactic(auto, using(crate::proofs::Frames::hears_more, crate::proofs::Doing::journals_both, crate::proofs::Doing::journals_none))]
     pub(crate) fn deliver_all<R: Threads + Wait + Sync>(
         &mut self,
         rt: &R,
         time: Time,
         frames: &[Frame],
     ) -> Result<(), Memory>
-        ensures { OnOk result (Hears time frames.now self.old self.new) }
+        ensures hears { OnOk result (Hears time frames.now self.old.acting self.new.acting) }
+        ensures journals { OnOk result (Journals self.old self.new) }
     {
         for frame in frames {
             self.hear_frame(rt, time, frame)?;
@@ -47,7 +49,8 @@ impl Actor {
         time: Time,
         frame: &Frame,
     ) -> Result<(), Memory>
-        ensures { OnOk result (HearsOne time frame.now self.old self.new) }
+        ensures hears { OnOk result (HearsOne time frame.now self.old.acting self.new.acting) }
+        ensures journals { OnOk result (Journals self.old self.new) }
     {
         self.forget_before(rt, time, frame)?;
         self.deliver_frame(rt, frame)?;
@@ -56,14 +59,14 @@ impl Actor {
     }
 
     // A primary that may enter a later view, without asking for it, forgets what it has proposed in its own: its clients send it again.
-    #[tactic(auto, using(crate::proofs::Going::goes_nowhere))]
+    #[tactic(auto, using(crate::proofs::Doing::goes_nowhere))]
     fn forget_before<R: Threads + Wait + Sync>(
         &mut self,
         rt: &R,
         time: Time,
         frame: &Frame,
     ) -> Result<(), Memory>
-        ensures { OnOk result (GoesOn (IsOwn time) self.old self.new) }
+        ensures { OnOk result (Goes (IsOwn time) self.old self.new) }
     {
         if frame.kind == Kind::NewView && self.node().leads() {
             self.forget_proposed(rt, time)?;
@@ -76,7 +79,8 @@ impl Actor {
         rt: &R,
         frame: &Frame,
     ) -> Result<(), Memory>
-        ensures { OnOk result (self.new ≡ frame_delivered self.old frame.now) }
+        ensures delivered { OnOk result (self.new.acting ≡ frame_delivered self.old.acting frame.now) }
+        ensures journals { OnOk result (Journals self.old self.new) }
     {
         if is_message(frame) {
             self.deliver(rt, frame.payload.as_slice())?;

@@ -1,55 +1,55 @@
-ghost use Rattle.std.specs.Prelude.{◌≡◌, [], map, IfOk, OnOk};
+ghost use Rattle.std.specs.Prelude.{◌≡◌, [], map, true, IfOk, OnOk};
 ghost use Rattle.bfs_frames.specs.Parcels.{told_by};
-ghost use Rattle.bfs_service.specs.Acting.{GoesOn, IsOwn, IsTaking};
+ghost use Rattle.bfs_service.specs.Acting.{IsOwn, IsTaking};
+ghost use Rattle.bfs_service.specs.Journals.{Goes, Journals, all_told, with_no_steps};
 ghost use Rattle.bfs_service.specs.Telling.{Tells};
 ghost use Rattle.bfs_service.specs.Turns.{Takes, Turned};
 
 use crate::acting::Actor;
 use crate::delivering::requests_in;
-use crate::fetching::{Fetched, Fetching, Heard};
+use crate::fetching::Fetching;
 use crate::giving::{Giving, show_stable};
 use crate::notes::Notes;
 use crate::queue::{Queue, Wanted};
-use crate::reporting::report_of;
 use crate::resending::give_again;
 use crate::standings::{Status, standing_of};
 use crate::telling::parcels_of;
 use crate::terms::Terms;
 use bfs_filter::{Machine, TurnError};
 use bfs_frames::{Frame, Kind, Parcel, To, Turn};
-use bfs_log::StableCheckpoint;
 use bfs_messages::{Message, Request, Signed};
 use bfs_node::{Executor, Node};
-use bfs_policy::{Decision, Facts, Leaving, Policy};
+use bfs_policy::{Decision, Facts, Policy};
 use bfs_types::{Memory, Time};
 use std::alloc::Global;
 use std::marker::Model;
 use std::sync::Wait;
 use std::thread::Threads;
 
-/// A replica as a process: a node, and when it does what. What it is seen as is its node, and what that gave to be sent and nobody was told yet.
+/// A replica as a process: a node, and when it does what. What it is seen as is its node, what that gave to be sent and nobody was told yet, and what it did in a turn
+/// as bytes.
 #[derive(Drop)]
 pub struct Service {
-    alloc: Global,
-    actor: Actor,
-    queue: Queue,
-    policy: Policy,
-    giving: Giving,
-    fetching: Fetching,
-    notes: Notes,
+    pub(crate) alloc: Global,
+    pub(crate) actor: Actor,
+    pub(crate) queue: Queue,
+    pub(crate) policy: Policy,
+    pub(crate) giving: Giving,
+    pub(crate) fetching: Fetching,
+    pub(crate) notes: Notes,
     // the number and the view of the last batch that it proposed
-    proposed: u64,
-    proposed_in: u64,
+    pub(crate) proposed: u64,
+    pub(crate) proposed_in: u64,
     // the view that the operator was told last
     told_view: u64,
 }
 
 impl Model for Service {
-    ghost use Rattle.bfs_service.specs.Acting as model;
+    ghost use Rattle.bfs_service.specs.Journals as model;
     ghost use Rattle.std.specs.Coded.{codes};
     ghost use Rattle.bfs_serial.specs.Codes.{inodes_code};
 
-    ghost Value = { model.Acting };
+    ghost Value = { model.Doing };
 
     ghost coded = { Prim.hlevel (codes, inodes_code) };
 
@@ -59,7 +59,7 @@ impl Model for Service {
 impl Service {
     /// A replica that has been told nothing yet. It takes no memory.
     pub fn new(alloc: Global, node: Node, executor: Executor, terms: Terms) -> Service
-        ensures { result ≡ record { node = node; sent = [] } }
+        ensures { result ≡ record { acting = record { node = node; sent = [] }; body = []; is_spelled = true } }
     {
         let policy = Policy::new(node.f(), node.number(), terms.patience);
         Service {
@@ -78,9 +78,23 @@ impl Service {
 
     /// Its node as it is now.
     pub fn node(&self) -> &Node
-        ensures { result.now ≡ self.now.node }
+        ensures { result.now ≡ self.now.acting.node }
     {
         self.actor.node()
+    }
+
+    /// What its node did in the turn that it took last, as bytes, if each of its calls has a text.
+    pub fn steps(&self) -> &[u8]
+        ensures { result.now ≡ self.now.body }
+    {
+        self.actor.steps()
+    }
+
+    /// Whether each of them has one: an adoption of a state has none.
+    pub fn is_spelled(&self) -> bool
+        ensures { result ≡ self.now.is_spelled }
+    {
+        self.actor.is_spelled()
     }
 
     /// Takes a turn, and gives what is to be told. The node takes the new REQUESTs for which there is room, and answers its clients' last ones again;
@@ -95,22 +109,26 @@ impl Service {
         rt: &R,
         turn: &Turn,
     ) -> Result<Vec<Parcel>, Memory>
-        ensures { IfOk result (λ parcels. Turned turn.now self.old self.new (map told_by parcels.items)) }
+        ensures turned { IfOk result (λ parcels. Turned turn.now self.old.acting self.new.acting (map told_by parcels.items)) }
+        // The steps are those of this turn.
+        ensures journals { OnOk result (Journals (with_no_steps self.old) self.new) }
     {
+        self.actor.begin();
         self.take_requests(rt, turn.time, &turn.frames)?;
         self.actor.deliver_all(rt, turn.time, &turn.frames)?;
         self.go_on(rt, turn.microseconds(), turn.time, &turn.frames)?;
-        self.tell()
+        let parcels = self.tell()?;
+        Ok(parcels)
     }
 
-    #[tactic(auto, using(crate::proofs::Going::goes_both, crate::proofs::Going::goes_nowhere))]
+    #[tactic(auto, using(crate::proofs::Doing::goes_both, crate::proofs::Doing::goes_nowhere))]
     fn take_requests<R: Threads + Wait + Sync>(
         &mut self,
         rt: &R,
         time: Time,
         frames: &[Frame],
     ) -> Result<(), Memory>
-        ensures { OnOk result (GoesOn IsTaking self.old self.new) }
+        ensures { OnOk result (Goes IsTaking self.old self.new) }
     {
         let wanted = self.take_wanted(frames)?;
         self.answer_again(rt, wanted.again)?;
@@ -131,19 +149,19 @@ impl Service {
         rt: &R,
         requests: Vec<Signed<Request>>,
     ) -> Result<(), Memory>
-        ensures { OnOk result (GoesOn IsTaking self.old self.new) }
+        ensures { OnOk result (Goes IsTaking self.old self.new) }
     {
         self.actor.offer_all(rt, requests)
     }
 
-    #[tactic(auto, using(crate::proofs::Going::goes_nowhere))]
+    #[tactic(auto, using(crate::proofs::Doing::goes_nowhere))]
     fn give_requests<R: Threads + Wait + Sync>(
         &mut self,
         rt: &R,
         time: Time,
         requests: &[Signed<Message>],
     ) -> Result<(), Memory>
-        ensures { OnOk result (GoesOn IsTaking self.old self.new) }
+        ensures { OnOk result (Goes IsTaking self.old self.new) }
     {
         if requests.is_empty() {
             return Ok(());
@@ -157,7 +175,7 @@ impl Service {
     }
 
     // what it does of itself, and what it does about frames that are no messages
-    #[tactic(auto, using(crate::proofs::Going::goes_nowhere))]
+    #[tactic(auto, using(crate::proofs::Doing::goes_nowhere))]
     fn go_on<R: Threads + Wait + Sync>(
         &mut self,
         rt: &R,
@@ -165,7 +183,7 @@ impl Service {
         time: Time,
         frames: &[Frame],
     ) -> Result<(), Memory>
-        ensures { OnOk result (GoesOn (IsOwn time) self.old self.new) }
+        ensures { OnOk result (Goes (IsOwn time) self.old self.new) }
     {
         self.advance(rt, time)?;
         self.hear_all(rt, now, time, frames)?;
@@ -175,154 +193,13 @@ impl Service {
         Ok(())
     }
 
-    #[tactic(auto, using(crate::proofs::Going::goes_both, crate::proofs::Going::goes_nowhere))]
-    fn hear_all<R: Threads + Wait + Sync>(
-        &mut self,
-        rt: &R,
-        now: u64,
-        time: Time,
-        frames: &[Frame],
-    ) -> Result<(), Memory>
-        ensures { OnOk result (GoesOn (IsOwn time) self.old self.new) }
-    {
-        for frame in frames {
-            self.hear(rt, now, time, frame)?;
-        }
-        Ok(())
-    }
-
-    fn hear<R: Threads + Wait + Sync>(
-        &mut self,
-        rt: &R,
-        now: u64,
-        time: Time,
-        frame: &Frame,
-    ) -> Result<(), Memory>
-        ensures { OnOk result (GoesOn (IsOwn time) self.old self.new) }
-    {
-        match frame.kind {
-            Kind::Status => Ok(self.hear_status(frame.payload.as_slice())),
-            Kind::AskState => self.give_state(now, frame.payload.as_slice()),
-            Kind::State => self.hear_state(rt, time, frame.payload.as_slice()),
-            Kind::AskReport => self.report(rt),
-            _ => Ok(()),
-        }
-    }
-
-    // another one tells where it stands
-    fn hear_status(&mut self, payload: &[u8])
-        ensures { self.new ≡ self.old }
-    {
-        if let Ok(status) = Status::read(payload) {
-            self.policy.hear(status.sender, status.standing);
-        }
-    }
-
-    fn give_state(&mut self, now: u64, payload: &[u8]) -> Result<(), Memory>
-        ensures { self.new ≡ self.old }
-    {
-        self.giving
-            .give(now, self.actor.node(), payload, &mut self.notes)
-    }
-
-    #[tactic(auto, using(crate::proofs::Going::goes_both, crate::proofs::Going::goes_nowhere))]
-    fn hear_state<R: Threads + Wait + Sync>(
-        &mut self,
-        rt: &R,
-        time: Time,
-        payload: &[u8],
-    ) -> Result<(), Memory>
-        ensures { OnOk result (GoesOn (IsOwn time) self.old self.new) }
-    {
-        let heard = self
-            .fetching
-            .hear(self.actor.node(), payload, &mut self.notes)?;
-        match heard {
-            Heard::Nothing => Ok(()),
-            heard => self.catch_up(rt, time, &heard),
-        }
-    }
-
-    fn catch_up<R: Threads + Wait + Sync>(
-        &mut self,
-        rt: &R,
-        time: Time,
-        heard: &Heard,
-    ) -> Result<(), Memory>
-        ensures { OnOk result (GoesOn (IsOwn time) self.old self.new) }
-    {
-        self.take_over(rt, time, heard)?;
-        self.forget_answered(rt, time)?;
-        self.advance(rt, time)?;
-        Ok(())
-    }
-
-    #[tactic(auto, using(crate::proofs::Going::goes_nowhere))]
-    fn take_over<R: Threads + Wait + Sync>(
-        &mut self,
-        rt: &R,
-        time: Time,
-        heard: &Heard,
-    ) -> Result<(), Memory>
-        ensures { OnOk result (GoesOn (IsOwn time) self.old self.new) }
-    {
-        match heard {
-            Heard::State(fetched) => self.adopt(rt, time, fetched),
-            Heard::Shown(certificate) => self.settle(rt, time, certificate),
-            Heard::Nothing => Ok(()),
-        }
-    }
-
-    // What was executed before such a state waits no longer.
-    fn forget_answered<R: Threads + Wait + Sync>(
-        &mut self,
-        rt: &R,
-        time: Time,
-    ) -> Result<(), Memory>
-        ensures { OnOk result (GoesOn (IsOwn time) self.old self.new) }
-    {
-        self.actor.forget_answered(rt, time)?;
-        Ok(())
-    }
-
-    fn adopt<R: Threads + Wait + Sync>(
-        &mut self,
-        rt: &R,
-        time: Time,
-        fetched: &Fetched,
-    ) -> Result<(), Memory>
-        ensures { OnOk result (GoesOn (IsOwn time) self.old self.new) }
-    {
-        let does = self
-            .actor
-            .adopt(rt, time, fetched.text.as_slice(), &fetched.certificate)?;
-        if does {
-            self.tell_operator(
-                "a state is adopted, of number ",
-                fetched.certificate.number(),
-            )?;
-        }
-        Ok(())
-    }
-
-    fn settle<R: Threads + Wait + Sync>(
-        &mut self,
-        rt: &R,
-        time: Time,
-        certificate: &StableCheckpoint,
-    ) -> Result<(), Memory>
-        ensures { OnOk result (GoesOn (IsOwn time) self.old self.new) }
-    {
-        let does = self.actor.settle(rt, time, certificate)?;
-        if does {
-            self.tell_operator("a checkpoint is settled, of number ", certificate.number())?;
-        }
-        Ok(())
-    }
-
     // Executes what is committed, and makes checkpoints.
-    fn advance<R: Threads + Wait + Sync>(&mut self, rt: &R, time: Time) -> Result<(), Memory>
-        ensures { OnOk result (GoesOn (IsOwn time) self.old self.new) }
+    pub(crate) fn advance<R: Threads + Wait + Sync>(
+        &mut self,
+        rt: &R,
+        time: Time,
+    ) -> Result<(), Memory>
+        ensures { OnOk result (Goes (IsOwn time) self.old self.new) }
     {
         self.actor.advance(rt, time)
     }
@@ -395,117 +272,7 @@ impl Service {
         self.tell_operator("a view is entered: ", view)
     }
 
-    #[tactic(auto, using(crate::proofs::Going::goes_nowhere))]
-    fn propose<R: Threads + Wait + Sync>(
-        &mut self,
-        rt: &R,
-        time: Time,
-        proposes: bool,
-    ) -> Result<(), Memory>
-        ensures { OnOk result (GoesOn (IsOwn time) self.old self.new) }
-    {
-        if !proposes {
-            return Ok(());
-        }
-        self.propose_now(rt, time)?;
-        self.advance(rt, time)?;
-        Ok(())
-    }
-
-    fn propose_now<R: Threads + Wait + Sync>(&mut self, rt: &R, time: Time) -> Result<(), Memory>
-        ensures { OnOk result (GoesOn (IsOwn time) self.old self.new) }
-    {
-        let does = self.actor.propose(rt, time)?;
-        if does {
-            self.proposed = self.actor.last_number();
-            self.proposed_in = self.actor.node().view();
-        }
-        Ok(())
-    }
-
-    fn is_to_propose(&self) -> bool {
-        self.may_propose() && !self.actor.node().waiting().is_empty()
-    }
-
-    // it leads, and its last batch is executed
-    fn may_propose(&self) -> bool {
-        let node = self.actor.node();
-        node.leads() && (self.proposed_in != node.view() || self.proposed <= node.last_executed())
-    }
-
-    #[tactic(auto, using(crate::proofs::Going::goes_nowhere))]
-    fn leave<R: Threads + Wait + Sync>(
-        &mut self,
-        rt: &R,
-        time: Time,
-        leaving: Leaving,
-    ) -> Result<(), Memory>
-        ensures { OnOk result (GoesOn (IsOwn time) self.old self.new) }
-    {
-        if let Leaving::Stays = leaving {
-            return Ok(());
-        }
-        self.forget_proposed(rt, time)?;
-        self.leave_now(rt, time, leaving)?;
-        self.advance(rt, time)?;
-        Ok(())
-    }
-
-    // What it has proposed in its view may be in the way of the next one: its clients send it again.
-    fn forget_proposed<R: Threads + Wait + Sync>(
-        &mut self,
-        rt: &R,
-        time: Time,
-    ) -> Result<(), Memory>
-        ensures { OnOk result (GoesOn (IsOwn time) self.old self.new) }
-    {
-        self.actor.forget_proposed(rt, time)?;
-        Ok(())
-    }
-
-    fn leave_now<R: Threads + Wait + Sync>(
-        &mut self,
-        rt: &R,
-        time: Time,
-        leaving: Leaving,
-    ) -> Result<(), Memory>
-        ensures { OnOk result (GoesOn (IsOwn time) self.old self.new) }
-    {
-        let does = self.leave_view(rt, time, leaving)?;
-        if does {
-            let asked = self.actor.node().view_asked();
-            self.tell_operator("a view is asked for: ", asked)?;
-        }
-        Ok(())
-    }
-
-    // Whether it did.
-    #[tactic(auto, using(crate::proofs::Going::goes_nowhere))]
-    fn leave_view<R: Threads + Wait + Sync>(
-        &mut self,
-        rt: &R,
-        time: Time,
-        leaving: Leaving,
-    ) -> Result<bool, Memory>
-        ensures { OnOk result (GoesOn (IsOwn time) self.old self.new) }
-    {
-        match leaving {
-            Leaving::Follows(view) => self.actor.leave_for(rt, time, view),
-            Leaving::TimesOut => self.actor.time_out(rt, time),
-            Leaving::Stays => Ok(false),
-        }
-    }
-
-    // what it says of itself
-    fn report<R: Threads + Sync>(&mut self, rt: &R) -> Result<(), Memory>
-        ensures { self.new ≡ self.old }
-    {
-        let text = report_of(self.alloc, rt, self.actor.node(), self.queue.len())?;
-        self.notes
-            .add(To::Operator, Kind::Report, text.into_bytes())
-    }
-
-    fn tell_operator(&mut self, what: &str, number: u64) -> Result<(), Memory>
+    pub(crate) fn tell_operator(&mut self, what: &str, number: u64) -> Result<(), Memory>
         ensures { self.new ≡ self.old }
     {
         let text = format!(in self.alloc; "{what}{number}")?;
@@ -515,8 +282,8 @@ impl Service {
     // All that its node gave to be sent, then what that gives again, and then notes.
     #[tactic(auto, using(crate::proofs::Resent::all_told))]
     fn tell(&mut self) -> Result<Vec<Parcel>, Memory>
-        ensures told { IfOk result (λ parcels. Tells self.old (map told_by parcels.items)) }
-        ensures left { OnOk result (self.new ≡ record { node = self.old.node; sent = [] }) }
+        ensures told { IfOk result (λ parcels. Tells self.old.acting (map told_by parcels.items)) }
+        ensures left { OnOk result (self.new ≡ all_told self.old) }
     {
         let sent = self.actor.take_sent(self.alloc);
         let mut parcels = parcels_of(self.alloc, &sent)?;
@@ -527,7 +294,7 @@ impl Service {
 }
 
 impl Machine for Service {
-    ghost takes = { Takes };
+    ghost takes = { λ old turn parcels new. Takes old.acting turn parcels new.acting };
 
     fn turn<H: Threads + Wait + Sync>(
         &mut self,

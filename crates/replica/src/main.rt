@@ -1,15 +1,29 @@
-//! A replica of the file service: `replica CLUSTER_TOML REPLICA_TOML`. Turns come on standard input, and what it tells of each goes to standard output.
-//! docs/SERVICE.md says more.
+//! A replica of the file service: `replica CLUSTER_TOML REPLICA_TOML FOLDER [--new] [--damaged]`. Turns come on standard input, and what it tells of each goes to
+//! standard output. What it does it keeps in the folder, before it tells it; a later process with that folder goes on as the same replica. docs/SERVICE.md says
+//! more.
 #![tactic(auto)]
 
+ghost use Rattle.std.specs.Prelude.{◌≤◌, length, IfOk};
+ghost use Rattle.bfs_model.specs.Server.Limits.{most_clients};
+ghost use Rattle.bfs_auth.specs.Principals.{number_of};
+ghost use Rattle.bfs_auth.specs.Replicas.{AreOfReplica};
+ghost use Rattle.bfs_log.specs.Certificates.{faults};
+
+mod folder;
+mod notes;
+
+use crate::folder::{Held, ReplicaFolder};
 use anyhow::{Context, Error};
 use bfs_auth::Keys;
 use bfs_deployment::{Deployment, parse_deployment};
 use bfs_filter::serve;
+use bfs_journal::{Recovered, Rest, read_journal};
 use bfs_node::{Executor, Node};
-use bfs_service::{Service, Terms};
+use bfs_recovery::{Keeping, recover};
+use bfs_service::Terms;
 use bfs_settings::parse_keys;
 use bfs_types::MOST_CLIENTS;
+use std::fs::{File, Files};
 use std::io::BufReader;
 use std::process::ExitCode;
 use std::rt::Runtime;
@@ -29,22 +43,151 @@ fn main(rt: HostRuntime) -> ExitCode {
 }
 
 /// Serves standard input to its end.
-fn run<R: Runtime + AllocGlobal + Threads + Wait + Sync>(rt: &R) -> Result<(), Error> {
+fn run<R: Runtime + Files<File = File> + AllocGlobal + Threads + Wait + Sync>(
+    rt: &R,
+) -> Result<(), Error> {
     let alloc = rt.alloc();
     let words: Vec<String> = std::env::args(rt)?.collect(alloc)?;
-    let [_, cluster, keys] = words.as_slice() else {
-        return Err(Error::msg("usage: replica CLUSTER_TOML REPLICA_TOML"));
+    let [_, cluster, keys, folder, options @ ..] = words.as_slice() else {
+        return Err(Error::msg(USAGE));
     };
+    let options = options_in(options)?;
     let deployment = deployment_at(rt, cluster.as_str()).context(cluster.clone()?)?;
-    let node = node_at(rt, &deployment, keys.as_str()).context(keys.clone()?)?;
-    let mut service = Service::new(alloc, node, Executor::serial(), terms_of(&deployment));
-    answer(rt, &deployment, &mut service)
+    live(rt, &deployment, keys, folder, options)
+}
+
+/// Lives as the replica with the keys in that document, which the folder holds.
+fn live<R: Runtime + Files<File = File> + AllocGlobal + Threads + Wait + Sync>(
+    rt: &R,
+    deployment: &Deployment,
+    keys: &String,
+    folder: &String,
+    options: Options,
+) -> Result<(), Error> {
+    let keys = keys_at(rt, deployment, keys.as_str()).context(keys.clone()?)?;
+    let mut keeping = begin(rt, deployment, keys, folder.as_str(), options).context(
+        folder.clone()?,
+    )?;
+    answer(rt, deployment, &mut keeping)
+}
+
+const NEW: &str = "--new";
+
+const DAMAGED: &str = "--damaged";
+
+const USAGE: &str = "usage: replica CLUSTER_TOML REPLICA_TOML FOLDER [--new] [--damaged]";
+
+/// What an operator answers for.
+#[derive(Clone, Copy)]
+struct Options {
+    /// The replica has said nothing yet: it begins in an empty folder.
+    is_new: bool,
+    /// A replica whose journal is damaged may go on with what stands before the damage.
+    is_damaged: bool,
+}
+
+fn options_in(words: &[String]) -> Result<Options, Error> {
+    let (is_new, is_damaged) = (has(words, NEW), has(words, DAMAGED));
+    let known = usize::from(is_new) + usize::from(is_damaged);
+    if words.len() == known {
+        Ok(Options { is_new, is_damaged })
+    } else {
+        Err(Error::msg(USAGE))
+    }
+}
+
+fn has(words: &[String], word: &str) -> bool {
+    words.iter().any(|each| each.as_str() == word)
+}
+
+/// A life of the replica that the folder holds, or of a new one, with these keys.
+fn begin<'a, R: Runtime + Files<File = File> + AllocGlobal + Threads + Wait + Sync>(
+    rt: &'a R,
+    deployment: &Deployment,
+    keys: Keys,
+    folder: &'a str,
+    options: Options,
+) -> Result<Keeping<ReplicaFolder<'a, R>>, Error>
+    requires replica { AreOfReplica (faults keys) (number_of keys.me) keys }
+    requires clients { length keys.clients ≤ most_clients }
+{
+    if options.is_new {
+        folder::make(rt, folder)?;
+    }
+    let lock = folder::lock(rt, folder)?;
+    let held = folder::read(rt, folder)?;
+    let next = match &held {
+        Some(held) => held.number.saturating_add(1),
+        None => 0,
+    };
+    let node = node_of(rt, keys, held, options)?;
+    let folder = ReplicaFolder::new(rt, folder, lock, next);
+    let terms = terms_of(deployment);
+    Ok(Keeping::begin(rt.alloc(), node, Executor::serial(), terms, folder)?)
+}
+
+/// The replica that was held, or a new one.
+fn node_of<R: Runtime + AllocGlobal + Threads + Wait + Sync>(
+    rt: &R,
+    keys: Keys,
+    held: Option<Held>,
+    options: Options,
+) -> Result<Node, Error>
+    requires replica { AreOfReplica (faults keys) (number_of keys.me) keys }
+    requires clients { length keys.clients ≤ most_clients }
+{
+    match (held, options.is_new) {
+        (Some(held), false) => recovered(rt, keys, &held, options),
+        (None, true) => Ok(Node::new(rt.alloc(), keys)?),
+        (Some(_), true) => Err(Error::msg(
+            "it holds a replica: a new one would forget what that has said",
+        )),
+        (None, false) => Err(Error::msg(
+            "it holds no replica: --new begins one that has never run; another one is faulty without its folder",
+        )),
+    }
+}
+
+const DAMAGE: &str = "what it said may be lost, so it is faulty; --damaged lets it go on";
+
+fn recovered<R: Runtime + AllocGlobal + Threads + Wait + Sync>(
+    rt: &R,
+    keys: Keys,
+    held: &Held,
+    options: Options,
+) -> Result<Node, Error>
+    requires replica { AreOfReplica (faults keys) (number_of keys.me) keys }
+    requires clients { length keys.clients ≤ most_clients }
+{
+    let alloc = rt.alloc();
+    let number = held.number;
+    let Recovered { bodies, end, rest } = read_journal(alloc, held.journal.as_slice())?;
+    let records = bodies.len();
+    if rest == Rest::Damaged && !options.is_damaged {
+        let text = format!(in alloc;
+            "journal-{number} is damaged behind {records} records: {DAMAGE}"
+        )?;
+        return Err(Error::msg(text));
+    }
+    let node = recover(
+        rt,
+        alloc,
+        keys,
+        Executor::serial(),
+        held.saved.as_slice(),
+        bodies.as_slice(),
+    )?;
+    let left = held.journal.len() - end;
+    let _ = eprintln!(rt;
+        "replica: goes on behind saved-{number} and {records} records; {left} bytes behind these are none"
+    );
+    Ok(node)
 }
 
 fn answer<R: Runtime + AllocGlobal + Threads + Wait + Sync>(
     rt: &R,
     deployment: &Deployment,
-    service: &mut Service,
+    keeping: &mut Keeping<ReplicaFolder<'_, R>>,
 ) -> Result<(), Error> {
     let alloc = rt.alloc();
     let mut reader = BufReader::new(alloc, rt.reader())?;
@@ -52,7 +195,7 @@ fn answer<R: Runtime + AllocGlobal + Threads + Wait + Sync>(
     serve(
         alloc,
         rt,
-        service,
+        keeping,
         &deployment.limits(),
         &mut reader,
         &mut writer,
@@ -69,22 +212,17 @@ fn terms_of(deployment: &Deployment) -> Terms {
     Terms::of(deployment.f(), deployment.patience(), &deployment.limits())
 }
 
-/// A replica of that cluster, by its own keys.
-fn node_at<R: Runtime + AllocGlobal>(
+/// The keys of a replica of that cluster.
+fn keys_at<R: Runtime + AllocGlobal>(
     rt: &R,
     deployment: &Deployment,
     path: &str,
-) -> Result<Node, Error> {
+) -> Result<Keys, Error>
+    ensures replica { IfOk result (λ keys. AreOfReplica (faults keys) (number_of keys.me) keys) }
+    ensures clients { IfOk result (λ keys. length keys.clients ≤ most_clients) }
+{
     let document = fs::read(rt, path)?;
     let keys = parse_keys(rt.alloc(), document.as_slice())?;
-    node_of(rt, deployment, keys)
-}
-
-fn node_of<R: Runtime + AllocGlobal>(
-    rt: &R,
-    deployment: &Deployment,
-    keys: Keys,
-) -> Result<Node, Error> {
     let Some((f, _)) = keys.replica_of() else {
         return Err(Error::msg("these are not the keys of a replica"));
     };
@@ -94,5 +232,5 @@ fn node_of<R: Runtime + AllocGlobal>(
     if keys.clients() != deployment.clients() as usize || keys.clients() > MOST_CLIENTS as usize {
         return Err(Error::msg("there are other clients in the cluster"));
     }
-    Ok(Node::new(rt.alloc(), keys)?)
+    Ok(keys)
 }

@@ -4,6 +4,10 @@
 #[cfg(test)]
 mod calls;
 #[cfg(test)]
+mod folder;
+#[cfg(test)]
+mod lives;
+#[cfg(test)]
 mod rubbish;
 #[cfg(test)]
 mod script;

@@ -31,6 +31,8 @@ pub enum Step {
     Rubbish(&'static [u8]),
     /// Each is asked for its report.
     AskReport,
+    /// The process of a replica ends, and the next one begins as the same node.
+    Restarts(u32),
     /// So much was told to clients and to operators.
     Told(usize, usize),
     /// The first note to operators begins so, and has so many bytes.
@@ -97,6 +99,7 @@ fn holds<R: Threads + Wait + Sync>(
             Ok((world.replies.len(), world.notes.len()) == (replies, notes))
         }
         Step::Note(front, length) => Ok(is_noted(world, front, length)),
+        Step::Restarts(number) => world.restart(rt, number),
         _ => Ok(false),
     }
 }
@@ -124,7 +127,7 @@ pub fn plays<R: Threads + Wait + Sync>(
     terms: Terms,
     steps: &[Step],
 ) -> Result<(), Fail> {
-    let mut world = World::new(alloc, terms)?;
+    let mut world = World::new(alloc, terms, u32::MAX)?;
     compared(first_wrong(rt, alloc, &mut world, steps)?, None)?;
     Ok(())
 }

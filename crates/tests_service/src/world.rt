@@ -1,9 +1,13 @@
 //! Four replicas as processes, and what they tell one another, as frames.
+use crate::folder::MemoryFolder;
+use bfs_auth::{Keys, Principal};
+use bfs_filter::TurnError;
 use bfs_frames::{Frame, Kind, Parcel, To, Turn};
 use bfs_node::{Executor, Node};
-use bfs_service::{Service, Terms};
+use bfs_recovery::{Keeping, recover};
+use bfs_service::Terms;
 use bfs_settings::Settings;
-use bfs_types::{Memory, Time};
+use bfs_types::{MOST_CLIENTS, Memory, Time};
 use std::alloc::Global;
 use std::sync::Wait;
 use std::test::Fail;
@@ -47,10 +51,14 @@ static KINDS: [Kind; 12] = [
     Kind::Log,
 ];
 
+/// One of them, with a folder in memory.
+pub type Replica = Keeping<MemoryFolder>;
+
 #[derive(Drop)]
 pub struct World {
     alloc: Global,
-    pub replicas: Vec<Service>,
+    terms: Terms,
+    pub replicas: Vec<Replica>,
     inboxes: Vec<Vec<Frame>>,
     /// What clients were told.
     pub replies: Vec<Vec<u8>>,
@@ -63,26 +71,54 @@ pub fn settings(alloc: Global) -> Result<Settings, Fail> {
     Ok(Settings::new(alloc, 1, 16, b"a secret")?)
 }
 
-fn service_of(
-    alloc: Global,
-    settings: &Settings,
-    number: u32,
-    terms: Terms,
-) -> Result<Service, Memory> {
-    if number >= settings.replicas() {
-        return Err(Memory);
-    }
-    let node = Node::of_settings(alloc, settings, number)?;
-    Ok(Service::new(alloc, node, Executor::serial(), terms))
+fn keys_of(alloc: Global, number: u32) -> Result<Keys, Fail> {
+    let settings = settings(alloc)?;
+    let me = Principal::Replica(number);
+    Ok(Keys::derive(alloc, settings.secret(), me, settings.replicas(), settings.clients())?)
 }
 
-fn services_of(alloc: Global, terms: Terms) -> Result<Vec<Service>, Fail> {
-    let settings = settings(alloc)?;
-    let mut services = Vec::new(alloc);
-    for number in 0..4u32 {
-        services.push(service_of(alloc, &settings, number, terms)?)?;
+// It takes the place of all that was in the folder.
+fn begun(alloc: Global, node: Node, terms: Terms, room: u32) -> Result<Replica, Fail> {
+    let folder = MemoryFolder::new(alloc, room);
+    Ok(Keeping::begin(alloc, node, Executor::serial(), terms, folder)?)
+}
+
+fn new_node(alloc: Global, number: u32) -> Result<Node, Fail> {
+    let keys = keys_of(alloc, number)?;
+    match keys.replica_of() {
+        Some(_) if keys.clients() <= MOST_CLIENTS as usize => Ok(Node::new(alloc, keys)?),
+        _ => Err(Fail::from("no replica")),
     }
-    Ok(services)
+}
+
+// The node that a folder holds.
+fn recovered<R: Threads + Wait + Sync>(
+    rt: &R,
+    alloc: Global,
+    number: u32,
+    folder: &MemoryFolder,
+) -> Result<Node, Fail> {
+    let bodies = folder.bodies()?;
+    let keys = keys_of(alloc, number)?;
+    match keys.replica_of() {
+        Some(_) if keys.clients() <= MOST_CLIENTS as usize => Ok(recover(
+            rt,
+            alloc,
+            keys,
+            Executor::serial(),
+            folder.text(),
+            &bodies,
+        )?),
+        _ => Err(Fail::from("no replica")),
+    }
+}
+
+fn replicas_of(alloc: Global, terms: Terms, room: u32) -> Result<Vec<Replica>, Fail> {
+    let mut replicas = Vec::new(alloc);
+    for number in 0..4u32 {
+        replicas.push(begun(alloc, new_node(alloc, number)?, terms, room)?)?;
+    }
+    Ok(replicas)
 }
 
 fn no_frames(alloc: Global) -> Result<Vec<Vec<Frame>>, Memory> {
@@ -100,20 +136,22 @@ fn put(alloc: Global, inbox: &mut Vec<Frame>, kind: Kind, payload: &[u8]) -> Res
 
 fn turn_of<R: Threads + Wait + Sync>(
     rt: &R,
-    service: &mut Service,
+    replica: &mut Replica,
     millis: u32,
     frames: Vec<Frame>,
-) -> Result<Vec<Parcel>, Memory> {
+) -> Result<Vec<Parcel>, TurnError> {
     let time = Time::new(millis / 1_000, millis % 1_000 * 1_000).unwrap_or(Time::epoch());
-    service.take_turn(rt, &Turn { time, frames })
+    replica.take_turn(rt, &Turn { time, frames })
 }
 
 impl World {
-    pub fn new(alloc: Global, terms: Terms) -> Result<World, Fail> {
+    /// Four replicas, whose folders refuse all but so many calls.
+    pub fn new(alloc: Global, terms: Terms, room: u32) -> Result<World, Fail> {
         let inboxes = no_frames(alloc)?;
         Ok(World {
             alloc,
-            replicas: services_of(alloc, terms)?,
+            terms,
+            replicas: replicas_of(alloc, terms, room)?,
             inboxes,
             replies: Vec::new(alloc),
             notes: Vec::new(alloc),
@@ -145,7 +183,7 @@ impl World {
         millis: u32,
         up: &Up,
         rounds: u32,
-    ) -> Result<(), Memory> {
+    ) -> Result<(), TurnError> {
         for _ in 0..rounds {
             self.round(rt, millis, up)?;
         }
@@ -157,7 +195,7 @@ impl World {
         rt: &R,
         millis: u32,
         up: &Up,
-    ) -> Result<(), Memory> {
+    ) -> Result<(), TurnError> {
         for number in 0..self.replicas.len() {
             let told = self.take_turn(rt, millis, up, number)?;
             self.carry(number, told)?;
@@ -171,10 +209,10 @@ impl World {
         millis: u32,
         up: &Up,
         number: usize,
-    ) -> Result<Vec<Parcel>, Memory> {
+    ) -> Result<Vec<Parcel>, TurnError> {
         let frames = self.take_frames(number);
         match self.replicas.get_mut(number) {
-            Some(service) if up.get(number) == Some(&true) => turn_of(rt, service, millis, frames),
+            Some(replica) if up.get(number) == Some(&true) => turn_of(rt, replica, millis, frames),
             _ => Ok(Vec::new(self.alloc)),
         }
     }
@@ -222,8 +260,8 @@ impl World {
     /// How a replica stands: its view, the number last executed, and how many requests wait.
     pub fn standing(&self, number: usize) -> (u64, u64, usize) {
         match self.replicas.get(number) {
-            Some(service) => {
-                let node = service.node();
+            Some(replica) => {
+                let node = replica.node();
                 (node.view(), node.last_executed(), node.waiting().len())
             }
             None => (0, 0, 0),
@@ -232,7 +270,16 @@ impl World {
 
     /// The digest of a replica.
     pub fn digest<R: Threads + Sync>(&self, rt: &R, number: usize) -> Result<[u8; 32], Fail> {
-        let service = self.replicas.get(number).ok_or("a replica")?;
-        Ok(service.node().digest(rt)?)
+        let replica = self.replicas.get(number).ok_or("a replica")?;
+        Ok(replica.node().digest(rt)?)
+    }
+
+    /// The process of a replica ends, and the next one begins as the node that its folder holds. Whether that has the text of the node that there was.
+    pub fn restart<R: Threads + Wait + Sync>(&mut self, rt: &R, number: u32) -> Result<bool, Fail> {
+        let replica = self.replicas.get_mut(number as usize).ok_or("a replica")?;
+        let node = recovered(rt, self.alloc, number, replica.folder())?;
+        let is_same = node.save()?.as_slice() == replica.node().save()?.as_slice();
+        *replica = begun(self.alloc, node, self.terms, u32::MAX)?;
+        Ok(is_same)
     }
 }

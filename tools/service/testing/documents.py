@@ -22,6 +22,8 @@ def pairs(service):
     check(all("clients" not in each for each in clients), "a client has keys of clients")
     modes = {stat.S_IMODE(path.stat().st_mode) for path in Path(service.folder).glob("*-*.toml")}
     check(modes == {0o600}, f"modes {modes}")
+    folders = [Path(service.folder, f"replica-{number}") for number in range(4)]
+    check(all(stat.S_IMODE(folder.stat().st_mode) == 0o700 and [each.name for each in folder.iterdir()] == ["new"] for folder in folders), "folders")
     check(Path(service.folder, "relay.counter").read_text() == "0\n", "the relay's first timestamp is another")
 
 
@@ -31,12 +33,20 @@ def refusals(service):
     check(status == 1 and "nothing is written over" in said, said)
     said, status = service.bfs("replica", "1", service.folder, "--replica-program=/nowhere/there")
     check(status == 1 and "/nowhere/there: there is no such program" in said and said.count("\n") == 1, said)
-    path = Path(service.folder, "replica-1.toml")
+    path, folder = Path(service.folder, "replica-1.toml"), Path(service.folder, "replica-1")
     path.chmod(0o640)
     for words in (["replica", "1"], ["up"]):
         said, status = service.bfs(*words, service.folder, "--replica-program=/bin/true", "--relay-program=/bin/true")
         check(status == 1 and "replica-1.toml: others than its owner" in said and "0640" in said, said)
     path.chmod(0o600)
+    for change, back, told in (
+        (lambda: folder.chmod(0o755), lambda: folder.chmod(0o700), "replica-1: others than its owner"),
+        (lambda: folder.rename(f"{folder}-gone"), lambda: Path(f"{folder}-gone").rename(folder), "replica-1: No such file or directory"),
+    ):
+        change()
+        said, status = service.bfs("replica", "1", service.folder, "--replica-program=/bin/true")
+        check(status == 1 and told in said and said.count("\n") == 1, said)
+        back()
     said, status = service.bfs("replica", "4", service.folder)
     check(status == 1 and "0 to 3" in said, said)
 

@@ -7,6 +7,7 @@ import threading
 import time
 from pathlib import Path
 
+from service.keys import NEW
 from service.testing.calls import Stream
 from service.testing.files import MOUNT, Client, settings, text
 from service.testing.packages import install
@@ -76,23 +77,29 @@ class Kernel(Client):
 
 
 class Worker(threading.Thread):
-    """A kernel that writes blocks and reads them again until it is ended."""
+    """A kernel that writes blocks and reads them again until it is ended, and then all of them once more."""
 
     def __init__(self, service, name):
         super().__init__(daemon=True)
         self.kernel, self.name_of_file, self.is_told, self.done, self.fault = Kernel(service.relay), name, False, 0, None
+        self.handle, self.written = None, {}  # its file, and what was written last of each block
         self.start()
 
     def run(self):
         try:
-            handle = self.kernel.make(self.name_of_file)
+            self.handle = self.kernel.make(self.name_of_file)
             while not self.is_told:
                 block, data = self.done % 16, b"%08d" % self.done * 64
-                self.kernel.write(handle, block, data)
-                check(self.kernel.read(handle, block)[: len(data)] == data, f"other data in block {block}")
+                self.kernel.write(self.handle, block, data)
+                self.written[block] = data
+                self.look(block)
                 self.done += 1
         except Exception as fault:
             self.fault = fault
+
+    def look(self, block):
+        data = self.written[block]
+        check(self.kernel.read(self.handle, block)[: len(data)] == data, f"other data in block {block}")
 
     def goes_on(self, more=5):
         """Waits until it has done so much more."""
@@ -104,6 +111,8 @@ class Worker(threading.Thread):
         self.is_told = True
         self.join(SLOW)
         check(not self.is_alive() and not self.fault, f"the worker: {self.fault}")
+        for block in self.written:
+            self.look(block)
 
 
 def reports(service):
@@ -131,13 +140,20 @@ def same(service, numbers):
 
 def kill(service, *words):
     """Kills a transport and its filter with -9."""
-    both = service.process_of(*words)
-    for process in both:
+    kill_all(service, words)
+
+
+def kill_all(service, *all_words):
+    """The same of each of several, at once."""
+    running = lambda: [service.process_of(*words) for words in all_words]
+    until(lambda: all(running()), "they run")
+    processes = [process for both in running() for process in both]
+    for process in processes:
         try:
             os.kill(process, signal.SIGKILL)
         except ProcessLookupError:
             pass  # it has followed the other one
-    until(lambda: not any(map(words_of, both)), "they are gone")
+    until(lambda: not any(map(words_of, processes)), "they are gone")
 
 
 def end(service):
@@ -149,10 +165,26 @@ def end(service):
 
 
 def whole(service):
-    """A session on a whole service; all replicas have one digest."""
+    """A session on a whole service; all replicas have one digest, and none counts as new any more."""
     service.up()
+    check(not list(Path(service.folder).glob(f"replica-*/{NEW}")), "replicas are new")
     Session(service, "whole", 2).end()
     same(service, range(len(service.replicas)))
+    end(service)
+
+
+def stopped(service):
+    """All end as they are told, and are started again: what was written is there, and calls go on."""
+    service.up()
+    worker = Worker(service, b"work")
+    worker.goes_on()
+    worker.end()
+    end(service)
+    service.up()
+    for block in worker.written:
+        worker.look(block)
+    Session(service, "behind").end()
+    same(service, range(4))
     end(service)
 
 
@@ -168,7 +200,11 @@ def killed(service):
 
 
 def returned(service):
-    """It is started again: it fetches a state, and has the others' digest."""
+    """It is started again without its folder, as a new one: it fetches a state, and has the others' digest."""
+    folder = Path(service.folder, "replica-3")
+    for path in folder.iterdir():
+        path.unlink()
+    Path(folder, NEW).touch()
     transport = service.start("replica", "3")
     until(lambda: children(transport.pid), "its filter")
     until(lambda: service.log.read_text().count("replica 0: replica 3 is connected") > 1, "it is connected")

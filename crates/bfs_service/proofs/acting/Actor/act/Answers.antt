@@ -1,39 +1,12 @@
-use Rattle.std.proofs.Common.{Ok, sym, subst, append-nil}
-use Rattle.bfs_node.specs.Nodes.{Messages}
-use Rattle.bfs_nodes_agree.specs.Nodes.Performing.{Performs}
-use Rattle.bfs_nodes_agree.specs.declared.node_calls.performing.Sent.{Sent}
-use Rattle.bfs_nodes_agree.specs.declared.node_calls.performing.Sent.TheVariants.{Nothing, One, All}
-use Rattle.bfs_service.specs.Acting.{Acting, IsAfter}
-use Rattle.bfs_service.proofs.Going.{refused, taken}
+use Rattle.std.proofs.Common.{subst}
+use Rattle.bfs_service.specs.Journals.{Acts, Doing}
+use Rattle.bfs_service.proofs.Doing.{acts_taken}
 use Rattle.bfs_service.proofs.acting.Actor.act.Goals as goal
 
-pub returns-in-Ok-Nothing : goal.returns-in-Ok-Nothing
-returns-in-Ok-Nothing g c =
-    let acting : Acting = record { node = c.self.inside.node; sent = c.self.inside.sent.items } in
-    let now = c.perform.new.node in
-    let is = subst (λ (s : Sent). Performs acting.node c.args.call (Ok s) now) c.in-Ok-Nothing.field-0-is (subst (λ r. Performs acting.node c.args.call r now) c.in-Ok-Nothing.is c.perform.ensures) in
-    subst (λ (a : Acting). IsAfter c.args.call a (record { node = now; sent = acting.sent })) c.self.view_is
-    (subst (λ (sent : Messages). IsAfter c.args.call acting (record { node = now; sent = sent })) (append-nil acting.sent) (taken acting c.args.call Nothing now is))
-
-pub returns-in_ok-push-in-Ok-One : goal.returns-in_ok-push-in-Ok-One
-returns-in_ok-push-in-Ok-One g c =
-    let acting : Acting = record { node = c.self.inside.node; sent = c.self.inside.sent.items } in
-    let now = c.perform.new.node in
-    let is = subst (λ (s : Sent). Performs acting.node c.args.call (Ok s) now) c.in-Ok-One.field-0-is (subst (λ r. Performs acting.node c.args.call r now) c.in-Ok-One.is c.perform.ensures) in
-    subst (λ (a : Acting). IsAfter c.args.call a (record { node = now; sent = c.push.new.self.items })) c.self.view_is
-    (subst (λ (sent : Messages). IsAfter c.args.call acting (record { node = now; sent = sent })) (sym (c.in_ok-push-in-Ok-One.ensures.items)) (taken acting c.args.call (One c.in-Ok-One.signed) now is))
-
-pub returns-in_ok-append-in-Ok-All : goal.returns-in_ok-append-in-Ok-All
-returns-in_ok-append-in-Ok-All g c =
-    let acting : Acting = record { node = c.self.inside.node; sent = c.self.inside.sent.items } in
-    let now = c.perform.new.node in
-    let is = subst (λ (s : Sent). Performs acting.node c.args.call (Ok s) now) c.in-Ok-All.field-0-is (subst (λ r. Performs acting.node c.args.call r now) c.in-Ok-All.is c.perform.ensures) in
-    subst (λ (a : Acting). IsAfter c.args.call a (record { node = now; sent = c.append.new.self.items })) c.self.view_is
-    (subst (λ (sent : Messages). IsAfter c.args.call acting (record { node = now; sent = sent })) (sym (c.in_ok-append-in-Ok-All.ensures.items)) (taken acting c.args.call (All c.in-Ok-All.all) now is))
-
-pub returns-in_ok-unless_memory-in-Err : goal.returns-in_ok-unless_memory-in-Err
-returns-in_ok-unless_memory-in-Err g c =
-    let acting : Acting = record { node = c.self.inside.node; sent = c.self.inside.sent.items } in
-    let now = c.perform.new.node in
-    subst (λ (a : Acting). IsAfter c.args.call a (record { node = now; sent = acting.sent })) c.self.view_is
-    (refused acting c.args.call c.in-Err.error now c.in_ok-unless_memory-in-Err.ensures (subst (λ r. Performs acting.node c.args.call r now) c.in-Err.is c.perform.ensures))
+pub returns-then-is_taken : goal.returns-then-is_taken
+returns-then-is_taken g c =
+    let inside = c.self.inside in
+    let before : Doing = record { acting = record { node = inside.node; sent = inside.sent.items }; body = inside.steps.items; is_spelled = inside.is_spelled } in
+    let after : Doing = record { acting = record { node = c.make.new.node; sent = c.make.new.sent.items }; body = c.put_step.new.out.items; is_spelled = c.stay_spelled-is_spelled.result } in
+    subst (λ (d : Doing). Acts c.args.call d after) c.self.view_is
+    (acts_taken c.args.call before after c.in_ok-is_taken.ensures.made c.in_ok-put_step.ensures.fits c.in_ok-put_step.ensures.text c.stay_spelled-is_spelled.ensures)

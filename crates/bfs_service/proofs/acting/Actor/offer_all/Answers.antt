@@ -1,5 +1,5 @@
 use Rattle.bfs_service.specs.Acting.{IsTaking}
-use Rattle.bfs_service.proofs.Going.{goes_both}
+use Rattle.bfs_service.proofs.Doing.{goes_both}
 use Rattle.bfs_service.proofs.acting.Actor.offer_all.Goals as goal
 
 pub loop-request-preserved : goal.loop-request-preserved

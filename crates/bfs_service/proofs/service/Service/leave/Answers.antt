@@ -1,5 +1,5 @@
 use Rattle.bfs_service.specs.Acting.{IsOwn}
-use Rattle.bfs_service.proofs.Going.{goes_both}
+use Rattle.bfs_service.proofs.Doing.{goes_both}
 use Rattle.bfs_service.proofs.service.Service.leave.Goals as goal
 
 pub returns : goal.returns
