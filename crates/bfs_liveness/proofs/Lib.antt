@@ -1,1 +1,6 @@
--- What proofs share.
+pub mod Lists
+pub mod Ways
+pub mod Leading
+pub mod Work
+pub mod Turns
+pub mod Leaving

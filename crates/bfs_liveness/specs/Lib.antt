@@ -1,2 +1,4 @@
 -- What the contracts of bfs_liveness cite.
 pub mod Ways
+pub mod Meeting
+pub mod LawsOfMeeting
