@@ -1,6 +1,5 @@
 -- Ways on: turns that a fair host has members take, one after another. Members are 2f + 1 correct nodes or more.
-use Rattle.std.specs.Prelude.{◌≡◌, ◌⊎◌, ℕ, ◌+◌, ◌<◌, ◌≤◌, ◌^◌, Bool, true, is_some, List, [], ◌∷◌, ◌++◌, Some}
-use Rattle.bfs_auth.specs.Keys.{Keys}
+use Rattle.std.specs.Prelude.{◌≡◌, ◌⊎◌, ℕ, ◌+◌, ◌≤◌, ◌^◌, Bool, true, is_some, List, [], ◌∷◌, ◌++◌, Some}
 use Rattle.bfs_agreement.specs.Histories.{IsIn}
 use Rattle.bfs_checkpoints.specs.Keeping.{Kept}
 use Rattle.bfs_checkpoints.specs.Snapshots.{snapshot_of}
@@ -17,11 +16,11 @@ use Rattle.bfs_node.specs.Resending.{resent}
 use Rattle.bfs_nodes_agree.specs.Nodes.Laws.{BatchesDontCollide}
 use Rattle.bfs_nodes_agree.specs.Nodes.Premises.{StatesDontCollide}
 use Rattle.bfs_nodes_agree.specs.Nodes.Replicas.{Beginning, Keyring, NodeReplica, NodeReplicas, NodeTurn, after_node_turn}
-use Rattle.bfs_nodes_agree.specs.Nodes.Steps.{NodeStep, Delivers, Takes, TakesRequests, TakesOffered, Proposes, Executes, Fails, Checkpoints, TimesOut, LeavesFor, ForgetsAnswered, ForgetsProposed, Adopts, Settles}
+use Rattle.bfs_nodes_agree.specs.Nodes.Steps.{NodeStep, Delivers, Takes, TakesRequests, TakesOffered, Proposes, Fails, Adopts, Settles}
 use Rattle.bfs_nodes_progress.specs.Begun.{new_view_passes}
 use Rattle.bfs_nodes_progress.specs.Following.{asked_by}
 use Rattle.bfs_nodes_progress.specs.Rounds.{passes}
-use Rattle.bfs_nodes_progress.specs.Runs.{IsARun, order_of, reached}
+use Rattle.bfs_nodes_progress.specs.Runs.{order_of, reached}
 use Rattle.bfs_order.specs.declared.resending.Lag.{Lag}
 use Rattle.bfs_replies.specs.Tables.{Table}
 use Rattle.bfs_view_change.specs.Changes.Making.{change_of}
