@@ -45,7 +45,7 @@ abbrev pub IsOffered : (members : ℕ → Bool) → NodeReplicas → StableCheck
 IsOffered members w checkpoint files table = (i : ℕ) × (kept : Kept) × (members i ≡ true) × IsIn kept (w i).node.snapshots.kept
     × (kept.number ≡ checkpoint.number) × (kept.snapshot ≡ snapshot_of files table)
 
--- nothing comes but what a member gives; no client asks for anything, a host tells the time within its limits, and memory doesn't run out
+-- nothing comes but what a member gives; no client asks for anything, and memory doesn't run out. A batch of a time beyond the limits would have no text
 abbrev pub MayTake : (members : ℕ → Bool) → NodeReplicas → NodeStep → Type 0
 MayTake members w (Takes m) = (j : ℕ) × (members j ≡ true) × Gives (w j) m
 MayTake members w (Adopts checkpoint files table) = IsAMembers members w checkpoint × IsOffered members w checkpoint files table
