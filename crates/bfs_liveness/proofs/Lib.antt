@@ -4,3 +4,4 @@ pub mod Leading
 pub mod Work
 pub mod Turns
 pub mod Leaving
+pub mod Stable

@@ -2,3 +2,4 @@
 pub mod Ways
 pub mod Meeting
 pub mod LawsOfMeeting
+pub mod LawsOfMarks
