@@ -4,6 +4,7 @@ use Rattle.std.proofs.lemmas.Bool.{leb-true}
 use Rattle.bfs_auth.specs.declared.principals.Principal.TheVariants as principal
 use Rattle.bfs_log.specs.Certificates.{faults}
 use Rattle.bfs_log.specs.Headers.{header}
+use Rattle.bfs_log.specs.Logs.{headers}
 use Rattle.bfs_messages.specs.Messages as model
 use Rattle.bfs_messages.specs.Signing.{as_message}
 use Rattle.bfs_messages.specs.declared.message.Message.{Message}
@@ -11,7 +12,7 @@ use Rattle.bfs_messages.specs.declared.message.Message.TheVariants.{NewView, Ord
 use Rattle.bfs_messages.specs.declared.order_messages.OrderMessage.{OrderMessage}
 use Rattle.bfs_messages.specs.declared.order_messages.OrderMessage.TheVariants.{Checkpoint, PrePrepare}
 use Rattle.bfs_messages.specs.declared.signed.Signed.{Signed}
-use Rattle.bfs_votes.specs.Votes.{Header, Told, count_below, is_stable, replicas, tellers, told}
+use Rattle.bfs_votes.specs.Votes.{Header, Told, is_stable, replicas, tellers, told}
 use Rattle.bfs_votes.proofs.Public.{none_below}
 use Rattle.bfs_order.specs.Laws.Calls.{Call, IsKept, Takes, Proposes, Executes, Checkpoints, Installs, Leaves, Enters, execution}
 use Rattle.bfs_order.specs.Laws.Calls as order
@@ -125,6 +126,23 @@ module _ (laws : Below) (f : ℕ) (faulty : ℕ → Bool) (positive : 0 < f) (fe
       let first = step_on laws f faulty positive few w v t facts turn authentic.0 in
       has_certificate kept (after_node_turn w turn) first.orders first.world first.facts (λ k. order_keeps w v t facts turn authentic.0 HasCertificate kept.1 k (all k)) turns authentic.1
 
+  -- who has told a digest by a CHECKPOINT that stands in a log has executed up to its number
+  teller_executed : (w : NodeReplicas) (v : OrderReplicas) (t : World) → Facts f faulty w v t → ((k : ℕ) → HasExecutedTold (w k)) → (k j number : ℕ) (digest : List ℕ) → faulty j ≡ false
+      → Told (known (order_of w k)) 5 j 0 number digest → number ≤ (order_of w j).last
+  teller_executed w v t facts all k j number digest correct tells =
+      let log = (order_of w k).log in
+      let right = facts.right k in
+      let heard = told_in (headers log) 5 j 0 number digest tells in
+      let from = out_of_map header log heard.0 heard.1 in
+      let m = from.0 in
+      let is = subst (λ (h : Header). Is h 5 j 0 number digest) from.2 heard.2 in
+      let sender = is.sender in
+      let many : 0 < faults (w k).node.keys = subst (λ (n : ℕ). 0 < n) (sym (right.fit ∙ right.same_f)) positive in
+      let le = said_number (w j) (all j) (Order m.message) ((right.log m from.1).said (λ _. many) j (ap principal.Replica sender) correct) in
+      let of_number = header_number m.message m.auth is.tag in
+      let number_is = is.number in
+      omega (arith, le, of_number, number_is)
+
 -- A member's CHECKPOINT -----------------------------------------------------------------------------------------------
 
 is_member : (b : Bool) → not b ≡ false → b ≡ true
@@ -158,16 +176,6 @@ what_is_stable_was_executed laws kept f keys start faulty members turns k run ar
           let digest = has.0 in
           let is_f = same_f f faulty w led.orders led.world led.facts k in
           let teller = a_member_tells f faulty members are (known s) s.low digest (subst (λ (g : ℕ). is_stable g (known s) s.low digest ≡ true) is_f has.1.stable) in
-          let j = teller.0 in
-          let heard = told_in (known s) 5 j 0 s.low digest teller.2 in
-          let from = out_of_map header s.log heard.0 heard.1 in
-          let m = from.0 in
-          let is = subst (λ (h : Header). Is h 5 j 0 s.low digest) from.2 heard.2 in
-          let right = led.facts.right k in
-          let many : 0 < faults (w k).node.keys = subst (λ (n : ℕ). 0 < n) (sym (right.fit ∙ right.same_f)) run.others in
-          let said = (right.log m from.1).said (λ _. many) j (ap principal.Replica is.sender) (are.correct j teller.1) in
-          let le = said_number (w j) (told_executed laws f faulty run.others run.few first (new_order_replicas f) new_world begun (λ i x none. absurd none) turns run.authentic j) (Order m.message) said in
-          let number = header_number m.message m.auth is.tag in
-          let low = is.number in
-          (j, teller.1, omega (arith, le, number, low))
+          let all = told_executed laws f faulty run.others run.few first (new_order_replicas f) new_world begun (λ i x none. absurd none) turns run.authentic in
+          (teller.0, teller.1, teller_executed laws f faulty run.others run.few w led.orders led.world led.facts all k teller.0 s.low digest (are.correct teller.0 teller.1) teller.2)
     ]

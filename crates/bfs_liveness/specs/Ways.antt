@@ -10,6 +10,7 @@ use Rattle.bfs_messages.specs.Messages as model
 use Rattle.bfs_messages.specs.declared.order_messages.OrderMessage.{OrderMessage}
 use Rattle.bfs_messages.specs.declared.signed.Signed.{Signed}
 use Rattle.bfs_messages.specs.declared.message.Message.{Message}
+use Rattle.bfs_model.specs.Server.Limits.{log_size}
 use Rattle.bfs_model.specs.Server.Stored.{IsTime}
 use Rattle.bfs_model.specs.Server.Tree.{FileSystem}
 use Rattle.bfs_node.specs.Resending.{resent}
@@ -84,8 +85,8 @@ pub record AreFairTo (f : ℕ) (keys : Keyring) (start : Beginning) (faulty memb
 abbrev pub HaveViews : (f : ℕ) (members : ℕ → Bool) → NodeReplicas → Type 0
 HaveViews f members w = (k : ℕ) → members k ≡ true → asked_by w k + (f + 2) ≤ 2 ^ 63
 
--- views and numbers that members can still come to; and no file system has failed
+-- and come to log_size + 1 numbers more than it has executed; and no file system has failed
 pub record HasFuture (f : ℕ) (members : ℕ → Bool) (w : NodeReplicas) : Type 0 where
   pub views : HaveViews f members w
-  pub numbers : (k : ℕ) → members k ≡ true → (order_of w k).low + 100 ≤ 2 ^ 63
+  pub numbers : (k : ℕ) → members k ≡ true → (order_of w k).last + (log_size + 2) ≤ 2 ^ 63
   pub live : (k : ℕ) → members k ≡ true → is_some (w k).node.files ≡ true
