@@ -1,2 +1,5 @@
 -- What the contracts of bfs_liveness cite.
 pub mod Ways
+pub mod Meeting
+pub mod LawsOfMeeting
+pub mod LawsOfMarks
