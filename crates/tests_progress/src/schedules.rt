@@ -7,7 +7,7 @@ use std::test::Fail;
 use std::thread::Threads;
 
 /// How many schedules of four replicas are played, and a tenth of it of seven.
-const SCHEDULES: u64 = 12;
+const SCHEDULES: u64 = 500;
 
 fn first_stuck<R: Threads + Wait + Sync>(
     rt: &R,
