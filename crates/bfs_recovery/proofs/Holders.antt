@@ -1,5 +1,5 @@
 -- Whatever a replica does, it keeps its keys, its number, and how many faults it tolerates.
-use Rattle.std.proofs.Common.{◌≡◌, ◌∙◌, true, false, cond, ℕ, List, [], ◌∷◌, refl, sym, subst}
+use Rattle.std.proofs.Common.{◌≡◌, ◌∙◌, Bool, true, false, cond, ℕ, List, [], ◌∷◌, refl, sym, ap, subst}
 use Rattle.bfs_auth.specs.Keys.{Keys}
 use Rattle.bfs_messages.specs.Messages as model
 use Rattle.bfs_messages.specs.declared.signed.Signed.{Signed}
@@ -11,7 +11,7 @@ use Rattle.bfs_nodes_agree.specs.Nodes.Steps.{NodeStep, outcome, still}
 use Rattle.bfs_order.specs.Replica.States.{State}
 use Rattle.bfs_order.specs.Replica.Views as order
 use Rattle.bfs_steps.specs.Replaying.{after_step, after_steps}
-use Rattle.bfs_view_change.specs.Changes.Keeping.{with_asked, with_change}
+use Rattle.bfs_view_change.specs.Changes.Keeping.{changes_for, with_asked, with_change}
 use Rattle.bfs_view_change.specs.Changes.Making.{signed_new_view}
 use Rattle.bfs_view_change.specs.Changes.NewViews.{latest_checkpoint}
 use Rattle.bfs_view_change.specs.Changes.ViewChanges.{messages_of}

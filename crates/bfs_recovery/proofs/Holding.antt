@@ -1,5 +1,5 @@
 -- What a folder holds behind a turn.
-use Rattle.std.proofs.Common.{◌≡◌, ◌∙◌, ℕ, List, [], ◌∷◌, ◌++◌, Some, inl, inr, refl, sym, ap, subst}
+use Rattle.std.proofs.Common.{◌≡◌, ◌∙◌, ℕ, Bool, true, List, [], ◌∷◌, ◌++◌, map, Option, Some, inl, inr, refl, sym, ap, subst}
 use Rattle.std.specs.Prelude.{◌⊎◌, OnErr, Result, Ok, Err}
 use Rattle.std.proofs.lemmas.List.{map-append}
 use Rattle.std.proofs.lemmas.List.Sums.{fold-append}
@@ -10,8 +10,9 @@ use Rattle.bfs_frames.specs.declared.frames.Turn.{Turn}
 use Rattle.bfs_node.specs.Nodes.{Node}
 use Rattle.bfs_node.specs.Saving.{IsOf, IsSavable, text_of}
 use Rattle.bfs_nodes_agree.proofs.Public.{some_is}
-use Rattle.bfs_nodes_agree.specs.Nodes.Steps.{NodeStep}
+use Rattle.bfs_nodes_agree.specs.Nodes.Steps.{NodeStep, outcome}
 use Rattle.bfs_service.proofs.Public.{turned_keeps}
+use Rattle.bfs_service.specs.Acting.{Acting}
 use Rattle.bfs_service.specs.Journals.{AreSpelled, Doing, Journals, with_no_steps}
 use Rattle.bfs_service.specs.Turns.{Turned}
 use Rattle.bfs_steps.proofs.Public.{bodies_read}
@@ -19,9 +20,9 @@ use Rattle.bfs_steps.specs.Reading.{steps_from, steps_within}
 use Rattle.bfs_steps.specs.Replaying.{after_steps}
 use Rattle.bfs_steps.specs.Steps.{FitSteps, body_text}
 use Rattle.bfs_recovery.proofs.Holders.{of_step, of_turns}
-use Rattle.bfs_recovery.specs.Holding.{Held, IsHeld, saved_as, with_body}
-use Rattle.bfs_recovery.specs.Keeping.{IsKept, Saved, Appended, Unchanged}
-use Rattle.bfs_recovery.specs.Turns.{Holds, IsTaken, IsUntold}
+use Rattle.bfs_recovery.specs.Holding.{Held, IsHeld, after_turns, saved_as, with_body}
+use Rattle.bfs_recovery.specs.Keeping.{IsKept, IsSaved, Saved, Appended, Unchanged}
+use Rattle.bfs_recovery.specs.Turns.{Holds, IsTaken, IsUntold, Living}
 
 pub fit_both : (xs ys : List (List NodeStep)) → AllByRecursion FitSteps xs → AllByRecursion FitSteps ys → AllByRecursion FitSteps (xs ++ ys)
 fit_both [] ys p q = q
@@ -84,6 +85,14 @@ is_untold turn before doing told old new turned journals left = elim left [
   | inl same ↦ inl same
   | inr kept ↦ inr (record { acting = doing.acting; told = told; taken = is_taken turn before doing told old new turned journals kept })
 ]
+
+-- What a store does, also where its folder refuses -----------------------------------------------------------------------------
+
+pub saved_or_not : (doing : Doing) (old new : Held) → (new ≡ old) ⊎ IsSaved doing.acting.node new → (new ≡ old) ⊎ IsKept doing old new
+saved_or_not doing old new left = elim left [ inl same ↦ inl same | inr saved ↦ inr (Saved saved) ]
+
+pub appended_or_not : (doing : Doing) (old new : Held) (body : List ℕ) → doing.is_spelled ≡ true → body ≡ doing.body → (new ≡ old) ⊎ (new ≡ with_body old body) → (new ≡ old) ⊎ IsKept doing old new
+appended_or_not doing old new body spelled is left = elim left [ inl same ↦ inl same | inr more ↦ inr (Appended spelled (more ∙ ap (with_body old) is)) ]
 
 -- what holds at all holds of an error
 pub on_err : {T E : Type 0} (P : Type 0) (result : Result T E) → P → OnErr result P

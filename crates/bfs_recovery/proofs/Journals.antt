@@ -1,10 +1,12 @@
 -- Of a journal that was cut a replica is recovered.
-use Rattle.std.proofs.Common.{◌∙◌, ℕ, zero, suc, ◌≤◌, List, [], ◌∷◌, ◌++◌, length, map, take, refl, sym, ap, subst}
+use Rattle.std.proofs.Common.{◌≡◌, ◌∙◌, ℕ, zero, suc, ◌≤◌, List, [], ◌∷◌, ◌++◌, length, map, take, refl, sym, ap, subst}
 use Rattle.std.specs.Prelude.{All}
 use Rattle.std.specs.List.{AllByRecursion}
 use Rattle.std.proofs.lemmas.List.{length-map, map-append, take-map}
-use Rattle.bfs_journal.specs.Laws.{FrontsAreRead}
+use Rattle.bfs_auth.specs.Keys.{Keys}
+use Rattle.bfs_journal.specs.Laws.{FrontsAreRead, IsFront}
 use Rattle.bfs_journal.specs.Records.{IsBody, Splits, journal_of}
+use Rattle.bfs_node.specs.Nodes.{Node}
 use Rattle.bfs_nodes_agree.specs.Nodes.Steps.{NodeStep}
 use Rattle.bfs_steps.specs.Steps.{FitSteps, body_text}
 use Rattle.bfs_recovery.specs.Journals.{TheNodeComesBack}

@@ -1,19 +1,19 @@
 -- A crash is a pause.
-use Rattle.std.proofs.Common.{◌≡◌, ◌∙◌, ℕ, ◌==◌, ◌<◌, List, [], ◌∷◌, inl, inr, refl, sym, ap, subst, eqb-true}
-use Rattle.std.specs.Prelude.{◌⊎◌}
+use Rattle.std.proofs.Common.{◌≡◌, ◌∙◌, ℕ, Bool, true, false, ◌==◌, ◌<◌, ◌≤◌, List, [], ◌∷◌, ◌++◌, length, map, take, inl, inr, refl, sym, ap, subst, eqb-true}
+use Rattle.std.specs.Prelude.{◌⊎◌, All}
 use Rattle.std.specs.List.{AllByRecursion}
 use Rattle.bfs_auth.specs.Keys.{Keys}
 use Rattle.bfs_frames.specs.Parcels.{Told}
 use Rattle.bfs_frames.specs.declared.frames.Turn.{Turn}
 use Rattle.bfs_node.specs.Nodes.{Messages, Node}
-use Rattle.bfs_nodes_agree.specs.Nodes.Replicas.{Keyring}
+use Rattle.bfs_nodes_agree.specs.Nodes.Replicas.{Beginning, Keyring, beginning_node}
 use Rattle.bfs_service.proofs.Public.{either}
 use Rattle.bfs_service.specs.Acting.{Acting}
-use Rattle.bfs_service.specs.Processes.{HaveTurned, Processes, ProcessesAgree, ProcessTurn, new_processes}
+use Rattle.bfs_service.specs.Processes.{HasTurned, HaveTurned, Processes, ProcessesAgree, ProcessTurn, new_processes}
 use Rattle.bfs_service.specs.Turns.{Turned}
 use Rattle.bfs_votes.specs.Votes.{replicas}
 use Rattle.bfs_recovery.specs.Holding.{Held, IsHeld}
-use Rattle.bfs_recovery.specs.Lives.{Answers, Restarts, AreKept, Changes, Event, HaveHappened, IsRestarted, Lives, LivesAgree, acting_in, who_of}
+use Rattle.bfs_recovery.specs.Lives.{Answers, Restarts, AreKept, AreNew, Changes, Event, Happens, HaveHappened, IsRestarted, Lives, LivesAgree, acting_in, who_of}
 use Rattle.bfs_recovery.specs.Turns.{Begins, IsTaken, Living}
 use Rattle.bfs_recovery.proofs.Holding.{held_of, saved_alone}
 

@@ -1,18 +1,21 @@
 -- A process goes on by steps that are journaled.
-use Rattle.std.proofs.Common.{◌≡◌, ◌&&◌, ◌∙◌, ℕ, true, List, [], ◌∷◌, ◌++◌, length, take, refl, sym, ap, append_assoc, append-nil}
+use Rattle.std.proofs.Common.{◌≡◌, ◌&&◌, ◌∙◌, ℕ, Bool, true, false, List, [], ◌∷◌, ◌++◌, length, take, refl, sym, ap, subst, append_assoc, append-nil}
+use Rattle.std.specs.List.{AllByRecursion}
 use Rattle.std.proofs.lemmas.Bool.{and_parts}
 use Rattle.std.proofs.lemmas.Grind.{flat_map-append}
 use Rattle.std.proofs.lemmas.List.Sums.{fold-append}
 use Rattle.std.proofs.Math.Seq.{take-append_seam}
+use Rattle.bfs_messages.specs.Messages.{Request}
+use Rattle.bfs_messages.specs.declared.signed.Signed.{Signed}
 use Rattle.bfs_model.specs.Server.Tree.{Time}
-use Rattle.bfs_node.specs.Nodes.{Node}
+use Rattle.bfs_node.specs.Nodes.{Messages, Node}
 use Rattle.bfs_nodes_agree.specs.Nodes.Steps.{NodeStep, TakesRequests, TakesOffered}
 use Rattle.bfs_nodes_agree.specs.declared.node_calls.performing.NodeCall.{NodeCall}
 use Rattle.bfs_nodes_agree.specs.declared.node_calls.performing.NodeCall.TheVariants as code
 use Rattle.bfs_steps.specs.Replaying as nodes
-use Rattle.bfs_steps.specs.Steps.{FitSteps, body_text, step_text, steps_of}
+use Rattle.bfs_steps.specs.Steps.{FitsStep, FitSteps, body_text, step_text, steps_of}
 use Rattle.bfs_service.specs.Acting.{Acting, IsAfter, IsOwn, IsOwnCall, IsTaking}
-use Rattle.bfs_service.specs.Journals.{Acts, Doing, Goes, Journals, has_text}
+use Rattle.bfs_service.specs.Journals.{Acts, AreSpelled, Doing, Goes, Journals, has_text}
 use Rattle.bfs_service.proofs.Going as going
 
 -- What is journaled ---------------------------------------------------------------------------------------------------------

@@ -1,7 +1,9 @@
 -- A node goes on by steps.
 use Rattle.std.proofs.Common.{◌≡◌, ◌≢◌, ◌∙◌, [], ◌∷◌, ◌++◌, Ok, Err, refl, sym, ap, subst, append-nil}
 use Rattle.std.proofs.lemmas.List.Sums.{fold-append}
-use Rattle.bfs_node.specs.Nodes.{Node}
+use Rattle.bfs_messages.specs.Messages.{Request}
+use Rattle.bfs_messages.specs.declared.signed.Signed.{Signed}
+use Rattle.bfs_node.specs.Nodes.{Messages, Node}
 use Rattle.bfs_node.specs.declared.error.NodeError.{NodeError}
 use Rattle.bfs_node.specs.declared.error.NodeError.TheVariants.{Memory}
 use Rattle.bfs_nodes_agree.proofs.Public.{both_in, none_in, one_in}
@@ -11,7 +13,7 @@ use Rattle.bfs_nodes_agree.specs.declared.node_calls.performing.NodeCall.{NodeCa
 use Rattle.bfs_nodes_agree.specs.declared.node_calls.performing.NodeCall.TheVariants as code
 use Rattle.bfs_nodes_agree.specs.declared.node_calls.performing.Sent.{Sent}
 use Rattle.bfs_model.specs.Server.Tree.{Time}
-use Rattle.bfs_service.specs.Acting.{Acting, GoesOn, IsAdoption, IsAfter, IsOwn, IsOwnCall, after_step, after_steps}
+use Rattle.bfs_service.specs.Acting.{Acting, GoesOn, IsAdoption, IsAfter, IsOwn, IsOwnCall, IsTaking, after_step, after_steps}
 
 -- One step ------------------------------------------------------------------------------------------------------------------
 
