@@ -1,1 +1,9 @@
--- What proofs share.
+pub mod Lists
+pub mod Votes
+pub mod Exchanges
+pub mod Steps
+pub mod Ordering
+pub mod Filled
+pub mod Entering
+pub mod Deeds
+pub mod LeftOut

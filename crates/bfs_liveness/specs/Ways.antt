@@ -6,6 +6,7 @@ use Rattle.bfs_checkpoints.specs.Keeping.{Kept}
 use Rattle.bfs_checkpoints.specs.Snapshots.{snapshot_of}
 use Rattle.bfs_log.specs.Certificates.{StableCheckpoint}
 use Rattle.bfs_log.specs.Headers.{header}
+use Rattle.bfs_messages.specs.Fits.{FitsMessage}
 use Rattle.bfs_messages.specs.Messages as model
 use Rattle.bfs_messages.specs.declared.order_messages.OrderMessage.{OrderMessage}
 use Rattle.bfs_messages.specs.declared.signed.Signed.{Signed}
@@ -68,6 +69,8 @@ pub record GivesPass (f : ℕ) (keys : Keyring) (members : ℕ → Bool) (w : No
   pub changes : (i j : ℕ) (change : Signed model.ViewChange) → members i ≡ true → members j ≡ true → (w i).node.changes.own ≡ Some change → valid_view_change (keys j) change ≡ true
   pub new_views : (i j : ℕ) (new : Signed model.NewView) → members i ≡ true → members j ≡ true → (w i).node.new_view ≡ Some new → new_view_passes (keys j) new ≡ true
   pub stable : (i j : ℕ) → members i ≡ true → members j ≡ true → has_stable (keys j) (change_of (order_of w i) 0) ≡ true
+  -- and all of it keeps the limits of messages: a client's request that doesn't could be proposed, and no node would take it
+  pub fits : (i : ℕ) (m : Signed Message) → members i ≡ true → Gives (w i) m → FitsMessage m.message
 
 -- in each state that members come into by themselves; and no two batches or states have one digest there
 pub record AreFairTo (f : ℕ) (keys : Keyring) (start : Beginning) (faulty members : ℕ → Bool) (turns : List NodeTurn) : Type 0 where

@@ -1,1 +1,35 @@
-// laws
+// What members execute, by ways of theirs. The bodies do nothing: what is said is the contracts.
+ghost use Rattle.bfs_liveness.specs.LawsOfExecuting.{ExchangesCommit, NoneIsLeftOut, WhatWaitsIsExecuted};
+
+use crate::below::what_is_below;
+use bfs_nodes_agree::node_calls::laws::new_views_are_taken_whole;
+use bfs_view_change::{prepared_is_chosen, views_begin_behind_what_is_stable};
+
+/// Whatever calls and deliveries there were, and whoever lies: a correct primary that has entered its view has a PRE-PREPARE for each number between
+/// its low mark, or what the view begins behind, and the next one that it will propose. For it proposes number after number, a NEW-VIEW hands over
+/// each number up to its last, and what comes under its own name it has said.
+pub fn none_is_left_out()
+    ensures { NoneIsLeftOut }
+{
+    what_is_below();
+    views_begin_behind_what_is_stable();
+    prepared_is_chosen();
+    new_views_are_taken_whole();
+}
+
+/// For members that are even: in three exchanges, in which each gives to each other one what it has said in their view, all that its primary has
+/// proposed is committed at each, and they are even still.
+pub fn exchanges_commit()
+    ensures { ExchangesCommit }
+{
+    what_is_below();
+}
+
+/// For members that are even: the primary of their view proposes what waits there, in three exchanges it is committed at each, with all that was
+/// proposed before, and each member executes it.
+pub fn what_waits_is_executed()
+    ensures { WhatWaitsIsExecuted }
+{
+    what_is_below();
+    none_is_left_out();
+}

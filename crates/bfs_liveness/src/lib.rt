@@ -1,6 +1,7 @@
 //! What waits is executed: from every state that replicas can come into, members have a finite schedule of turns by which they execute it.
 #![tactic(auto)]
 
+mod below;
 pub mod catching;
 pub mod executing;
 pub mod meeting;

@@ -1,0 +1,80 @@
+-- The statements on what members execute: contracts of functions of src/executing.rt, which do nothing.
+use Rattle.std.specs.Prelude.{◌≡◌, ℕ, ◌+◌, ◌<◌, ◌≤◌, max, Bool, true, false, is_some, List, ◌++◌}
+use Rattle.bfs_model.specs.Server.Limits.{log_size, most_number}
+use Rattle.bfs_model.specs.Server.Tree.{Time}
+use Rattle.bfs_order.specs.Replica.Proposing.{batch_digest, next_number}
+use Rattle.bfs_votes.specs.Votes.{primary}
+use Rattle.bfs_node.specs.Proposing.{pending_batch}
+use Rattle.bfs_nodes_agree.specs.Nodes.Replicas.{Beginning, Keyring, NodeReplicas, NodeTurn, after_node_turns}
+use Rattle.bfs_nodes_progress.specs.Members.{AreTogether, IsProposed, is_committed}
+use Rattle.bfs_nodes_progress.specs.Requests.{HasExecuted}
+use Rattle.bfs_nodes_progress.specs.Runs.{IsARun, order_of, reached}
+use Rattle.bfs_liveness.specs.Exchanges.{ordering, three_exchanges}
+use Rattle.bfs_liveness.specs.Ways.{AreFairTo, IsWay}
+
+-- Members whose logs begin behind one number --------------------------------------------------------------------------
+
+-- they are together in the view, have that number stable and have executed it, and their view has no batch up to it
+pub record AreEven (f : ℕ) (faulty members : ℕ → Bool) (w : NodeReplicas) (view number : ℕ) : Type 0 where
+  pub together : AreTogether f faulty members w view
+  pub low : (k : ℕ) → members k ≡ true → (order_of w k).low ≡ number
+  pub min_s : (k : ℕ) → members k ≡ true → (order_of w k).min_s ≤ number
+  pub last : (k : ℕ) → members k ≡ true → number ≤ (order_of w k).last
+  pub live : (k : ℕ) → members k ≡ true → is_some (w k).node.files ≡ true
+
+-- What has been proposed ----------------------------------------------------------------------------------------------
+
+-- the primary has a PRE-PREPARE of a digest for the number
+abbrev pub SomeIsProposed : (f : ℕ) → NodeReplicas → (view number : ℕ) → Type 0
+SomeIsProposed f w view number = (digest : List ℕ) × IsProposed f w view number digest
+
+-- a correct primary that has entered its view has a PRE-PREPARE for each number between its low mark, or what the view begins behind, and the next one
+-- (OSDI 1999 sections 4.2 and 4.4)
+abbrev pub NoneIsLeftOut : Type 0
+NoneIsLeftOut = (f : ℕ) (keys : Keyring) (start : Beginning) (faulty : ℕ → Bool) (turns : List NodeTurn) (view number : ℕ)
+    → IsARun f keys start faulty turns → faulty (primary f view) ≡ false
+    → let order = order_of (reached f keys start turns) (primary f view) in
+    order.view ≡ view → max order.low order.min_s < number → number < next_number order
+    → SomeIsProposed f (reached f keys start turns) view number
+
+-- Exchanges -----------------------------------------------------------------------------------------------------------
+
+-- behind three exchanges each member has committed a batch for the number
+abbrev pub SomeIsCommitted : (members : ℕ → Bool) → NodeReplicas → (view number : ℕ) → Type 0
+SomeIsCommitted members w view number = (digest : List ℕ) × ((k : ℕ) → members k ≡ true → is_committed (order_of w k) view number digest ≡ true)
+
+-- where members are even, three exchanges are a way, behind which they are even still, and all that the primary had proposed is committed at each
+abbrev pub ExchangesCommit : Type 0
+ExchangesCommit = (f : ℕ) (keys : Keyring) (start : Beginning) (faulty members : ℕ → Bool) (turns : List NodeTurn) (view low : ℕ)
+    → let w = reached f keys start turns in
+    let way = three_exchanges f members w in
+    IsARun f keys start faulty turns
+    → AreFairTo f keys start faulty members turns
+    → AreEven f faulty members w view low
+    → IsWay members w way
+    × IsARun f keys start faulty (turns ++ way)
+    × AreEven f faulty members (reached f keys start (turns ++ way)) view low
+    × ((number : ℕ) → low < number → number ≤ low + log_size → SomeIsProposed f w view number
+    → SomeIsCommitted members (reached f keys start (turns ++ way)) view number)
+
+-- What waits ----------------------------------------------------------------------------------------------------------
+
+-- a number that can be proposed: the primary's window is not full
+abbrev pub HasPlace : (low next : ℕ) → Type 0
+HasPlace low next = (next ≤ low + log_size) × (next ≤ most_number)
+
+-- where members are even, and the primary's next number has room, ordering is a way behind which each has executed a batch of what waited there
+abbrev pub WhatWaitsIsExecuted : Type 0
+WhatWaitsIsExecuted = (f : ℕ) (keys : Keyring) (start : Beginning) (faulty members : ℕ → Bool) (turns : List NodeTurn) (view low : ℕ) (time : Time)
+    → let w = reached f keys start turns in
+    let node = (w (primary f view)).node in
+    let number = next_number node.order in
+    let way = ordering f members w view time in
+    IsARun f keys start faulty turns
+    → AreFairTo f keys start faulty members turns
+    → AreEven f faulty members w view low
+    → HasPlace low number
+    → ((k : ℕ) → members k ≡ true → (order_of w k).last < number)
+    → IsWay members w way
+    × IsARun f keys start faulty (turns ++ way)
+    × ((k : ℕ) → members k ≡ true → HasExecuted (reached f keys start (turns ++ way) k) number (batch_digest (pending_batch node time)))
