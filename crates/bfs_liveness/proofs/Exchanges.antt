@@ -98,39 +98,6 @@ module _ (members : ℕ → Bool) (w : NodeReplicas) (asked : (k : ℕ) → memb
         votes_may_come turns (λ x i. brings x (inr i)) (after_node_turn now turn) (all_then w now (after_node_turn now turn) heard next),
       )
 
--- Runs ----------------------------------------------------------------------------------------------------------------
-
-module _ (laws : Below) (f : ℕ) (faulty members : ℕ → Bool) (positive : 0 < f) (few : FewAreFaulty f faulty) (correct : (k : ℕ) → members k ≡ true → faulty k ≡ false) (w : NodeReplicas)
-    (fits : (m : Signed OrderMessage) → IsSaid members w m → FitsMessage (Order m.message)) where
-  -- what stands in a log was said
-  comes_said : (now : NodeReplicas) (v : OrderReplicas) (t : World) → Facts f faulty now v t → HaveHeard w now → (turn : NodeTurn) → BringsVote members w turn → Comes (IsAuthentic faulty now (now turn.who).node.keys) turn.step
-  comes_said now v t facts heard turn brings =
-      let said = brings.said in
-      let m = brings.vote in
-      let from = said.from in
-      let right = facts.right from in
-      let s = order_of w from in
-      let kind = vote_kind s said.number m said.said in
-      let more = (heard from).order in
-      let there : IsIn m (order_of now from).log = subst (λ (x : State). IsIn m x.log) (sym more.1) (left_in s.log more.0 m kind.3.there) in
-      let many : 0 < faults (now from).node.keys = subst (λ (n : ℕ). 0 < n) (sym (right.fit ∙ right.same_f)) positive in
-      subst (Comes (IsAuthentic faulty now (now turn.who).node.keys)) (sym brings.step) (
-        fits m said,
-        λ p of. elim of as (λ _. IsAuthentic faulty now (now turn.who).node.keys p) [
-          | inl same ↦ subst (IsAuthentic faulty now (now turn.who).node.keys) (sym same) (λ k e signed fine. (right.log m there).said (λ four. many) k e fine)
-          | inr within ↦ absurd within
-        ],
-      )
-
-  pub votes_are_authentic : (turns : List NodeTurn) → ((turn : NodeTurn) → IsIn turn turns → BringsVote members w turn) → (now : NodeReplicas) (v : OrderReplicas) (t : World) → Facts f faulty now v t → HaveHeard w now → AreAuthentic faulty now turns
-  votes_are_authentic [] brings now v t facts heard = tt
-  votes_are_authentic (turn ∷ turns) brings now v t facts heard =
-      let first = brings turn (inl refl) in
-      let comes = comes_said now v t facts heard turn first in
-      let next = after_votes (turn ∷ []) (λ x i. is_vote members w x (elim i [ inl same ↦ subst (BringsVote members w) (sym same) first | inr none ↦ absurd none ])) now in
-      let on = step_on laws f faulty positive few now v t facts turn comes in
-      (comes, votes_are_authentic turns (λ x i. brings x (inr i)) (after_node_turn now turn) on.orders on.world on.facts (all_then w now (after_node_turn now turn) heard next))
-
 -- An exchange ---------------------------------------------------------------------------------------------------------
 
 -- what it has said of a number is among what it has said in its view

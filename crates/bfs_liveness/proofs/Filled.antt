@@ -29,7 +29,7 @@ use Rattle.bfs_order.specs.declared.error.OrderError.TheVariants.{BadAuthenticat
 use Rattle.bfs_votes.specs.Votes.{Header, Told, has_slot, is_slot, prepared, primary}
 use Rattle.bfs_agreement.specs.Histories.{IsIn}
 use Rattle.bfs_agreement.specs.Moves.{kept_above}
-use Rattle.bfs_agreement.proofs.Public.{Is, in_told, kept_told, moved, told_kept, told_more}
+use Rattle.bfs_agreement.proofs.Public.{Is, in_told, kept_told, moved, told_cases, told_kept, told_more}
 use Rattle.bfs_progress.proofs.Public.{slot_told, told_slot}
 use Rattle.bfs_nodes_agree.specs.Orders.Following.{HaveTheSameVotes}
 use Rattle.bfs_nodes_agree.proofs.Public.{AllIn, any_both, both_in, dropped, each_five, either_in, either_way, entered_same, five_pushed, in_map, IsPlaced, left_in, no_answers, none_in, not_equal, of_primary, one_in, out_of_map, passed, placed, right_in, slot_same, told_in, told_same, unsettled}
@@ -206,6 +206,19 @@ greatest_is_told v (h ∷ hs) =
           subst (IsTold v (h ∷ hs)) same (inr (h.sender, h.digest, itself))
     ])
     (λ _. later)
+
+pub told_le : (v : ℕ) (hs : List Header) (k n : ℕ) (d : List ℕ) → Told hs 2 k v n d → n ≤ greatest_proposed v hs
+told_le v [] k n d told = absurd cc
+told_le v (h ∷ hs) k n d told =
+    let g = greatest_proposed v hs in
+    let b = (h.tag == 2) && (h.view == v) in
+    elim (told_cases h hs 2 k v n d told) [
+      | inl at ↦
+          let is : b ≡ true = and_from (h.tag == 2) (h.view == v) (eq-eqb h.tag 2 at.tag) (eq-eqb h.view v at.view) in
+          let number = at.number in
+          cond_both b (max h.number g) g (λ (m : ℕ). n ≤ m) (λ _. omega (arith, number)) (λ other. absurd (cc (is, other)))
+      | inr later ↦ let le = told_le v hs k n d later in cond_both b (max h.number g) g (λ (m : ℕ). n ≤ m) (λ _. omega (arith, le)) (λ _. le)
+    ]
 
 -- each number below the next one is reached
 pub below_next : (s : State) (n : ℕ) → s.low < n → s.min_s < n → n < next_number s → IsReached s n

@@ -1,4 +1,9 @@
 pub mod Lists
+pub mod Ways
+pub mod Leading
+pub mod Work
+pub mod Turns
+pub mod Leaving
 pub mod Votes
 pub mod Exchanges
 pub mod Steps

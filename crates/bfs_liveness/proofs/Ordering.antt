@@ -17,6 +17,7 @@ use Rattle.bfs_node.specs.Nodes.{Node}
 use Rattle.bfs_node.specs.declared.error.NodeError.{NodeError}
 use Rattle.bfs_nodes_agree.specs.Nodes.Premises.{AreAuthentic, Comes, IsAuthentic}
 use Rattle.bfs_nodes_agree.specs.Nodes.Replicas.{Beginning, Keyring, NodeReplica, NodeReplicas, NodeTurn, after_node_step, after_node_turn, after_node_turns, new_node_replicas}
+use Rattle.bfs_nodes_agree.specs.Nodes.Resending.{WhatIsResentIsFair}
 use Rattle.bfs_nodes_agree.specs.Nodes.Steps.{NodeStep, Executes, Proposes, outcome, unless}
 use Rattle.bfs_nodes_agree.proofs.Public.{both_at, either_in}
 use Rattle.bfs_nodes_progress.specs.Inside.Below.{Below}
@@ -33,7 +34,8 @@ use Rattle.bfs_liveness.specs.Exchanges.{all_execute, exchange, hearing_and_exec
 use Rattle.bfs_liveness.specs.LawsOfExecuting.{AreEven, HasPlace, NoneIsLeftOut, WhatWaitsIsExecuted}
 use Rattle.bfs_liveness.specs.Ways.{AreFairTo, IsWay, MayTake}
 use Rattle.bfs_liveness.proofs.Lists.{out_of_each, out_of_where}
-use Rattle.bfs_liveness.proofs.Steps.{HaveExchanged, IsOn, commits, even_on, on_by, on_itself, proposed_on, room_in, thrice}
+use Rattle.bfs_liveness.proofs.Steps.{Goes, commits, even_on, goes_by, proposed_on, room_in, thrice}
+use Rattle.bfs_liveness.proofs.Ways.{ways_join}
 use Rattle.bfs_liveness.proofs.Votes.{HasHeard, HaveHeard, IsHearing, all_then, heard_itself, more_itself, more_then}
 
 -- A proposal ----------------------------------------------------------------------------------------------------------
@@ -86,11 +88,6 @@ module _ (members : ℕ → Bool) where
       let first = only turn (inl refl) in
       (first.0, subst (MayTake members w) (sym first.1) tt, may_execute turns (λ x i. only x (inr i)) (after_node_turn w turn))
 
-  executions_authentic : (faulty : ℕ → Bool) (turns : List NodeTurn) → ((turn : NodeTurn) → IsIn turn turns → IsExecution members turn) → (w : NodeReplicas) → AreAuthentic faulty w turns
-  executions_authentic faulty [] only w = tt
-  executions_authentic faulty (turn ∷ turns) only w =
-      (subst (Comes (IsAuthentic faulty w (w turn.who).node.keys)) (sym (only turn (inl refl)).1) tt, executions_authentic faulty turns (λ x i. only x (inr i)) (after_node_turn w turn))
-
 module _ (f : ℕ) (members : ℕ → Bool) (w : NodeReplicas) (number : ℕ) where
   -- those of one
   abbrev of_one : ℕ → List NodeTurn
@@ -121,8 +118,8 @@ Leads f keys start faulty members turns number digest way =
     IsWay members (reached f keys start turns) way × IsARun f keys start faulty (turns ++ way)
     × ((k : ℕ) → members k ≡ true → HasExecuted (reached f keys start (turns ++ way) k) number digest)
 
-pub what_waits_is_executed : Below → NoneIsLeftOut → WhatWaitsIsExecuted
-what_waits_is_executed laws left_out f keys start faulty members turns view low time run fair even place behind =
+pub what_waits_is_executed : Below → WhatIsResentIsFair → NoneIsLeftOut → WhatWaitsIsExecuted
+what_waits_is_executed laws again left_out f keys start faulty members turns view low time run fair even place behind is_time =
     let begun = new_node_replicas f keys start in
     let p = primary f view in
     let w = reached f keys start turns in
@@ -135,22 +132,27 @@ what_waits_is_executed laws left_out f keys start faulty members turns view low 
     let call = proposing f view time in
     let given = turns ++ call in
     let at : reached f keys start given ≡ after_node_turns w call = after_join begun turns call in
-    let on = on_by laws f keys start faulty members turns fair [] turns call (on_itself laws f keys start faulty members turns fair run) (leads, tt, tt) (tt, tt) in
+    let by = goes_by laws again f keys start faulty members in
+    let goes : Goes laws again f keys start faulty members turns = record { run = run; fair = fair } in
+    let first : IsWay members w call = (leads, is_time, tt) in
+    let goes1 = by turns call quorum.correct goes first in
     let w1 = reached f keys start given in
     let proposing_is : HaveHeard w w1 = subst (HaveHeard w) (sym at) (proposing_heard f view time w) in
     let even1 = even_on f faulty members w w1 view low proposing_is even in
-    let have = thrice laws f keys start faulty members turns fair call given view low on even1 in
+    let have = thrice laws again f keys start faulty members given view low goes1 even1 in
     let three = three_exchanges f members w1 in
     let end = given ++ three in
     let last = reached f keys start end in
+    let end_at : last ≡ after_node_turns w1 three = after_join begun given three in
+    let goes2 = by given three quorum.correct goes1 have.way in
     let even2 = even_on f faulty members w1 last view low have.heard even1 in
     let lows = even.low p leads in
     let above : low < number = omega (arith, lows) in
     let under : number ≤ low + log_size = place.0 in
-    let me : node.order.me ≡ primary node.order.f node.order.view =
-    same_me f faulty w led.orders led.world led.facts p ∙ ap₂ primary (sym (same_f f faulty w led.orders led.world led.facts p)) (sym (even.together.entered p leads)) in
     let entered = even.together.entered p leads in
     let asked = even.together.asked p leads in
+    let me : node.order.me ≡ primary node.order.f node.order.view =
+    same_me f faulty w led.orders led.world led.facts p ∙ ap₂ primary (sym (same_f f faulty w led.orders led.world led.facts p)) (sym entered) in
     let none = may_propose node me (omega (arith, entered, asked)) (omega (arith, lows, under), place.1) in
     let one = exchange f members w1 in
     let w2 = after_node_turns w1 one in
@@ -161,28 +163,28 @@ what_waits_is_executed laws left_out f keys start faulty members turns view low 
           let reach = even2.last k x in
           let behind_p = even.min_s p leads in
           let some = left_out f keys start faulty turns view other run (quorum.correct p leads) entered (omega (arith, reach, over, behind_p, lows)) less in
-          let c = commits laws f keys start faulty members turns fair call given view low on even1 have other (omega (arith, reach, over)) (omega (arith, less, under)) (proposed_on f w w1 view other proposing_is some) in
+          let c = commits laws again f keys start faulty members given view low goes1 even1 have other (omega (arith, reach, over)) (omega (arith, less, under)) (proposed_on f w w1 view other proposing_is some) in
           (c.0, subst (λ (u : ℕ). is_committed (order_of last k) u other c.0 ≡ true) (sym (even2.together.entered k x)) (c.1 k x));
     } in
     let each : (k : ℕ) → members k ≡ true → HasExecuted (reached f keys start (end ++ executions k (number - (order_of last k).last)) k) number digest = λ k x.
-    requests_are_executed laws f keys start faulty members turns one two (exchange f members (after_node_turns w2 two)) view time k have.on.run none even1.together even2.together
+    requests_are_executed laws f keys start faulty members turns one two (exchange f members (after_node_turns w2 two)) view time k goes2.run none even1.together even2.together
     (room_in f faulty members w1 view low number even1 above under) (room_in f faulty members last view low number even2 above under)
     (have.first number above under) (have.second number above under) (have.third number above under) x (even2.live k x) (ready k x) in
     let more = all_execute f members last number in
     let only = only_executions f members last number in
-    let done = on_by laws f keys start faulty members turns fair (call ++ three) end more have.on (may_execute members more only last) (executions_authentic members faulty more only last) in
     let executed : (k : ℕ) → members k ≡ true → HasExecuted (reached f keys start (end ++ more) k) number digest = λ k x.
     let own = executions k (number - (order_of last k).last) in
     let here : reached f keys start (end ++ more) k ≡ reached f keys start (end ++ own) k =
     ap (λ (y : NodeReplicas). y k) (after_join begun end more) ∙ each_executes f members last number k x (quorum.among k x) ∙ sym (ap (λ (y : NodeReplicas). y k) (after_join begun end own)) in
     subst (λ (r : NodeReplica). HasExecuted r number digest) (sym here) (each k x) in
-    let leads_on = Leads f keys start faulty members turns number digest in
-    let whole : leads_on ((call ++ three) ++ more) = (
-      done.may,
-      subst (IsARun f keys start faulty) done.is done.run,
-      subst (λ (xs : List NodeTurn). (k : ℕ) → members k ≡ true → HasExecuted (reached f keys start xs k) number digest) done.is executed,
+    let then : IsWay members w1 (three ++ more) = ways_join members w1 three more have.way (subst (λ (x : NodeReplicas). IsWay members x more) end_at (may_execute members more only last)) in
+    let way : IsWay members w (call ++ (three ++ more)) = ways_join members w call (three ++ more) first (subst (λ (x : NodeReplicas). IsWay members x (three ++ more)) at then) in
+    let grouped : (end ++ more) ≡ turns ++ (call ++ (three ++ more)) = append_assoc given three more ∙ append_assoc turns call (three ++ more) in
+    let whole : Leads f keys start faulty members turns number digest (call ++ (three ++ more)) = (
+      way,
+      (by turns (call ++ (three ++ more)) quorum.correct goes way).run,
+      subst (λ (xs : List NodeTurn). (k : ℕ) → members k ≡ true → HasExecuted (reached f keys start xs k) number digest) grouped executed,
     ) in
-    let joined : leads_on (call ++ (three ++ more)) = subst (leads_on) (append_assoc call three more) whole in
-    let heard : leads_on (call ++ hearing_and_executing f members w1 number) =
-    subst (λ (y : NodeReplicas). leads_on (call ++ (three ++ all_execute f members y number))) (after_join begun given three) joined in
-    subst (λ (x : NodeReplicas). leads_on (call ++ hearing_and_executing f members x number)) at heard
+    let heard : Leads f keys start faulty members turns number digest (call ++ hearing_and_executing f members w1 number) =
+    subst (λ (y : NodeReplicas). Leads f keys start faulty members turns number digest (call ++ (three ++ all_execute f members y number))) end_at whole in
+    subst (λ (x : NodeReplicas). Leads f keys start faulty members turns number digest (call ++ hearing_and_executing f members x number)) at heard

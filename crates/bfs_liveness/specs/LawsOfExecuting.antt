@@ -1,6 +1,7 @@
 -- The statements on what members execute: contracts of functions of src/executing.rt, which do nothing.
 use Rattle.std.specs.Prelude.{◌≡◌, ℕ, ◌+◌, ◌<◌, ◌≤◌, max, Bool, true, false, is_some, List, ◌++◌}
 use Rattle.bfs_model.specs.Server.Limits.{log_size, most_number}
+use Rattle.bfs_model.specs.Server.Stored.{IsTime}
 use Rattle.bfs_model.specs.Server.Tree.{Time}
 use Rattle.bfs_order.specs.Replica.Proposing.{batch_digest, next_number}
 use Rattle.bfs_votes.specs.Votes.{primary}
@@ -36,6 +37,14 @@ NoneIsLeftOut = (f : ℕ) (keys : Keyring) (start : Beginning) (faulty : ℕ →
     → let order = order_of (reached f keys start turns) (primary f view) in
     order.view ≡ view → max order.low order.min_s < number → number < next_number order
     → SomeIsProposed f (reached f keys start turns) view number
+
+-- and what a correct node in the view has executed above its low mark is below that
+abbrev pub NoneIsBeyond : Type 0
+NoneIsBeyond = (f : ℕ) (keys : Keyring) (start : Beginning) (faulty : ℕ → Bool) (turns : List NodeTurn) (view k : ℕ)
+    → IsARun f keys start faulty turns → faulty k ≡ false → faulty (primary f view) ≡ false
+    → let w = reached f keys start turns in
+    (order_of w k).view ≡ view → (order_of w (primary f view)).view ≡ view → (order_of w k).low < (order_of w k).last
+    → (order_of w k).last < next_number (order_of w (primary f view))
 
 -- Exchanges -----------------------------------------------------------------------------------------------------------
 
@@ -75,6 +84,7 @@ WhatWaitsIsExecuted = (f : ℕ) (keys : Keyring) (start : Beginning) (faulty mem
     → AreEven f faulty members w view low
     → HasPlace low number
     → ((k : ℕ) → members k ≡ true → (order_of w k).last < number)
+    → IsTime time
     → IsWay members w way
     × IsARun f keys start faulty (turns ++ way)
     × ((k : ℕ) → members k ≡ true → HasExecuted (reached f keys start (turns ++ way) k) number (batch_digest (pending_batch node time)))

@@ -1,4 +1,6 @@
 -- What the contracts of bfs_liveness cite.
 pub mod Ways
+pub mod Meeting
+pub mod LawsOfMeeting
 pub mod Exchanges
 pub mod LawsOfExecuting

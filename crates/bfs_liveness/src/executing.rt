@@ -2,7 +2,7 @@
 ghost use Rattle.bfs_liveness.specs.LawsOfExecuting.{ExchangesCommit, NoneIsLeftOut, WhatWaitsIsExecuted};
 
 use crate::below::what_is_below;
-use bfs_nodes_agree::node_calls::laws::new_views_are_taken_whole;
+use bfs_nodes_agree::node_calls::laws::{new_views_are_taken_whole, what_is_resent_was_sent};
 use bfs_view_change::{prepared_is_chosen, views_begin_behind_what_is_stable};
 
 /// Whatever calls and deliveries there were, and whoever lies: a correct primary that has entered its view has a PRE-PREPARE for each number between
@@ -23,6 +23,7 @@ pub fn exchanges_commit()
     ensures { ExchangesCommit }
 {
     what_is_below();
+    what_is_resent_was_sent();
 }
 
 /// For members that are even: the primary of their view proposes what waits there, in three exchanges it is committed at each, with all that was
@@ -31,5 +32,6 @@ pub fn what_waits_is_executed()
     ensures { WhatWaitsIsExecuted }
 {
     what_is_below();
+    what_is_resent_was_sent();
     none_is_left_out();
 }

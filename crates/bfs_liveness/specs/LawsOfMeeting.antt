@@ -1,0 +1,39 @@
+-- The statements on ways, and on how members meet in a view: contracts of functions of src/meeting.rt, which do nothing.
+use Rattle.std.specs.Prelude.{◌≡◌, ℕ, ◌+◌, ◌<◌, ◌≤◌, ◌^◌, Bool, true, List, ◌++◌}
+use Rattle.bfs_votes.specs.Votes.{primary}
+use Rattle.bfs_nodes_agree.specs.Nodes.Replicas.{Beginning, Keyring, NodeReplicas, NodeTurn}
+use Rattle.bfs_nodes_progress.specs.Following.{AreMembers, asked_by}
+use Rattle.bfs_nodes_progress.specs.Runs.{IsARun, reached}
+use Rattle.bfs_liveness.specs.Meeting.{MayMeetIn, Meets, meeting}
+use Rattle.bfs_liveness.specs.Ways.{AreFairTo, IsWay}
+
+-- a run goes on by each way of members, behind which they hear one another still
+abbrev pub WaysAreRuns : Type 0
+WaysAreRuns = (f : ℕ) (keys : Keyring) (start : Beginning) (faulty members : ℕ → Bool) (turns way : List NodeTurn)
+    → IsARun f keys start faulty turns → AreMembers f faulty members → AreFairTo f keys start faulty members turns
+    → IsWay members (reached f keys start turns) way
+    → IsARun f keys start faulty (turns ++ way) × AreFairTo f keys start faulty members (turns ++ way)
+
+-- of f + 1 views in a row a member leads one
+abbrev pub AMemberLeads : Type 0
+AMemberLeads = (f : ℕ) (faulty members : ℕ → Bool) (view : ℕ) → AreMembers f faulty members
+    → (next : ℕ) × (view < next) × (next ≤ view + (f + 1)) × (members (primary f next) ≡ true)
+
+-- in each later view that one of them leads they meet by this way
+abbrev pub MembersMeetIn : Type 0
+MembersMeetIn = (f : ℕ) (keys : Keyring) (start : Beginning) (faulty members : ℕ → Bool) (turns : List NodeTurn) (view : ℕ)
+    → IsARun f keys start faulty turns → AreMembers f faulty members → AreFairTo f keys start faulty members turns
+    → MayMeetIn f members (reached f keys start turns) view
+    → Meets f keys start faulty members turns (meeting f members (reached f keys start turns) view) view
+
+-- each can ask for f + 1 views more
+abbrev pub HaveViews : (f : ℕ) (members : ℕ → Bool) → NodeReplicas → Type 0
+HaveViews f members w = (k : ℕ) → members k ≡ true → asked_by w k + (f + 2) ≤ 2 ^ 63
+
+-- so there is one, at most f + 1 views above the latest that a member has asked for
+abbrev pub MembersMeet : Type 0
+MembersMeet = (f : ℕ) (keys : Keyring) (start : Beginning) (faulty members : ℕ → Bool) (turns : List NodeTurn)
+    → IsARun f keys start faulty turns → AreMembers f faulty members → AreFairTo f keys start faulty members turns
+    → HaveViews f members (reached f keys start turns)
+    → (view : ℕ) × (latest : ℕ) × (members latest ≡ true) × (view ≤ asked_by (reached f keys start turns) latest + (f + 1))
+    × Meets f keys start faulty members turns (meeting f members (reached f keys start turns) view) view
