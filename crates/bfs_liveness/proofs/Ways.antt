@@ -8,22 +8,24 @@ use Rattle.bfs_messages.specs.declared.message.Message.{Message}
 use Rattle.bfs_messages.specs.declared.message.Message.TheVariants.{Order}
 use Rattle.bfs_messages.specs.declared.order_messages.OrderMessage.{OrderMessage}
 use Rattle.bfs_messages.specs.declared.signed.Signed.{Signed}
+use Rattle.bfs_order.specs.declared.resending.Lag.{Lag}
 use Rattle.bfs_view_change.specs.Changes.Making.{stable_checkpoints}
+use Rattle.bfs_node.specs.Resending.{resent}
 use Rattle.bfs_agreement.specs.Histories.{IsIn}
+use Rattle.bfs_agreement.specs.Moves.{new_world}
 use Rattle.bfs_nodes_agree.specs.Nodes.Laws.{BatchesDontCollide}
-use Rattle.bfs_nodes_agree.specs.Nodes.Premises.{Comes, IsAmong, IsAuthentic, IsFair, IsWhollyFair, StatesDontCollide}
+use Rattle.bfs_nodes_agree.specs.Nodes.Premises.{Comes, IsAmong, IsAuthentic, IsWholly, StatesDontCollide}
 use Rattle.bfs_nodes_agree.specs.Nodes.Replicas.{Beginning, Keyring, NodeReplicas, NodeTurn, after_node_turn, after_node_turns, new_node_replicas}
 use Rattle.bfs_nodes_agree.specs.Nodes.Resending.{WhatIsResentIsFair}
 use Rattle.bfs_nodes_agree.specs.Nodes.Steps.{NodeStep, Adopts, Delivers, Fails, Settles, Takes, TakesOffered, TakesRequests}
-use Rattle.bfs_nodes_agree.proofs.Nodes.Agree.{what_is_sent_is_fair}
 use Rattle.bfs_nodes_agree.proofs.Nodes.Hearing.{IsSaid, said_alike}
-use Rattle.bfs_nodes_agree.proofs.Views.Lists.{map_in}
+use Rattle.bfs_nodes_agree.proofs.Public.{AreRight, map_in}
 use Rattle.bfs_nodes_agree.proofs.Views.OfLog.{stable_holds}
 use Rattle.bfs_nodes_progress.specs.Following.{AreMembers}
 use Rattle.bfs_nodes_progress.specs.Inside.Below.{Below}
 use Rattle.bfs_nodes_progress.specs.Runs.{IsARun, order_of, reached}
 use Rattle.bfs_nodes_progress.proofs.Each.{authentic_both}
-use Rattle.bfs_nodes_progress.proofs.Reached.{always}
+use Rattle.bfs_nodes_progress.proofs.Reached.{Leads, always}
 use Rattle.bfs_nodes_progress.proofs.Rounds.{after_join}
 use Rattle.bfs_liveness.specs.LawsOfMeeting.{WaysAreRuns}
 use Rattle.bfs_liveness.specs.Ways.{AreFairTo, GivesPass, IsAMembers, IsWay, MayTake}
@@ -61,36 +63,37 @@ module _ (laws : Below) (again : WhatIsResentIsFair) (f : ℕ) (keys : Keyring) 
     abbrev w : NodeReplicas
     w = reached f keys start turns
 
-    -- what may be given to a node is authentic
-    fair_authentic : (by : Keys) (m : Signed Message) → IsFair faulty w by m → IsAuthentic faulty w by m
-    fair_authentic by m is k e signed fine =
-        let led = always laws f faulty run.others run.few keys start turns run.shared run.authentic in
-        let was = is k e signed fine in
-        said_alike faulty w was.part.message m.message was.same ((led.facts.right was.who).said was.sent was.given was.part was.is) k e fine
+    abbrev led : Leads f faulty (new_node_replicas f keys start) new_world w
+    led = always laws f faulty run.others run.few keys start turns run.shared run.authentic
 
-    -- what stands in a log was said
-    said_in_log : (j : ℕ) (m : Signed OrderMessage) → IsIn m (order_of w j).log → IsSaid faulty w (Order m.message)
-    said_in_log j m i =
-        let right = (always laws f faulty run.others run.few keys start turns run.shared run.authentic).facts.right j in
-        let many : 0 < faults (w j).node.keys = subst (λ (n : ℕ). 0 < n) (sym (right.fit ∙ right.same_f)) run.others in
-        (right.log m i).said (λ _. many)
+    right : AreRight f faulty w led.orders
+    right = led.facts.right
 
-    -- so were the CHECKPOINTs of a member's low mark
+
+    -- what stands in a log was said, and so were the CHECKPOINTs of a member's low mark
     shown_so : (by : Keys) (checkpoint : StableCheckpoint) → IsAMembers members w checkpoint → (m : Signed Message) → IsAmong m (checkpoints_in checkpoint) → IsAuthentic faulty w by m
     shown_so by checkpoint theirs m i =
-        let s = order_of w theirs.0 in
-        let told = stable_holds s (λ (p : Signed OrderMessage). IsSaid faulty w (Order p.message)) (said_in_log theirs.0) in
+        let j = theirs.0 in
+        let s = order_of w j in
+        let many : 0 < faults (w j).node.keys = subst (λ (n : ℕ). 0 < n) (sym ((right j).fit ∙ (right j).same_f)) run.others in
+        let told = stable_holds s (λ (p : Signed OrderMessage). IsSaid faulty w (Order p.message)) (λ p there. ((right j).log p there).said (λ _. many)) in
         let among : IsIn m (as_messages (as_checkpoints (stable_checkpoints s))) = subst (λ (c : StableCheckpoint). IsAmong m (checkpoints_in c)) theirs.2 i in
         let said : IsSaid faulty w m.message = map_in (λ (p : Signed Message). IsSaid faulty w p.message) (as_message Order) (as_checkpoints (stable_checkpoints s)) told m among in
         λ k e signed fine. said k e fine
 
+    -- what a member gives again was given to be sent by a correct node
+    given_so : (by : Keys) (j : ℕ) → members j ≡ true → (to : Lag) (m : Signed Message) → IsIn m (resent (w j).node to) → IsWholly (IsAuthentic faulty w by) m
+    given_so by j member to m i p of k e signed fine =
+        let was = again f keys start faulty turns run.others run.shared run.authentic j (correct j member) to m by i p of k e signed fine in
+        said_alike faulty w was.part.message p.message was.same ((right was.who).said was.sent was.given was.part was.is) k e fine
+
     comes_so : (by : Keys) (step : NodeStep) → MayTake members w step → Comes (IsAuthentic faulty w by) step
     comes_so by (Takes m) may =
-        let fair : IsWhollyFair faulty w by m = elim may.2 [
-          | inl sent ↦ what_is_sent_is_fair faulty w by may.0 m (correct may.0 may.1) sent
-          | inr given ↦ again f keys start faulty turns run.others run.shared run.authentic may.0 (correct may.0 may.1) given.0 m by given.1
-        ] in
-        (passes.fits may.0 m may.1 may.2, λ p of. fair_authentic by p (fair p of))
+        let j = may.0 in
+        (passes.fits j m may.1 may.2, elim may.2 [
+          | inl sent ↦ λ p of k e signed fine. (right j).said m sent p of k e fine
+          | inr given ↦ given_so by j may.1 given.0 m given.1
+        ])
     comes_so by (Adopts checkpoint files table) may = shown_so by checkpoint may.0
     comes_so by (Settles checkpoint) may = shown_so by checkpoint may
     comes_so by (Delivers bytes) may = absurd may

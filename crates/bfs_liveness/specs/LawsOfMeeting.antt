@@ -5,7 +5,7 @@ use Rattle.bfs_nodes_agree.specs.Nodes.Replicas.{Beginning, Keyring, NodeReplica
 use Rattle.bfs_nodes_progress.specs.Following.{AreMembers, asked_by}
 use Rattle.bfs_nodes_progress.specs.Runs.{IsARun, reached}
 use Rattle.bfs_liveness.specs.Meeting.{MayMeetIn, Meets, meeting}
-use Rattle.bfs_liveness.specs.Ways.{AreFairTo, IsWay}
+use Rattle.bfs_liveness.specs.Ways.{AreFairTo, HaveViews, IsWay}
 
 -- a run goes on by each way of members, behind which they hear one another still
 abbrev pub WaysAreRuns : Type 0
@@ -26,11 +26,7 @@ MembersMeetIn = (f : ℕ) (keys : Keyring) (start : Beginning) (faulty members :
     → MayMeetIn f members (reached f keys start turns) view
     → Meets f keys start faulty members turns (meeting f members (reached f keys start turns) view) view
 
--- each can ask for f + 1 views more
-abbrev pub HaveViews : (f : ℕ) (members : ℕ → Bool) → NodeReplicas → Type 0
-HaveViews f members w = (k : ℕ) → members k ≡ true → asked_by w k + (f + 2) ≤ 2 ^ 63
-
--- so there is one, at most f + 1 views above the latest that a member has asked for
+-- so there is a view in which they do, at most f + 1 views above the latest that one of them has asked for
 abbrev pub MembersMeet : Type 0
 MembersMeet = (f : ℕ) (keys : Keyring) (start : Beginning) (faulty members : ℕ → Bool) (turns : List NodeTurn)
     → IsARun f keys start faulty turns → AreMembers f faulty members → AreFairTo f keys start faulty members turns

@@ -11,6 +11,7 @@ use Rattle.bfs_messages.specs.Messages as model
 use Rattle.bfs_messages.specs.declared.order_messages.OrderMessage.{OrderMessage}
 use Rattle.bfs_messages.specs.declared.signed.Signed.{Signed}
 use Rattle.bfs_messages.specs.declared.message.Message.{Message}
+use Rattle.bfs_model.specs.Server.Stored.{IsTime}
 use Rattle.bfs_model.specs.Server.Tree.{FileSystem}
 use Rattle.bfs_node.specs.Resending.{resent}
 use Rattle.bfs_nodes_agree.specs.Nodes.Laws.{BatchesDontCollide}
@@ -18,6 +19,7 @@ use Rattle.bfs_nodes_agree.specs.Nodes.Premises.{StatesDontCollide}
 use Rattle.bfs_nodes_agree.specs.Nodes.Replicas.{Beginning, Keyring, NodeReplica, NodeReplicas, NodeTurn, after_node_turn}
 use Rattle.bfs_nodes_agree.specs.Nodes.Steps.{NodeStep, Delivers, Takes, TakesRequests, TakesOffered, Proposes, Executes, Fails, Checkpoints, TimesOut, LeavesFor, ForgetsAnswered, ForgetsProposed, Adopts, Settles}
 use Rattle.bfs_nodes_progress.specs.Begun.{new_view_passes}
+use Rattle.bfs_nodes_progress.specs.Following.{asked_by}
 use Rattle.bfs_nodes_progress.specs.Rounds.{passes}
 use Rattle.bfs_nodes_progress.specs.Runs.{IsARun, order_of, reached}
 use Rattle.bfs_order.specs.declared.resending.Lag.{Lag}
@@ -44,7 +46,7 @@ abbrev pub IsOffered : (members : ℕ → Bool) → NodeReplicas → StableCheck
 IsOffered members w checkpoint files table = (i : ℕ) × (kept : Kept) × (members i ≡ true) × IsIn kept (w i).node.snapshots.kept
     × (kept.number ≡ checkpoint.number) × (kept.snapshot ≡ snapshot_of files table)
 
--- nothing comes but what a member gives; no client asks for anything, and memory doesn't run out
+-- nothing comes but what a member gives; no client asks for anything, a host tells the time within its limits, and memory doesn't run out
 abbrev pub MayTake : (members : ℕ → Bool) → NodeReplicas → NodeStep → Type 0
 MayTake members w (Takes m) = (j : ℕ) × (members j ≡ true) × Gives (w j) m
 MayTake members w (Adopts checkpoint files table) = IsAMembers members w checkpoint × IsOffered members w checkpoint files table
@@ -52,6 +54,7 @@ MayTake members w (Settles checkpoint) = IsAMembers members w checkpoint
 MayTake members w (Delivers bytes) = ⊥
 MayTake members w (TakesRequests messages) = ⊥
 MayTake members w (TakesOffered request) = ⊥
+MayTake members w (Proposes time) = IsTime time
 MayTake members w Fails = ⊥
 MayTake members w _ = Unit {0}
 
@@ -78,9 +81,12 @@ pub record AreFairTo (f : ℕ) (keys : Keyring) (start : Beginning) (faulty memb
   pub batches : (way : List NodeTurn) → IsWay members (reached f keys start turns) way → BatchesDontCollide faulty (reached f keys start (turns ++ way))
   pub states : (way : List NodeTurn) → IsWay members (reached f keys start turns) way → StatesDontCollide faulty (reached f keys start (turns ++ way))
 
--- views and numbers that members can still come to, of which there are fewer than 2^63; and no file system has failed
+-- each member can ask for f + 1 views more, of which there are 2^63
+abbrev pub HaveViews : (f : ℕ) (members : ℕ → Bool) → NodeReplicas → Type 0
+HaveViews f members w = (k : ℕ) → members k ≡ true → asked_by w k + (f + 2) ≤ 2 ^ 63
+
+-- views and numbers that members can still come to; and no file system has failed
 pub record HasFuture (f : ℕ) (members : ℕ → Bool) (w : NodeReplicas) : Type 0 where
-  pub views : (k : ℕ) → members k ≡ true → (order_of w k).asked + (f + 2) ≤ 2 ^ 63
-  pub entered : (k : ℕ) → members k ≡ true → (order_of w k).view + (f + 2) ≤ 2 ^ 63
+  pub views : HaveViews f members w
   pub numbers : (k : ℕ) → members k ≡ true → (order_of w k).low + 100 ≤ 2 ^ 63
   pub live : (k : ℕ) → members k ≡ true → is_some (w k).node.files ≡ true
