@@ -12,3 +12,5 @@ pub mod Filled
 pub mod Entering
 pub mod Deeds
 pub mod LeftOut
+pub mod Past
+pub mod Beyond

@@ -1,7 +1,7 @@
 -- What waits at the primary is proposed, and each member comes to execute it.
 use Rattle.std.proofs.Common.{◌≡◌, ℕ, zero, suc, ◌+◌, ◌-◌, ◌<◌, ◌≤◌, max, Bool, true, false, cond, List, [], ◌∷◌, ◌++◌, Option, Some, None, option_map, inl, inr, refl, sym, ap, ap₂, subst, ◌==◌, ◌∙◌, append_assoc, arith}
 use Rattle.std.specs.Prelude.{is_some, nat_le, not}
-use Rattle.std.proofs.lemmas.Bool.{and_from, eq-eqb, le-leb}
+use Rattle.std.proofs.lemmas.Bool.{and_from, cases_lt, eq-eqb, le-leb}
 use Rattle.bfs_model.specs.Server.Limits.{log_size, most_number}
 use Rattle.bfs_model.specs.Server.Tree.{Time}
 use Rattle.bfs_order.specs.Replica.Proposing as order
@@ -31,7 +31,7 @@ use Rattle.bfs_nodes_progress.proofs.Reached.{always}
 use Rattle.bfs_nodes_progress.proofs.Requests.{requests_are_executed}
 use Rattle.bfs_nodes_progress.proofs.Rounds.{after_join}
 use Rattle.bfs_liveness.specs.Exchanges.{all_execute, exchange, hearing_and_executing, ordering, three_exchanges}
-use Rattle.bfs_liveness.specs.LawsOfExecuting.{AreEven, HasPlace, NoneIsLeftOut, WhatWaitsIsExecuted}
+use Rattle.bfs_liveness.specs.LawsOfExecuting.{AreEven, HasPlace, NoneIsBeyond, NoneIsLeftOut, WhatWaitsIsExecuted}
 use Rattle.bfs_liveness.specs.Ways.{AreFairTo, IsWay, MayTake}
 use Rattle.bfs_liveness.proofs.Lists.{out_of_each, out_of_where}
 use Rattle.bfs_liveness.proofs.Steps.{Goes, commits, even_on, goes_by, proposed_on, room_in, thrice}
@@ -118,8 +118,8 @@ Leads f keys start faulty members turns number digest way =
     IsWay members (reached f keys start turns) way × IsARun f keys start faulty (turns ++ way)
     × ((k : ℕ) → members k ≡ true → HasExecuted (reached f keys start (turns ++ way) k) number digest)
 
-pub what_waits_is_executed : Below → WhatIsResentIsFair → NoneIsLeftOut → WhatWaitsIsExecuted
-what_waits_is_executed laws again left_out f keys start faulty members turns view low time run fair even place behind is_time =
+pub what_waits_is_executed : Below → WhatIsResentIsFair → NoneIsLeftOut → NoneIsBeyond → WhatWaitsIsExecuted
+what_waits_is_executed laws again left_out beyond f keys start faulty members turns view low time run fair even place is_time =
     let begun = new_node_replicas f keys start in
     let p = primary f view in
     let w = reached f keys start turns in
@@ -151,6 +151,10 @@ what_waits_is_executed laws again left_out f keys start faulty members turns vie
     let under : number ≤ low + log_size = place.0 in
     let entered = even.together.entered p leads in
     let asked = even.together.asked p leads in
+    let behind : (k : ℕ) → members k ≡ true → (order_of w k).last < number = λ k x. elim (cases_lt (order_of w k).low (order_of w k).last) [
+      | inl over ↦ beyond f keys start faulty turns view k run (quorum.correct k x) (quorum.correct p leads) (even.together.entered k x) entered over
+      | inr le ↦ let is = even.low k x in omega (arith, le, is, above)
+    ] in
     let me : node.order.me ≡ primary node.order.f node.order.view =
     same_me f faulty w led.orders led.world led.facts p ∙ ap₂ primary (sym (same_f f faulty w led.orders led.world led.facts p)) (sym entered) in
     let none = may_propose node me (omega (arith, entered, asked)) (omega (arith, lows, under), place.1) in

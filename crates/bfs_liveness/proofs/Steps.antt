@@ -25,7 +25,7 @@ use Rattle.bfs_liveness.specs.Exchanges.{exchange, three_exchanges}
 use Rattle.bfs_liveness.specs.LawsOfExecuting.{AreEven, ExchangesCommit, SomeIsCommitted, SomeIsProposed}
 use Rattle.bfs_liveness.specs.Ways.{AreFairTo, GivesPass, IsWay}
 use Rattle.bfs_nodes_agree.specs.Nodes.Resending.{WhatIsResentIsFair}
-use Rattle.bfs_liveness.proofs.Exchanges.{IsSaid, brings_votes, given_again, is_a_round, is_vote, votes_are_authentic, votes_may_come}
+use Rattle.bfs_liveness.proofs.Exchanges.{brings_votes, is_a_round, is_vote, votes_may_come}
 use Rattle.bfs_liveness.proofs.Ways.{fair_behind, goes_on, passes_now, ways_join}
 use Rattle.bfs_liveness.proofs.Votes.{HasMore, HaveHeard, after_votes, all_then, heard_itself, told_on}
 

@@ -83,7 +83,6 @@ WhatWaitsIsExecuted = (f : ℕ) (keys : Keyring) (start : Beginning) (faulty mem
     → AreFairTo f keys start faulty members turns
     → AreEven f faulty members w view low
     → HasPlace low number
-    → ((k : ℕ) → members k ≡ true → (order_of w k).last < number)
     → IsTime time
     → IsWay members w way
     × IsARun f keys start faulty (turns ++ way)

@@ -1,8 +1,9 @@
 // What members execute, by ways of theirs. The bodies do nothing: what is said is the contracts.
-ghost use Rattle.bfs_liveness.specs.LawsOfExecuting.{ExchangesCommit, NoneIsLeftOut, WhatWaitsIsExecuted};
+ghost use Rattle.bfs_liveness.specs.LawsOfExecuting.{ExchangesCommit, NoneIsBeyond, NoneIsLeftOut, WhatWaitsIsExecuted};
 
 use crate::below::what_is_below;
-use bfs_nodes_agree::node_calls::laws::{new_views_are_taken_whole, what_is_resent_was_sent};
+use bfs_agreement::agreement::quorums_are_carried;
+use bfs_nodes_agree::node_calls::laws::{new_views_are_taken_whole, steps_are_turns, turns_may_be_taken, what_is_resent_was_sent};
 use bfs_view_change::{prepared_is_chosen, views_begin_behind_what_is_stable};
 
 /// Whatever calls and deliveries there were, and whoever lies: a correct primary that has entered its view has a PRE-PREPARE for each number between
@@ -15,6 +16,17 @@ pub fn none_is_left_out()
     views_begin_behind_what_is_stable();
     prepared_is_chosen();
     new_views_are_taken_whole();
+}
+
+/// Whatever calls and deliveries there were, and whoever lies: what a correct node has executed above its low mark is below the next number of the
+/// primary of its view, if that is correct and has entered it. What 2f + 1 have committed the NEW-VIEWs of later views hand over.
+pub fn none_is_beyond()
+    ensures { NoneIsBeyond }
+{
+    what_is_below();
+    steps_are_turns();
+    turns_may_be_taken();
+    quorums_are_carried();
 }
 
 /// For members that are even: in three exchanges, in which each gives to each other one what it has said in their view, all that its primary has
@@ -34,4 +46,5 @@ pub fn what_waits_is_executed()
     what_is_below();
     what_is_resent_was_sent();
     none_is_left_out();
+    none_is_beyond();
 }
