@@ -54,7 +54,7 @@ use Rattle.bfs_nodes_agree.proofs.Nodes.Entered.{comes_so}
 use Rattle.bfs_nodes_agree.proofs.Nodes.Kinds.{Left, Rested, TookChange, TookNewView, step_kind}
 use Rattle.bfs_nodes_agree.proofs.Nodes.NewViews.{own_proposals, proposals_are}
 use Rattle.bfs_nodes_agree.proofs.Orders.Logs.{Shows, log_keeps}
-use Rattle.bfs_liveness.proofs.Filled.{HasOwn, IsFilled, IsNoProposal, answers_no}
+use Rattle.bfs_liveness.proofs.Filled.{HasOwn, IsAnswer, IsFilled, IsNoProposal, answers_are, no_proposals}
 use Rattle.bfs_liveness.proofs.Lists.{in_run, out_of_run}
 
 -- What is handed over -------------------------------------------------------------------------------------------------
@@ -105,11 +105,11 @@ handed_all numbers f view changes handed are n above le =
 
 -- The log of who enters -----------------------------------------------------------------------------------------------
 
-over_no : (keys : Keys) (s : State) (ms : Log) → AllIn IsNoProposal (all_taken_over keys s ms).sent
-over_no keys s [] = none_in IsNoProposal
-over_no keys s (m ∷ ms) = either_way (λ o. AllIn IsNoProposal (o.sent ++ (all_taken_over keys o.now ms).sent)) (place_refusal s (header m)) s (accepted keys s m)
-    (λ _. both_in IsNoProposal (accepted keys s m).sent (all_taken_over keys (accepted keys s m).now ms).sent (answers_no keys (with_message s m) (header m)) (over_no keys (accepted keys s m).now ms))
-    (over_no keys s ms)
+pub over_are : (keys : Keys) (s : State) (ms : Log) → AllIn IsAnswer (all_taken_over keys s ms).sent
+over_are keys s [] = none_in IsAnswer
+over_are keys s (m ∷ ms) = either_way (λ o. AllIn IsAnswer (o.sent ++ (all_taken_over keys o.now ms).sent)) (place_refusal s (header m)) s (accepted keys s m)
+    (λ _. both_in IsAnswer (accepted keys s m).sent (all_taken_over keys (accepted keys s m).now ms).sent (answers_are keys (with_message s m) (header m)) (over_are keys (accepted keys s m).now ms))
+    (over_are keys s ms)
 
 -- what it has of the view was handed over
 handed_only : (keys : Keys) (s : State) (view : ℕ) (stable : Option StableCheckpoint) (handed : List (Signed model.PrePrepare)) → HasNoLaterView s → s.view < view → entering_refusal s view ≡ None
@@ -129,7 +129,8 @@ handed_only keys s view stable handed later above none =
     shows (Some c) = λ _. map_in P (as_message Checkpoint) c.checkpoints (λ x i two _. absurd (omega (arith, two)))
 
     said : AllIn IsNoProposal (votes_by s (Enters keys view stable handed))
-    said = either_way (λ o. AllIn IsNoProposal o.sent) (entering_refusal s view) s (entered keys s view stable handed) (λ _. over_no keys (opened (raised keys s stable) view (number_of stable) handed) (as_proposals handed)) (none_in IsNoProposal)
+    said = either_way (λ o. AllIn IsNoProposal o.sent) (entering_refusal s view) s (entered keys s view stable handed)
+        (λ _. let begun = opened (raised keys s stable) view (number_of stable) handed in no_proposals (all_taken_over keys begun (as_proposals handed)).sent (over_are keys begun (as_proposals handed))) (none_in IsNoProposal)
 
 open_above : (s : State) (view : ℕ) → entering_refusal s view ≡ None → s.view < view
 open_above s view none =

@@ -84,36 +84,47 @@ settled_filled s h above filled = elim (makes_stable s h) as (λ b. IsFilled (re
   | false ↦ filled
 ]
 
--- Answers are no PRE-PREPAREs -----------------------------------------------------------------------------------------
+-- Answers are PREPAREs and COMMITs --------------------------------------------------------------------------------------
+
+abbrev pub IsAnswer : Signed OrderMessage → Type 0
+IsAnswer m = ((header m).tag ≡ 3) ⊎ ((header m).tag ≡ 4)
 
 abbrev pub IsNoProposal : Signed OrderMessage → Type 0
 IsNoProposal m = (header m).tag ≡ 2 → ⊥
 
-once_no : (b : Bool) (m : Signed OrderMessage) → IsNoProposal m → AllIn IsNoProposal (cond b [] (m ∷ []))
-once_no true m silent = none_in IsNoProposal
-once_no false m silent = one_in IsNoProposal m silent
+pub no_proposals : (ms : Log) → AllIn IsAnswer ms → AllIn IsNoProposal ms
+no_proposals ms all m i two = elim (all m i) [ inl three ↦ omega (arith, three, two) | inr four ↦ omega (arith, four, two) ]
+
+once : (b : Bool) (m : Signed OrderMessage) → IsAnswer m → AllIn IsAnswer (cond b [] (m ∷ []))
+once true m is = none_in IsAnswer
+once false m is = one_in IsAnswer m is
 
 module _ (keys : Keys) where
-  prepares_no : (s : State) (v n : ℕ) (d : List ℕ) → AllIn IsNoProposal (prepares_in keys s v n d)
-  prepares_no s v n d =
+  prepares_are : (s : State) (v n : ℕ) (d : List ℕ) → AllIn IsAnswer (prepares_in keys s v n d)
+  prepares_are s v n d =
       let m = order_signed_by keys (Prepare (own_vote s v n d)) in
-      elim (s.me == primary s.f v) as (λ b. AllIn IsNoProposal (cond b [] (cond (is_there s (header m)) [] (m ∷ [])))) [
-        | true ↦ none_in IsNoProposal
-        | false ↦ once_no (is_there s (header m)) m (λ e. omega (arith, e))
+      elim (s.me == primary s.f v) as (λ b. AllIn IsAnswer (cond b [] (cond (is_there s (header m)) [] (m ∷ [])))) [
+        | true ↦ none_in IsAnswer
+        | false ↦ once (is_there s (header m)) m (inl refl)
       ]
 
-  pub commits_no : (s : State) (v n : ℕ) (d : List ℕ) → AllIn IsNoProposal (commits_in keys s v n d)
-  commits_no s v n d =
+  pub commits_are : (s : State) (v n : ℕ) (d : List ℕ) → AllIn IsAnswer (commits_in keys s v n d)
+  commits_are s v n d =
       let m = order_signed_by keys (Commit (own_vote s v n d)) in
-      cond_both (prepared s.f s.me (known s) v n d) (cond (is_there s (header m)) [] (m ∷ [])) [] (AllIn IsNoProposal) (λ _. once_no (is_there s (header m)) m (λ e. omega (arith, e))) (λ _. none_in IsNoProposal)
+      cond_both (prepared s.f s.me (known s) v n d) (cond (is_there s (header m)) [] (m ∷ [])) [] (AllIn IsAnswer) (λ _. once (is_there s (header m)) m (inr refl)) (λ _. none_in IsAnswer)
 
-  pub answers_no : (s : State) (h : Header) → AllIn IsNoProposal (answers_in keys s h)
-  answers_no s h =
+  pub answers_are : (s : State) (h : Header) → AllIn IsAnswer (answers_in keys s h)
+  answers_are s h =
       let ps = prepares_in keys s h.view h.number h.digest in
       let cs = commits_in keys s h.view h.number h.digest in
-      cond_both (h.tag == 2) (votes_in keys s h.view h.number h.digest) (cond (h.tag == 3) cs []) (AllIn IsNoProposal)
-      (λ _. both_in IsNoProposal ps (commits_in keys (with_more s ps) h.view h.number h.digest) (prepares_no s h.view h.number h.digest) (commits_no (with_more s ps) h.view h.number h.digest))
-      (λ _. cond_both (h.tag == 3) cs [] (AllIn IsNoProposal) (λ _. commits_no s h.view h.number h.digest) (λ _. none_in IsNoProposal))
+      cond_both (h.tag == 2) (votes_in keys s h.view h.number h.digest) (cond (h.tag == 3) cs []) (AllIn IsAnswer)
+      (λ _. both_in IsAnswer ps (commits_in keys (with_more s ps) h.view h.number h.digest) (prepares_are s h.view h.number h.digest) (commits_are (with_more s ps) h.view h.number h.digest))
+      (λ _. cond_both (h.tag == 3) cs [] (AllIn IsAnswer) (λ _. commits_are s h.view h.number h.digest) (λ _. none_in IsAnswer))
+
+  pub lone_are : (s : State) (batch : Batch) → AllIn IsAnswer (proposal_commits keys s batch)
+  lone_are s batch =
+      let next = with_message s (proposal keys s batch) in
+      cond_both (s.f == 0) (commits_in keys next s.view (next_number s) (batch_digest batch)) [] (AllIn IsAnswer) (λ _. commits_are next s.view (next_number s) (batch_digest batch)) (λ _. none_in IsAnswer)
 
 -- what is told of PRE-PREPAREs by a log with one message more, and others that are none
 one_more : (s : State) (m : Signed OrderMessage) (vs : Log) → AllIn IsNoProposal vs → (k v n : ℕ) (d : List ℕ) → Told (headers ((s.log ++ m ∷ []) ++ vs)) 2 k v n d → Told (known s) 2 k v n d ⊎ Is (header m) 2 k v n d
@@ -154,7 +165,7 @@ accepted_filled keys s m at is_known filled = elim (cases_Bool (h.tag == 5)) [
       (settled_filled (with_more (with_message s m) []) h above (filled_still s ((s.log ++ m ∷ []) ++ []) same filled))
   | inr vote ↦
       let vs = answers keys s m in
-      let silent : AllIn IsNoProposal vs = answers_no keys (with_message s m) h in
+      let silent = no_proposals vs (answers_are keys (with_message s m) h) in
       subst IsFilled (sym (unsettled (with_more (with_message s m) vs) h vote)) (filled_on s s.asked s.low s.last ((s.log ++ m ∷ []) ++ vs) (omega arith)
       (λ n lt own. has_more s m vs (is_slot 2 s.me s.view n) own)
       (λ led k n top d told le lt behind. elim (one_more s m vs silent k s.view top d told) [
@@ -237,8 +248,7 @@ proposed_filled keys s batch filled =
     let all = (s.log ++ m ∷ []) ++ vs in
     let own : has_slot (headers all) 2 s.me s.view (next_number s) ≡ true = told_slot (headers all) 2 s.me s.view (next_number s) (batch_digest batch)
     (in_told (headers all) (header m) (in_map header all m (left_in (s.log ++ m ∷ []) vs m (right_in s.log (m ∷ []) m (inl refl))))) in
-    let silent : AllIn IsNoProposal vs = cond_both (s.f == 0) (commits_in keys (with_message s m) s.view (next_number s) (batch_digest batch)) [] (AllIn IsNoProposal)
-    (λ _. commits_no keys (with_message s m) s.view (next_number s) (batch_digest batch)) (λ _. none_in IsNoProposal) in
+    let silent = no_proposals vs (lone_are keys s batch) in
     filled_on s s.asked s.low s.last ((s.log ++ m ∷ []) ++ vs) (omega arith)
     (λ n lt own. has_more s m vs (is_slot 2 s.me s.view n) own)
     (λ led k n top d told le lt behind. elim (one_more s m vs silent k s.view top d told) [

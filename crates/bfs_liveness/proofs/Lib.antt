@@ -14,3 +14,4 @@ pub mod Deeds
 pub mod LeftOut
 pub mod Past
 pub mod Beyond
+pub mod Settled

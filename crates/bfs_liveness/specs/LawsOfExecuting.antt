@@ -3,8 +3,10 @@ use Rattle.std.specs.Prelude.{◌≡◌, ℕ, ◌+◌, ◌<◌, ◌≤◌, max, 
 use Rattle.bfs_model.specs.Server.Limits.{log_size, most_number}
 use Rattle.bfs_model.specs.Server.Stored.{IsTime}
 use Rattle.bfs_model.specs.Server.Tree.{Time}
+use Rattle.bfs_order.specs.Laws.Calls.{IsKept}
 use Rattle.bfs_order.specs.Replica.Proposing.{batch_digest, next_number}
-use Rattle.bfs_votes.specs.Votes.{primary}
+use Rattle.bfs_order.specs.Replica.States.{State, known}
+use Rattle.bfs_votes.specs.Votes.{is_stable, primary}
 use Rattle.bfs_node.specs.Proposing.{pending_batch}
 use Rattle.bfs_nodes_agree.specs.Nodes.Replicas.{Beginning, Keyring, NodeReplicas, NodeTurn, after_node_turns}
 use Rattle.bfs_nodes_progress.specs.Members.{AreTogether, IsProposed, is_committed}
@@ -45,6 +47,14 @@ NoneIsBeyond = (f : ℕ) (keys : Keyring) (start : Beginning) (faulty : ℕ → 
     → let w = reached f keys start turns in
     (order_of w k).view ≡ view → (order_of w (primary f view)).view ≡ view → (order_of w k).low < (order_of w k).last
     → (order_of w k).last < next_number (order_of w (primary f view))
+
+-- no number above the low mark has CHECKPOINTs of 2f + 1 replicas of one digest in the log: the low mark rises with them (OSDI 1999 section 4.3)
+abbrev pub IsSettled : State → Type 0
+IsSettled s = (number : ℕ) (digest : List ℕ) → is_stable s.f (known s) number digest ≡ true → number ≤ s.low
+
+-- so it is after each call of an order
+abbrev pub WhatIsStableIsSettled : Type 0
+WhatIsStableIsSettled = IsKept IsSettled
 
 -- Exchanges -----------------------------------------------------------------------------------------------------------
 

@@ -1,9 +1,10 @@
 // What members execute, by ways of theirs. The bodies do nothing: what is said is the contracts.
-ghost use Rattle.bfs_liveness.specs.LawsOfExecuting.{ExchangesCommit, NoneIsBeyond, NoneIsLeftOut, WhatWaitsIsExecuted};
+ghost use Rattle.bfs_liveness.specs.LawsOfExecuting.{ExchangesCommit, NoneIsBeyond, NoneIsLeftOut, WhatIsStableIsSettled, WhatWaitsIsExecuted};
 
 use crate::below::what_is_below;
 use bfs_agreement::agreement::quorums_are_carried;
 use bfs_nodes_agree::node_calls::laws::{new_views_are_taken_whole, steps_are_turns, turns_may_be_taken, what_is_resent_was_sent};
+use bfs_order::a_replica_stays_itself;
 use bfs_view_change::{prepared_is_chosen, views_begin_behind_what_is_stable};
 
 /// Whatever calls and deliveries there were, and whoever lies: a correct primary that has entered its view has a PRE-PREPARE for each number between
@@ -27,6 +28,13 @@ pub fn none_is_beyond()
     steps_are_turns();
     turns_may_be_taken();
     quorums_are_carried();
+}
+
+/// The low mark of an order rises as soon as CHECKPOINTs of 2f + 1 replicas tell one digest of a number above it.
+pub fn what_is_stable_is_settled()
+    ensures { WhatIsStableIsSettled }
+{
+    a_replica_stays_itself();
 }
 
 /// For members that are even: in three exchanges, in which each gives to each other one what it has said in their view, all that its primary has
