@@ -76,14 +76,13 @@ by_call s executed (Enters keys view stable handed) ran =
 abbrev HasRun : OrderReplica → Type 0
 HasRun o = Ran o.state o.executed
 
-turns_ran : (turns : List ViewTurn) (v : OrderReplicas) → ((k : ℕ) → HasRun (v k)) → (k : ℕ) → HasRun (after_view_turns v turns k)
-turns_ran [] v ran = ran
-turns_ran (turn ∷ turns) v ran =
+-- what holds of an order after each deed holds after turns
+pub turns_keep : (P : OrderReplica → Type 0) → ((o : OrderReplica) (deed : OrderDeed) → P o → P (after_order_deed o deed)) → (turns : List ViewTurn) (v : OrderReplicas) → ((k : ℕ) → P (v k)) → (k : ℕ) → P (after_view_turns v turns k)
+turns_keep P keeps [] v all = all
+turns_keep P keeps (turn ∷ turns) v all =
     let i = turn.who in
     let deed = (ordered_turn v turn).deed in
-    let next = after_order_deed (v i) deed in
-    let here : HasRun next = by_call (v i).state (v i).executed (call_of deed) (ran i) in
-    turns_ran turns (after_order_turn v (ordered_turn v turn)) (λ k. cond_both (k == i) next (v k) HasRun (λ _. here) (λ _. ran k))
+    turns_keep P keeps turns (after_order_turn v (ordered_turn v turn)) (λ k. cond_both (k == i) (after_order_deed (v i) deed) (v k) P (λ _. keeps (v i) deed (all i)) (λ _. all k))
 
 -- A world of moves ----------------------------------------------------------------------------------------------------
 
@@ -108,7 +107,7 @@ moved_so laws are may f keys start faulty turns run =
       allowed = moves.1;
       followed = subst (λ (v : OrderReplicas). IsFollowed f v (after_steps f new_world moves.0)) ordered.2 moves.2;
       tracks = are f keys start turns;
-      ran = turns_ran list first (λ k. inl (omega arith));
+      ran = turns_keep HasRun (λ o deed ran. by_call o.state o.executed (call_of deed) ran) list first (λ k. inl (omega arith));
     }
 
 -- Not beyond ----------------------------------------------------------------------------------------------------------

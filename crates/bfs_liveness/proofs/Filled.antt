@@ -218,6 +218,9 @@ greatest_is_told v (h ∷ hs) =
     ])
     (λ _. later)
 
+pub greatest_under : (v : ℕ) (hs : List Header) (bound : ℕ) → ((k n : ℕ) (d : List ℕ) → Told hs 2 k v n d → n ≤ bound) → greatest_proposed v hs ≤ bound
+greatest_under v hs bound each = elim (greatest_is_told v hs) [ inl none ↦ omega (arith, none) | inr told ↦ each told.0 (greatest_proposed v hs) told.1 told.2 ]
+
 pub told_le : (v : ℕ) (hs : List Header) (k n : ℕ) (d : List ℕ) → Told hs 2 k v n d → n ≤ greatest_proposed v hs
 told_le v [] k n d told = absurd cc
 told_le v (h ∷ hs) k n d told =

@@ -15,3 +15,7 @@ pub mod LeftOut
 pub mod Past
 pub mod Beyond
 pub mod Settled
+pub mod Told
+pub mod Digests
+pub mod Hearing
+pub mod Emptying

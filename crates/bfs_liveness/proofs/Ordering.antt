@@ -82,7 +82,7 @@ abbrev IsExecution : (members : ℕ → Bool) → NodeTurn → Type 0
 IsExecution members turn = (members turn.who ≡ true) × (turn.step ≡ Executes)
 
 module _ (members : ℕ → Bool) where
-  may_execute : (turns : List NodeTurn) → ((turn : NodeTurn) → IsIn turn turns → IsExecution members turn) → (w : NodeReplicas) → IsWay members w turns
+  pub may_execute : (turns : List NodeTurn) → ((turn : NodeTurn) → IsIn turn turns → IsExecution members turn) → (w : NodeReplicas) → IsWay members w turns
   may_execute [] only w = tt
   may_execute (turn ∷ turns) only w =
       let first = only turn (inl refl) in
@@ -93,7 +93,7 @@ module _ (f : ℕ) (members : ℕ → Bool) (w : NodeReplicas) (number : ℕ) wh
   abbrev of_one : ℕ → List NodeTurn
   of_one k = cond (members k) (executions k (number - (order_of w k).last)) []
 
-  only_executions : (turn : NodeTurn) → IsIn turn (all_execute f members w number) → IsExecution members turn
+  pub only_executions : (turn : NodeTurn) → IsIn turn (all_execute f members w number) → IsExecution members turn
   only_executions turn i =
       let to = out_of_each of_one (replicas f) turn i in
       let there = out_of_where (members to.0) (executions to.0 (number - (order_of w to.0).last)) turn to.2 in
@@ -106,7 +106,7 @@ module _ (f : ℕ) (members : ℕ → Bool) (w : NodeReplicas) (number : ℕ) wh
       (executes_only k (number - (order_of w k).last) turn there.1).0
 
   -- each comes to what it does by its own
-  each_executes : (k : ℕ) → members k ≡ true → k < replicas f → after_node_turns w (all_execute f members w number) k ≡ after_node_turns w (executions k (number - (order_of w k).last)) k
+  pub each_executes : (k : ℕ) → members k ≡ true → k < replicas f → after_node_turns w (all_execute f members w number) k ≡ after_node_turns w (executions k (number - (order_of w k).last)) k
   each_executes k member low =
       each_once w of_one own (replicas f) k low ∙ ap (λ (b : Bool). after_node_turns w (cond b (executions k (number - (order_of w k).last)) []) k) member
 

@@ -47,7 +47,7 @@ stable_less f new old n d fewer is =
     le-leb (2 * f + 1) (tellers f old 5 0 n d) (omega (arith, many, most))
 
 -- a message of a log, by what it tells
-among : (log : Log) (t k v n : ℕ) (d : List ℕ) → Told (headers log) t k v n d → (m : Signed OrderMessage) × IsIn m log × Is (header m) t k v n d
+pub among : (log : Log) (t k v n : ℕ) (d : List ℕ) → Told (headers log) t k v n d → (m : Signed OrderMessage) × IsIn m log × Is (header m) t k v n d
 among log t k v n d told =
     let got = told_in (headers log) t k v n d told in
     let m = out_of_map header log got.0 got.1 in

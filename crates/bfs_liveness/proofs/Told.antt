@@ -1,8 +1,9 @@
 -- What CHECKPOINTs of one number leave of an order: they stand in its log, or the number is stable.
-use Rattle.std.proofs.Common.{◌≡◌, ℕ, ◌+◌, ◌%◌, ◌<◌, ◌≤◌, ◌==◌, Bool, true, false, cond, ◌&&◌, ◌||◌, not, List, [], ◌∷◌, ◌++◌, ◌⊎◌, Option, Some, None, inl, inr, refl, sym, ap, ap₂, subst, ◌∙◌, arith}
-use Rattle.std.specs.Prelude.{nat_le, nat_lt}
+use Rattle.std.proofs.Common.{◌≡◌, ℕ, ◌+◌, ◌%◌, ◌<◌, ◌≤◌, ◌==◌, Bool, true, false, cond, ◌&&◌, ◌||◌, not, List, [], ◌∷◌, ◌++◌, ◌⊎◌, Option, Some, None, inl, inr, refl, sym, ap, ap₂, subst, ◌∙◌, append-nil, arith}
+use Rattle.std.specs.Prelude.{bytes_eq, filter, nat_le, nat_lt}
 use Rattle.std.specs.List.{list_any}
 use Rattle.std.proofs.lemmas.Bool.{and_from, and_parts, cases_Bool, cases_lt, eq-eqb, eqb-true, le-leb, lt-ltb, or_left, or_right}
+use Rattle.std.proofs.lemmas.Slice.Eq.{bytes_eq-Decides}
 use Rattle.bfs_auth.specs.Keys.{Keys}
 use Rattle.bfs_log.specs.Headers.{header}
 use Rattle.bfs_log.specs.Logs.{Log, headers, kept_after, stays}
@@ -148,8 +149,8 @@ takes_it keys s m number k d passes is multiple under = elim (cases_lt s.low num
         )
     | inr free ↦
         let n = is.number in
-        let open : place_refusal s h ≡ None = not_refused s h is.tag (omega (arith, n, above)) (omega (arith, n, under)) (ap (λ (x : ℕ). x % checkpoint_interval) n ∙ multiple) free in
-        let none : refusal keys s m ≡ None = ap₂ (λ (a : Bool) (r : Option OrderError). cond (not a) (Some BadAuthenticator) r) passes open in
+        let opened : place_refusal s h ≡ None = not_refused s h is.tag (omega (arith, n, above)) (omega (arith, n, under)) (ap (λ (x : ℕ). x % checkpoint_interval) n ∙ multiple) free in
+        let none : refusal keys s m ≡ None = ap₂ (λ (a : Bool) (r : Option OrderError). cond (not a) (Some BadAuthenticator) r) passes opened in
         (
           subst (λ (r : Option OrderError). HasTaken number s (order.unless r s (accepted keys s m)).now) (sym none) taken.0,
           subst (λ (r : Option OrderError). IsToldBy number (order.unless r s (accepted keys s m)).now k) (sym none) taken.1,
@@ -163,9 +164,52 @@ takes_it keys s m number k d passes is multiple under = elim (cases_lt s.low num
     taken : HasTaken number s (accepted keys s m).now × IsToldBy number (accepted keys s m).now k
     taken =
         let got = one_taken number s (m ∷ []) m k d is (right_in s.log (m ∷ []) m (inl refl)) (λ x i. elim i [ inl same ↦ same | inr none ↦ absurd none ]) in
-        ?
+        let e : (accepted keys s m).now ≡ settled (record s { log = s.log ++ m ∷ [] }) h = ap (λ (l : Log). settled (with_more (with_message s m) l) h) (no_answers keys (with_message s m) h is.tag)
+        ∙ ap (λ (l : Log). settled (record s { log = l }) h) (append-nil (s.log ++ m ∷ [])) in
+        (subst (HasTaken number s) (sym e) got.0, subst (λ (x : State). IsToldBy number x k) (sym e) got.1)
 
--- its own
+-- Its own -------------------------------------------------------------------------------------------------------------
+
+in_filter : {A : Type 0} (p : A → Bool) (xs : List A) (x : A) → p x ≡ true → IsIn x xs → IsIn x (filter p xs)
+in_filter p [] x so i = absurd i
+in_filter p (y ∷ ys) x so i = elim i [
+  | inl same ↦ subst (λ (b : Bool). IsIn x (cond b (y ∷ filter p ys) (filter p ys))) (sym (ap p (sym same) ∙ so)) (inl same)
+  | inr later ↦ let rest = in_filter p ys x so later in elim (p y) as (λ b. IsIn x (cond b (y ∷ filter p ys) (filter p ys))) [ true ↦ inr rest | false ↦ rest ]
+]
+
+-- a CHECKPOINT that makes its number stable stays
+own_stays : (s : State) (log : Log) (m : Signed OrderMessage) → (header m).tag ≡ 5 → IsIn m log → IsIn m (settled (record s { log = log }) (header m)).log
+own_stays s log m five i =
+    let h = header m in
+    let same : bytes_eq h.digest h.digest ≡ true = (bytes_eq-Decides h.digest h.digest).1 refl in
+    let keep : stays h.number h.digest h ≡ true = or_right (nat_lt h.number h.number) ((h.tag == 5) && ((h.number == h.number) && bytes_eq h.digest h.digest))
+    (and_from (h.tag == 5) ((h.number == h.number) && bytes_eq h.digest h.digest) (eq-eqb h.tag 5 five) (and_from (h.number == h.number) (bytes_eq h.digest h.digest) (eq-eqb h.number h.number refl) same)) in
+    elim (makes_stable (record s { log = log }) h) as (λ b. IsIn m (cond b (kept_after h.number h.digest log) log)) [
+      | true ↦ in_filter (λ x. stays h.number h.digest (header x)) log m keep i
+      | false ↦ i
+    ]
+
+-- where it tells a checkpoint it has its CHECKPOINT in its log, now or before
 pub tells_it : (keys : Keys) (s : State) (number : ℕ) (d : List ℕ) → s.low < number → number ≤ s.low + log_size → number ≤ most_number
-    → HasTaken number s (order.unless (checkpoint_refusal s number) s (checkpointed keys s number d)).now × (has_slot (known (order.unless (checkpoint_refusal s number) s (checkpointed keys s number d)).now) 5 s.me 0 number ≡ true)
-tells_it keys s number d above under most = ?
+    → HasTaken number s (order.unless (checkpoint_refusal s number) s (checkpointed keys s number d)).now
+    × (has_slot (known (order.unless (checkpoint_refusal s number) s (checkpointed keys s number d)).now) 5 s.me 0 number ≡ true)
+tells_it keys s number d above under most =
+    let taken = one_taken number s (own ∷ []) own s.me d is_own (right_in s.log (own ∷ []) own (inl refl)) (λ x i. elim i [ inl same ↦ same | inr none ↦ absurd none ]) in
+    let new : has_slot (known (checkpointed keys s number d).now) 5 s.me 0 number ≡ true =
+    slot_there (checkpointed keys s number d).now.log own s.me number d (own_stays s (s.log ++ own ∷ []) own refl (right_in s.log (own ∷ []) own (inl refl))) is_own in (
+      either_way (λ o. HasTaken number s o.now) (checkpoint_refusal s number) s (checkpointed keys s number d) (λ _. taken.0) (nothing_taken number s),
+      elim (cases_Bool (has_slot (known s) 5 s.me 0 number)) [
+        | inl there ↦ either_way (λ o. has_slot (known o.now) 5 s.me 0 number ≡ true) (checkpoint_refusal s number) s (checkpointed keys s number d) (λ _. new) there
+        | inr free ↦
+            let marks = and_from (is_between s number) (nat_le number most_number)
+            (and_from (nat_lt s.low number) (nat_le number (s.low + log_size)) (lt-ltb s.low number above) (le-leb number (s.low + log_size) under)) (le-leb number most_number most) in
+            let none : checkpoint_refusal s number ≡ None = ap₂ (λ (a b : Bool). cond (not a) (Some OutsideMarks) (cond b (Some AlreadyHave) None)) marks free in
+            subst (λ (r : Option OrderError). has_slot (known (order.unless r s (checkpointed keys s number d)).now) 5 s.me 0 number ≡ true) (sym none) new
+      ],
+    )
+  where
+    own : Signed OrderMessage
+    own = checkpoint keys s number d
+
+    is_own : Is (header own) 5 s.me 0 number d
+    is_own = record { tag = refl; sender = refl; view = refl; number = refl; digest = refl }

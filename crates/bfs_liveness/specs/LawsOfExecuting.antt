@@ -1,6 +1,6 @@
 -- The statements on what members execute: contracts of functions of src/executing.rt, which do nothing.
-use Rattle.std.specs.Prelude.{◌≡◌, ℕ, ◌+◌, ◌<◌, ◌≤◌, max, Bool, true, false, is_some, List, ◌++◌}
-use Rattle.bfs_model.specs.Server.Limits.{log_size, most_number}
+use Rattle.std.specs.Prelude.{◌≡◌, ℕ, ◌+◌, ◌%◌, ◌<◌, ◌≤◌, max, Bool, true, false, is_some, List, ◌++◌}
+use Rattle.bfs_model.specs.Server.Limits.{checkpoint_interval, log_size, most_number}
 use Rattle.bfs_model.specs.Server.Stored.{IsTime}
 use Rattle.bfs_model.specs.Server.Tree.{Time}
 use Rattle.bfs_order.specs.Laws.Calls.{IsKept}
@@ -12,7 +12,7 @@ use Rattle.bfs_nodes_agree.specs.Nodes.Replicas.{Beginning, Keyring, NodeReplica
 use Rattle.bfs_nodes_progress.specs.Members.{AreTogether, IsProposed, is_committed}
 use Rattle.bfs_nodes_progress.specs.Requests.{HasExecuted}
 use Rattle.bfs_nodes_progress.specs.Runs.{IsARun, order_of, reached}
-use Rattle.bfs_liveness.specs.Exchanges.{ordering, three_exchanges}
+use Rattle.bfs_liveness.specs.Exchanges.{emptying, ordering, three_exchanges}
 use Rattle.bfs_liveness.specs.Ways.{AreFairTo, IsWay}
 
 -- Members whose logs begin behind one number --------------------------------------------------------------------------
@@ -97,3 +97,31 @@ WhatWaitsIsExecuted = (f : ℕ) (keys : Keyring) (start : Beginning) (faulty mem
     → IsWay members w way
     × IsARun f keys start faulty (turns ++ way)
     × ((k : ℕ) → members k ≡ true → HasExecuted (reached f keys start (turns ++ way) k) number (batch_digest (pending_batch node time)))
+
+-- A full window -------------------------------------------------------------------------------------------------------
+
+-- the primary has proposed the last number of its window, which is the number of a checkpoint
+pub record IsFull (low next : ℕ) : Type 0 where
+  pub to_its_end : next ≡ low + log_size + 1
+  pub multiple : ((low + log_size) % checkpoint_interval) ≡ 0
+  pub bounded : low + log_size ≤ most_number
+
+-- members are together, and at the primary the number is stable, and none above it is proposed
+pub record IsEmptied (f : ℕ) (faulty members : ℕ → Bool) (w : NodeReplicas) (view number : ℕ) : Type 0 where
+  pub together : AreTogether f faulty members w view
+  pub live : (k : ℕ) → members k ≡ true → is_some (w k).node.files ≡ true
+  pub low : (order_of w (primary f view)).low ≡ number
+  pub next : next_number (order_of w (primary f view)) ≤ number + 1
+
+-- where the window of even members is full, emptying it is a way
+abbrev pub FullWindowsAreEmptied : Type 0
+FullWindowsAreEmptied = (f : ℕ) (keys : Keyring) (start : Beginning) (faulty members : ℕ → Bool) (turns : List NodeTurn) (view low : ℕ)
+    → let w = reached f keys start turns in
+    let way = emptying f members w view (low + log_size) in
+    IsARun f keys start faulty turns
+    → AreFairTo f keys start faulty members turns
+    → AreEven f faulty members w view low
+    → IsFull low (next_number (order_of w (primary f view)))
+    → IsWay members w way
+    × IsARun f keys start faulty (turns ++ way)
+    × IsEmptied f faulty members (reached f keys start (turns ++ way)) view (low + log_size)

@@ -1,9 +1,9 @@
 // What members execute, by ways of theirs. The bodies do nothing: what is said is the contracts.
-ghost use Rattle.bfs_liveness.specs.LawsOfExecuting.{ExchangesCommit, NoneIsBeyond, NoneIsLeftOut, WhatIsStableIsSettled, WhatWaitsIsExecuted};
+ghost use Rattle.bfs_liveness.specs.LawsOfExecuting.{ExchangesCommit, FullWindowsAreEmptied, NoneIsBeyond, NoneIsLeftOut, WhatIsStableIsSettled, WhatWaitsIsExecuted};
 
 use crate::below::what_is_below;
 use bfs_agreement::agreement::quorums_are_carried;
-use bfs_nodes_agree::node_calls::laws::{new_views_are_taken_whole, steps_are_turns, turns_may_be_taken, what_is_resent_was_sent};
+use bfs_nodes_agree::node_calls::laws::{new_views_are_taken_whole, nodes_agree, steps_are_turns, turns_may_be_taken, what_is_resent_was_sent};
 use bfs_order::a_replica_stays_itself;
 use bfs_view_change::{prepared_is_chosen, views_begin_behind_what_is_stable};
 
@@ -55,4 +55,18 @@ pub fn what_waits_is_executed()
     what_is_resent_was_sent();
     none_is_left_out();
     none_is_beyond();
+}
+
+/// For members that are even, where the primary of their view has proposed the last number of its window: in three exchanges all of it is committed,
+/// each member executes it and tells the checkpoint there, and that becomes stable at the primary, as which it has room again.
+pub fn full_windows_are_emptied()
+    ensures { FullWindowsAreEmptied }
+{
+    what_is_below();
+    what_is_resent_was_sent();
+    none_is_left_out();
+    none_is_beyond();
+    what_is_stable_is_settled();
+    steps_are_turns();
+    nodes_agree();
 }
