@@ -1,6 +1,6 @@
 -- No correct node has executed a number that the primary of its view has yet to propose.
-use Rattle.std.proofs.Common.{◌≡◌, ℕ, ◌+◌, ◌<◌, ◌≤◌, ◌==◌, max, Bool, true, false, cond, List, [], ◌∷◌, ◌++◌, ◌⊎◌, Option, Some, None, inl, inr, refl, sym, ap, subst, ◌∙◌, arith}
-use Rattle.std.proofs.lemmas.Bool.{cases_lt, cond_both, eqb-true}
+use Rattle.std.proofs.Common.{◌≡◌, ℕ, ◌<◌, ◌≤◌, ◌==◌, max, Bool, false, List, [], ◌∷◌, ◌++◌, ◌⊎◌, Option, Some, None, inl, inr, refl, sym, ap, subst, ◌∙◌, arith}
+use Rattle.std.proofs.lemmas.Bool.{cases_lt, cond_both}
 use Rattle.bfs_log.specs.Headers.{header}
 use Rattle.bfs_log.specs.Logs.{Log}
 use Rattle.bfs_messages.specs.declared.order_messages.OrderMessage.{OrderMessage}
@@ -15,7 +15,7 @@ use Rattle.bfs_order.specs.Replica.Refusals.{refusal}
 use Rattle.bfs_order.specs.Replica.States.{State, known}
 use Rattle.bfs_order.specs.Replica.Views.{entered, entering_refusal, leaving_refusal, left}
 use Rattle.bfs_votes.specs.Votes.{Told, primary}
-use Rattle.bfs_agreement.specs.Histories.{Execution, HasSaid, IsIn, World, FewAreFaulty}
+use Rattle.bfs_agreement.specs.Histories.{Execution, HasSaid, IsIn}
 use Rattle.bfs_agreement.specs.Laws.{Carries, QuorumsAreCarried}
 use Rattle.bfs_agreement.specs.Moves.{AreAllowed, Step, after_steps, new_world}
 use Rattle.bfs_agreement.proofs.Public.{run_sound, start_sound}

@@ -23,7 +23,7 @@ use Rattle.bfs_node.specs.Settling.{settling_refusal}
 use Rattle.bfs_node.specs.declared.error.NodeError.{NodeError}
 use Rattle.bfs_nodes_agree.specs.Nodes.Steps as steps
 use Rattle.bfs_nodes_agree.specs.Nodes.Steps.{NodeStep, Delivers, Takes, TakesRequests, TakesOffered, Proposes, Executes, Fails, Checkpoints, LeavesFor, ForgetsAnswered, ForgetsProposed, Adopts, Settles, begun_deeds, bytes_deeds, change_deeds, checkpoint_deeds, deeds_of, leaving_deeds, message_deeds, where_taken}
-use Rattle.bfs_nodes_agree.specs.Views.Replicas.{ViewDeed, Orders, TimesOut, ChangesView}
+use Rattle.bfs_nodes_agree.specs.Views.Replicas.{ViewDeed, Orders, ChangesView}
 
 abbrev pub TakesNothing : ViewDeed → Type 0
 TakesNothing (Orders (order.Takes keys m)) = ⊥

@@ -1,7 +1,6 @@
 -- CHECKPOINTs of correct nodes for one number tell one digest.
-use Rattle.std.proofs.Common.{◌≡◌, ℕ, ◌<◌, Bool, true, false, List, ◌⊎◌, Some, inl, inr, refl, sym, ap, subst, ◌∙◌, arith}
+use Rattle.std.proofs.Common.{◌≡◌, ℕ, ◌<◌, Bool, false, List, inl, inr, refl, sym, ap, subst, ◌∙◌, arith}
 use Rattle.bfs_auth.specs.declared.principals.Principal.TheVariants as principal
-use Rattle.bfs_checkpoints.specs.Texts.{node_digest}
 use Rattle.bfs_log.specs.Certificates.{faults}
 use Rattle.bfs_log.specs.Headers.{header, message_header}
 use Rattle.bfs_messages.specs.Messages as model
@@ -19,7 +18,7 @@ use Rattle.bfs_agreement.proofs.Public.{Is}
 use Rattle.bfs_node.specs.Nodes.{Messages}
 use Rattle.bfs_nodes_agree.specs.Nodes.Laws.{BatchesDontCollide, NodesAgree}
 use Rattle.bfs_nodes_agree.specs.Nodes.Premises.{HasSaid, SaysTheSame, StatesDontCollide, offers_in}
-use Rattle.bfs_nodes_agree.specs.Nodes.Replicas.{Beginning, Keyring, NodeReplica, NodeTurn, new_node_replicas}
+use Rattle.bfs_nodes_agree.specs.Nodes.Replicas.{Beginning, Keyring, NodeTurn, new_node_replicas}
 use Rattle.bfs_nodes_agree.specs.Orders.Replicas.{new_order_replicas}
 use Rattle.bfs_nodes_agree.proofs.Public.{out_of_map, told_in}
 use Rattle.bfs_nodes_progress.specs.Inside.Below.{Below}

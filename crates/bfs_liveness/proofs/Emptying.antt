@@ -1,13 +1,10 @@
 -- A full window is emptied: all of it is executed, and the checkpoint at its end becomes stable at the primary.
-use Rattle.std.proofs.Common.{◌≡◌, ℕ, zero, suc, ◌+◌, ◌-◌, ◌*◌, ◌%◌, ◌<◌, ◌≤◌, ◌==◌, max, Bool, true, false, cond, not, List, [], ◌∷◌, ◌++◌, ◌⊎◌, Option, Some, None, option_map, inl, inr, refl, sym, ap, subst, ◌∙◌, append_assoc, append-nil, arith}
-use Rattle.std.specs.Prelude.{is_some, nat_le}
+use Rattle.std.proofs.Common.{◌≡◌, ℕ, zero, suc, ◌+◌, ◌-◌, ◌*◌, ◌%◌, ◌<◌, ◌≤◌, ◌==◌, Bool, true, false, cond, not, List, [], ◌∷◌, ◌++◌, Option, Some, None, option_map, inl, inr, refl, sym, ap, subst, ◌∙◌, append_assoc, append-nil, arith}
+use Rattle.std.specs.Prelude.{is_some}
 use Rattle.std.proofs.lemmas.Bool.{cases_Bool, cases_lt, eq-eqb, eqb-true, le-leb}
-use Rattle.bfs_auth.specs.Keys.{Keys}
 use Rattle.bfs_checkpoints.specs.Snapshots.{snapshot_of}
 use Rattle.bfs_log.specs.Headers.{header}
-use Rattle.bfs_messages.specs.declared.order_messages.OrderMessage.{OrderMessage}
-use Rattle.bfs_messages.specs.declared.signed.Signed.{Signed}
-use Rattle.bfs_model.specs.Server.Limits.{checkpoint_interval, log_size, most_number}
+use Rattle.bfs_model.specs.Server.Limits.{checkpoint_interval, log_size}
 use Rattle.bfs_model.specs.Server.Tree.{FileSystem}
 use Rattle.bfs_order.specs.Laws.Logs.{IsInWindow, IsWindowed}
 use Rattle.bfs_order.specs.Replica.Checkpoints.{checkpoint_refusal, checkpointed}
@@ -15,7 +12,7 @@ use Rattle.bfs_order.specs.Replica.Outcomes as order
 use Rattle.bfs_order.specs.Replica.Proposing.{next_number}
 use Rattle.bfs_order.specs.Replica.States.{State, known}
 use Rattle.bfs_order.specs.declared.error.OrderError.{OrderError}
-use Rattle.bfs_votes.specs.Votes.{Told, count_below, has_slot, is_stable, primary, replicas, tellers, told}
+use Rattle.bfs_votes.specs.Votes.{Told, has_slot, is_stable, primary, replicas, tellers, told}
 use Rattle.bfs_votes.proofs.Public.{more}
 use Rattle.bfs_agreement.specs.Histories.{IsIn}
 use Rattle.bfs_progress.proofs.Public.{slot_told}
@@ -28,22 +25,22 @@ use Rattle.bfs_nodes_agree.specs.Nodes.Laws.{BatchesDontCollide, NodesAgree, Ste
 use Rattle.bfs_nodes_agree.specs.Nodes.Premises.{StatesDontCollide}
 use Rattle.bfs_nodes_agree.specs.Nodes.Replicas.{Beginning, Keyring, NodeReplica, NodeReplicas, NodeTurn, after_node_step, after_node_turn, after_node_turns, new_node_replicas, ordered_turns}
 use Rattle.bfs_nodes_agree.specs.Nodes.Resending.{WhatIsResentIsFair}
-use Rattle.bfs_nodes_agree.specs.Nodes.Steps.{Checkpoints, Executes, NodeStep, or_still, outcome, unless}
-use Rattle.bfs_nodes_agree.specs.Orders.Replicas.{OrderReplica, call_of, new_order_replicas}
+use Rattle.bfs_nodes_agree.specs.Nodes.Steps.{Checkpoints, Executes, or_still, outcome, unless}
+use Rattle.bfs_nodes_agree.specs.Orders.Replicas.{call_of, new_order_replicas}
 use Rattle.bfs_nodes_agree.proofs.Public.{at_in, here_after, in_map}
 use Rattle.bfs_nodes_progress.specs.Executing.{AreCommitted, executing}
-use Rattle.bfs_nodes_progress.specs.Following.{each_takes}
 use Rattle.bfs_nodes_progress.specs.Inside.Below.{Below}
 use Rattle.bfs_nodes_progress.specs.Members.{is_committed}
 use Rattle.bfs_nodes_progress.specs.Requests.{executions}
 use Rattle.bfs_nodes_progress.specs.Runs.{IsARun, order_of, reached}
 use Rattle.bfs_nodes_progress.proofs.Each.{AreOf, each_once}
-use Rattle.bfs_nodes_progress.proofs.Executing.{IsOne, after_so_many, proposed_in}
+use Rattle.bfs_nodes_progress.proofs.Executing.{after_so_many, proposed_in}
 use Rattle.bfs_nodes_progress.proofs.Quiet.{same_f, same_me}
 use Rattle.bfs_nodes_progress.proofs.Reached.{always, told_world}
 use Rattle.bfs_nodes_progress.proofs.Rounds.{after_join}
 use Rattle.bfs_liveness.specs.Exchanges.{all_execute, all_tell, emptying, three_exchanges, told_to}
-use Rattle.bfs_liveness.specs.LawsOfExecuting.{AreEven, FullWindowsAreEmptied, IsEmptied, IsFull, IsSettled, NoneIsBeyond, NoneIsLeftOut, WhatIsStableIsSettled}
+use Rattle.bfs_liveness.specs.Even.{AreEven}
+use Rattle.bfs_liveness.specs.LawsOfExecuting.{FullWindowsAreEmptied, IsEmptied, IsFull, IsSettled, NoneIsBeyond, NoneIsLeftOut, WhatIsStableIsSettled}
 use Rattle.bfs_liveness.specs.Ways.{AreFairTo, IsWay, MayTake}
 use Rattle.bfs_liveness.proofs.Beyond.{turns_keep}
 use Rattle.bfs_liveness.proofs.Digests.{same_digests}

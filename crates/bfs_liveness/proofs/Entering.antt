@@ -1,15 +1,13 @@
 -- Who enters a view has all that the NEW-VIEW hands over, and so its log leaves nothing out.
-use Rattle.std.proofs.Common.{◌≡◌, ℕ, ◌+◌, ◌-◌, ◌<◌, ◌≤◌, max, Bool, true, false, cond, ◌&&◌, List, [], ◌∷◌, ◌++◌, map, ◌⊎◌, Option, Some, None, option_map, inl, inr, refl, sym, ap, subst, ◌∙◌, arith}
+use Rattle.std.proofs.Common.{◌≡◌, ℕ, ◌+◌, ◌-◌, ◌<◌, ◌≤◌, true, false, cond, ◌&&◌, List, [], ◌∷◌, ◌++◌, map, ◌⊎◌, Option, Some, None, option_map, inl, inr, refl, sym, ap, subst, ◌∙◌, arith}
 use Rattle.std.specs.Prelude.{nat_le, nat_lt}
 use Rattle.std.specs.List.{range_with_len}
 use Rattle.std.proofs.lemmas.Bool.{and_parts, cases_lt, eqb-true, ltb-true}
 use Rattle.bfs_auth.specs.Keys.{Keys}
 use Rattle.bfs_codec.specs.Laws.{MessageWasWritten}
-use Rattle.bfs_log.specs.Certificates.{StableCheckpoint, checkpoints_in, faults, is_shown}
+use Rattle.bfs_log.specs.Certificates.{StableCheckpoint, faults}
 use Rattle.bfs_log.specs.Headers.{header}
 use Rattle.bfs_log.specs.Logs.{Log, headers}
-use Rattle.bfs_messages.specs.Fits.{FitsMessage}
-use Rattle.bfs_messages.specs.Limits.{FitsNewView}
 use Rattle.bfs_messages.specs.Messages as model
 use Rattle.bfs_messages.specs.Signing.{as_message}
 use Rattle.bfs_messages.specs.declared.message.Message.{Message}
@@ -18,7 +16,7 @@ use Rattle.bfs_messages.specs.declared.order_messages.OrderMessage.{OrderMessage
 use Rattle.bfs_messages.specs.declared.order_messages.OrderMessage.TheVariants.{Checkpoint}
 use Rattle.bfs_messages.specs.declared.signed.Signed.{Signed}
 use Rattle.bfs_model.specs.Server.Limits.{most_number}
-use Rattle.bfs_order.specs.Laws.Calls.{Enters, outcome}
+use Rattle.bfs_order.specs.Laws.Calls.{Enters}
 use Rattle.bfs_order.specs.Laws.Logs.{HasNoLaterView}
 use Rattle.bfs_order.specs.Replica.Accepting.{accepted}
 use Rattle.bfs_order.specs.Replica.Installing.{raised}
@@ -29,9 +27,9 @@ use Rattle.bfs_order.specs.Replica.Views.{leaving_refusal as order_leaving}
 use Rattle.bfs_order.specs.Replica.Views.{all_taken_over, as_proposals, entered, entering_refusal, greatest_number, left, number_of, opened}
 use Rattle.bfs_order.specs.declared.error.OrderError.{OrderError}
 use Rattle.bfs_order.specs.declared.error.OrderError.TheVariants.{WrongView}
-use Rattle.bfs_votes.specs.Votes.{Header, Told, has_slot, primary}
+use Rattle.bfs_votes.specs.Votes.{Header, Told, primary}
 use Rattle.bfs_view_change.specs.Changes.Choice.{Chosen, choice, last_number, latest_stable}
-use Rattle.bfs_view_change.specs.Changes.Keeping.{changes_for, with_asked, with_change, with_own}
+use Rattle.bfs_view_change.specs.Changes.Keeping.{changes_for, with_asked, with_change}
 use Rattle.bfs_view_change.specs.Changes.Making.{signed_new_view}
 use Rattle.bfs_view_change.specs.Changes.NewViews.{latest_checkpoint, new_view_refusal}
 use Rattle.bfs_view_change.specs.Changes.ViewChanges.{messages_of}
@@ -41,7 +39,7 @@ use Rattle.bfs_agreement.proofs.Public.{Is, in_told, moved}
 use Rattle.bfs_progress.proofs.Public.{told_slot}
 use Rattle.bfs_node.specs.Changing as changing
 use Rattle.bfs_node.specs.Changing.{begun, begun_if_due, leads, leaving_refusal, left_for, may_begin, own_change, own_new_view, view_refusal, with_new_view, with_view_change}
-use Rattle.bfs_node.specs.Errors.{of_order, of_view}
+use Rattle.bfs_node.specs.Errors.{of_view}
 use Rattle.bfs_node.specs.Nodes.{Node, Outcome}
 use Rattle.bfs_nodes_agree.specs.Nodes.Laws.{HasEnteredWhole}
 use Rattle.bfs_nodes_agree.specs.Nodes.Premises.{Comes}
@@ -54,7 +52,7 @@ use Rattle.bfs_nodes_agree.proofs.Nodes.Entered.{comes_so}
 use Rattle.bfs_nodes_agree.proofs.Nodes.Kinds.{Left, Rested, TookChange, TookNewView, step_kind}
 use Rattle.bfs_nodes_agree.proofs.Nodes.NewViews.{own_proposals, proposals_are}
 use Rattle.bfs_nodes_agree.proofs.Orders.Logs.{Shows, log_keeps}
-use Rattle.bfs_liveness.proofs.Filled.{HasOwn, IsAnswer, IsFilled, IsNoProposal, answers_are, no_proposals}
+use Rattle.bfs_liveness.proofs.Filled.{IsAnswer, IsFilled, IsNoProposal, answers_are, no_proposals}
 use Rattle.bfs_liveness.proofs.Lists.{in_run, out_of_run}
 
 -- What is handed over -------------------------------------------------------------------------------------------------

@@ -1,11 +1,8 @@
 -- In an exchange all that members have said in their view comes to each other one.
-use Rattle.std.proofs.Common.{◌≡◌, ℕ, ◌+◌, ◌<◌, ◌≤◌, ◌==◌, Bool, true, false, cond, ◌&&◌, not, List, [], ◌∷◌, ◌++◌, inl, inr, refl, sym, ap, subst, ◌∙◌, arith}
+use Rattle.std.proofs.Common.{◌≡◌, ℕ, ◌+◌, ◌<◌, ◌≤◌, ◌==◌, Bool, true, false, cond, ◌&&◌, not, List, [], ◌∷◌, inl, inr, refl, sym, ap, subst, ◌∙◌, arith}
 use Rattle.std.specs.List.{range_with_len}
-use Rattle.std.proofs.lemmas.Bool.{and_from, and_parts, eqb-true}
-use Rattle.bfs_auth.specs.declared.principals.Principal.TheVariants as principal
-use Rattle.bfs_log.specs.Certificates.{faults}
+use Rattle.std.proofs.lemmas.Bool.{and_from, and_parts}
 use Rattle.bfs_log.specs.Headers.{header}
-use Rattle.bfs_messages.specs.Fits.{FitsMessage}
 use Rattle.bfs_messages.specs.Signing.{as_message}
 use Rattle.bfs_messages.specs.declared.message.Message.TheVariants.{Order}
 use Rattle.bfs_messages.specs.declared.order_messages.OrderMessage.{OrderMessage}
@@ -15,22 +12,17 @@ use Rattle.bfs_order.specs.Replica.Resending.{own_answers, own_message, own_vote
 use Rattle.bfs_order.specs.Replica.States.{State}
 use Rattle.bfs_order.specs.declared.resending.Lag.{Lag}
 use Rattle.bfs_votes.specs.Votes.{replicas}
-use Rattle.bfs_agreement.specs.Histories.{IsIn, FewAreFaulty, World}
-use Rattle.bfs_nodes_agree.specs.Nodes.Premises.{AreAuthentic, Comes, IsAuthentic, IsWholly}
-use Rattle.bfs_nodes_agree.specs.Nodes.Replicas.{NodeReplica, NodeReplicas, NodeTurn, after_node_turn, after_node_turns}
-use Rattle.bfs_nodes_agree.specs.Nodes.Steps.{NodeStep, Takes}
-use Rattle.bfs_nodes_agree.specs.Orders.Replicas.{OrderReplicas}
-use Rattle.bfs_nodes_agree.proofs.Public.{either_in, in_map, left_in, out_of_map}
-use Rattle.bfs_nodes_progress.specs.Inside.Below.{Below}
-use Rattle.bfs_nodes_progress.specs.Members.{AreTogether}
+use Rattle.bfs_agreement.specs.Histories.{IsIn}
+use Rattle.bfs_nodes_agree.specs.Nodes.Replicas.{NodeReplicas, NodeTurn, after_node_turn}
+use Rattle.bfs_nodes_agree.specs.Nodes.Steps.{Takes}
+use Rattle.bfs_nodes_agree.proofs.Public.{either_in, in_map, out_of_map}
 use Rattle.bfs_nodes_progress.specs.Rounds.{ComesTo, IsRound, passes}
 use Rattle.bfs_nodes_progress.specs.Runs.{order_of}
-use Rattle.bfs_nodes_progress.proofs.Reached.{Facts, step_on}
 use Rattle.bfs_nodes_progress.proofs.Resending.{votes_are_resent}
 use Rattle.bfs_liveness.specs.Exchanges.{exchange, hearing, said_in_view, taking}
-use Rattle.bfs_liveness.specs.Ways.{Gives, GivesPass, IsWay, MayTake}
+use Rattle.bfs_liveness.specs.Ways.{Gives, IsWay, MayTake}
 use Rattle.bfs_liveness.proofs.Lists.{in_all, in_each, in_run, in_where, out_of_all, out_of_each, out_of_run, out_of_where}
-use Rattle.bfs_liveness.proofs.Votes.{HasMore, HaveHeard, IsVote, after_votes, all_then, answers_on, heard_itself, proposal_on, vote_kind}
+use Rattle.bfs_liveness.proofs.Votes.{HaveHeard, IsVote, after_votes, all_then, answers_on, proposal_on, vote_kind}
 
 -- A member's vote -----------------------------------------------------------------------------------------------------
 

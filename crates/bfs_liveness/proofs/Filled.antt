@@ -1,12 +1,12 @@
 -- A primary's log leaves out no number below one that it has proposed, or that was handed over: each call of its order keeps that.
-use Rattle.std.proofs.Common.{◌≡◌, ℕ, ◌+◌, ◌<◌, ◌≤◌, ◌==◌, max, Bool, true, false, cond, ◌&&◌, ◌||◌, not, List, [], ◌∷◌, ◌++◌, ◌⊎◌, Option, Some, None, inl, inr, refl, sym, ap, subst, ◌∙◌, arith}
+use Rattle.std.proofs.Common.{◌≡◌, ℕ, ◌+◌, ◌<◌, ◌≤◌, ◌==◌, max, Bool, true, false, cond, ◌&&◌, ◌||◌, List, [], ◌∷◌, ◌++◌, ◌⊎◌, Some, None, inl, inr, refl, sym, ap, subst, ◌∙◌, arith}
 use Rattle.std.specs.Prelude.{nat_le, nat_lt}
 use Rattle.std.specs.List.{list_all, list_any}
 use Rattle.std.proofs.Math.Bool.{or-false}
-use Rattle.std.proofs.lemmas.Bool.{and_from, and_parts, cases_Bool, cases_lt, cond_both, eq-eqb, eqb-true, ltb-false, ltb-true, or_left, or_right}
+use Rattle.std.proofs.lemmas.Bool.{and_from, and_parts, cases_Bool, cases_lt, cond_both, eq-eqb, eqb-true, ltb-false, ltb-true, or_left}
 use Rattle.bfs_auth.specs.Keys.{Keys}
 use Rattle.bfs_log.specs.Certificates.{StableCheckpoint, checkpoints_in, is_shown, vouches}
-use Rattle.bfs_log.specs.Headers.{header, message_header}
+use Rattle.bfs_log.specs.Headers.{header}
 use Rattle.bfs_log.specs.Logs.{Log, headers, greatest_proposed, kept_after}
 use Rattle.bfs_messages.specs.Messages.{Batch}
 use Rattle.bfs_messages.specs.Signing.{order_signed_by}
@@ -20,19 +20,17 @@ use Rattle.bfs_order.specs.Replica.Answers.{answers_in, commits_in, own_vote, pr
 use Rattle.bfs_order.specs.Replica.Checkpoints.{checkpoint, checkpoint_refusal, checkpointed}
 use Rattle.bfs_order.specs.Replica.Executing.{next_order}
 use Rattle.bfs_order.specs.Replica.Installing.{certified, install_refusal, installed}
-use Rattle.bfs_order.specs.Replica.Outcomes as order
-use Rattle.bfs_order.specs.Replica.Proposing.{batch_digest, greatest_taken, next_number, proposal, proposal_commits, proposal_refusal, proposed}
+use Rattle.bfs_order.specs.Replica.Proposing.{batch_digest, next_number, proposal, proposal_commits, proposal_refusal, proposed}
 use Rattle.bfs_order.specs.Replica.Refusals.{is_authentic, is_between, is_there, place_refusal, refusal}
 use Rattle.bfs_order.specs.Replica.States.{State, known, with_message, with_more}
 use Rattle.bfs_order.specs.Replica.Views.{entered, entering_refusal, leaving_refusal, left}
 use Rattle.bfs_order.specs.declared.error.OrderError.TheVariants.{BadAuthenticator, NoCertificate, OutsideMarks, WrongView}
 use Rattle.bfs_votes.specs.Votes.{Header, Told, has_slot, is_slot, prepared, primary}
-use Rattle.bfs_agreement.specs.Histories.{IsIn}
 use Rattle.bfs_agreement.specs.Moves.{kept_above}
 use Rattle.bfs_agreement.proofs.Public.{Is, in_told, kept_told, moved, told_cases, told_kept, told_more}
 use Rattle.bfs_progress.proofs.Public.{slot_told, told_slot}
 use Rattle.bfs_nodes_agree.specs.Orders.Following.{HaveTheSameVotes}
-use Rattle.bfs_nodes_agree.proofs.Public.{AllIn, any_both, both_in, dropped, each_five, either_in, either_way, entered_same, five_pushed, in_map, IsPlaced, left_in, no_answers, none_in, not_equal, of_primary, one_in, out_of_map, passed, placed, right_in, slot_same, told_in, told_same, unsettled}
+use Rattle.bfs_nodes_agree.proofs.Public.{AllIn, any_both, both_in, dropped, each_five, either_in, either_way, entered_same, five_pushed, in_map, IsPlaced, left_in, no_answers, none_in, of_primary, one_in, out_of_map, passed, placed, right_in, slot_same, told_in, told_same, unsettled}
 
 -- What is filled ------------------------------------------------------------------------------------------------------
 

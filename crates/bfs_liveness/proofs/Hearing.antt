@@ -1,11 +1,11 @@
 -- The CHECKPOINTs of members come to one of them.
-use Rattle.std.proofs.Common.{◌≡◌, ℕ, zero, suc, ◌+◌, ◌%◌, ◌<◌, ◌≤◌, ◌==◌, Bool, true, false, cond, ◌&&◌, not, List, [], ◌∷◌, ◌++◌, ◌⊎◌, Option, Some, None, option_map, inl, inr, refl, sym, ap, ap₂, subst, ◌∙◌, arith}
+use Rattle.std.proofs.Common.{◌≡◌, ℕ, zero, suc, ◌+◌, ◌%◌, ◌<◌, ◌≤◌, ◌==◌, Bool, true, false, cond, ◌&&◌, not, List, [], ◌∷◌, ◌++◌, Option, Some, None, option_map, inl, inr, refl, sym, ap, ap₂, subst, ◌∙◌, arith}
 use Rattle.std.specs.Prelude.{nat_lt, option_to_list}
 use Rattle.std.specs.List.{range_with_len}
-use Rattle.std.proofs.lemmas.Bool.{and_from, and_parts, cases_Bool, cases_lt, eqb-true, lt-ltb}
+use Rattle.std.proofs.lemmas.Bool.{and_from, and_parts, cases_Bool, cases_lt, lt-ltb}
 use Rattle.bfs_auth.specs.Keys.{Keys}
 use Rattle.bfs_log.specs.Headers.{header}
-use Rattle.bfs_log.specs.Logs.{Log, as_messages, message_at}
+use Rattle.bfs_log.specs.Logs.{as_messages}
 use Rattle.bfs_messages.specs.Signing.{as_message, carried_are_signed, order_is_signed}
 use Rattle.bfs_messages.specs.declared.message.Message.TheVariants.{Order}
 use Rattle.bfs_messages.specs.declared.order_messages.OrderMessage.{OrderMessage}
@@ -25,15 +25,15 @@ use Rattle.bfs_node.specs.Errors.{of_order}
 use Rattle.bfs_node.specs.Nodes.{Node}
 use Rattle.bfs_node.specs.Resending.{change_resent, new_view_resent, resent}
 use Rattle.bfs_nodes_agree.specs.Nodes.Replicas.{NodeReplica, NodeReplicas, NodeTurn, after_node_step, after_node_turn, after_node_turns}
-use Rattle.bfs_nodes_agree.specs.Nodes.Steps.{NodeStep, Takes, outcome, unless}
+use Rattle.bfs_nodes_agree.specs.Nodes.Steps.{Takes, outcome, unless}
 use Rattle.bfs_nodes_agree.proofs.Public.{here_after, in_map, right_in}
 use Rattle.bfs_nodes_progress.specs.Following.{each_takes}
-use Rattle.bfs_nodes_progress.specs.Rounds.{Brings, passes}
+use Rattle.bfs_nodes_progress.specs.Rounds.{passes}
 use Rattle.bfs_nodes_progress.specs.Runs.{order_of}
 use Rattle.bfs_nodes_progress.proofs.Rounds.{own_found}
 use Rattle.bfs_nodes_progress.proofs.Taking.{brings_order}
-use Rattle.bfs_liveness.specs.Exchanges.{taking, told_to}
-use Rattle.bfs_liveness.specs.Ways.{Gives, IsWay, MayTake}
+use Rattle.bfs_liveness.specs.Exchanges.{taking}
+use Rattle.bfs_liveness.specs.Ways.{Gives, IsWay}
 use Rattle.bfs_liveness.proofs.Lists.{in_all, in_run, in_where}
 use Rattle.bfs_liveness.proofs.Told.{HasTaken, IsToldBy, both_taken, nothing_taken, takes_it}
 

@@ -1,5 +1,5 @@
 -- Members leave for a view, its primary begins it, and the others enter it.
-use Rattle.std.proofs.Common.{◌≡◌, ℕ, zero, ◌+◌, ◌<◌, ◌≤◌, ◌==◌, Bool, true, false, cond, ◌&&◌, not, List, [], ◌∷◌, ◌++◌, Option, Some, None, inl, inr, refl, sym, ap, subst, ◌∙◌, arith}
+use Rattle.std.proofs.Common.{◌≡◌, ℕ, ◌<◌, ◌==◌, Bool, true, false, cond, ◌&&◌, not, List, [], ◌∷◌, ◌++◌, Option, Some, None, inl, inr, refl, sym, ap, subst, ◌∙◌, arith}
 use Rattle.std.proofs.lemmas.Bool.{and_from, and_parts, cases_Bool, cond_both, eqb-false, eqb-true}
 use Rattle.bfs_auth.specs.Keys.{Keys}
 use Rattle.bfs_messages.specs.Messages as model
@@ -10,16 +10,14 @@ use Rattle.bfs_votes.specs.Votes.{primary, replicas}
 use Rattle.bfs_votes.proofs.Public.{none_below}
 use Rattle.bfs_order.specs.declared.resending.Lag.{Lag}
 use Rattle.bfs_view_change.specs.Changes.NewViews.{new_view_refusal}
-use Rattle.bfs_view_change.specs.Changes.ViewChanges.{valid_view_change}
 use Rattle.bfs_agreement.specs.Histories.{IsIn}
 use Rattle.bfs_progress.specs.Members.{IsQuorum}
 use Rattle.bfs_progress.proofs.Public.{differs, one_more}
 use Rattle.bfs_node.specs.Changing.{leads}
-use Rattle.bfs_node.specs.Nodes.{Node}
 use Rattle.bfs_node.specs.Resending.{resent}
 use Rattle.bfs_nodes_agree.specs.Nodes.Replicas.{Beginning, Keyring, NodeReplica, NodeReplicas, NodeTurn, after_node_step, after_node_turns, new_node_replicas}
 use Rattle.bfs_nodes_agree.specs.Nodes.Resending.{WhatIsResentIsFair}
-use Rattle.bfs_nodes_agree.specs.Nodes.Steps.{NodeStep, LeavesFor, Takes, outcome}
+use Rattle.bfs_nodes_agree.specs.Nodes.Steps.{LeavesFor, Takes, outcome}
 use Rattle.bfs_nodes_agree.proofs.Public.{here_after, right_in, some_is}
 use Rattle.bfs_nodes_progress.specs.Begun.{AllAsk, ChangesCome}
 use Rattle.bfs_nodes_progress.specs.Following.{AreMembers, asked_by}

@@ -1,12 +1,11 @@
 -- No correct primary's log leaves out a number, in whatever state nodes have come into.
-use Rattle.std.proofs.Common.{◌≡◌, ℕ, ◌+◌, ◌<◌, ◌≤◌, max, Bool, true, false, cond, List, [], ◌∷◌, ◌++◌, map, ◌⊎◌, Option, None, inl, inr, refl, sym, ap, subst, ◌∙◌, append_assoc, append-nil, arith}
+use Rattle.std.proofs.Common.{◌≡◌, ℕ, ◌<◌, ◌≤◌, Bool, false, List, [], ◌∷◌, ◌++◌, map, None, inl, inr, refl, sym, ap, subst, ◌∙◌, append_assoc, append-nil, arith}
 use Rattle.bfs_log.specs.Headers.{header}
 use Rattle.bfs_messages.specs.declared.order_messages.OrderMessage.{OrderMessage}
 use Rattle.bfs_messages.specs.declared.signed.Signed.{Signed}
 use Rattle.bfs_messages.specs.declared.message.Message.{Message}
 use Rattle.bfs_order.specs.Laws.Calls as order
 use Rattle.bfs_order.specs.Laws.Logs.{HasNoLaterView}
-use Rattle.bfs_order.specs.Replica.Proposing.{next_number}
 use Rattle.bfs_order.specs.Replica.Refusals.{refusal}
 use Rattle.bfs_order.specs.Replica.States.{State, known}
 use Rattle.bfs_votes.specs.Votes.{Told, primary}
@@ -14,12 +13,11 @@ use Rattle.bfs_view_change.specs.Laws.Choices.{LatestIsOfMinS, NumbersAreChosenO
 use Rattle.bfs_agreement.specs.Histories.{HasSaid, WasSent, FewAreFaulty, World}
 use Rattle.bfs_agreement.proofs.Public.{said_on}
 use Rattle.bfs_progress.proofs.Public.{slot_told, told_slot}
-use Rattle.bfs_node.specs.Nodes.{Node}
 use Rattle.bfs_nodes_agree.specs.Orders.Replicas.{OrderReplica, OrderReplicas, after_order_deed, histories}
 use Rattle.bfs_nodes_agree.specs.Views.Replicas.{MayTakeViewTurns, Orders, ViewDeed, TimesOut, ChangesView, ordered_deed}
 use Rattle.bfs_nodes_agree.specs.Nodes.Laws.{ViewsAreEnteredWhole}
 use Rattle.bfs_nodes_agree.specs.Nodes.Premises.{AreAuthentic, AreShared, Comes, IsAny, IsAuthentic}
-use Rattle.bfs_nodes_agree.specs.Nodes.Replicas.{Beginning, Keyring, NodeReplica, NodeReplicas, NodeTurn, after_node_step, after_node_turn, after_node_turns, new_node_replicas, turn_of}
+use Rattle.bfs_nodes_agree.specs.Nodes.Replicas.{Beginning, Keyring, NodeReplicas, NodeTurn, after_node_turn, after_node_turns, new_node_replicas, turn_of}
 use Rattle.bfs_nodes_agree.specs.Nodes.Steps.{NodeStep, Delivers, Takes, Adopts, Settles, deeds_of, outcome}
 use Rattle.bfs_nodes_agree.proofs.Public.{IsBounded, after_deeds, both_at, called, grows_there, step_leads, step_right}
 use Rattle.bfs_nodes_progress.specs.Inside.Below.{Below}
@@ -29,7 +27,7 @@ use Rattle.bfs_nodes_progress.proofs.Quiet.{low_there, same_f, same_me, view_the
 use Rattle.bfs_nodes_progress.proofs.Reached.{Facts, always, told_here}
 use Rattle.bfs_nodes_progress.proofs.Rounds.{after_join}
 use Rattle.bfs_liveness.specs.LawsOfExecuting.{NoneIsLeftOut}
-use Rattle.bfs_liveness.proofs.Entering.{Stands, step_filled}
+use Rattle.bfs_liveness.proofs.Entering.{step_filled}
 use Rattle.bfs_liveness.proofs.Filled.{BringsKnown, IsFilled, IsKnown, RisesOrFilled, below_next, goes_on}
 use Rattle.bfs_liveness.proofs.Deeds.{TakeNothing, TakesNothing, step_takes}
 

@@ -4,6 +4,7 @@ pub mod Leading
 pub mod Work
 pub mod Turns
 pub mod Leaving
+pub mod Stable
 pub mod Votes
 pub mod Exchanges
 pub mod Steps

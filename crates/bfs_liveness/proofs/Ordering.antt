@@ -1,27 +1,23 @@
 -- What waits at the primary is proposed, and each member comes to execute it.
-use Rattle.std.proofs.Common.{◌≡◌, ℕ, zero, suc, ◌+◌, ◌-◌, ◌<◌, ◌≤◌, max, Bool, true, false, cond, List, [], ◌∷◌, ◌++◌, Option, Some, None, option_map, inl, inr, refl, sym, ap, ap₂, subst, ◌==◌, ◌∙◌, append_assoc, arith}
-use Rattle.std.specs.Prelude.{is_some, nat_le, not}
+use Rattle.std.proofs.Common.{◌≡◌, ℕ, zero, suc, ◌+◌, ◌-◌, ◌<◌, ◌≤◌, Bool, true, cond, List, [], ◌∷◌, ◌++◌, Some, None, option_map, inl, inr, refl, sym, ap, ap₂, subst, ◌==◌, ◌∙◌, append_assoc, arith}
+use Rattle.std.specs.Prelude.{nat_le, not}
 use Rattle.std.proofs.lemmas.Bool.{and_from, cases_lt, eq-eqb, le-leb}
 use Rattle.bfs_model.specs.Server.Limits.{log_size, most_number}
 use Rattle.bfs_model.specs.Server.Tree.{Time}
 use Rattle.bfs_order.specs.Replica.Proposing as order
 use Rattle.bfs_order.specs.Replica.Proposing.{batch_digest, leads, next_number, proposal, proposal_commits}
 use Rattle.bfs_order.specs.Replica.States.{State, with_message}
-use Rattle.bfs_order.specs.declared.error.OrderError.{OrderError}
 use Rattle.bfs_order.specs.declared.error.OrderError.TheVariants.{NotPrimary, OutsideMarks}
 use Rattle.bfs_votes.specs.Votes.{primary, replicas}
 use Rattle.bfs_agreement.specs.Histories.{IsIn}
 use Rattle.bfs_node.specs.Proposing.{pending_batch, proposal_refusal, proposed}
 use Rattle.bfs_node.specs.Errors.{of_order}
 use Rattle.bfs_node.specs.Nodes.{Node}
-use Rattle.bfs_node.specs.declared.error.NodeError.{NodeError}
-use Rattle.bfs_nodes_agree.specs.Nodes.Premises.{AreAuthentic, Comes, IsAuthentic}
 use Rattle.bfs_nodes_agree.specs.Nodes.Replicas.{Beginning, Keyring, NodeReplica, NodeReplicas, NodeTurn, after_node_step, after_node_turn, after_node_turns, new_node_replicas}
 use Rattle.bfs_nodes_agree.specs.Nodes.Resending.{WhatIsResentIsFair}
-use Rattle.bfs_nodes_agree.specs.Nodes.Steps.{NodeStep, Executes, Proposes, outcome, unless}
+use Rattle.bfs_nodes_agree.specs.Nodes.Steps.{Executes, Proposes, outcome, unless}
 use Rattle.bfs_nodes_agree.proofs.Public.{both_at, either_in}
 use Rattle.bfs_nodes_progress.specs.Inside.Below.{Below}
-use Rattle.bfs_nodes_progress.specs.Following.{each_takes}
 use Rattle.bfs_nodes_progress.specs.Members.{is_committed}
 use Rattle.bfs_nodes_progress.specs.Requests.{HasExecuted, IsReadyFor, executions, proposing}
 use Rattle.bfs_nodes_progress.specs.Runs.{IsARun, order_of, reached}
@@ -30,9 +26,9 @@ use Rattle.bfs_nodes_progress.proofs.Quiet.{same_f, same_me}
 use Rattle.bfs_nodes_progress.proofs.Reached.{always}
 use Rattle.bfs_nodes_progress.proofs.Requests.{requests_are_executed}
 use Rattle.bfs_nodes_progress.proofs.Rounds.{after_join}
-use Rattle.bfs_liveness.specs.Exchanges.{all_execute, exchange, hearing_and_executing, ordering, three_exchanges}
-use Rattle.bfs_liveness.specs.LawsOfExecuting.{AreEven, HasPlace, NoneIsBeyond, NoneIsLeftOut, WhatWaitsIsExecuted}
-use Rattle.bfs_liveness.specs.Ways.{AreFairTo, IsWay, MayTake}
+use Rattle.bfs_liveness.specs.Exchanges.{all_execute, exchange, hearing_and_executing, three_exchanges}
+use Rattle.bfs_liveness.specs.LawsOfExecuting.{HasPlace, NoneIsBeyond, NoneIsLeftOut, WhatWaitsIsExecuted}
+use Rattle.bfs_liveness.specs.Ways.{IsWay, MayTake}
 use Rattle.bfs_liveness.proofs.Lists.{out_of_each, out_of_where}
 use Rattle.bfs_liveness.proofs.Steps.{Goes, commits, even_on, goes_by, proposed_on, room_in, thrice}
 use Rattle.bfs_liveness.proofs.Ways.{ways_join}

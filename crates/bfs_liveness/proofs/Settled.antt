@@ -1,19 +1,18 @@
 -- With CHECKPOINTs of 2f + 1 replicas of one digest the low mark rises: each call keeps that.
-use Rattle.std.proofs.Common.{◌≡◌, ℕ, zero, suc, ◌+◌, ◌*◌, ◌<◌, ◌≤◌, ◌==◌, max, Bool, true, false, cond, ◌&&◌, List, [], ◌∷◌, ◌++◌, ◌⊎◌, Option, Some, None, inl, inr, refl, sym, ap, subst, ◌∙◌, arith}
-use Rattle.std.specs.Prelude.{bytes_eq, nat_le, nat_lt}
+use Rattle.std.proofs.Common.{◌≡◌, ℕ, zero, suc, ◌+◌, ◌*◌, ◌<◌, ◌≤◌, ◌==◌, max, Bool, true, false, cond, ◌&&◌, List, [], ◌∷◌, ◌++◌, ◌⊎◌, Option, Some, None, inl, inr, refl, sym, ap, subst, arith}
+use Rattle.std.specs.Prelude.{nat_le, nat_lt}
 use Rattle.std.specs.List.{list_all}
-use Rattle.std.proofs.lemmas.Bool.{and_from, and_parts, cases_Bool, cases_lt, cond_both, eq-eqb, eqb-true, le-leb, leb-true, lt-ltb, ltb-true}
+use Rattle.std.proofs.lemmas.Bool.{and_from, and_parts, cases_Bool, cases_lt, eq-eqb, eqb-true, le-leb, leb-true, lt-ltb, ltb-true}
 use Rattle.bfs_auth.specs.Keys.{Keys}
 use Rattle.bfs_log.specs.Certificates.{StableCheckpoint, checkpoints_in, is_shown, vouches}
 use Rattle.bfs_log.specs.Headers.{header}
 use Rattle.bfs_log.specs.Logs.{Log, headers, kept_after, stays}
-use Rattle.bfs_messages.specs.Messages as model
 use Rattle.bfs_messages.specs.Signing.{as_message}
 use Rattle.bfs_messages.specs.declared.order_messages.OrderMessage.{OrderMessage}
 use Rattle.bfs_messages.specs.declared.order_messages.OrderMessage.TheVariants.{PrePrepare}
 use Rattle.bfs_messages.specs.declared.signed.Signed.{Signed}
 use Rattle.bfs_model.specs.Server.Limits.{log_size, most_number}
-use Rattle.bfs_order.specs.Laws.Calls.{Call, CallsKeepTheReplica, IsKept, Takes, Proposes, Executes, Checkpoints, Installs, Leaves, Enters, execution, outcome}
+use Rattle.bfs_order.specs.Laws.Calls.{Call, CallsKeepTheReplica, Takes, Proposes, Executes, Checkpoints, Installs, Leaves, Enters, execution, outcome}
 use Rattle.bfs_order.specs.Replica.Accepting.{accepted, answers, makes_stable, settled}
 use Rattle.bfs_order.specs.Replica.Checkpoints.{checkpoint, checkpoint_refusal, checkpointed}
 use Rattle.bfs_order.specs.Replica.Executing.{next_order}
@@ -21,7 +20,7 @@ use Rattle.bfs_order.specs.Replica.Installing.{certified, install_refusal, insta
 use Rattle.bfs_order.specs.Replica.Outcomes as order
 use Rattle.bfs_order.specs.Replica.Proposing.{proposal, proposal_commits, proposal_refusal, proposed}
 use Rattle.bfs_order.specs.Replica.Refusals.{is_authentic, is_between, place_refusal, refusal}
-use Rattle.bfs_order.specs.Replica.States.{State, fresh, known, with_message, with_more}
+use Rattle.bfs_order.specs.Replica.States.{State, known, with_message, with_more}
 use Rattle.bfs_order.specs.Replica.Views.{all_taken_over, as_proposals, entered, entering_refusal, leaving_refusal, left, number_of, opened}
 use Rattle.bfs_order.specs.declared.error.OrderError.{OrderError}
 use Rattle.bfs_order.specs.declared.error.OrderError.TheVariants.{BadAuthenticator, OutsideMarks}
@@ -31,8 +30,8 @@ use Rattle.bfs_votes.proofs.Public.{more}
 use Rattle.bfs_agreement.specs.Histories.{IsIn}
 use Rattle.bfs_agreement.proofs.Public.{Is, in_told, moved, says_is, says_itself}
 use Rattle.bfs_nodes_agree.specs.Orders.Replicas.{votes_by}
-use Rattle.bfs_nodes_agree.proofs.Public.{AllIn, either_in, either_way, entered_same, filter_in, in_map, map_in, no_answers, none_in, not_equal, out_of_map, passed, passes_at, placed, told_in, unsettled}
-use Rattle.bfs_nodes_agree.proofs.Orders.Logs.{Brings, Shows, log_keeps}
+use Rattle.bfs_nodes_agree.proofs.Public.{AllIn, either_in, either_way, entered_same, filter_in, in_map, map_in, no_answers, none_in, out_of_map, passed, passes_at, placed, told_in, unsettled}
+use Rattle.bfs_nodes_agree.proofs.Orders.Logs.{Shows, log_keeps}
 use Rattle.bfs_nodes_agree.proofs.Orders.Rising.{low_rises}
 use Rattle.bfs_liveness.specs.LawsOfExecuting.{IsSettled, WhatIsStableIsSettled}
 use Rattle.bfs_liveness.proofs.Entering.{over_are}

@@ -1,33 +1,25 @@
 -- Members go on by a way, part by part.
-use Rattle.std.proofs.Common.{◌≡◌, ℕ, ◌+◌, ◌<◌, ◌≤◌, Bool, true, false, List, [], ◌∷◌, ◌++◌, refl, sym, ap, subst, ◌∙◌, append_assoc, append-nil, arith}
+use Rattle.std.proofs.Common.{◌≡◌, ℕ, ◌+◌, ◌<◌, ◌≤◌, Bool, true, false, List, ◌++◌, sym, ap, subst, ◌∙◌, append_assoc, arith}
 use Rattle.std.specs.Prelude.{is_some}
-use Rattle.bfs_log.specs.Headers.{header}
-use Rattle.bfs_messages.specs.Fits.{FitsMessage}
-use Rattle.bfs_messages.specs.Signing.{as_message}
-use Rattle.bfs_messages.specs.declared.message.Message.TheVariants.{Order}
-use Rattle.bfs_messages.specs.declared.order_messages.OrderMessage.{OrderMessage}
-use Rattle.bfs_messages.specs.declared.signed.Signed.{Signed}
 use Rattle.bfs_model.specs.Server.Limits.{log_size}
-use Rattle.bfs_model.specs.Server.Tree.{FileSystem}
 use Rattle.bfs_order.specs.Replica.States.{State}
-use Rattle.bfs_votes.specs.Votes.{primary, replicas}
-use Rattle.bfs_agreement.specs.Histories.{IsIn}
-use Rattle.bfs_nodes_agree.specs.Nodes.Premises.{AreAuthentic}
-use Rattle.bfs_nodes_agree.specs.Nodes.Replicas.{Beginning, Keyring, NodeReplica, NodeReplicas, NodeTurn, after_node_turn, after_node_turns, new_node_replicas}
+use Rattle.bfs_votes.specs.Votes.{primary}
+use Rattle.bfs_nodes_agree.specs.Nodes.Replicas.{Beginning, Keyring, NodeReplicas, NodeTurn, after_node_turns, new_node_replicas}
 use Rattle.bfs_nodes_progress.specs.Inside.Below.{Below}
-use Rattle.bfs_nodes_progress.specs.Members.{AreTogether, HasRoom, IsProposed, IsCommitted}
+use Rattle.bfs_nodes_progress.specs.Members.{HasRoom}
 use Rattle.bfs_nodes_progress.specs.Rounds.{IsRound}
 use Rattle.bfs_nodes_progress.specs.Runs.{IsARun, order_of, reached}
 use Rattle.bfs_nodes_progress.proofs.Quiet.{same_me}
 use Rattle.bfs_nodes_progress.proofs.Reached.{always}
 use Rattle.bfs_nodes_progress.proofs.Rounds.{after_join, rounds_commit}
 use Rattle.bfs_liveness.specs.Exchanges.{exchange, three_exchanges}
-use Rattle.bfs_liveness.specs.LawsOfExecuting.{AreEven, ExchangesCommit, SomeIsCommitted, SomeIsProposed}
-use Rattle.bfs_liveness.specs.Ways.{AreFairTo, GivesPass, IsWay}
+use Rattle.bfs_liveness.specs.Even.{AreEven}
+use Rattle.bfs_liveness.specs.LawsOfExecuting.{ExchangesCommit, SomeIsCommitted, SomeIsProposed}
+use Rattle.bfs_liveness.specs.Ways.{AreFairTo, IsWay}
 use Rattle.bfs_nodes_agree.specs.Nodes.Resending.{WhatIsResentIsFair}
 use Rattle.bfs_liveness.proofs.Exchanges.{brings_votes, is_a_round, is_vote, votes_may_come}
 use Rattle.bfs_liveness.proofs.Ways.{fair_behind, goes_on, passes_now, ways_join}
-use Rattle.bfs_liveness.proofs.Votes.{HasMore, HaveHeard, after_votes, all_then, heard_itself, told_on}
+use Rattle.bfs_liveness.proofs.Votes.{HaveHeard, after_votes, all_then, heard_itself, told_on}
 
 -- Even members that hear more -----------------------------------------------------------------------------------------
 

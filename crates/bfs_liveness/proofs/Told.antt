@@ -1,8 +1,7 @@
 -- What CHECKPOINTs of one number leave of an order: they stand in its log, or the number is stable.
 use Rattle.std.proofs.Common.{◌≡◌, ℕ, ◌+◌, ◌%◌, ◌<◌, ◌≤◌, ◌==◌, Bool, true, false, cond, ◌&&◌, ◌||◌, not, List, [], ◌∷◌, ◌++◌, ◌⊎◌, Option, Some, None, inl, inr, refl, sym, ap, ap₂, subst, ◌∙◌, append-nil, arith}
 use Rattle.std.specs.Prelude.{bytes_eq, filter, nat_le, nat_lt}
-use Rattle.std.specs.List.{list_any}
-use Rattle.std.proofs.lemmas.Bool.{and_from, and_parts, cases_Bool, cases_lt, eq-eqb, eqb-true, le-leb, lt-ltb, or_left, or_right}
+use Rattle.std.proofs.lemmas.Bool.{and_from, cases_Bool, cases_lt, eq-eqb, le-leb, lt-ltb, or_left, or_right}
 use Rattle.std.proofs.lemmas.Slice.Eq.{bytes_eq-Decides}
 use Rattle.bfs_auth.specs.Keys.{Keys}
 use Rattle.bfs_log.specs.Headers.{header}
@@ -21,7 +20,7 @@ use Rattle.bfs_votes.specs.Votes.{Header, has_slot, is_slot, primary, told}
 use Rattle.bfs_agreement.specs.Histories.{IsIn}
 use Rattle.bfs_agreement.proofs.Public.{Is, in_told, moved}
 use Rattle.bfs_progress.proofs.Public.{told_slot}
-use Rattle.bfs_nodes_agree.proofs.Public.{any_both, either_in, either_way, filter_in, in_map, left_in, no_answers, right_in}
+use Rattle.bfs_nodes_agree.proofs.Public.{any_both, either_in, either_way, filter_in, in_map, no_answers, right_in}
 
 -- More CHECKPOINTs ----------------------------------------------------------------------------------------------------
 

@@ -17,11 +17,10 @@ use Rattle.bfs_nodes_agree.specs.Nodes.Laws.{BatchesDontCollide}
 use Rattle.bfs_nodes_agree.specs.Nodes.Premises.{Comes, IsAmong, IsAuthentic, IsWholly, StatesDontCollide}
 use Rattle.bfs_nodes_agree.specs.Nodes.Replicas.{Beginning, Keyring, NodeReplicas, NodeTurn, after_node_turn, after_node_turns, new_node_replicas}
 use Rattle.bfs_nodes_agree.specs.Nodes.Resending.{WhatIsResentIsFair}
-use Rattle.bfs_nodes_agree.specs.Nodes.Steps.{NodeStep, Adopts, Delivers, Fails, Settles, Takes, TakesOffered, TakesRequests}
+use Rattle.bfs_nodes_agree.specs.Nodes.Steps.{NodeStep, Adopts, Delivers, Settles, Takes}
 use Rattle.bfs_nodes_agree.proofs.Nodes.Hearing.{IsSaid, said_alike}
 use Rattle.bfs_nodes_agree.proofs.Public.{AreRight, map_in}
 use Rattle.bfs_nodes_agree.proofs.Views.OfLog.{stable_holds}
-use Rattle.bfs_nodes_progress.specs.Following.{AreMembers}
 use Rattle.bfs_nodes_progress.specs.Inside.Below.{Below}
 use Rattle.bfs_nodes_progress.specs.Runs.{IsARun, order_of, reached}
 use Rattle.bfs_nodes_progress.proofs.Each.{authentic_both}
@@ -69,7 +68,6 @@ module _ (laws : Below) (again : WhatIsResentIsFair) (f : ℕ) (keys : Keyring) 
     right : AreRight f faulty w led.orders
     right = led.facts.right
 
-
     -- what stands in a log was said, and so were the CHECKPOINTs of a member's low mark
     shown_so : (by : Keys) (checkpoint : StableCheckpoint) → IsAMembers members w checkpoint → (m : Signed Message) → IsAmong m (checkpoints_in checkpoint) → IsAuthentic faulty w by m
     shown_so by checkpoint theirs m i =
@@ -89,11 +87,13 @@ module _ (laws : Below) (again : WhatIsResentIsFair) (f : ℕ) (keys : Keyring) 
 
     comes_so : (by : Keys) (step : NodeStep) → MayTake members w step → Comes (IsAuthentic faulty w by) step
     comes_so by (Takes m) may =
-        let j = may.0 in
-        (passes.fits j m may.1 may.2, elim may.2 [
-          | inl sent ↦ λ p of k e signed fine. (right j).said m sent p of k e fine
-          | inr given ↦ given_so by j may.1 given.0 m given.1
-        ])
+        let j = may.0 in (
+          passes.fits j m may.1 may.2,
+          elim may.2 [
+            | inl sent ↦ λ p of k e signed fine. (right j).said m sent p of k e fine
+            | inr given ↦ given_so by j may.1 given.0 m given.1
+          ],
+        )
     comes_so by (Adopts checkpoint files table) may = shown_so by checkpoint may.0
     comes_so by (Settles checkpoint) may = shown_so by checkpoint may
     comes_so by (Delivers bytes) may = absurd may

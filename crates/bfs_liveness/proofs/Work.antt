@@ -18,7 +18,7 @@ use Rattle.bfs_view_change.specs.Changes.ViewChanges.{messages_of}
 use Rattle.bfs_view_change.specs.declared.error.ViewError.{ViewError}
 use Rattle.bfs_node.specs.Changing.{begun, begun_if_due, change_refusal, entered_by, first_of, leads, leaving_refusal, left_for, may_begin, own_change, own_new_view, view_refusal, with_view_change}
 use Rattle.bfs_node.specs.Errors.{of_order, of_view}
-use Rattle.bfs_node.specs.Nodes.{Node, Outcome}
+use Rattle.bfs_node.specs.Nodes.{Node}
 use Rattle.bfs_node.specs.declared.error.NodeError.{NodeError}
 use Rattle.bfs_nodes_agree.specs.Nodes.Steps.{LeavesFor, Takes, outcome, still, unless}
 use Rattle.bfs_nodes_agree.proofs.Public.{entered_same}

@@ -8,22 +8,13 @@ use Rattle.bfs_order.specs.Replica.Proposing.{batch_digest, next_number}
 use Rattle.bfs_order.specs.Replica.States.{State, known}
 use Rattle.bfs_votes.specs.Votes.{is_stable, primary}
 use Rattle.bfs_node.specs.Proposing.{pending_batch}
-use Rattle.bfs_nodes_agree.specs.Nodes.Replicas.{Beginning, Keyring, NodeReplicas, NodeTurn, after_node_turns}
+use Rattle.bfs_nodes_agree.specs.Nodes.Replicas.{Beginning, Keyring, NodeReplicas, NodeTurn}
 use Rattle.bfs_nodes_progress.specs.Members.{AreTogether, IsProposed, is_committed}
 use Rattle.bfs_nodes_progress.specs.Requests.{HasExecuted}
 use Rattle.bfs_nodes_progress.specs.Runs.{IsARun, order_of, reached}
+use Rattle.bfs_liveness.specs.Even.{AreEven}
 use Rattle.bfs_liveness.specs.Exchanges.{emptying, ordering, three_exchanges}
 use Rattle.bfs_liveness.specs.Ways.{AreFairTo, IsWay}
-
--- Members whose logs begin behind one number --------------------------------------------------------------------------
-
--- they are together in the view, have that number stable and have executed it, and their view has no batch up to it
-pub record AreEven (f : ℕ) (faulty members : ℕ → Bool) (w : NodeReplicas) (view number : ℕ) : Type 0 where
-  pub together : AreTogether f faulty members w view
-  pub low : (k : ℕ) → members k ≡ true → (order_of w k).low ≡ number
-  pub min_s : (k : ℕ) → members k ≡ true → (order_of w k).min_s ≤ number
-  pub last : (k : ℕ) → members k ≡ true → number ≤ (order_of w k).last
-  pub live : (k : ℕ) → members k ≡ true → is_some (w k).node.files ≡ true
 
 -- What has been proposed ----------------------------------------------------------------------------------------------
 

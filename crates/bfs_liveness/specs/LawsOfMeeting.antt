@@ -1,7 +1,7 @@
 -- The statements on ways, and on how members meet in a view: contracts of functions of src/meeting.rt, which do nothing.
-use Rattle.std.specs.Prelude.{◌≡◌, ℕ, ◌+◌, ◌<◌, ◌≤◌, ◌^◌, Bool, true, List, ◌++◌}
+use Rattle.std.specs.Prelude.{◌≡◌, ℕ, ◌+◌, ◌<◌, ◌≤◌, Bool, true, List, ◌++◌}
 use Rattle.bfs_votes.specs.Votes.{primary}
-use Rattle.bfs_nodes_agree.specs.Nodes.Replicas.{Beginning, Keyring, NodeReplicas, NodeTurn}
+use Rattle.bfs_nodes_agree.specs.Nodes.Replicas.{Beginning, Keyring, NodeTurn}
 use Rattle.bfs_nodes_progress.specs.Following.{AreMembers, asked_by}
 use Rattle.bfs_nodes_progress.specs.Runs.{IsARun, reached}
 use Rattle.bfs_liveness.specs.Meeting.{MayMeetIn, Meets, meeting}

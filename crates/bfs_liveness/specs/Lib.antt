@@ -2,5 +2,7 @@
 pub mod Ways
 pub mod Meeting
 pub mod LawsOfMeeting
+pub mod LawsOfMarks
+pub mod Even
 pub mod Exchanges
 pub mod LawsOfExecuting

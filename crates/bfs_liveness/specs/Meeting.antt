@@ -11,7 +11,7 @@ use Rattle.bfs_nodes_agree.specs.Nodes.Replicas.{Beginning, Keyring, NodeReplica
 use Rattle.bfs_nodes_agree.specs.Nodes.Steps.{LeavesFor, Takes}
 use Rattle.bfs_nodes_progress.specs.Following.{asked_by, each_takes}
 use Rattle.bfs_nodes_progress.specs.Members.{AreTogether}
-use Rattle.bfs_nodes_progress.specs.Runs.{IsARun, order_of, reached}
+use Rattle.bfs_nodes_progress.specs.Runs.{IsARun, reached}
 use Rattle.bfs_liveness.specs.Ways.{IsWay}
 
 -- The way -------------------------------------------------------------------------------------------------------------

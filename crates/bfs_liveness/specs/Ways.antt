@@ -1,6 +1,5 @@
 -- Ways on: turns that a fair host has members take, one after another. Members are 2f + 1 correct nodes or more.
-use Rattle.std.specs.Prelude.{◌≡◌, ◌⊎◌, ℕ, ◌+◌, ◌<◌, ◌≤◌, ◌^◌, Bool, true, is_some, List, [], ◌∷◌, ◌++◌, Some}
-use Rattle.bfs_auth.specs.Keys.{Keys}
+use Rattle.std.specs.Prelude.{◌≡◌, ◌⊎◌, ℕ, ◌+◌, ◌≤◌, ◌^◌, Bool, true, is_some, List, [], ◌∷◌, ◌++◌, Some}
 use Rattle.bfs_agreement.specs.Histories.{IsIn}
 use Rattle.bfs_checkpoints.specs.Keeping.{Kept}
 use Rattle.bfs_checkpoints.specs.Snapshots.{snapshot_of}
@@ -11,17 +10,18 @@ use Rattle.bfs_messages.specs.Messages as model
 use Rattle.bfs_messages.specs.declared.order_messages.OrderMessage.{OrderMessage}
 use Rattle.bfs_messages.specs.declared.signed.Signed.{Signed}
 use Rattle.bfs_messages.specs.declared.message.Message.{Message}
+use Rattle.bfs_model.specs.Server.Limits.{log_size}
 use Rattle.bfs_model.specs.Server.Stored.{IsTime}
 use Rattle.bfs_model.specs.Server.Tree.{FileSystem}
 use Rattle.bfs_node.specs.Resending.{resent}
 use Rattle.bfs_nodes_agree.specs.Nodes.Laws.{BatchesDontCollide}
 use Rattle.bfs_nodes_agree.specs.Nodes.Premises.{StatesDontCollide}
 use Rattle.bfs_nodes_agree.specs.Nodes.Replicas.{Beginning, Keyring, NodeReplica, NodeReplicas, NodeTurn, after_node_turn}
-use Rattle.bfs_nodes_agree.specs.Nodes.Steps.{NodeStep, Delivers, Takes, TakesRequests, TakesOffered, Proposes, Executes, Fails, Checkpoints, TimesOut, LeavesFor, ForgetsAnswered, ForgetsProposed, Adopts, Settles}
+use Rattle.bfs_nodes_agree.specs.Nodes.Steps.{NodeStep, Delivers, Takes, TakesRequests, TakesOffered, Proposes, Fails, Adopts, Settles}
 use Rattle.bfs_nodes_progress.specs.Begun.{new_view_passes}
 use Rattle.bfs_nodes_progress.specs.Following.{asked_by}
 use Rattle.bfs_nodes_progress.specs.Rounds.{passes}
-use Rattle.bfs_nodes_progress.specs.Runs.{IsARun, order_of, reached}
+use Rattle.bfs_nodes_progress.specs.Runs.{order_of, reached}
 use Rattle.bfs_order.specs.declared.resending.Lag.{Lag}
 use Rattle.bfs_replies.specs.Tables.{Table}
 use Rattle.bfs_view_change.specs.Changes.Making.{change_of}
@@ -46,7 +46,7 @@ abbrev pub IsOffered : (members : ℕ → Bool) → NodeReplicas → StableCheck
 IsOffered members w checkpoint files table = (i : ℕ) × (kept : Kept) × (members i ≡ true) × IsIn kept (w i).node.snapshots.kept
     × (kept.number ≡ checkpoint.number) × (kept.snapshot ≡ snapshot_of files table)
 
--- nothing comes but what a member gives; no client asks for anything, a host tells the time within its limits, and memory doesn't run out
+-- nothing comes but what a member gives; no client asks for anything, and memory doesn't run out. A batch of a time beyond the limits would have no text
 abbrev pub MayTake : (members : ℕ → Bool) → NodeReplicas → NodeStep → Type 0
 MayTake members w (Takes m) = (j : ℕ) × (members j ≡ true) × Gives (w j) m
 MayTake members w (Adopts checkpoint files table) = IsAMembers members w checkpoint × IsOffered members w checkpoint files table
@@ -85,8 +85,8 @@ pub record AreFairTo (f : ℕ) (keys : Keyring) (start : Beginning) (faulty memb
 abbrev pub HaveViews : (f : ℕ) (members : ℕ → Bool) → NodeReplicas → Type 0
 HaveViews f members w = (k : ℕ) → members k ≡ true → asked_by w k + (f + 2) ≤ 2 ^ 63
 
--- views and numbers that members can still come to; and no file system has failed
+-- and come to log_size + 1 numbers more than it has executed; and no file system has failed
 pub record HasFuture (f : ℕ) (members : ℕ → Bool) (w : NodeReplicas) : Type 0 where
   pub views : HaveViews f members w
-  pub numbers : (k : ℕ) → members k ≡ true → (order_of w k).low + 100 ≤ 2 ^ 63
+  pub numbers : (k : ℕ) → members k ≡ true → (order_of w k).last + (log_size + 2) ≤ 2 ^ 63
   pub live : (k : ℕ) → members k ≡ true → is_some (w k).node.files ≡ true

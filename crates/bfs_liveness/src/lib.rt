@@ -4,4 +4,5 @@
 mod below;
 pub mod catching;
 pub mod executing;
+pub mod marks;
 pub mod meeting;

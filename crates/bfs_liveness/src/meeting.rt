@@ -5,7 +5,7 @@ use crate::below::what_is_below;
 use bfs_nodes_agree::node_calls::laws::what_is_resent_was_sent;
 
 /// Whatever calls and deliveries there were, and whoever lies: by turns of members that hear one another the run goes on. What a member gives to
-/// another one was sent, so nothing is forged.
+/// another one was sent, so nothing is forged; and what it gives keeps the limits of messages, which a request of a client need not.
 pub fn ways_are_runs()
     ensures { WaysAreRuns }
 {
@@ -19,7 +19,8 @@ pub fn a_member_leads()
 {}
 
 /// In each later view that a member leads members meet: each leaves for it, the VIEW-CHANGEs of the others come to its primary, which begins it, and its
-/// NEW-VIEW comes to them. What waits at a member stays, and what it has executed.
+/// NEW-VIEW comes to them. What waits at a member stays, and what it has executed. That all this passes is needed: a member's VIEW-CHANGE with a liar's
+/// PREPARE in it, of which the keyed hash is right for that member alone, is refused by the primary, each time.
 pub fn members_meet_in()
     ensures { MembersMeetIn }
 {
@@ -27,7 +28,8 @@ pub fn members_meet_in()
     what_is_resent_was_sent();
 }
 
-/// From every state that nodes can come into members meet in a view: at most f + 1 views above the latest that one of them has asked for.
+/// From every state that nodes can come into members meet in a view: at most f + 1 views above the latest that one of them has asked for. So many have to be
+/// left, of which there are 2^63: others may lead the next f.
 pub fn members_meet()
     ensures { MembersMeet }
 {
