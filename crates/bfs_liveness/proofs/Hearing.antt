@@ -46,8 +46,7 @@ checkpoint_given node n m some low high i =
     let second = cond (are_together s to && nat_lt to.stable n) (own_answers s n) [] in
     let third = cond (nat_lt to.stable n) (own_message s 5 0 n) [] in
     let of_number : IsIn m (resent_of s to n) = right_in first (second ++ third) m (right_in second third m (in_where (nat_lt to.stable n) (own_message s 5 0 n) m (lt-ltb 0 n some) i)) in
-    let given : IsIn m (order.resent s to) = in_all (resent_of s to) (range_with_len s.low (log_size + 1)) n m (in_run s.low (log_size + 1) n low (omega (arith, high))) of_number in
-    (
+    let given : IsIn m (order.resent s to) = in_all (resent_of s to) (range_with_len s.low (log_size + 1)) n m (in_run s.low (log_size + 1) n low (omega (arith, high))) of_number in (
       to,
       right_in (change_resent node) (new_view_resent node to ++ as_messages (order.resent s to)) (as_message Order m)
           (right_in (new_view_resent node to) (as_messages (order.resent s to)) (as_message Order m) (in_map (as_message Order) (order.resent s to) m given)),
@@ -105,8 +104,7 @@ module _ (members : ℕ → Bool) (number p : ℕ) (w : NodeReplicas) where
         let passes_now = passes_yet (w p).node node m hearing.keys hearing.taken.f passing in
         let bound : number ≤ s.low + log_size = elim hearing.taken.low [ inl same ↦ omega (arith, same, under) | inr risen ↦ omega (arith, risen) ] in
         let got = takes_it node.keys s m number k d passes_now is multiple bound in
-        let step = subst (HasTaken number s) (sym order_is) got.0 in
-        (
+        let step = subst (HasTaken number s) (sym order_is) got.0 in (
           record {
             others = λ i other. ap (λ (b : Bool). cond b (after_node_step (now p) (Takes (as_message Order m))) (now i)) other ∙ hearing.others i other;
             taken = both_taken number (order_of w p) s (order_of next p) hearing.taken step;

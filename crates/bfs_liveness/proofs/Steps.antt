@@ -141,8 +141,7 @@ module _ (laws : Below) (again : WhatIsResentIsFair) (f : ℕ) (keys : Keyring) 
       let w1 = after_node_turns w one in
       let two = exchange f members w1 in
       let then = even_on f faulty members w end view low have.heard even in
-      let all = goes_by done (three_exchanges f members w) even.together.quorum.correct goes have.way in
-      (
+      let all = goes_by done (three_exchanges f members w) even.together.quorum.correct goes have.way in (
         some.0,
         rounds_commit laws f keys start faulty members done one two (exchange f members (after_node_turns w1 two)) view n some.0 all.run even.together then.together
             (room_in f faulty members w view low n even above under) (room_in f faulty members end view low n then above under) some.1
@@ -154,8 +153,7 @@ exchanges_commit laws again f keys start faulty members turns view low run fair 
     let goes : Goes laws again f keys start faulty members turns = record { run = run; fair = fair } in
     let have = thrice laws again f keys start faulty members turns view low goes even in
     let w = reached f keys start turns in
-    let way = three_exchanges f members w in
-    (
+    let way = three_exchanges f members w in (
       have.way,
       (goes_by laws again f keys start faulty members turns way even.together.quorum.correct goes have.way).run,
       even_on f faulty members w (reached f keys start (turns ++ way)) view low have.heard even,

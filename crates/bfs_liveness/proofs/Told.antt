@@ -141,16 +141,14 @@ takes_it keys s m number k d passes is multiple under = elim (cases_lt s.low num
   | inl above ↦ elim (cases_Bool (is_there s h)) [
     | inl there ↦
         let slot : has_slot (known s) 5 k 0 number ≡ true = subst (λ (x : ℕ). has_slot (known s) x k 0 number ≡ true) is.tag (subst (λ (x : ℕ). has_slot (known s) h.tag x 0 number ≡ true) is.sender
-        (subst (λ (x : ℕ). has_slot (known s) h.tag h.sender x number ≡ true) is.view (subst (λ (x : ℕ). has_slot (known s) h.tag h.sender h.view x ≡ true) is.number there))) in
-        (
+        (subst (λ (x : ℕ). has_slot (known s) h.tag h.sender x number ≡ true) is.view (subst (λ (x : ℕ). has_slot (known s) h.tag h.sender h.view x ≡ true) is.number there))) in (
           either_way (λ o. HasTaken number s o.now) (refusal keys s m) s (accepted keys s m) (λ _. taken.0) (nothing_taken number s),
           either_way (λ o. IsToldBy number o.now k) (refusal keys s m) s (accepted keys s m) (λ _. taken.1) (inr slot),
         )
     | inr free ↦
         let n = is.number in
         let opened : place_refusal s h ≡ None = not_refused s h is.tag (omega (arith, n, above)) (omega (arith, n, under)) (ap (λ (x : ℕ). x % checkpoint_interval) n ∙ multiple) free in
-        let none : refusal keys s m ≡ None = ap₂ (λ (a : Bool) (r : Option OrderError). cond (not a) (Some BadAuthenticator) r) passes opened in
-        (
+        let none : refusal keys s m ≡ None = ap₂ (λ (a : Bool) (r : Option OrderError). cond (not a) (Some BadAuthenticator) r) passes opened in (
           subst (λ (r : Option OrderError). HasTaken number s (order.unless r s (accepted keys s m)).now) (sym none) taken.0,
           subst (λ (r : Option OrderError). IsToldBy number (order.unless r s (accepted keys s m)).now k) (sym none) taken.1,
         )

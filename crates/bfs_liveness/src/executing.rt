@@ -3,7 +3,10 @@ ghost use Rattle.bfs_liveness.specs.LawsOfExecuting.{ExchangesCommit, FullWindow
 
 use crate::below::what_is_below;
 use bfs_agreement::agreement::quorums_are_carried;
-use bfs_nodes_agree::node_calls::laws::{new_views_are_taken_whole, nodes_agree, steps_are_turns, turns_may_be_taken, what_is_resent_was_sent};
+use bfs_nodes_agree::node_calls::laws::{
+    new_views_are_taken_whole, nodes_agree, steps_are_turns, turns_may_be_taken,
+    what_is_resent_was_sent,
+};
 use bfs_order::a_replica_stays_itself;
 use bfs_view_change::{prepared_is_chosen, views_begin_behind_what_is_stable};
 
