@@ -3,3 +3,6 @@ pub mod Ways
 pub mod Meeting
 pub mod LawsOfMeeting
 pub mod LawsOfMarks
+pub mod Even
+pub mod Exchanges
+pub mod LawsOfExecuting
