@@ -6,8 +6,8 @@ use crate::world::{ALL, TERMS, THREE, World};
 use bfs_testing::asserts::compared;
 use std::test::Fail;
 
-// behind calls, a checkpoint, a view that was left, and a state that was fetched
-static CRASHES: [Step; 17] = [
+// behind calls, also without one of them, and a checkpoint
+static CRASHES: [Step; 16] = [
     Answered(ALL, 1, 3, 2),
     Restarts(0),
     Restarts(1),
@@ -24,7 +24,6 @@ static CRASHES: [Step; 17] = [
     Answered(ALL, 28, 30, 2),
     Agree(0, 1),
     Agree(0, 2),
-    Agree(0, 3),
 ];
 
 #[test]

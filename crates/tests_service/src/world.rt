@@ -74,7 +74,13 @@ pub fn settings(alloc: Global) -> Result<Settings, Fail> {
 fn keys_of(alloc: Global, number: u32) -> Result<Keys, Fail> {
     let settings = settings(alloc)?;
     let me = Principal::Replica(number);
-    Ok(Keys::derive(alloc, settings.secret(), me, settings.replicas(), settings.clients())?)
+    Ok(Keys::derive(
+        alloc,
+        settings.secret(),
+        me,
+        settings.replicas(),
+        settings.clients(),
+    )?)
 }
 
 // It takes the place of all that was in the folder.
