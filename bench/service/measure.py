@@ -148,6 +148,7 @@ class Service:
         wanted += [f"relay: replica {one} is connected" for one in range(count)]
         while not all(text in self.log.read_text() for text in wanted):
             if time.monotonic() > end or self.process.poll() is not None:
+                self.end()
                 sys.exit(self.log.read_text())
             time.sleep(0.1)
         self.transports = children(self.process.pid)
