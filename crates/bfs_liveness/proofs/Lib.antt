@@ -4,3 +4,8 @@ pub mod Leading
 pub mod Work
 pub mod Turns
 pub mod Leaving
+pub mod Keeping
+pub mod Telling
+pub mod Told
+pub mod Behind
+pub mod ComingUp

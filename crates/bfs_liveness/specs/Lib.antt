@@ -2,3 +2,6 @@
 pub mod Ways
 pub mod Meeting
 pub mod LawsOfMeeting
+pub mod Even
+pub mod Catching
+pub mod LawsOfCatching
