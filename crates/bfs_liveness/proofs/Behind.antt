@@ -86,18 +86,18 @@ module _ (laws : Below) (whole : ViewsAreEnteredWhole) (f : ℕ) (keys : Keyring
       let first = step_on laws f faulty positive few w v t facts turn comes in
       let here : order_of there who ≡ now.order = ap (λ (r : NodeReplica). r.node.order) (here_after w turn) in
       let stays : now.order.view ≡ node.order.view → now.order.min_s ≤ now.order.low = λ same.
-          let later = first.later who in
-          let is : (order_of there who).view ≡ node.order.view = ap (λ (s : State). s.view) here ∙ same in
-          let min_s = later.min_s (view_there f faulty w v t facts who ∙ sym is ∙ sym (view_there f faulty there first.orders first.world first.facts who)) in
-          let low = later.low in
-          let min_s_before = min_s_there f faulty w v t facts who in
-          let min_s_after = min_s_there f faulty there first.orders first.world first.facts who in
-          let low_before = low_there f faulty w v t facts who in
-          let low_after = low_there f faulty there first.orders first.world first.facts who in
-          let min_s_here = ap (λ (s : State). s.min_s) here in
-          let low_here = ap (λ (s : State). s.low) here in
-          let le = all who in
-          omega (arith, min_s, low, min_s_before, min_s_after, low_before, low_after, min_s_here, low_here, le) in
+      let later = first.later who in
+      let is : (order_of there who).view ≡ node.order.view = ap (λ (s : State). s.view) here ∙ same in
+      let min_s = later.min_s (view_there f faulty w v t facts who ∙ sym is ∙ sym (view_there f faulty there first.orders first.world first.facts who)) in
+      let low = later.low in
+      let min_s_before = min_s_there f faulty w v t facts who in
+      let min_s_after = min_s_there f faulty there first.orders first.world first.facts who in
+      let low_before = low_there f faulty w v t facts who in
+      let low_after = low_there f faulty there first.orders first.world first.facts who in
+      let min_s_here = ap (λ (s : State). s.min_s) here in
+      let low_here = ap (λ (s : State). s.low) here in
+      let le = all who in
+      omega (arith, min_s, low, min_s_before, min_s_after, low_before, low_after, min_s_here, low_here, le) in
       let entered : (now.order.view ≡ node.order.view) ⊎ HasEnteredWhole now =
       subst (λ (x : NodeReplicas). ((outcome (x who).node turn.step).now.order.view ≡ (x who).node.order.view) ⊎ HasEnteredWhole (outcome (x who).node turn.step).now) at
       (whole f keys start done who turn.step shared (comes_any (IsAuthentic faulty w node.keys) turn.step comes)) in

@@ -257,25 +257,28 @@ module _ (laws : Below) (again : WhatIsResentIsFair) (whole : ViewsAreEnteredWho
       ]
 
   comes : (number_of == 0) ≡ false → (way : List NodeTurn) × ComeUp f keys start faulty members turns way view number_of
-  comes above = (way, record {
-    is_way = is_way;
-    run = goes_on laws again f keys start faulty members together.quorum.correct turns way run fair is_way;
-    fair = fair_behind f keys start members faulty turns way fair is_way;
-    even = record {
-      together = record {
-        quorum = together.quorum;
-        entered = λ k member. ap (λ (s : State). s.view) (order_is k member) ∙ together.entered k member;
-        asked = λ k member. ap (λ (s : State). s.asked) (order_is k member) ∙ together.asked k member;
+  comes above = (
+    way,
+    record {
+      is_way = is_way;
+      run = goes_on laws again f keys start faulty members together.quorum.correct turns way run fair is_way;
+      fair = fair_behind f keys start members faulty turns way fair is_way;
+      even = record {
+        together = record {
+          quorum = together.quorum;
+          entered = λ k member. ap (λ (s : State). s.view) (order_is k member) ∙ together.entered k member;
+          asked = λ k member. ap (λ (s : State). s.asked) (order_is k member) ∙ together.asked k member;
+        };
+        low = λ k member. let low = ap (λ (s : State). s.low) (order_is k member) in let le = most k member in omega (arith, low, le);
+        min_s = λ k member. let min_s = ap (λ (s : State). s.min_s) (order_is k member) in let low = behind k in let le = most k member in omega (arith, min_s, low, le);
+        last = λ k member. let last = ap (λ (s : State). s.last) (order_is k member) in omega (arith, last);
+        live = λ k member. subst (λ (n : Node). is_some n.files ≡ true) (sym (node_is k member))
+            (by_catching (λ (n : Node). is_some n.files ≡ true) (before k).node shown files table (live k member) refl (live k member) (is_ahead (before k).node shown.number));
       };
-      low = λ k member. let low = ap (λ (s : State). s.low) (order_is k member) in let le = most k member in omega (arith, low, le);
-      min_s = λ k member. let min_s = ap (λ (s : State). s.min_s) (order_is k member) in let low = behind k in let le = most k member in omega (arith, min_s, low, le);
-      last = λ k member. let last = ap (λ (s : State). s.last) (order_is k member) in omega (arith, last);
-      live = λ k member. subst (λ (n : Node). is_some n.files ≡ true) (sym (node_is k member))
-          (by_catching (λ (n : Node). is_some n.files ≡ true) (before k).node shown files table (live k member) refl (live k member) (is_ahead (before k).node shown.number));
-    };
-    pending = λ k. ap (λ (u : NodeReplicas). (u k).node.pending) joined
-        ∙ pending_stays f members before highest.0 got.who got.kept files table highest.1 got.member got.number of.snapshot k;
-  })
+      pending = λ k. ap (λ (u : NodeReplicas). (u k).node.pending) joined
+          ∙ pending_stays f members before highest.0 got.who got.kept files table highest.1 got.member got.number of.snapshot k;
+    },
+  )
     where
       got : Keeper
       got = keeper above
