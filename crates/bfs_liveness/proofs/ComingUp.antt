@@ -1,5 +1,5 @@
 -- Members that are together in a view come up to the greatest number that one of them has stable.
-use Rattle.std.proofs.Common.{◌≡◌, ℕ, zero, suc, ◌+◌, ◌*◌, ◌<◌, ◌≤◌, ◌==◌, Bool, true, false, cond, ◌&&◌, max, List, [], ◌∷◌, ◌++◌, length, Option, Some, None, bytes_eq, inl, inr, refl, sym, ap, subst, ◌∙◌, append-nil, arith}
+use Rattle.std.proofs.Common.{◌≡◌, ℕ, zero, suc, ◌+◌, ◌*◌, ◌<◌, ◌≤◌, ◌==◌, Bool, true, false, cond, ◌&&◌, max, List, [], ◌∷◌, ◌++◌, length, Some, None, bytes_eq, inl, inr, refl, sym, ap, subst, ◌∙◌, append-nil, arith}
 use Rattle.std.specs.Prelude.{is_some, nat_lt}
 use Rattle.std.proofs.lemmas.Bool.{cases_Bool, cases_lt, cond_both, eqb-true, le-ltb, leb-true}
 use Rattle.bfs_auth.specs.Keys.{Keys}
@@ -7,9 +7,9 @@ use Rattle.bfs_auth.specs.declared.principals.Principal.TheVariants as principal
 use Rattle.bfs_checkpoints.specs.Keeping.{Keeping, Kept, settled, with_snapshot}
 use Rattle.bfs_checkpoints.specs.Snapshots.{Snapshot, snapshot_of}
 use Rattle.bfs_checkpoints.specs.Texts.{node_digest}
-use Rattle.bfs_log.specs.Certificates.{StableCheckpoint, as_checkpoints, checkpoints_in, faults, is_shown}
+use Rattle.bfs_log.specs.Certificates.{StableCheckpoint, checkpoints_in, faults, is_shown}
 use Rattle.bfs_log.specs.Headers.{header}
-use Rattle.bfs_log.specs.Logs.{Log, headers}
+use Rattle.bfs_log.specs.Logs.{headers}
 use Rattle.bfs_messages.specs.Messages as model
 use Rattle.bfs_messages.specs.Signing.{as_message}
 use Rattle.bfs_messages.specs.declared.message.Message.{Message}
@@ -22,7 +22,7 @@ use Rattle.bfs_order.specs.Laws.Certificates.{CertificatesMakeStable}
 use Rattle.bfs_order.specs.Replica.Installing.{certified, installed}
 use Rattle.bfs_order.specs.Replica.States.{State}
 use Rattle.bfs_replies.specs.Tables.{Table}
-use Rattle.bfs_view_change.specs.Changes.Making.{change_of, stable_checkpoints}
+use Rattle.bfs_view_change.specs.Changes.Making.{change_of}
 use Rattle.bfs_view_change.specs.Changes.ViewChanges.{has_stable, stable_in}
 use Rattle.bfs_votes.specs.Laws.{QuorumsMeet}
 use Rattle.bfs_votes.specs.Votes.{Header, Told, primary, replicas, tellers, told}
@@ -32,12 +32,11 @@ use Rattle.bfs_agreement.proofs.Public.{Is}
 use Rattle.bfs_node.specs.Adopting.{adopted, is_ahead, may_adopt}
 use Rattle.bfs_node.specs.Nodes.{Messages, Node, Outcome}
 use Rattle.bfs_node.specs.Settling.{settling, settling_refusal}
-use Rattle.bfs_node.specs.declared.error.NodeError.{NodeError}
 use Rattle.bfs_nodes_agree.specs.Nodes.Laws.{ViewsAreEnteredWhole}
 use Rattle.bfs_nodes_agree.specs.Nodes.Premises.{HasSaid, SaysTheSame}
-use Rattle.bfs_nodes_agree.specs.Nodes.Replicas.{Beginning, Keyring, NodeReplica, NodeReplicas, NodeTurn, after_node_step, after_node_turn, after_node_turns, new_node_replicas}
+use Rattle.bfs_nodes_agree.specs.Nodes.Replicas.{Beginning, Keyring, NodeReplica, NodeReplicas, NodeTurn, after_node_turn, after_node_turns, new_node_replicas}
 use Rattle.bfs_nodes_agree.specs.Nodes.Resending.{WhatIsResentIsFair}
-use Rattle.bfs_nodes_agree.specs.Nodes.Steps.{NodeStep, Adopts, Settles, outcome, still, unless}
+use Rattle.bfs_nodes_agree.specs.Nodes.Steps.{Adopts, Settles, outcome, still, unless}
 use Rattle.bfs_nodes_agree.proofs.Nodes.Hearing.{IsSaid, offer_tag, same_header}
 use Rattle.bfs_nodes_agree.proofs.Public.{both_at, here_after, left_in, out_of_map, told_in}
 use Rattle.bfs_nodes_agree.proofs.Views.OfLog.{stable_holds}
@@ -50,7 +49,7 @@ use Rattle.bfs_nodes_progress.proofs.CatchingUp.{installs, snapshots_are_of_stat
 use Rattle.bfs_nodes_progress.proofs.Each.{AreOf, each_once}
 use Rattle.bfs_nodes_progress.proofs.Reached.{Leads, always}
 use Rattle.bfs_nodes_progress.proofs.Rounds.{after_join}
-use Rattle.bfs_liveness.specs.Catching.{ComeUp, IsGreatestLow}
+use Rattle.bfs_liveness.specs.Catching.{ComeUp, IsGreatestLow, StillKeeps}
 use Rattle.bfs_liveness.specs.Even.{AreEven}
 use Rattle.bfs_liveness.specs.LawsOfCatching.{MembersComeUp}
 use Rattle.bfs_liveness.specs.Ways.{AreFairTo, IsWay, MayTake, stable_of}
@@ -235,6 +234,11 @@ module _ (laws : Below) (again : WhatIsResentIsFair) (whole : ViewsAreEnteredWho
     number : kept.number ≡ shown.number
     digest : kept.snapshot.digest ≡ shown.digest
 
+  -- who has told it does
+  keeps_told : (i : ℕ) → members i ≡ true → (told : model.Checkpoint) → told.number ≡ number_of → told.digest ≡ shown.digest → StillKeeps (before i).node told → Keeper
+  keeps_told i member told number digest (inl later) = let le = most i member in absurd (omega (arith, later, number, le))
+  keeps_told i member told number digest (inr kept) = record { who = i; member = member; kept = kept.0; keeps = kept.1; number = kept.2 ∙ number; digest = kept.3 ∙ digest }
+
   keeper : (number_of == 0) ≡ false → Keeper
   keeper above =
       let hs = headers (checkpoints_in shown) in
@@ -250,11 +254,7 @@ module _ (laws : Below) (again : WhatIsResentIsFair) (whole : ViewsAreEnteredWho
       let own : IsSaid faulty before (Order (Checkpoint by.2.message)) = subst (λ (x : Signed OrderMessage). IsSaid faulty before (Order x.message)) by.3 said in
       let has = own i (ap principal.Replica told_is.sender) got.4 in
       let sent = said_sent (before i).sent by.2.message has in
-      let number : by.2.message.number ≡ number_of = told_is.number in
-      elim (told_snapshots_stay laws f keys start faulty turns i sent.0 by.2.message run sent.1 sent.2) as (λ _. Keeper) [
-        | inl later ↦ let le = most i got.3 in absurd (omega (arith, later, number, le))
-        | inr kept ↦ record { who = i; member = got.3; kept = kept.0; keeps = kept.1; number = kept.2 ∙ told_is.number; digest = kept.3 ∙ told_is.digest }
-      ]
+      keeps_told i got.3 by.2.message told_is.number told_is.digest (told_snapshots_stay laws f keys start faulty turns i sent.0 by.2.message run sent.1 sent.2)
 
   comes : (number_of == 0) ≡ false → (way : List NodeTurn) × ComeUp f keys start faulty members turns way view number_of
   comes above = (

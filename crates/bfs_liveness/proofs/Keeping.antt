@@ -22,7 +22,6 @@ use Rattle.bfs_order.specs.Replica.Checkpoints as order
 use Rattle.bfs_order.specs.Replica.Installing.{raised}
 use Rattle.bfs_order.specs.Replica.States.{State, known, with_message, with_more}
 use Rattle.bfs_order.specs.Replica.Views.{left}
-use Rattle.bfs_order.specs.Replica.Views as views
 use Rattle.bfs_order.proofs.Public.{entered_low, raised_either}
 use Rattle.bfs_replies.specs.Tables.{Table}
 use Rattle.bfs_votes.specs.Tags.{checkpoint_tag}

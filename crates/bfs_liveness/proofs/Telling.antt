@@ -1,5 +1,5 @@
 -- Only a node that takes a checkpoint sends a CHECKPOINT, and it keeps its snapshot.
-use Rattle.std.proofs.Common.{◌≡◌, ℕ, ◌<◌, Bool, true, false, cond, List, [], ◌∷◌, ◌++◌, Option, Some, None, ◌&&◌, bytes_eq, option_map, inl, inr, refl, sym, ap, subst, ◌∙◌, arith}
+use Rattle.std.proofs.Common.{◌≡◌, ℕ, Bool, true, false, cond, List, [], ◌∷◌, Option, Some, None, ◌&&◌, bytes_eq, option_map, inl, inr, refl, sym, ap, subst, ◌∙◌, arith}
 use Rattle.bfs_auth.specs.Authenticators.{signature_for_client}
 use Rattle.bfs_codec.specs.Reading.{message_of}
 use Rattle.bfs_checkpoints.specs.Keeping.{Kept}
@@ -15,10 +15,10 @@ use Rattle.bfs_messages.specs.declared.signed.Signed.{Signed}
 use Rattle.bfs_messages.specs.declared.message.Message.{Message}
 use Rattle.bfs_messages.specs.declared.message.Message.TheVariants.{Request, Order, ViewChange, NewView, Reply}
 use Rattle.bfs_messages.specs.declared.order_messages.OrderMessage.{OrderMessage}
-use Rattle.bfs_messages.specs.declared.order_messages.OrderMessage.TheVariants.{Checkpoint, PrePrepare}
-use Rattle.bfs_model.specs.Server.Tree.{FileSystem, Time}
+use Rattle.bfs_messages.specs.declared.order_messages.OrderMessage.TheVariants.{Checkpoint}
+use Rattle.bfs_model.specs.Server.Tree.{FileSystem}
 use Rattle.bfs_order.specs.Laws.Calls as order
-use Rattle.bfs_order.specs.Replica.Accepting.{accepted, answers}
+use Rattle.bfs_order.specs.Replica.Accepting.{accepted}
 use Rattle.bfs_order.specs.Replica.Executing.{next_committed}
 use Rattle.bfs_order.specs.Replica.Outcomes as outcomes
 use Rattle.bfs_order.specs.Replica.Proposing as proposing
