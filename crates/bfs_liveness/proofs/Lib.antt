@@ -20,3 +20,8 @@ pub mod Told
 pub mod Digests
 pub mod Hearing
 pub mod Emptying
+pub mod Keeping
+pub mod Telling
+pub mod ToldSnapshots
+pub mod Behind
+pub mod ComingUp

@@ -6,3 +6,5 @@ pub mod LawsOfMarks
 pub mod Even
 pub mod Exchanges
 pub mod LawsOfExecuting
+pub mod Catching
+pub mod LawsOfCatching
