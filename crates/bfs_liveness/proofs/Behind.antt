@@ -17,9 +17,7 @@ use Rattle.bfs_nodes_agree.specs.Orders.Replicas.{OrderReplicas, new_order_repli
 use Rattle.bfs_nodes_agree.proofs.Public.{Left, Rested, TookChange, TookNewView, both_at, entered_same, here_after, some_is, step_kind}
 use Rattle.bfs_nodes_progress.specs.Inside.Below.{Below}
 use Rattle.bfs_nodes_progress.specs.Runs.{order_of, reached}
-use Rattle.bfs_nodes_progress.proofs.Quiet.{low_there, min_s_there, view_there}
-use Rattle.bfs_nodes_progress.proofs.Reached.{Facts, start_facts, step_on}
-use Rattle.bfs_nodes_progress.proofs.Rounds.{after_join}
+use Rattle.bfs_nodes_progress.proofs.Public.{Facts, after_join, low_there, min_s_there, start_facts, step_on, view_there}
 use Rattle.bfs_view_change.specs.Changes.Keeping.{with_asked, with_change}
 use Rattle.bfs_view_change.specs.Changes.Making.{signed_new_view}
 use Rattle.bfs_view_change.specs.Changes.NewViews.{latest_checkpoint}

@@ -23,14 +23,11 @@ use Rattle.bfs_nodes_agree.specs.Nodes.Laws.{StepsAreTurns, TurnsMayBeTaken, Tra
 use Rattle.bfs_nodes_agree.specs.Nodes.Replicas.{Beginning, Keyring, NodeReplicas, NodeTurn, new_node_replicas, ordered_turns}
 use Rattle.bfs_nodes_agree.specs.Orders.Replicas.{OrderReplica, OrderReplicas, OrderDeed, after_order_deed, after_order_turn, call_of, executed_by, message_in, new_order_replicas}
 use Rattle.bfs_nodes_agree.specs.Views.Replicas.{ViewTurn, after_view_turns, ordered_turn}
-use Rattle.bfs_nodes_agree.proofs.Nodes.Executing.{next_found}
-use Rattle.bfs_nodes_agree.proofs.Orders.Rising.{low_rises}
-use Rattle.bfs_nodes_agree.proofs.Public.{IsFollowed, all_turns, either_way, entered_same, new_followed, right_in, told_same}
+use Rattle.bfs_nodes_agree.proofs.Public.{IsFollowed, all_turns, either_way, entered_same, low_rises, new_followed, next_found, right_in, told_same}
 use Rattle.bfs_nodes_agree.proofs.Public as agree
 use Rattle.bfs_nodes_progress.specs.Inside.Below.{Below}
 use Rattle.bfs_nodes_progress.specs.Runs.{IsARun, order_of, reached}
-use Rattle.bfs_nodes_progress.proofs.Quiet.{low_there, view_there}
-use Rattle.bfs_nodes_progress.proofs.Reached.{always, responds, told_here, told_world}
+use Rattle.bfs_nodes_progress.proofs.Public.{always, low_there, responds, told_here, told_world, view_there}
 use Rattle.bfs_liveness.specs.LawsOfExecuting.{NoneIsBeyond}
 use Rattle.bfs_liveness.proofs.Filled.{told_le}
 use Rattle.bfs_liveness.proofs.Past.{have_past}

@@ -37,18 +37,13 @@ use Rattle.bfs_nodes_agree.specs.Nodes.Premises.{HasSaid, SaysTheSame}
 use Rattle.bfs_nodes_agree.specs.Nodes.Replicas.{Beginning, Keyring, NodeReplica, NodeReplicas, NodeTurn, after_node_turn, after_node_turns, new_node_replicas}
 use Rattle.bfs_nodes_agree.specs.Nodes.Resending.{WhatIsResentIsFair}
 use Rattle.bfs_nodes_agree.specs.Nodes.Steps.{Adopts, Settles, outcome, still, unless}
-use Rattle.bfs_nodes_agree.proofs.Nodes.Hearing.{IsSaid, offer_tag, same_header}
-use Rattle.bfs_nodes_agree.proofs.Public.{both_at, here_after, left_in, out_of_map, told_in}
-use Rattle.bfs_nodes_agree.proofs.Views.OfLog.{stable_holds}
+use Rattle.bfs_nodes_agree.proofs.Public.{IsSaid, both_at, here_after, left_in, offer_tag, out_of_map, same_header, stable_holds, told_in}
 use Rattle.bfs_nodes_progress.specs.CatchingUp.{IsOfAState, all_catch_up, catching_turn, catching_up}
 use Rattle.bfs_nodes_progress.specs.Following.{each_takes}
 use Rattle.bfs_nodes_progress.specs.Inside.Below.{Below}
 use Rattle.bfs_nodes_progress.specs.Members.{AreTogether}
 use Rattle.bfs_nodes_progress.specs.Runs.{IsARun, order_of, reached}
-use Rattle.bfs_nodes_progress.proofs.CatchingUp.{installs, snapshots_are_of_states}
-use Rattle.bfs_nodes_progress.proofs.Each.{AreOf, each_once}
-use Rattle.bfs_nodes_progress.proofs.Reached.{Leads, always}
-use Rattle.bfs_nodes_progress.proofs.Rounds.{after_join}
+use Rattle.bfs_nodes_progress.proofs.Public.{AreOf, Leads, after_join, always, each_once, installs, snapshots_are_of_states}
 use Rattle.bfs_liveness.specs.Catching.{ComeUp, IsGreatestLow, StillKeeps}
 use Rattle.bfs_liveness.specs.Even.{AreEven}
 use Rattle.bfs_liveness.specs.LawsOfCatching.{MembersComeUp}

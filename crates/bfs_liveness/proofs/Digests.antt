@@ -23,8 +23,7 @@ use Rattle.bfs_nodes_agree.specs.Orders.Replicas.{new_order_replicas}
 use Rattle.bfs_nodes_agree.proofs.Public.{out_of_map, told_in}
 use Rattle.bfs_nodes_progress.specs.Inside.Below.{Below}
 use Rattle.bfs_nodes_progress.specs.Runs.{IsARun, order_of, reached}
-use Rattle.bfs_nodes_progress.proofs.Reached.{always, start_facts}
-use Rattle.bfs_nodes_progress.proofs.Snapshots.{HasStates, TellsAState, all_states, start_states}
+use Rattle.bfs_nodes_progress.proofs.Public.{HasStates, TellsAState, all_states, always, start_facts, start_states}
 
 offers_none : (m : Message) (p : Signed OrderMessage) (c : model.Checkpoint) → IsIn p (offers_in m) → SaysTheSame (Order p.message) (Order (Checkpoint c)) → ⊥
 offers_none (NewView new) p c i e =

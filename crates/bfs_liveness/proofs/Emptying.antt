@@ -33,11 +33,7 @@ use Rattle.bfs_nodes_progress.specs.Inside.Below.{Below}
 use Rattle.bfs_nodes_progress.specs.Members.{is_committed}
 use Rattle.bfs_nodes_progress.specs.Requests.{executions}
 use Rattle.bfs_nodes_progress.specs.Runs.{IsARun, order_of, reached}
-use Rattle.bfs_nodes_progress.proofs.Each.{AreOf, each_once}
-use Rattle.bfs_nodes_progress.proofs.Executing.{after_so_many, proposed_in}
-use Rattle.bfs_nodes_progress.proofs.Quiet.{same_f, same_me}
-use Rattle.bfs_nodes_progress.proofs.Reached.{always, told_world}
-use Rattle.bfs_nodes_progress.proofs.Rounds.{after_join}
+use Rattle.bfs_nodes_progress.proofs.Public.{AreOf, after_join, after_so_many, always, each_once, proposed_in, same_f, same_me, told_world}
 use Rattle.bfs_liveness.specs.Exchanges.{all_execute, all_tell, emptying, three_exchanges, told_to}
 use Rattle.bfs_liveness.specs.Even.{AreEven}
 use Rattle.bfs_liveness.specs.LawsOfExecuting.{FullWindowsAreEmptied, IsEmptied, IsFull, IsSettled, NoneIsBeyond, NoneIsLeftOut, WhatIsStableIsSettled}

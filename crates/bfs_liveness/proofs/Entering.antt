@@ -47,11 +47,7 @@ use Rattle.bfs_nodes_agree.specs.Nodes.Steps.{NodeStep, outcome as result, still
 use Rattle.bfs_nodes_agree.specs.Orders.Replicas.{votes_by}
 use Rattle.bfs_nodes_agree.specs.Views.Changes.{proposal_of}
 use Rattle.bfs_nodes_agree.specs.Views.Laws.{EntersWhole}
-use Rattle.bfs_nodes_agree.proofs.Public.{AllIn, at_in, begins_open, both_in, either_way, entered_same, in_map, is_taken, IsBounded, left_bounded, map_in, none_in, not_refused, not_second, out_of_map, passed, some_is, told_in}
-use Rattle.bfs_nodes_agree.proofs.Nodes.Entered.{comes_so}
-use Rattle.bfs_nodes_agree.proofs.Nodes.Kinds.{Left, Rested, TookChange, TookNewView, step_kind}
-use Rattle.bfs_nodes_agree.proofs.Nodes.NewViews.{own_proposals, proposals_are}
-use Rattle.bfs_nodes_agree.proofs.Orders.Logs.{Shows, log_keeps}
+use Rattle.bfs_nodes_agree.proofs.Public.{AllIn, IsBounded, Left, Rested, Shows, TookChange, TookNewView, at_in, begins_open, both_in, comes_so, either_way, entered_same, in_map, is_taken, left_bounded, log_keeps, map_in, none_in, not_refused, not_second, out_of_map, own_proposals, passed, proposals_are, some_is, step_kind, told_in}
 use Rattle.bfs_liveness.proofs.Filled.{IsAnswer, IsFilled, IsNoProposal, answers_are, no_proposals}
 use Rattle.bfs_liveness.proofs.Lists.{in_run, out_of_run}
 

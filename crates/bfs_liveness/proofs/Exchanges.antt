@@ -18,7 +18,7 @@ use Rattle.bfs_nodes_agree.specs.Nodes.Steps.{Takes}
 use Rattle.bfs_nodes_agree.proofs.Public.{either_in, in_map, out_of_map}
 use Rattle.bfs_nodes_progress.specs.Rounds.{ComesTo, IsRound, passes}
 use Rattle.bfs_nodes_progress.specs.Runs.{order_of}
-use Rattle.bfs_nodes_progress.proofs.Resending.{votes_are_resent}
+use Rattle.bfs_nodes_progress.proofs.Public.{votes_are_resent}
 use Rattle.bfs_liveness.specs.Exchanges.{exchange, hearing, said_in_view, taking}
 use Rattle.bfs_liveness.specs.Ways.{Gives, IsWay, MayTake}
 use Rattle.bfs_liveness.proofs.Lists.{in_all, in_each, in_run, in_where, out_of_all, out_of_each, out_of_run, out_of_where}

@@ -30,8 +30,7 @@ use Rattle.bfs_nodes_agree.proofs.Public.{here_after, in_map, right_in}
 use Rattle.bfs_nodes_progress.specs.Following.{each_takes}
 use Rattle.bfs_nodes_progress.specs.Rounds.{passes}
 use Rattle.bfs_nodes_progress.specs.Runs.{order_of}
-use Rattle.bfs_nodes_progress.proofs.Rounds.{own_found}
-use Rattle.bfs_nodes_progress.proofs.Taking.{brings_order}
+use Rattle.bfs_nodes_progress.proofs.Public.{brings_order, own_found}
 use Rattle.bfs_liveness.specs.Exchanges.{taking}
 use Rattle.bfs_liveness.specs.Ways.{Gives, IsWay}
 use Rattle.bfs_liveness.proofs.Lists.{in_all, in_run, in_where}

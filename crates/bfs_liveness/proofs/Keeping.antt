@@ -36,7 +36,7 @@ use Rattle.bfs_node.specs.Settling.{settling, settling_refusal}
 use Rattle.bfs_node.specs.declared.error.NodeError.{NodeError}
 use Rattle.bfs_nodes_agree.specs.Nodes.Steps.{NodeStep, Delivers, Takes, TakesRequests, TakesOffered, Proposes, Executes, Fails, Checkpoints, TimesOut, LeavesFor, ForgetsAnswered, ForgetsProposed, Adopts, Settles, or_still, outcome, still, unless}
 use Rattle.bfs_nodes_agree.proofs.Public.{left_in, no_answers, some_is}
-use Rattle.bfs_nodes_progress.proofs.Resting.{Rests, executes_rests, offered_rests, proposes_rests, requests_rest}
+use Rattle.bfs_nodes_progress.proofs.Public.{Rests, executes_rests, offered_rests, proposes_rests, requests_rest}
 use Rattle.bfs_view_change.specs.Changes.Keeping.{with_asked, with_change}
 use Rattle.bfs_view_change.specs.Changes.Making.{signed_new_view}
 use Rattle.bfs_view_change.specs.Changes.NewViews.{latest_checkpoint}

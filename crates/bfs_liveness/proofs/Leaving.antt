@@ -25,13 +25,7 @@ use Rattle.bfs_nodes_progress.specs.Giving.{GivesChange, GivesNewView}
 use Rattle.bfs_nodes_progress.specs.Inside.Below.{Below}
 use Rattle.bfs_nodes_progress.specs.Members.{AreTogether}
 use Rattle.bfs_nodes_progress.specs.Runs.{IsARun, order_of, reached}
-use Rattle.bfs_nodes_progress.proofs.Begun.{views_are_begun}
-use Rattle.bfs_nodes_progress.proofs.Each.{AreOf, each_once}
-use Rattle.bfs_nodes_progress.proofs.Hears.{entered_asked}
-use Rattle.bfs_nodes_progress.proofs.Quiet.{same_f, same_me}
-use Rattle.bfs_nodes_progress.proofs.Reached.{always}
-use Rattle.bfs_nodes_progress.proofs.Rounds.{after_join}
-use Rattle.bfs_nodes_progress.proofs.Together.{changes_are_given, new_views_are_given}
+use Rattle.bfs_nodes_progress.proofs.Public.{AreOf, after_join, always, changes_are_given, each_once, entered_asked, new_views_are_given, same_f, same_me, views_are_begun}
 use Rattle.bfs_liveness.specs.LawsOfMeeting.{MembersMeet, MembersMeetIn}
 use Rattle.bfs_liveness.specs.Meeting.{KeepsWork, MayMeetIn, Meets, all_enter, all_leave, all_tell, of_others, taking_change, taking_view}
 use Rattle.bfs_liveness.specs.Ways.{AreFairTo, GivesPass, IsWay}

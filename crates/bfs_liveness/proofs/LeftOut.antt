@@ -22,10 +22,7 @@ use Rattle.bfs_nodes_agree.specs.Nodes.Steps.{NodeStep, Delivers, Takes, Adopts,
 use Rattle.bfs_nodes_agree.proofs.Public.{IsBounded, after_deeds, both_at, called, grows_there, step_leads, step_right}
 use Rattle.bfs_nodes_progress.specs.Inside.Below.{Below}
 use Rattle.bfs_nodes_progress.specs.Runs.{order_of, reached}
-use Rattle.bfs_nodes_progress.proofs.Each.{authentic_both}
-use Rattle.bfs_nodes_progress.proofs.Quiet.{low_there, same_f, same_me, view_there}
-use Rattle.bfs_nodes_progress.proofs.Reached.{Facts, always, told_here}
-use Rattle.bfs_nodes_progress.proofs.Rounds.{after_join}
+use Rattle.bfs_nodes_progress.proofs.Public.{Facts, after_join, always, authentic_both, low_there, same_f, same_me, told_here, view_there}
 use Rattle.bfs_liveness.specs.LawsOfExecuting.{NoneIsLeftOut}
 use Rattle.bfs_liveness.proofs.Entering.{step_filled}
 use Rattle.bfs_liveness.proofs.Filled.{BringsKnown, IsFilled, IsKnown, RisesOrFilled, below_next, goes_on}

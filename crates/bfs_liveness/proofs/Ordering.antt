@@ -21,11 +21,7 @@ use Rattle.bfs_nodes_progress.specs.Inside.Below.{Below}
 use Rattle.bfs_nodes_progress.specs.Members.{is_committed}
 use Rattle.bfs_nodes_progress.specs.Requests.{HasExecuted, IsReadyFor, executions, proposing}
 use Rattle.bfs_nodes_progress.specs.Runs.{IsARun, order_of, reached}
-use Rattle.bfs_nodes_progress.proofs.Each.{AreOf, each_once}
-use Rattle.bfs_nodes_progress.proofs.Quiet.{same_f, same_me}
-use Rattle.bfs_nodes_progress.proofs.Reached.{always}
-use Rattle.bfs_nodes_progress.proofs.Requests.{requests_are_executed}
-use Rattle.bfs_nodes_progress.proofs.Rounds.{after_join}
+use Rattle.bfs_nodes_progress.proofs.Public.{AreOf, after_join, always, each_once, requests_are_executed, same_f, same_me}
 use Rattle.bfs_liveness.specs.Exchanges.{all_execute, exchange, hearing_and_executing, three_exchanges}
 use Rattle.bfs_liveness.specs.LawsOfExecuting.{HasPlace, NoneIsBeyond, NoneIsLeftOut, WhatWaitsIsExecuted}
 use Rattle.bfs_liveness.specs.Ways.{IsWay, MayTake}

@@ -30,9 +30,7 @@ use Rattle.bfs_votes.proofs.Public.{more}
 use Rattle.bfs_agreement.specs.Histories.{IsIn}
 use Rattle.bfs_agreement.proofs.Public.{Is, in_told, moved, says_is, says_itself}
 use Rattle.bfs_nodes_agree.specs.Orders.Replicas.{votes_by}
-use Rattle.bfs_nodes_agree.proofs.Public.{AllIn, either_in, either_way, entered_same, filter_in, in_map, map_in, no_answers, none_in, out_of_map, passed, passes_at, placed, told_in, unsettled}
-use Rattle.bfs_nodes_agree.proofs.Orders.Logs.{Shows, log_keeps}
-use Rattle.bfs_nodes_agree.proofs.Orders.Rising.{low_rises}
+use Rattle.bfs_nodes_agree.proofs.Public.{AllIn, Shows, either_in, either_way, entered_same, filter_in, in_map, log_keeps, low_rises, map_in, no_answers, none_in, out_of_map, passed, passes_at, placed, told_in, unsettled}
 use Rattle.bfs_liveness.specs.LawsOfExecuting.{IsSettled, WhatIsStableIsSettled}
 use Rattle.bfs_liveness.proofs.Entering.{over_are}
 use Rattle.bfs_liveness.proofs.Filled.{IsAnswer, answers_are, lone_are}

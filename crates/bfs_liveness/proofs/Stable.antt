@@ -37,8 +37,7 @@ use Rattle.bfs_nodes_agree.proofs.Public.{at_each, both_at, either_in, either_wa
 use Rattle.bfs_nodes_progress.specs.Following.{AreMembers}
 use Rattle.bfs_nodes_progress.specs.Inside.Below.{Below}
 use Rattle.bfs_nodes_progress.specs.Runs.{order_of, reached}
-use Rattle.bfs_nodes_progress.proofs.Quiet.{same_f}
-use Rattle.bfs_nodes_progress.proofs.Reached.{Facts, always, start_facts, step_on}
+use Rattle.bfs_nodes_progress.proofs.Public.{Facts, always, same_f, start_facts, step_on}
 use Rattle.bfs_liveness.specs.LawsOfMarks.{WhatIsStableWasExecuted}
 
 -- Of what number a message tells --------------------------------------------------------------------------------------

@@ -9,9 +9,7 @@ use Rattle.bfs_nodes_progress.specs.Inside.Below.{Below}
 use Rattle.bfs_nodes_progress.specs.Members.{HasRoom}
 use Rattle.bfs_nodes_progress.specs.Rounds.{IsRound}
 use Rattle.bfs_nodes_progress.specs.Runs.{IsARun, order_of, reached}
-use Rattle.bfs_nodes_progress.proofs.Quiet.{same_me}
-use Rattle.bfs_nodes_progress.proofs.Reached.{always}
-use Rattle.bfs_nodes_progress.proofs.Rounds.{after_join, rounds_commit}
+use Rattle.bfs_nodes_progress.proofs.Public.{after_join, always, rounds_commit, same_me}
 use Rattle.bfs_liveness.specs.Exchanges.{exchange, three_exchanges}
 use Rattle.bfs_liveness.specs.Even.{AreEven}
 use Rattle.bfs_liveness.specs.LawsOfExecuting.{ExchangesCommit, SomeIsCommitted, SomeIsProposed}

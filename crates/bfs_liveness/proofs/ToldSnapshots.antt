@@ -14,8 +14,7 @@ use Rattle.bfs_nodes_agree.specs.Orders.Replicas.{OrderReplicas, new_order_repli
 use Rattle.bfs_nodes_agree.proofs.Public.{IsBounded, both_at, either_in, here_after}
 use Rattle.bfs_nodes_progress.specs.Inside.Below.{Below}
 use Rattle.bfs_nodes_progress.specs.Runs.{order_of}
-use Rattle.bfs_nodes_progress.proofs.Quiet.{low_there}
-use Rattle.bfs_nodes_progress.proofs.Reached.{Facts, start_facts, step_on}
+use Rattle.bfs_nodes_progress.proofs.Public.{Facts, low_there, start_facts, step_on}
 use Rattle.bfs_liveness.specs.Catching.{StillKeeps}
 use Rattle.bfs_liveness.specs.LawsOfCatching.{ToldSnapshotsStay}
 use Rattle.bfs_liveness.proofs.Keeping.{step_stays}

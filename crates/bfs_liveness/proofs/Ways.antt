@@ -18,14 +18,10 @@ use Rattle.bfs_nodes_agree.specs.Nodes.Premises.{Comes, IsAmong, IsAuthentic, Is
 use Rattle.bfs_nodes_agree.specs.Nodes.Replicas.{Beginning, Keyring, NodeReplicas, NodeTurn, after_node_turn, after_node_turns, new_node_replicas}
 use Rattle.bfs_nodes_agree.specs.Nodes.Resending.{WhatIsResentIsFair}
 use Rattle.bfs_nodes_agree.specs.Nodes.Steps.{NodeStep, Adopts, Delivers, Settles, Takes}
-use Rattle.bfs_nodes_agree.proofs.Nodes.Hearing.{IsSaid, said_alike}
-use Rattle.bfs_nodes_agree.proofs.Public.{AreRight, map_in}
-use Rattle.bfs_nodes_agree.proofs.Views.OfLog.{stable_holds}
+use Rattle.bfs_nodes_agree.proofs.Public.{AreRight, IsSaid, map_in, said_alike, stable_holds}
 use Rattle.bfs_nodes_progress.specs.Inside.Below.{Below}
 use Rattle.bfs_nodes_progress.specs.Runs.{IsARun, order_of, reached}
-use Rattle.bfs_nodes_progress.proofs.Each.{authentic_both}
-use Rattle.bfs_nodes_progress.proofs.Reached.{Leads, always}
-use Rattle.bfs_nodes_progress.proofs.Rounds.{after_join}
+use Rattle.bfs_nodes_progress.proofs.Public.{Leads, after_join, always, authentic_both}
 use Rattle.bfs_liveness.specs.LawsOfMeeting.{WaysAreRuns}
 use Rattle.bfs_liveness.specs.Ways.{AreFairTo, GivesPass, IsAMembers, IsWay, MayTake}
 

@@ -22,8 +22,7 @@ use Rattle.bfs_node.specs.Nodes.{Node}
 use Rattle.bfs_node.specs.declared.error.NodeError.{NodeError}
 use Rattle.bfs_nodes_agree.specs.Nodes.Steps.{LeavesFor, Takes, outcome, still, unless}
 use Rattle.bfs_nodes_agree.proofs.Public.{entered_same}
-use Rattle.bfs_nodes_progress.proofs.Asked.{left_asks}
-use Rattle.bfs_nodes_progress.proofs.Prompt.{entered_asked, entered_view}
+use Rattle.bfs_nodes_progress.proofs.Public.{entered_asked, entered_view, left_asks}
 use Rattle.bfs_liveness.specs.Meeting.{KeepsWork}
 
 -- What waits and what was executed ------------------------------------------------------------------------------------

@@ -1,33 +1,34 @@
-pub mod Answers
-pub mod Speaking
-pub mod Proposing
-pub mod Grounds
-pub mod Silent
-pub mod Reached
-pub mod Quiet
-pub mod Taking
-pub mod Rounds
-pub mod Executing
-pub mod Resending
-pub mod Standing
-pub mod Requests
-pub mod Entering
-pub mod Places
-pub mod Prompt
-pub mod Begun
-pub mod Giving
-pub mod Together
-pub mod Each
-pub mod Least
-pub mod Resting
-pub mod Asked
-pub mod Hears
-pub mod Following
-pub mod Snapshots
-pub mod Collected
-pub mod CatchingUp
-pub mod Storing
-pub mod Carried
-pub mod Savable
-pub mod Staying
-pub mod Premises
+mod Answers
+mod Speaking
+mod Proposing
+mod Grounds
+mod Silent
+mod Reached
+mod Quiet
+mod Taking
+mod Rounds
+mod Executing
+mod Resending
+mod Standing
+mod Requests
+mod Entering
+mod Places
+mod Prompt
+mod Begun
+mod Giving
+mod Together
+mod Each
+mod Least
+mod Resting
+mod Asked
+mod Hears
+mod Following
+mod Snapshots
+mod Collected
+mod CatchingUp
+mod Storing
+mod Carried
+mod Savable
+mod Staying
+mod Premises
+pub mod Public
