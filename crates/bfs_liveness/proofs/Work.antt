@@ -22,7 +22,7 @@ use Rattle.bfs_node.specs.Nodes.{Node}
 use Rattle.bfs_node.specs.declared.error.NodeError.{NodeError}
 use Rattle.bfs_nodes_agree.specs.Nodes.Steps.{LeavesFor, Takes, outcome, still, unless}
 use Rattle.bfs_nodes_agree.proofs.Public.{entered_same}
-use Rattle.bfs_nodes_progress.proofs.Public.{entered_asked, entered_view, left_asks}
+use Rattle.bfs_nodes_progress.proofs.Public.{asks_entered, entered_view, left_asks}
 use Rattle.bfs_liveness.specs.Meeting.{KeepsWork}
 
 -- What waits and what was executed ------------------------------------------------------------------------------------
@@ -58,7 +58,7 @@ begun_waits : (node : Node) → Waits node (begun_if_due node).now
 begun_waits node =
     let new = signed_new_view node.keys (own_new_view node) in
     elim (may_begin node) as (λ b. Waits node (cond b (begun node) (still node)).now) [
-      | true ↦ record { work = entered_work node new; asked = entered_asked node new }
+      | true ↦ record { work = entered_work node new; asked = asks_entered node new }
       | false ↦ waits_itself node
     ]
 
@@ -123,5 +123,5 @@ enters node s right above asked number =
     subst (λ (r : Option NodeError). HasEntered view node (unless r node (entered_by node s)).now) (sym taken) (record {
       work = entered_work node s;
       view_is = entered_view node s;
-      asked = entered_asked node s;
+      asked = asks_entered node s;
     })

@@ -58,15 +58,15 @@ module _ (node : Node) (s : Signed model.NewView) where
   pub entered_view : now.view ≡ s.message.view
   entered_view = entered_part (λ (u : State). u.view) (λ u low log. refl)
 
-  pub entered_asked : now.asked ≡ s.message.view
-  entered_asked = entered_part (λ (u : State). u.asked) (λ u low log. refl)
+  pub asks_entered : now.asked ≡ s.message.view
+  asks_entered = entered_part (λ (u : State). u.asked) (λ u low log. refl)
 
   pub entered_prompt : node.order.view ≤ s.message.view → AreThere (Leads node.order.f node.order.me) node.order.view node.changes.asked node.changes.changes → Prompt (entered_by node s).now
   entered_prompt le there =
       let view = s.message.view in
       let f = node.order.f in
       let me = node.order.me in
-      prompt_at f me view view now (above_view view node.changes) (entered_part (λ (u : State). u.f) (λ u low log. refl)) (entered_part (λ (u : State). u.me) (λ u low log. refl)) entered_view entered_asked (record {
+      prompt_at f me view view now (above_view view node.changes) (entered_part (λ (u : State). u.f) (λ u low log. refl)) (entered_part (λ (u : State). u.me) (λ u low log. refl)) entered_view asks_entered (record {
         due = and_left (nat_lt view view) _ (le-ltb view view (omega arith));
         there = above_there (Leads f me) node.order.view view node.changes.asked node.changes.changes le there;
         own = λ lt. absurd (omega (arith, lt));
