@@ -25,7 +25,7 @@ use Rattle.bfs_node.specs.Nodes.{Node, Outcome}
 use Rattle.bfs_nodes_agree.specs.Nodes.Steps.{NodeStep, outcome, still}
 use Rattle.bfs_nodes_agree.proofs.Public.{AreKept, Left, Rested, Rests, TookChange, TookNewView, all_for, change_keeps, enough_for, enough_senders, is_taken, kept_above, kept_with, step_kind}
 use Rattle.bfs_nodes_progress.specs.Begun.{new_view_passes}
-use Rattle.bfs_nodes_progress.proofs.Prompt.{entered_asked, entered_view}
+use Rattle.bfs_nodes_progress.proofs.Prompt.{asks_entered, entered_view}
 
 -- Who finds a NEW-VIEW right ----------------------------------------------------------------------------------------------
 
@@ -184,7 +184,7 @@ module _ (P : (me asked : ℕ) → Type 0) where
   IfLeaving out = out.now.order.view < out.now.order.asked → P out.now.order.me out.now.order.asked
 
   not_leaving : (node : Node) (s : Signed model.NewView) → IfLeaving (entered_by node s)
-  not_leaving node s lt = let view = entered_view node s in let asked = entered_asked node s in absurd (omega (arith, lt, view, asked))
+  not_leaving node s lt = let view = entered_view node s in let asked = asks_entered node s in absurd (omega (arith, lt, view, asked))
 
   change_leaving : (node : Node) (s : Signed model.ViewChange) → IfLeaving (still node) → IfLeaving (with_view_change node s)
   change_leaving node s is =
