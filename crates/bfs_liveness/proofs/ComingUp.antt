@@ -75,12 +75,13 @@ said_sent sent c said = elim said.2 [
 ]
 
 told_by : (c : StableCheckpoint) (k : ℕ) → Told (headers (checkpoints_in c)) 5 k 0 c.number c.digest
-    → (m : Signed OrderMessage) × IsIn m (checkpoints_in c) × (s : Signed model.Checkpoint) × (m ≡ as_message Checkpoint s) × Is (header m) 5 k 0 c.number c.digest
+    → (s : Signed model.Checkpoint) × IsIn (as_message Checkpoint s) (checkpoints_in c) × Is (header (as_message Checkpoint s)) 5 k 0 c.number c.digest
 told_by c k x =
     let at = told_in (headers (checkpoints_in c)) 5 k 0 c.number c.digest x in
     let from = out_of_map header (checkpoints_in c) at.0 at.1 in
     let it = out_of_map (as_message Checkpoint) c.checkpoints from.0 from.1 in
-    (from.0, from.1, it.0, it.2, subst (λ (h : Header). Is h 5 k 0 c.number c.digest) from.2 at.2)
+    let is = subst (λ (h : Header). Is h 5 k 0 c.number c.digest) from.2 at.2 in
+    (it.0, subst (λ (m : Signed OrderMessage). IsIn m (checkpoints_in c)) it.2 from.1, subst (λ (m : Signed OrderMessage). Is (header m) 5 k 0 c.number c.digest) it.2 is)
 
 -- above 0, what a log has of its low mark shows it
 shown_by : (keys : Keys) (change : model.ViewChange) → (change.stable == 0) ≡ false → has_stable keys change ≡ true → is_shown keys (faults keys) (stable_in change) ≡ true
@@ -242,14 +243,11 @@ module _ (laws : Below) (again : WhatIsResentIsFair) (whole : ViewsAreEnteredWho
       let got = meet f (λ k. told hs 5 k 0 shown.number shown.digest) members faulty many together.quorum.enough run.few in
       let i = got.0 in
       let by = told_by shown i got.2 in
-      let told_is = subst (λ (x : Signed OrderMessage). Is (header x) 5 i 0 shown.number shown.digest) by.3 by.4 in
       let others : 0 < faults (before highest.0).node.keys = subst (λ (n : ℕ). 0 < n) (sym (right.fit ∙ right.same_f)) run.others in
-      let said : IsSaid faulty before (Order by.0.message) =
-      stable_holds (order_of before highest.0) (λ (p : Signed OrderMessage). IsSaid faulty before (Order p.message)) (λ p there. (right.log p there).said (λ _. others)) by.0 by.1 in
-      let own : IsSaid faulty before (Order (Checkpoint by.2.message)) = subst (λ (x : Signed OrderMessage). IsSaid faulty before (Order x.message)) by.3 said in
-      let has = own i (ap principal.Replica told_is.sender) got.4 in
-      let sent = said_sent (before i).sent by.2.message has in
-      keeps_told i got.3 by.2.message told_is.number told_is.digest (told_snapshots_stay laws f keys start faulty turns i sent.0 by.2.message run sent.1 sent.2)
+      let said : IsSaid faulty before (Order (Checkpoint by.0.message)) =
+      stable_holds (order_of before highest.0) (λ (p : Signed OrderMessage). IsSaid faulty before (Order p.message)) (λ p there. (right.log p there).said (λ _. others)) (as_message Checkpoint by.0) by.1 in
+      let sent = said_sent (before i).sent by.0.message (said i (ap principal.Replica by.2.sender) got.4) in
+      keeps_told i got.3 by.0.message by.2.number by.2.digest (told_snapshots_stay laws f keys start faulty turns i sent.0 by.0.message run sent.1 sent.2)
 
   comes : (number_of == 0) ≡ false → (way : List NodeTurn) × ComeUp f keys start faulty members turns way view number_of
   comes above = (
