@@ -1,5 +1,5 @@
 -- One way behind another, from every state to one where what waited is executed.
-use Rattle.std.proofs.Common.{◌≡◌, ℕ, Bool, true, List, ◌++◌, Some, ap, subst, ◌∙◌, append_assoc}
+use Rattle.std.proofs.Common.{◌≡◌, ℕ, Bool, true, List, ◌++◌, Option, Some, ap, subst, ◌∙◌, append_assoc}
 use Rattle.std.specs.Prelude.{is_some}
 use Rattle.bfs_messages.specs.Messages as model
 use Rattle.bfs_messages.specs.Messages.{Batch}
@@ -29,20 +29,27 @@ members_get_ready meet runs come f keys start faulty members turns run are fair 
     let first = meeting f members (reached f keys start turns) view in
     let meets = met.4 in
     let live : (k : ℕ) → members k ≡ true → is_some (reached f keys start (turns ++ first) k).node.files ≡ true =
-    λ k member. ap (λ o. is_some {A = FileSystem} o) ((meets.work k member).files) ∙ future.live k member in
+    λ k member. ap (λ (o : Option FileSystem). is_some o) ((meets.work k member).files) ∙ future.live k member in
     let came = come f keys start faulty members (turns ++ first) view meets.run (runs f keys start faulty members turns first run are fair meets.is_way).1 meets.together live in
     let second = came.2 in
     let up = came.3 in
-    let all : (turns ++ first) ++ second ≡ turns ++ (first ++ second) = append_assoc turns first second in
-    (view, came.0, first ++ second, met.1, met.2, met.3, record {
-      leads = meets.together.quorum.leads;
-      is_way = ways_join members (reached f keys start turns) first second meets.is_way
-      (subst (λ (x : NodeReplicas). IsWay members x second) (after_join (new_node_replicas f keys start) turns first) up.is_way);
-      run = subst (IsARun f keys start faulty) all up.run;
-      fair = subst (AreFairTo f keys start faulty members) all up.fair;
-      even = subst (λ (x : List NodeTurn). AreEven f faulty members (reached f keys start x) view came.0) all up.even;
-      waits = λ k member. subst (λ (x : List NodeTurn). (reached f keys start x k).node.pending ≡ (reached f keys start turns k).node.pending) all (up.pending k ∙ (meets.work k member).pending);
-    })
+    let all : (turns ++ first) ++ second ≡ turns ++ (first ++ second) = append_assoc turns first second in (
+      view,
+      came.0,
+      first ++ second,
+      met.1,
+      met.2,
+      met.3,
+      record {
+        leads = meets.together.quorum.leads;
+        is_way = ways_join members (reached f keys start turns) first second meets.is_way
+            (subst (λ (x : NodeReplicas). IsWay members x second) (after_join (new_node_replicas f keys start) turns first) up.is_way);
+        run = subst (IsARun f keys start faulty) all up.run;
+        fair = subst (AreFairTo f keys start faulty members) all up.fair;
+        even = subst (λ (x : List NodeTurn). AreEven f faulty members (reached f keys start x) view came.0) all up.even;
+        waits = λ k member. subst (λ (x : List NodeTurn). (reached f keys start x k).node.pending ≡ (reached f keys start turns k).node.pending) all (up.pending k ∙ (meets.work k member).pending);
+      },
+    )
 
 pub what_waits_is_served : WhatWaitsIsExecuted → WhatWaitsIsServed
 what_waits_is_served execute f keys start faulty members turns way view low time ready is_time place =
@@ -55,10 +62,10 @@ what_waits_is_served execute f keys start faulty members turns way view low time
     let batch : (requests : List (Signed model.Request)) → Batch = λ requests. Some (record { time = time; requests = requests }) in
     record {
       is_way = ways_join members (reached f keys start turns) way last ready.is_way
-      (subst (λ (x : NodeReplicas). IsWay members x last) (after_join (new_node_replicas f keys start) turns way) done.0);
+          (subst (λ (x : NodeReplicas). IsWay members x last) (after_join (new_node_replicas f keys start) turns way) done.0);
       run = subst (IsARun f keys start faulty) all done.1;
       executed = λ k member.
-      subst (λ (x : List NodeTurn). HasExecuted (reached f keys start x k) number (batch_digest (pending_batch (reached f keys start turns p).node time))) all
-      (subst (λ (requests : List (Signed model.Request)). HasExecuted (reached f keys start ((turns ++ way) ++ last) k) number (batch_digest (batch requests)))
-      (ready.waits p ready.leads) (done.2 k member));
+          subst (λ (x : List NodeTurn). HasExecuted (reached f keys start x k) number (batch_digest (pending_batch (reached f keys start turns p).node time))) all
+          (subst (λ (requests : List (Signed model.Request)). HasExecuted (reached f keys start ((turns ++ way) ++ last) k) number (batch_digest (batch requests)))
+          (ready.waits p ready.leads) (done.2 k member));
     }
