@@ -25,3 +25,4 @@ pub mod Telling
 pub mod ToldSnapshots
 pub mod Behind
 pub mod ComingUp
+pub mod Multiples

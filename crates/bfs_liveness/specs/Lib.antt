@@ -8,3 +8,4 @@ pub mod Exchanges
 pub mod LawsOfExecuting
 pub mod Catching
 pub mod LawsOfCatching
+pub mod LawsOfWindows

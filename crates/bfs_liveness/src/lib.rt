@@ -6,3 +6,4 @@ pub mod catching;
 pub mod executing;
 pub mod marks;
 pub mod meeting;
+pub mod window;
