@@ -65,7 +65,7 @@ whole_checkpoint (Order other) c e = absurd cc
 whole_checkpoint other c e = absurd cc
 
 -- so who said it has sent it
-said_sent : (sent : Messages) (c : model.Checkpoint) → HasSaid sent (Order (Checkpoint c)) → (s : Signed Message) × IsIn s sent × (s.message ≡ Order (Checkpoint c))
+pub said_sent : (sent : Messages) (c : model.Checkpoint) → HasSaid sent (Order (Checkpoint c)) → (s : Signed Message) × IsIn s sent × (s.message ≡ Order (Checkpoint c))
 said_sent sent c said = elim said.2 [
   | inl same ↦ (said.0, said.1, whole_checkpoint said.0.message c same)
   | inr offer ↦

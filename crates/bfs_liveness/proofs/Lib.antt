@@ -26,3 +26,4 @@ pub mod ToldSnapshots
 pub mod Behind
 pub mod ComingUp
 pub mod Multiples
+pub mod Windows

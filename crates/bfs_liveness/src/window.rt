@@ -1,7 +1,9 @@
 // Full windows go on. The bodies do nothing: what is said is the contracts.
-ghost use Rattle.bfs_liveness.specs.LawsOfWindows.{CheckpointsAreOfMultiples};
+ghost use Rattle.bfs_liveness.specs.LawsOfWindows.{CatchingUpProposesNothing, CheckpointsAreOfMultiples, WhatIsStableIsAMultiple, WindowsAreBounded};
 
 use crate::below::what_is_below;
+use bfs_nodes_agree::node_calls::laws::new_views_are_taken_whole;
+use bfs_order::the_stable_checkpoint_has_its_certificate;
 
 /// Whatever calls and deliveries there were, and whoever lies: each CHECKPOINT that a node has sent is of a multiple of the interval. For it takes a
 /// checkpoint only there.
@@ -10,3 +12,25 @@ pub fn checkpoints_are_of_multiples()
 {
     what_is_below();
 }
+
+/// So is each low mark: of the 2f + 1 whose CHECKPOINTs made it stable one is a member.
+pub fn what_is_stable_is_a_multiple()
+    ensures { WhatIsStableIsAMultiple }
+{
+    what_is_below();
+    the_stable_checkpoint_has_its_certificate();
+}
+
+/// Whatever calls and deliveries there were, and whoever lies: no next number lies more than one above the high mark of its node. For PRE-PREPAREs and what
+/// was handed over lie within the marks.
+pub fn windows_are_bounded()
+    ensures { WindowsAreBounded }
+{
+    what_is_below();
+    new_views_are_taken_whole();
+}
+
+/// By a certificate that is installed the next number rises at most to the one behind the certificate's: it brings no PRE-PREPARE.
+pub fn catching_up_proposes_nothing()
+    ensures { CatchingUpProposesNothing }
+{}
