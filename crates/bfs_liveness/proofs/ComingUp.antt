@@ -20,6 +20,7 @@ use Rattle.bfs_messages.specs.declared.signed.Signed.{Signed}
 use Rattle.bfs_model.specs.Server.Tree.{FileSystem}
 use Rattle.bfs_order.specs.Laws.Certificates.{CertificatesMakeStable}
 use Rattle.bfs_order.specs.Replica.Installing.{certified, installed}
+use Rattle.bfs_order.specs.Replica.Proposing.{next_number}
 use Rattle.bfs_order.specs.Replica.States.{State}
 use Rattle.bfs_replies.specs.Tables.{Table}
 use Rattle.bfs_view_change.specs.Changes.Making.{change_of}
@@ -54,6 +55,7 @@ use Rattle.bfs_liveness.proofs.Leading.{latest_among}
 use Rattle.bfs_liveness.proofs.Lists.{out_of_each, out_of_where}
 use Rattle.bfs_liveness.proofs.ToldSnapshots.{told_snapshots_stay}
 use Rattle.bfs_liveness.proofs.Turns.{kept_by}
+use Rattle.bfs_liveness.proofs.Installing.{catching_up_proposes_nothing}
 use Rattle.bfs_liveness.proofs.Ways.{fair_behind, goes_on, passes_now, ways_join}
 
 -- Who told the checkpoint ---------------------------------------------------------------------------------------------
@@ -75,12 +77,13 @@ said_sent sent c said = elim said.2 [
 ]
 
 told_by : (c : StableCheckpoint) (k : ℕ) → Told (headers (checkpoints_in c)) 5 k 0 c.number c.digest
-    → (m : Signed OrderMessage) × IsIn m (checkpoints_in c) × (s : Signed model.Checkpoint) × (m ≡ as_message Checkpoint s) × Is (header m) 5 k 0 c.number c.digest
+    → (s : Signed model.Checkpoint) × IsIn (as_message Checkpoint s) (checkpoints_in c) × Is (header (as_message Checkpoint s)) 5 k 0 c.number c.digest
 told_by c k x =
     let at = told_in (headers (checkpoints_in c)) 5 k 0 c.number c.digest x in
     let from = out_of_map header (checkpoints_in c) at.0 at.1 in
     let it = out_of_map (as_message Checkpoint) c.checkpoints from.0 from.1 in
-    (from.0, from.1, it.0, it.2, subst (λ (h : Header). Is h 5 k 0 c.number c.digest) from.2 at.2)
+    let is = subst (λ (h : Header). Is h 5 k 0 c.number c.digest) from.2 at.2 in
+    (it.0, subst (λ (m : Signed OrderMessage). IsIn m (checkpoints_in c)) it.2 from.1, subst (λ (m : Signed OrderMessage). Is (header m) 5 k 0 c.number c.digest) it.2 is)
 
 -- above 0, what a log has of its low mark shows it
 shown_by : (keys : Keys) (change : model.ViewChange) → (change.stable == 0) ≡ false → has_stable keys change ≡ true → is_shown keys (faults keys) (stable_in change) ≡ true
@@ -242,14 +245,11 @@ module _ (laws : Below) (again : WhatIsResentIsFair) (whole : ViewsAreEnteredWho
       let got = meet f (λ k. told hs 5 k 0 shown.number shown.digest) members faulty many together.quorum.enough run.few in
       let i = got.0 in
       let by = told_by shown i got.2 in
-      let told_is = subst (λ (x : Signed OrderMessage). Is (header x) 5 i 0 shown.number shown.digest) by.3 by.4 in
       let others : 0 < faults (before highest.0).node.keys = subst (λ (n : ℕ). 0 < n) (sym (right.fit ∙ right.same_f)) run.others in
-      let said : IsSaid faulty before (Order by.0.message) =
-      stable_holds (order_of before highest.0) (λ (p : Signed OrderMessage). IsSaid faulty before (Order p.message)) (λ p there. (right.log p there).said (λ _. others)) by.0 by.1 in
-      let own : IsSaid faulty before (Order (Checkpoint by.2.message)) = subst (λ (x : Signed OrderMessage). IsSaid faulty before (Order x.message)) by.3 said in
-      let has = own i (ap principal.Replica told_is.sender) got.4 in
-      let sent = said_sent (before i).sent by.2.message has in
-      keeps_told i got.3 by.2.message told_is.number told_is.digest (told_snapshots_stay laws f keys start faulty turns i sent.0 by.2.message run sent.1 sent.2)
+      let said : IsSaid faulty before (Order (Checkpoint by.0.message)) =
+      stable_holds (order_of before highest.0) (λ (p : Signed OrderMessage). IsSaid faulty before (Order p.message)) (λ p there. (right.log p there).said (λ _. others)) (as_message Checkpoint by.0) by.1 in
+      let sent = said_sent (before i).sent by.0.message (said i (ap principal.Replica by.2.sender) got.4) in
+      keeps_told i got.3 by.0.message by.2.number by.2.digest (told_snapshots_stay laws f keys start faulty turns i sent.0 by.0.message run sent.1 sent.2)
 
   comes : (number_of == 0) ≡ false → (way : List NodeTurn) × ComeUp f keys start faulty members turns way view number_of
   comes above = (
@@ -272,6 +272,8 @@ module _ (laws : Below) (again : WhatIsResentIsFair) (whole : ViewsAreEnteredWho
       };
       pending = λ k. ap (λ (u : NodeReplicas). (u k).node.pending) joined
           ∙ pending_stays f members before highest.0 got.who got.kept files table highest.1 got.member got.number of.snapshot k;
+      next = λ k member. subst (λ (s : State). next_number s ≤ max (next_number (order_of before k)) (number_of + 1)) (sym (order_is k member))
+          (catching_up_proposes_nothing (before k).node.keys (order_of before k) shown (by_keys k member));
     },
   )
     where
@@ -300,12 +302,14 @@ module _ (laws : Below) (again : WhatIsResentIsFair) (whole : ViewsAreEnteredWho
       node_is k member = ap (λ (u : NodeReplicas). (u k).node) joined
           ∙ after_is f members before highest.0 got.who got.kept files table highest.1 got.member got.number of.snapshot k member (together.quorum.among k member)
 
+      by_keys : (k : ℕ) → members k ≡ true → is_shown (before k).node.keys (order_of before k).f shown ≡ true
+      by_keys k member = subst (λ (x : Keys). is_shown x (order_of before k).f shown ≡ true) (sym (led.keys k))
+          (subst (λ (g : ℕ). is_shown (keys k) g shown ≡ true) (sym (led.facts.right k).same_f) (shown_to above k member))
+
       order_is : (k : ℕ) → members k ≡ true → order_of (reached f keys start (turns ++ way)) k ≡ (installed (order_of before k) shown).now
       order_is k member =
           let digest : node_digest files table ≡ shown.digest = sym (ap (λ (x : Snapshot). x.digest) of.snapshot) ∙ got.digest in
-          let by_keys = subst (λ (x : Keys). is_shown x (order_of before k).f shown ≡ true) (sym (led.keys k))
-          (subst (λ (g : ℕ). is_shown (keys k) g shown ≡ true) (sym (led.facts.right k).same_f) (shown_to above k member)) in
-          ap (λ (n : Node). n.order) (node_is k member) ∙ (installs (before k).node shown files table by_keys digest).0
+          ap (λ (n : Node). n.order) (node_is k member) ∙ (installs (before k).node shown files table (by_keys k member) digest).0
 
   -- nothing is stable at any of them
   stays : number_of ≡ 0 → ComeUp f keys start faulty members turns [] view number_of
@@ -321,6 +325,7 @@ module _ (laws : Below) (again : WhatIsResentIsFair) (whole : ViewsAreEnteredWho
       live = live;
     });
     pending = λ k. ap (λ (x : List NodeTurn). (reached f keys start x k).node.pending) (append-nil turns);
+    next = λ k member. let same = ap (λ (x : List NodeTurn). next_number (order_of (reached f keys start x) k)) (append-nil turns) in omega (arith, same);
   }
 
 pub members_come_up : Below → WhatIsResentIsFair → ViewsAreEnteredWhole → QuorumsMeet → CertificatesMakeStable → MembersComeUp

@@ -27,3 +27,6 @@ pub mod Behind
 pub mod ComingUp
 pub mod Multiples
 pub mod Windows
+pub mod Composing
+pub mod Installing
+pub mod GoingOn

@@ -1,4 +1,4 @@
--- No next number lies more than one above the high mark, and a certificate that is installed proposes nothing.
+-- No next number lies more than one above the high mark.
 use Rattle.std.proofs.Common.{◌≡◌, ℕ, ◌+◌, ◌<◌, ◌≤◌, max, Bool, true, false, cond, List, ◌⊎◌, Some, None, inl, inr, refl, sym, ap, subst, ◌∙◌, arith}
 use Rattle.std.specs.Prelude.{nat_lt}
 use Rattle.std.specs.List.{list_all}
@@ -39,22 +39,6 @@ use Rattle.bfs_liveness.proofs.Entering.{entered_above, greatest_in}
 use Rattle.bfs_liveness.proofs.Filled.{greatest_under, told_le}
 use Rattle.bfs_liveness.proofs.Settled.{among}
 use Rattle.bfs_liveness.proofs.Stable.{order_keeps}
-
--- Installing ----------------------------------------------------------------------------------------------------------
-
-pub catching_up_proposes_nothing : CatchingUpProposesNothing
-catching_up_proposes_nothing keys s c shown =
-    let n = c.number in
-    let g = greatest_proposed s.view (known s) in
-    let all = (and_parts (list_all (vouches keys s.f n c.digest) (checkpoints_in c)) _ shown).0 in
-    let same : HaveTheSameVotes (headers (certified s.log c)) (kept_above n (known s)) =
-    each_five keys s.f n c.digest (kept_after n c.digest s.log) (checkpoints_in c) (kept_above n (known s)) all (dropped n c.digest s.log (known s) (λ test votes. refl)) in
-    let fewer : greatest_proposed s.view (headers (certified s.log c)) ≤ g = greatest_under s.view (headers (certified s.log c)) g (λ k top d told.
-    told_le s.view (known s) k top d (kept_told n (known s) 2 k s.view top d (sym (told_same (headers (certified s.log c)) (kept_above n (known s)) same 2 k s.view top d (omega arith)) ∙ told))) in
-    let le : (b : Bool) → greatest_proposed s.view (headers (cond b (certified s.log c) s.log)) ≤ g = λ b.
-    elim b as (λ b. greatest_proposed s.view (headers (cond b (certified s.log c) s.log)) ≤ g) [ true ↦ fewer | false ↦ omega arith ] in
-    let under = le (nat_lt s.low n) in
-    omega (arith, under)
 
 -- What was handed over ------------------------------------------------------------------------------------------------
 

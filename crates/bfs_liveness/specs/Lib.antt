@@ -9,3 +9,4 @@ pub mod LawsOfExecuting
 pub mod Catching
 pub mod LawsOfCatching
 pub mod LawsOfWindows
+pub mod LawsOfProgress

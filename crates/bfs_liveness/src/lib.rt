@@ -7,3 +7,4 @@ pub mod executing;
 pub mod marks;
 pub mod meeting;
 pub mod window;
+pub mod progress;

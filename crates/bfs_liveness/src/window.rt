@@ -1,7 +1,10 @@
 // Full windows go on. The bodies do nothing: what is said is the contracts.
-ghost use Rattle.bfs_liveness.specs.LawsOfWindows.{CatchingUpProposesNothing, CheckpointsAreOfMultiples, WhatIsStableIsAMultiple, WindowsAreBounded};
+ghost use Rattle.bfs_liveness.specs.LawsOfWindows.{CatchingUpProposesNothing, CheckpointsAreOfMultiples, FullWindowsGoOn, WhatIsStableIsAMultiple, WindowsAreBounded};
 
 use crate::below::what_is_below;
+use crate::catching::members_come_up;
+use crate::executing::full_windows_are_emptied;
+use crate::meeting::ways_are_runs;
 use bfs_nodes_agree::node_calls::laws::new_views_are_taken_whole;
 use bfs_order::the_stable_checkpoint_has_its_certificate;
 
@@ -34,3 +37,15 @@ pub fn windows_are_bounded()
 pub fn catching_up_proposes_nothing()
     ensures { CatchingUpProposesNothing }
 {}
+
+/// Where the primary of the view of even members has proposed all that its window takes: there is a way by which they execute all of it, and are even
+/// again with the number at its end. The primary can propose again there.
+pub fn full_windows_go_on()
+    ensures { FullWindowsGoOn }
+{
+    full_windows_are_emptied();
+    members_come_up();
+    ways_are_runs();
+    windows_are_bounded();
+    what_is_stable_is_a_multiple();
+}

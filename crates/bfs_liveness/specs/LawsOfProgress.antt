@@ -1,0 +1,46 @@
+-- From every state that nodes can come into what waits is executed: contracts of functions of src/progress.rt, which do nothing.
+use Rattle.std.specs.Prelude.{◌≡◌, ℕ, ◌+◌, ◌≤◌, Bool, true, List, ◌++◌}
+use Rattle.bfs_model.specs.Server.Stored.{IsTime}
+use Rattle.bfs_model.specs.Server.Tree.{Time}
+use Rattle.bfs_order.specs.Replica.Proposing.{batch_digest, next_number}
+use Rattle.bfs_votes.specs.Votes.{primary}
+use Rattle.bfs_node.specs.Proposing.{pending_batch}
+use Rattle.bfs_nodes_agree.specs.Nodes.Replicas.{Beginning, Keyring, NodeTurn}
+use Rattle.bfs_nodes_progress.specs.Following.{AreMembers, asked_by}
+use Rattle.bfs_nodes_progress.specs.Requests.{HasExecuted}
+use Rattle.bfs_nodes_progress.specs.Runs.{IsARun, order_of, reached}
+use Rattle.bfs_liveness.specs.Even.{AreEven}
+use Rattle.bfs_liveness.specs.Exchanges.{ordering}
+use Rattle.bfs_liveness.specs.LawsOfExecuting.{HasPlace}
+use Rattle.bfs_liveness.specs.Ways.{AreFairTo, HasFuture, IsWay}
+
+-- behind a way members are even in a view that one of them leads, hear one another still, and what waited at each of them waits there
+pub record AreReady (f : ℕ) (keys : Keyring) (start : Beginning) (faulty members : ℕ → Bool) (turns way : List NodeTurn) (view low : ℕ) : Type 0 where
+  pub leads : members (primary f view) ≡ true
+  pub is_way : IsWay members (reached f keys start turns) way
+  pub run : IsARun f keys start faulty (turns ++ way)
+  pub fair : AreFairTo f keys start faulty members (turns ++ way)
+  pub even : AreEven f faulty members (reached f keys start (turns ++ way)) view low
+  pub waits : (k : ℕ) → members k ≡ true → (reached f keys start (turns ++ way) k).node.pending ≡ (reached f keys start turns k).node.pending
+
+-- behind a way each member has executed, as that number, all that waited at the primary of the view before it
+pub record AreServed (f : ℕ) (keys : Keyring) (start : Beginning) (faulty members : ℕ → Bool) (turns way : List NodeTurn) (view number : ℕ) (time : Time) : Type 0 where
+  pub is_way : IsWay members (reached f keys start turns) way
+  pub run : IsARun f keys start faulty (turns ++ way)
+  pub executed : (k : ℕ) → members k ≡ true
+      → HasExecuted (reached f keys start (turns ++ way) k) number (batch_digest (pending_batch (reached f keys start turns (primary f view)).node time))
+
+-- from every state that nodes can come into, whoever lies, there is such a way, to a view at most f + 1 above the latest that a member has asked for
+abbrev pub MembersGetReady : Type 0
+MembersGetReady = (f : ℕ) (keys : Keyring) (start : Beginning) (faulty members : ℕ → Bool) (turns : List NodeTurn)
+    → IsARun f keys start faulty turns → AreMembers f faulty members → AreFairTo f keys start faulty members turns → HasFuture f members (reached f keys start turns)
+    → (view low : ℕ) × (way : List NodeTurn) × (latest : ℕ) × (members latest ≡ true) × (view ≤ asked_by (reached f keys start turns) latest + (f + 1))
+    × AreReady f keys start faulty members turns way view low
+
+-- and where the primary's next number has place there, it goes on to a way behind which all that waited at that primary is executed at each member
+abbrev pub WhatWaitsIsServed : Type 0
+WhatWaitsIsServed = (f : ℕ) (keys : Keyring) (start : Beginning) (faulty members : ℕ → Bool) (turns way : List NodeTurn) (view low : ℕ) (time : Time)
+    → AreReady f keys start faulty members turns way view low → IsTime time
+    → let w = reached f keys start (turns ++ way) in
+    let number = next_number (order_of w (primary f view)) in
+    HasPlace low number → AreServed f keys start faulty members turns (way ++ ordering f members w view time) view number time
