@@ -20,6 +20,7 @@ use Rattle.bfs_messages.specs.declared.signed.Signed.{Signed}
 use Rattle.bfs_model.specs.Server.Tree.{FileSystem}
 use Rattle.bfs_order.specs.Laws.Certificates.{CertificatesMakeStable}
 use Rattle.bfs_order.specs.Replica.Installing.{certified, installed}
+use Rattle.bfs_order.specs.Replica.Proposing.{next_number}
 use Rattle.bfs_order.specs.Replica.States.{State}
 use Rattle.bfs_replies.specs.Tables.{Table}
 use Rattle.bfs_view_change.specs.Changes.Making.{change_of}
@@ -54,6 +55,7 @@ use Rattle.bfs_liveness.proofs.Leading.{latest_among}
 use Rattle.bfs_liveness.proofs.Lists.{out_of_each, out_of_where}
 use Rattle.bfs_liveness.proofs.ToldSnapshots.{told_snapshots_stay}
 use Rattle.bfs_liveness.proofs.Turns.{kept_by}
+use Rattle.bfs_liveness.proofs.Installing.{catching_up_proposes_nothing}
 use Rattle.bfs_liveness.proofs.Ways.{fair_behind, goes_on, passes_now, ways_join}
 
 -- Who told the checkpoint ---------------------------------------------------------------------------------------------
@@ -65,7 +67,7 @@ whole_checkpoint (Order other) c e = absurd cc
 whole_checkpoint other c e = absurd cc
 
 -- so who said it has sent it
-said_sent : (sent : Messages) (c : model.Checkpoint) → HasSaid sent (Order (Checkpoint c)) → (s : Signed Message) × IsIn s sent × (s.message ≡ Order (Checkpoint c))
+pub said_sent : (sent : Messages) (c : model.Checkpoint) → HasSaid sent (Order (Checkpoint c)) → (s : Signed Message) × IsIn s sent × (s.message ≡ Order (Checkpoint c))
 said_sent sent c said = elim said.2 [
   | inl same ↦ (said.0, said.1, whole_checkpoint said.0.message c same)
   | inr offer ↦
@@ -270,6 +272,8 @@ module _ (laws : Below) (again : WhatIsResentIsFair) (whole : ViewsAreEnteredWho
       };
       pending = λ k. ap (λ (u : NodeReplicas). (u k).node.pending) joined
           ∙ pending_stays f members before highest.0 got.who got.kept files table highest.1 got.member got.number of.snapshot k;
+      next = λ k member. subst (λ (s : State). next_number s ≤ max (next_number (order_of before k)) (number_of + 1)) (sym (order_is k member))
+          (catching_up_proposes_nothing (before k).node.keys (order_of before k) shown (by_keys k member));
     },
   )
     where
@@ -298,12 +302,14 @@ module _ (laws : Below) (again : WhatIsResentIsFair) (whole : ViewsAreEnteredWho
       node_is k member = ap (λ (u : NodeReplicas). (u k).node) joined
           ∙ after_is f members before highest.0 got.who got.kept files table highest.1 got.member got.number of.snapshot k member (together.quorum.among k member)
 
+      by_keys : (k : ℕ) → members k ≡ true → is_shown (before k).node.keys (order_of before k).f shown ≡ true
+      by_keys k member = subst (λ (x : Keys). is_shown x (order_of before k).f shown ≡ true) (sym (led.keys k))
+          (subst (λ (g : ℕ). is_shown (keys k) g shown ≡ true) (sym (led.facts.right k).same_f) (shown_to above k member))
+
       order_is : (k : ℕ) → members k ≡ true → order_of (reached f keys start (turns ++ way)) k ≡ (installed (order_of before k) shown).now
       order_is k member =
           let digest : node_digest files table ≡ shown.digest = sym (ap (λ (x : Snapshot). x.digest) of.snapshot) ∙ got.digest in
-          let by_keys = subst (λ (x : Keys). is_shown x (order_of before k).f shown ≡ true) (sym (led.keys k))
-          (subst (λ (g : ℕ). is_shown (keys k) g shown ≡ true) (sym (led.facts.right k).same_f) (shown_to above k member)) in
-          ap (λ (n : Node). n.order) (node_is k member) ∙ (installs (before k).node shown files table by_keys digest).0
+          ap (λ (n : Node). n.order) (node_is k member) ∙ (installs (before k).node shown files table (by_keys k member) digest).0
 
   -- nothing is stable at any of them
   stays : number_of ≡ 0 → ComeUp f keys start faulty members turns [] view number_of
@@ -319,6 +325,7 @@ module _ (laws : Below) (again : WhatIsResentIsFair) (whole : ViewsAreEnteredWho
       live = live;
     });
     pending = λ k. ap (λ (x : List NodeTurn). (reached f keys start x k).node.pending) (append-nil turns);
+    next = λ k member. let same = ap (λ (x : List NodeTurn). next_number (order_of (reached f keys start x) k)) (append-nil turns) in omega (arith, same);
   }
 
 pub members_come_up : Below → WhatIsResentIsFair → ViewsAreEnteredWhole → QuorumsMeet → CertificatesMakeStable → MembersComeUp

@@ -389,6 +389,10 @@ module _ (laws : Below) (again : WhatIsResentIsFair) (left_out : NoneIsLeftOut) 
     };
     live = λ k x. on_each (λ r. is_some r.node.files) (ap is_some hearing.files) k ∙ (told_here k x).live;
     low = stable_now;
+    lows = λ k x. elim (cases_Bool (k == p)) [
+      | inl is ↦ let same = ap (λ (j : ℕ). (order_of w4 j).low) (eqb-true k p is) in let low_now = stable_now in omega (arith, same, low_now)
+      | inr other ↦ let same = ap (λ (r : NodeReplica). r.node.order.low) (hearing.others k other) in let le = (lows k x).0 in omega (arith, same, le)
+    ];
     next = next_now;
   }
     where

@@ -53,7 +53,7 @@ use Rattle.bfs_liveness.proofs.Lists.{in_run, out_of_run}
 
 -- What is handed over -------------------------------------------------------------------------------------------------
 
-greatest_in : (ms : Log) (n : ℕ) → 0 < n → n ≤ greatest_number ms → (m : Signed OrderMessage) × IsIn m ms × (n ≤ (header m).number)
+pub greatest_in : (ms : Log) (n : ℕ) → 0 < n → n ≤ greatest_number ms → (m : Signed OrderMessage) × IsIn m ms × (n ≤ (header m).number)
 greatest_in [] n some le = absurd (omega (arith, some, le))
 greatest_in (m ∷ ms) n some le = elim (cases_lt (header m).number n) [
   | inl lt ↦ let got = greatest_in ms n some (omega (arith, lt, le)) in (got.0, inr got.1, got.2)
@@ -130,7 +130,7 @@ open_above : (s : State) (view : ℕ) → entering_refusal s view ≡ None → s
 open_above s view none =
     ltb-true s.view view (and_parts (nat_lt s.view view) (nat_le s.asked view && nat_le view most_number) (passed (nat_lt s.view view && (nat_le s.asked view && nat_le view most_number)) WrongView None none).0).0
 
-entered_above : (keys : Keys) (s : State) (view : ℕ) (stable : Option StableCheckpoint) (handed : List (Signed model.PrePrepare)) → entering_refusal s view ≡ None → s.view < (entered keys s view stable handed).now.view
+pub entered_above : (keys : Keys) (s : State) (view : ℕ) (stable : Option StableCheckpoint) (handed : List (Signed model.PrePrepare)) → entering_refusal s view ≡ None → s.view < (entered keys s view stable handed).now.view
 entered_above keys s view stable handed none =
     let is = entered_same (λ (x : State). x.view) (λ x low log. refl) keys s view stable handed in
     let above = open_above s view none in

@@ -25,4 +25,8 @@ pub mod Telling
 pub mod ToldSnapshots
 pub mod Behind
 pub mod ComingUp
+pub mod Multiples
+pub mod Windows
 pub mod Composing
+pub mod Installing
+pub mod GoingOn

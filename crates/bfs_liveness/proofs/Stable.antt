@@ -1,5 +1,5 @@
 -- What is stable at a node a member has executed: one of the CHECKPOINTs by which it is so is a member's.
-use Rattle.std.proofs.Common.{◌≡◌, ℕ, ◌+◌, ◌*◌, ◌<◌, ◌≤◌, Bool, true, false, not, List, [], ◌∷◌, Some, None, inl, inr, refl, sym, ap, subst, ◌∙◌, arith}
+use Rattle.std.proofs.Common.{◌≡◌, ℕ, ◌+◌, ◌*◌, ◌<◌, ◌≤◌, Bool, true, false, not, List, [], ◌∷◌, ◌⊎◌, Some, None, inl, inr, refl, sym, ap, subst, ◌∙◌, arith}
 use Rattle.std.proofs.lemmas.Bool.{leb-true}
 use Rattle.bfs_auth.specs.declared.principals.Principal.TheVariants as principal
 use Rattle.bfs_log.specs.Certificates.{faults}
@@ -30,13 +30,13 @@ use Rattle.bfs_agreement.specs.Moves.{new_world}
 use Rattle.bfs_agreement.proofs.Public.{Is}
 use Rattle.bfs_progress.proofs.Public.{apart, one_more}
 use Rattle.bfs_nodes_agree.specs.Nodes.Premises.{AreAuthentic, Comes, HasSaid, IsAuthentic, SaysTheSame, offers_in, signed_part}
-use Rattle.bfs_nodes_agree.specs.Nodes.Replicas.{NodeReplica, NodeReplicas, NodeTurn, after_node_turn, after_node_turns, new_node_replicas}
+use Rattle.bfs_nodes_agree.specs.Nodes.Replicas.{Beginning, Keyring, NodeReplica, NodeReplicas, NodeTurn, after_node_turn, after_node_turns, new_node_replicas}
 use Rattle.bfs_nodes_agree.specs.Nodes.Steps.{deeds_of, outcome}
 use Rattle.bfs_nodes_agree.specs.Orders.Replicas.{OrderReplicas, new_order_replicas}
 use Rattle.bfs_nodes_agree.proofs.Public.{at_each, both_at, either_in, either_way, entered_same, here_after, out_of_map, right_on, stays_kept, step_right, told_in}
 use Rattle.bfs_nodes_progress.specs.Following.{AreMembers}
 use Rattle.bfs_nodes_progress.specs.Inside.Below.{Below}
-use Rattle.bfs_nodes_progress.specs.Runs.{order_of, reached}
+use Rattle.bfs_nodes_progress.specs.Runs.{IsARun, order_of, reached}
 use Rattle.bfs_nodes_progress.proofs.Public.{Facts, always, same_f, start_facts, step_on}
 use Rattle.bfs_liveness.specs.LawsOfMarks.{WhatIsStableWasExecuted}
 
@@ -92,7 +92,7 @@ last_kept number s (Enters keys view stable handed) h = either_way (λ o. number
 module _ (laws : Below) (f : ℕ) (faulty : ℕ → Bool) (positive : 0 < f) (few : FewAreFaulty f faulty) where
   module _ (w : NodeReplicas) (v : OrderReplicas) (t : World) (facts : Facts f faulty w v t) (turn : NodeTurn) (comes : Comes (IsAuthentic faulty w (w turn.who).node.keys) turn.step) where
     -- what each call of an order keeps
-    order_keeps : (P : State → Type 0) → ((s : State) (call : Call) → P s → P (order.outcome s call).now) → (k : ℕ) → P (order_of w k) → P (order_of (after_node_turn w turn) k)
+    pub order_keeps : (P : State → Type 0) → ((s : State) (call : Call) → P s → P (order.outcome s call).now) → (k : ℕ) → P (order_of w k) → P (order_of (after_node_turn w turn) k)
     order_keeps P kept k is =
         let deeds = deeds_of (w turn.who).node turn.step in
         subst P (right_on laws.same laws.views laws.written laws.one f faulty w v facts.right turn comes k).tracks.state
@@ -125,21 +125,27 @@ module _ (laws : Below) (f : ℕ) (faulty : ℕ → Bool) (positive : 0 < f) (fe
       let first = step_on laws f faulty positive few w v t facts turn authentic.0 in
       has_certificate kept (after_node_turn w turn) first.orders first.world first.facts (λ k. order_keeps w v t facts turn authentic.0 HasCertificate kept.1 k (all k)) turns authentic.1
 
-  -- who has told a digest by a CHECKPOINT that stands in a log has executed up to its number
-  teller_executed : (w : NodeReplicas) (v : OrderReplicas) (t : World) → Facts f faulty w v t → ((k : ℕ) → HasExecutedTold (w k)) → (k j number : ℕ) (digest : List ℕ) → faulty j ≡ false
-      → Told (known (order_of w k)) 5 j 0 number digest → number ≤ (order_of w j).last
-  teller_executed w v t facts all k j number digest correct tells =
+  -- who has told a digest by a CHECKPOINT that stands in a log has said it
+  pub teller_said : (w : NodeReplicas) (v : OrderReplicas) (t : World) → Facts f faulty w v t → (k j number : ℕ) (digest : List ℕ) → faulty j ≡ false → Told (known (order_of w k)) 5 j 0 number digest
+      → (m : Signed OrderMessage) × HasSaid (w j).sent (Order m.message) × ((header m).tag ≡ 5) × ((header m).number ≡ number)
+  teller_said w v t facts k j number digest correct tells =
       let log = (order_of w k).log in
       let right = facts.right k in
       let heard = told_in (headers log) 5 j 0 number digest tells in
       let from = out_of_map header log heard.0 heard.1 in
-      let m = from.0 in
       let is = subst (λ (h : Header). Is h 5 j 0 number digest) from.2 heard.2 in
-      let sender = is.sender in
       let many : 0 < faults (w k).node.keys = subst (λ (n : ℕ). 0 < n) (sym (right.fit ∙ right.same_f)) positive in
-      let le = said_number (w j) (all j) (Order m.message) ((right.log m from.1).said (λ _. many) j (ap principal.Replica sender) correct) in
-      let of_number = header_number m.message m.auth is.tag in
-      let number_is = is.number in
+      (from.0, (right.log from.0 from.1).said (λ _. many) j (ap principal.Replica is.sender) correct, is.tag, is.number)
+
+  -- and has executed up to its number
+  teller_executed : (w : NodeReplicas) (v : OrderReplicas) (t : World) → Facts f faulty w v t → ((k : ℕ) → HasExecutedTold (w k)) → (k j number : ℕ) (digest : List ℕ) → faulty j ≡ false
+      → Told (known (order_of w k)) 5 j 0 number digest → number ≤ (order_of w j).last
+  teller_executed w v t facts all k j number digest correct tells =
+      let said = teller_said w v t facts k j number digest correct tells in
+      let m = said.0 in
+      let le = said_number (w j) (all j) (Order m.message) said.1 in
+      let of_number = header_number m.message m.auth said.2 in
+      let number_is = said.3 in
       omega (arith, le, of_number, number_is)
 
 -- A member's CHECKPOINT -----------------------------------------------------------------------------------------------
@@ -158,23 +164,36 @@ a_member_tells f faulty members are log number digest stable =
     let got = one_more (λ k. told log 5 k 0 number digest) (λ k. not (members k)) (replicas f) (omega (arith, many, all, enough)) in
     (got.0, is_member (members got.0) got.3, got.2)
 
+-- so a member tells what is stable at a node, unless that is 0
+pub a_member_told : Below → IsKept HasCertificate → (f : ℕ) (keys : Keyring) (start : Beginning) (faulty members : ℕ → Bool) (turns : List NodeTurn) (k : ℕ) → IsARun f keys start faulty turns → AreMembers f faulty members
+    → let s = order_of (reached f keys start turns) k in
+    (s.low ≡ 0) ⊎ ((j : ℕ) × (members j ≡ true) × (digest : List ℕ) × Told (known s) 5 j 0 s.low digest)
+a_member_told laws kept f keys start faulty members turns k run are =
+    let first = new_node_replicas f keys start in
+    let begun = start_facts laws f faulty run.others run.few keys start run.shared in
+    let led = always laws f faulty run.others run.few keys start turns run.shared run.authentic in
+    let s = order_of (reached f keys start turns) k in
+    elim (has_certificate laws f faulty run.others run.few kept first (new_order_replicas f) new_world begun (λ i. kept.0 f i) turns run.authentic k) [
+      | inl zero ↦ inl zero
+      | inr has ↦
+          let is_f = same_f f faulty (reached f keys start turns) led.orders led.world led.facts k in
+          let teller = a_member_tells f faulty members are (known s) s.low has.0 (subst (λ (g : ℕ). is_stable g (known s) s.low has.0 ≡ true) is_f has.1.stable) in
+          inr (teller.0, teller.1, has.0, teller.2)
+    ]
+
 pub what_is_stable_was_executed : Below → IsKept HasCertificate → WhatIsStableWasExecuted
 what_is_stable_was_executed laws kept f keys start faulty members turns k run are =
     let first = new_node_replicas f keys start in
     let w = reached f keys start turns in
-    let begun = start_facts laws f faulty run.others run.few keys start run.shared in
-    let led = always laws f faulty run.others run.few keys start turns run.shared run.authentic in
     let s = order_of w k in
-    elim (has_certificate laws f faulty run.others run.few kept first (new_order_replicas f) new_world begun (λ i. kept.0 f i) turns run.authentic k) [
+    elim (a_member_told laws kept f keys start faulty members turns k run are) [
       | inl zero ↦
           let enough = are.enough in
           let none = none_below (λ (i : ℕ). false) (replicas f) (λ i. refl) in
           let some = one_more members (λ i. false) (replicas f) (omega (arith, enough, none)) in
           (some.0, some.2, omega (arith, zero))
-      | inr has ↦
-          let digest = has.0 in
-          let is_f = same_f f faulty w led.orders led.world led.facts k in
-          let teller = a_member_tells f faulty members are (known s) s.low digest (subst (λ (g : ℕ). is_stable g (known s) s.low digest ≡ true) is_f has.1.stable) in
-          let all = told_executed laws f faulty run.others run.few first (new_order_replicas f) new_world begun (λ i x none. absurd none) turns run.authentic in
-          (teller.0, teller.1, teller_executed laws f faulty run.others run.few w led.orders led.world led.facts all k teller.0 s.low digest (are.correct teller.0 teller.1) teller.2)
+      | inr teller ↦
+          let led = always laws f faulty run.others run.few keys start turns run.shared run.authentic in
+          let all = told_executed laws f faulty run.others run.few first (new_order_replicas f) new_world (start_facts laws f faulty run.others run.few keys start run.shared) (λ i x none. absurd none) turns run.authentic in
+          (teller.0, teller.1, teller_executed laws f faulty run.others run.few w led.orders led.world led.facts all k teller.0 s.low teller.2 (are.correct teller.0 teller.1) teller.3)
     ]

@@ -1,5 +1,6 @@
 -- Only a node that takes a checkpoint sends a CHECKPOINT, and it keeps its snapshot.
-use Rattle.std.proofs.Common.{◌≡◌, ℕ, Bool, true, false, cond, List, [], ◌∷◌, Option, Some, None, ◌&&◌, bytes_eq, option_map, inl, inr, refl, sym, ap, subst, ◌∙◌, arith}
+use Rattle.std.proofs.Common.{◌≡◌, ℕ, ◌%◌, ◌==◌, Bool, true, false, cond, not, List, [], ◌∷◌, Option, Some, None, ◌&&◌, bytes_eq, option_map, inl, inr, refl, sym, ap, subst, ◌∙◌, arith}
+use Rattle.std.proofs.lemmas.Bool.{eqb-true}
 use Rattle.bfs_auth.specs.Authenticators.{signature_for_client}
 use Rattle.bfs_codec.specs.Reading.{message_of}
 use Rattle.bfs_checkpoints.specs.Keeping.{Kept}
@@ -16,9 +17,11 @@ use Rattle.bfs_messages.specs.declared.message.Message.{Message}
 use Rattle.bfs_messages.specs.declared.message.Message.TheVariants.{Request, Order, ViewChange, NewView, Reply}
 use Rattle.bfs_messages.specs.declared.order_messages.OrderMessage.{OrderMessage}
 use Rattle.bfs_messages.specs.declared.order_messages.OrderMessage.TheVariants.{Checkpoint}
+use Rattle.bfs_model.specs.Server.Limits.{checkpoint_interval}
 use Rattle.bfs_model.specs.Server.Tree.{FileSystem}
 use Rattle.bfs_order.specs.Laws.Calls as order
 use Rattle.bfs_order.specs.Replica.Accepting.{accepted}
+use Rattle.bfs_order.specs.Replica.Checkpoints as order_checkpoints
 use Rattle.bfs_order.specs.Replica.Executing.{next_committed}
 use Rattle.bfs_order.specs.Replica.Outcomes as outcomes
 use Rattle.bfs_order.specs.Replica.Proposing as proposing
@@ -33,7 +36,7 @@ use Rattle.bfs_replies.specs.declared.tables.Class.TheVariants.{New, Repeat, Old
 use Rattle.bfs_agreement.specs.Histories.{IsIn}
 use Rattle.bfs_node.specs.Adopting.{adopted, may_adopt}
 use Rattle.bfs_node.specs.Changing.{begun, begun_if_due, change_refusal, entered_by, entering_refusal, leads, leaving_refusal, left_for, may_begin, next_view, own_change, own_new_view, view_refusal, with_new_view, with_view_change}
-use Rattle.bfs_node.specs.Checkpoints.{checkpoint_refusal, checkpointed}
+use Rattle.bfs_node.specs.Checkpoints.{checkpoint_refusal, checkpointed, told_refusal}
 use Rattle.bfs_node.specs.Delivering.{bytes_delivered, bytes_refusal, order_in, ordered, request_in, request_refusal, with_request}
 use Rattle.bfs_node.specs.Errors.{of_order, of_view}
 use Rattle.bfs_node.specs.Executing.{executed_on, reply_to, signed_reply, told}
@@ -42,6 +45,7 @@ use Rattle.bfs_node.specs.Offering.{answered, class_at, offer_refusal, offered_a
 use Rattle.bfs_node.specs.Proposing.{pending_batch, proposal_refusal, proposed}
 use Rattle.bfs_node.specs.Settling.{settling, settling_refusal}
 use Rattle.bfs_node.specs.declared.error.NodeError.{NodeError}
+use Rattle.bfs_node.specs.declared.error.NodeError.TheVariants as error
 use Rattle.bfs_node.specs.declared.offering.Offered.TheVariants.{Waits, WaitsAlready}
 use Rattle.bfs_nodes_agree.specs.Nodes.Steps.{NodeStep, Delivers, Takes, TakesRequests, TakesOffered, Proposes, Executes, Fails, Checkpoints, TimesOut, LeavesFor, ForgetsAnswered, ForgetsProposed, Adopts, Settles, after_execution, or_still, outcome, still, unless}
 use Rattle.bfs_nodes_agree.specs.Orders.Replicas.{votes_by}
@@ -184,27 +188,61 @@ checkpoint_kept node s c = go (checkpoint_refusal node) node.files
       | inr none ↦ absurd none
     ]
 
-pub step_tells : (node : Node) (step : NodeStep) → IsBounded node.order → (s : Signed Message) (c : model.Checkpoint) → IsIn s (outcome node step).sent → s.message ≡ Order (Checkpoint c)
-    → StillKeeps (outcome node step).now c
-step_tells node (Delivers bytes) bounded s c i e = absurd (bytes_tells node bytes bounded s c i e)
-step_tells node (Takes signed) bounded s c i e = absurd (message_tells node signed.message signed.auth bounded s c i e)
-step_tells node (TakesRequests messages) bounded s c i e = absurd i
-step_tells node (TakesOffered request) bounded s c i e =
+-- so no other step does
+pub only_checkpoints_tell : (node : Node) (step : NodeStep) → IsBounded node.order → (s : Signed Message) (c : model.Checkpoint) → IsIn s (outcome node step).sent → s.message ≡ Order (Checkpoint c) → step ≡ Checkpoints
+only_checkpoints_tell node (Delivers bytes) bounded s c i e = absurd (bytes_tells node bytes bounded s c i e)
+only_checkpoints_tell node (Takes signed) bounded s c i e = absurd (message_tells node signed.message signed.auth bounded s c i e)
+only_checkpoints_tell node (TakesRequests messages) bounded s c i e = absurd i
+only_checkpoints_tell node (TakesOffered request) bounded s c i e =
     absurd (if_tells node (offer_refusal node request) (with_offered node request) (λ _. offered_tells node request (class_at node request.message)) s c i e)
-step_tells node (Proposes time) bounded s c i e =
+only_checkpoints_tell node (Proposes time) bounded s c i e =
     absurd (if_tells node (proposal_refusal node) (proposed node time)
     (λ _. one_more (as_message Order (proposing.proposal node.keys node.order (pending_batch node time))) [] (λ c e. absurd cc) (λ s c i e. i)) s c i e)
-step_tells node Executes bounded s c i e = absurd (executes_tells node s c i e)
-step_tells node Fails bounded s c i e = absurd i
-step_tells node Checkpoints bounded s c i e = checkpoint_kept node s c i e
-step_tells node TimesOut bounded s c i e = absurd (leaves_tells node (next_view node.order) bounded s c i e)
-step_tells node (LeavesFor view) bounded s c i e = absurd (leaves_tells node view bounded s c i e)
-step_tells node ForgetsAnswered bounded s c i e = absurd i
-step_tells node ForgetsProposed bounded s c i e = absurd i
-step_tells node (Adopts certificate files table) bounded s c i e =
+only_checkpoints_tell node Executes bounded s c i e = absurd (executes_tells node s c i e)
+only_checkpoints_tell node Fails bounded s c i e = absurd i
+only_checkpoints_tell node Checkpoints bounded s c i e = refl
+only_checkpoints_tell node TimesOut bounded s c i e = absurd (leaves_tells node (next_view node.order) bounded s c i e)
+only_checkpoints_tell node (LeavesFor view) bounded s c i e = absurd (leaves_tells node view bounded s c i e)
+only_checkpoints_tell node ForgetsAnswered bounded s c i e = absurd i
+only_checkpoints_tell node ForgetsProposed bounded s c i e = absurd i
+only_checkpoints_tell node (Adopts certificate files table) bounded s c i e =
     absurd (cond_none (may_adopt node certificate && bytes_eq (node_digest files table) certificate.digest) (adopted node certificate files table) i)
   where
     cond_none : (b : Bool) (now : Node) → IsIn s (cond b (still now) (still node)).sent → ⊥
     cond_none true now j = j
     cond_none false now j = j
-step_tells node (Settles certificate) bounded s c i e = absurd (if_tells node (settling_refusal node certificate) (still (settling node certificate)) (λ _ s c i e. i) s c i e)
+only_checkpoints_tell node (Settles certificate) bounded s c i e = absurd (if_tells node (settling_refusal node certificate) (still (settling node certificate)) (λ _ s c i e. i) s c i e)
+
+-- what holds of each that this one sends holds of each that a step does
+by_checkpoints : (P : NodeStep → Type 0) (node : Node) (step : NodeStep) → IsBounded node.order → (s : Signed Message) (c : model.Checkpoint) → IsIn s (outcome node step).sent → s.message ≡ Order (Checkpoint c)
+    → (IsIn s (outcome node Checkpoints).sent → P Checkpoints) → P step
+by_checkpoints P node step bounded s c i e tells =
+    let is = only_checkpoints_tell node step bounded s c i e in
+    subst P (sym is) (tells (subst (λ (x : NodeStep). IsIn s (outcome node x).sent) is i))
+
+pub step_tells : (node : Node) (step : NodeStep) → IsBounded node.order → (s : Signed Message) (c : model.Checkpoint) → IsIn s (outcome node step).sent → s.message ≡ Order (Checkpoint c)
+    → StillKeeps (outcome node step).now c
+step_tells node step bounded s c i e = by_checkpoints (λ x. StillKeeps (outcome node x).now c) node step bounded s c i e (λ j. checkpoint_kept node s c j e)
+
+-- Of what number it tells ---------------------------------------------------------------------------------------------
+
+checkpoint_multiple : (node : Node) (s : Signed Message) (c : model.Checkpoint) → IsIn s (outcome node Checkpoints).sent → s.message ≡ Order (Checkpoint c) → (c.number % checkpoint_interval) ≡ 0
+checkpoint_multiple node s c = go ((node.order.last % checkpoint_interval) == 0) refl (told_refusal node (order_checkpoints.checkpoint_refusal node.order node.order.last)) node.files
+  where
+    go : (b : Bool) → ((node.order.last % checkpoint_interval) == 0) ≡ b → (r : Option NodeError) (files : Option FileSystem)
+        → IsIn s (unless (cond (not b) (Some error.OutsideMarks) r) node (or_still node (option_map (checkpointed node) files))).sent → s.message ≡ Order (Checkpoint c) → (c.number % checkpoint_interval) ≡ 0
+    go false is r files i e = absurd i
+    go true is (Some refused) files i e = absurd i
+    go true is None None i e = absurd i
+    go true is None (Some files) i e = elim i [
+      | inl same ↦
+          let told : model.Checkpoint = record { sender = node.order.me; number = node.order.last; digest = (snapshot_of files node.table).digest } in
+          let whole : Order (Checkpoint told) ≡ Order (Checkpoint c) = sym (ap (λ (x : Signed Message). x.message) same) ∙ e in
+          let own : told ≡ c = cc in
+          subst (λ (x : model.Checkpoint). (x.number % checkpoint_interval) ≡ 0) own (eqb-true (node.order.last % checkpoint_interval) 0 is)
+      | inr none ↦ absurd none
+    ]
+
+pub step_multiple : (node : Node) (step : NodeStep) → IsBounded node.order → (s : Signed Message) (c : model.Checkpoint) → IsIn s (outcome node step).sent → s.message ≡ Order (Checkpoint c)
+    → (c.number % checkpoint_interval) ≡ 0
+step_multiple node step bounded s c i e = by_checkpoints (λ x. (c.number % checkpoint_interval) ≡ 0) node step bounded s c i e (λ j. checkpoint_multiple node s c j e)

@@ -97,11 +97,12 @@ pub record IsFull (low next : ℕ) : Type 0 where
   pub multiple : ((low + log_size) % checkpoint_interval) ≡ 0
   pub bounded : low + log_size ≤ most_number
 
--- members are together, and at the primary the number is stable, and none above it is proposed
+-- members are together, at the primary the number is stable, and none above it is stable at a member or proposed
 pub record IsEmptied (f : ℕ) (faulty members : ℕ → Bool) (w : NodeReplicas) (view number : ℕ) : Type 0 where
   pub together : AreTogether f faulty members w view
   pub live : (k : ℕ) → members k ≡ true → is_some (w k).node.files ≡ true
   pub low : (order_of w (primary f view)).low ≡ number
+  pub lows : (k : ℕ) → members k ≡ true → (order_of w k).low ≤ number
   pub next : next_number (order_of w (primary f view)) ≤ number + 1
 
 -- where the window of even members is full, emptying it is a way

@@ -8,4 +8,5 @@ pub mod Exchanges
 pub mod LawsOfExecuting
 pub mod Catching
 pub mod LawsOfCatching
+pub mod LawsOfWindows
 pub mod LawsOfProgress
