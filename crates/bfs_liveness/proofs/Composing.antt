@@ -1,29 +1,34 @@
 -- One way behind another, from every state to one where what waited is executed.
-use Rattle.std.proofs.Common.{◌≡◌, ℕ, Bool, true, List, ◌++◌, Option, Some, ap, subst, ◌∙◌, append_assoc}
+use Rattle.std.proofs.Common.{◌≡◌, ℕ, ◌+◌, Bool, true, ltb, List, ◌++◌, Option, Some, inl, inr, ap, subst, ◌∙◌, append_assoc, arith}
+use Rattle.std.proofs.lemmas.Bool.{cases_Bool, ltb-false, ltb-true}
 use Rattle.std.specs.Prelude.{is_some}
 use Rattle.bfs_messages.specs.Messages as model
 use Rattle.bfs_messages.specs.Messages.{Batch}
 use Rattle.bfs_messages.specs.declared.signed.Signed.{Signed}
+use Rattle.bfs_model.specs.Server.Limits.{log_size}
+use Rattle.bfs_model.specs.Server.Stored.{IsTime}
 use Rattle.bfs_model.specs.Server.Tree.{FileSystem, Time}
 use Rattle.bfs_order.specs.Replica.Proposing.{batch_digest, next_number}
 use Rattle.bfs_votes.specs.Votes.{primary}
 use Rattle.bfs_node.specs.Proposing.{pending_batch}
-use Rattle.bfs_nodes_agree.specs.Nodes.Replicas.{NodeReplicas, NodeTurn, new_node_replicas}
+use Rattle.bfs_nodes_agree.specs.Nodes.Replicas.{Beginning, Keyring, NodeReplicas, NodeTurn, new_node_replicas}
 use Rattle.bfs_nodes_progress.specs.Requests.{HasExecuted}
 use Rattle.bfs_nodes_progress.specs.Runs.{IsARun, order_of, reached}
 use Rattle.bfs_nodes_progress.proofs.Public.{after_join}
 use Rattle.bfs_liveness.specs.Even.{AreEven}
 use Rattle.bfs_liveness.specs.Exchanges.{ordering}
 use Rattle.bfs_liveness.specs.LawsOfCatching.{MembersComeUp}
-use Rattle.bfs_liveness.specs.LawsOfExecuting.{WhatWaitsIsExecuted}
+use Rattle.bfs_liveness.specs.LawsOfExecuting.{HasPlace, WhatWaitsIsExecuted}
+use Rattle.bfs_liveness.specs.LawsOfMarks.{WhatIsStableWasExecuted}
 use Rattle.bfs_liveness.specs.LawsOfMeeting.{MembersMeet, WaysAreRuns}
-use Rattle.bfs_liveness.specs.LawsOfProgress.{MembersGetReady, WhatWaitsIsServed}
+use Rattle.bfs_liveness.specs.LawsOfProgress.{AreServedBehind, EachStateIsServed, MembersGetReady, WhatWaitsIsServed}
+use Rattle.bfs_liveness.specs.LawsOfWindows.{FullWindowsGoOn}
 use Rattle.bfs_liveness.specs.Meeting.{meeting}
 use Rattle.bfs_liveness.specs.Ways.{AreFairTo, IsWay}
 use Rattle.bfs_liveness.proofs.Ways.{ways_join}
 
-pub members_get_ready : MembersMeet → WaysAreRuns → MembersComeUp → MembersGetReady
-members_get_ready meet runs come f keys start faulty members turns run are fair future =
+pub members_get_ready : MembersMeet → WaysAreRuns → MembersComeUp → WhatIsStableWasExecuted → MembersGetReady
+members_get_ready meet runs come marks f keys start faulty members turns run are fair future =
     let met = meet f keys start faulty members turns run are fair future.views in
     let view = met.0 in
     let first = meeting f members (reached f keys start turns) view in
@@ -33,6 +38,11 @@ members_get_ready meet runs come f keys start faulty members turns run are fair 
     let came = come f keys start faulty members (turns ++ first) view meets.run (runs f keys start faulty members turns first run are fair meets.is_way).1 meets.together live in
     let second = came.2 in
     let up = came.3 in
+    let low : (order_of (reached f keys start (turns ++ first)) came.1.who).low ≡ came.0 = came.1.low in
+    let done = marks f keys start faulty members (turns ++ first) came.1.who meets.run are in
+    let below = done.2 in
+    let last : (order_of (reached f keys start (turns ++ first)) done.0).last ≡ (order_of (reached f keys start turns) done.0).last = (meets.work done.0 done.1).last in
+    let ends = future.numbers done.0 done.1 in
     let all : (turns ++ first) ++ second ≡ turns ++ (first ++ second) = append_assoc turns first second in (
       view,
       came.0,
@@ -48,6 +58,7 @@ members_get_ready meet runs come f keys start faulty members turns run are fair 
         fair = subst (AreFairTo f keys start faulty members) all up.fair;
         even = subst (λ (x : List NodeTurn). AreEven f faulty members (reached f keys start x) view came.0) all up.even;
         waits = λ k member. subst (λ (x : List NodeTurn). (reached f keys start x k).node.pending ≡ (reached f keys start turns k).node.pending) all (up.pending k ∙ (meets.work k member).pending);
+        bounded = omega (arith, low, below, last, ends);
       },
     )
 
@@ -69,3 +80,38 @@ what_waits_is_served execute f keys start faulty members turns way view low time
           (subst (λ (requests : List (Signed model.Request)). HasExecuted (reached f keys start ((turns ++ way) ++ last) k) number (batch_digest (batch requests)))
           (ready.waits p ready.leads) (done.2 k member));
     }
+
+-- whether there is place
+module _ (execute : WhatWaitsIsExecuted) (f : ℕ) (keys : Keyring) (start : Beginning) (faulty members : ℕ → Bool) (turns : List NodeTurn) (view : ℕ) (time : Time) (is_time : IsTime time) where
+  served : (before : List NodeTurn) (low : ℕ) → members (primary f view) ≡ true → IsWay members (reached f keys start turns) before → IsARun f keys start faulty (turns ++ before)
+      → AreFairTo f keys start faulty members (turns ++ before) → AreEven f faulty members (reached f keys start (turns ++ before)) view low
+      → HasPlace low (next_number (order_of (reached f keys start (turns ++ before)) (primary f view))) → AreServedBehind f keys start faulty members turns before view time
+  served before low leads is_way run fair even place =
+      let done = execute f keys start faulty members (turns ++ before) view low time run fair even place is_time in
+      record { leads = leads; before_is_way = is_way; served = record { is_way = done.0; run = done.1; executed = done.2 } }
+
+pub each_state_is_served : MembersGetReady → FullWindowsGoOn → WhatWaitsIsExecuted → EachStateIsServed
+each_state_is_served get_ready go_on execute f keys start faulty members turns time run are fair future is_time =
+    let got = get_ready f keys start faulty members turns run are fair future in
+    let view = got.0 in
+    let low = got.1 in
+    let way = got.2 in
+    let ready = got.6 in
+    let bounded = ready.bounded in
+    let next = next_number (order_of (reached f keys start (turns ++ way)) (primary f view)) in
+    elim (cases_Bool (ltb (low + log_size) next)) [
+      | inl full ↦
+          let past = ltb-true (low + log_size) next full in
+          let on = go_on f keys start faulty members (turns ++ way) view low ready.run ready.fair ready.even past (omega (arith, bounded)) in
+          let all : (turns ++ way) ++ on.0 ≡ turns ++ (way ++ on.0) = append_assoc turns way on.0 in
+          let is_way : IsWay members (reached f keys start turns) (way ++ on.0) =
+          ways_join members (reached f keys start turns) way on.0 ready.is_way (subst (λ (x : NodeReplicas). IsWay members x on.0) (after_join (new_node_replicas f keys start) turns way) on.1) in
+          (view, way ++ on.0, got.3, got.4, got.5, served execute f keys start faulty members turns view time is_time (way ++ on.0) (low + log_size) ready.leads is_way
+          (subst (IsARun f keys start faulty) all on.2) (subst (AreFairTo f keys start faulty members) all on.3)
+          (subst (λ (x : List NodeTurn). AreEven f faulty members (reached f keys start x) view (low + log_size)) all on.4)
+          (subst (λ (x : List NodeTurn). HasPlace (low + log_size) (next_number (order_of (reached f keys start x) (primary f view)))) all on.5))
+      | inr room ↦
+          let le = ltb-false (low + log_size) next room in
+          (view, way, got.3, got.4, got.5, served execute f keys start faulty members turns view time is_time way low ready.leads ready.is_way ready.run ready.fair ready.even
+          (omega (arith, le), omega (arith, le, bounded)))
+    ]

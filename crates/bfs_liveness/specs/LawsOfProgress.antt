@@ -1,5 +1,6 @@
 -- From every state that nodes can come into what waits is executed: contracts of functions of src/progress.rt, which do nothing.
-use Rattle.std.specs.Prelude.{◌≡◌, ℕ, ◌+◌, ◌≤◌, Bool, true, List, ◌++◌}
+use Rattle.std.specs.Prelude.{◌≡◌, ℕ, ◌+◌, ◌≤◌, ◌^◌, Bool, true, List, ◌++◌}
+use Rattle.bfs_model.specs.Server.Limits.{log_size}
 use Rattle.bfs_model.specs.Server.Stored.{IsTime}
 use Rattle.bfs_model.specs.Server.Tree.{Time}
 use Rattle.bfs_order.specs.Replica.Proposing.{batch_digest, next_number}
@@ -22,6 +23,7 @@ pub record AreReady (f : ℕ) (keys : Keyring) (start : Beginning) (faulty membe
   pub fair : AreFairTo f keys start faulty members (turns ++ way)
   pub even : AreEven f faulty members (reached f keys start (turns ++ way)) view low
   pub waits : (k : ℕ) → members k ≡ true → (reached f keys start (turns ++ way) k).node.pending ≡ (reached f keys start turns k).node.pending
+  pub bounded : low + (log_size + 2) ≤ 2 ^ 63
 
 -- behind a way each member has executed, as that number, all that waited at the primary of the view before it
 pub record AreServed (f : ℕ) (keys : Keyring) (start : Beginning) (faulty members : ℕ → Bool) (turns way : List NodeTurn) (view number : ℕ) (time : Time) : Type 0 where
@@ -44,3 +46,17 @@ WhatWaitsIsServed = (f : ℕ) (keys : Keyring) (start : Beginning) (faulty membe
     → let w = reached f keys start (turns ++ way) in
     let number = next_number (order_of w (primary f view)) in
     HasPlace low number → AreServed f keys start faulty members turns (way ++ ordering f members w view time) view number time
+
+-- behind a way, by which a full window is emptied where it was full, each member executes by a further one, as that number, all that waits at the primary of the view then
+pub record AreServedBehind (f : ℕ) (keys : Keyring) (start : Beginning) (faulty members : ℕ → Bool) (turns before : List NodeTurn) (view : ℕ) (time : Time) : Type 0 where
+  pub leads : members (primary f view) ≡ true
+  pub before_is_way : IsWay members (reached f keys start turns) before
+  pub served : AreServed f keys start faulty members (turns ++ before) (ordering f members (reached f keys start (turns ++ before)) view time) view
+      (next_number (order_of (reached f keys start (turns ++ before)) (primary f view))) time
+
+-- from every state that nodes can come into, whoever lies, there is such a way: one finite schedule
+abbrev pub EachStateIsServed : Type 0
+EachStateIsServed = (f : ℕ) (keys : Keyring) (start : Beginning) (faulty members : ℕ → Bool) (turns : List NodeTurn) (time : Time)
+    → IsARun f keys start faulty turns → AreMembers f faulty members → AreFairTo f keys start faulty members turns → HasFuture f members (reached f keys start turns) → IsTime time
+    → (view : ℕ) × (before : List NodeTurn) × (latest : ℕ) × (members latest ≡ true) × (view ≤ asked_by (reached f keys start turns) latest + (f + 1))
+    × AreServedBehind f keys start faulty members turns before view time

@@ -1,9 +1,11 @@
 // What waits is executed, from every state. The bodies do nothing: what is said is the contracts.
-ghost use Rattle.bfs_liveness.specs.LawsOfProgress.{MembersGetReady, WhatWaitsIsServed};
+ghost use Rattle.bfs_liveness.specs.LawsOfProgress.{EachStateIsServed, MembersGetReady, WhatWaitsIsServed};
 
 use crate::catching::members_come_up;
 use crate::executing::what_waits_is_executed;
+use crate::marks::what_is_stable_was_executed;
 use crate::meeting::{members_meet, ways_are_runs};
+use crate::window::full_windows_go_on;
 
 /// From every state that nodes can come into, whoever lies: by a way of theirs members meet in a view that one of them leads, and come up to one
 /// stable number there. What waits at each waits there still.
@@ -13,6 +15,7 @@ pub fn members_get_ready()
     members_meet();
     ways_are_runs();
     members_come_up();
+    what_is_stable_was_executed();
 }
 
 /// And where the window of that view's primary has place, they go on to execute all that waited at it: one finite schedule of turns, from every
@@ -20,5 +23,15 @@ pub fn members_get_ready()
 pub fn what_waits_is_served()
     ensures { WhatWaitsIsServed }
 {
+    what_waits_is_executed();
+}
+
+/// From every state that nodes can come into, whoever lies: by one finite schedule of turns members meet in a view that one of them leads, come up to one
+/// stable number, empty the window of the view's primary where it is full, and each executes the batch of all that waits at that primary then.
+pub fn each_state_is_served()
+    ensures { EachStateIsServed }
+{
+    members_get_ready();
+    full_windows_go_on();
     what_waits_is_executed();
 }
