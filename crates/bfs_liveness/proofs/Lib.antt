@@ -10,6 +10,7 @@ pub mod Exchanges
 pub mod Steps
 pub mod Ordering
 pub mod Filled
+pub mod Installing
 pub mod Entering
 pub mod Deeds
 pub mod LeftOut
@@ -28,5 +29,4 @@ pub mod ComingUp
 pub mod Multiples
 pub mod Windows
 pub mod Composing
-pub mod Installing
 pub mod GoingOn

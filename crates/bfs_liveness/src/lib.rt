@@ -6,5 +6,5 @@ pub mod catching;
 pub mod executing;
 pub mod marks;
 pub mod meeting;
-pub mod window;
 pub mod progress;
+pub mod window;
