@@ -105,13 +105,25 @@ each_state_is_served get_ready go_on execute f keys start faulty members turns t
           let on = go_on f keys start faulty members (turns ++ way) view low ready.run ready.fair ready.even past (omega (arith, bounded)) in
           let all : (turns ++ way) ++ on.0 ≡ turns ++ (way ++ on.0) = append_assoc turns way on.0 in
           let is_way : IsWay members (reached f keys start turns) (way ++ on.0) =
-          ways_join members (reached f keys start turns) way on.0 ready.is_way (subst (λ (x : NodeReplicas). IsWay members x on.0) (after_join (new_node_replicas f keys start) turns way) on.1) in
-          (view, way ++ on.0, got.3, got.4, got.5, served execute f keys start faulty members turns view time is_time (way ++ on.0) (low + log_size) ready.leads is_way
-          (subst (IsARun f keys start faulty) all on.2) (subst (AreFairTo f keys start faulty members) all on.3)
-          (subst (λ (x : List NodeTurn). AreEven f faulty members (reached f keys start x) view (low + log_size)) all on.4)
-          (subst (λ (x : List NodeTurn). HasPlace (low + log_size) (next_number (order_of (reached f keys start x) (primary f view)))) all on.5))
+          ways_join members (reached f keys start turns) way on.0 ready.is_way (subst (λ (x : NodeReplicas). IsWay members x on.0) (after_join (new_node_replicas f keys start) turns way) on.1) in (
+            view,
+            way ++ on.0,
+            got.3,
+            got.4,
+            got.5,
+            served execute f keys start faulty members turns view time is_time (way ++ on.0) (low + log_size) ready.leads is_way
+                (subst (IsARun f keys start faulty) all on.2) (subst (AreFairTo f keys start faulty members) all on.3)
+                (subst (λ (x : List NodeTurn). AreEven f faulty members (reached f keys start x) view (low + log_size)) all on.4)
+                (subst (λ (x : List NodeTurn). HasPlace (low + log_size) (next_number (order_of (reached f keys start x) (primary f view)))) all on.5),
+          )
       | inr room ↦
-          let le = ltb-false (low + log_size) next room in
-          (view, way, got.3, got.4, got.5, served execute f keys start faulty members turns view time is_time way low ready.leads ready.is_way ready.run ready.fair ready.even
-          (omega (arith, le), omega (arith, le, bounded)))
+          let le = ltb-false (low + log_size) next room in (
+            view,
+            way,
+            got.3,
+            got.4,
+            got.5,
+            served execute f keys start faulty members turns view time is_time way low ready.leads ready.is_way ready.run ready.fair ready.even
+                (omega (arith, le), omega (arith, le, bounded)),
+          )
     ]
