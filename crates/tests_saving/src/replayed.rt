@@ -58,7 +58,7 @@ fn done<R: Threads + Wait + Sync>(
 #[test]
 fn what_was_done_is_done_again(rt: HostRuntime) -> Result<(), Fail> {
     let alloc = rt.alloc();
-    let (_, is_same) = done(&rt, alloc, 1_000)?;
+    let (_, is_same) = done(&rt, alloc, 400)?;
     holds!(rt; is_same);
     Ok(())
 }
@@ -69,14 +69,16 @@ fn changed_steps_are_refused_or_are_others(rt: HostRuntime) -> Result<(), Fail> 
     let (all, _) = done(&rt, alloc, 80)?;
     let (other, _) = done(&rt, alloc, 60)?;
     let mut changes = Changes { state: 3 };
-    let mut refused = 0;
+    let (mut is_any_refused, mut is_any_done) = (false, false);
     for _ in 0..100 {
         let (_, changed) = changes.changed(alloc, &all, &other)?;
         let mut node = MEMBERS.replica(alloc, 1)?;
-        if !does(&rt, alloc, &mut node, &changed)? {
-            refused += 1;
+        if does(&rt, alloc, &mut node, &changed)? {
+            is_any_done = true;
+        } else {
+            is_any_refused = true;
         }
     }
-    holds!(rt; refused > 0 && refused < 100);
+    holds!(rt; is_any_refused && is_any_done);
     Ok(())
 }
