@@ -8,7 +8,6 @@ pub mod Stable
 pub mod Votes
 pub mod Exchanges
 pub mod Steps
-pub mod Ordering
 pub mod Filled
 pub mod Installing
 pub mod Entering
@@ -16,12 +15,16 @@ pub mod Deeds
 pub mod LeftOut
 pub mod Past
 pub mod Beyond
+pub mod Executions
+pub mod Proposed
+pub mod Ordering
 pub mod Settled
 pub mod Told
 pub mod Digests
 pub mod Hearing
 pub mod Emptying
 pub mod Keeping
+pub mod Waiting
 pub mod Telling
 pub mod ToldSnapshots
 pub mod Behind
@@ -30,3 +33,4 @@ pub mod Multiples
 pub mod Windows
 pub mod Composing
 pub mod GoingOn
+pub mod Served

@@ -1,0 +1,124 @@
+-- Each request that waits at every member is executed, and each member stands behind it.
+use Rattle.std.proofs.Common.{◌≡◌, ℕ, ◌≤◌, ◌==◌, ◌&&◌, Bool, true, List, [], ◌∷◌, ◌++◌, Option, Some, None, inl, inr, refl, sym, ap, subst, ◌∙◌, append_assoc, arith}
+use Rattle.std.specs.Prelude.{is_some}
+use Rattle.std.proofs.lemmas.Bool.{and_from, eq-eqb}
+use Rattle.bfs_messages.specs.Messages as model
+use Rattle.bfs_messages.specs.Messages.{Batch}
+use Rattle.bfs_messages.specs.declared.signed.Signed.{Signed}
+use Rattle.bfs_model.specs.Server.Tree.{FileSystem}
+use Rattle.bfs_pending.specs.Requests.{is_among, is_same}
+use Rattle.bfs_order.specs.Replica.Proposing.{next_number}
+use Rattle.bfs_votes.specs.Votes.{primary}
+use Rattle.bfs_agreement.specs.Histories.{IsIn}
+use Rattle.bfs_node.specs.Nodes.{Node}
+use Rattle.bfs_node.specs.Proposing.{pending_batch}
+use Rattle.bfs_nodes_agree.specs.Nodes.Laws.{Agree, Executed, NodesAgree, StepsAreTurns}
+use Rattle.bfs_nodes_agree.specs.Nodes.Replicas.{Beginning, Keyring, NodeReplica, NodeReplicas, NodeTurn, Standing, after_node_step, after_node_turn, after_node_turns, beginning_node, new_node_replicas, standing_of, standing_with}
+use Rattle.bfs_nodes_agree.specs.Nodes.Steps.{outcome}
+use Rattle.bfs_nodes_agree.proofs.Public.{any_in, both_at}
+use Rattle.bfs_nodes_progress.specs.Following.{AreMembers}
+use Rattle.bfs_nodes_progress.specs.Runs.{IsARun, order_of, reached}
+use Rattle.bfs_nodes_progress.proofs.Public.{after_join}
+use Rattle.bfs_liveness.specs.Exchanges.{ordering}
+use Rattle.bfs_liveness.specs.LawsOfExecuting.{HasJustExecuted}
+use Rattle.bfs_liveness.specs.LawsOfProgress.{AreServedBehind, EachRequestIsExecuted, EachStateIsServed, IsServed, StandsBehind}
+use Rattle.bfs_liveness.specs.Waiting.{HasServed}
+use Rattle.bfs_liveness.specs.Ways.{AreFairTo, IsWay}
+use Rattle.bfs_liveness.proofs.Executions.{number_below}
+use Rattle.bfs_liveness.proofs.Waiting.{executed_behind}
+use Rattle.bfs_liveness.proofs.Ways.{ways_join}
+
+-- A live node stands somewhere ----------------------------------------------------------------------------------------
+
+abbrev standing_at : Node → FileSystem → Standing
+standing_at node files = record { number = node.order.last; files = files; table = node.table }
+
+abbrev IsHere : NodeReplica → Type 0
+IsHere r = (files : FileSystem) → r.node.files ≡ Some files → IsIn (standing_at r.node files) r.reached
+
+here_now : (node : Node) (rest : List Standing) (files : FileSystem) → node.files ≡ Some files → IsIn (standing_at node files) (standing_of node ++ rest)
+here_now node rest files e = subst (λ (o : Option FileSystem). IsIn (standing_at node files) (standing_with node o ++ rest)) (sym e) (inl refl)
+
+all_here : (turns : List NodeTurn) (w : NodeReplicas) → ((k : ℕ) → IsHere (w k)) → (k : ℕ) → IsHere (after_node_turns w turns k)
+all_here [] w here = here
+all_here (turn ∷ turns) w here =
+    let r = w turn.who in
+    all_here turns (after_node_turn w turn) (both_at w turn (λ k x. IsHere x) (here_now (outcome r.node turn.step).now r.reached) here)
+
+live_files : (o : Option FileSystem) → is_some o ≡ true → (files : FileSystem) × (o ≡ Some files)
+live_files None e = absurd cc
+live_files (Some files) e = (files, refl)
+
+-- what it holds comes of batches
+stands : (start : Beginning) (faulty : ℕ → Bool) (w : NodeReplicas) (k number last : ℕ) (batch : Batch) → Agree start faulty w → faulty k ≡ false → IsHere (w k) → HasJustExecuted (w k) last batch → number ≤ last
+    → StandsBehind start faulty w k number
+stands start faulty w k number last batch agreed correct here just le =
+    let files = live_files (w k).node.files just.live in
+    let last_is = just.last in
+    record {
+      up_to = omega (arith, last_is, le);
+      files = files.0;
+      live = files.1;
+      comes = agreed.comes k (standing_at (w k).node files.0) correct (here files.0 files.1);
+    }
+
+-- What waits is in the batch ------------------------------------------------------------------------------------------
+
+same_itself : (one : Signed model.Request) → is_same one one ≡ true
+same_itself one =
+    let m = one.message in
+    and_from (m.client == m.client) (m.timestamp == m.timestamp) (eq-eqb m.client m.client refl) (eq-eqb m.timestamp m.timestamp refl)
+
+-- All of it -----------------------------------------------------------------------------------------------------------
+
+pub each_request_is_executed : EachStateIsServed → StepsAreTurns → NodesAgree → EachRequestIsExecuted
+each_request_is_executed serve are agree f keys start faulty members turns time run among fair future is_time =
+    let got = serve f keys start faulty members turns time run among fair future is_time in
+    let view = got.0 in
+    let before = got.1 in
+    let behind : AreServedBehind f keys start faulty members turns before view time = got.5 in
+    let begun = new_node_replicas f keys start in
+    let p = primary f view in
+    let given = reached f keys start (turns ++ before) in
+    let last = ordering f members given view time in
+    let way = before ++ last in
+    let w = reached f keys start (turns ++ way) in
+    let number = next_number (order_of given p) in
+    let batch = pending_batch (given p).node time in
+    let all : (turns ++ before) ++ last ≡ turns ++ way = append_assoc turns before last in
+    let joined : after_node_turns given last ≡ w = sym (after_join begun (turns ++ before) last) ∙ ap (after_node_turns begun) all in
+    let is_way : IsWay members (reached f keys start turns) way = ways_join members (reached f keys start turns) before last behind.before_is_way
+    (subst (λ (x : NodeReplicas). IsWay members x last) (after_join begun turns before) behind.served.is_way) in
+    let run_now : IsARun f keys start faulty (turns ++ way) = subst (IsARun f keys start faulty) all behind.served.run in
+    let agreed : Agree start faulty w = agree f keys start faulty (turns ++ way) run_now.shared run_now.few run_now.authentic (fair.batches way is_way) (fair.states way is_way) in
+    let here : (k : ℕ) → IsHere (w k) = all_here (turns ++ way) begun (λ k. here_now (beginning_node f keys start k) []) in
+    let just : (k : ℕ) → members k ≡ true → HasJustExecuted (w k) number batch = λ k member.
+    subst (λ (x : List NodeTurn). HasJustExecuted (reached f keys start x k) number batch) all (behind.served.executed k member) in
+    let serves : (one : Signed model.Request) → HasServed (w p) one → IsServed start faulty members w one = λ one served.
+    let le : served.number ≤ (order_of w p).last = number_below are f keys start (turns ++ way) p served.number served.batch served.executed in
+    let last_is = (just p behind.leads).last in
+    record {
+      who = p;
+      member = behind.leads;
+      served = served;
+      alone = λ k other correct executed. agreed.batches k p served.number other served.batch correct (among.correct p behind.leads) executed served.executed;
+      behind = λ k member. stands start faulty w k served.number number batch agreed (among.correct k member) (here k) (just k member) (omega (arith, le, last_is));
+    } in (
+      way,
+      is_way,
+      run_now,
+      λ one waits. elim (behind.waits p behind.leads one (waits p behind.leads)) [
+        | inl still ↦ serves one (record {
+          number = number;
+          batch = batch;
+          executed = (just p behind.leads).executed;
+          stands = any_in (is_same one) (given p).node.pending one still (same_itself one);
+        })
+        | inr served ↦ serves one (record {
+          number = served.number;
+          batch = served.batch;
+          executed = subst (λ (x : NodeReplicas). Executed (x p) served.number served.batch) joined (executed_behind last given p served.number served.batch served.executed);
+          stands = served.stands;
+        })
+      ],
+    )
