@@ -138,9 +138,9 @@ all_run (turn ∷ turns) only w k =
 
 -- No number above the one last executed -------------------------------------------------------------------------------
 
--- none was executed
+-- none was executed, nor number 0
 abbrev AreBelow : State → (executed : Log) → Type 0
-AreBelow s executed = (m : Signed OrderMessage) → IsIn m executed → (header m).number ≤ s.last
+AreBelow s executed = (m : Signed OrderMessage) → IsIn m executed → (0 < (header m).number) × ((header m).number ≤ s.last)
 
 last_rises : (s : State) (call : Call) → s.last ≤ (outcome s call).now.last
 last_rises s (Takes keys m) = either_way (λ o. s.last ≤ o.now.last) (refusal keys s m) s (accepted keys s m) (λ _. omega arith) (omega arith)
@@ -153,7 +153,7 @@ last_rises s (Enters keys view stable handed) = either_way (λ o. s.last ≤ o.n
     (λ _. let is = entered_same (λ (x : State). x.last) (λ x low log. refl) keys s view stable handed in omega (arith, is)) (omega arith)
 
 still_below : (s : State) (executed : Log) (call : Call) → AreBelow s executed → AreBelow (outcome s call).now executed
-still_below s executed call below m i = let before = below m i in let rises = last_rises s call in omega (arith, before, rises)
+still_below s executed call below m i = let before = (below m i).1 in let rises = last_rises s call in ((below m i).0, omega (arith, before, rises))
 
 below_by : (s : State) (executed : Log) (call : Call) → AreBelow s executed → AreBelow (outcome s call).now (executed_by s call ++ executed)
 below_by s executed Executes below = go (next_order s) refl
@@ -161,8 +161,11 @@ below_by s executed Executes below = go (next_order s) refl
     go : (o : Option (Signed OrderMessage)) → next_order s ≡ o → AreBelow (execution s o).now (message_in o ++ executed)
     go None is m i = below m i
     go (Some x) is m i = elim i [
-      | inl same ↦ let number = (next_found s x is).1 in let header_is = ap (λ (y : Signed OrderMessage). (header y).number) same in omega (arith, number, header_is)
-      | inr j ↦ let before = below m j in omega (arith, before)
+      | inl same ↦
+          let number = (next_found s x is).1 in
+          let header_is = ap (λ (y : Signed OrderMessage). (header y).number) same in
+          (omega (arith, number, header_is), omega (arith, number, header_is))
+      | inr j ↦ let before = (below m j).1 in ((below m j).0, omega (arith, before))
     ]
 below_by s executed (Takes keys m) below = still_below s executed (Takes keys m) below
 below_by s executed (Proposes keys batch) below = still_below s executed (Proposes keys batch) below
@@ -176,17 +179,19 @@ number_of (PrePrepare proposal) c e = cc
 number_of other c e = absurd cc
 
 pub executed_below : StepsAreTurns → (f : ℕ) (keys : Keyring) (start : Beginning) (turns : List NodeTurn) (k : ℕ) (m : Signed OrderMessage)
-    → IsIn m (reached f keys start turns k).executed → (header m).number ≤ (order_of (reached f keys start turns) k).last
+    → IsIn m (reached f keys start turns k).executed → (0 < (header m).number) × ((header m).number ≤ (order_of (reached f keys start turns) k).last)
 executed_below are f keys start turns k m i =
     let tracks = are f keys start turns k in
     let below = turns_keep (λ (o : OrderReplica). AreBelow o.state o.executed) (λ o deed below. below_by o.state o.executed (call_of deed) below) (ordered_turns (new_node_replicas f keys start) turns)
     (new_order_replicas f) (λ j x none. absurd none) k in
-    subst (λ (s : State). (header m).number ≤ s.last) tracks.state (below m (subst (λ (l : Log). IsIn m l) (sym tracks.executed) i))
+    subst (λ (s : State). (0 < (header m).number) × ((header m).number ≤ s.last)) tracks.state (below m (subst (λ (l : Log). IsIn m l) (sym tracks.executed) i))
 
--- no number that it has executed is above the one last executed
+-- no number that it has executed is 0, or above the one last executed
 pub number_below : StepsAreTurns → (f : ℕ) (keys : Keyring) (start : Beginning) (turns : List NodeTurn) (k number : ℕ) (batch : Batch)
-    → Executed (reached f keys start turns k) number batch → number ≤ (order_of (reached f keys start turns) k).last
+    → Executed (reached f keys start turns k) number batch → (0 < number) × (number ≤ (order_of (reached f keys start turns) k).last)
 number_below are f keys start turns k number batch x =
     let below = executed_below are f keys start turns k x.0 x.1 in
+    let some = below.0 in
+    let under = below.1 in
     let is = number_of x.0.message (record { number = number; batch = batch }) x.2 in
-    omega (arith, below, is)
+    (omega (arith, some, is), omega (arith, under, is))

@@ -33,4 +33,5 @@ pub mod Multiples
 pub mod Windows
 pub mod Composing
 pub mod GoingOn
+pub mod Answered
 pub mod Served

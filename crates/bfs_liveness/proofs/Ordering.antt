@@ -327,7 +327,7 @@ module _ (laws : Below) (again : WhatIsResentIsFair) (left_out : NoneIsLeftOut) 
       elim (ran.each from among) [
         | inl before ↦
             let early : IsIn from (w p).executed = subst (λ (l : Log). IsIn from l) (all_then w w1 last proposing_is have.heard p).executed before in
-            let le = executed_below are f keys start turns p from early in
+            let le = (executed_below are f keys start turns p from early).1 in
             let lt = behind p leads_it in
             absurd (omega (arith, le, lt, number_is))
         | inr found ↦

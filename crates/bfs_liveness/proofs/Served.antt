@@ -1,5 +1,5 @@
 -- Each request that waits at every member is executed, and each member stands behind it.
-use Rattle.std.proofs.Common.{◌≡◌, ℕ, ◌≤◌, ◌==◌, ◌&&◌, Bool, true, List, [], ◌∷◌, ◌++◌, Option, Some, None, inl, inr, refl, sym, ap, subst, ◌∙◌, append_assoc, arith}
+use Rattle.std.proofs.Common.{◌≡◌, ℕ, ◌≤◌, ◌==◌, ◌&&◌, Bool, true, false, List, [], ◌∷◌, ◌++◌, Option, Some, None, inl, inr, refl, sym, ap, subst, ◌∙◌, append_assoc, arith}
 use Rattle.std.specs.Prelude.{is_some}
 use Rattle.std.proofs.lemmas.Bool.{and_from, eq-eqb}
 use Rattle.bfs_messages.specs.Messages as model
@@ -24,6 +24,7 @@ use Rattle.bfs_liveness.specs.LawsOfExecuting.{HasJustExecuted}
 use Rattle.bfs_liveness.specs.LawsOfProgress.{AreServedBehind, EachRequestIsExecuted, EachStateIsServed, IsServed, StandsBehind}
 use Rattle.bfs_liveness.specs.Waiting.{HasServed}
 use Rattle.bfs_liveness.specs.Ways.{AreFairTo, IsWay}
+use Rattle.bfs_liveness.proofs.Answered.{answered}
 use Rattle.bfs_liveness.proofs.Executions.{number_below}
 use Rattle.bfs_liveness.proofs.Waiting.{executed_behind}
 use Rattle.bfs_liveness.proofs.Ways.{ways_join}
@@ -95,14 +96,22 @@ each_request_is_executed serve are agree f keys start faulty members turns time 
     let just : (k : ℕ) → members k ≡ true → HasJustExecuted (w k) number batch = λ k member.
     subst (λ (x : List NodeTurn). HasJustExecuted (reached f keys start x k) number batch) all (behind.served.executed k member) in
     let serves : (one : Signed model.Request) → HasServed (w p) one → IsServed start faulty members w one = λ one served.
-    let le : served.number ≤ (order_of w p).last = number_below are f keys start (turns ++ way) p served.number served.batch served.executed in
+    let under = number_below are f keys start (turns ++ way) p served.number served.batch served.executed in
+    let le = under.1 in
     let last_is = (just p behind.leads).last in
+    let alone : (k : ℕ) (other : Batch) → faulty k ≡ false → Executed (w k) served.number other → other ≡ served.batch = λ k other correct executed.
+    agreed.batches k p served.number other served.batch correct (among.correct p behind.leads) executed served.executed in
+    let stand : (k : ℕ) → members k ≡ true → StandsBehind start faulty w k served.number = λ k member.
+    stands start faulty w k served.number number batch agreed (among.correct k member) (here k) (just k member) (omega (arith, le, last_is)) in
     record {
       who = p;
       member = behind.leads;
       served = served;
-      alone = λ k other correct executed. agreed.batches k p served.number other served.batch correct (among.correct p behind.leads) executed served.executed;
-      behind = λ k member. stands start faulty w k served.number number batch agreed (among.correct k member) (here k) (just k member) (omega (arith, le, last_is));
+      alone = alone;
+      behind = stand;
+      answered = λ k member.
+          let there = stand k member in
+          answered start faulty w served.number served.batch one under.0 served.stands alone (order_of w k).last there.files (w k).node.table there.up_to there.comes;
     } in (
       way,
       is_way,

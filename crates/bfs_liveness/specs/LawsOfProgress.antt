@@ -9,6 +9,7 @@ use Rattle.bfs_model.specs.Server.Tree.{FileSystem, Time}
 use Rattle.bfs_order.specs.Replica.Proposing.{next_number}
 use Rattle.bfs_votes.specs.Votes.{primary}
 use Rattle.bfs_agreement.specs.Histories.{IsIn}
+use Rattle.bfs_node.specs.Forgetting.{is_new}
 use Rattle.bfs_node.specs.Proposing.{pending_batch}
 use Rattle.bfs_nodes_agree.specs.Nodes.Laws.{ComesOfBatches, Executed}
 use Rattle.bfs_nodes_agree.specs.Nodes.Replicas.{Beginning, Keyring, NodeReplicas, NodeTurn}
@@ -78,13 +79,14 @@ pub record StandsBehind (start : Beginning) (faulty : ℕ → Bool) (w : NodeRep
   pub comes : ComesOfBatches start faulty w (order_of w k).last files (w k).node.table
 
 -- a member has executed, as a number, a batch with the request or one of the same client and timestamp, no correct node has executed another batch as that number,
--- and each member stands behind it
+-- and each member stands behind it: the last reply to that client is to this request, or to a later one
 pub record IsServed (start : Beginning) (faulty members : ℕ → Bool) (w : NodeReplicas) (one : Signed model.Request) : Type 0 where
   pub who : ℕ
   pub member : members who ≡ true
   pub served : HasServed (w who) one
   pub alone : (k : ℕ) (batch : Batch) → faulty k ≡ false → Executed (w k) served.number batch → batch ≡ served.batch
   pub behind : (k : ℕ) → members k ≡ true → StandsBehind start faulty w k served.number
+  pub answered : (k : ℕ) → members k ≡ true → is_new (w k).node.table one ≡ false
 
 -- from every state that nodes can come into, whoever lies, there is one finite schedule behind which each request that waits at every member is served
 abbrev pub EachRequestIsExecuted : Type 0
