@@ -37,7 +37,7 @@ use Rattle.bfs_liveness.proofs.Ways.{ways_join}
 end_multiple : (low : ℕ) → (low % checkpoint_interval) ≡ 0 → ((low + log_size) % checkpoint_interval) ≡ 0
 end_multiple low multiple = add-mul-mod_self_left low checkpoint_interval 2 ∙ multiple
 
--- What waits -----------------------------------------------------------------------------------------------------------
+-- What waits ----------------------------------------------------------------------------------------------------------
 
 -- the host has no node forget requests by them
 abbrev ForgetNone : List NodeTurn → Type 0
@@ -74,7 +74,11 @@ emptying_forgets_none f members w view number =
     (λ turn i. ap forgets (only_executions f members heard number turn i).1))
     (none_both told rest (λ turn i. ap forgets (only_tells f members turn i).1) (told_forget_none f members (after_node_turns there told) number (primary f view)))
 
--- All of it ------------------------------------------------------------------------------------------------------------
+-- a request waits at a node, or was executed there
+abbrev WaitsOrServed : (k : ℕ) → Signed model.Request → NodeReplicas → Type 0
+WaitsOrServed k one w = IsIn one (w k).node.pending ⊎ HasServed (w k) one
+
+-- All of it -----------------------------------------------------------------------------------------------------------
 
 pub full_windows_go_on : FullWindowsAreEmptied → MembersComeUp → WaysAreRuns → WindowsAreBounded → WhatIsStableIsAMultiple → WhatWaitsStays → FullWindowsGoOn
 full_windows_go_on empties come runs bounded multiples stays f keys start faulty members turns view low run fair even over most =
@@ -114,9 +118,8 @@ full_windows_go_on empties come runs bounded multiples stays f keys start faulty
       λ k member one i.
           let joined : reached f keys start (turns ++ first) ≡ after_node_turns w first = after_join (new_node_replicas f keys start) turns first in
           let behind : reached f keys start ((turns ++ first) ++ second) ≡ after_node_turns (reached f keys start (turns ++ first)) second = after_join (new_node_replicas f keys start) (turns ++ first) second in
-          let WaitsOrServed : NodeReplicas → Type 0 = λ x. IsIn one (x k).node.pending ⊎ HasServed (x k) one in
-          let kept : WaitsOrServed (reached f keys start (turns ++ first)) = subst WaitsOrServed (sym joined) (stays w first k (λ turn j _. emptying_forgets_none f members w view end turn j) one i) in
-          subst (λ (x : List NodeTurn). WaitsOrServed (reached f keys start x)) all (elim kept [
+          let kept : WaitsOrServed k one (reached f keys start (turns ++ first)) = subst (WaitsOrServed k one) (sym joined) (stays w first k (λ turn j _. emptying_forgets_none f members w view end turn j) one i) in
+          subst (λ (x : List NodeTurn). WaitsOrServed k one (reached f keys start x)) all (elim kept [
             | inl still ↦ inl (subst (λ (waiting : List (Signed model.Request)). IsIn one waiting) (sym (up.pending k)) still)
             | inr served ↦ inr (subst (λ (x : NodeReplicas). HasServed (x k) one) (sym behind) (served_behind second (reached f keys start (turns ++ first)) k one served))
           ]),

@@ -290,10 +290,10 @@ module _ (laws : Below) (again : WhatIsResentIsFair) (left_out : NoneIsLeftOut) 
             (c.0, subst (λ (y : ℕ). is_committed (order_of last k) (order_of last k).view y c.0 ≡ true) same here)
       ]
 
-  abbrev own : ℕ → List NodeTurn
-  own k = executions k (number - (order_of last k).last)
+  abbrev own_turns : ℕ → List NodeTurn
+  own_turns k = executions k (number - (order_of last k).last)
 
-  done_at : (k : ℕ) → members k ≡ true → done k ≡ after_node_turns last (own k) k
+  done_at : (k : ℕ) → members k ≡ true → done k ≡ after_node_turns last (own_turns k) k
   done_at k x = ap (λ (y : NodeReplicas). y k) (after_join begun end more) ∙ each_executes f members last number k x (even.together.quorum.among k x)
 
   -- up to the number
@@ -312,7 +312,7 @@ module _ (laws : Below) (again : WhatIsResentIsFair) (left_out : NoneIsLeftOut) 
       let each = requests_are_executed laws f keys start faulty members turns one two (exchange f members (after_node_turns w2 two)) view time k goes2.run none even1.together even2.together
       (room_in f faulty members w1 view low number even1 above under) (room_in f faulty members last view low number even2 above under)
       (have.first number above under) (have.second number above under) (have.third number above under) x (even2.live k x) (ready k x) in
-      let here : done k ≡ reached f keys start (end ++ own k) k = done_at k x ∙ sym (ap (λ (y : NodeReplicas). y k) (after_join begun end (own k))) in
+      let here : done k ≡ reached f keys start (end ++ own_turns k) k = done_at k x ∙ sym (ap (λ (y : NodeReplicas). y k) (after_join begun end (own_turns k))) in
       subst (λ (r : NodeReplica). HasExecuted r number digest) (sym here) each
 
   -- the primary that one which it has proposed
