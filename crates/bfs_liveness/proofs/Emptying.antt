@@ -38,9 +38,8 @@ use Rattle.bfs_liveness.specs.Exchanges.{all_execute, all_tell, emptying, three_
 use Rattle.bfs_liveness.specs.Even.{AreEven}
 use Rattle.bfs_liveness.specs.LawsOfExecuting.{FullWindowsAreEmptied, IsEmptied, IsFull, IsSettled, NoneIsBeyond, NoneIsLeftOut, WhatIsStableIsSettled}
 use Rattle.bfs_liveness.specs.Ways.{AreFairTo, IsWay, MayTake}
-use Rattle.bfs_liveness.proofs.Beyond.{turns_keep}
 use Rattle.bfs_liveness.proofs.Digests.{same_digests}
-use Rattle.bfs_liveness.proofs.Executions.{IsExecuted, executed_to}
+use Rattle.bfs_liveness.proofs.Executions.{IsExecuted, executed_to, turns_keep}
 use Rattle.bfs_liveness.proofs.Filled.{greatest_under}
 use Rattle.bfs_liveness.proofs.Hearing.{HasHeardAll, IsHearing, all_heard, hearing_nothing}
 use Rattle.bfs_liveness.proofs.Lists.{out_of_each, out_of_where}

@@ -1,12 +1,13 @@
 -- What calls that execute leave of a node, and what it has executed.
-use Rattle.std.proofs.Common.{◌≡◌, ℕ, zero, suc, ◌+◌, ◌-◌, ◌<◌, ◌≤◌, Bool, true, false, cond, List, [], ◌∷◌, ◌++◌, ◌⊎◌, Option, Some, None, option_map, inl, inr, refl, sym, ap, subst, ◌∙◌, arith}
+use Rattle.std.proofs.Common.{◌≡◌, ℕ, zero, suc, ◌+◌, ◌-◌, ◌<◌, ◌≤◌, ◌==◌, Bool, true, false, cond, List, [], ◌∷◌, ◌++◌, ◌⊎◌, Option, Some, None, option_map, inl, inr, refl, sym, ap, subst, ◌∙◌, arith}
 use Rattle.std.specs.Prelude.{is_some}
+use Rattle.std.proofs.lemmas.Bool.{cases_lt, cond_both}
 use Rattle.bfs_log.specs.Batches.{Committed}
 use Rattle.bfs_log.specs.Headers.{header, message_header}
 use Rattle.bfs_log.specs.Logs.{Log, batch_in, message_at}
 use Rattle.bfs_messages.specs.Messages.{Batch}
 use Rattle.bfs_messages.specs.declared.order_messages.OrderMessage.{OrderMessage}
-use Rattle.bfs_messages.specs.declared.order_messages.OrderMessage.TheVariants.{PrePrepare}
+use Rattle.bfs_messages.specs.declared.order_messages.OrderMessage.TheVariants.{Checkpoint, Commit, PrePrepare, Prepare}
 use Rattle.bfs_messages.specs.declared.signed.Signed.{Signed}
 use Rattle.bfs_model.specs.Server.Tree.{FileSystem}
 use Rattle.bfs_order.specs.Laws.Calls.{Call, Takes, Proposes, Executes, Checkpoints, Installs, Leaves, Enters, execution, outcome}
@@ -18,7 +19,7 @@ use Rattle.bfs_order.specs.Replica.Proposing.{proposal_refusal, proposed}
 use Rattle.bfs_order.specs.Replica.Refusals.{refusal}
 use Rattle.bfs_order.specs.Replica.States.{State, known}
 use Rattle.bfs_order.specs.Replica.Views.{entered, entering_refusal, leaving_refusal, left}
-use Rattle.bfs_votes.specs.Votes.{Told, committed, primary}
+use Rattle.bfs_votes.specs.Votes.{Told, committed, is_slot, primary}
 use Rattle.bfs_agreement.specs.Histories.{IsIn}
 use Rattle.bfs_node.specs.Executing.{executed_on, is_next}
 use Rattle.bfs_node.specs.Nodes as nodes
@@ -26,14 +27,14 @@ use Rattle.bfs_node.specs.Nodes.{Node}
 use Rattle.bfs_nodes_agree.specs.Nodes.Laws.{Executed, StepsAreTurns}
 use Rattle.bfs_nodes_agree.specs.Nodes.Replicas.{Beginning, Keyring, NodeReplica, NodeReplicas, NodeTurn, after_node_step, after_node_turn, after_node_turns, new_node_replicas, ordered_turns}
 use Rattle.bfs_nodes_agree.specs.Nodes.Steps as steps
-use Rattle.bfs_nodes_agree.specs.Orders.Replicas.{OrderReplica, call_of, executed_by, message_in, new_order_replicas}
-use Rattle.bfs_nodes_agree.proofs.Public.{both_at, either_way, entered_same, here_after, next_found}
+use Rattle.bfs_nodes_agree.specs.Orders.Replicas.{OrderDeed, OrderReplica, OrderReplicas, after_order_deed, after_order_turn, call_of, executed_by, message_in, new_order_replicas}
+use Rattle.bfs_nodes_agree.specs.Views.Replicas.{ViewTurn, after_view_turns, ordered_turn}
+use Rattle.bfs_nodes_agree.proofs.Public.{both_at, either_way, entered_same, found, here_after, low_rises, next_found, slot_is}
 use Rattle.bfs_nodes_progress.specs.Executing.{AreCommitted, executing}
 use Rattle.bfs_nodes_progress.specs.Inside.Below.{Below}
 use Rattle.bfs_nodes_progress.specs.Requests.{executions}
 use Rattle.bfs_nodes_progress.specs.Runs.{IsARun, order_of, reached}
 use Rattle.bfs_nodes_progress.proofs.Public.{after_join, after_so_many, always, proposed_in, told_world}
-use Rattle.bfs_liveness.proofs.Beyond.{turns_keep}
 
 -- Executing up to a number --------------------------------------------------------------------------------------------
 
@@ -136,6 +137,60 @@ all_run (turn ∷ turns) only w k =
     (runs_once (w turn.who))) (λ j. run_itself (order_of w j) (w j).executed) k in
     run_then (order_of w k) (order_of next k) (order_of end k) (w k).executed (next k).executed (end k).executed first (all_run turns (λ x i. only x (inr i)) next k)
 
+-- Each number above the low mark --------------------------------------------------------------------------------------
+
+-- what holds of an order after each deed holds after turns
+pub turns_keep : (P : OrderReplica → Type 0) → ((o : OrderReplica) (deed : OrderDeed) → P o → P (after_order_deed o deed)) → (turns : List ViewTurn) (v : OrderReplicas) → ((k : ℕ) → P (v k)) → (k : ℕ) → P (after_view_turns v turns k)
+turns_keep P keeps [] v all = all
+turns_keep P keeps (turn ∷ turns) v all =
+    let i = turn.who in
+    let deed = (ordered_turn v turn).deed in
+    turns_keep P keeps turns (after_order_turn v (ordered_turn v turn)) (λ k. cond_both (k == i) (after_order_deed (v i) deed) (v k) P (λ _. keeps (v i) deed (all i)) (λ _. all k))
+
+-- each was executed, up to the last one
+abbrev pub EachRan : State → (executed : Log) → Type 0
+EachRan s executed = (n : ℕ) → s.low < n → n ≤ s.last → (m : Signed OrderMessage) × IsIn m executed × ((header m).tag ≡ 2) × ((header m).number ≡ n)
+
+still_each : (s now : State) (executed : Log) → s.low ≤ now.low → (now.last ≡ s.last) ⊎ (now.last ≤ now.low) → EachRan s executed → EachRan now executed
+still_each s now executed rises stays ran n above under = elim stays [
+  | inl same ↦ ran n (omega (arith, above, rises)) (omega (arith, under, same))
+  | inr low ↦ absurd (omega (arith, low, above, under))
+]
+
+-- but by executing it rises only to a stable one
+last_stays : (s : State) (call : Call) → (call ≡ Executes → ⊥) → ((outcome s call).now.last ≡ s.last) ⊎ ((outcome s call).now.last ≤ (outcome s call).now.low)
+last_stays s (Takes keys m) other = inl (either_way (λ o. o.now.last ≡ s.last) (refusal keys s m) s (accepted keys s m) (λ _. refl) refl)
+last_stays s (Proposes keys batch) other = inl (either_way (λ o. o.now.last ≡ s.last) (proposal_refusal s) s (proposed keys s batch) (λ _. refl) refl)
+last_stays s Executes other = absurd (other refl)
+last_stays s (Checkpoints keys n d) other = inl (either_way (λ o. o.now.last ≡ s.last) (checkpoint_refusal s n) s (checkpointed keys s n d) (λ _. refl) refl)
+last_stays s (Installs keys c) other = either_way (λ o. (o.now.last ≡ s.last) ⊎ (o.now.last ≤ o.now.low)) (install_refusal keys s c) s (installed s c)
+    (λ _. elim (cases_lt s.last c.number) [ inl lt ↦ inr (omega (arith, lt)) | inr le ↦ inl (omega (arith, le)) ]) (inl refl)
+last_stays s (Leaves view) other = inl (either_way (λ o. o.now.last ≡ s.last) (leaving_refusal s view) s (left s view) (λ _. refl) refl)
+last_stays s (Enters keys view stable handed) other = inl (either_way (λ o. o.now.last ≡ s.last) (entering_refusal s view) s (entered keys s view stable handed)
+    (λ _. entered_same (λ (x : State). x.last) (λ x low log. refl) keys s view stable handed) refl)
+
+each_on : (s : State) (executed : Log) (call : Call) → (call ≡ Executes → ⊥) → EachRan s executed → EachRan (outcome s call).now executed
+each_on s executed call other ran = still_each s (outcome s call).now executed (low_rises s call) (last_stays s call other) ran
+
+pub each_by : (s : State) (executed : Log) (call : Call) → EachRan s executed → EachRan (outcome s call).now (executed_by s call ++ executed)
+each_by s executed Executes ran = go (next_order s) refl
+  where
+    go : (o : Option (Signed OrderMessage)) → next_order s ≡ o → EachRan (execution s o).now (message_in o ++ executed)
+    go None is = ran
+    go (Some m) is n above under = elim (cases_lt s.last n) [
+      | inl new ↦
+          let number = (next_found s m is).1 in
+          let at = found (λ (y : Signed OrderMessage). is_slot 2 (primary s.f s.view) s.view (header m).number (header y)) s.log m (found_next s m is) in
+          (m, inl refl, (slot_is 2 (primary s.f s.view) s.view (header m).number (header m) at.1).tag, omega (arith, number, new, under))
+      | inr old ↦ let before = ran n above old in (before.0, inr before.1, before.2, before.3)
+    ]
+each_by s executed (Takes keys m) ran = each_on s executed (Takes keys m) (λ e. absurd cc) ran
+each_by s executed (Proposes keys batch) ran = each_on s executed (Proposes keys batch) (λ e. absurd cc) ran
+each_by s executed (Checkpoints keys n d) ran = each_on s executed (Checkpoints keys n d) (λ e. absurd cc) ran
+each_by s executed (Installs keys c) ran = each_on s executed (Installs keys c) (λ e. absurd cc) ran
+each_by s executed (Leaves view) ran = each_on s executed (Leaves view) (λ e. absurd cc) ran
+each_by s executed (Enters keys view stable handed) ran = each_on s executed (Enters keys view stable handed) (λ e. absurd cc) ran
+
 -- No number above the one last executed -------------------------------------------------------------------------------
 
 -- none was executed, nor number 0
@@ -174,6 +229,8 @@ below_by s executed (Installs keys c) below = still_below s executed (Installs k
 below_by s executed (Leaves view) below = still_below s executed (Leaves view) below
 below_by s executed (Enters keys view stable handed) below = still_below s executed (Enters keys view stable handed) below
 
+-- Runs ----------------------------------------------------------------------------------------------------------------
+
 pub number_of : (m : OrderMessage) (c : Committed) → batch_in m ≡ Some c → (message_header m).number ≡ c.number
 number_of (PrePrepare proposal) c e = cc
 number_of other c e = absurd cc
@@ -195,3 +252,23 @@ number_below are f keys start turns k number batch x =
     let under = below.1 in
     let is = number_of x.0.message (record { number = number; batch = batch }) x.2 in
     (omega (arith, some, is), omega (arith, under, is))
+
+batch_of_proposal : (m : OrderMessage) → (message_header m).tag ≡ 2 → (c : Committed) × (batch_in m ≡ Some c) × (c.number ≡ (message_header m).number)
+batch_of_proposal (PrePrepare proposal) two = (record { number = proposal.vote.number; batch = proposal.batch }, refl, refl)
+batch_of_proposal (Prepare vote) two = absurd (omega (arith, two))
+batch_of_proposal (Commit vote) two = absurd (omega (arith, two))
+batch_of_proposal (Checkpoint checkpoint) two = absurd (omega (arith, two))
+
+-- each number above its low mark, up to the one last executed, it has executed
+pub executed_itself : StepsAreTurns → (f : ℕ) (keys : Keyring) (start : Beginning) (turns : List NodeTurn) (k number : ℕ)
+    → (order_of (reached f keys start turns) k).low < number → number ≤ (order_of (reached f keys start turns) k).last → (batch : Batch) × Executed (reached f keys start turns k) number batch
+executed_itself are f keys start turns k number above under =
+    let tracks = are f keys start turns k in
+    let ran = turns_keep (λ (o : OrderReplica). EachRan o.state o.executed) (λ o deed before. each_by o.state o.executed (call_of deed) before) (ordered_turns (new_node_replicas f keys start) turns)
+    (new_order_replicas f) (λ j n low high. absurd (omega (arith, low, high))) k in
+    let r = reached f keys start turns k in
+    let each : EachRan r.node.order r.executed = subst (λ (l : Log). EachRan r.node.order l) tracks.executed
+    (subst (λ (s : State). EachRan s (after_view_turns (new_order_replicas f) (ordered_turns (new_node_replicas f keys start) turns) k).executed) tracks.state ran) in
+    let it = each number above under in
+    let batch = batch_of_proposal it.0.message it.2 in
+    (batch.0.batch, it.0, it.1, batch.1 ∙ ap (λ (n : ℕ). Some (record { number = n; batch = batch.0.batch })) (batch.2 ∙ it.3))

@@ -14,8 +14,8 @@ pub mod Entering
 pub mod Deeds
 pub mod LeftOut
 pub mod Past
-pub mod Beyond
 pub mod Executions
+pub mod Beyond
 pub mod Proposed
 pub mod Ordering
 pub mod Settled

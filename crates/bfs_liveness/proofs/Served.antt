@@ -1,7 +1,7 @@
 -- Each request that waits at every member is executed, and each member stands behind it.
-use Rattle.std.proofs.Common.{◌≡◌, ℕ, ◌≤◌, ◌==◌, ◌&&◌, Bool, true, false, List, [], ◌∷◌, ◌++◌, Option, Some, None, inl, inr, refl, sym, ap, subst, ◌∙◌, append_assoc, arith}
+use Rattle.std.proofs.Common.{◌≡◌, ℕ, ◌<◌, ◌≤◌, ◌⊎◌, ◌==◌, ◌&&◌, Bool, true, false, List, [], ◌∷◌, ◌++◌, Option, Some, None, inl, inr, refl, sym, ap, subst, ◌∙◌, append_assoc, arith}
 use Rattle.std.specs.Prelude.{is_some}
-use Rattle.std.proofs.lemmas.Bool.{and_from, eq-eqb}
+use Rattle.std.proofs.lemmas.Bool.{and_from, cases_lt, eq-eqb}
 use Rattle.bfs_messages.specs.Messages as model
 use Rattle.bfs_messages.specs.Messages.{Batch}
 use Rattle.bfs_messages.specs.declared.signed.Signed.{Signed}
@@ -25,7 +25,7 @@ use Rattle.bfs_liveness.specs.LawsOfProgress.{AreServedBehind, EachRequestIsExec
 use Rattle.bfs_liveness.specs.Waiting.{HasServed}
 use Rattle.bfs_liveness.specs.Ways.{AreFairTo, IsWay}
 use Rattle.bfs_liveness.proofs.Answered.{answered}
-use Rattle.bfs_liveness.proofs.Executions.{number_below}
+use Rattle.bfs_liveness.proofs.Executions.{executed_itself, number_below}
 use Rattle.bfs_liveness.proofs.Waiting.{executed_behind}
 use Rattle.bfs_liveness.proofs.Ways.{ways_join}
 
@@ -51,13 +51,19 @@ live_files None e = absurd cc
 live_files (Some files) e = (files, refl)
 
 -- what it holds comes of batches
-stands : (start : Beginning) (faulty : ℕ → Bool) (w : NodeReplicas) (k number last : ℕ) (batch : Batch) → Agree start faulty w → faulty k ≡ false → IsHere (w k) → HasJustExecuted (w k) last batch → number ≤ last
-    → StandsBehind start faulty w k number
-stands start faulty w k number last batch agreed correct here just le =
+stands : (start : Beginning) (faulty : ℕ → Bool) (w : NodeReplicas) (k number last : ℕ) (batch final : Batch) → Agree start faulty w → faulty k ≡ false → IsHere (w k) → HasJustExecuted (w k) last final → number ≤ last
+    → ((order_of w k).low < number → number ≤ (order_of w k).last → (other : Batch) × Executed (w k) number other) → ((other : Batch) → Executed (w k) number other → other ≡ batch)
+    → StandsBehind start faulty w k number batch
+stands start faulty w k number last batch final agreed correct here just le itself alone =
     let files = live_files (w k).node.files just.live in
     let last_is = just.last in
+    let up : number ≤ (order_of w k).last = omega (arith, last_is, le) in
     record {
-      up_to = omega (arith, last_is, le);
+      executed = elim (cases_lt (order_of w k).low number) [
+        | inl above ↦ let it = itself above up in inl (subst (Executed (w k) number) (alone it.0 it.1) it.1)
+        | inr stable ↦ inr stable
+      ];
+      up_to = up;
       files = files.0;
       live = files.1;
       comes = agreed.comes k (standing_at (w k).node files.0) correct (here files.0 files.1);
@@ -101,8 +107,9 @@ each_request_is_executed serve are agree f keys start faulty members turns time 
     let last_is = (just p behind.leads).last in
     let alone : (k : ℕ) (other : Batch) → faulty k ≡ false → Executed (w k) served.number other → other ≡ served.batch = λ k other correct executed.
     agreed.batches k p served.number other served.batch correct (among.correct p behind.leads) executed served.executed in
-    let stand : (k : ℕ) → members k ≡ true → StandsBehind start faulty w k served.number = λ k member.
-    stands start faulty w k served.number number batch agreed (among.correct k member) (here k) (just k member) (omega (arith, le, last_is)) in
+    let stand : (k : ℕ) → members k ≡ true → StandsBehind start faulty w k served.number served.batch = λ k member.
+    stands start faulty w k served.number number served.batch batch agreed (among.correct k member) (here k) (just k member) (omega (arith, le, last_is))
+    (executed_itself are f keys start (turns ++ way) k served.number) (λ other executed. alone k other (among.correct k member) executed) in
     record {
       who = p;
       member = behind.leads;

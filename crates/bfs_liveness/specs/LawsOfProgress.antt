@@ -1,5 +1,5 @@
 -- From every state that nodes can come into what waits is executed: contracts of functions of src/progress.rt, which do nothing.
-use Rattle.std.specs.Prelude.{◌≡◌, ℕ, ◌+◌, ◌≤◌, ◌^◌, Bool, true, false, List, ◌++◌, Some}
+use Rattle.std.specs.Prelude.{◌≡◌, ◌⊎◌, ℕ, ◌+◌, ◌≤◌, ◌^◌, Bool, true, false, List, ◌++◌, Some}
 use Rattle.bfs_messages.specs.Messages as model
 use Rattle.bfs_messages.specs.Messages.{Batch}
 use Rattle.bfs_messages.specs.declared.signed.Signed.{Signed}
@@ -71,8 +71,9 @@ EachStateIsServed = (f : ℕ) (keys : Keyring) (start : Beginning) (faulty membe
 
 -- Each request --------------------------------------------------------------------------------------------------------
 
--- what a live node holds comes of batches of all numbers up to one that is not below that number: it has executed them, or taken up such a state
-pub record StandsBehind (start : Beginning) (faulty : ℕ → Bool) (w : NodeReplicas) (k number : ℕ) : Type 0 where
+-- a live node has executed that batch as the number, or the number is stable there; and what it holds comes of the batches of all numbers up to one that is not below it
+pub record StandsBehind (start : Beginning) (faulty : ℕ → Bool) (w : NodeReplicas) (k number : ℕ) (batch : Batch) : Type 0 where
+  pub executed : Executed (w k) number batch ⊎ (number ≤ (order_of w k).low)
   pub up_to : number ≤ (order_of w k).last
   pub files : FileSystem
   pub live : (w k).node.files ≡ Some files
@@ -85,7 +86,7 @@ pub record IsServed (start : Beginning) (faulty members : ℕ → Bool) (w : Nod
   pub member : members who ≡ true
   pub served : HasServed (w who) one
   pub alone : (k : ℕ) (batch : Batch) → faulty k ≡ false → Executed (w k) served.number batch → batch ≡ served.batch
-  pub behind : (k : ℕ) → members k ≡ true → StandsBehind start faulty w k served.number
+  pub behind : (k : ℕ) → members k ≡ true → StandsBehind start faulty w k served.number served.batch
   pub answered : (k : ℕ) → members k ≡ true → is_new (w k).node.table one ≡ false
 
 -- from every state that nodes can come into, whoever lies, there is one finite schedule behind which each request that waits at every member is served
