@@ -176,7 +176,7 @@ pub each_by : (s : State) (executed : Log) (call : Call) → EachRan s executed 
 each_by s executed Executes ran = go (next_order s) refl
   where
     go : (o : Option (Signed OrderMessage)) → next_order s ≡ o → EachRan (execution s o).now (message_in o ++ executed)
-    go None is = ran
+    go None is n above under = ran n above under
     go (Some m) is n above under = elim (cases_lt s.last n) [
       | inl new ↦
           let number = (next_found s m is).1 in
@@ -271,4 +271,4 @@ executed_itself are f keys start turns k number above under =
     (subst (λ (s : State). EachRan s (after_view_turns (new_order_replicas f) (ordered_turns (new_node_replicas f keys start) turns) k).executed) tracks.state ran) in
     let it = each number above under in
     let batch = batch_of_proposal it.0.message it.2 in
-    (batch.0.batch, it.0, it.1, batch.1 ∙ ap (λ (n : ℕ). Some (record { number = n; batch = batch.0.batch })) (batch.2 ∙ it.3))
+    (batch.0.batch, (it.0, it.1, batch.1 ∙ ap (λ (n : ℕ). Some (record { number = n; batch = batch.0.batch })) (batch.2 ∙ it.3)))

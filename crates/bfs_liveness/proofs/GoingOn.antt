@@ -30,7 +30,7 @@ use Rattle.bfs_liveness.proofs.Emptying.{only_tells}
 use Rattle.bfs_liveness.proofs.Exchanges.{brings_votes}
 use Rattle.bfs_liveness.proofs.Lists.{out_of_each, out_of_where}
 use Rattle.bfs_liveness.proofs.Ordering.{only_executions}
-use Rattle.bfs_liveness.proofs.Waiting.{served_behind}
+use Rattle.bfs_liveness.proofs.StillWaiting.{served_behind}
 use Rattle.bfs_liveness.proofs.Ways.{ways_join}
 
 -- a window ends at a multiple where it begins at one

@@ -24,7 +24,7 @@ pub mod Digests
 pub mod Hearing
 pub mod Emptying
 pub mod Keeping
-pub mod Waiting
+pub mod StillWaiting
 pub mod Telling
 pub mod ToldSnapshots
 pub mod Behind

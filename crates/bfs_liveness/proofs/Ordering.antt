@@ -1,5 +1,5 @@
 -- What waits at the primary is proposed, and each member comes to execute it.
-use Rattle.std.proofs.Common.{◌≡◌, ℕ, zero, suc, ◌+◌, ◌-◌, ◌<◌, ◌≤◌, Bool, true, cond, List, [], ◌∷◌, ◌++◌, Some, None, option_map, inl, inr, refl, sym, ap, ap₂, subst, ◌==◌, ◌∙◌, append_assoc, arith}
+use Rattle.std.proofs.Common.{◌≡◌, ℕ, zero, suc, ◌+◌, ◌-◌, ◌<◌, ◌≤◌, Bool, true, false, cond, List, [], ◌∷◌, ◌++◌, Some, None, option_map, inl, inr, refl, sym, ap, ap₂, subst, ◌==◌, ◌∙◌, append_assoc, arith}
 use Rattle.std.specs.Prelude.{nat_le, not}
 use Rattle.std.proofs.lemmas.Bool.{and_from, cases_lt, eq-eqb, le-leb}
 use Rattle.bfs_log.specs.Headers.{header}
@@ -8,6 +8,7 @@ use Rattle.bfs_messages.specs.Messages.{Batch}
 use Rattle.bfs_messages.specs.declared.order_messages.OrderMessage.{OrderMessage}
 use Rattle.bfs_messages.specs.declared.signed.Signed.{Signed}
 use Rattle.bfs_model.specs.Server.Limits.{log_size, most_number}
+use Rattle.bfs_model.specs.Server.Stored.{IsTime}
 use Rattle.bfs_model.specs.Server.Tree.{Time}
 use Rattle.bfs_order.specs.Replica.Proposing as order
 use Rattle.bfs_order.specs.Replica.Proposing.{batch_digest, leads, next_number, proposal, proposal_commits}

@@ -26,7 +26,7 @@ use Rattle.bfs_liveness.specs.Waiting.{HasServed}
 use Rattle.bfs_liveness.specs.Ways.{AreFairTo, IsWay}
 use Rattle.bfs_liveness.proofs.Answered.{answered}
 use Rattle.bfs_liveness.proofs.Executions.{executed_itself, number_below}
-use Rattle.bfs_liveness.proofs.Waiting.{executed_behind}
+use Rattle.bfs_liveness.proofs.StillWaiting.{executed_behind}
 use Rattle.bfs_liveness.proofs.Ways.{ways_join}
 
 -- A live node stands somewhere ----------------------------------------------------------------------------------------

@@ -1,4 +1,4 @@
-use Rattle.bfs_liveness.proofs.Waiting.{what_waits_stays}
+use Rattle.bfs_liveness.proofs.StillWaiting.{what_waits_stays}
 use Rattle.bfs_liveness.proofs.waiting.what_waits_stays.Goals as goal
 
 pub returns : goal.returns
