@@ -1,28 +1,19 @@
 -- No correct node has executed a number that the primary of its view has yet to propose.
-use Rattle.std.proofs.Common.{◌≡◌, ℕ, ◌<◌, ◌≤◌, ◌==◌, max, Bool, false, List, [], ◌∷◌, ◌++◌, ◌⊎◌, Option, Some, None, inl, inr, refl, sym, ap, subst, ◌∙◌, arith}
-use Rattle.std.proofs.lemmas.Bool.{cases_lt, cond_both}
+use Rattle.std.proofs.Common.{◌≡◌, ℕ, ◌<◌, max, Bool, false, List, inl, inr, sym, ap, subst, ◌∙◌, arith}
+use Rattle.std.proofs.lemmas.Bool.{cases_lt}
 use Rattle.bfs_log.specs.Headers.{header}
-use Rattle.bfs_log.specs.Logs.{Log}
-use Rattle.bfs_messages.specs.declared.order_messages.OrderMessage.{OrderMessage}
-use Rattle.bfs_messages.specs.declared.signed.Signed.{Signed}
-use Rattle.bfs_order.specs.Laws.Calls.{Call, Takes, Proposes, Executes, Checkpoints, Installs, Leaves, Enters, execution, outcome}
-use Rattle.bfs_order.specs.Replica.Accepting.{accepted}
-use Rattle.bfs_order.specs.Replica.Checkpoints.{checkpoint_refusal, checkpointed}
-use Rattle.bfs_order.specs.Replica.Executing.{next_order}
-use Rattle.bfs_order.specs.Replica.Installing.{install_refusal, installed}
-use Rattle.bfs_order.specs.Replica.Proposing.{next_number, proposal_refusal, proposed}
-use Rattle.bfs_order.specs.Replica.Refusals.{refusal}
+use Rattle.bfs_order.specs.Replica.Proposing.{next_number}
 use Rattle.bfs_order.specs.Replica.States.{State, known}
-use Rattle.bfs_order.specs.Replica.Views.{entered, entering_refusal, leaving_refusal, left}
+use Rattle.bfs_order.specs.Replica.Views.{entered}
 use Rattle.bfs_votes.specs.Votes.{Told, primary}
-use Rattle.bfs_agreement.specs.Histories.{Execution, HasSaid, IsIn}
+use Rattle.bfs_agreement.specs.Histories.{Execution, HasSaid}
 use Rattle.bfs_agreement.specs.Laws.{Carries, QuorumsAreCarried}
 use Rattle.bfs_agreement.specs.Moves.{AreAllowed, Step, after_steps, new_world}
 use Rattle.bfs_agreement.proofs.Public.{run_sound, start_sound}
 use Rattle.bfs_nodes_agree.specs.Nodes.Laws.{StepsAreTurns, TurnsMayBeTaken, Tracks}
 use Rattle.bfs_nodes_agree.specs.Nodes.Replicas.{Beginning, Keyring, NodeReplicas, NodeTurn, new_node_replicas, ordered_turns}
-use Rattle.bfs_nodes_agree.specs.Orders.Replicas.{OrderReplica, OrderReplicas, OrderDeed, after_order_deed, after_order_turn, call_of, executed_by, message_in, new_order_replicas}
-use Rattle.bfs_nodes_agree.specs.Views.Replicas.{ViewTurn, after_view_turns, ordered_turn}
+use Rattle.bfs_nodes_agree.specs.Orders.Replicas.{OrderReplica, OrderReplicas, call_of, new_order_replicas}
+use Rattle.bfs_nodes_agree.specs.Views.Replicas.{after_view_turns}
 use Rattle.bfs_nodes_agree.proofs.Public.{IsFollowed, all_turns, either_way, entered_same, low_rises, new_followed, next_found, right_in, told_same}
 use Rattle.bfs_nodes_agree.proofs.Public as agree
 use Rattle.bfs_nodes_progress.specs.Inside.Below.{Below}

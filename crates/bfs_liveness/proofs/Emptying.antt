@@ -1,5 +1,5 @@
 -- A full window is emptied: all of it is executed, and the checkpoint at its end becomes stable at the primary.
-use Rattle.std.proofs.Common.{◌≡◌, ℕ, zero, suc, ◌+◌, ◌-◌, ◌*◌, ◌%◌, ◌<◌, ◌≤◌, ◌==◌, Bool, true, false, cond, not, List, [], ◌∷◌, ◌++◌, Option, Some, None, option_map, inl, inr, refl, sym, ap, subst, ◌∙◌, append_assoc, append-nil, arith}
+use Rattle.std.proofs.Common.{◌≡◌, ℕ, ◌+◌, ◌-◌, ◌*◌, ◌%◌, ◌<◌, ◌≤◌, ◌==◌, Bool, true, false, cond, not, List, [], ◌∷◌, ◌++◌, Option, Some, None, option_map, inl, inr, refl, sym, ap, subst, ◌∙◌, append_assoc, append-nil, arith}
 use Rattle.std.specs.Prelude.{is_some}
 use Rattle.std.proofs.lemmas.Bool.{cases_Bool, cases_lt, eq-eqb, eqb-true, le-leb}
 use Rattle.bfs_checkpoints.specs.Snapshots.{snapshot_of}
@@ -25,15 +25,15 @@ use Rattle.bfs_nodes_agree.specs.Nodes.Laws.{BatchesDontCollide, NodesAgree, Ste
 use Rattle.bfs_nodes_agree.specs.Nodes.Premises.{StatesDontCollide}
 use Rattle.bfs_nodes_agree.specs.Nodes.Replicas.{Beginning, Keyring, NodeReplica, NodeReplicas, NodeTurn, after_node_step, after_node_turn, after_node_turns, new_node_replicas, ordered_turns}
 use Rattle.bfs_nodes_agree.specs.Nodes.Resending.{WhatIsResentIsFair}
-use Rattle.bfs_nodes_agree.specs.Nodes.Steps.{Checkpoints, Executes, or_still, outcome, unless}
+use Rattle.bfs_nodes_agree.specs.Nodes.Steps.{Checkpoints, or_still, outcome, unless}
 use Rattle.bfs_nodes_agree.specs.Orders.Replicas.{call_of, new_order_replicas}
 use Rattle.bfs_nodes_agree.proofs.Public.{at_in, here_after, in_map}
-use Rattle.bfs_nodes_progress.specs.Executing.{AreCommitted, executing}
+use Rattle.bfs_nodes_progress.specs.Executing.{AreCommitted}
 use Rattle.bfs_nodes_progress.specs.Inside.Below.{Below}
 use Rattle.bfs_nodes_progress.specs.Members.{is_committed}
 use Rattle.bfs_nodes_progress.specs.Requests.{executions}
 use Rattle.bfs_nodes_progress.specs.Runs.{IsARun, order_of, reached}
-use Rattle.bfs_nodes_progress.proofs.Public.{AreOf, after_join, after_so_many, always, each_once, proposed_in, same_f, same_me, told_world}
+use Rattle.bfs_nodes_progress.proofs.Public.{AreOf, after_join, always, each_once, same_f, same_me}
 use Rattle.bfs_liveness.specs.Exchanges.{all_execute, all_tell, emptying, three_exchanges, told_to}
 use Rattle.bfs_liveness.specs.Even.{AreEven}
 use Rattle.bfs_liveness.specs.LawsOfExecuting.{FullWindowsAreEmptied, IsEmptied, IsFull, IsSettled, NoneIsBeyond, NoneIsLeftOut, WhatIsStableIsSettled}

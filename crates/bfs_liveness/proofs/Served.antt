@@ -1,29 +1,28 @@
 -- Each request that waits at every member is executed, and each member stands behind it.
-use Rattle.std.proofs.Common.{◌≡◌, ℕ, ◌<◌, ◌≤◌, ◌⊎◌, ◌==◌, ◌&&◌, Bool, true, false, List, [], ◌∷◌, ◌++◌, Option, Some, None, inl, inr, refl, sym, ap, subst, ◌∙◌, append_assoc, arith}
+use Rattle.std.proofs.Common.{◌≡◌, ℕ, ◌<◌, ◌≤◌, ◌==◌, Bool, true, false, List, [], ◌∷◌, ◌++◌, Option, Some, None, inl, inr, refl, sym, ap, subst, ◌∙◌, append_assoc, arith}
 use Rattle.std.specs.Prelude.{is_some}
 use Rattle.std.proofs.lemmas.Bool.{and_from, cases_lt, eq-eqb}
 use Rattle.bfs_messages.specs.Messages as model
 use Rattle.bfs_messages.specs.Messages.{Batch}
 use Rattle.bfs_messages.specs.declared.signed.Signed.{Signed}
 use Rattle.bfs_model.specs.Server.Tree.{FileSystem}
-use Rattle.bfs_pending.specs.Requests.{is_among, is_same}
+use Rattle.bfs_pending.specs.Requests.{is_same}
 use Rattle.bfs_order.specs.Replica.Proposing.{next_number}
 use Rattle.bfs_votes.specs.Votes.{primary}
 use Rattle.bfs_agreement.specs.Histories.{IsIn}
 use Rattle.bfs_node.specs.Nodes.{Node}
 use Rattle.bfs_node.specs.Proposing.{pending_batch}
 use Rattle.bfs_nodes_agree.specs.Nodes.Laws.{Agree, Executed, NodesAgree, StepsAreTurns}
-use Rattle.bfs_nodes_agree.specs.Nodes.Replicas.{Beginning, Keyring, NodeReplica, NodeReplicas, NodeTurn, Standing, after_node_step, after_node_turn, after_node_turns, beginning_node, new_node_replicas, standing_of, standing_with}
+use Rattle.bfs_nodes_agree.specs.Nodes.Replicas.{Beginning, NodeReplica, NodeReplicas, NodeTurn, Standing, after_node_turn, after_node_turns, beginning_node, new_node_replicas, standing_of, standing_with}
 use Rattle.bfs_nodes_agree.specs.Nodes.Steps.{outcome}
 use Rattle.bfs_nodes_agree.proofs.Public.{any_in, both_at}
-use Rattle.bfs_nodes_progress.specs.Following.{AreMembers}
 use Rattle.bfs_nodes_progress.specs.Runs.{IsARun, order_of, reached}
 use Rattle.bfs_nodes_progress.proofs.Public.{after_join}
 use Rattle.bfs_liveness.specs.Exchanges.{ordering}
 use Rattle.bfs_liveness.specs.LawsOfExecuting.{HasJustExecuted}
 use Rattle.bfs_liveness.specs.LawsOfProgress.{AreServedBehind, EachRequestIsExecuted, EachStateIsServed, IsServed, StandsBehind}
 use Rattle.bfs_liveness.specs.Waiting.{HasServed}
-use Rattle.bfs_liveness.specs.Ways.{AreFairTo, IsWay}
+use Rattle.bfs_liveness.specs.Ways.{IsWay}
 use Rattle.bfs_liveness.proofs.Answered.{answered}
 use Rattle.bfs_liveness.proofs.Executions.{executed_itself, number_below}
 use Rattle.bfs_liveness.proofs.StillWaiting.{executed_behind}
