@@ -1,4 +1,4 @@
--- What was executed is answered: the last reply to its client is to it, or to a later one, from then on.
+-- What was executed is new no more: the last reply to its client, if the table has it, is to it, or to a later one, from then on.
 use Rattle.std.proofs.Common.{◌≡◌, ℕ, zero, suc, ◌<◌, ◌≤◌, ◌==◌, Bool, true, false, cond, List, [], ◌∷◌, Option, Some, None, inl, inr, refl, sym, ap, subst, ◌∙◌, arith}
 use Rattle.std.specs.Prelude.{nat_lt, slice_get, slice_set}
 use Rattle.std.specs.List.{list_any}
@@ -64,7 +64,7 @@ taken_keeps (x ∷ ts) (suc client) timestamp (suc other) later past new = taken
 
 -- Tables --------------------------------------------------------------------------------------------------------------
 
--- the table has an answer to it, or to a later one of its client
+-- to the table it is not new
 abbrev IsAnswered : Table → (client timestamp : ℕ) → Type 0
 IsAnswered table client timestamp = is_new_class (class_of table client timestamp) ≡ false
 

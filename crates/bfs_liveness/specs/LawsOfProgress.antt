@@ -80,7 +80,7 @@ pub record StandsBehind (start : Beginning) (faulty : ℕ → Bool) (w : NodeRep
   pub comes : ComesOfBatches start faulty w (order_of w k).last files (w k).node.table
 
 -- a member has executed, as a number, a batch with the request or one of the same client and timestamp, no correct node has executed another batch as that number,
--- and each member stands behind it: the last reply to that client is to this request, or to a later one
+-- and each member stands behind it: to none the request is new, so the last reply to its client, if there is such a client, is to it or to a later one
 pub record IsServed (start : Beginning) (faulty members : ℕ → Bool) (w : NodeReplicas) (one : Signed model.Request) : Type 0 where
   pub who : ℕ
   pub member : members who ≡ true

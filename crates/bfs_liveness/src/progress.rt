@@ -40,7 +40,7 @@ pub fn each_state_is_served()
 
 /// From every state that nodes can come into, whoever lies: by one finite schedule of turns each request that waits at all members is executed. A member
 /// has executed a batch with it, or with one of the same client and timestamp, and no correct node another one as that number. Each member has executed
-/// the same, or taken up a state that comes of it, and has answered that request or a later one of its client.
+/// the same, or taken up a state that comes of it, and the request is new to none.
 pub fn each_request_is_executed()
     ensures { EachRequestIsExecuted }
 {
